@@ -1,0 +1,42 @@
+-- The laws of texts of cells, and of columns that grow.
+use Rattle.std.proofs.Common.{◌≡◌, ◌<◌, ◌==◌, ℕ, ◌-◌, ◌+◌, zero, suc, Bool, true, false, List, [], ◌∷◌, ◌++◌, length, map, arith, refl, sym, ap, ◌∙◌, length-append, lit<}
+use Rattle.std.proofs.lemmas.List.{length-map}
+use Rattle.std.proofs.lemmas.List.Elements.{All-cons, All-nil, All-head, All-tail}
+use Rattle.std.specs.List.{All, list_any, onto_first, range_with_len, slice_split}
+use Rattle.std.proofs.lemmas.List.FromFn.{length-range_with_len}
+use Rattle.std.proofs.lemmas.List.Splits.{join_with_byte-slice_split, length-slice_split, slice_split-cons_no, slice_split-cons_yes}
+use Rattle.comfy_parts.specs.CellValue.{ColumnValue, ContentIsTheText, HasTextLines, NoFewerColumns, new_column}
+use Rattle.comfy_parts.specs.Text.{Text}
+
+-- the content of a cell that was made of a text is that text
+pub content_is_the_text : (text : Text) → ContentIsTheText text
+content_is_the_text text = join_with_byte-slice_split 0x0A text
+
+-- no line feed stands in the line
+abbrev IsUnbroken : Text → Type 0
+IsUnbroken line = list_any (λ b. b == 0x0A) line ≡ false
+
+-- a character that is no line feed, before the first of some unbroken lines
+unbroken-onto_first : (c : ℕ) (lines : List Text) → (c == 0x0A) ≡ false → All IsUnbroken lines → All IsUnbroken (onto_first c lines)
+unbroken-onto_first c [] other each = All-cons IsUnbroken (c ∷ []) [] (rw other refl) (All-nil IsUnbroken)
+unbroken-onto_first c (line ∷ lines) other each =
+    All-cons IsUnbroken (c ∷ line) lines (rw other (All-head IsUnbroken line lines each)) (All-tail IsUnbroken line lines each)
+
+-- what stands between the line feeds is unbroken
+unbroken-split : (text : Text) → All IsUnbroken (slice_split (λ b. b == 0x0A) text)
+unbroken-split [] = All-cons IsUnbroken [] [] refl (All-nil IsUnbroken)
+unbroken-split (c ∷ cs) = by_test (c == 0x0A) refl (unbroken-split cs)
+  where
+    by_test : (b : Bool) → (c == 0x0A) ≡ b → All IsUnbroken (slice_split (λ b. b == 0x0A) cs) → All IsUnbroken (slice_split (λ b. b == 0x0A) (c ∷ cs))
+    by_test true is rest = rw (slice_split-cons_yes (λ b. b == 0x0A) c cs is) (All-cons IsUnbroken [] (slice_split (λ b. b == 0x0A) cs) refl rest)
+    by_test false is rest = rw (slice_split-cons_no (λ b. b == 0x0A) c cs is) (unbroken-onto_first c (slice_split (λ b. b == 0x0A) cs) is rest)
+
+-- a text has text lines
+pub has_text_lines : (text : Text) → HasTextLines (slice_split (λ b. b == 0x0A) text)
+has_text_lines text = record { some_line = omega (arith, length-slice_split (λ b. b == 0x0A) text); no_breaks = unbroken-split text }
+
+-- columns that grow to n are as many as before or n, whichever is more
+pub no_fewer_columns : (n : ℕ) (columns : List ColumnValue) → NoFewerColumns n columns
+no_fewer_columns n columns =
+    let added = map new_column (range_with_len (length columns) (n - length columns)) in
+    omega (arith, length-append columns added, length-map (range_with_len (length columns) (n - length columns)) new_column, length-range_with_len (length columns) (n - length columns))

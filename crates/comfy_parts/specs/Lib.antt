@@ -1,0 +1,9 @@
+pub mod CellValue
+pub mod GrownRow
+pub mod Laws
+pub mod Presets
+pub mod RowLoans
+pub mod StyleModifiers
+pub mod Text
+pub mod VisibleText
+pub mod Wrapping

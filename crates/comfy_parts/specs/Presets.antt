@@ -1,0 +1,75 @@
+-- The thirteen presets. A part of a style is written as its characters: left, fill, junction and right of a frame line, left, junction and right of a content line; `_` is one that isn't set.
+use Rattle.std.specs.Prelude.{ℕ, ◌==◌, Option, Some, None, slice_index, codes, if◌then◌else◌}
+use Prim.Native.String.{String}
+use Rattle.comfy_parts.specs.declared.style.table_style.ContentLineStyle.{ContentLineStyle}
+use Rattle.comfy_parts.specs.declared.style.table_style.LineStyle.{LineStyle}
+use Rattle.comfy_parts.specs.declared.style.table_style.TableStyle.{TableStyle}
+
+-- a part of a line; `_` is one that isn't set
+abbrev pub part : ℕ → Option ℕ
+part c = if c == 0x5F then None else Some c
+
+-- a frame line of these four characters
+abbrev pub line : String → LineStyle
+line s = record { left = part (slice_index (codes s) 0); fill = part (slice_index (codes s) 1); junction = part (slice_index (codes s) 2); right = part (slice_index (codes s) 3) }
+
+-- a content line of these three characters
+abbrev pub content : String → ContentLineStyle
+content s = record { left = part (slice_index (codes s) 0); junction = part (slice_index (codes s) 1); right = part (slice_index (codes s) 2) }
+
+-- a style: top border, header lines, header separator, content lines, row separator, bottom border
+abbrev pub style_of : String → String → String → String → String → String → TableStyle
+style_of top header separator body between bottom =
+    record { top_border = line top; header_lines = content header; header_separator = line separator; content_lines = content body; row_separator = line between; bottom_border = line bottom }
+
+-- the style of a new table
+abbrev pub ascii_full : TableStyle
+ascii_full = style_of "+-++" "|||" "+==+" "|||" "|-+|" "+-++"
+
+-- the same without lines between rows
+abbrev pub ascii_full_condensed : TableStyle
+ascii_full_condensed = style_of "+-++" "|||" "+==+" "|||" "____" "+-++"
+
+-- no outer borders
+abbrev pub ascii_no_borders : TableStyle
+ascii_no_borders = style_of "____" "_|_" "_==_" "_|_" "_-+_" "____"
+
+-- outer borders, and no vertical lines inside
+abbrev pub ascii_borders_only : TableStyle
+ascii_borders_only = style_of "+--+" "|_|" "+==+" "|_|" "|__|" "+--+"
+
+-- the same without lines between rows
+abbrev pub ascii_borders_only_condensed : TableStyle
+ascii_borders_only_condensed = style_of "+--+" "|_|" "+==+" "|_|" "____" "+--+"
+
+-- horizontal lines alone
+abbrev pub ascii_horizontal_only : TableStyle
+ascii_horizontal_only = style_of "_--_" "___" "_==_" "___" "_--_" "_--_"
+
+-- a table of Markdown
+abbrev pub ascii_markdown : TableStyle
+ascii_markdown = style_of "____" "|||" "|-||" "|||" "____" "____"
+
+-- all borders, drawn with box characters
+abbrev pub utf8_full : TableStyle
+utf8_full = style_of "┌─┬┐" "│┆│" "╞═╪╡" "│┆│" "├╌┼┤" "└─┴┘"
+
+-- the same without lines between rows
+abbrev pub utf8_full_condensed : TableStyle
+utf8_full_condensed = style_of "┌─┬┐" "│┆│" "╞═╪╡" "│┆│" "____" "└─┴┘"
+
+-- box characters without outer borders
+abbrev pub utf8_no_borders : TableStyle
+utf8_no_borders = style_of "____" "_┆_" "_═╪_" "_┆_" "_╌┼_" "____"
+
+-- outer borders of box characters, and the header's separator
+abbrev pub utf8_borders_only : TableStyle
+utf8_borders_only = style_of "┌──┐" "│_│" "╞══╡" "│_│" "____" "└──┘"
+
+-- horizontal lines of box characters alone
+abbrev pub utf8_horizontal_only : TableStyle
+utf8_horizontal_only = style_of "_──_" "___" "_══_" "___" "_──_" "_──_"
+
+-- no lines at all
+abbrev pub nothing : TableStyle
+nothing = style_of "____" "___" "____" "___" "____" "____"

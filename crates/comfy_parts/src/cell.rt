@@ -1,0 +1,76 @@
+//! A cell: its text lines and its settings.
+
+ghost use Rattle.std.specs.Prelude.{◌≡◌, string_bytes, map, IfOk};
+ghost use Rattle.comfy_parts.specs.CellValue.{IsCell, content_of, plain_cell};
+
+use crate::error::Result;
+use crate::style::{Attribute, CellAlignment, Color};
+use std::alloc::Global;
+use std::marker::Model;
+
+/// One cell of a table. It has at least one text line, and no text line holds a line feed.
+#[derive(Debug, Drop)]
+pub struct Cell {
+    text_lines: Vec<String>,
+    delimiter: Option<char>,
+    alignment: Option<CellAlignment>,
+    foreground: Option<Color>,
+    background: Option<Color>,
+    attributes: Vec<Attribute>,
+}
+
+impl Model for Cell {
+    ghost use Rattle.std.specs.Prelude.{map, string_bytes};
+    ghost use Rattle.comfy_parts.specs.CellValue.{CellValue, HasTextLines};
+
+    ghost Value = { CellValue };
+
+    ghost view = { λ c. record { text_lines = map string_bytes c.text_lines.items; delimiter = c.delimiter; alignment = c.alignment; foreground = c.foreground; background = c.background; attributes = c.attributes.items } };
+
+    ghost invariant = { λ c. HasTextLines (map string_bytes c.text_lines.items) };
+}
+
+impl Cell {
+    /// The cell of a text: its text lines are what stands between the line feeds.
+    pub fn new_owned(alloc: Global, text: String) -> Result<Cell>
+        ensures value { IfOk result (λ cell. cell ≡ plain_cell (string_bytes text)) }
+        ensures content { IfOk result (λ cell. content_of cell ≡ string_bytes text) }
+    {
+        let mut text_lines: Vec<String> = Vec::new(alloc);
+        for line in text.as_str().split('\n') {
+            text_lines.push(String::from_str(alloc, line)?)?;
+        }
+        Ok(Cell {
+            text_lines,
+            delimiter: None,
+            alignment: None,
+            foreground: None,
+            background: None,
+            attributes: Vec::new(alloc),
+        })
+    }
+
+    /// The text of the cell: its text lines, joined by line feeds.
+    pub fn content(&self) -> Result<String>
+        ensures { IfOk result (λ text. string_bytes text ≡ content_of self.now) }
+    {
+        let mut text = String::new(*self.text_lines.allocator());
+        let Some((first, others)) = self.text_lines.as_slice().split_first() else {
+            return Ok(text);
+        };
+        text.push_str(first.as_str())?;
+        for line in others {
+            text.push('\n')?;
+            text.push_str(line.as_str())?;
+        }
+        Ok(text)
+    }
+
+    /// The text lines, in order.
+    pub fn text_lines(&self) -> &[String]
+        ensures value { map string_bytes result.now ≡ self.now.text_lines }
+        ensures kept { IsCell self.now }
+    {
+        self.text_lines.as_slice()
+    }
+}

@@ -1,0 +1,50 @@
+//! The settings of a column.
+
+ghost use Rattle.std.specs.Prelude.{◌≡◌};
+ghost use Rattle.comfy_parts.specs.CellValue.{new_column};
+
+use crate::style::{CellAlignment, ColumnConstraint};
+use std::marker::Model;
+
+/// The settings of one column. None of its calls takes memory.
+#[derive(Clone, Debug, Drop)]
+pub struct Column {
+    /// A label. The place in the table's list of columns decides everywhere, and nothing looks at this.
+    pub index: usize,
+    padding: (u16, u16),
+    delimiter: Option<char>,
+    alignment: Option<CellAlignment>,
+    constraint: Option<ColumnConstraint>,
+}
+
+impl Model for Column {
+    ghost use Rattle.comfy_parts.specs.CellValue.{ColumnValue};
+
+    ghost Value = { ColumnValue };
+
+    ghost view = { λ c. record { padding = c.padding; delimiter = c.delimiter; alignment = c.alignment; constraint = c.constraint; index = c.index } };
+
+    ghost inverse = { λ c. record { index = c.index; padding = c.padding; delimiter = c.delimiter; alignment = c.alignment; constraint = c.constraint } };
+}
+
+impl Column {
+    /// A column with one place of padding on each side, and no other setting.
+    pub fn new(index: usize) -> Column
+        ensures { result ≡ new_column index }
+    {
+        Column {
+            index,
+            padding: (1, 1),
+            delimiter: None,
+            alignment: None,
+            constraint: None,
+        }
+    }
+
+    /// The places left free to the left and to the right of the contents.
+    pub fn padding(&self) -> (u16, u16)
+        ensures { result ≡ self.now.padding }
+    {
+        self.padding
+    }
+}

@@ -1,0 +1,102 @@
+//! A row: its cells, and the greatest height of its cells.
+
+ghost use Rattle.std.specs.Prelude.{◌≡◌, IfOk, OnOk, OnErr, length, []};
+ghost use Rattle.std.specs.Borrow.{sem};
+ghost use Rattle.std.specs.Iterator.Adapters.{IterYieldsInOrder};
+ghost use Rattle.std.specs.Slice.Iter.{iter_rest};
+ghost use Rattle.comfy_parts.specs.CellValue.{CellValue, plain_row, with_cell};
+ghost use Rattle.comfy_parts.specs.GrownRow.{row_of};
+ghost use Rattle.comfy_parts.specs.RowLoans.{RowStaysIfErr};
+
+use crate::cell::Cell;
+use crate::error::Result;
+use std::alloc::Global;
+use std::marker::Model;
+use std::slice;
+
+/// The cells of one row, and how many lines of each are drawn at the most.
+#[derive(Debug, Drop)]
+pub struct Row {
+    cells: Vec<Cell>,
+    max_height: Option<usize>,
+}
+
+impl Model for Row {
+    ghost use Rattle.comfy_parts.specs.CellValue.{RowValue};
+
+    ghost Value = { RowValue };
+
+    ghost view = { λ r. record { cells = r.cells.items; max_height = r.max_height } };
+}
+
+impl Row {
+    /// A row without cells. It takes no memory.
+    pub fn new(alloc: Global) -> Row
+        ensures { result ≡ plain_row [] }
+    {
+        Row {
+            cells: Vec::new(alloc),
+            max_height: None,
+        }
+    }
+
+    /// Appends a cell. Where memory is refused, the row stays as it is and the cell is dropped.
+    pub fn add_cell(&mut self, cell: Cell) -> Result<&mut Self>
+        ensures* err { sem 𝓛 (RowStaysIfErr self.entry result) }
+        ensures same_reference { IfOk result (λ row. row.ghost_name ≡ self.entry.ghost_name) }
+        ensures added { IfOk result (λ row. row.now ≡ with_cell cell self.old) }
+    {
+        handed_on(self.grown(cell))
+    }
+
+    // `add_cell`, with the reference in a struct: so callers learn what stands at an error.
+    fn grown(&mut self, cell: Cell) -> Result<Grown<'_>>
+        ensures* err { sem 𝓛 (RowStaysIfErr self.entry (row_of result)) }
+        ensures same_reference { IfOk (row_of result) (λ row. row.ghost_name ≡ self.entry.ghost_name) }
+        ensures added { IfOk (row_of result) (λ row. row.now ≡ with_cell cell self.old) }
+    {
+        self.push_cell(cell)?;
+        Ok(Grown { row: self })
+    }
+
+    // `add_cell`, with no answer but the outcome.
+    fn push_cell(&mut self, cell: Cell) -> Result<()>
+        ensures ok { OnOk result (self.new ≡ with_cell cell self.old) }
+        ensures err { OnErr result (self.new ≡ self.old) }
+    {
+        self.cells.push(cell)?;
+        Ok(())
+    }
+
+    /// How many cells the row has.
+    pub fn cell_count(&self) -> usize
+        ensures { result ≡ length self.now.cells }
+    {
+        self.cells.len()
+    }
+
+    /// The cells in order.
+    pub fn cell_iter(&self) -> slice::Iter<'_, Cell>
+        ensures rest { iter_rest result ≡ self.now.cells }
+        ensures runs { IterYieldsInOrder CellValue }
+    {
+        self.cells.iter()
+    }
+}
+
+// A row that has grown.
+struct Grown<'a> {
+    row: &'a mut Row,
+}
+
+fn handed_on<'a>(grown: Result<Grown<'a>>) -> Result<&'a mut Row>
+    ensures { result ≡ row_of grown.entry }
+{
+    match grown {
+        Ok(grown) => {
+            let Grown { row } = grown;
+            Ok(row)
+        }
+        Err(error) => Err(error),
+    }
+}

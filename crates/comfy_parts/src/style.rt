@@ -1,0 +1,16 @@
+//! How a table looks: its frame, and how the contents of its cells stand. Nothing here takes memory.
+
+pub mod attribute;
+pub mod cell;
+pub mod color;
+pub mod column;
+pub mod presets;
+pub mod table;
+pub mod table_style;
+
+pub use attribute::Attribute;
+pub use cell::CellAlignment;
+pub use color::Color;
+pub use column::{ColumnConstraint, Width};
+pub use table::ContentArrangement;
+pub use table_style::{ContentLineStyle, LineStyle, TableStyle};
