@@ -73,4 +73,18 @@ impl Cell {
     {
         self.text_lines.as_slice()
     }
+
+    /// The cell's own delimiter.
+    pub fn cell_delimiter(&self) -> Option<char>
+        ensures { result ≡ self.now.delimiter }
+    {
+        self.delimiter
+    }
+
+    /// The cell's own alignment.
+    pub fn cell_alignment(&self) -> Option<CellAlignment>
+        ensures { result ≡ self.now.alignment }
+    {
+        self.alignment
+    }
 }

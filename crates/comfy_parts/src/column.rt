@@ -1,7 +1,7 @@
 //! The settings of a column.
 
-ghost use Rattle.std.specs.Prelude.{◌≡◌};
-ghost use Rattle.comfy_parts.specs.CellValue.{new_column};
+ghost use Rattle.std.specs.Prelude.{◌≡◌, option_copied};
+ghost use Rattle.comfy_parts.specs.CellValue.{is_hidden_column, new_column};
 
 use crate::style::{CellAlignment, ColumnConstraint};
 use std::marker::Model;
@@ -46,5 +46,33 @@ impl Column {
         ensures { result ≡ self.now.padding }
     {
         self.padding
+    }
+
+    /// The column's own delimiter.
+    pub fn column_delimiter(&self) -> Option<char>
+        ensures { result ≡ self.now.delimiter }
+    {
+        self.delimiter
+    }
+
+    /// The column's own alignment.
+    pub fn column_alignment(&self) -> Option<CellAlignment>
+        ensures { result ≡ self.now.alignment }
+    {
+        self.alignment
+    }
+
+    /// What the column's width is held to.
+    pub fn constraint(&self) -> Option<&ColumnConstraint>
+        ensures { option_copied result ≡ self.now.constraint }
+    {
+        self.constraint.as_ref()
+    }
+
+    /// Whether the column isn't drawn.
+    pub fn is_hidden(&self) -> bool
+        ensures { result ≡ is_hidden_column self.now }
+    {
+        matches!(self.constraint, Some(ColumnConstraint::Hidden))
     }
 }

@@ -75,6 +75,13 @@ impl Row {
         self.cells.len()
     }
 
+    /// How many lines of each cell are drawn at the most, at least 1; none where all are drawn.
+    pub fn height_limit(&self) -> Option<usize>
+        ensures { result ≡ self.now.max_height }
+    {
+        self.max_height
+    }
+
     /// The cells in order.
     pub fn cell_iter(&self) -> slice::Iter<'_, Cell>
         ensures rest { iter_rest result ≡ self.now.cells }

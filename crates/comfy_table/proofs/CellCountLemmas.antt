@@ -1,0 +1,144 @@
+-- Each line of a plain cell fits its column, and its piece is as wide as the column.
+use Rattle.std.proofs.Common.{◌≡◌, ◌<◌, ◌≤◌, ℕ, ◌+◌, ◌-◌, Bool, true, false, List, [], ◌∷◌, ◌++◌, length, take, Option, Some, None, nat_le, nat_lt, refl, sym, ap, subst, arith, slice_index_or}
+use Rattle.std.specs.List.{All}
+use Rattle.std.specs.Prelude.{if◌then◌else◌}
+use Rattle.std.specs.Str.{IsUtf8}
+use Rattle.std.proofs.lemmas.Bool.Decides.{nat_tests}
+use Rattle.std.proofs.lemmas.List.{length-take}
+use Rattle.std.proofs.lemmas.List.Elements.{All-cons, All-nil, All-append, All-take, All-weaker}
+use Rattle.std.proofs.lemmas.Str.{IsUtf8-nil, chars-nil}
+use Rattle.comfy_parts.proofs.PlainTextLemmas.{IsPlainLine, lines_of_text-plain, take-printable}
+use Rattle.comfy_parts.proofs.PrintableLemmas.{measure-printable, head-printable}
+use Rattle.comfy_parts.specs.CellValue.{CellValue, RowValue, ColumnInfo, info_width}
+use Rattle.comfy_parts.specs.Text.{Text, measure, is_printable_ascii, IsEven}
+use Rattle.comfy_parts.specs.Wrapping.{lines_of_text}
+use Rattle.comfy_parts.specs.declared.style.cell.CellAlignment.{CellAlignment}
+use Rattle.comfy_parts.specs.declared.style.cell.CellAlignment.TheVariants.{Left, Right, Center}
+use Rattle.comfy_table.proofs.CountLemmas.{HasCount, count-is, HasCount-same, HasCount-append, HasCount-printable, HasCount-utf8, HasCount-spaces}
+use Rattle.comfy_table.proofs.ListLemmas.{All-flat_map}
+use Rattle.comfy_table.specs.Laws.{count, IsPlainCell}
+use Rattle.comfy_table.specs.Lines.{cell_lines, cell_delimiter, fitting_indicator, cut_line, cut_at_height, cut_at}
+use Rattle.comfy_table.specs.Pieces.{cell_alignment, free_before, free_places, plain_piece, row_cell_lines}
+use Rattle.comfy_table.specs.TableValue.{TableValue}
+
+-- a line that measures at most w, and has as many characters as places
+pub record IsCountedLine (w : ℕ) (line : Text) : Type 0 where
+  pub fits : measure line ≤ w
+  pub counted : HasCount (measure line) line
+
+-- a plain line is counted
+counted-plain : (w : ℕ) (line : Text) → IsPlainLine w line → IsCountedLine w line
+counted-plain w line plain =
+    record { fits = plain.fits; counted = HasCount-same (length line) (measure line) line (sym (measure-printable line plain.printable)) (HasCount-printable line plain.printable) }
+
+-- the lines of a plain cell are plain
+pub cell_lines-plain : (table : TableValue) (delimiter : Option ℕ) (w : ℕ) (cell : CellValue) → 1 ≤ w → IsPlainCell table delimiter cell
+    → All (IsPlainLine w) (cell_lines w (cell_delimiter table delimiter cell) cell)
+cell_lines-plain table delimiter w cell places plain =
+    All-flat_map (IsPlainLine w) (lines_of_text w (cell_delimiter table delimiter cell)) cell.text_lines
+    (All-weaker (λ line. is_printable_ascii line ≡ true) (λ line. All (IsPlainLine w) (lines_of_text w (cell_delimiter table delimiter cell) line))
+    (λ line printable. lines_of_text-plain w (cell_delimiter table delimiter cell) line (record { places = places; delimiter = plain.1; printable = printable })) cell.text_lines plain.0)
+
+-- ---- cut lines
+
+-- an indicator that is UTF-8 is so as it is written
+fitting_indicator-utf8 : (w : ℕ) (indicator : Text) → IsUtf8 indicator → IsUtf8 (fitting_indicator w indicator)
+fitting_indicator-utf8 w indicator utf8 = by_test (nat_lt w (measure indicator))
+  where
+    by_test : (b : Bool) → IsUtf8 (if b then [] else indicator)
+    by_test true = IsUtf8-nil
+    by_test false = utf8
+
+-- an even indicator that is written measures at most w
+fitting_indicator-le : (w : ℕ) (indicator : Text) → IsEven (fitting_indicator w indicator) → measure (fitting_indicator w indicator) ≤ w
+fitting_indicator-le w indicator = by_test (nat_lt w (measure indicator)) refl
+  where
+    by_test : (b : Bool) → nat_lt w (measure indicator) ≡ b → IsEven (if b then [] else indicator) → measure (if b then [] else indicator) ≤ w
+    by_test true wider even =
+        let none = ap length chars-nil in
+        let measured = even [] refl in
+        omega (arith, none, measured)
+    by_test false fits even = grind (arith, nat_tests)
+
+-- a plain line that is cut is counted
+cut_line-counted : (w : ℕ) (indicator line : Text) → IsUtf8 indicator → IsEven (fitting_indicator w indicator) → is_printable_ascii line ≡ true → IsCountedLine w (cut_line w indicator line)
+cut_line-counted w indicator line utf8 even printable =
+    subst (λ front. IsCountedLine w (front ++ written)) (sym (head-printable (w - measure written) line printable))
+    (record { fits = omega (arith, both, alone, room, short); counted = HasCount-same (length front + count written) (measure (front ++ written)) (front ++ written) (sym both) (HasCount-append (length front) (count written) front written (HasCount-printable front front_printable) (HasCount-utf8 written (fitting_indicator-utf8 w indicator utf8))) })
+  where
+    written : Text
+    written = fitting_indicator w indicator
+
+    front : Text
+    front = take (w - measure written) line
+
+    front_printable : is_printable_ascii front ≡ true
+    front_printable = take-printable (w - measure written) line printable
+
+    both : measure (front ++ written) ≡ length front + count written
+    both = even front front_printable
+
+    alone : measure written ≡ 0 + count written
+    alone = even [] refl
+
+    room : measure written ≤ w
+    room = fitting_indicator-le w indicator even
+
+    short : length front ≤ w - measure written
+    short = let cut = length-take (w - measure written) line in omega (arith, cut)
+
+-- so are all lines of which some may be cut
+cut_at_height-counted : (h w : ℕ) (indicator : Text) (lines : List Text) → IsUtf8 indicator → (h < length lines → IsEven (fitting_indicator w indicator)) → All (IsPlainLine w) lines
+    → All (IsCountedLine w) (cut_at_height h w indicator lines)
+cut_at_height-counted h w indicator lines utf8 even plain = by_test (nat_le (length lines) h) refl
+  where
+    counted : All (IsCountedLine w) lines
+    counted = All-weaker (IsPlainLine w) (IsCountedLine w) (counted-plain w) lines plain
+
+    by_test : (b : Bool) → nat_le (length lines) h ≡ b → All (IsCountedLine w) (if b then lines else take (h - 1) lines ++ cut_line w indicator (slice_index_or lines (h - 1) []) ∷ [])
+    by_test true fits = counted
+    by_test false taller =
+        let below : h < length lines = grind (arith, nat_tests) in
+        let last : IsPlainLine w (slice_index_or lines (h - 1) []) = plain (h - 1) [] (omega (arith, below)) in
+        All-append (IsCountedLine w) (take (h - 1) lines) (cut_line w indicator (slice_index_or lines (h - 1) []) ∷ []) (All-take (IsCountedLine w) (h - 1) lines counted)
+        (All-cons (IsCountedLine w) (cut_line w indicator (slice_index_or lines (h - 1) [])) [] (cut_line-counted w indicator _ utf8 (even below) last.printable) (All-nil (IsCountedLine w)))
+
+-- the lines of a plain cell in a row are counted, where the indicator is even if a line is cut
+pub row_cell_lines-counted : (table : TableValue) (row : RowValue) (info : ColumnInfo) (cell : CellValue) → 1 ≤ info.content_width → IsUtf8 table.indicator
+    → IsPlainCell table info.delimiter cell
+    → ((h : ℕ) → row.max_height ≡ Some h → h < length (cell_lines info.content_width (cell_delimiter table info.delimiter cell) cell) → IsEven (fitting_indicator info.content_width table.indicator))
+    → All (IsCountedLine info.content_width) (row_cell_lines table row info cell)
+row_cell_lines-counted table row info cell places utf8 plain even = by_height row.max_height even
+  where
+    lines : All (IsPlainLine info.content_width) (cell_lines info.content_width (cell_delimiter table info.delimiter cell) cell)
+    lines = cell_lines-plain table info.delimiter info.content_width cell places plain
+
+    by_height : (height : Option ℕ) → ((h : ℕ) → height ≡ Some h → h < length (cell_lines info.content_width (cell_delimiter table info.delimiter cell) cell) → IsEven (fitting_indicator info.content_width table.indicator))
+        → All (IsCountedLine info.content_width) (cut_at height info.content_width table.indicator (cell_lines info.content_width (cell_delimiter table info.delimiter cell) cell))
+    by_height None even = All-weaker (IsPlainLine info.content_width) (IsCountedLine info.content_width) (counted-plain info.content_width) _ lines
+    by_height (Some h) even = cut_at_height-counted h info.content_width table.indicator _ utf8 (even h refl) lines
+
+-- ---- pieces
+
+-- the spaces before a line are among its free places
+free_before-le : (alignment : CellAlignment) (free : ℕ) → free_before alignment free ≤ free
+free_before-le Left free = omega arith
+free_before-le Right free = omega arith
+free_before-le Center free = omega arith
+
+-- a counted line gives a piece as wide as its column
+pub HasCount-plain_piece : (cell : CellValue) (info : ColumnInfo) (line : Text) → IsCountedLine info.content_width line → HasCount (info_width info) (plain_piece cell info line)
+HasCount-plain_piece cell info line counted =
+    HasCount-same _ _ _ (whole _ _ _ _ _ info.content_width (free_before-le (cell_alignment cell info) (free_places info line)) counted.fits refl)
+    (HasCount-append info.padding.0 _ _ _ (HasCount-spaces info.padding.0)
+    (HasCount-append (free_before (cell_alignment cell info) (free_places info line)) _ _ _ (HasCount-spaces _)
+    (HasCount-append (measure line) _ _ _ counted.counted
+    (HasCount-append (free_places info line - free_before (cell_alignment cell info) (free_places info line)) info.padding.1 _ _ (HasCount-spaces _) (HasCount-spaces info.padding.1)))))
+  where
+    whole : (left before m free right w : ℕ) → before ≤ free → m ≤ w → free ≡ w - m → left + (before + (m + ((free - before) + right))) ≡ left + w + right
+    whole left before m free right w among fits is = omega arith
+
+-- so the plain piece has as many characters as the whole width
+pub count-plain_piece : (cell : CellValue) (info : ColumnInfo) (line : Text) → IsCountedLine info.content_width line → count (plain_piece cell info line) ≡ info_width info
+count-plain_piece cell info line counted =
+    count-is (info_width info) (plain_piece cell info line) (HasCount-plain_piece cell info line counted)

@@ -1,0 +1,181 @@
+-- What a line of a table without constraints adds up to: it keeps to the width, or has it.
+use Rattle.std.proofs.Common.{◌≡◌, ◌≤◌, ℕ, suc, ◌+◌, Bool, true, false, cond, not, ◌==◌, List, [], ◌∷◌, length, map, sum, sum_by, zip, get_or, Option, Some, None, filter, MatchOption, refl, sym, ap, ◌∙◌, subst, arith, ◌&&◌}
+use Rattle.std.specs.Prelude.{if◌then◌else◌}
+use Rattle.std.specs.List.{AllByRecursion, AllZip, enumerate_from}
+use Rattle.std.proofs.lemmas.List.{length-map}
+use Rattle.std.proofs.lemmas.List.Elements.{recursion_from_All}
+use Rattle.std.proofs.lemmas.List.Sums.{sum_by-cons}
+use Rattle.comfy_parts.specs.CellValue.{ColumnValue, ColumnInfo, column_padding, info_of, info_width, is_hidden_column}
+use Rattle.comfy_parts.specs.declared.style.table.ContentArrangement.{ContentArrangement}
+use Rattle.comfy_parts.specs.declared.style.table.ContentArrangement.TheVariants.{Dynamic, DynamicFullWidth}
+use Rattle.comfy_table.specs.Arrangement.{IsArranged, width_kept, is_full_width, room_beside_borders, widths_at}
+use Rattle.comfy_table.specs.Drawing.{infos_of, visible_widths}
+use Rattle.comfy_table.specs.Dynamic.{Share, Steps, IsArrangedBy, IsDynamic, contents_after, added, even_columns, room_left}
+use Rattle.comfy_table.specs.Frame.{border_count}
+use Rattle.comfy_table.specs.Laws.{NoConstraints, KeepsToWidth, FillsWidth, line_total, least_total, least_with_steps}
+use Rattle.comfy_table.specs.Levels.{IsUnconstrained}
+use Rattle.comfy_table.specs.TableValue.{TableValue, table_width, visible_columns, column_content}
+use Rattle.comfy_table.specs.Widths.{ColumnNeeds, needs_of, visible_needs, visible_count, disabled_width, even_spread, lower_boundary, upper_boundary, early_by_constraint}
+use Rattle.comfy_table.proofs.BudgetLemmas.{keeps_to_wider_bound, fills_wider_bound}
+use Rattle.comfy_table.proofs.ContentLemmas.{each_content, each_content_short, steps_with}
+use Rattle.comfy_table.proofs.UnconstrainedLemmas.{least_with_steps-unconstrained}
+
+-- ---- the drawn widths
+
+-- the visible ones of some columns that begin at a position
+abbrev visible_from : ℕ → List ColumnValue → List (ℕ × ColumnValue)
+visible_from n columns = filter (λ (p : ℕ × ColumnValue). not (is_hidden_column p.1)) (enumerate_from n columns)
+
+-- their widths
+abbrev widths_from : List ℕ → ℕ → List ColumnValue → List ℕ
+widths_from widths n columns = widths_at widths (visible_from n columns)
+
+-- the whole widths as they are drawn
+abbrev drawn_from : ℕ → List ColumnInfo → List ℕ
+drawn_from n infos = map (λ (p : ℕ × ColumnInfo). info_width p.1) (filter (λ (p : ℕ × ColumnInfo). not p.1.is_hidden) (enumerate_from n infos))
+
+-- the paddings
+abbrev paddings_from : ℕ → List ColumnValue → ℕ
+paddings_from n columns = sum_by (λ (p : ℕ × ColumnValue). column_padding p.1) (visible_from n columns)
+
+-- widths of at least 1 are drawn with the paddings
+sum-drawn_from : (widths : List ℕ) (n : ℕ) (columns : List ColumnValue) (ws : List ℕ) → length ws ≡ length columns → ((k : ℕ) → get_or widths (n + k) 0 ≡ get_or ws k 0)
+    → AllByRecursion (λ (w : ℕ). 1 ≤ w) (widths_from widths n columns)
+    → sum (drawn_from n (map (λ (p : ColumnValue × ℕ). info_of p.0 p.1) (zip columns ws))) ≡ paddings_from n columns + sum (widths_from widths n columns)
+sum-drawn_from widths n [] ws same at each = refl
+sum-drawn_from widths n (column ∷ more) [] same at each = absurd (omega arith)
+sum-drawn_from widths n (column ∷ more) (w ∷ ws) same at each =
+    by_test (is_hidden_column column) each (sum-drawn_from widths (n + 1) more ws (omega arith) (λ k. let there : n + 1 + k ≡ n + suc k = omega arith in ap (λ (i : ℕ). get_or widths i 0) there ∙ at (suc k)))
+  where
+    infos : List ColumnInfo
+    infos = map (λ (p : ColumnValue × ℕ). info_of p.0 p.1) (zip more ws)
+
+    later : List ColumnInfo → List (ℕ × ColumnInfo)
+    later rest = filter (λ (p : ℕ × ColumnInfo). not p.1.is_hidden) (enumerate_from (n + 1) rest)
+
+    at_first : get_or widths n 0 ≡ w
+    at_first = let here : n ≡ n + 0 = omega arith in ap (λ (i : ℕ). get_or widths i 0) here ∙ at 0
+
+    by_test : (b : Bool) → AllByRecursion (λ (x : ℕ). 1 ≤ x) (widths_at widths (cond (not b) ((n, column) ∷ visible_from (n + 1) more) (visible_from (n + 1) more)))
+        → (AllByRecursion (λ (x : ℕ). 1 ≤ x) (widths_from widths (n + 1) more) → sum (drawn_from (n + 1) infos) ≡ paddings_from (n + 1) more + sum (widths_from widths (n + 1) more))
+        → sum (map (λ (p : ℕ × ColumnInfo). info_width p.1) (cond (not b) ((n, info_of column w) ∷ later infos) (later infos)))
+        ≡ sum_by (λ (p : ℕ × ColumnValue). column_padding p.1) (cond (not b) ((n, column) ∷ visible_from (n + 1) more) (visible_from (n + 1) more))
+        + sum (widths_at widths (cond (not b) ((n, column) ∷ visible_from (n + 1) more) (visible_from (n + 1) more)))
+    by_test true each rest = rest each
+    by_test false each rest =
+        omega (
+          arith,
+          rest each.1,
+          at_first,
+          each.0,
+          sum_by-cons (λ (x : ℕ). x) (info_width (info_of column w)) (drawn_from (n + 1) infos),
+          sum_by-cons (λ (p : ℕ × ColumnValue). column_padding p.1) (n, column) (visible_from (n + 1) more),
+          sum_by-cons (λ (x : ℕ). x) (get_or widths n 0) (widths_from widths (n + 1) more),
+        )
+
+-- the whole widths of a table whose visible widths are at least 1
+pub sum-visible_widths : (table : TableValue) (widths : List ℕ) → length widths ≡ length table.columns → AllByRecursion (λ (w : ℕ). 1 ≤ w) (widths_at widths (visible_columns table))
+    → sum (visible_widths (infos_of table widths)) ≡ sum_by (λ (p : ℕ × ColumnValue). column_padding p.1) (visible_columns table) + sum (widths_at widths (visible_columns table))
+sum-visible_widths table widths same each =
+    sum-drawn_from widths 0 table.columns widths same (λ k. let here : 0 + k ≡ k = omega arith in ap (λ (i : ℕ). get_or widths i 0) here) each
+
+-- ---- the needs of a table without constraints
+
+-- nothing but a content and paddings is needed
+unconstrained_needs : (table : TableValue) (columns : List (ℕ × ColumnValue)) → AllByRecursion (λ (p : ℕ × ColumnValue). p.1.constraint ≡ None) columns → AllByRecursion IsUnconstrained (map (needs_of table) columns)
+unconstrained_needs table [] each = tt
+unconstrained_needs table (p ∷ more) each = (
+  record {
+    no_early = ap (early_by_constraint table (visible_count table) (column_content table p.0) (column_padding p.1)) each.0;
+    no_lower = ap (lower_boundary table (visible_count table)) each.0;
+    no_upper = ap (upper_boundary table (visible_count table)) each.0;
+  },
+  unconstrained_needs table more each.1,
+)
+
+-- the needs of the visible columns are unconstrained
+pub unconstrained_visible : (table : TableValue) → NoConstraints table → AllByRecursion IsUnconstrained (visible_needs table)
+unconstrained_visible table none = unconstrained_needs table (visible_columns table) (recursion_from_All (λ (p : ℕ × ColumnValue). p.1.constraint ≡ None) (visible_columns table) none)
+
+-- their paddings
+pub paddings_of_needs : (table : TableValue) (columns : List (ℕ × ColumnValue)) → sum_by (λ (column : ColumnNeeds). column.padding) (map (needs_of table) columns) ≡ sum_by (λ (p : ℕ × ColumnValue). column_padding p.1) columns
+paddings_of_needs table [] = refl
+paddings_of_needs table (p ∷ more) =
+    omega (arith, paddings_of_needs table more, sum_by-cons (λ (column : ColumnNeeds). column.padding) (needs_of table p) (map (needs_of table) more), sum_by-cons (λ (q : ℕ × ColumnValue). column_padding q.1) p more)
+
+-- ---- each width is at least 1
+
+-- an even share is at least the level
+some_content : (room : ℕ) (columns : List ColumnNeeds) → AllByRecursion IsUnconstrained columns → (full : Bool) (lower : List Share) (level : Option ℕ) (shrunk : List Share) (widths : List ℕ)
+    → IsArrangedBy room columns full (steps_with lower level shrunk) widths → AllZip (λ (column : ColumnNeeds) (width : ℕ). 1 ≤ width) columns (contents_after room columns (steps_with lower level shrunk))
+some_content room columns plain full lower None shrunk widths arranged =
+    each_content_short room columns plain (λ column width. 1 ≤ width) full lower shrunk widths arranged (λ column free. omega arith)
+some_content room columns plain full lower (Some level) shrunk widths arranged =
+    let one = arranged.level_found.1 in
+    each_content room columns plain (λ column width. 1 ≤ width) full lower level shrunk widths arranged
+    (record { fit = λ column free fits. omega arith; shrunk = λ column b free wider at_least within three. omega arith; even = λ column b width free wider at_least within tight low high. omega (arith, one) })
+
+-- widths beside columns
+every_width : {X : Type 0} (P : ℕ → Type 0) (columns : List X) (widths : List ℕ) → AllZip (λ (column : X) (width : ℕ). P width) columns widths → AllByRecursion P widths
+every_width P [] [] each = tt
+every_width P [] (w ∷ widths) each = absurd each
+every_width P (column ∷ more) [] each = absurd each
+every_width P (column ∷ more) (w ∷ widths) each = (each.0, every_width P more widths each.1)
+
+-- what is added leaves a width at least 1
+pub every_added : (xs ys : List ℕ) → AllByRecursion (λ (w : ℕ). 1 ≤ w) xs → AllByRecursion (λ (w : ℕ). 1 ≤ w) (added xs ys)
+every_added [] ys each = tt
+every_added (x ∷ xs) [] each = tt
+every_added (x ∷ xs) (y ∷ ys) each = (omega (arith, each.0), every_added xs ys each.1)
+
+-- each dynamic width without constraints is at least 1
+pub some_width : (room : ℕ) (columns : List ColumnNeeds) → AllByRecursion IsUnconstrained columns → (full : Bool) (steps : Steps) (widths : List ℕ) → IsArrangedBy room columns full steps widths → AllByRecursion (λ (w : ℕ). 1 ≤ w) widths
+some_width room columns plain full steps widths arranged =
+    subst (AllByRecursion (λ (w : ℕ). 1 ≤ w)) (sym arranged.widths_are) (by_test (full && (length (even_columns room columns steps) == 0)))
+  where
+    contents : AllByRecursion (λ (w : ℕ). 1 ≤ w) (contents_after room columns steps)
+    contents = every_width (λ (w : ℕ). 1 ≤ w) columns (contents_after room columns steps) (some_content room columns plain full steps.lower steps.level steps.shrunk widths arranged)
+
+    by_test : (b : Bool) → AllByRecursion (λ (w : ℕ). 1 ≤ w) (if b then added (contents_after room columns steps) (even_spread (room_left room columns steps) (length columns)) else contents_after room columns steps)
+    by_test true = every_added (contents_after room columns steps) (even_spread (room_left room columns steps) (length columns)) contents
+    by_test false = contents
+
+-- ---- a table's lines
+
+-- the visible widths of a table whose width is known are dynamic
+pub dynamic_widths : (table : TableValue) (arrangement : ContentArrangement) (w : ℕ) (widths : List ℕ) → width_kept arrangement (Some w) ≡ Some w → table.arrangement ≡ arrangement → table_width table ≡ Some w → IsArranged table widths
+    → IsDynamic (room_beside_borders table w) (visible_needs table) (is_full_width arrangement) (widths_at widths (visible_columns table))
+dynamic_widths table arrangement w widths kept same known arranged =
+    let visible = widths_at widths (visible_columns table) in
+    let by_arrangement = subst (λ (a : ContentArrangement). MatchOption (width_kept a (table_width table)) (visible ≡ map (disabled_width table) (visible_columns table)) (λ v. IsDynamic (room_beside_borders table v) (visible_needs table) (is_full_width a) visible)) same arranged.visible_widths in
+    subst (λ (o : Option ℕ). MatchOption o (visible ≡ map (disabled_width table) (visible_columns table)) (λ v. IsDynamic (room_beside_borders table v) (visible_needs table) (is_full_width arrangement) visible))
+    (ap (width_kept arrangement) known ∙ kept) by_arrangement
+
+module _ (table : TableValue) (w : ℕ) (widths : List ℕ) (full : Bool) (none : NoConstraints table) (arranged : IsArranged table widths)
+    (steps : Steps) (by : IsArrangedBy (room_beside_borders table w) (visible_needs table) full steps (widths_at widths (visible_columns table))) where
+  -- a line's total is the border characters, the paddings and the widths
+  line_total-is : line_total table widths ≡ border_count table.style (visible_count table) + (sum_by (λ (column : ColumnNeeds). column.padding) (visible_needs table) + sum (widths_at widths (visible_columns table)))
+  line_total-is =
+      let drawn = sum-visible_widths table widths arranged.one_for_each (some_width (room_beside_borders table w) (visible_needs table) (unconstrained_visible table none) full steps (widths_at widths (visible_columns table)) by) in
+      omega (arith, drawn, paddings_of_needs table (visible_columns table))
+
+  -- and the least total is made likewise
+  least_total-is : border_count table.style (visible_count table) + least_with_steps (visible_needs table) steps ≡ least_total table
+  least_total-is =
+      let least = least_with_steps-unconstrained (room_beside_borders table w) (visible_needs table) (unconstrained_visible table none) full steps (widths_at widths (visible_columns table)) by in
+      omega (arith, least, paddings_of_needs table (visible_columns table), length-map (visible_columns table) (needs_of table))
+
+-- a line keeps to the width, or to the least total
+pub keeps_to_width : (table : TableValue) (w : ℕ) (widths : List ℕ) → KeepsToWidth table w widths
+keeps_to_width table w widths none dynamic known arranged =
+    let found = dynamic_widths table Dynamic w widths refl dynamic known arranged in
+    let bound = keeps_to_wider_bound (room_beside_borders table w) (visible_needs table) found.0 (widths_at widths (visible_columns table)) found.1 in
+    omega (arith, bound, line_total-is table w widths false none arranged found.0 found.1, least_total-is table w widths false none arranged found.0 found.1)
+
+-- with full width a line has exactly that
+pub fills_width : (table : TableValue) (w : ℕ) (widths : List ℕ) → FillsWidth table w widths
+fills_width table w widths none dynamic known some arranged =
+    let found = dynamic_widths table DynamicFullWidth w widths refl dynamic known arranged in
+    let needed = length-map (visible_columns table) (needs_of table) in
+    let exact = fills_wider_bound (room_beside_borders table w) (visible_needs table) found.0 (widths_at widths (visible_columns table)) (omega (arith, needed, some)) found.1 in
+    omega (arith, exact, line_total-is table w widths true none arranged found.0 found.1, least_total-is table w widths true none arranged found.0 found.1)

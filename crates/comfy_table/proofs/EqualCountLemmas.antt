@@ -1,0 +1,172 @@
+-- All lines of a plain table have the same number of characters.
+use Rattle.std.proofs.Common.{◌≡◌, ◌<◌, ◌≤◌, ℕ, ◌+◌, Bool, true, false, not, cond, List, [], ◌∷◌, ◌++◌, Option, Some, None, length, map, sum, refl, ap, ◌∙◌, arith, slice_index_or}
+use Rattle.std.specs.List.{All, filter, enumerate_from, range_with_len, slice_get}
+use Rattle.std.specs.Prelude.{if◌then◌else◌, zip, option_to_list}
+use Rattle.std.specs.Str.{IsUtf8}
+use Rattle.std.proofs.lemmas.List.{length-map}
+use Rattle.std.proofs.lemmas.List.Elements.{All-cons, All-nil, All-head, All-tail, All-append, All-weaker, All-map}
+use Rattle.comfy_parts.specs.CellValue.{CellValue, RowValue, ColumnValue, ColumnInfo, info_of, info_width, is_hidden_column}
+use Rattle.comfy_parts.specs.Text.{IsEven}
+use Rattle.comfy_parts.specs.declared.style.table_style.ContentLineStyle.{ContentLineStyle}
+use Rattle.comfy_parts.specs.declared.style.table_style.LineStyle.{LineStyle}
+use Rattle.comfy_table.proofs.CellCountLemmas.{IsCountedLine, row_cell_lines-counted, HasCount-plain_piece}
+use Rattle.comfy_table.proofs.CountLemmas.{HasCount, HasCount-spaces, HasCount-joined, HasCount-frame_line, count-is}
+use Rattle.comfy_table.proofs.ListLemmas.{All-every, At-or, All-join_by, All-given, AllZip-map}
+use Rattle.comfy_table.specs.Drawing.{infos_of, visible_widths, drawn_row, drawn_header, drawn_rows, drawing_of_infos, drawing}
+use Rattle.comfy_table.specs.Frame.{border_count, content_line, frame_line, is_drawn, optional_frame_line}
+use Rattle.comfy_table.specs.Laws.{count, unstyled, line_total, IsPlainCell, IsEvenWhereWritten, EqualCounts}
+use Rattle.comfy_table.specs.Lines.{cell_lines, cell_delimiter, fitting_indicator}
+use Rattle.comfy_table.specs.Pieces.{filling, pieces_of_optional, pieces_at, piece, row_cell_lines, row_line, row_lines, row_height, visible_infos}
+use Rattle.comfy_table.specs.TableValue.{TableValue, column_cells, header_and_rows}
+use Rattle.comfy_table.specs.Widths.{visible_count}
+
+-- ---- columns
+
+-- the visible ones of some columns that begin at position n
+abbrev columns_from : ℕ → List ColumnValue → List (ℕ × ColumnValue)
+columns_from n columns = filter (λ (p : ℕ × ColumnValue). not (is_hidden_column p.1)) (enumerate_from n columns)
+
+-- the same as they are drawn with some widths
+abbrev infos_from : ℕ → List ColumnValue → List ℕ → List (ℕ × ColumnInfo)
+infos_from n columns widths =
+    filter (λ (p : ℕ × ColumnInfo). not p.1.is_hidden) (enumerate_from n (map (λ (p : ColumnValue × ℕ). info_of p.0 p.1) (zip columns widths)))
+
+-- as many columns are drawn as are visible
+pub length-infos_from : (n : ℕ) (columns : List ColumnValue) (widths : List ℕ) → length widths ≡ length columns → length (infos_from n columns widths) ≡ length (columns_from n columns)
+length-infos_from n [] [] same = refl
+length-infos_from n [] (w ∷ widths) same = refl
+length-infos_from n (column ∷ columns) [] same = absurd (omega (arith, same))
+length-infos_from n (column ∷ columns) (w ∷ widths) same =
+    by_test (is_hidden_column column) (length-infos_from (n + 1) columns widths (omega (arith, same)))
+  where
+    by_test : (b : Bool) → length (infos_from (n + 1) columns widths) ≡ length (columns_from (n + 1) columns)
+        → length (cond (not b) ((n, info_of column w) ∷ infos_from (n + 1) columns widths) (infos_from (n + 1) columns widths)) ≡ length (cond (not b) ((n, column) ∷ columns_from (n + 1) columns) (columns_from (n + 1) columns))
+    by_test true rest = rest
+    by_test false rest = omega (arith, rest)
+
+-- a drawn column has a place, and what is known of its position and its delimiter
+pub record IsKnownInfo (Known : ℕ → Option ℕ → Type 0) (p : ℕ × ColumnInfo) : Type 0 where
+  pub places : 1 ≤ p.1.content_width
+  pub known : Known p.0 p.1.delimiter
+
+-- what is known of each visible column is known of each that is drawn
+known_from : (Known : ℕ → Option ℕ → Type 0) (n : ℕ) (columns : List ColumnValue) (widths : List ℕ)
+    → All (λ (p : ℕ × ColumnValue). Known p.0 p.1.delimiter) (columns_from n columns) → All (IsKnownInfo Known) (infos_from n columns widths)
+known_from Known n [] [] each = All-nil (IsKnownInfo Known)
+known_from Known n [] (w ∷ widths) each = All-nil (IsKnownInfo Known)
+known_from Known n (column ∷ columns) [] each = All-nil (IsKnownInfo Known)
+known_from Known n (column ∷ columns) (w ∷ widths) each = by_test (is_hidden_column column) each (known_from Known (n + 1) columns widths)
+  where
+    by_test : (b : Bool) → All (λ (p : ℕ × ColumnValue). Known p.0 p.1.delimiter) (cond (not b) ((n, column) ∷ columns_from (n + 1) columns) (columns_from (n + 1) columns))
+        → (All (λ (p : ℕ × ColumnValue). Known p.0 p.1.delimiter) (columns_from (n + 1) columns) → All (IsKnownInfo Known) (infos_from (n + 1) columns widths))
+        → All (IsKnownInfo Known) (cond (not b) ((n, info_of column w) ∷ infos_from (n + 1) columns widths) (infos_from (n + 1) columns widths))
+    by_test true each rest = rest each
+    by_test false each rest =
+        All-cons (IsKnownInfo Known) (n, info_of column w) (infos_from (n + 1) columns widths)
+        (record { places = omega arith; known = All-head (λ (p : ℕ × ColumnValue). Known p.0 p.1.delimiter) (n, column) (columns_from (n + 1) columns) each })
+        (rest (All-tail (λ (p : ℕ × ColumnValue). Known p.0 p.1.delimiter) (n, column) (columns_from (n + 1) columns) each))
+
+-- ---- rows
+
+-- the pieces of an unstyled row in a column
+abbrev ArePiecesCounted : TableValue → RowValue → ℕ × ColumnInfo → Type 0
+ArePiecesCounted table row p = All (HasCount (info_width p.1)) (pieces_at (unstyled table) row p)
+
+-- the pieces of a plain cell are as wide as the column, and so is the filling of a missing one
+pieces-counted : (table : TableValue) (row : RowValue) (p : ℕ × ColumnInfo) → IsUtf8 table.indicator → 1 ≤ p.1.content_width
+    → ((cell : CellValue) → slice_get row.cells p.0 ≡ Some cell → IsPlainCell table p.1.delimiter cell) → IsEvenWhereWritten table row p → ArePiecesCounted table row p
+pieces-counted table row p utf8 places plain even = by_option (slice_get row.cells p.0) plain even
+  where
+    by_option : (o : Option CellValue) → ((cell : CellValue) → o ≡ Some cell → IsPlainCell table p.1.delimiter cell)
+        → ((cell : CellValue) (h : ℕ) → o ≡ Some cell → row.max_height ≡ Some h → h < length (cell_lines p.1.content_width (cell_delimiter table p.1.delimiter cell) cell) → IsEven (fitting_indicator p.1.content_width table.indicator))
+        → All (HasCount (info_width p.1)) (pieces_of_optional (unstyled table) row p.1 o)
+    by_option None plain even =
+        All-cons (HasCount (info_width p.1)) (filling p.1) [] (HasCount-spaces (info_width p.1)) (All-nil (HasCount (info_width p.1)))
+    by_option (Some cell) plain even =
+        All-map (HasCount (info_width p.1)) (piece (unstyled table) cell p.1) (row_cell_lines table row p.1 cell)
+        (All-weaker (IsCountedLine p.1.content_width) (λ line. HasCount (info_width p.1) (piece (unstyled table) cell p.1 line)) (HasCount-plain_piece cell p.1) (row_cell_lines table row p.1 cell)
+        (row_cell_lines-counted table row p.1 cell places utf8 (plain cell refl) (λ h. even cell h refl)))
+
+-- ---- the drawing
+
+module _ (table : TableValue) (infos : List ColumnInfo) where
+  -- the characters of a line
+  abbrev total_of : ℕ
+  total_of = border_count table.style (length (visible_widths infos)) + sum (visible_widths infos)
+
+  -- each line of a row has them
+  row_counted : (line : ContentLineStyle) (row : RowValue) → All (ArePiecesCounted table row) (visible_infos infos) → All (HasCount total_of) (drawn_row (unstyled table) infos line row)
+  row_counted line row each =
+      All-map (HasCount total_of) (content_line table.style line) (row_lines (unstyled table) infos row)
+      (All-map (λ pieces. HasCount total_of (content_line table.style line pieces)) (row_line (unstyled table) infos row) (range_with_len 0 (row_height (unstyled table) infos row))
+      (All-every (λ k. HasCount total_of (content_line table.style line (row_line (unstyled table) infos row k))) (range_with_len 0 (row_height (unstyled table) infos row)) at))
+    where
+      at : (k : ℕ) → HasCount total_of (content_line table.style line (row_line (unstyled table) infos row k))
+      at k =
+          HasCount-joined table.style line.left line.junction line.right (visible_widths infos) (row_line (unstyled table) infos row k)
+          (AllZip-map HasCount (λ (p : ℕ × ColumnInfo). info_width p.1) (λ (p : ℕ × ColumnInfo). slice_index_or (pieces_at (unstyled table) row p) k (filling p.1)) (visible_infos infos)
+          (All-weaker (ArePiecesCounted table row) (λ (p : ℕ × ColumnInfo). HasCount (info_width p.1) (slice_index_or (pieces_at (unstyled table) row p) k (filling p.1)))
+          (λ p counted. At-or (HasCount (info_width p.1)) (pieces_at (unstyled table) row p) k (filling p.1) counted (HasCount-spaces (info_width p.1))) (visible_infos infos) each))
+
+  -- a frame line that is drawn has them
+  frame_counted : (line : LineStyle) → All (HasCount total_of) (optional_frame_line table.style line (visible_widths infos))
+  frame_counted line = by_test (is_drawn line)
+    where
+      by_test : (b : Bool) → All (HasCount total_of) (if b then frame_line table.style line (visible_widths infos) ∷ [] else [])
+      by_test true =
+          All-cons (HasCount total_of) (frame_line table.style line (visible_widths infos)) [] (HasCount-frame_line table.style line (visible_widths infos)) (All-nil (HasCount total_of))
+      by_test false = All-nil (HasCount total_of)
+
+  -- all lines have them
+  drawing_counted : All (λ row. All (ArePiecesCounted table row) (visible_infos infos)) (header_and_rows table) → All (HasCount total_of) (drawing_of_infos (unstyled table) infos)
+  drawing_counted each = by_header table.header each
+    where
+      by_header : (header : Option RowValue) → All (λ row. All (ArePiecesCounted table row) (visible_infos infos)) (option_to_list header ++ table.rows)
+          → All (HasCount total_of) (optional_frame_line table.style table.style.top_border (visible_widths infos) ++ (drawn_header (unstyled table) infos header ++ (drawn_rows (unstyled table) infos table.rows ++ optional_frame_line table.style table.style.bottom_border (visible_widths infos))))
+      by_header header each =
+          All-append (HasCount total_of) _ _ (frame_counted table.style.top_border)
+          (All-append (HasCount total_of) (drawn_header (unstyled table) infos header) _ (header_lines header each)
+          (All-append (HasCount total_of) (drawn_rows (unstyled table) infos table.rows) _ (rows_lines (rows_of header each)) (frame_counted table.style.bottom_border)))
+        where
+          rows_of : (header : Option RowValue) → All (λ row. All (ArePiecesCounted table row) (visible_infos infos)) (option_to_list header ++ table.rows)
+              → All (λ row. All (ArePiecesCounted table row) (visible_infos infos)) table.rows
+          rows_of None each = each
+          rows_of (Some row) each = All-tail (λ row. All (ArePiecesCounted table row) (visible_infos infos)) row table.rows each
+
+          header_lines : (header : Option RowValue) → All (λ row. All (ArePiecesCounted table row) (visible_infos infos)) (option_to_list header ++ table.rows)
+              → All (HasCount total_of) (drawn_header (unstyled table) infos header)
+          header_lines None each = All-nil (HasCount total_of)
+          header_lines (Some row) each =
+              All-append (HasCount total_of) (drawn_row (unstyled table) infos table.style.header_lines row) _
+              (row_counted table.style.header_lines row (All-head (λ row. All (ArePiecesCounted table row) (visible_infos infos)) row table.rows each)) (frame_counted table.style.header_separator)
+
+          rows_lines : All (λ row. All (ArePiecesCounted table row) (visible_infos infos)) table.rows → All (HasCount total_of) (drawn_rows (unstyled table) infos table.rows)
+          rows_lines each =
+              All-join_by (HasCount total_of) (drawn_row (unstyled table) infos table.style.content_lines) (optional_frame_line table.style table.style.row_separator (visible_widths infos)) table.rows
+              (frame_counted table.style.row_separator)
+              (All-weaker (λ row. All (ArePiecesCounted table row) (visible_infos infos)) (λ row. All (HasCount total_of) (drawn_row (unstyled table) infos table.style.content_lines row))
+              (row_counted table.style.content_lines) table.rows each)
+
+-- all lines of a plain table have the same count
+pub equal_counts : (table : TableValue) (widths : List ℕ) → EqualCounts table widths
+equal_counts table widths utf8 plain arranged =
+    All-weaker (HasCount (total_of table infos)) (λ line. count line ≡ line_total table widths) (λ line has. count-is _ line has ∙ ap (λ n. border_count table.style n + sum (visible_widths infos)) columns) (drawing (unstyled table) widths)
+    (drawing_counted table infos each)
+  where
+    infos : List ColumnInfo
+    infos = infos_of table widths
+
+    columns : length (visible_widths infos) ≡ visible_count table
+    columns = length-map (visible_infos infos) _ ∙ length-infos_from 0 table.columns widths arranged.one_for_each
+
+    Known : ℕ → Option ℕ → Type 0
+    Known i delimiter = All (IsPlainCell table delimiter) (column_cells table i)
+
+    known : All (IsKnownInfo Known) (visible_infos infos)
+    known = known_from Known 0 table.columns widths plain.plain_cells
+
+    each : All (λ row. All (ArePiecesCounted table row) (visible_infos infos)) (header_and_rows table)
+    each k default below j other low =
+        pieces-counted table (slice_index_or (header_and_rows table) k default) (slice_index_or (visible_infos infos) j other) utf8 (known j other low).places
+        (All-given (IsPlainCell table (slice_index_or (visible_infos infos) j other).1.delimiter) (λ (row : RowValue). slice_get row.cells (slice_index_or (visible_infos infos) j other).0) (header_and_rows table) (known j other low).known k default below)
+        (plain.even_indicator k default below j other low)

@@ -1,0 +1,120 @@
+-- Bytes that no text has: the laws of equal counts and of styling need their premises that texts are UTF-8.
+use Rattle.std.proofs.Common.{◌≡◌, ℕ, true, false, List, [], ◌∷◌, Option, Some, None, refl, sym, ap, ◌∙◌, arith, append-nil, map, unwrap_or, replicate, ◌==◌, subst}
+use Rattle.std.specs.List.{All}
+use Rattle.comfy_table.proofs.ListLemmas.{All-every}
+use Rattle.unicode_width.specs.Width.{str_width}
+use Rattle.std.specs.Str.{chars}
+use Rattle.std.proofs.lemmas.List.Elements.{All-cons, All-nil, All-head, All-replicate}
+use Rattle.std.proofs.lemmas.Str.{chars-append}
+use Rattle.comfy_parts.proofs.Computing.{wrapping}
+use Rattle.comfy_parts.proofs.PlainTextLemmas.{IsUtf8-printable}
+use Rattle.comfy_parts.proofs.PrintableLemmas.{measure-printable}
+use Rattle.comfy_parts.specs.CellValue.{CellValue, RowValue, ColumnValue, new_column}
+use Rattle.comfy_parts.specs.Text.{Text, IsEven, is_printable_ascii}
+use Rattle.comfy_parts.specs.declared.style.table_style.LineStyle.{LineStyle}
+use Rattle.comfy_parts.specs.declared.style.table_style.TableStyle.{TableStyle}
+use Rattle.comfy_table.specs.Arrangement.{IsArranged}
+use Rattle.comfy_table.specs.Drawing.{drawing, infos_of}
+use Rattle.comfy_table.specs.Laws.{count, line_total, unstyled, IsPlainTable, IsPlainCell, IsEvenWhereWritten, HasNoEscape, IsFreeOfEscapes}
+use Rattle.comfy_table.specs.TableValue.{TableValue, new_table, column_cells, header_and_rows}
+use Rattle.comfy_table.specs.Pieces.{visible_infos}
+use Rattle.comfy_parts.specs.VisibleText.{visible_text}
+
+abbrev no_line : LineStyle
+no_line = record { left = None; fill = None; junction = None; right = None }
+
+-- nothing is drawn but a right border of this character
+abbrev style_with : Option ℕ → TableStyle
+style_with right =
+    record { top_border = no_line; header_lines = record { left = None; junction = None; right = None }; header_separator = no_line; content_lines = record { left = None; junction = None; right = right }; row_separator = no_line; bottom_border = no_line }
+
+-- one cell of these text lines, cut to one line
+abbrev table_with : Option ℕ → Text → List Text → TableValue
+table_with right indicator lines =
+    record (new_table (style_with right)) { columns = record (new_column 0) { padding = (0, 0) } ∷ []; rows = record { cells = record { text_lines = lines; delimiter = None; alignment = None; foreground = None; background = None; attributes = [] } ∷ []; max_height = Some 1 } ∷ []; indicator = indicator }
+
+-- ---- an indicator that ends inside a character
+
+abbrev torn : TableValue
+torn = table_with (Some 0x2502) (0xC3 ∷ []) ((0x61 ∷ []) ∷ (0x61 ∷ []) ∷ [])
+
+-- the indicator is even: it has no character, and takes no place
+torn_is_even : IsEven (0xC3 ∷ [])
+unfolding wrapping chars
+torn_is_even p printable =
+    ap measure_of (chars-append p (0xC3 ∷ []) (IsUtf8-printable p printable) ∙ append-nil (chars p)) ∙ measure-printable p printable ∙ omega arith
+  where
+    measure_of : List ℕ → ℕ
+    measure_of cs = str_width false cs
+
+-- the table is plain
+torn_is_plain : IsPlainTable torn (1 ∷ [])
+unfolding wrapping chars
+torn_is_plain =
+    record {
+      plain_cells = All-cons (λ (p : ℕ × ColumnValue). All (IsPlainCell torn p.1.delimiter) (column_cells torn p.0)) _ [] (All-cons (IsPlainCell torn None) _ [] (printable, refl) (All-nil (IsPlainCell torn None))) (All-nil (λ (p : ℕ × ColumnValue). All (IsPlainCell torn p.1.delimiter) (column_cells torn p.0)));
+      even_indicator = All-every (λ (row : RowValue). All (IsEvenWhereWritten torn row) (visible_infos (infos_of torn (1 ∷ [])))) (header_and_rows torn) (λ row. All-cons (IsEvenWhereWritten torn row) _ [] (λ cell h found height cut. torn_is_even) (All-nil (IsEvenWhereWritten torn row)));
+    }
+  where
+    printable : All (λ line. is_printable_ascii line ≡ true) ((0x61 ∷ []) ∷ (0x61 ∷ []) ∷ [])
+    printable =
+        All-cons (λ line. is_printable_ascii line ≡ true) (0x61 ∷ []) ((0x61 ∷ []) ∷ []) refl (All-cons (λ line. is_printable_ascii line ≡ true) (0x61 ∷ []) [] refl (All-nil (λ line. is_printable_ascii line ≡ true)))
+
+-- its one column has the width 1
+torn_is_arranged : IsArranged torn (1 ∷ [])
+unfolding wrapping chars
+torn_is_arranged = record { one_for_each = refl; hidden_widths = refl; visible_widths = refl }
+
+-- the indicator stands before the border
+torn_lines : drawing (unstyled torn) (1 ∷ []) ≡ (0x61 ∷ 0xC3 ∷ 0xE2 ∷ 0x94 ∷ 0x82 ∷ []) ∷ []
+unfolding wrapping chars
+torn_lines = refl
+
+-- the bytes of both are read as two characters
+torn_counts : (count (0x61 ∷ 0xC3 ∷ 0xE2 ∷ 0x94 ∷ 0x82 ∷ []) ≡ 3) × (line_total torn (1 ∷ []) ≡ 2)
+unfolding wrapping chars
+torn_counts = (refl, refl)
+
+-- its one line has three characters in place of two
+torn_is_not_equal : ¬ (All (λ line. count line ≡ line_total torn (1 ∷ [])) (drawing (unstyled torn) (1 ∷ [])))
+torn_is_not_equal equal =
+    let each = All-head (λ line. count line ≡ line_total torn (1 ∷ [])) _ [] (subst (All (λ line. count line ≡ line_total torn (1 ∷ []))) torn_lines equal) in
+    omega (arith, each, torn_counts.0, torn_counts.1)
+
+-- ---- ESC in two bytes
+
+abbrev overlong : TableValue
+overlong = table_with None [] ((0xC0 ∷ 0x9B ∷ 0x5B ∷ 0x6D ∷ []) ∷ (0x61 ∷ []) ∷ [])
+
+-- the head of the two bytes is ESC in one
+overlong_lines : drawing (unstyled overlong) (3 ∷ []) ≡ (0x1B ∷ 0x5B ∷ 0x6D ∷ []) ∷ []
+unfolding wrapping chars
+overlong_lines = refl
+
+-- no text line has the byte ESC
+overlong_is_free : IsFreeOfEscapes overlong
+overlong_is_free =
+    record {
+      text_lines = All-cons (λ (row : RowValue). All (λ (cell : CellValue). All HasNoEscape cell.text_lines) row.cells) _ [] (All-cons (λ (cell : CellValue). All HasNoEscape cell.text_lines) _ [] lines (All-nil (λ (cell : CellValue). All HasNoEscape cell.text_lines))) (All-nil (λ (row : RowValue). All (λ (cell : CellValue). All HasNoEscape cell.text_lines) row.cells));
+      indicator = refl;
+      style_ends = AllPass-clear 18;
+      style_fills = AllPass-clear 4;
+    }
+  where
+    lines : All HasNoEscape ((0xC0 ∷ 0x9B ∷ 0x5B ∷ 0x6D ∷ []) ∷ (0x61 ∷ []) ∷ [])
+    lines =
+        All-cons HasNoEscape (0xC0 ∷ 0x9B ∷ 0x5B ∷ 0x6D ∷ []) ((0x61 ∷ []) ∷ []) refl (All-cons HasNoEscape (0x61 ∷ []) [] refl (All-nil HasNoEscape))
+
+    AllPass-clear : (n : ℕ) → All (λ (c : Option ℕ). (unwrap_or c 0x20 == 0x1B) ≡ false) (replicate n None)
+    AllPass-clear n = All-replicate (λ (c : Option ℕ). (unwrap_or c 0x20 == 0x1B) ≡ false) n None refl
+
+-- the line is a sequence
+overlong_shows_nothing : map visible_text (drawing overlong (3 ∷ [])) ≡ [] ∷ []
+unfolding wrapping chars
+overlong_shows_nothing = refl
+
+-- its one line becomes a sequence, which is taken out of it
+overlong_is_not_left : ¬ (map visible_text (drawing overlong (3 ∷ [])) ≡ drawing (unstyled overlong) (3 ∷ []))
+overlong_is_not_left left =
+    let same : [] ∷ [] ≡ (0x1B ∷ 0x5B ∷ 0x6D ∷ []) ∷ [] = sym overlong_shows_nothing ∙ left ∙ overlong_lines in
+    cc same

@@ -1,0 +1,107 @@
+-- Styled pieces, and lines with sequences, computed.
+use Rattle.std.proofs.Common.{◌≡◌, [], ◌∷◌, refl, Option, Some, None, true, false, Bool, List, lit≤}
+use Rattle.std.specs.Prelude.{codes}
+use Prim.Native.String.{String}
+use Rattle.std.specs.Fmt.{digits}
+use Rattle.comfy_parts.proofs.Computing.{wrapping}
+use Rattle.comfy_parts.specs.CellValue.{CellValue, ColumnInfo, plain_cell, plain_row}
+use Rattle.comfy_parts.specs.Presets.{ascii_full}
+use Rattle.comfy_parts.specs.declared.style.attribute.Attribute.{Attribute}
+use Rattle.comfy_parts.specs.declared.style.attribute.Attribute.TheVariants.{Bold, SlowBlink, Underlined}
+use Rattle.comfy_parts.specs.declared.style.color.Color.{Color}
+use Rattle.comfy_parts.specs.declared.style.color.Color.TheVariants.{Reset, Green, Black, Rgb, AnsiValue}
+use Rattle.comfy_table.proofs.TrialTables.{texts}
+use Rattle.comfy_table.specs.Pieces.{piece}
+use Rattle.comfy_table.specs.TableValue.{TableValue, new_table, with_row, max_content_widths}
+use Rattle.comfy_table.specs.VisibleLines.{line_texts, visible_table, cut_line_text}
+use Rattle.comfy_table.specs.Arrangement.{IsDrawingOf}
+use Rattle.comfy_parts.specs.declared.style.table.ContentArrangement.TheVariants.{Dynamic}
+
+-- styling is enforced, though no terminal is there
+abbrev styled_table : Bool → TableValue
+styled_table text_only = record (new_table ascii_full) { no_tty = true; enforce_styling = true; style_text_only = text_only }
+
+abbrev info : ColumnInfo
+info = record { padding = (1, 1); delimiter = None; alignment = None; content_width = 1; is_hidden = false }
+
+abbrev wide_info : ColumnInfo
+wide_info = record info { content_width = 19 }
+
+abbrev wider_info : ColumnInfo
+wider_info = record info { content_width = 29 }
+
+abbrev styled_cell : String → Option Color → Option Color → List Attribute → CellValue
+styled_cell text foreground background attributes =
+    record (plain_cell (codes text)) { foreground = foreground; background = background; attributes = attributes }
+
+bold_header : piece (styled_table false) (styled_cell "Header1" None None (Bold ∷ [])) wide_info (codes "Header1") ≡ codes "\u{1b}[1m Header1             \u{1b}[0m"
+unfolding wrapping
+bold_header = refl
+
+all_the_things : piece (styled_table true) (styled_cell "COMBINE ALL THE THINGS" (Some Green) (Some Black) (Bold ∷ SlowBlink ∷ [])) wider_info (codes "COMBINE ALL THE THINGS") ≡ codes " \u{1b}[48;5;0m\u{1b}[38;5;10m\u{1b}[1m\u{1b}[5mCOMBINE ALL THE THINGS\u{1b}[0m        "
+unfolding wrapping
+all_the_things = refl
+
+two_colours : piece (styled_table false) (styled_cell "x" (Some Green) (Some Black) []) info (codes "x") ≡ codes "\u{1b}[48;5;0m\u{1b}[38;5;10m x \u{1b}[49m\u{1b}[39m"
+unfolding wrapping
+two_colours = refl
+
+each_attribute_once : piece (styled_table true) (styled_cell "x" None None (Underlined ∷ Bold ∷ Bold ∷ [])) info (codes "x") ≡ codes " \u{1b}[1m\u{1b}[4mx\u{1b}[0m "
+unfolding wrapping
+each_attribute_once = refl
+
+reset_foreground : piece (styled_table false) (styled_cell "x" (Some Reset) None []) info (codes "x") ≡ codes "\u{1b}[39m x \u{1b}[39m"
+unfolding wrapping
+reset_foreground = refl
+
+three_parts : piece (styled_table false) (styled_cell "x" (Some (Rgb 1 2 3)) None []) info (codes "x") ≡ codes "\u{1b}[38;2;1;2;3m x \u{1b}[39m"
+unfolding wrapping digits
+three_parts = refl
+
+one_of_256 : piece (styled_table false) (styled_cell "x" None (Some (AnsiValue 200)) []) info (codes "x") ≡ codes "\u{1b}[48;5;200m x \u{1b}[49m"
+unfolding wrapping digits
+one_of_256 = refl
+
+nothing_set : piece (styled_table false) (styled_cell "x" None None []) info (codes "x") ≡ codes " x "
+unfolding wrapping
+nothing_set = refl
+
+-- ---- sequences in cells
+
+over_two_lines : line_texts 10 0x20 (plain_cell (codes "hello\u{1b}[34m\u{1b}[2m123\n456\u{1b}[0mcell1")) ≡ (codes "hello123", codes "hello\u{1b}[34m\u{1b}[2m123\u{1b}[0m") ∷ (codes "456cell1", codes "\u{1b}[34m\u{1b}[2m456\u{1b}[0mcell1") ∷ []
+unfolding wrapping
+over_two_lines = refl
+
+over_a_break : line_texts 3 0x20 (plain_cell (codes "\u{1b}[1mabcdef\u{1b}[0m")) ≡ (codes "abc", codes "\u{1b}[1mabc\u{1b}[0m") ∷ (codes "def", codes "\u{1b}[1mdef\u{1b}[0m") ∷ []
+unfolding wrapping
+over_a_break = refl
+
+over_a_space : line_texts 1 0x20 (plain_cell (codes "a\u{1b}[31m b\u{1b}[0m c")) ≡ (codes "a", codes "a") ∷ (codes "b", codes "\u{1b}[31mb\u{1b}[0m") ∷ (codes "c", codes "c") ∷ []
+unfolding wrapping
+over_a_space = refl
+
+inside_a_sequence_nothing_divides : line_texts 1 0x6D (plain_cell (codes "a\u{1b}[1mb")) ≡ (codes "a", codes "a") ∷ (codes "b", codes "\u{1b}[1mb\u{1b}[0m") ∷ []
+unfolding wrapping
+inside_a_sequence_nothing_divides = refl
+
+-- ---- tables of visible texts
+
+abbrev bold_letters : TableValue
+bold_letters = visible_table (with_row (plain_row (plain_cell (codes "\u{1b}[1mabcdef\u{1b}[0m") ∷ [])) (new_table ascii_full))
+
+visible_contents : max_content_widths bold_letters ≡ 6 ∷ []
+unfolding wrapping
+visible_contents = refl
+
+visible_drawing : IsDrawingOf bold_letters (texts ("+--------+" ∷ "| abcdef |" ∷ "+--------+" ∷ []))
+unfolding wrapping
+visible_drawing = (6 ∷ [], record { one_for_each = refl; hidden_widths = refl; visible_widths = refl }, refl)
+
+visible_dynamic_drawing : IsDrawingOf (record bold_letters { arrangement = Dynamic; set_width = Some 7 }) (texts ("+-----+" ∷ "| abc |" ∷ "| def |" ∷ "+-----+" ∷ []))
+unfolding wrapping
+visible_dynamic_drawing =
+    (3 ∷ [], record { one_for_each = refl; hidden_widths = refl; visible_widths = (record { lower = []; level = Some 3; shrunk = [] }, record { lower_taken = refl; level_found = (lit≤ tt, lit≤ tt, lit≤ tt, λ some. refl); shrunk_taken = refl; widths_are = refl }) }, refl)
+
+-- a cut line keeps no sequence; one that its indicator brings is closed
+cut_texts : (cut_line_text (codes "ab...") ≡ codes "ab...") × (cut_line_text (codes "ab\u{1b}[1m") ≡ codes "ab\u{1b}[1m\u{1b}[0m")
+cut_texts = (refl, refl)

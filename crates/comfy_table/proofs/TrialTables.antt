@@ -1,0 +1,81 @@
+-- What the trials build their tables from.
+use Rattle.std.specs.Prelude.{ℕ, List, [], ◌∷◌, Option, Some, map, codes, encode_utf8_all}
+use Prim.Native.String.{String}
+use Rattle.comfy_parts.specs.CellValue.{CellValue, RowValue, ColumnValue, plain_cell, plain_row, with_max_height}
+use Rattle.comfy_parts.specs.Presets.{utf8_full}
+use Rattle.comfy_parts.specs.StyleModifiers.{with_rounded_corners}
+use Rattle.comfy_parts.specs.Text.{Text}
+use Rattle.comfy_parts.specs.declared.style.cell.CellAlignment.{CellAlignment}
+use Rattle.comfy_parts.specs.declared.style.column.ColumnConstraint.{ColumnConstraint}
+use Rattle.comfy_parts.specs.declared.style.table.ContentArrangement.{ContentArrangement}
+use Rattle.comfy_parts.specs.declared.style.table_style.TableStyle.{TableStyle}
+use Rattle.comfy_table.specs.TableValue.{TableValue, new_table, with_header, with_rows}
+
+-- a text, written out
+abbrev pub utf8 : String → Text
+utf8 s = encode_utf8_all (codes s)
+
+abbrev pub texts : List String → List Text
+texts lines = map utf8 lines
+
+abbrev pub cells_of : List String → List CellValue
+cells_of cells = map (λ (s : String). plain_cell (utf8 s)) cells
+
+abbrev pub row_of : List String → RowValue
+row_of cells = plain_row (cells_of cells)
+
+-- rows appended to a table
+abbrev pub with_texts : List (List String) → TableValue → TableValue
+with_texts rows table = with_rows (map row_of rows) table
+
+abbrev pub table_of : TableStyle → List String → List (List String) → TableValue
+table_of style header rows = with_texts rows (with_header (row_of header) (new_table style))
+
+-- a table without a header
+abbrev pub rows_of : TableStyle → List (List String) → TableValue
+rows_of style rows = with_texts rows (new_table style)
+
+abbrev pub arranged : ContentArrangement → ℕ → TableValue → TableValue
+arranged arrangement width table = record table { arrangement = arrangement; set_width = Some width }
+
+-- the constraints of columns in list order; further columns keep theirs
+abbrev pub constrained : List (Option ColumnConstraint) → List ColumnValue → List ColumnValue
+constrained [] columns = columns
+constrained (c ∷ cs) [] = []
+constrained (c ∷ cs) (column ∷ columns) = record column { constraint = c } ∷ constrained cs columns
+
+abbrev pub with_constraints : List (Option ColumnConstraint) → TableValue → TableValue
+with_constraints constraints table = record table { columns = constrained constraints table.columns }
+
+-- each row gets this greatest height
+abbrev pub with_heights : ℕ → TableValue → TableValue
+with_heights h table = record table { rows = map (with_max_height h) table.rows }
+
+-- the paddings and the alignments of columns in list order; further columns keep theirs
+abbrev pub padded_by : List (ℕ × ℕ) → List ColumnValue → List ColumnValue
+padded_by [] columns = columns
+padded_by (p ∷ ps) [] = []
+padded_by (p ∷ ps) (column ∷ columns) = record column { padding = p } ∷ padded_by ps columns
+
+abbrev pub with_paddings : List (ℕ × ℕ) → TableValue → TableValue
+with_paddings paddings table = record table { columns = padded_by paddings table.columns }
+
+abbrev pub aligned_by : List CellAlignment → List ColumnValue → List ColumnValue
+aligned_by [] columns = columns
+aligned_by (a ∷ more) [] = []
+aligned_by (a ∷ more) (column ∷ columns) = record column { alignment = Some a } ∷ aligned_by more columns
+
+abbrev pub with_alignments : List CellAlignment → TableValue → TableValue
+with_alignments alignments table = record table { columns = aligned_by alignments table.columns }
+
+abbrev pub aligned_cell : CellAlignment → String → CellValue
+aligned_cell a s = record (plain_cell (utf8 s)) { alignment = Some a }
+
+abbrev pub rounded_utf8 : TableStyle
+rounded_utf8 = with_rounded_corners utf8_full
+
+abbrev pub with_indicator : String → TableValue → TableValue
+with_indicator indicator table = record table { indicator = utf8 indicator }
+
+abbrev pub with_delimiter : ℕ → TableValue → TableValue
+with_delimiter delimiter table = record table { delimiter = Some delimiter }

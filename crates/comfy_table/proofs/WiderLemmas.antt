@@ -1,0 +1,206 @@
+-- Under every constraint each dynamic width is at least 1, so the lines of a table keep to the wider bound.
+use Rattle.std.proofs.Common.{◌≡◌, ◌<◌, ◌≤◌, ℕ, ◌+◌, ◌-◌, ◌/◌, Bool, true, false, ◌&&◌, ◌==◌, List, [], ◌∷◌, ◌++◌, length, map, max, sum, Option, Some, None, option_map, nat_lt, nat_le, refl, sym, subst, arith}
+use Rattle.std.specs.Prelude.{if◌then◌else◌, sum_by, ⊤}
+use Rattle.std.specs.List.{AllByRecursion, enumerate_from}
+use Rattle.std.proofs.lemmas.Nat.{le-div}
+use Rattle.comfy_parts.specs.CellValue.{ColumnValue, column_padding}
+use Rattle.comfy_parts.specs.declared.style.column.ColumnConstraint.{ColumnConstraint}
+use Rattle.comfy_parts.specs.declared.style.column.ColumnConstraint.TheVariants.{Hidden, ContentWidth, Absolute, LowerBoundary, UpperBoundary, Boundaries}
+use Rattle.comfy_parts.specs.declared.style.table.ContentArrangement.TheVariants.{Dynamic, DynamicFullWidth}
+use Rattle.comfy_table.proofs.BudgetLemmas.{keeps_to_wider_bound, fills_wider_bound}
+use Rattle.comfy_table.proofs.DrawnWidthLemmas.{sum-visible_widths, paddings_of_needs, dynamic_widths, every_added}
+use Rattle.comfy_table.proofs.EveryLemmas.{every-append, every-always, every-weaker, every-places}
+use Rattle.comfy_table.proofs.ShareLemmas.{count_at, share_at-where}
+use Rattle.comfy_table.proofs.SpreadLemmas.{IsPartOf, every-even_spread, shares_beside, every-shares_beside}
+use Rattle.comfy_table.proofs.StepLemmas.{count_at-all_shares}
+use Rattle.comfy_table.proofs.TakenShareLemmas.{every_stands}
+use Rattle.comfy_table.proofs.TakingLemmas.{next_taken-where, every-shares_of}
+use Rattle.std.proofs.lemmas.List.{length-map}
+use Rattle.comfy_table.specs.Arrangement.{IsArranged, room_beside_borders}
+use Rattle.comfy_table.specs.Dynamic.{Placed, Share, Steps, IsArrangedBy, IsTakenAfter, lower_of_boundary, shrunk_at, settled_at, fit_at, upper_at, settled_shares, early_shares, places_of, without_shares, share_at, added, undecided, others, unsettled, even_columns, even_shares, all_shares, contents_after, room_left, content_room, room_of_unsettled, average}
+use Rattle.comfy_table.specs.Frame.{border_count}
+use Rattle.comfy_table.specs.Laws.{KeepsToWiderBoundInFull, line_total, least_with_steps}
+use Rattle.comfy_table.specs.TableLaws.{KeepsToWiderTotal, KeepsToWiderTotalInFull, FillsWiderTotal, visible_contents}
+use Rattle.comfy_table.specs.TableValue.{TableValue, visible_columns, column_content}
+use Rattle.comfy_table.specs.Widths.{ColumnNeeds, needs_of, visible_needs, visible_count, without_padding, even_spread, early_by_boundary, early_by_constraint, resolved_width}
+
+-- a share of at least one place
+abbrev HasPlace : Share → Type 0
+HasPlace t = 1 ≤ t.1
+
+-- an early width, where there is one, has a place
+abbrev HasEarlyPlace : ColumnNeeds → Type 0
+HasEarlyPlace column = (width : ℕ) → column.early ≡ Some width → 1 ≤ width
+
+-- ---- what is offered has a place
+
+-- by a lower boundary
+lower-some : (b padding : ℕ) (o : Option ℕ) (width : ℕ) → lower_of_boundary b padding o ≡ Some width → 1 ≤ width
+lower-some b padding None width is = absurd (cc is)
+lower-some b padding (Some l) width is = by_test (nat_lt b l) is
+  where
+    by_test : (t : Bool) → (if t then Some (without_padding padding l) else None) ≡ Some width → 1 ≤ width
+    by_test true is = let same : max 1 (l - padding) ≡ width = cc is in omega (arith, same)
+    by_test false is = absurd (cc is)
+
+-- by shrinking
+shrunk-some : (b : ℕ) (column : ColumnNeeds) (width : ℕ) → shrunk_at b column ≡ Some width → 1 ≤ width
+shrunk-some b column width is = by_test (nat_le (column.longest b + 3) b) is
+  where
+    by_test : (t : Bool) → (if t then Some (max 1 (column.longest b)) else None) ≡ Some width → 1 ≤ width
+    by_test true is = let same : max 1 (column.longest b) ≡ width = cc is in omega (arith, same)
+    by_test false is = absurd (cc is)
+
+-- by an upper boundary
+upper-some : (level : ℕ) (column : ColumnNeeds) (o : Option ℕ) (width : ℕ) → upper_at level column o ≡ Some width → 1 ≤ width
+upper-some level column None width is = absurd (cc is)
+upper-some level column (Some u) width is = by_test (nat_le u (level + column.padding) && nat_le u (column.content + column.padding)) is
+  where
+    by_test : (t : Bool) → (if t then Some (without_padding column.padding u) else None) ≡ Some width → 1 ≤ width
+    by_test true is = let same : max 1 (u - column.padding) ≡ width = cc is in omega (arith, same)
+    by_test false is = absurd (cc is)
+
+-- by a level
+settled-some : (level : Option ℕ) (column : ColumnNeeds) (width : ℕ) → settled_at level column ≡ Some width → 1 ≤ width
+settled-some None column width is = absurd (cc is)
+settled-some (Some level) column width is = by_upper (upper_at level column column.upper) (upper-some level column column.upper) is
+  where
+    by_test : (t : Bool) → (if t then Some (max 1 column.content) else None) ≡ Some width → 1 ≤ width
+    by_test true is = let same : max 1 column.content ≡ width = cc is in omega (arith, same)
+    by_test false is = absurd (cc is)
+
+    by_upper : (o : Option ℕ) → ((w : ℕ) → o ≡ Some w → 1 ≤ w) → fit_at level column o ≡ Some width → 1 ≤ width
+    by_upper (Some upper) some is = some width is
+    by_upper None some is = by_test (nat_le column.content level) is
+
+-- early, by a boundary that the content does not pass
+boundary-some : (content padding : ℕ) (o : Option ℕ) (width : ℕ) → early_by_boundary content padding o ≡ Some width → 1 ≤ width
+boundary-some content padding None width is = absurd (cc is)
+boundary-some content padding (Some l) width is = by_test (nat_le (content + padding) l) is
+  where
+    by_test : (t : Bool) → (if t then Some (without_padding padding l) else None) ≡ Some width → 1 ≤ width
+    by_test true is = let same : max 1 (l - padding) ≡ width = cc is in omega (arith, same)
+    by_test false is = absurd (cc is)
+
+-- early, by a resolved width
+absolute-some : (padding : ℕ) (o : Option ℕ) (width : ℕ) → option_map (without_padding padding) o ≡ Some width → 1 ≤ width
+absolute-some padding None width is = absurd (cc is)
+absolute-some padding (Some x) width is = let same : max 1 (x - padding) ≡ width = cc is in omega (arith, same)
+
+-- early, by any constraint
+early-some : (table : TableValue) (n content padding : ℕ) (c : Option ColumnConstraint) (width : ℕ) → early_by_constraint table n content padding c ≡ Some width → 1 ≤ width
+early-some table n content padding None width is = absurd (cc is)
+early-some table n content padding (Some Hidden) width is = absurd (cc is)
+early-some table n content padding (Some ContentWidth) width is = let same : max 1 content ≡ width = cc is in omega (arith, same)
+early-some table n content padding (Some (Absolute x)) width is = absolute-some padding (resolved_width table n x) width is
+early-some table n content padding (Some (LowerBoundary lower)) width is = boundary-some content padding (resolved_width table n lower) width is
+early-some table n content padding (Some (UpperBoundary upper)) width is = absurd (cc is)
+early-some table n content padding (Some (Boundaries lower upper)) width is = boundary-some content padding (resolved_width table n lower) width is
+
+-- the early widths of a table's columns have a place
+every_early : (table : TableValue) (columns : List (ℕ × ColumnValue)) → AllByRecursion HasEarlyPlace (map (needs_of table) columns)
+every_early table [] = tt
+every_early table (p ∷ more) =
+    (early-some table (visible_count table) (column_content table p.0) (column_padding p.1) p.1.constraint, every_early table more)
+
+-- ---- all shares have a place
+
+-- shares that are taken one after another
+every_taken : (candidates : List Placed) (offer : List Share → Placed → Option ℕ) → ((ts : List Share) (p : Placed) (width : ℕ) → offer ts p ≡ Some width → 1 ≤ width)
+    → (from : ℕ) (taken order : List Share) → IsTakenAfter candidates offer from taken order → AllByRecursion HasPlace order
+every_taken candidates offer some from taken [] goes = tt
+every_taken candidates offer some from taken (t ∷ more) goes =
+    let next = next_taken-where candidates offer (λ (p : Placed). ⊤) from taken t (every-always (λ (p : Placed). ⊤) (without_shares taken candidates) (λ p. tt)) goes.0 in
+    (some taken (t.0, next.column) t.1 next.offered, every_taken candidates offer some t.0 (taken ++ t ∷ []) more goes.1)
+
+-- the even shares
+every_even : (columns : List Placed) (x : ℕ) → AllByRecursion HasPlace (shares_beside columns (even_spread (max x (length columns)) (length columns)))
+every_even [] x = tt
+every_even (p ∷ more) x =
+    every-shares_beside (λ (q : Placed). ⊤) (λ (w : ℕ). 1 ≤ w) HasPlace (p ∷ more) (even_spread (max x n) n) (λ q w any some. some) (every-always (λ (q : Placed). ⊤) (p ∷ more) (λ q. tt))
+    (every-weaker (IsPartOf (max x n) n) (λ (w : ℕ). 1 ≤ w) (even_spread (max x n) n) (λ w part. omega (arith, part.0, one)) (every-even_spread (max x n) n))
+  where
+    n : ℕ
+    n = length (p ∷ more)
+
+    one : 1 ≤ max x n / n
+    one = le-div 1 (max x n) n (omega arith) (omega arith)
+
+-- a list of what holds of each of its elements' images
+every-map : {X Y : Type 0} (P : Y → Type 0) (f : X → Y) (xs : List X) → AllByRecursion (λ (x : X). P (f x)) xs → AllByRecursion P (map f xs)
+every-map P f [] each = tt
+every-map P f (x ∷ xs) each = (each.0, every-map P f xs each.1)
+
+-- the shares of early widths
+every_early_share : (n : ℕ) (columns : List ColumnNeeds) → AllByRecursion HasEarlyPlace columns → AllByRecursion HasPlace (early_shares (enumerate_from n columns))
+every_early_share n columns each =
+    every-shares_of (λ (p : Placed). p.1.early) (λ (p : Placed). HasEarlyPlace p.1) HasPlace (enumerate_from n columns) (λ p width fair is. fair width is) (every-places HasEarlyPlace n columns each)
+
+module _ (room : ℕ) (columns : List ColumnNeeds) (fair : AllByRecursion HasEarlyPlace columns) (full : Bool) (steps : Steps) (widths : List ℕ) (arranged : IsArrangedBy room columns full steps widths) where
+  -- the shares of all kinds
+  every_share : AllByRecursion HasPlace (all_shares room columns steps)
+  every_share =
+      every-append HasPlace (early_shares (places_of columns)) _ (every_early_share 0 columns fair)
+      (every-append HasPlace steps.lower _ (every_taken (undecided room columns) _ (λ ts p width is. lower-some (average (content_room room columns) (undecided room columns) ts) p.1.padding p.1.lower width is) 0 [] steps.lower arranged.lower_taken)
+      (every-append HasPlace (settled_shares steps.level (others room columns steps.lower)) _
+      (every-shares_of (λ (p : Placed). settled_at steps.level p.1) (λ (p : Placed). ⊤) HasPlace (others room columns steps.lower) (λ p width any is. settled-some steps.level p.1 width is) (every-always (λ (p : Placed). ⊤) (others room columns steps.lower) (λ p. tt)))
+      (every-append HasPlace steps.shrunk (even_shares room columns steps)
+      (every_taken (unsettled room columns steps) _ (λ ts p width is. shrunk-some (average (room_of_unsettled room columns steps) (unsettled room columns steps) ts) p.1 width is) 0 [] steps.shrunk arranged.shrunk_taken)
+      (every_even (even_columns room columns steps) (room_left room columns steps)))))
+
+  -- so the contents have
+  every_content : AllByRecursion (λ (w : ℕ). 1 ≤ w) (contents_after room columns steps)
+  every_content =
+      every-map (λ (w : ℕ). 1 ≤ w) (λ (p : Placed). share_at (all_shares room columns steps) p.0) (places_of columns)
+      (every-weaker (λ (p : Placed). 0 < count_at p.0 (places_of columns)) (λ (p : Placed). 1 ≤ share_at (all_shares room columns steps) p.0) (places_of columns)
+      (λ p stands. share_at-where (λ i w. 1 ≤ w) p.0 (all_shares room columns steps) every_share (omega (arith, stands, count_at-all_shares room columns full steps widths arranged p.0)))
+      (every_stands (places_of columns)))
+
+  -- and each width, under every constraint
+  every_width_has_place : AllByRecursion (λ (w : ℕ). 1 ≤ w) widths
+  every_width_has_place = subst (AllByRecursion (λ (w : ℕ). 1 ≤ w)) (sym arranged.widths_are) (by_test (full && (length (even_columns room columns steps) == 0)))
+    where
+      by_test : (b : Bool) → AllByRecursion (λ (w : ℕ). 1 ≤ w) (if b then added (contents_after room columns steps) (even_spread (room_left room columns steps) (length columns)) else contents_after room columns steps)
+      by_test true = every_added (contents_after room columns steps) (even_spread (room_left room columns steps) (length columns)) every_content
+      by_test false = every_content
+
+-- ---- the wider bound
+
+-- with full width the widths keep to it too
+pub keeps_to_wider_bound_in_full : (room : ℕ) (columns : List ColumnNeeds) (steps : Steps) (widths : List ℕ) → KeepsToWiderBoundInFull room columns steps widths
+keeps_to_wider_bound_in_full room [] steps widths arranged =
+    subst (λ (ws : List ℕ). sum_by (λ (column : ColumnNeeds). column.padding) [] + sum ws ≤ max room (least_with_steps [] steps)) (sym arranged.widths_are) (by_test (length (even_columns room [] steps) == 0))
+  where
+    by_test : (b : Bool) → sum_by (λ (column : ColumnNeeds). column.padding) [] + sum (if b then added [] (even_spread (room_left room [] steps) 0) else []) ≤ max room (least_with_steps [] steps)
+    by_test true = omega arith
+    by_test false = omega arith
+keeps_to_wider_bound_in_full room (column ∷ more) steps widths arranged =
+    omega (arith, fills_wider_bound room (column ∷ more) steps widths (omega arith) arranged)
+
+-- a line's total is the border characters, the paddings and the widths
+line_total-parts : (table : TableValue) (w : ℕ) (widths : List ℕ) (full : Bool) (steps : Steps) → IsArranged table widths → IsArrangedBy (room_beside_borders table w) (visible_needs table) full steps (visible_contents table widths)
+    → line_total table widths ≡ border_count table.style (visible_count table) + (sum_by (λ (column : ColumnNeeds). column.padding) (visible_needs table) + sum (visible_contents table widths))
+line_total-parts table w widths full steps arranged by =
+    let drawn = sum-visible_widths table widths arranged.one_for_each (every_width_has_place (room_beside_borders table w) (visible_needs table) (every_early table (visible_columns table)) full steps (visible_contents table widths) by) in
+    omega (arith, drawn, paddings_of_needs table (visible_columns table))
+
+-- under `Dynamic` a line keeps to the width, or to the wider total
+pub keeps_to_wider_total : (table : TableValue) (w : ℕ) (widths : List ℕ) → KeepsToWiderTotal table w widths
+keeps_to_wider_total table w widths dynamic known arranged =
+    let found = dynamic_widths table Dynamic w widths refl dynamic known arranged in
+    let bound = keeps_to_wider_bound (room_beside_borders table w) (visible_needs table) found.0 (visible_contents table widths) found.1 in
+    (found.0, found.1, omega (arith, bound, line_total-parts table w widths false found.0 arranged found.1))
+
+-- likewise under `DynamicFullWidth`
+pub keeps_to_wider_total_in_full : (table : TableValue) (w : ℕ) (widths : List ℕ) → KeepsToWiderTotalInFull table w widths
+keeps_to_wider_total_in_full table w widths full known arranged =
+    let found = dynamic_widths table DynamicFullWidth w widths refl full known arranged in
+    let bound = keeps_to_wider_bound_in_full (room_beside_borders table w) (visible_needs table) found.0 (visible_contents table widths) found.1 in
+    (found.0, found.1, omega (arith, bound, line_total-parts table w widths true found.0 arranged found.1))
+
+-- and it has exactly that many characters, where a column is visible
+pub fills_wider_total : (table : TableValue) (w : ℕ) (widths : List ℕ) → FillsWiderTotal table w widths
+fills_wider_total table w widths full known some arranged =
+    let found = dynamic_widths table DynamicFullWidth w widths refl full known arranged in
+    let exact = fills_wider_bound (room_beside_borders table w) (visible_needs table) found.0 (visible_contents table widths) (omega (arith, some, length-map (visible_columns table) (needs_of table))) found.1 in
+    (found.0, found.1, omega (arith, exact, line_total-parts table w widths true found.0 arranged found.1))

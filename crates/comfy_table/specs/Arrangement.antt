@@ -1,0 +1,63 @@
+-- The content widths of all columns of a table.
+use Rattle.std.specs.Prelude.{◌≡◌, ℕ, ◌-◌, Bool, true, false, List, Option, None, map, length, filter, slice_index, max}
+use Rattle.std.specs.List.{enumerate_from}
+use Rattle.std.specs.Prelude.{MatchOption}
+use Rattle.comfy_parts.specs.CellValue.{ColumnInfo, ColumnValue, is_hidden_column}
+use Rattle.comfy_parts.specs.Text.{Text}
+use Rattle.comfy_parts.specs.declared.style.table.ContentArrangement.{ContentArrangement}
+use Rattle.comfy_parts.specs.declared.style.table.ContentArrangement.TheVariants.{Disabled, DynamicFullWidth}
+use Rattle.comfy_table.specs.Drawing.{drawing, infos_of, text_of, trimmed_text_of}
+use Rattle.comfy_table.specs.Dynamic.{IsDynamic}
+use Rattle.comfy_table.specs.Frame.{border_count}
+use Rattle.comfy_table.specs.TableValue.{TableValue, table_width, visible_columns, column_content}
+use Rattle.comfy_table.specs.Widths.{disabled_width, visible_needs, visible_count}
+
+-- the width that a dynamic arrangement keeps to; none under `Disabled`
+abbrev pub width_kept : ContentArrangement → Option ℕ → Option ℕ
+width_kept Disabled width = None
+width_kept _ width = width
+
+-- what is left over is spread over all columns
+abbrev pub is_full_width : ContentArrangement → Bool
+is_full_width DynamicFullWidth = true
+is_full_width _ = false
+
+-- the table's width less the border characters of a line
+abbrev pub room_beside_borders : TableValue → ℕ → ℕ
+room_beside_borders table w = w - border_count table.style (visible_count table)
+
+-- the hidden columns, each with its position
+abbrev pub hidden_columns : TableValue → List (ℕ × ColumnValue)
+hidden_columns table = filter (λ (p : ℕ × ColumnValue). is_hidden_column p.1) (enumerate_from 0 table.columns)
+
+-- the widths at the positions of these columns
+abbrev pub widths_at : List ℕ → List (ℕ × ColumnValue) → List ℕ
+widths_at widths columns = map (λ (p : ℕ × ColumnValue). slice_index widths p.0) columns
+
+-- the content widths of the visible columns: by content alone where no width is kept, else dynamic
+abbrev pub AreVisibleWidths : TableValue → List ℕ → Type 0
+AreVisibleWidths table widths =
+    MatchOption (width_kept table.arrangement (table_width table)) (widths ≡ map (disabled_width table) (visible_columns table))
+    (λ w. IsDynamic (room_beside_borders table w) (visible_needs table) (is_full_width table.arrangement) widths)
+
+-- one content width for each column, in list order; a hidden column has its content's
+pub record IsArranged (table : TableValue) (widths : List ℕ) : Type 0 where
+  pub one_for_each : length widths ≡ length table.columns
+  pub hidden_widths : widths_at widths (hidden_columns table) ≡ map (λ (p : ℕ × ColumnValue). max 1 (column_content table p.0)) (hidden_columns table)
+  pub visible_widths : AreVisibleWidths table (widths_at widths (visible_columns table))
+
+-- the columns with their widths, as they are drawn
+abbrev pub AreInfosOf : TableValue → List ColumnInfo → Type 0
+AreInfosOf table infos = (widths : List ℕ) × IsArranged table widths × (infos ≡ infos_of table widths)
+
+-- the lines are the drawing of the table over its widths
+abbrev pub IsDrawingOf : TableValue → List Text → Type 0
+IsDrawingOf table lines = (widths : List ℕ) × IsArranged table widths × (lines ≡ drawing table widths)
+
+-- the text is that of such a drawing: its lines, joined by line feeds
+abbrev pub IsTextOf : TableValue → Text → Type 0
+IsTextOf table text = (lines : List Text) × IsDrawingOf table lines × (text ≡ text_of lines)
+
+-- likewise, each line without its trailing white space
+abbrev pub IsTrimmedTextOf : TableValue → Text → Type 0
+IsTrimmedTextOf table text = (lines : List Text) × IsDrawingOf table lines × (text ≡ trimmed_text_of lines)

@@ -1,0 +1,52 @@
+-- The drawing of a table over given widths.
+use Rattle.std.specs.Prelude.{ℕ, List, [], ◌++◌, Option, Some, None, map, zip}
+use Rattle.std.specs.List.{join_by, join_with_byte}
+use Rattle.std.specs.Str.{trim_end}
+use Rattle.comfy_parts.specs.CellValue.{RowValue, ColumnValue, ColumnInfo, info_of, info_width}
+use Rattle.comfy_parts.specs.Text.{Text}
+use Rattle.comfy_parts.specs.declared.style.table_style.ContentLineStyle.{ContentLineStyle}
+use Rattle.comfy_table.specs.Frame.{content_line, optional_frame_line}
+use Rattle.comfy_table.specs.Pieces.{row_lines, visible_infos}
+use Rattle.comfy_table.specs.TableValue.{TableValue}
+
+-- each column with its content width, hidden ones too, in list order
+abbrev pub infos_of : TableValue → List ℕ → List ColumnInfo
+infos_of table widths = map (λ (p : ColumnValue × ℕ). info_of p.0 p.1) (zip table.columns widths)
+
+-- the whole widths of the visible columns, in list order
+abbrev pub visible_widths : List ColumnInfo → List ℕ
+visible_widths infos = map (λ (p : ℕ × ColumnInfo). info_width p.1) (visible_infos infos)
+
+module _ (table : TableValue) (infos : List ColumnInfo) where
+  -- the lines of a row, framed as header lines or as content lines
+  abbrev pub drawn_row : ContentLineStyle → RowValue → List Text
+  drawn_row line row = map (content_line table.style line) (row_lines table infos row)
+
+  -- the header's lines and the header separator, where there is a header
+  abbrev pub drawn_header : Option RowValue → List Text
+  drawn_header None = []
+  drawn_header (Some header) =
+      drawn_row table.style.header_lines header ++ optional_frame_line table.style table.style.header_separator (visible_widths infos)
+
+  -- the rows' lines, with the row separator between each two rows
+  abbrev pub drawn_rows : List RowValue → List Text
+  drawn_rows rows =
+      join_by (drawn_row table.style.content_lines) (optional_frame_line table.style table.style.row_separator (visible_widths infos)) rows
+
+  -- top border, header, rows, bottom border
+  abbrev pub drawing_of_infos : List Text
+  drawing_of_infos =
+      optional_frame_line table.style table.style.top_border (visible_widths infos)
+      ++ (drawn_header table.header ++ (drawn_rows table.rows ++ optional_frame_line table.style table.style.bottom_border (visible_widths infos)))
+
+-- the drawing of a table whose columns have these content widths, in list order
+abbrev pub drawing : TableValue → List ℕ → List Text
+drawing table widths = drawing_of_infos table (infos_of table widths)
+
+-- the lines joined by line feeds
+abbrev pub text_of : List Text → Text
+text_of lines = join_with_byte 0x0A lines
+
+-- the same, each line without its trailing white space
+abbrev pub trimmed_text_of : List Text → Text
+trimmed_text_of lines = text_of (map trim_end lines)

@@ -1,0 +1,67 @@
+-- The frame of a table: which borders are drawn, and what its lines look like.
+use Rattle.std.specs.Prelude.{ℕ, ◌+◌, ◌-◌, ◌^◌, min, Bool, ◌||◌, List, [], ◌∷◌, ◌++◌, Option, is_some, unwrap_or, map, encode_utf8, if◌then◌else◌}
+use Rattle.std.specs.List.{repeat, join_by, list_any}
+use Rattle.comfy_parts.specs.Text.{Text}
+use Rattle.comfy_parts.specs.declared.style.table_style.ContentLineStyle.{ContentLineStyle}
+use Rattle.comfy_parts.specs.declared.style.table_style.LineStyle.{LineStyle}
+use Rattle.comfy_parts.specs.declared.style.table_style.TableStyle.{TableStyle}
+
+-- the left characters of the six lines of a style
+abbrev pub left_characters : TableStyle → List (Option ℕ)
+left_characters style = style.top_border.left ∷ style.header_lines.left ∷ style.header_separator.left ∷ style.content_lines.left ∷ style.row_separator.left ∷ style.bottom_border.left ∷ []
+
+-- their right characters
+abbrev pub right_characters : TableStyle → List (Option ℕ)
+right_characters style = style.top_border.right ∷ style.header_lines.right ∷ style.header_separator.right ∷ style.content_lines.right ∷ style.row_separator.right ∷ style.bottom_border.right ∷ []
+
+-- their junctions
+abbrev pub junction_characters : TableStyle → List (Option ℕ)
+junction_characters style = style.top_border.junction ∷ style.header_lines.junction ∷ style.header_separator.junction ∷ style.content_lines.junction ∷ style.row_separator.junction ∷ style.bottom_border.junction ∷ []
+
+-- the left border is drawn if any line has a left character
+abbrev pub draws_left_border : TableStyle → Bool
+draws_left_border style = list_any (λ (c : Option ℕ). is_some c) (left_characters style)
+
+-- the right border is drawn if any line has a right character
+abbrev pub draws_right_border : TableStyle → Bool
+draws_right_border style = list_any (λ (c : Option ℕ). is_some c) (right_characters style)
+
+-- vertical lines are drawn if any line has a junction
+abbrev pub draws_vertical_lines : TableStyle → Bool
+draws_vertical_lines style = list_any (λ (c : Option ℕ). is_some c) (junction_characters style)
+
+-- the border characters of a line over n columns: left, right, and one between each two columns with vertical lines
+abbrev pub border_count : TableStyle → ℕ → ℕ
+border_count style n =
+    (if draws_left_border style then 1 else 0) + (if draws_right_border style then 1 else 0) + (if draws_vertical_lines style then n - 1 else 0)
+
+-- the same as `count_border_columns` answers it: at most the greatest `usize`
+abbrev pub borders_stopped : TableStyle → ℕ → ℕ
+borders_stopped style n = min (2 ^ 64 - 1) (border_count style n)
+
+-- a character of a style; a missing one is a space
+abbrev pub character : Option ℕ → Text
+character c = encode_utf8 (unwrap_or c 0x20)
+
+-- pieces side by side: junctions between them where vertical lines are drawn, and the drawn side borders at the ends
+abbrev pub joined : TableStyle → Option ℕ → Option ℕ → Option ℕ → List Text → Text
+joined style left junction right pieces =
+    (if draws_left_border style then character left else [])
+    ++ (join_by (λ (piece : Text). piece) (if draws_vertical_lines style then character junction else []) pieces
+    ++ (if draws_right_border style then character right else []))
+
+-- a line of content
+abbrev pub content_line : TableStyle → ContentLineStyle → List Text → Text
+content_line style line pieces = joined style line.left line.junction line.right pieces
+
+-- a line of the frame over columns of these whole widths
+abbrev pub frame_line : TableStyle → LineStyle → List ℕ → Text
+frame_line style line widths = joined style line.left line.junction line.right (map (λ (width : ℕ). repeat width (character line.fill)) widths)
+
+-- a line of the frame is drawn if any of its four parts is set
+abbrev pub is_drawn : LineStyle → Bool
+is_drawn line = is_some line.left || (is_some line.fill || (is_some line.junction || is_some line.right))
+
+-- the line, where it is drawn
+abbrev pub optional_frame_line : TableStyle → LineStyle → List ℕ → List Text
+optional_frame_line style line widths = if is_drawn line then frame_line style line widths ∷ [] else []

@@ -1,0 +1,172 @@
+-- What drawings and widths promise beyond their definitions. Each is a statement at given values.
+use Rattle.std.specs.Prelude.{◌≡◌, ℕ, ◌+◌, ◌-◌, ◌<◌, ◌≤◌, Bool, true, false, List, [], ◌∷◌, ◌++◌, Option, Some, None, map, length, max, min, sum, sum_by, All, IsUtf8, chars, slice_get, unwrap_or, ◌==◌, nat_lt}
+use Rattle.std.specs.Int.{is_in_range}
+use Rattle.std.specs.List.{AllZip, list_any}
+use Rattle.comfy_parts.specs.CellValue.{CellValue, RowValue, ColumnValue, ColumnInfo, column_padding}
+use Rattle.comfy_parts.specs.Text.{Text, is_printable_ascii, IsEven}
+use Rattle.comfy_parts.specs.VisibleText.{Part, parts, parts_before, open_after, active, visible_text}
+use Rattle.comfy_parts.specs.declared.style.table.ContentArrangement.TheVariants.{Dynamic, DynamicFullWidth}
+use Rattle.comfy_table.specs.Arrangement.{IsArranged}
+use Rattle.comfy_table.specs.Drawing.{drawing, infos_of, visible_widths}
+use Rattle.comfy_table.specs.Dynamic.{Steps, IsArrangedBy, IsDynamic, content_room, early_shares, places_of, total}
+use Rattle.comfy_table.specs.Frame.{border_count, left_characters, right_characters, junction_characters}
+use Rattle.comfy_table.specs.Levels.{IsUnconstrained, IsLevelled, IsLevelledAt, IsFull}
+use Rattle.comfy_table.specs.Lines.{cell_lines, cell_delimiter, fitting_indicator}
+use Rattle.comfy_table.specs.Pieces.{visible_infos}
+use Rattle.comfy_table.specs.TableValue.{TableValue, HasTextLines, table_width, visible_columns, column_cells, header_and_rows}
+use Rattle.comfy_table.specs.VisibleLines.{line_text, line_texts}
+use Rattle.comfy_table.specs.Widths.{ColumnNeeds, visible_count}
+
+-- ---- counts of lines
+
+-- the number of characters of a line
+abbrev pub count : Text → ℕ
+count line = length (chars line)
+
+-- the table without styling
+abbrev pub unstyled : TableValue → TableValue
+unstyled table = record table { no_tty = true; enforce_styling = false }
+
+-- the border characters of a line, and the whole widths of the visible columns
+abbrev pub line_total : TableValue → List ℕ → ℕ
+line_total table widths = border_count table.style (visible_count table) + sum (visible_widths (infos_of table widths))
+
+-- borders, paddings and one place for each visible column
+abbrev pub least_total : TableValue → ℕ
+least_total table =
+    border_count table.style (visible_count table) + (sum_by (λ (p : ℕ × ColumnValue). column_padding p.1) (visible_columns table) + visible_count table)
+
+-- a cell's text lines and its delimiter in this column are printable ASCII
+abbrev pub IsPlainCell : TableValue → Option ℕ → CellValue → Type 0
+IsPlainCell table column_delimiter cell =
+    All (λ line. is_printable_ascii line ≡ true) cell.text_lines × (is_in_range 0x20 0x7E (cell_delimiter table column_delimiter cell) ≡ true)
+
+-- where a row cuts the cell of this column, the indicator that is written is even
+abbrev pub IsEvenWhereWritten : TableValue → RowValue → ℕ × ColumnInfo → Type 0
+IsEvenWhereWritten table row p =
+    (cell : CellValue) (h : ℕ) → slice_get row.cells p.0 ≡ Some cell → row.max_height ≡ Some h
+    → h < length (cell_lines p.1.content_width (cell_delimiter table p.1.delimiter cell) cell)
+    → IsEven (fitting_indicator p.1.content_width table.indicator)
+
+-- all known cells of the visible columns are printable ASCII
+abbrev pub HasPlainCells : TableValue → Type 0
+HasPlainCells table = All (λ (p : ℕ × ColumnValue). All (IsPlainCell table p.1.delimiter) (column_cells table p.0)) (visible_columns table)
+
+-- all known cells of the visible columns are printable ASCII, and the indicator is even wherever it is written
+pub record IsPlainTable (table : TableValue) (widths : List ℕ) : Type 0 where
+  pub plain_cells : HasPlainCells table
+  pub even_indicator : All (λ (row : RowValue). All (IsEvenWhereWritten table row) (visible_infos (infos_of table widths))) (header_and_rows table)
+
+-- all lines, frame lines too, have the same count, whatever the arrangement and the constraints; an indicator that ends inside a character would swallow what follows it
+abbrev pub EqualCounts : TableValue → List ℕ → Type 0
+EqualCounts table widths =
+    IsUtf8 table.indicator → IsPlainTable table widths → IsArranged table widths → All (λ line. count line ≡ line_total table widths) (drawing (unstyled table) widths)
+
+-- ---- totals
+
+-- no visible column has a constraint
+abbrev pub NoConstraints : TableValue → Type 0
+NoConstraints table = All (λ (p : ℕ × ColumnValue). p.1.constraint ≡ None) (visible_columns table)
+
+-- under `Dynamic` a line keeps to the width, or to borders, paddings and one place for each column
+abbrev pub KeepsToWidth : TableValue → ℕ → List ℕ → Type 0
+KeepsToWidth table w widths =
+    NoConstraints table → table.arrangement ≡ Dynamic → table_width table ≡ Some w → IsArranged table widths
+    → line_total table widths ≤ max w (least_total table)
+
+-- under `DynamicFullWidth` a line has exactly that width, where a column is visible
+abbrev pub FillsWidth : TableValue → ℕ → List ℕ → Type 0
+FillsWidth table w widths =
+    NoConstraints table → table.arrangement ≡ DynamicFullWidth → table_width table ≡ Some w → 0 < visible_count table → IsArranged table widths
+    → line_total table widths ≡ max w (least_total table)
+
+-- with constraints, the whole widths of the early and lower columns stand in the place of one place and their paddings; `room` is the width less the borders
+abbrev pub least_with_steps : List ColumnNeeds → Steps → ℕ
+least_with_steps columns steps =
+    sum_by (λ (column : ColumnNeeds). column.padding) columns + (total (early_shares (places_of columns)) + total steps.lower)
+    + (length columns - (length (early_shares (places_of columns)) + length steps.lower))
+
+-- under every constraint, the columns and their paddings keep to the room or to this bound
+abbrev pub KeepsToWiderBound : ℕ → List ColumnNeeds → Steps → List ℕ → Type 0
+KeepsToWiderBound room columns steps widths =
+    IsArrangedBy room columns false steps widths
+    → sum_by (λ (column : ColumnNeeds). column.padding) columns + sum widths ≤ max room (least_with_steps columns steps)
+
+-- with full width they keep to it too, also where no column is visible
+abbrev pub KeepsToWiderBoundInFull : ℕ → List ColumnNeeds → Steps → List ℕ → Type 0
+KeepsToWiderBoundInFull room columns steps widths =
+    IsArrangedBy room columns true steps widths
+    → sum_by (λ (column : ColumnNeeds). column.padding) columns + sum widths ≤ max room (least_with_steps columns steps)
+
+-- with full width and a visible column they take exactly that
+abbrev pub FillsWiderBound : ℕ → List ColumnNeeds → Steps → List ℕ → Type 0
+FillsWiderBound room columns steps widths =
+    0 < length columns → IsArrangedBy room columns true steps widths
+    → sum_by (λ (column : ColumnNeeds). column.padding) columns + sum widths ≡ max room (least_with_steps columns steps)
+
+-- ---- widths
+
+-- some list of widths is dynamic
+abbrev pub DynamicIsSome : ℕ → List ColumnNeeds → Bool → Type 0
+DynamicIsSome room columns full = (widths : List ℕ) × IsDynamic room columns full widths
+
+-- and no other one is
+abbrev pub DynamicIsOne : ℕ → List ColumnNeeds → Bool → List ℕ → List ℕ → Type 0
+DynamicIsOne room columns full widths others = IsDynamic room columns full widths → IsDynamic room columns full others → widths ≡ others
+
+-- without constraints the dynamic widths keep to a level
+abbrev pub DynamicIsLevelled : ℕ → List ColumnNeeds → List ℕ → Type 0
+DynamicIsLevelled room columns widths =
+    All IsUnconstrained columns → 0 < length columns → IsDynamic room columns false widths → IsLevelled room columns widths
+
+-- and with full width they fill the room
+abbrev pub DynamicIsFull : ℕ → List ColumnNeeds → List ℕ → Type 0
+DynamicIsFull room columns widths =
+    All IsUnconstrained columns → 0 < length columns → IsDynamic room columns true widths → IsFull room columns widths
+
+-- with room for every content, every column gets its content
+abbrev pub ContentsThatFitAreKept : ℕ → List ColumnNeeds → List ℕ → Type 0
+ContentsThatFitAreKept room columns widths =
+    All IsUnconstrained columns → sum_by (λ (column : ColumnNeeds). max 1 column.content + column.padding) columns ≤ room
+    → IsDynamic room columns false widths → widths ≡ map (λ (column : ColumnNeeds). max 1 column.content) columns
+
+-- the level is the best: where a column doesn't fit, no contents within the room give each column its content or one more than the level
+abbrev pub LevelIsBest : ℕ → List ColumnNeeds → ℕ → List ℕ → Type 0
+LevelIsBest room columns level widths =
+    All IsUnconstrained columns → length columns ≤ content_room room columns → IsLevelledAt room columns level widths
+    → list_any (λ (column : ColumnNeeds). nat_lt level column.content) columns ≡ true
+    → (contents : List ℕ) → sum contents ≤ content_room room columns
+    → ¬ (AllZip (λ (column : ColumnNeeds) content. min (max 1 column.content) (level + 1) ≤ content) columns contents)
+
+-- ---- styling and sequences
+
+-- the byte ESC is not in the text
+abbrev pub HasNoEscape : Text → Type 0
+HasNoEscape text = list_any (λ b. b == 0x1B) text ≡ false
+
+-- no text line, no character of the style and no indicator holds ESC
+pub record IsFreeOfEscapes (table : TableValue) : Type 0 where
+  pub text_lines : All (λ (row : RowValue). All (λ (cell : CellValue). All HasNoEscape cell.text_lines) row.cells) (header_and_rows table)
+  pub indicator : HasNoEscape table.indicator
+  pub style_ends : All (λ (c : Option ℕ). (unwrap_or c 0x20 == 0x1B) ≡ false) (left_characters table.style ++ (right_characters table.style ++ junction_characters table.style))
+  pub style_fills : All (λ (c : Option ℕ). (unwrap_or c 0x20 == 0x1B) ≡ false) (table.style.top_border.fill ∷ table.style.header_separator.fill ∷ table.style.row_separator.fill ∷ table.style.bottom_border.fill ∷ [])
+
+-- the sequences taken out of the styled lines, the unstyled lines are left; bytes that are no UTF-8 could be cut so that an ESC arises
+abbrev pub StylingTakenOut : TableValue → List ℕ → Type 0
+StylingTakenOut table widths =
+    HasTextLines table → IsFreeOfEscapes table → map visible_text (drawing table widths) ≡ drawing (unstyled table) widths
+
+-- no sequence stands open at the end of a line
+abbrev pub NoneIsOpenAtTheEnd : ℕ → ℕ → CellValue → Type 0
+NoneIsOpenAtTheEnd w d cell = All (λ (line : Text × Text). open_after (parts line.1) ≡ []) (line_texts w d cell)
+
+-- the sequences taken out of a line's text, its visible line is left
+abbrev pub SequencesTakenOut : ℕ → ℕ → CellValue → Type 0
+SequencesTakenOut w d cell =
+    All (λ line. HasNoEscape (visible_text line)) cell.text_lines → All (λ (line : Text × Text). visible_text line.1 ≡ line.0) (line_texts w d cell)
+
+-- before each visible character of a line's text the sequences open are those that are active there in the cell
+abbrev pub ActiveIsResumed : List Part → Text → ℕ → ℕ → ℕ → Type 0
+ActiveIsResumed before text start len k =
+    start + len ≤ length (visible_text text) → k < len
+    → open_after (parts_before k (parts (line_text before text start len))) ≡ active before text (start + k)

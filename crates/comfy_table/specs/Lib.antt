@@ -1,0 +1,15 @@
+pub mod Arrangement
+pub mod Drawing
+pub mod Dynamic
+pub mod Frame
+pub mod GrownTable
+pub mod Laws
+pub mod Levels
+pub mod Lines
+pub mod Pieces
+pub mod Styling
+pub mod TableLaws
+pub mod TableLoans
+pub mod TableValue
+pub mod VisibleLines
+pub mod Widths

@@ -1,0 +1,85 @@
+-- A line of a cell as it stands in its column: aligned, padded and styled.
+use Rattle.std.specs.Prelude.{ℕ, ◌+◌, ◌-◌, ◌/◌, not, List, [], ◌∷◌, ◌++◌, Option, Some, None, unwrap_or, map, length, filter, slice_get, slice_index_or, if◌then◌else◌}
+use Rattle.std.specs.List.{enumerate_from, range_with_len}
+use Rattle.comfy_parts.specs.CellValue.{CellValue, RowValue, ColumnInfo, info_width}
+use Rattle.comfy_parts.specs.Text.{Text, measure, spaces, greatest}
+use Rattle.comfy_parts.specs.declared.style.cell.CellAlignment.{CellAlignment}
+use Rattle.comfy_parts.specs.declared.style.cell.CellAlignment.TheVariants.{Left, Right, Center}
+use Rattle.comfy_table.specs.Lines.{cell_lines, cell_delimiter, cut_at}
+use Rattle.comfy_table.specs.Styling.{styled}
+use Rattle.comfy_table.specs.TableValue.{TableValue, should_style, header_and_rows}
+
+-- the alignment of a cell: its own, else its column's, else left
+abbrev pub cell_alignment : CellValue → ColumnInfo → CellAlignment
+cell_alignment cell info = unwrap_or cell.alignment (unwrap_or info.alignment Left)
+
+-- of r free places, those before the line: none at the left, all at the right, half of them, rounded up, in the centre
+abbrev pub free_before : CellAlignment → ℕ → ℕ
+free_before Left r = 0
+free_before Right r = r
+free_before Center r = (r + 1) / 2
+
+-- the places that a line leaves free in a column, none where it is wider
+abbrev pub free_places : ColumnInfo → Text → ℕ
+free_places info line = info.content_width - measure line
+
+-- the spaces on the two sides of a line, without the paddings
+abbrev pub spaces_before : CellValue → ColumnInfo → Text → Text
+spaces_before cell info line = spaces (free_before (cell_alignment cell info) (free_places info line))
+
+-- the other free places
+abbrev pub spaces_after : CellValue → ColumnInfo → Text → Text
+spaces_after cell info line = spaces (free_places info line - free_before (cell_alignment cell info) (free_places info line))
+
+-- left padding, the spaces before, the text in the line's place, the spaces after, right padding
+abbrev pub padded : CellValue → ColumnInfo → Text → Text → Text
+padded cell info line text =
+    spaces info.padding.0 ++ (spaces_before cell info line ++ (text ++ (spaces_after cell info line ++ spaces info.padding.1)))
+
+-- the piece of a line, and the same drawn without styling
+abbrev pub plain_piece : CellValue → ColumnInfo → Text → Text
+plain_piece cell info line = padded cell info line line
+
+-- where styles are written, they stand round the whole piece, or round the line alone
+abbrev pub piece : TableValue → CellValue → ColumnInfo → Text → Text
+piece table cell info line =
+    if should_style table then (if table.style_text_only then padded cell info line (styled cell line) else styled cell (plain_piece cell info line)) else plain_piece cell info line
+
+-- what stands where a column has no line
+abbrev pub filling : ColumnInfo → Text
+filling info = spaces (info_width info)
+
+-- the lines of a cell in a row: wrapped at the column's width and cut at the row's height
+abbrev pub row_cell_lines : TableValue → RowValue → ColumnInfo → CellValue → List Text
+row_cell_lines table row info cell =
+    cut_at row.max_height info.content_width table.indicator (cell_lines info.content_width (cell_delimiter table info.delimiter cell) cell)
+
+-- the pieces of the cell in one column of a row, from the top; a missing cell is one filling
+abbrev pub pieces_of_optional : TableValue → RowValue → ColumnInfo → Option CellValue → List Text
+pieces_of_optional table row info None = filling info ∷ []
+pieces_of_optional table row info (Some cell) = map (piece table cell info) (row_cell_lines table row info cell)
+
+-- the drawn columns that are visible, each with its position
+abbrev pub visible_infos : List ColumnInfo → List (ℕ × ColumnInfo)
+visible_infos infos = filter (λ (p : ℕ × ColumnInfo). not p.1.is_hidden) (enumerate_from 0 infos)
+
+-- the pieces of a row in the visible column at a position: those of the cell at the same position
+abbrev pub pieces_at : TableValue → RowValue → ℕ × ColumnInfo → List Text
+pieces_at table row p = pieces_of_optional table row p.1 (slice_get row.cells p.0)
+
+-- the height of a row: the greatest number of lines in a visible column, 0 where none is visible
+abbrev pub row_height : TableValue → List ColumnInfo → RowValue → ℕ
+row_height table infos row = greatest (map (λ (p : ℕ × ColumnInfo). length (pieces_at table row p)) (visible_infos infos))
+
+-- line k of a row: the k-th piece of each visible column, or a filling
+abbrev pub row_line : TableValue → List ColumnInfo → RowValue → ℕ → List Text
+row_line table infos row k =
+    map (λ (p : ℕ × ColumnInfo). slice_index_or (pieces_at table row p) k (filling p.1)) (visible_infos infos)
+
+-- the lines of a row, each as its pieces
+abbrev pub row_lines : TableValue → List ColumnInfo → RowValue → List (List Text)
+row_lines table infos row = map (row_line table infos row) (range_with_len 0 (row_height table infos row))
+
+-- the lines of the header, if there is one, and then those of each row
+abbrev pub content_lines : TableValue → List ColumnInfo → List (List (List Text))
+content_lines table infos = map (row_lines table infos) (header_and_rows table)

@@ -1,0 +1,140 @@
+-- What a table is, as a value, and what its settings say.
+use Rattle.std.specs.Prelude.{◌≡◌, ℕ, ◌<◌, ◌≤◌, Bool, false, not, ◌&&◌, ◌||◌, List, [], ◌∷◌, ◌++◌, Option, Some, None, option_to_list, option_and_then, map, fold, length, take, filter, filter_map, slice_get, max, min, All, IfSome, IsUtf8, if◌then◌else◌, String, string_bytes}
+use Rattle.std.specs.List.{enumerate_from}
+use Rattle.comfy_parts.specs.CellValue.{CellValue, RowValue, ColumnValue, IsRow, columns_grown_to, is_hidden_column}
+use Rattle.comfy_parts.specs.Text.{Text, measure, greatest}
+use Rattle.comfy_parts.specs.declared.style.column.ColumnConstraint.{ColumnConstraint}
+use Rattle.comfy_parts.specs.declared.style.table.ContentArrangement.{ContentArrangement}
+use Rattle.comfy_parts.specs.declared.style.table.ContentArrangement.TheVariants.{Disabled}
+use Rattle.comfy_parts.specs.declared.style.table_style.TableStyle.{TableStyle}
+use Rattle.comfy_table.specs.declared.table.terminal.Terminal.{Terminal}
+
+-- a table: its columns, header and rows, and its settings
+pub record TableValue : Type 0 where
+  pub columns : List ColumnValue
+  pub header : Option RowValue
+  pub rows : List RowValue
+  pub style : TableStyle
+  pub arrangement : ContentArrangement
+  pub delimiter : Option ℕ
+  pub indicator : Text
+  pub set_width : Option ℕ
+  pub terminal : Terminal
+  pub no_tty : Bool
+  pub use_stderr : Bool
+  pub enforce_styling : Bool
+  pub style_text_only : Bool
+
+-- a terminal of which nothing is known
+abbrev pub no_terminal : Terminal
+no_terminal = record { stdout_is_tty = false; stderr_is_tty = false; width = None }
+
+-- the indicator of a new table: U+2026
+abbrev pub ellipsis : Text
+ellipsis = 0xE2 ∷ 0x80 ∷ 0xA6 ∷ []
+
+-- the indicator that was set, else that of a new table
+abbrev pub indicator_of : {A : Type 0} → Option (String A) → Text
+indicator_of None = ellipsis
+indicator_of (Some set) = string_bytes set
+
+-- a new table with this style: nothing in it
+abbrev pub new_table : TableStyle → TableValue
+new_table style =
+    record { columns = []; header = None; rows = []; style = style; arrangement = Disabled; delimiter = None; indicator = ellipsis; set_width = None; terminal = no_terminal; no_tty = false; use_stderr = false; enforce_styling = false; style_text_only = false }
+
+-- the header is replaced, and the columns grow to its cells
+abbrev pub with_header : RowValue → TableValue → TableValue
+with_header row table = record table { header = Some row; columns = columns_grown_to (length row.cells) table.columns }
+
+-- a row is appended, and the columns grow to its cells
+abbrev pub with_row : RowValue → TableValue → TableValue
+with_row row table = record table { rows = table.rows ++ row ∷ []; columns = columns_grown_to (length row.cells) table.columns }
+
+-- rows are appended one after another
+abbrev pub with_rows : List RowValue → TableValue → TableValue
+with_rows rows table = fold (λ (t : TableValue) (row : RowValue). with_row row t) table rows
+
+-- where one of some rows was refused: the rows before it were appended, and no other
+abbrev pub IsWithRowsBeforeOne : List RowValue → TableValue → TableValue → Type 0
+IsWithRowsBeforeOne rows old new = (n : ℕ) × (n < length rows) × (new ≡ with_rows (take n rows) old)
+
+-- the header, if there is one, and then the rows
+abbrev pub header_and_rows : TableValue → List RowValue
+header_and_rows table = option_to_list table.header ++ table.rows
+
+-- the text lines of all cells are UTF-8
+abbrev pub HasTextLines : TableValue → Type 0
+HasTextLines table =
+    All (λ (row : RowValue). All (λ (cell : CellValue). All IsUtf8 cell.text_lines) row.cells) (header_and_rows table)
+
+-- the columns grow to the cells of each row
+abbrev pub discovered : TableValue → TableValue
+discovered table =
+    record table { columns = columns_grown_to (greatest (map (λ (row : RowValue). length row.cells) table.rows)) table.columns }
+
+-- how many columns there are, once the columns grew to the cells of each row
+abbrev pub discovered_count : TableValue → ℕ
+discovered_count table = length (discovered table).columns
+
+-- then each cell of a row has a column
+abbrev pub AllCellsHaveColumns : TableValue → Type 0
+AllCellsHaveColumns table = All (λ (row : RowValue). length row.cells ≤ discovered_count table) table.rows
+
+-- the i-th constraint goes to the i-th column: superfluous ones are ignored, and further columns keep theirs
+abbrev pub constrained : List ColumnConstraint → List ColumnValue → List ColumnValue
+constrained [] columns = columns
+constrained (constraint ∷ more) [] = []
+constrained (constraint ∷ more) (column ∷ columns) = record column { constraint = Some constraint } ∷ constrained more columns
+
+-- the cell at position i of each row, where there is one
+abbrev pub cells_by_row : TableValue → ℕ → List (Option CellValue)
+cells_by_row table i = map (λ (row : RowValue). slice_get row.cells i) table.rows
+
+-- the same behind that of the header, none where there is no header
+abbrev pub cells_with_header : TableValue → ℕ → List (Option CellValue)
+cells_with_header table i = option_and_then (λ (row : RowValue). slice_get row.cells i) table.header ∷ cells_by_row table i
+
+-- the output is a terminal: never after `force_no_tty`, else what the terminal's facts say of the output in use
+abbrev pub is_tty : TableValue → Bool
+is_tty table = not table.no_tty && (if table.use_stderr then table.terminal.stderr_is_tty else table.terminal.stdout_is_tty)
+
+-- the set width, else the terminal's where the output is one
+abbrev pub width_or_terminal : Option ℕ → Bool → Option ℕ → Option ℕ
+width_or_terminal (Some w) tty fact = Some w
+width_or_terminal None tty fact = if tty then fact else None
+
+-- the width that a table keeps to, where one is known
+abbrev pub table_width : TableValue → Option ℕ
+table_width table = width_or_terminal table.set_width (is_tty table) table.terminal.width
+
+-- what every table keeps: its rows do, all its texts are whole characters, and its width is a number of 16 bits
+pub record IsTable (table : TableValue) : Type 0 where
+  pub rows : All IsRow (header_and_rows table)
+  pub text_lines : HasTextLines table
+  pub indicator : IsUtf8 table.indicator
+  pub width : IfSome (table_width table) (λ w. w ≤ 65535)
+
+-- whether colours and attributes are written
+abbrev pub should_style : TableValue → Bool
+should_style table = table.enforce_styling || is_tty table
+
+-- the cells at position i of the header and the rows, from the top; a row without one is passed over
+abbrev pub column_cells : TableValue → ℕ → List CellValue
+column_cells table i = filter_map (λ (row : RowValue). slice_get row.cells i) (header_and_rows table)
+
+-- the greatest measure of a cell's text lines, at least 1 and at most 65535
+abbrev pub cell_content : CellValue → ℕ
+cell_content cell = max 1 (min 65535 (greatest (map measure cell.text_lines)))
+
+-- the content of the column at position i: the greatest of its cells, 0 where it has none
+abbrev pub column_content : TableValue → ℕ → ℕ
+column_content table i = greatest (map cell_content (column_cells table i))
+
+-- the content of each column, in list order
+abbrev pub max_content_widths : TableValue → List ℕ
+max_content_widths table = map (λ (p : ℕ × ColumnValue). column_content table p.0) (enumerate_from 0 table.columns)
+
+-- the visible columns, each with its position
+abbrev pub visible_columns : TableValue → List (ℕ × ColumnValue)
+visible_columns table = filter (λ (p : ℕ × ColumnValue). not (is_hidden_column p.1)) (enumerate_from 0 table.columns)

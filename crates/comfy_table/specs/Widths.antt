@@ -1,0 +1,93 @@
+-- The widths of columns: early ones, those without a known table width, and what the dynamic widths are asked from.
+use Rattle.std.specs.Prelude.{ℕ, ◌+◌, ◌-◌, ◌*◌, ◌/◌, ◌%◌, List, Option, Some, None, unwrap_or, option_map, map, length, nat_lt, nat_le, max, min, if◌then◌else◌}
+use Rattle.std.specs.List.{range_with_len}
+use Rattle.comfy_parts.specs.CellValue.{ColumnValue, column_padding}
+use Rattle.comfy_parts.specs.declared.style.column.ColumnConstraint.{ColumnConstraint}
+use Rattle.comfy_parts.specs.declared.style.column.ColumnConstraint.TheVariants.{ContentWidth, Absolute, LowerBoundary, UpperBoundary, Boundaries}
+use Rattle.comfy_parts.specs.declared.style.column.Width.{Width}
+use Rattle.comfy_parts.specs.declared.style.column.Width.TheVariants.{Fixed, Percentage}
+use Rattle.comfy_table.specs.Frame.{border_count}
+use Rattle.comfy_table.specs.Lines.{longest_line}
+use Rattle.comfy_table.specs.TableValue.{TableValue, table_width, column_content, visible_columns}
+
+-- an even spread of x over k: x / k each, and one more for each of the first x mod k
+abbrev pub even_spread : ℕ → ℕ → List ℕ
+even_spread x k = map (λ j. x / k + (if nat_lt j (x % k) then 1 else 0)) (range_with_len 0 k)
+
+-- how many columns are visible
+abbrev pub visible_count : TableValue → ℕ
+visible_count table = length (visible_columns table)
+
+-- p percent, at most 100, of the known width less the border characters, rounded down
+abbrev pub percentage_of : Option ℕ → ℕ → ℕ → Option ℕ
+percentage_of None borders p = None
+percentage_of (Some w) borders p = Some (min p 100 * (w - borders) / 100)
+
+-- a width over n visible columns: a fixed one is itself, a percentage needs a known table width
+abbrev pub resolved_width : TableValue → ℕ → Width → Option ℕ
+resolved_width table n (Fixed x) = Some x
+resolved_width table n (Percentage p) = percentage_of (table_width table) (border_count table.style n) p
+
+-- the resolved lower boundary of a constraint, if it has one
+abbrev pub lower_boundary : TableValue → ℕ → Option ColumnConstraint → Option ℕ
+lower_boundary table n (Some (LowerBoundary lower)) = resolved_width table n lower
+lower_boundary table n (Some (Boundaries lower upper)) = resolved_width table n lower
+lower_boundary table n _ = None
+
+-- the resolved upper boundary of a constraint, if it has one
+abbrev pub upper_boundary : TableValue → ℕ → Option ColumnConstraint → Option ℕ
+upper_boundary table n (Some (UpperBoundary upper)) = resolved_width table n upper
+upper_boundary table n (Some (Boundaries lower upper)) = resolved_width table n upper
+upper_boundary table n _ = None
+
+-- the content of a column whose whole width is x: x less the paddings, at least 1
+abbrev pub without_padding : ℕ → ℕ → ℕ
+without_padding padding x = max 1 (x - padding)
+
+-- a lower boundary that the content with its padding does not pass is taken at once
+abbrev pub early_by_boundary : ℕ → ℕ → Option ℕ → Option ℕ
+early_by_boundary content padding None = None
+early_by_boundary content padding (Some l) = if nat_le (content + padding) l then Some (without_padding padding l) else None
+
+-- the early width of a column: its content's, its resolved absolute width, or its resolved lower boundary
+abbrev pub early_by_constraint : TableValue → ℕ → ℕ → ℕ → Option ColumnConstraint → Option ℕ
+early_by_constraint table n content padding (Some ContentWidth) = Some (max 1 content)
+early_by_constraint table n content padding (Some (Absolute x)) = option_map (without_padding padding) (resolved_width table n x)
+early_by_constraint table n content padding constraint = early_by_boundary content padding (lower_boundary table n constraint)
+
+-- the early width of a visible column, where it has one
+abbrev pub early_width : TableValue → ℕ × ColumnValue → Option ℕ
+early_width table p =
+    early_by_constraint table (visible_count table) (column_content table p.0) (column_padding p.1) p.1.constraint
+
+-- the content, but the upper boundary less the paddings where that boundary is below the content
+abbrev pub capped_content : ℕ → ℕ → Option ℕ → ℕ
+capped_content content padding None = max 1 content
+capped_content content padding (Some u) = if nat_lt u content then without_padding padding u else max 1 content
+
+-- the width of a visible column that is arranged by its content alone
+abbrev pub disabled_width : TableValue → ℕ × ColumnValue → ℕ
+disabled_width table p =
+    unwrap_or (early_width table p) (capped_content (column_content table p.0) (column_padding p.1) (upper_boundary table (visible_count table) p.1.constraint))
+
+-- what a dynamic width of a visible column depends on
+pub record ColumnNeeds : Type 0 where
+  -- the content
+  pub content : ℕ
+  -- left and right padding
+  pub padding : ℕ
+  -- the early width, the resolved lower and the resolved upper boundary, where there are such
+  pub early : Option ℕ
+  pub lower : Option ℕ
+  pub upper : Option ℕ
+  -- the longest line of its cells at a width
+  pub longest : ℕ → ℕ
+
+-- the needs of a visible column
+abbrev pub needs_of : TableValue → ℕ × ColumnValue → ColumnNeeds
+needs_of table p =
+    record { content = column_content table p.0; padding = column_padding p.1; early = early_width table p; lower = lower_boundary table (visible_count table) p.1.constraint; upper = upper_boundary table (visible_count table) p.1.constraint; longest = longest_line table p.0 p.1.delimiter }
+
+-- the needs of the visible columns, in list order
+abbrev pub visible_needs : TableValue → List ColumnNeeds
+visible_needs table = map (needs_of table) (visible_columns table)

@@ -1,0 +1,170 @@
+//! A table: its header, its rows, its columns and its settings.
+
+ghost use Rattle.std.specs.Prelude.{◌≡◌, IfOk, OnOk, OnErr};
+ghost use Rattle.std.specs.Borrow.{sem};
+ghost use Rattle.comfy_parts.specs.CellValue.{columns_grown_to};
+ghost use Rattle.comfy_parts.specs.Presets.{ascii_full};
+ghost use Rattle.comfy_table.specs.GrownTable.{table_of};
+ghost use Rattle.comfy_table.specs.TableLoans.{TableStaysIfErr};
+ghost use Rattle.comfy_table.specs.TableValue.{new_table, with_header, with_row};
+
+pub mod output;
+pub mod terminal;
+
+use comfy_parts::style::presets::ASCII_FULL;
+use comfy_parts::style::{ContentArrangement, TableStyle};
+use comfy_parts::{Column, IntoRow, Result, Row, TableError};
+use std::alloc::Global;
+use std::marker::Model;
+use terminal::Terminal;
+
+/// A table. It is built row by row, and drawn by `lines`.
+#[derive(Debug, Drop)]
+pub struct Table {
+    pub(crate) columns: Vec<Column>,
+    pub(crate) header: Option<Row>,
+    pub(crate) rows: Vec<Row>,
+    pub(crate) style: TableStyle,
+    pub(crate) arrangement: ContentArrangement,
+    pub(crate) delimiter: Option<char>,
+    // none: the indicator of a new table, U+2026
+    pub(crate) indicator: Option<String>,
+    pub(crate) set_width: Option<u16>,
+    pub(crate) terminal: Terminal,
+    pub(crate) no_tty: bool,
+    pub(crate) use_stderr: bool,
+    pub(crate) enforce_styling: bool,
+    pub(crate) style_text_only: bool,
+}
+
+impl Model for Table {
+    ghost use Rattle.std.specs.Prelude.{◌≡◌};
+    ghost use Rattle.comfy_parts.specs.declared.style.table.ContentArrangement.TheVariants.{Disabled};
+    ghost use Rattle.comfy_table.specs.TableValue.{TableValue, indicator_of};
+
+    ghost Value = { TableValue };
+
+    ghost view = { λ t. record { columns = t.columns.items; header = t.header; rows = t.rows.items; style = t.style; arrangement = t.arrangement; delimiter = t.delimiter; indicator = indicator_of t.indicator; set_width = t.set_width; terminal = t.terminal; no_tty = t.no_tty; use_stderr = t.use_stderr; enforce_styling = t.enforce_styling; style_text_only = t.style_text_only } };
+}
+
+impl Table {
+    /// A table with nothing in it. It takes no memory.
+    pub fn new(alloc: Global) -> Table
+        ensures { result ≡ new_table ascii_full }
+    {
+        Table {
+            columns: Vec::new(alloc),
+            header: None,
+            rows: Vec::new(alloc),
+            style: ASCII_FULL,
+            arrangement: ContentArrangement::Disabled,
+            delimiter: None,
+            indicator: None,
+            set_width: None,
+            terminal: Terminal::UNKNOWN,
+            no_tty: false,
+            use_stderr: false,
+            enforce_styling: false,
+            style_text_only: false,
+        }
+    }
+
+    /// Replaces the header, and appends default columns until there are as many as its cells. Where memory is refused,
+    /// the table stays as it is and the new header is dropped.
+    pub fn set_header<T: IntoRow>(&mut self, row: T) -> Result<&mut Self>
+        ensures* err { sem 𝓛 (TableStaysIfErr self.entry result) }
+        ensures same_reference { IfOk result (λ table. table.ghost_name ≡ self.entry.ghost_name) }
+        ensures set { IfOk result (λ table. table.now ≡ with_header (T.row_of row) self.old) }
+    {
+        handed_on(self.grown_by_header(row))
+    }
+
+    /// Appends a row, and default columns until there are as many as its cells. Where memory is refused, the table stays
+    /// as it is and the row is dropped.
+    pub fn add_row<T: IntoRow>(&mut self, row: T) -> Result<&mut Self>
+        ensures* err { sem 𝓛 (TableStaysIfErr self.entry result) }
+        ensures same_reference { IfOk result (λ table. table.ghost_name ≡ self.entry.ghost_name) }
+        ensures added { IfOk result (λ table. table.now ≡ with_row (T.row_of row) self.old) }
+    {
+        handed_on(self.grown_by_row(row))
+    }
+
+    // `set_header`, with the reference in a struct: so callers learn what stands at an error.
+    fn grown_by_header<T: IntoRow>(&mut self, row: T) -> Result<Grown<'_>>
+        ensures* err { sem 𝓛 (TableStaysIfErr self.entry (table_of result)) }
+        ensures same_reference { IfOk (table_of result) (λ table. table.ghost_name ≡ self.entry.ghost_name) }
+        ensures set { IfOk (table_of result) (λ table. table.now ≡ with_header (T.row_of row) self.old) }
+    {
+        let made = row.into_row(*self.rows.allocator())?;
+        self.put_header(made)?;
+        Ok(Grown { table: self })
+    }
+
+    // `add_row`, likewise.
+    fn grown_by_row<T: IntoRow>(&mut self, row: T) -> Result<Grown<'_>>
+        ensures* err { sem 𝓛 (TableStaysIfErr self.entry (table_of result)) }
+        ensures same_reference { IfOk (table_of result) (λ table. table.ghost_name ≡ self.entry.ghost_name) }
+        ensures added { IfOk (table_of result) (λ table. table.now ≡ with_row (T.row_of row) self.old) }
+    {
+        let made = row.into_row(*self.rows.allocator())?;
+        self.push_row(made)?;
+        Ok(Grown { table: self })
+    }
+
+    // `set_header`, with no answer but the outcome.
+    fn put_header(&mut self, row: Row) -> Result<()>
+        ensures ok { OnOk result (self.new ≡ with_header row self.old) }
+        ensures err { OnErr result (self.new ≡ self.old) }
+    {
+        grow_columns(&mut self.columns, row.cell_count())?;
+        self.header = Some(row);
+        Ok(())
+    }
+
+    // `add_row`, with no answer but the outcome. The row's place is reserved first: then the columns may grow, since
+    // nothing can fail after them.
+    fn push_row(&mut self, row: Row) -> Result<()>
+        ensures ok { OnOk result (self.new ≡ with_row row self.old) }
+        ensures err { OnErr result (self.new ≡ self.old) }
+    {
+        if self.rows.try_reserve(1).is_err() {
+            return Err(TableError::OutOfMemory);
+        }
+        grow_columns(&mut self.columns, row.cell_count())?;
+        self.rows.push(row).unwrap();
+        Ok(())
+    }
+}
+
+// A table that has grown.
+struct Grown<'a> {
+    table: &'a mut Table,
+}
+
+fn handed_on<'a>(grown: Result<Grown<'a>>) -> Result<&'a mut Table>
+    ensures { result ≡ table_of grown.entry }
+{
+    match grown {
+        Ok(grown) => {
+            let Grown { table } = grown;
+            Ok(table)
+        }
+        Err(error) => Err(error),
+    }
+}
+
+// Appends default columns until there are as many as `count`, or none where memory is refused.
+fn grow_columns(columns: &mut Vec<Column>, count: usize) -> Result<()>
+    ensures ok { OnOk result (columns.new.items ≡ columns_grown_to count columns.old.items) }
+    ensures err { OnErr result (columns.new.items ≡ columns.old.items) }
+{
+    let have = columns.len();
+    let missing = count.saturating_sub(have);
+    if columns.try_reserve(missing).is_err() {
+        return Err(TableError::OutOfMemory);
+    }
+    for index in have..count {
+        columns.push(Column::new(index)).unwrap();
+    }
+    Ok(())
+}
