@@ -3,6 +3,7 @@
 
 pub mod cell;
 pub mod column;
+pub mod content_split;
 pub mod convert;
 pub mod error;
 pub mod row;

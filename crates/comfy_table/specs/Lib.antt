@@ -1,4 +1,6 @@
 pub mod Arrangement
+pub mod Contents
+pub mod DisabledWidths
 pub mod Drawing
 pub mod Dynamic
 pub mod Frame

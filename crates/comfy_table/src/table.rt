@@ -6,7 +6,7 @@ ghost use Rattle.comfy_parts.specs.CellValue.{columns_grown_to};
 ghost use Rattle.comfy_parts.specs.Presets.{ascii_full};
 ghost use Rattle.comfy_table.specs.GrownTable.{table_of};
 ghost use Rattle.comfy_table.specs.TableLoans.{TableStaysIfErr};
-ghost use Rattle.comfy_table.specs.TableValue.{new_table, with_header, with_row};
+ghost use Rattle.comfy_table.specs.TableValue.{is_tty, new_table, table_width, with_header, with_row};
 
 pub mod output;
 pub mod terminal;
@@ -43,6 +43,9 @@ impl Model for Table {
     ghost use Rattle.comfy_table.specs.TableValue.{TableValue, indicator_of};
 
     ghost Value = { TableValue };
+
+    // no call sets another arrangement yet
+    ghost invariant = { λ t. t.arrangement ≡ Disabled };
 
     ghost view = { λ t. record { columns = t.columns.items; header = t.header; rows = t.rows.items; style = t.style; arrangement = t.arrangement; delimiter = t.delimiter; indicator = indicator_of t.indicator; set_width = t.set_width; terminal = t.terminal; no_tty = t.no_tty; use_stderr = t.use_stderr; enforce_styling = t.enforce_styling; style_text_only = t.style_text_only } };
 }
@@ -87,6 +90,34 @@ impl Table {
         ensures added { IfOk result (λ table. table.now ≡ with_row (T.row_of row) self.old) }
     {
         handed_on(self.grown_by_row(row))
+    }
+
+    // Whether the output is a terminal, by the facts that were handed in.
+    pub(crate) fn writes_to_tty(&self) -> bool
+        ensures { result ≡ is_tty self.now }
+    {
+        if self.no_tty {
+            return false;
+        }
+        if self.use_stderr {
+            self.terminal.stderr_is_tty
+        } else {
+            self.terminal.stdout_is_tty
+        }
+    }
+
+    // The width that was set, else the terminal's where the output is one.
+    pub(crate) fn known_width(&self) -> Option<u16>
+        ensures { result ≡ table_width self.now }
+    {
+        if self.set_width.is_some() {
+            return self.set_width;
+        }
+        if self.writes_to_tty() {
+            self.terminal.width
+        } else {
+            None
+        }
     }
 
     // `set_header`, with the reference in a struct: so callers learn what stands at an error.

@@ -1,0 +1,61 @@
+//! What a column is drawn by.
+
+ghost use Rattle.std.specs.Prelude.{◌≡◌};
+ghost use Rattle.comfy_parts.specs.CellValue.{info_of, info_width};
+
+use crate::column::Column;
+use crate::style::CellAlignment;
+use std::marker::Model;
+
+/// What the cells of one column are drawn by: the column's settings and the width of its content.
+#[derive(Clone, Debug, Drop)]
+pub struct ColumnDisplayInfo {
+    /// The places left free to the left and to the right of the content.
+    pub padding: (u16, u16),
+    /// Where the texts of the column are cut, unless a cell says otherwise.
+    pub delimiter: Option<char>,
+    /// The places that the content has.
+    pub content_width: u16,
+    /// Where the texts of the column stand, unless a cell says otherwise.
+    pub cell_alignment: Option<CellAlignment>,
+    is_hidden: bool,
+}
+
+impl Model for ColumnDisplayInfo {
+    ghost use Rattle.comfy_parts.specs.CellValue.{ColumnInfo};
+
+    ghost Value = { ColumnInfo };
+
+    ghost view = { λ i. record { padding = i.padding; delimiter = i.delimiter; alignment = i.cell_alignment; content_width = i.content_width; is_hidden = i.is_hidden } };
+
+    ghost inverse = { λ i. record { padding = i.padding; delimiter = i.delimiter; content_width = i.content_width; cell_alignment = i.alignment; is_hidden = i.is_hidden } };
+}
+
+impl ColumnDisplayInfo {
+    /// A column that is drawn with this width of its content. A width of 0 becomes 1.
+    pub fn new(column: &Column, content_width: u16) -> ColumnDisplayInfo
+        ensures { result ≡ info_of column.now content_width }
+    {
+        ColumnDisplayInfo {
+            padding: column.padding(),
+            delimiter: column.column_delimiter(),
+            content_width: content_width.max(1),
+            cell_alignment: column.column_alignment(),
+            is_hidden: column.is_hidden(),
+        }
+    }
+
+    /// The whole width: the content and its paddings.
+    pub fn width(&self) -> usize
+        ensures { result ≡ info_width self.now }
+    {
+        self.padding.0 as usize + self.content_width as usize + self.padding.1 as usize
+    }
+
+    /// Whether the column isn't drawn.
+    pub fn is_hidden(&self) -> bool
+        ensures { result ≡ self.now.is_hidden }
+    {
+        self.is_hidden
+    }
+}

@@ -1,0 +1,106 @@
+-- The widths by content are those of an arrangement that keeps no width.
+use Rattle.std.proofs.Common.{◌≡◌, ℕ, zero, suc, ◌+◌, ◌-◌, Bool, true, false, not, cond, List, [], ◌∷◌, Option, None, length, map, max, arith, refl, sym, ap, ap₂, ◌∙◌, slice_index}
+use Rattle.std.specs.List.{enumerate_from, filter}
+use Rattle.std.specs.Prelude.{if◌then◌else◌, zip}
+use Rattle.std.proofs.lemmas.List.{length-map}
+use Rattle.std.proofs.lemmas.List.FromFn.{length-enumerate_from}
+use Rattle.comfy_parts.specs.CellValue.{ColumnInfo, ColumnValue, info_of, is_hidden_column, visible_among}
+use Rattle.std.specs.Prelude.{MatchOption}
+use Rattle.comfy_parts.specs.declared.style.table.ContentArrangement.{ContentArrangement}
+use Rattle.comfy_parts.specs.declared.style.table.ContentArrangement.TheVariants.{Disabled, Dynamic, DynamicFullWidth}
+use Rattle.comfy_table.specs.Arrangement.{AreInfosOf, IsArranged, is_full_width, room_beside_borders, widths_at, width_kept}
+use Rattle.comfy_table.specs.Dynamic.{IsDynamic}
+use Rattle.comfy_table.specs.DisabledWidths.{width_by_content, widths_by_content}
+use Rattle.comfy_table.specs.TableValue.{TableValue, column_content, table_width, visible_columns}
+use Rattle.comfy_table.specs.Widths.{disabled_width, visible_count, visible_needs}
+
+-- as many columns are visible among those with a position as among those without
+pub visible_from-count : (n : ℕ) (columns : List ColumnValue)
+    → length (filter (λ (p : ℕ × ColumnValue). not (is_hidden_column p.1)) (enumerate_from n columns)) ≡ visible_among columns
+visible_from-count n [] = refl
+visible_from-count n (column ∷ columns) = by_test (is_hidden_column column) (visible_from-count (n + 1) columns)
+  where
+    by_test : (b : Bool) → length (filter (λ (p : ℕ × ColumnValue). not (is_hidden_column p.1)) (enumerate_from (n + 1) columns)) ≡ visible_among columns
+        → length (cond (not b) ((n, column) ∷ filter (λ (p : ℕ × ColumnValue). not (is_hidden_column p.1)) (enumerate_from (n + 1) columns)) (filter (λ (p : ℕ × ColumnValue). not (is_hidden_column p.1)) (enumerate_from (n + 1) columns)))
+        ≡ length (cond (not b) (column ∷ filter (λ (c : ColumnValue). not (is_hidden_column c)) columns) (filter (λ (c : ColumnValue). not (is_hidden_column c)) columns))
+    by_test true same = same
+    by_test false same = ap suc same
+
+-- a table's visible columns are counted by either
+pub visible_count-among : (table : TableValue) → visible_count table ≡ visible_among table.columns
+visible_count-among table = visible_from-count 0 table.columns
+
+-- the numbers at the positions of the columns that pass a test, where g gives the numbers of all
+picked : (g f : ℕ × ColumnValue → ℕ) (test : ColumnValue → Bool) → ((p : ℕ × ColumnValue) → test p.1 ≡ true → g p ≡ f p)
+    → (all : List ℕ) (at : ℕ) (columns : List ColumnValue)
+    → ((i : ℕ) → slice_index all (at + i) ≡ slice_index (map g (enumerate_from at columns)) i)
+    → map (λ (p : ℕ × ColumnValue). slice_index all p.0) (filter (λ (p : ℕ × ColumnValue). test p.1) (enumerate_from at columns))
+    ≡ map f (filter (λ (p : ℕ × ColumnValue). test p.1) (enumerate_from at columns))
+picked g f test same all at [] each = refl
+picked g f test same all at (column ∷ columns) each =
+    by_test (test column) refl
+    (picked g f test same all (at + 1) columns (λ i. let moved : at + 1 + i ≡ at + suc i = omega arith in ap (slice_index all) moved ∙ each (suc i)))
+  where
+    here : slice_index all at ≡ g (at, column)
+    here = let moved : at ≡ at + 0 = omega arith in ap (slice_index all) moved ∙ each 0
+
+    by_test : (b : Bool) → test column ≡ b
+        → map (λ (p : ℕ × ColumnValue). slice_index all p.0) (filter (λ (p : ℕ × ColumnValue). test p.1) (enumerate_from (at + 1) columns)) ≡ map f (filter (λ (p : ℕ × ColumnValue). test p.1) (enumerate_from (at + 1) columns))
+        → map (λ (p : ℕ × ColumnValue). slice_index all p.0) (cond b ((at, column) ∷ filter (λ (p : ℕ × ColumnValue). test p.1) (enumerate_from (at + 1) columns)) (filter (λ (p : ℕ × ColumnValue). test p.1) (enumerate_from (at + 1) columns)))
+        ≡ map f (cond b ((at, column) ∷ filter (λ (p : ℕ × ColumnValue). test p.1) (enumerate_from (at + 1) columns)) (filter (λ (p : ℕ × ColumnValue). test p.1) (enumerate_from (at + 1) columns)))
+    by_test true is rest = ap₂ (λ (x : ℕ) (xs : List ℕ). x ∷ xs) (here ∙ same (at, column) is) rest
+    by_test false is rest = rest
+
+-- the widths by content, at the positions of the columns that pass a test
+picked_by_content : (table : TableValue) (f : ℕ × ColumnValue → ℕ) (test : ColumnValue → Bool) → ((p : ℕ × ColumnValue) → test p.1 ≡ true → width_by_content table p ≡ f p)
+    → widths_at (widths_by_content table) (filter (λ (p : ℕ × ColumnValue). test p.1) (enumerate_from 0 table.columns))
+    ≡ map f (filter (λ (p : ℕ × ColumnValue). test p.1) (enumerate_from 0 table.columns))
+picked_by_content table f test same =
+    picked (width_by_content table) f test same (widths_by_content table) 0 table.columns (λ i. let moved : 0 + i ≡ i = omega arith in ap (slice_index (widths_by_content table)) moved)
+
+-- a hidden column has its content's width
+hidden_width : (table : TableValue) (p : ℕ × ColumnValue) → is_hidden_column p.1 ≡ true → width_by_content table p ≡ max 1 (column_content table p.0)
+hidden_width table p is = ap (λ (b : Bool). if b then max 1 (column_content table p.0) else disabled_width table p) is
+
+-- a visible one the disabled width
+visible_width : (table : TableValue) (p : ℕ × ColumnValue) → not (is_hidden_column p.1) ≡ true → width_by_content table p ≡ disabled_width table p
+visible_width table p is =
+    let shown : is_hidden_column p.1 ≡ false = by_test (is_hidden_column p.1) is in
+    ap (λ (b : Bool). if b then max 1 (column_content table p.0) else disabled_width table p) shown
+  where
+    by_test : (b : Bool) → not b ≡ true → b ≡ false
+    by_test true h = cc
+    by_test false h = refl
+
+-- where no width is kept, the widths by content are the table's
+pub arranged_by_content : (table : TableValue) → table.arrangement ≡ Disabled → IsArranged table (widths_by_content table)
+arranged_by_content table disabled =
+    record {
+      one_for_each = length-map (enumerate_from 0 table.columns) (width_by_content table) ∙ length-enumerate_from 0 table.columns;
+      hidden_widths = picked_by_content table (λ p. max 1 (column_content table p.0)) is_hidden_column (hidden_width table);
+      visible_widths = visible table.arrangement disabled;
+    }
+  where
+    visible : (arrangement : ContentArrangement) → arrangement ≡ Disabled
+        → MatchOption (width_kept arrangement (table_width table)) (widths_at (widths_by_content table) (visible_columns table) ≡ map (disabled_width table) (visible_columns table))
+          (λ w. IsDynamic (room_beside_borders table w) (visible_needs table) (is_full_width arrangement) (widths_at (widths_by_content table) (visible_columns table)))
+    visible Disabled is = picked_by_content table (disabled_width table) (λ (c : ColumnValue). not (is_hidden_column c)) (visible_width table)
+    visible Dynamic is = absurd (cc is)
+    visible DynamicFullWidth is = absurd (cc is)
+
+-- ---- what the columns are drawn by
+
+-- the column at a position as it is drawn by content
+abbrev pub info_by_content : TableValue → ℕ × ColumnValue → ColumnInfo
+info_by_content table p = info_of p.1 (width_by_content table p)
+
+-- columns beside numbers that f gives of them
+zip-map : (f : ℕ × ColumnValue → ℕ) (n : ℕ) (columns : List ColumnValue)
+    → map (λ (p : ColumnValue × ℕ). info_of p.0 p.1) (zip columns (map f (enumerate_from n columns))) ≡ map (λ (p : ℕ × ColumnValue). info_of p.1 (f p)) (enumerate_from n columns)
+zip-map f n [] = refl
+zip-map f n (column ∷ columns) = ap (λ (infos : List ColumnInfo). info_of column (f (n, column)) ∷ infos) (zip-map f (n + 1) columns)
+
+-- where no width is kept, the columns are drawn by content
+pub infos_by_content : (table : TableValue) → table.arrangement ≡ Disabled → AreInfosOf table (map (info_by_content table) (enumerate_from 0 table.columns))
+infos_by_content table disabled =
+    (widths_by_content table, arranged_by_content table disabled, sym (zip-map (width_by_content table) 0 table.columns))

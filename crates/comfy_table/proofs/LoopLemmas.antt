@@ -1,0 +1,21 @@
+-- How a list grows that a loop makes, one element at a time.
+use Rattle.std.proofs.Common.{◌≡◌, ◌<◌, ◌≤◌, ℕ, ◌+◌, List, [], ◌∷◌, ◌++◌, length, map, take, arith, sym, ap, ◌∙◌, slice_index_or}
+use Rattle.std.specs.List.{enumerate_from}
+use Rattle.std.proofs.lemmas.List.{map-append, take_all, take_more}
+use Rattle.std.proofs.lemmas.List.FromFn.{get_or-enumerate_from, length-enumerate_from}
+
+-- one element more of those with their positions
+pub enumerated_more : {A B : Type 0} (f : ℕ × A → B) (xs : List A) (i : ℕ) (x : A) → i < length xs → x ≡ slice_index_or xs i x
+    → map f (take (i + 1) (enumerate_from 0 xs)) ≡ map f (take i (enumerate_from 0 xs)) ++ f (i, x) ∷ []
+enumerated_more f xs i x below is =
+    let within : i < length (enumerate_from 0 xs) = omega (arith, length-enumerate_from 0 xs) in
+    let moved : (0 + i, slice_index_or xs i x) ≡ (i, x) = let e : 0 + i ≡ i = omega arith in (λ k. (e k, sym is k)) in
+    ap (map f) (take_more (enumerate_from 0 xs) i (i, x) within)
+    ∙ map-append f (take i (enumerate_from 0 xs)) (slice_index_or (enumerate_from 0 xs) i (i, x) ∷ [])
+    ∙ ap (λ p. map f (take i (enumerate_from 0 xs)) ++ f p ∷ []) (get_or-enumerate_from 0 xs i (i, x) below ∙ moved)
+
+-- and all of them
+pub enumerated_all : {A B : Type 0} (f : ℕ × A → B) (xs : List A) (i : ℕ) → length xs ≤ i → map f (take i (enumerate_from 0 xs)) ≡ map f (enumerate_from 0 xs)
+enumerated_all f xs i past =
+    let within : length (enumerate_from 0 xs) ≤ i = omega (arith, length-enumerate_from 0 xs) in
+    ap (map f) (take_all i (enumerate_from 0 xs) within)

@@ -1,0 +1,62 @@
+//! The widths and boundaries of constraints, as numbers of places.
+
+ghost use Rattle.std.specs.Prelude.{◌≡◌};
+ghost use Rattle.comfy_table.specs.Widths.{lower_boundary, resolved_width, upper_boundary};
+
+use crate::table::Table;
+use crate::utils::arrangement::helper::count_border_columns;
+use comfy_parts::style::{ColumnConstraint, Width};
+
+/// The lower boundary of a constraint, in places of a whole column; none where it has none, or where it is a percentage
+/// and the table's width isn't known.
+pub fn min(
+    table: &Table,
+    constraint: &Option<ColumnConstraint>,
+    visible_columns: usize,
+) -> Option<u16>
+    ensures { result ≡ lower_boundary table.now visible_columns constraint.now }
+{
+    match constraint {
+        Some(ColumnConstraint::LowerBoundary(lower))
+        | Some(ColumnConstraint::Boundaries { lower, .. }) => {
+            absolute_value_from_width(table, lower, visible_columns)
+        }
+        _ => None,
+    }
+}
+
+/// The upper boundary of a constraint, likewise.
+pub fn max(
+    table: &Table,
+    constraint: &Option<ColumnConstraint>,
+    visible_columns: usize,
+) -> Option<u16>
+    ensures { result ≡ upper_boundary table.now visible_columns constraint.now }
+{
+    match constraint {
+        Some(ColumnConstraint::UpperBoundary(upper))
+        | Some(ColumnConstraint::Boundaries { upper, .. }) => {
+            absolute_value_from_width(table, upper, visible_columns)
+        }
+        _ => None,
+    }
+}
+
+/// The places of a width: a fixed one is itself; a percentage, at most 100, is of the table's width less its borders,
+/// rounded down, and is none where that width isn't known.
+pub fn absolute_value_from_width(
+    table: &Table,
+    width: &Width,
+    visible_columns: usize,
+) -> Option<u16>
+    ensures { result ≡ resolved_width table.now visible_columns width.now }
+{
+    match width {
+        Width::Fixed(places) => Some(*places),
+        Width::Percentage(percent) => {
+            let whole = table.known_width()? as usize;
+            let room = whole.saturating_sub(count_border_columns(table, visible_columns));
+            Some((usize::from((*percent).min(100)) * room / 100) as u16)
+        }
+    }
+}

@@ -1,0 +1,55 @@
+//! How wide the contents of a column are.
+
+ghost use Rattle.std.specs.Prelude.{◌≡◌};
+ghost use Rattle.comfy_table.specs.TableValue.{cell_content, column_content};
+ghost use Rattle.comfy_table.specs.Contents.{row_content, rows_content};
+
+use crate::table::Table;
+use comfy_parts::content_split::measure_text_width;
+use comfy_parts::{Cell, Row};
+
+/// The greatest measure of a text line of the column at a position, over header and rows. Each cell counts at least 1,
+/// a measure above 65535 counts 65535, and a column without a cell gives 0.
+pub fn column_content(table: &Table, position: usize) -> u16
+    ensures { result ≡ column_content table.now position }
+{
+    let below = rows_content(table.rows.as_slice(), position);
+    match &table.header {
+        Some(header) => row_content(header, position).max(below),
+        None => below,
+    }
+}
+
+// The greatest content of some rows at a position.
+fn rows_content(rows: &[Row], position: usize) -> u16
+    ensures { result ≡ rows_content rows.now position }
+{
+    let mut widest = 0;
+    for row in rows {
+        widest = row_content(row, position).max(widest);
+    }
+    widest
+}
+
+// The content of a row's cell at a position, 0 where there is none.
+fn row_content(row: &Row, position: usize) -> u16
+    ensures { result ≡ row_content row.now position }
+{
+    match row.cell_iter().as_slice().get(position) {
+        Some(cell) => cell_content(cell),
+        None => 0,
+    }
+}
+
+// The greatest measure of a cell's text lines, at least 1 and at most 65535.
+fn cell_content(cell: &Cell) -> u16
+    ensures { result ≡ cell_content cell.now }
+{
+    let lines = cell.text_lines();
+    let mut widest = 1;
+    for line in lines {
+        let width = measure_text_width(line.as_str()).min(65535) as u16;
+        widest = width.max(widest);
+    }
+    widest
+}

@@ -1,0 +1,41 @@
+//! Small questions of the arrangement.
+
+ghost use Rattle.std.specs.Prelude.{◌≡◌};
+ghost use Rattle.comfy_parts.specs.CellValue.{column_padding, visible_among};
+ghost use Rattle.comfy_table.specs.Frame.{borders_stopped};
+ghost use Rattle.comfy_table.specs.Widths.{without_padding};
+
+use crate::table::Table;
+use crate::utils::formatting::borders::{
+    should_draw_left_border, should_draw_right_border, should_draw_vertical_lines,
+};
+use comfy_parts::Column;
+
+/// The content of a column whose whole width is this: the width less its paddings, at least 1.
+pub fn absolute_width_with_padding(column: &Column, width: u16) -> u16
+    ensures { result ≡ without_padding (column_padding column.now) width }
+{
+    let (left, right) = column.padding();
+    width.saturating_sub(left).saturating_sub(right).max(1)
+}
+
+/// How many of the columns are drawn.
+pub fn count_visible_columns(columns: &[Column]) -> usize
+    ensures { result ≡ visible_among columns.now }
+{
+    columns.iter().filter(|column| !column.is_hidden()).count()
+}
+
+/// How many border characters a line over so many visible columns has, or the greatest `usize` where there are more.
+pub fn count_border_columns(table: &Table, visible_columns: usize) -> usize
+    ensures { result ≡ borders_stopped table.now.style visible_columns }
+{
+    let left = usize::from(should_draw_left_border(table));
+    let right = usize::from(should_draw_right_border(table));
+    let between = if should_draw_vertical_lines(table) {
+        visible_columns.saturating_sub(1)
+    } else {
+        0
+    };
+    (left + right).saturating_add(between)
+}

@@ -1,0 +1,3 @@
+//! How the contents of cells become lines of text.
+
+pub mod borders;
