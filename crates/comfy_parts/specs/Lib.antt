@@ -1,4 +1,5 @@
 pub mod CellValue
+pub mod Following
 pub mod GrownRow
 pub mod Laws
 pub mod Presets

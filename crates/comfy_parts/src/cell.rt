@@ -87,4 +87,25 @@ impl Cell {
     {
         self.alignment
     }
+
+    /// The colour of the text, where one is set.
+    pub fn foreground(&self) -> Option<Color>
+        ensures { result ≡ self.now.foreground }
+    {
+        self.foreground
+    }
+
+    /// The colour behind the text, where one is set.
+    pub fn background(&self) -> Option<Color>
+        ensures { result ≡ self.now.background }
+    {
+        self.background
+    }
+
+    /// The attributes, in the order in which they were added.
+    pub fn attributes(&self) -> &[Attribute]
+        ensures { result.now ≡ self.now.attributes }
+    {
+        self.attributes.as_slice()
+    }
 }

@@ -1,7 +1,62 @@
-//! The cutting of texts: what they measure, and what the cells of a column are drawn by.
+//! The cutting of texts: what they measure, their heads, and the lines that they are wrapped into.
+
+ghost use Rattle.std.specs.Prelude.{◌≡◌, map, IfOk, string_bytes};
+ghost use Rattle.comfy_parts.specs.Text.{elements};
+ghost use Rattle.comfy_parts.specs.Wrapping.{IsWrapped, wrapped};
 
 pub mod display_info;
+mod ends;
+mod prefix;
 mod width;
 
+use crate::error::Result;
 pub use display_info::ColumnDisplayInfo;
+use ends::{first_element, line_end, line_start};
+pub use prefix::split_long_word;
+use std::alloc::Global;
 pub use width::measure_text_width;
+
+/// What stands between the delimiters of a line, in order and empty parts too.
+pub fn split_line_by_delimiter(alloc: Global, line: &str, delimiter: char) -> Result<Vec<&str>>
+    ensures { IfOk result (λ v. map (λ x. x.now) v.items ≡ elements delimiter line.now) }
+{
+    let mut parts: Vec<&str> = Vec::new(alloc);
+    let mut rest = line;
+    while let Some((part, behind)) = rest.split_once(delimiter) {
+        parts.push(part)?;
+        rest = behind;
+    }
+    parts.push(rest)?;
+    Ok(parts)
+}
+
+/// Wraps a line into lines of the column's content width. Each begins at the first character that is no delimiter, and
+/// only delimiters are left out. It is right for every width, 0 too, and for every text and delimiter.
+pub fn split_line(
+    alloc: Global,
+    line: &str,
+    info: &ColumnDisplayInfo,
+    delimiter: char,
+) -> Result<Vec<String>>
+    ensures lines { IfOk result (λ v. map string_bytes v.items ≡ wrapped info.now.content_width delimiter line.now) }
+    ensures slices { IfOk result (λ v. IsWrapped info.now.content_width delimiter line.now (map string_bytes v.items)) }
+{
+    let width = usize::from(info.content_width);
+    let mut lines: Vec<String> = Vec::new(alloc);
+    let mut rest = line_start(line, delimiter);
+    let mut first = first_element(rest, delimiter).0.len();
+    while !rest.is_empty() {
+        let end = line_end(rest, first, width, delimiter);
+        let (front, behind) = rest.split_at(end);
+        lines.push(String::from_str(alloc, front)?)?;
+        if end < first {
+            // The line ends inside a long element, and its rest comes next: its end isn't searched for again.
+            rest = behind;
+            first -= end;
+        } else {
+            rest = line_start(behind, delimiter);
+            first = first_element(rest, delimiter).0.len();
+        }
+    }
+    Ok(lines)
+}

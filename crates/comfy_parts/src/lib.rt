@@ -6,6 +6,7 @@ pub mod column;
 pub mod content_split;
 pub mod convert;
 pub mod error;
+pub mod laws;
 pub mod row;
 pub mod style;
 

@@ -83,7 +83,7 @@ arranged_by_content table disabled =
   where
     visible : (arrangement : ContentArrangement) → arrangement ≡ Disabled
         → MatchOption (width_kept arrangement (table_width table)) (widths_at (widths_by_content table) (visible_columns table) ≡ map (disabled_width table) (visible_columns table))
-          (λ w. IsDynamic (room_beside_borders table w) (visible_needs table) (is_full_width arrangement) (widths_at (widths_by_content table) (visible_columns table)))
+        (λ w. IsDynamic (room_beside_borders table w) (visible_needs table) (is_full_width arrangement) (widths_at (widths_by_content table) (visible_columns table)))
     visible Disabled is = picked_by_content table (disabled_width table) (λ (c : ColumnValue). not (is_hidden_column c)) (visible_width table)
     visible Dynamic is = absurd (cc is)
     visible DynamicFullWidth is = absurd (cc is)

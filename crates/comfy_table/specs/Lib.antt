@@ -2,9 +2,11 @@ pub mod Arrangement
 pub mod Contents
 pub mod DisabledWidths
 pub mod Drawing
+pub mod DrawnCells
 pub mod Dynamic
 pub mod Frame
 pub mod GrownTable
+pub mod Headline
 pub mod Laws
 pub mod Levels
 pub mod Lines

@@ -6,7 +6,7 @@ ghost use Rattle.comfy_parts.specs.CellValue.{columns_grown_to};
 ghost use Rattle.comfy_parts.specs.Presets.{ascii_full};
 ghost use Rattle.comfy_table.specs.GrownTable.{table_of};
 ghost use Rattle.comfy_table.specs.TableLoans.{TableStaysIfErr};
-ghost use Rattle.comfy_table.specs.TableValue.{is_tty, new_table, table_width, with_header, with_row};
+ghost use Rattle.comfy_table.specs.TableValue.{is_tty, new_table, should_style, table_width, with_header, with_row};
 
 pub mod output;
 pub mod terminal;
@@ -118,6 +118,23 @@ impl Table {
         } else {
             None
         }
+    }
+
+    // What stands behind a line that is cut.
+    pub(crate) fn truncation_indicator(&self) -> &str
+        ensures { result.now ≡ self.now.indicator }
+    {
+        match &self.indicator {
+            Some(indicator) => indicator.as_str(),
+            None => "…",
+        }
+    }
+
+    // Whether colours and attributes are written.
+    pub(crate) fn writes_styles(&self) -> bool
+        ensures { result ≡ should_style self.now }
+    {
+        self.enforce_styling || self.writes_to_tty()
     }
 
     // `set_header`, with the reference in a struct: so callers learn what stands at an error.

@@ -1,4 +1,26 @@
 //! What stands between a table and its drawn lines.
 
+ghost use Rattle.std.specs.Prelude.{IfOk};
+ghost use Rattle.comfy_table.specs.Arrangement.{IsDrawingOf};
+ghost use Rattle.comfy_table.specs.Headline.{IsTableDrawing};
+
 pub mod arrangement;
 pub mod formatting;
+
+use crate::table::Table;
+use crate::table::output::Lines;
+use arrangement::arrange_content;
+use comfy_parts::Result;
+use formatting::draw;
+
+/// The drawn lines of a table: arranged, formatted and framed.
+pub fn build_table(table: &Table) -> Result<Lines>
+    ensures drawing { IfOk result (λ lines. IsDrawingOf table.now lines) }
+    ensures headline { IfOk result (λ lines. IsTableDrawing table.now lines) }
+{
+    // opened, since what a text line or the indicator can be is known of the fields alone
+    let _ = &table.indicator;
+    let infos = arrange_content(table)?;
+    let lines = draw(table, infos.as_slice())?;
+    Ok(Lines::new(lines))
+}

@@ -1,5 +1,9 @@
 //! The characters of a table's frame.
 
+ghost use Rattle.std.specs.Prelude.{◌≡◌};
+ghost use Rattle.comfy_parts.specs.Presets.{nothing};
+ghost use Rattle.comfy_parts.specs.StyleModifiers.{with_rounded_corners, with_solid_inner_borders, RoundingTwiceIsOnce, SolidTwiceIsOnce};
+
 /// A horizontal line of the frame; a part that isn't set is drawn as a space, a line with no part set isn't drawn.
 ///
 /// ```text
@@ -15,6 +19,67 @@ pub struct LineStyle {
     pub right: Option<char>,
 }
 
+impl LineStyle {
+    /// A line with all four parts set.
+    pub fn new(left: char, fill: char, junction: char, right: char) -> LineStyle
+        ensures { result ≡ record { left = Some left; fill = Some fill; junction = Some junction; right = Some right } }
+    {
+        LineStyle {
+            left: Some(left),
+            fill: Some(fill),
+            junction: Some(junction),
+            right: Some(right),
+        }
+    }
+
+    /// A line with no part set, so one that isn't drawn.
+    pub fn none() -> LineStyle
+        ensures { result ≡ record { left = None; fill = None; junction = None; right = None } }
+    {
+        LineStyle::default()
+    }
+
+    /// Sets the left end.
+    pub fn left(self, end: char) -> LineStyle
+        ensures { result ≡ record self { left = Some end } }
+    {
+        LineStyle {
+            left: Some(end),
+            ..self
+        }
+    }
+
+    /// Sets what is repeated along the columns.
+    pub fn fill(self, character: char) -> LineStyle
+        ensures { result ≡ record self { fill = Some character } }
+    {
+        LineStyle {
+            fill: Some(character),
+            ..self
+        }
+    }
+
+    /// Sets what stands between two columns.
+    pub fn junction(self, crossing: char) -> LineStyle
+        ensures { result ≡ record self { junction = Some crossing } }
+    {
+        LineStyle {
+            junction: Some(crossing),
+            ..self
+        }
+    }
+
+    /// Sets the right end.
+    pub fn right(self, end: char) -> LineStyle
+        ensures { result ≡ record self { right = Some end } }
+    {
+        LineStyle {
+            right: Some(end),
+            ..self
+        }
+    }
+}
+
 /// A line that holds contents.
 ///
 /// ```text
@@ -27,6 +92,55 @@ pub struct ContentLineStyle {
     pub left: Option<char>,
     pub junction: Option<char>,
     pub right: Option<char>,
+}
+
+impl ContentLineStyle {
+    /// A line with all three parts set.
+    pub fn new(left: char, junction: char, right: char) -> ContentLineStyle
+        ensures { result ≡ record { left = Some left; junction = Some junction; right = Some right } }
+    {
+        ContentLineStyle::none()
+            .left(left)
+            .junction(junction)
+            .right(right)
+    }
+
+    /// A line with no part set.
+    pub fn none() -> ContentLineStyle
+        ensures { result ≡ record { left = None; junction = None; right = None } }
+    {
+        ContentLineStyle::default()
+    }
+
+    /// Sets the left border.
+    pub fn left(self, border: char) -> ContentLineStyle
+        ensures { result ≡ record self { left = Some border } }
+    {
+        ContentLineStyle {
+            left: Some(border),
+            ..self
+        }
+    }
+
+    /// Sets what stands between two columns.
+    pub fn junction(self, divider: char) -> ContentLineStyle
+        ensures { result ≡ record self { junction = Some divider } }
+    {
+        ContentLineStyle {
+            junction: Some(divider),
+            ..self
+        }
+    }
+
+    /// Sets the right border.
+    pub fn right(self, border: char) -> ContentLineStyle
+        ensures { result ≡ record self { right = Some border } }
+    {
+        ContentLineStyle {
+            right: Some(border),
+            ..self
+        }
+    }
 }
 
 /// The six kinds of lines of a table.
@@ -48,4 +162,123 @@ pub struct TableStyle {
     pub content_lines: ContentLineStyle,
     pub row_separator: LineStyle,
     pub bottom_border: LineStyle,
+}
+
+impl TableStyle {
+    /// A style with nothing set: contents alone are drawn.
+    pub fn new() -> TableStyle
+        ensures { result ≡ nothing }
+    {
+        TableStyle {
+            top_border: LineStyle::none(),
+            header_lines: ContentLineStyle::none(),
+            header_separator: LineStyle::none(),
+            content_lines: ContentLineStyle::none(),
+            row_separator: LineStyle::none(),
+            bottom_border: LineStyle::none(),
+        }
+    }
+
+    /// Sets the line above all others.
+    pub fn top_border(self, line: LineStyle) -> TableStyle
+        ensures { result ≡ record self { top_border = line } }
+    {
+        TableStyle {
+            top_border: line,
+            ..self
+        }
+    }
+
+    /// Sets the lines that hold the header's contents.
+    pub fn header_lines(self, line: ContentLineStyle) -> TableStyle
+        ensures { result ≡ record self { header_lines = line } }
+    {
+        TableStyle {
+            header_lines: line,
+            ..self
+        }
+    }
+
+    /// Sets the line below the header.
+    pub fn header_separator(self, line: LineStyle) -> TableStyle
+        ensures { result ≡ record self { header_separator = line } }
+    {
+        TableStyle {
+            header_separator: line,
+            ..self
+        }
+    }
+
+    /// Sets the lines that hold the rows' contents.
+    pub fn content_lines(self, line: ContentLineStyle) -> TableStyle
+        ensures { result ≡ record self { content_lines = line } }
+    {
+        TableStyle {
+            content_lines: line,
+            ..self
+        }
+    }
+
+    /// Sets the line between two rows.
+    pub fn row_separator(self, line: LineStyle) -> TableStyle
+        ensures { result ≡ record self { row_separator = line } }
+    {
+        TableStyle {
+            row_separator: line,
+            ..self
+        }
+    }
+
+    /// Sets the line below all others.
+    pub fn bottom_border(self, line: LineStyle) -> TableStyle
+        ensures { result ≡ record self { bottom_border = line } }
+    {
+        TableStyle {
+            bottom_border: line,
+            ..self
+        }
+    }
+
+    /// Rounds the four outer corners.
+    ///
+    /// ```text
+    /// ╭───────┬───────╮
+    /// │ Hello ┆ there │
+    /// ╞═══════╪═══════╡
+    /// │ a     ┆ b     │
+    /// ╰───────┴───────╯
+    /// ```
+    pub fn with_rounded_corners(self) -> TableStyle
+        ensures value { result ≡ with_rounded_corners self }
+        ensures once { RoundingTwiceIsOnce self }
+    {
+        TableStyle {
+            top_border: self.top_border.left('╭').right('╮'),
+            bottom_border: self.bottom_border.left('╰').right('╯'),
+            ..self
+        }
+    }
+
+    /// Makes the lines between columns and between rows solid.
+    ///
+    /// ```text
+    /// ┌───────┬───────┐
+    /// │ Hello │ there │
+    /// ╞═══════╪═══════╡
+    /// │ a     │ b     │
+    /// ├───────┼───────┤
+    /// │ c     │ d     │
+    /// └───────┴───────┘
+    /// ```
+    pub fn with_solid_inner_borders(self) -> TableStyle
+        ensures value { result ≡ with_solid_inner_borders self }
+        ensures once { SolidTwiceIsOnce self }
+    {
+        TableStyle {
+            header_lines: self.header_lines.junction('│'),
+            content_lines: self.content_lines.junction('│'),
+            row_separator: self.row_separator.fill('─'),
+            ..self
+        }
+    }
 }

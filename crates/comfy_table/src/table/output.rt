@@ -1,8 +1,13 @@
 //! The drawn lines of a table.
 
-ghost use Rattle.std.specs.Prelude.{◌≡◌, map, string_bytes};
+ghost use Rattle.std.specs.Prelude.{◌≡◌, IfOk, map, string_bytes};
 ghost use Rattle.std.specs.Iterator.{YieldsFirstBy, item_count};
+ghost use Rattle.comfy_table.specs.Arrangement.{IsDrawingOf};
+ghost use Rattle.comfy_table.specs.Headline.{IsTableDrawing};
 
+use crate::table::Table;
+use crate::utils::build_table;
+use comfy_parts::Result;
 use std::marker::Model;
 use std::vec;
 
@@ -40,5 +45,18 @@ impl Iterator for Lines {
 
     fn next(&mut self) -> Option<String> {
         self.rest.next()
+    }
+}
+
+impl Table {
+    /// The drawn lines of the table as it is now, from the top.
+    ///
+    /// Where memory is found, these are frame lines and rows of padded pieces, in the order of the drawing; for printable
+    /// ASCII all of them have the same number of characters.
+    pub fn lines(&self) -> Result<Lines>
+        ensures drawing { IfOk result (λ lines. IsDrawingOf self.now lines) }
+        ensures headline { IfOk result (λ lines. IsTableDrawing self.now lines) }
+    {
+        build_table(self)
     }
 }

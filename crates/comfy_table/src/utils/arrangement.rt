@@ -12,8 +12,8 @@ mod early;
 pub mod helper;
 
 use crate::table::Table;
-use comfy_parts::{Column, Result};
 use comfy_parts::content_split::ColumnDisplayInfo;
+use comfy_parts::{Column, Result};
 use content::column_content;
 use disabled::disabled_width;
 use helper::count_visible_columns;

@@ -1,3 +1,10 @@
 //! How the contents of cells become lines of text.
 
 pub mod borders;
+mod cell_lines;
+pub mod content_format;
+mod drawing;
+mod piece;
+mod sequences;
+
+pub(crate) use drawing::draw;

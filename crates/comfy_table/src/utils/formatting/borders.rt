@@ -1,9 +1,13 @@
 //! The frame of a table.
 
-ghost use Rattle.std.specs.Prelude.{◌≡◌};
-ghost use Rattle.comfy_table.specs.Frame.{draws_left_border, draws_right_border, draws_vertical_lines};
+ghost use Rattle.std.specs.Prelude.{◌≡◌, ◌++◌, ◌&&◌, nat_lt, [], IfOk, OnOk, map, string_bytes, option_to_list, encode_utf8, if◌then◌else◌};
+ghost use Rattle.std.specs.List.{repeat};
+ghost use Rattle.comfy_table.specs.Frame.{character, content_line, draws_left_border, draws_right_border, draws_vertical_lines, frame_line, is_drawn, optional_frame_line};
 
 use crate::table::Table;
+use comfy_parts::Result;
+use comfy_parts::style::{ContentLineStyle, LineStyle};
+use std::alloc::Global;
 
 /// Whether lines begin with a border: any of the six lines of the style has a left character.
 pub fn should_draw_left_border(table: &Table) -> bool
@@ -42,4 +46,88 @@ pub fn should_draw_vertical_lines(table: &Table) -> bool
         || style.content_lines.junction.is_some()
         || style.row_separator.junction.is_some()
         || style.bottom_border.junction.is_some()
+}
+
+// A line of content: its pieces between the drawn borders, with junctions where vertical lines are drawn.
+pub fn content_line(
+    alloc: Global,
+    table: &Table,
+    line: &ContentLineStyle,
+    pieces: &[String],
+) -> Result<String>
+    ensures { IfOk result (λ text. string_bytes text ≡ content_line table.now.style line.now (map string_bytes pieces.now)) }
+{
+    let vertical = should_draw_vertical_lines(table);
+    let mut text = String::new(alloc);
+    push_border(&mut text, should_draw_left_border(table), line.left)?;
+    for (position, piece) in pieces.iter().enumerate() {
+        push_border(&mut text, needs_junction(vertical, position), line.junction)?;
+        text.push_str(piece.as_str())?;
+    }
+    push_border(&mut text, should_draw_right_border(table), line.right)?;
+    Ok(text)
+}
+
+// A line of the frame over columns of these whole widths, where it is drawn: any of its four parts is set.
+pub fn optional_frame_line(
+    alloc: Global,
+    table: &Table,
+    line: &LineStyle,
+    widths: &[usize],
+) -> Result<Option<String>>
+    ensures { IfOk result (λ drawn. map string_bytes (option_to_list drawn) ≡ optional_frame_line table.now.style line.now widths.now) }
+{
+    if !is_drawn(line) {
+        return Ok(None);
+    }
+    let text = frame_line(alloc, table, line, widths)?;
+    Ok(Some(text))
+}
+
+// The same line, drawn in any case.
+fn frame_line(alloc: Global, table: &Table, line: &LineStyle, widths: &[usize]) -> Result<String>
+    ensures { IfOk result (λ text. string_bytes text ≡ frame_line table.now.style line.now widths.now) }
+{
+    let vertical = should_draw_vertical_lines(table);
+    let mut text = String::new(alloc);
+    push_border(&mut text, should_draw_left_border(table), line.left)?;
+    for (position, width) in widths.iter().enumerate() {
+        push_border(&mut text, needs_junction(vertical, position), line.junction)?;
+        push_repeated(&mut text, line.fill.unwrap_or(' '), *width)?;
+    }
+    push_border(&mut text, should_draw_right_border(table), line.right)?;
+    Ok(text)
+}
+
+fn is_drawn(line: &LineStyle) -> bool
+    ensures { result ≡ is_drawn line.now }
+{
+    line.left.is_some() || line.fill.is_some() || line.junction.is_some() || line.right.is_some()
+}
+
+// A junction stands before each column but the first.
+fn needs_junction(vertical: bool, position: usize) -> bool
+    ensures { result ≡ (vertical && nat_lt 0 position) }
+{
+    vertical && position > 0
+}
+
+// Appends a character of the style, a space for a missing one, where it is drawn.
+fn push_border(text: &mut String, drawn: bool, part: Option<char>) -> Result<()>
+    ensures { OnOk result (string_bytes text.new ≡ string_bytes text.old ++ (if drawn then character part else [])) }
+{
+    if drawn {
+        text.push(part.unwrap_or(' '))?;
+    }
+    Ok(())
+}
+
+// Appends a character that many times.
+fn push_repeated(text: &mut String, fill: char, count: usize) -> Result<()>
+    ensures { OnOk result (string_bytes text.new ≡ string_bytes text.old ++ repeat count (encode_utf8 fill)) }
+{
+    for _ in 0..count {
+        text.push(fill)?;
+    }
+    Ok(())
 }

@@ -1,0 +1,105 @@
+-- Where a text is cut between two of its clusters, and that what stands before the cut is its head.
+use Rattle.std.proofs.Common.{◌≡◌, ℕ, ◌+◌, ◌-◌, ◌≤◌, ◌<◌, Bool, true, false, cond, List, [], ◌∷◌, ◌++◌, map, length, take, sum_by, nat_le, refl, sym, ap, ◌∙◌, subst, arith, length-append, append-nil}
+use Rattle.std.proofs.Math.Seq.{take-append_seam, get_or-append_seam}
+use Rattle.std.specs.Borrow.{Bor}
+use Rattle.std.specs.List.{All, concat}
+use Rattle.std.specs.Prelude.{if◌then◌else◌}
+use Rattle.std.specs.Str.{IsUtf8, IsCharBoundary}
+use Rattle.std.proofs.lemmas.Bool.Decides.{nat_tests}
+use Rattle.std.proofs.lemmas.List.{append_assoc, map-append}
+use Rattle.std.proofs.lemmas.List.Folds.{concat-append}
+use Rattle.std.proofs.lemmas.List.Sums.{sum_by-cons}
+use Rattle.unicode_segmentation.specs.Segments.{with_offsets}
+use Rattle.unicode_segmentation.specs.Grapheme.{is_grapheme_break}
+use Rattle.unicode_segmentation.proofs.SegmentsLemmas.{map-with_offsets, concat-segments, All-IsPieceOf, IsPieceOf}
+use Rattle.comfy_parts.specs.Text.{Text, measure, clusters, clusters_within, head}
+
+-- a piece with the place where it begins
+abbrev pub Placed : Type 0
+Placed = ℕ × List ℕ
+
+abbrev pub pieces : List Placed → List Text
+pieces xs = map (λ x. x.1) xs
+
+-- a piece begins where those before it end
+begins_at : (n : ℕ) (done : List Placed) (x : Placed) (rest : List Placed) (ps : List Text) → done ++ x ∷ rest ≡ with_offsets n ps → x.0 ≡ n + length (concat (pieces done))
+unfolding with_offsets
+begins_at n [] x rest [] e = cc
+begins_at n [] x rest (p ∷ ps) e = let f : x ≡ (n, p) = cc in let g : x.0 ≡ n = ap (λ y. y.0) f in omega arith
+begins_at n (y ∷ done) x rest [] e = cc
+begins_at n (y ∷ done) x rest (p ∷ ps) e =
+    let first : y ≡ (n, p) = cc in
+    let tail : done ++ x ∷ rest ≡ with_offsets (n + length p) ps = cc in
+    let at = begins_at (n + length p) done x rest ps tail in
+    let same : y.1 ≡ p = ap (λ z. z.1) first in
+    let long = length-append y.1 (concat (pieces done)) in
+    let len : length y.1 ≡ length p = ap length same in
+    omega arith
+
+-- the pieces on both sides of one
+around : (done : List Placed) (x : Placed) (rest : List Placed) (ps : List Text) → done ++ x ∷ rest ≡ with_offsets 0 ps → ps ≡ pieces done ++ x.1 ∷ pieces rest
+around done x rest ps e = sym (map-with_offsets 0 ps) ∙ sym (ap pieces e) ∙ map-append (λ x. x.1) done (x ∷ rest)
+
+pub boundary : (text : Text) (done : List Placed) (x : Placed) (rest : List Placed) → IsUtf8 text → done ++ x ∷ rest ≡ with_offsets 0 (clusters text) → IsCharBoundary text x.0
+boundary text done x rest u e =
+    let all = All-IsPieceOf (is_grapheme_break true) text u in
+    let here = subst (All (IsPieceOf text)) (sym e) all (length done) x (omega (arith, length-append done (x ∷ rest))) in
+    (subst (IsPieceOf text) (get_or-append_seam done x rest x) here).start
+
+-- clusters that fit are taken, and the head goes on behind them with the places that they leave
+within-front : (k : ℕ) (qs more : List Text) → sum_by measure qs ≤ k → clusters_within k (qs ++ more) ≡ concat qs ++ clusters_within (k - sum_by measure qs) more
+within-front k [] more fits =
+    let same : k ≡ k - 0 = omega arith in
+    ap (λ n. clusters_within n more) same
+within-front k (q ∷ qs) more fits = by_test (nat_le (measure q) k) refl (λ h. within-front (k - measure q) qs more h)
+  where
+    sums : sum_by measure (q ∷ qs) ≡ measure q + sum_by measure qs
+    sums = sum_by-cons measure q qs
+
+    by_test : (b : Bool) → nat_le (measure q) k ≡ b
+        → (sum_by measure qs ≤ k - measure q → clusters_within (k - measure q) (qs ++ more) ≡ concat qs ++ clusters_within (k - measure q - sum_by measure qs) more)
+        → (if b then q ++ clusters_within (k - measure q) (qs ++ more) else []) ≡ (q ++ concat qs) ++ clusters_within (k - sum_by measure (q ∷ qs)) more
+    by_test true one rest =
+        let left : k - measure q - sum_by measure qs ≡ k - sum_by measure (q ∷ qs) = omega (arith, sums, fits) in
+        ap (λ t. q ++ t) (rest (omega (arith, sums, fits)) ∙ ap (λ n. concat qs ++ clusters_within n more) left)
+        ∙ sym (append_assoc q (concat qs) (clusters_within (k - sum_by measure (q ∷ qs)) more))
+    by_test false one rest = absurd (grind (arith, nat_tests, one, sums, fits))
+
+-- a cluster that is too wide ends the head
+within-wide : (k : ℕ) (p : Text) (more : List Text) → k < measure p → clusters_within k (p ∷ more) ≡ []
+within-wide k p more wide = by_test (nat_le (measure p) k) refl
+  where
+    by_test : (b : Bool) → nat_le (measure p) k ≡ b → (if b then p ++ clusters_within (k - measure p) more else []) ≡ []
+    by_test true fits = absurd (grind (arith, nat_tests, fits, wide))
+    by_test false fits = refl
+
+-- the text before the first cluster that is too wide is the head
+pub head-cut : (k : ℕ) (text : Text) (done : List Placed) (x : Placed) (rest : List Placed) → IsUtf8 text → done ++ x ∷ rest ≡ with_offsets 0 (clusters text)
+    → sum_by measure (pieces done) ≤ k → k < sum_by measure (pieces done) + measure x.1 → take x.0 text ≡ head k text
+head-cut k text done x rest u e fits wide =
+    let qs = pieces done in
+    let parts : clusters text ≡ qs ++ x.1 ∷ pieces rest = around done x rest (clusters text) e in
+    let at = begins_at 0 done x rest (clusters text) e in
+    let all : concat qs ++ concat (x.1 ∷ pieces rest) ≡ text = sym (concat-append qs (x.1 ∷ pieces rest)) ∙ sym (ap concat parts) ∙ concat-segments (is_grapheme_break true) text u in
+    let at_end : x.0 ≡ length (concat qs) = omega arith in
+    let front : take x.0 text ≡ concat qs = ap (λ n. take n text) at_end ∙ ap (take (length (concat qs))) (sym all) ∙ take-append_seam (concat qs) (concat (x.1 ∷ pieces rest)) in
+    let taken : head k text ≡ concat qs ++ [] =
+    ap (clusters_within k) parts ∙ within-front k qs (x.1 ∷ pieces rest) fits ∙ ap (λ t. concat qs ++ t) (within-wide (k - sum_by measure qs) x.1 (pieces rest) (omega (arith, fits, wide))) in
+    front ∙ sym (taken ∙ append-nil (concat qs))
+
+-- a text whose clusters all fit is its own head
+pub head-all : (k : ℕ) (text : Text) (done : List Placed) → IsUtf8 text → done ≡ with_offsets 0 (clusters text) → sum_by measure (pieces done) ≤ k → text ≡ head k text
+head-all k text done u e fits =
+    let same : pieces done ≡ clusters text = ap pieces e ∙ map-with_offsets 0 (clusters text) in
+    let taken : head k text ≡ concat (pieces done) ++ [] = ap (clusters_within k) (sym same ∙ sym (append-nil (pieces done))) ∙ within-front k (pieces done) [] fits in
+    sym (taken ∙ append-nil (concat (pieces done)) ∙ ap concat same ∙ concat-segments (is_grapheme_break true) text u)
+
+-- what an item of the iterator shows
+abbrev pub shown : ℕ × Bor (List ℕ) → Placed
+shown x = (x.0, x.1.now)
+
+-- the measures of the items
+pub sum_by-shown : (xs : List (ℕ × Bor (List ℕ))) → sum_by measure (pieces (map shown xs)) ≡ sum_by (λ x. measure x.1.now) xs
+sum_by-shown [] = refl
+sum_by-shown (x ∷ xs) =
+    sum_by-cons measure x.1.now (pieces (map shown xs)) ∙ ap (λ n. measure x.1.now + n) (sum_by-shown xs) ∙ sym (sum_by-cons (λ x. measure x.1.now) x xs)

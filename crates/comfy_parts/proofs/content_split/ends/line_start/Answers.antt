@@ -1,0 +1,18 @@
+use Rattle.std.proofs.Common.{◌≡◌, ◌++◌, ◌∙◌, arith}
+use Rattle.std.specs.Prelude.{encode_utf8}
+use Rattle.std.proofs.lemmas.Str.{IsUtf8-past_char}
+use Rattle.comfy_parts.proofs.FollowingLemmas.{stripped}
+use Rattle.comfy_parts.proofs.StartLemmas.{begins_otherwise-none, wrapped-delimiter}
+use Rattle.comfy_parts.proofs.content_split.ends.line_start.Goals as goal
+
+pub loop-behind-preserved : goal.loop-behind-preserved
+loop-behind-preserved c =
+    let splits = stripped c.args.delimiter c.loop-behind.rest.now c.in-Some.behind.now c.in-Some.ensures.cases in
+    record {
+      utf8 = IsUtf8-past_char c.loop-behind.rest.now c.in-Some.behind.now c.args.delimiter c.loop-behind.invariant.utf8 splits;
+      bound = omega (arith, c.in-Some.ensures.cases);
+      lines = λ w. wrapped-delimiter w c.args.delimiter c.loop-behind.rest.now c.in-Some.behind.now c.ranges.delimiter.0 splits ∙ c.loop-behind.invariant.lines w;
+    }
+
+pub returns-clause-begins : goal.returns-clause-begins
+returns-clause-begins c = begins_otherwise-none c.args.delimiter c.loop-behind.rest.now c.loop-behind.invariant.utf8 c.in_default.ensures.cases

@@ -1,0 +1,16 @@
+use Rattle.std.proofs.Common.{◌≡◌, ℕ, ◌≤◌, length}
+use denote.Text.{Utf8}
+use denote.Shadow.{shadow}
+use Rattle.comfy_parts.specs.Wrapping.{wrapped}
+use Rattle.comfy_parts.proofs.content_split.ends.line_start.Given as goal
+
+abbrev pub invariant-loop-behind : goal.invariant-loop-behind
+invariant-loop-behind l =
+    record {
+      utf8 : shadow (Utf8 l.rest);
+      bound : length l.rest ≤ length l.text;
+      lines : (w : ℕ) → wrapped w l.delimiter l.rest ≡ wrapped w l.delimiter l.text;
+    }
+
+abbrev pub decreases-loop-behind : goal.decreases-loop-behind
+decreases-loop-behind l = length l.rest

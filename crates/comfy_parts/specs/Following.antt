@@ -1,0 +1,30 @@
+-- An element at a text's front, what follows it, and how much of that a line takes.
+use Rattle.std.specs.Prelude.{◌≡◌, ℕ, ◌+◌, ◌-◌, nat_lt, nat_le, ◌&&◌, List, [], ◌∷◌, ◌++◌, length, encode_utf8, if◌then◌else◌, IsUtf8}
+use Rattle.comfy_parts.specs.Text.{Text, measure, head, elements}
+
+-- what follows an element: a delimiter and a text of these elements, or nothing where there are none
+abbrev pub Follow : ℕ → List Text → Text → Type 0
+Follow d [] rest = rest ≡ []
+Follow d (e ∷ es) rest = (more : Text) × (rest ≡ encode_utf8 d ++ more) × (elements d more ≡ e ∷ es)
+
+-- the first element of a text, and what follows it, both in whole characters
+pub record IsFirstElement (d : ℕ) (text first behind : Text) : Type 0 where
+  pub others : List Text
+  pub elements_are : elements d text ≡ first ∷ others
+  pub follow : Follow d others behind
+  pub joined : first ++ behind ≡ text
+  pub whole_first : IsUtf8 first
+  pub whole_behind : IsUtf8 behind
+
+-- the bytes of the next element that a line of w places takes, with the delimiter before it, where not the whole element has room
+abbrev pub part_taken : ℕ → ℕ → ℕ → Text → ℕ
+part_taken w d filled next =
+    if nat_lt w (measure next) && nat_le (filled + 4) w then length (encode_utf8 d) + length (head (w - filled - 1) next) else 0
+
+-- the bytes that a line of w places takes behind an element up to which it has filled so many places, where these elements follow
+abbrev pub bytes_taken : ℕ → ℕ → ℕ → List Text → ℕ
+bytes_taken w d filled [] = 0
+bytes_taken w d filled (next ∷ others) =
+    if nat_lt (w - 2) filled then 0
+    else if nat_lt w (filled + 1 + measure next) then part_taken w d filled next
+    else length (encode_utf8 d) + length next + bytes_taken w d (filled + measure next + measure (encode_utf8 d)) others

@@ -1,0 +1,24 @@
+//! The head of a text for some places.
+
+ghost use Rattle.std.specs.Prelude.{◌≡◌, ◌++◌};
+ghost use Rattle.comfy_parts.specs.Text.{head};
+
+use crate::content_split::width::measure_text_width;
+use unicode_segmentation::UnicodeSegmentation;
+
+/// The longest front of whole grapheme clusters whose summed measures are at most `allowed_width` places, and the rest
+/// of the word. It takes no memory.
+pub fn split_long_word(allowed_width: usize, word: &str) -> (&str, &str)
+    ensures head { result.0.now ≡ head allowed_width word.now }
+    ensures rest { result.0.now ++ result.1.now ≡ word.now }
+{
+    let mut left = allowed_width;
+    for (at, cluster) in word.grapheme_indices(true) {
+        let width = measure_text_width(cluster);
+        if width > left {
+            return word.split_at(at);
+        }
+        left -= width;
+    }
+    (word, "")
+}

@@ -1,0 +1,52 @@
+-- The lines of a row are made of the cells that its visible columns draw.
+use Rattle.std.proofs.Common.{◌≡◌, ◌<◌, ℕ, List, [], ◌∷◌, Option, Some, None, length, map, max, refl, ap, ap₂, ◌∙◌, sym, slice_index_or, zero, suc, arith}
+use Rattle.std.specs.List.{range_with_len, slice_get}
+use Rattle.std.proofs.lemmas.List.{get_or-map, length-map}
+use Rattle.comfy_parts.specs.CellValue.{CellValue, RowValue, ColumnInfo}
+use Rattle.comfy_parts.specs.Text.{Text, greatest}
+use Rattle.comfy_table.specs.DrawnCells.{drawn_cell, greatest_height, height_of, height_of_lines, lines_of_optional, piece_at, piece_of_lines}
+use Rattle.comfy_table.specs.Pieces.{filling, piece, pieces_at, pieces_of_optional, row_cell_lines, row_height, row_line, row_lines, visible_infos}
+use Rattle.comfy_table.specs.TableValue.{TableValue}
+
+-- a filling, whatever the line
+one_filling : (info : ColumnInfo) (k : ℕ) → filling info ≡ slice_index_or (filling info ∷ []) k (filling info)
+one_filling info zero = refl
+one_filling info (suc k) = refl
+
+module _ (table : TableValue) (row : RowValue) where
+  -- the piece of an optional cell
+  piece_of_optional : (info : ColumnInfo) (cell : Option CellValue) (k : ℕ)
+      → piece_of_lines table k info cell (lines_of_optional table row info cell) ≡ slice_index_or (pieces_of_optional table row info cell) k (filling info)
+  piece_of_optional info None k = one_filling info k
+  piece_of_optional info (Some cell) k = refl
+
+  -- the lines that it takes
+  height_of_optional : (info : ColumnInfo) (cell : Option CellValue)
+      → height_of_lines cell (lines_of_optional table row info cell) ≡ length (pieces_of_optional table row info cell)
+  height_of_optional info None = refl
+  height_of_optional info (Some cell) = sym (length-map (row_cell_lines table row info cell) (piece table cell info))
+
+  -- line by line
+  pub drawn_pieces : (k : ℕ) (ps : List (ℕ × ColumnInfo))
+      → map (piece_at table k) (map (drawn_cell table row) ps) ≡ map (λ (p : ℕ × ColumnInfo). slice_index_or (pieces_at table row p) k (filling p.1)) ps
+  drawn_pieces k [] = refl
+  drawn_pieces k (p ∷ ps) = ap₂ (λ (x : Text) (xs : List Text). x ∷ xs) (piece_of_optional p.1 (slice_get row.cells p.0) k) (drawn_pieces k ps)
+
+  -- the greatest height
+  pub drawn_height : (ps : List (ℕ × ColumnInfo)) → greatest_height (map (drawn_cell table row) ps) ≡ greatest (map (λ (p : ℕ × ColumnInfo). length (pieces_at table row p)) ps)
+  drawn_height [] = refl
+  drawn_height (p ∷ ps) = ap₂ max (height_of_optional p.1 (slice_get row.cells p.0)) (drawn_height ps)
+
+  -- so the lines of the row
+  pub drawn_lines : (infos : List ColumnInfo)
+      → map (λ k. map (piece_at table k) (map (drawn_cell table row) (visible_infos infos))) (range_with_len 0 (greatest_height (map (drawn_cell table row) (visible_infos infos)))) ≡ row_lines table infos row
+  drawn_lines infos =
+      ap₂ (λ (line : ℕ → List Text) (n : ℕ). map line (range_with_len 0 n)) (λ i k. drawn_pieces k (visible_infos infos) i) (drawn_height (visible_infos infos))
+
+-- the piece of a line that was looked up
+pub piece_found : (table : TableValue) (k : ℕ) (info : ColumnInfo) (cell : CellValue) {X : Type 0} (f : X → Text) (items : List X) (x : X) → k < length items → x ≡ slice_index_or items k x
+    → piece_of_lines table k info (Some cell) (map f items) ≡ piece table cell info (f x)
+piece_found table k info cell f items x below is =
+    let within : k < length (map f items) = omega (arith, length-map items f) in
+    get_or-map (piece table cell info) (map f items) k [] (filling info) within
+    ∙ ap (piece table cell info) (get_or-map f items k x [] below ∙ ap f (sym is))

@@ -1,0 +1,31 @@
+use Rattle.std.proofs.Common.{◌≡◌, List, ℕ, [], ◌++◌, ◌&&◌, Bool, map, take, string_bytes, ap, sym, ◌∙◌, nat_lt}
+use Rattle.std.specs.List.{join_by}
+use Rattle.std.specs.Prelude.{if◌then◌else◌}
+use Rattle.comfy_parts.specs.Text.{Text}
+use Rattle.comfy_table.proofs.FrameLemmas.{joined-made}
+use Rattle.comfy_table.proofs.JoinLemmas.{joined_all, joined_more}
+use Rattle.comfy_table.specs.Frame.{character}
+use Rattle.comfy_table.proofs.utils.formatting.borders.content_line.Goals as goal
+
+pub loop-position-preserved : goal.loop-position-preserved
+loop-position-preserved c =
+    let vertical = c.should_draw_vertical_lines-vertical.result in
+    let junction = character c.args.line.now.junction in
+    let piece = c.index-pieces-position.result in
+    let bordered : string_bytes c.push_border-in-loop-position.new.text ≡ string_bytes c.loop-position.text ++ (if vertical && nat_lt 0 c.loop-position.position then junction else []) =
+    c.in_ok-push_border-2.ensures ∙ ap (λ (b : Bool). string_bytes c.loop-position.text ++ (if b then junction else [])) c.needs_junction.ensures in
+    c.in_ok-push_str.ensures.bytes
+    ∙ ap (λ (t : Text). string_bytes c.push_border-in-loop-position.new.text ++ t) c.as_str.ensures.value
+    ∙ ap (λ (t : Text). t ++ string_bytes piece) bordered
+    ∙ joined_more (λ s. string_bytes s) vertical junction c.args.pieces.now c.loop-position.position piece (string_bytes c.push_border.new.text) (string_bytes c.loop-position.text) c.loop-position-test.true c.index-pieces-position.is c.loop-position.invariant
+
+pub returns : goal.returns
+returns c =
+    let vertical = c.should_draw_vertical_lines-vertical.result in
+    let line = c.args.line.now in
+    let inside = joined_all (λ s. string_bytes s) (if vertical then character line.junction else []) c.args.pieces.now c.loop-position.position (string_bytes c.push_border.new.text) (string_bytes c.loop-position.text) c.loop-position-test.false c.loop-position.invariant in
+    joined-made c.args.table.now.style line.left line.junction line.right (λ s. string_bytes s) c.args.pieces.now
+    c.should_draw_left_border.result vertical c.should_draw_right_border.result
+    (string_bytes c.new-text.result) (string_bytes c.push_border.new.text) (string_bytes c.loop-position.text) (string_bytes c.push_border-2.new.text)
+    c.should_draw_left_border.ensures c.should_draw_vertical_lines-vertical.ensures c.should_draw_right_border.ensures
+    c.new-text.ensures.bytes c.in_ok-push_border.ensures inside c.in_ok-push_border-3.ensures

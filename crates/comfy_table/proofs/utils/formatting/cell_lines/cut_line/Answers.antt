@@ -1,0 +1,13 @@
+use Rattle.std.proofs.Common.{◌≡◌, ◌<◌, ap, sym, ◌∙◌, arith}
+use Rattle.comfy_parts.specs.Text.{head, measure}
+use Rattle.comfy_table.proofs.CutLemmas.{cut_line-wide}
+use Rattle.comfy_table.proofs.utils.formatting.cell_lines.cut_line.Goals as goal
+
+pub returns-then-shown-places : goal.returns-then-shown-places
+returns-then-shown-places c =
+    let places = c.from-places.ensures in
+    let wide : c.args.width < measure c.args.indicator.now = omega (arith, c.measure_text_width-shown.ensures.value, places, c.if-shown-places.true) in
+    c.in_ok-from_str.ensures.ok
+    ∙ c.split_long_word.ensures.head
+    ∙ ap (λ n. head n c.args.line.now) places
+    ∙ sym (cut_line-wide c.args.width c.args.indicator.now c.args.line.now wide)

@@ -1,0 +1,28 @@
+use Rattle.std.proofs.Common.{◌≡◌, ℕ, ◌+◌, List, [], ◌∷◌, ◌++◌, map, string_bytes, ap, ap₂, sym, ◌∙◌, arith}
+use Rattle.std.proofs.lemmas.List.{map-append}
+use Rattle.std.proofs.lemmas.List.FromFn.{map-range_with_len_more}
+use Rattle.std.specs.List.{range_with_len}
+use Rattle.comfy_parts.specs.Text.{Text}
+use Rattle.comfy_table.proofs.DrawnCellLemmas.{drawn_lines}
+use Rattle.comfy_table.specs.DrawnCells.{DrawnCell, drawn_cell, greatest_height, piece_at}
+use Rattle.comfy_table.specs.Pieces.{visible_infos}
+use Rattle.comfy_table.proofs.utils.formatting.content_format.format_row.Goals as goal
+
+pub loop-line-preserved : goal.loop-line-preserved
+loop-line-preserved c =
+    let line : ℕ → List Text = λ k. map (piece_at c.args.table.now k) c.as_slice-cells.result.now in
+    let at : 0 + c.loop-line.line ≡ c.loop-line.line = omega arith in
+    ap (map (λ pieces. map string_bytes pieces.items)) c.in_ok-push.ensures.items
+    ∙ map-append (λ pieces. map string_bytes pieces.items) c.loop-line.lines.items (c.in_ok-row_line.field-0 ∷ [])
+    ∙ ap₂ (λ (xs : List (List Text)) (x : List Text). xs ++ x ∷ []) c.loop-line.invariant c.in_ok-row_line.ensures
+    ∙ sym (map-range_with_len_more line 0 c.loop-line.line c.loop-line.line at)
+
+pub returns : goal.returns
+returns c =
+    let cells = c.as_slice-cells.result.now in
+    let all : c.loop-line.line ≡ greatest_height cells = let e : c.loop-line.line ≡ c.greatest_height-line-end.result = omega arith in e ∙ c.greatest_height-line-end.ensures in
+    let drawn : cells ≡ map (drawn_cell c.args.table.now c.args.row.now) (visible_infos c.args.display_infos.now) = c.as_slice-cells.ensures.value ∙ c.in_ok-drawn.ensures in
+    c.loop-line.invariant
+    ∙ ap (λ n. map (λ k. map (piece_at c.args.table.now k) cells) (range_with_len 0 n)) all
+    ∙ ap (λ (ds : List DrawnCell). map (λ k. map (piece_at c.args.table.now k) ds) (range_with_len 0 (greatest_height ds))) drawn
+    ∙ drawn_lines c.args.table.now c.args.row.now c.args.display_infos.now

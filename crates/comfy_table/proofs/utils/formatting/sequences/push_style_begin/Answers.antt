@@ -1,0 +1,19 @@
+use Rattle.std.proofs.Common.{◌≡◌, ◌++◌, ℕ, List, append_assoc, ap}
+use Rattle.comfy_table.specs.Styling.{background_code, foreground_code, attribute_sequences, optional_sequence}
+use Rattle.comfy_table.proofs.utils.formatting.sequences.push_style_begin.Goals as goal
+
+-- three texts that are appended in turn
+appended :
+    (line one two three s t u s2 t2 u2 : List ℕ)
+    → one ≡ line ++ s → two ≡ one ++ t → three ≡ two ++ u
+    → s ≡ s2 → t ≡ t2 → u ≡ u2
+    → three ≡ line ++ (s2 ++ (t2 ++ u2))
+appended line one two three s t u s2 t2 u2 e1 e2 e3 es et eu =
+    cc (append_assoc (line ++ s2) t2 u2, append_assoc line s2 (t2 ++ u2))
+
+pub returns : goal.returns
+returns c =
+    appended _ _ _ _ _ _ _ _ _ _ c.in_ok-push_background.ensures c.in_ok-push_foreground.ensures c.in_ok-push_attributes.ensures
+    (ap (optional_sequence background_code) c.background.ensures)
+    (ap (optional_sequence foreground_code) c.foreground.ensures)
+    (ap attribute_sequences c.attributes.ensures)

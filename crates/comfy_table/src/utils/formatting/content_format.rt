@@ -1,0 +1,169 @@
+//! The lines of a row, as pieces side by side.
+
+ghost use Rattle.std.specs.Prelude.{◌≡◌, IfOk, map, option_copied, string_bytes};
+ghost use Rattle.comfy_table.specs.Lines.{cell_delimiter};
+ghost use Rattle.comfy_table.specs.Pieces.{row_lines, visible_infos};
+ghost use Rattle.comfy_table.specs.DrawnCells.{drawn_cell, greatest_height, height_of, lines_of_optional, piece_at};
+
+use crate::table::Table;
+use crate::utils::formatting::cell_lines::{cell_lines, cut_at};
+use crate::utils::formatting::piece::{filling, piece};
+use comfy_parts::content_split::ColumnDisplayInfo;
+use comfy_parts::{Cell, Result, Row};
+use std::alloc::Global;
+use std::marker::Model;
+
+// A cell of a row as a visible column draws it.
+#[derive(Drop)]
+struct DrawnCell<'a> {
+    info: &'a ColumnDisplayInfo,
+    // none where the row has no cell for the column
+    cell: Option<&'a Cell>,
+    lines: Vec<String>,
+}
+
+impl<'a> Model for DrawnCell<'a> {
+    ghost use Rattle.std.specs.Prelude.{map, option_copied, string_bytes};
+    ghost use Rattle.comfy_table.specs.DrawnCells.{DrawnCell};
+
+    ghost Value = { DrawnCell };
+
+    ghost view = { λ d. record { info = d.info.now; cell = option_copied d.cell; lines = map string_bytes d.lines.items } };
+}
+
+impl<'a> DrawnCell<'a> {
+    // A missing cell takes one line.
+    fn height(&self) -> usize
+        ensures { result ≡ height_of self.now }
+    {
+        match self.cell {
+            Some(_) => self.lines.len(),
+            None => 1,
+        }
+    }
+
+    // The piece of the cell in a line of its row.
+    fn piece_at(&self, alloc: Global, table: &Table, line: usize) -> Result<String>
+        ensures { IfOk result (λ text. string_bytes text ≡ piece_at table.now line self.now) }
+    {
+        match (self.cell, self.lines.get(line)) {
+            (Some(cell), Some(text)) => piece(alloc, table, cell, self.info, text.as_str()),
+            _ => filling(alloc, self.info),
+        }
+    }
+}
+
+/// The lines of a row, from the top, each as its pieces from the left. The i-th info serves the i-th cell, and cells past
+/// the last info are left out.
+///
+/// ```text
+/// | one   | two | => [[" one   ", " two "],
+/// | lines |     | =>  [" lines ", "     "]]
+/// ```
+pub fn format_row(
+    row: &Row,
+    display_infos: &[ColumnDisplayInfo],
+    table: &Table,
+) -> Result<Vec<Vec<String>>>
+    ensures { IfOk result (λ lines. map (λ pieces. map string_bytes pieces.items) lines.items ≡ row_lines table.now display_infos.now row.now) }
+{
+    let alloc = *table.columns.allocator();
+    let drawn = drawn_cells(alloc, row, display_infos, table)?;
+    let cells = drawn.as_slice();
+    let mut lines = Vec::new(alloc);
+    for line in 0..greatest_height(cells) {
+        lines.push(row_line(alloc, cells, table, line)?)?;
+    }
+    Ok(lines)
+}
+
+// The cells of a row in the visible columns, each the one at its column's own position.
+fn drawn_cells<'a>(
+    alloc: Global,
+    row: &'a Row,
+    infos: &'a [ColumnDisplayInfo],
+    table: &Table,
+) -> Result<Vec<DrawnCell<'a>>>
+    ensures { IfOk result (λ cells. cells.items ≡ map (drawn_cell table.now row.now) (visible_infos infos.now)) }
+{
+    let mut cells = Vec::new(alloc);
+    for (position, info) in infos.iter().enumerate() {
+        if !info.is_hidden() {
+            cells.push(drawn_cell(alloc, row, position, info, table)?)?;
+        }
+    }
+    Ok(cells)
+}
+
+// The cell of a row at the position of a visible column.
+fn drawn_cell<'a>(
+    alloc: Global,
+    row: &'a Row,
+    position: usize,
+    info: &'a ColumnDisplayInfo,
+    table: &Table,
+) -> Result<DrawnCell<'a>>
+    ensures { IfOk result (λ cell. cell ≡ drawn_cell table.now row.now (position, info.now)) }
+{
+    let cell = row.cell_iter().as_slice().get(position);
+    let lines = row_cell_lines(alloc, row, cell, info, table)?;
+    Ok(DrawnCell { info, cell, lines })
+}
+
+// The lines of a cell in its row: wrapped at the column's width and cut at the row's height.
+fn row_cell_lines(
+    alloc: Global,
+    row: &Row,
+    cell: Option<&Cell>,
+    info: &ColumnDisplayInfo,
+    table: &Table,
+) -> Result<Vec<String>>
+    ensures { IfOk result (λ lines. map string_bytes lines.items ≡ lines_of_optional table.now row.now info.now (option_copied cell.entry)) }
+{
+    let Some(cell) = cell else {
+        return Ok(Vec::new(alloc));
+    };
+    let lines = cell_lines(alloc, cell, info, delimiter(cell, info, table))?;
+    cut_at(
+        alloc,
+        lines,
+        row.height_limit(),
+        info.content_width,
+        table.truncation_indicator(),
+    )
+}
+
+/// Where the texts of a cell are cut: its own delimiter, else its column's, else the table's, else a space.
+pub fn delimiter(cell: &Cell, info: &ColumnDisplayInfo, table: &Table) -> char
+    ensures { result ≡ cell_delimiter table.now info.now.delimiter cell.now }
+{
+    if let Some(delimiter) = cell.cell_delimiter() {
+        return delimiter;
+    }
+    match info.delimiter {
+        Some(delimiter) => delimiter,
+        None => table.delimiter.unwrap_or(' '),
+    }
+}
+
+// The height of a row: that of its highest visible cell.
+fn greatest_height(cells: &[DrawnCell]) -> usize
+    ensures { result ≡ greatest_height cells.now }
+{
+    let mut height = 0;
+    for cell in cells {
+        height = cell.height().max(height);
+    }
+    height
+}
+
+// One line of a row.
+fn row_line(alloc: Global, cells: &[DrawnCell], table: &Table, line: usize) -> Result<Vec<String>>
+    ensures { IfOk result (λ pieces. map string_bytes pieces.items ≡ map (piece_at table.now line) cells.now) }
+{
+    let mut pieces = Vec::new(alloc);
+    for cell in cells {
+        pieces.push(cell.piece_at(alloc, table, line)?)?;
+    }
+    Ok(pieces)
+}

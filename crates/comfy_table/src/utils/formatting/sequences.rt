@@ -1,0 +1,222 @@
+//! Colours and attributes as the sequences that a terminal takes them in: ESC, `[`, a code, `m`. No other file writes ESC.
+
+ghost use Rattle.std.specs.Prelude.{◌≡◌, ◌++◌, IfOk, OnOk, filter, flat_map, string_bytes};
+ghost use Rattle.comfy_table.specs.Styling.{sequence, color_code, foreground_code, background_code, attribute_code, has_attribute, attribute_sequences, optional_sequence, style_begin, style_end, styled};
+
+use comfy_parts::style::{Attribute, Color};
+use comfy_parts::{Cell, Result};
+use std::alloc::Global;
+
+// all attributes, in the order in which they are written
+const ALL_ATTRIBUTES: [Attribute; 28] = [
+    Attribute::Reset,
+    Attribute::Bold,
+    Attribute::Dim,
+    Attribute::Italic,
+    Attribute::Underlined,
+    Attribute::DoubleUnderlined,
+    Attribute::Undercurled,
+    Attribute::Underdotted,
+    Attribute::Underdashed,
+    Attribute::SlowBlink,
+    Attribute::RapidBlink,
+    Attribute::Reverse,
+    Attribute::Hidden,
+    Attribute::CrossedOut,
+    Attribute::Fraktur,
+    Attribute::NoBold,
+    Attribute::NormalIntensity,
+    Attribute::NoItalic,
+    Attribute::NoUnderline,
+    Attribute::NoBlink,
+    Attribute::NoReverse,
+    Attribute::NoHidden,
+    Attribute::NotCrossedOut,
+    Attribute::Framed,
+    Attribute::Encircled,
+    Attribute::OverLined,
+    Attribute::NotFramedOrEncircled,
+    Attribute::NotOverLined,
+];
+
+/// A text between the sequences of its cell's colours and attributes; a cell without any leaves it as it is.
+pub(crate) fn styled(alloc: Global, cell: &Cell, text: &str) -> Result<String>
+    ensures { IfOk result (λ line. string_bytes line ≡ styled cell.now text.now) }
+{
+    let mut line = String::new(alloc);
+    push_style_begin(alloc, &mut line, cell)?;
+    line.push_str(text)?;
+    push_style_end(&mut line, cell)?;
+    Ok(line)
+}
+
+// what stands before a styled text: background, foreground, attributes
+fn push_style_begin(alloc: Global, line: &mut String, cell: &Cell) -> Result<()>
+    ensures { OnOk result (string_bytes line.new ≡ string_bytes line.old ++ style_begin cell.now) }
+{
+    push_background(alloc, line, cell.background())?;
+    push_foreground(alloc, line, cell.foreground())?;
+    push_attributes(line, cell.attributes())?;
+    Ok(())
+}
+
+fn push_background(alloc: Global, line: &mut String, color: Option<Color>) -> Result<()>
+    ensures { OnOk result (string_bytes line.new ≡ string_bytes line.old ++ optional_sequence background_code color) }
+{
+    match color {
+        Some(color) => push_sequence(line, background_code(alloc, color)?.as_str()),
+        None => Ok(()),
+    }
+}
+
+fn push_foreground(alloc: Global, line: &mut String, color: Option<Color>) -> Result<()>
+    ensures { OnOk result (string_bytes line.new ≡ string_bytes line.old ++ optional_sequence foreground_code color) }
+{
+    match color {
+        Some(color) => push_sequence(line, foreground_code(alloc, color)?.as_str()),
+        None => Ok(()),
+    }
+}
+
+// what stands behind a styled text
+fn push_style_end(line: &mut String, cell: &Cell) -> Result<()>
+    ensures { OnOk result (string_bytes line.new ≡ string_bytes line.old ++ style_end cell.now) }
+{
+    if !cell.attributes().is_empty() {
+        return push_sequence(line, "0");
+    }
+    if cell.background().is_some() {
+        push_sequence(line, "49")?;
+    }
+    if cell.foreground().is_some() {
+        push_sequence(line, "39")?;
+    }
+    Ok(())
+}
+
+// the sequences of these attributes, each once and in the order of all
+fn push_attributes(line: &mut String, given: &[Attribute]) -> Result<()>
+    ensures { OnOk result (string_bytes line.new ≡ string_bytes line.old ++ attribute_sequences given.now) }
+{
+    push_given(line, &ALL_ATTRIBUTES, given)
+}
+
+// the sequences of those attributes that were given
+fn push_given(line: &mut String, attributes: &[Attribute], given: &[Attribute]) -> Result<()>
+    ensures { OnOk result (string_bytes line.new ≡ string_bytes line.old ++ flat_map (λ a. sequence (attribute_code a)) (filter (has_attribute given.now) attributes.now)) }
+{
+    for attribute in attributes {
+        if has_attribute(given, *attribute) {
+            push_sequence(line, attribute_code(*attribute))?;
+        }
+    }
+    Ok(())
+}
+
+// attributes are told apart by their codes, since no two share one
+fn has_attribute(given: &[Attribute], attribute: Attribute) -> bool
+    ensures { result ≡ has_attribute given.now attribute }
+{
+    given.iter().any(|other| attribute_code(attribute) == attribute_code(*other))
+}
+
+fn push_sequence(line: &mut String, code: &str) -> Result<()>
+    ensures { OnOk result (string_bytes line.new ≡ string_bytes line.old ++ sequence code.now) }
+{
+    line.push_str("\u{1b}[")?;
+    line.push_str(code)?;
+    line.push_str("m")?;
+    Ok(())
+}
+
+fn background_code(alloc: Global, color: Color) -> Result<String>
+    ensures { IfOk result (λ code. string_bytes code ≡ background_code color) }
+{
+    if color == Color::Reset {
+        return Ok(String::from_str(alloc, "49")?);
+    }
+    let mut code = String::from_str(alloc, "48;")?;
+    push_color_code(&mut code, color)?;
+    Ok(code)
+}
+
+fn foreground_code(alloc: Global, color: Color) -> Result<String>
+    ensures { IfOk result (λ code. string_bytes code ≡ foreground_code color) }
+{
+    if color == Color::Reset {
+        return Ok(String::from_str(alloc, "39")?);
+    }
+    let mut code = String::from_str(alloc, "38;")?;
+    push_color_code(&mut code, color)?;
+    Ok(code)
+}
+
+// by its number of sixteen or of 256, or by its three parts
+fn push_color_code(code: &mut String, color: Color) -> Result<()>
+    ensures { OnOk result (string_bytes code.new ≡ string_bytes code.old ++ color_code color) }
+{
+    let named = match color {
+        Color::Reset => "",
+        Color::Black => "5;0",
+        Color::DarkRed => "5;1",
+        Color::DarkGreen => "5;2",
+        Color::DarkYellow => "5;3",
+        Color::DarkBlue => "5;4",
+        Color::DarkMagenta => "5;5",
+        Color::DarkCyan => "5;6",
+        Color::Grey => "5;7",
+        Color::DarkGrey => "5;8",
+        Color::Red => "5;9",
+        Color::Green => "5;10",
+        Color::Yellow => "5;11",
+        Color::Blue => "5;12",
+        Color::Magenta => "5;13",
+        Color::Cyan => "5;14",
+        Color::White => "5;15",
+        Color::AnsiValue(value) => {
+            write!(code, "5;{value}")?;
+            return Ok(());
+        }
+        Color::Rgb { r, g, b } => {
+            write!(code, "2;{r};{g};{b}")?;
+            return Ok(());
+        }
+    };
+    code.push_str(named)?;
+    Ok(())
+}
+
+fn attribute_code(attribute: Attribute) -> &'static str
+    ensures { result.now ≡ attribute_code attribute }
+{
+    match attribute {
+        Attribute::Reset => "0",
+        Attribute::Bold => "1",
+        Attribute::Dim => "2",
+        Attribute::Italic => "3",
+        Attribute::Underlined => "4",
+        Attribute::DoubleUnderlined => "4:2",
+        Attribute::Undercurled => "4:3",
+        Attribute::Underdotted => "4:4",
+        Attribute::Underdashed => "4:5",
+        Attribute::SlowBlink => "5",
+        Attribute::RapidBlink => "6",
+        Attribute::Reverse => "7",
+        Attribute::Hidden => "8",
+        Attribute::CrossedOut => "9",
+        Attribute::Fraktur => "20",
+        Attribute::NoBold => "21",
+        Attribute::NormalIntensity => "22",
+        Attribute::NoItalic => "23",
+        Attribute::NoUnderline => "24",
+        Attribute::NoBlink => "25",
+        Attribute::NoReverse => "27",
+        Attribute::NoHidden => "28",
+        Attribute::NotCrossedOut => "29",
+        Attribute::Framed => "51",
+        Attribute::Encircled => "52",
+        Attribute::OverLined => "53",
+        Attribute::NotFramedOrEncircled => "54",
+        Attribute::NotOverLined => "55",
+    }
+}
