@@ -1,6 +1,6 @@
 //! A cell: its text lines and its settings.
 
-ghost use Rattle.std.specs.Prelude.{◌≡◌, string_bytes, map, IfOk};
+ghost use Rattle.std.specs.Prelude.{◌≡◌, string_bytes, map, IfOk, Some};
 ghost use Rattle.comfy_parts.specs.CellValue.{IsCell, content_of, plain_cell};
 
 use crate::error::Result;
@@ -72,6 +72,50 @@ impl Cell {
         ensures kept { IsCell self.now }
     {
         self.text_lines.as_slice()
+    }
+
+    /// Sets where the cell's texts are cut, whatever its column and its table say.
+    pub fn set_delimiter(self, delimiter: char) -> Cell
+        ensures { result ≡ record self { delimiter = Some delimiter } }
+    {
+        let Cell {
+            text_lines,
+            delimiter: _,
+            alignment,
+            foreground,
+            background,
+            attributes,
+        } = self;
+        Cell {
+            text_lines,
+            delimiter: Some(delimiter),
+            alignment,
+            foreground,
+            background,
+            attributes,
+        }
+    }
+
+    /// Sets where the cell's texts stand, whatever its column says.
+    pub fn set_alignment(self, alignment: CellAlignment) -> Cell
+        ensures { result ≡ record self { alignment = Some alignment } }
+    {
+        let Cell {
+            text_lines,
+            delimiter,
+            alignment: _,
+            foreground,
+            background,
+            attributes,
+        } = self;
+        Cell {
+            text_lines,
+            delimiter,
+            alignment: Some(alignment),
+            foreground,
+            background,
+            attributes,
+        }
     }
 
     /// The cell's own delimiter.

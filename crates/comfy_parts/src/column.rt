@@ -1,7 +1,7 @@
 //! The settings of a column.
 
-ghost use Rattle.std.specs.Prelude.{◌≡◌, option_copied};
-ghost use Rattle.comfy_parts.specs.CellValue.{is_hidden_column, new_column};
+ghost use Rattle.std.specs.Prelude.{◌≡◌, None, Some, option_copied};
+ghost use Rattle.comfy_parts.specs.CellValue.{is_hidden_column, new_column, padding_stopped};
 
 use crate::style::{CellAlignment, ColumnConstraint};
 use std::marker::Model;
@@ -74,5 +74,56 @@ impl Column {
         ensures { result ≡ is_hidden_column self.now }
     {
         matches!(self.constraint, Some(ColumnConstraint::Hidden))
+    }
+
+    /// Sets the places left free to the left and to the right of the contents.
+    pub fn set_padding(&mut self, padding: (u16, u16)) -> &mut Self
+        ensures same_reference { result.ghost_name ≡ self.entry.ghost_name }
+        ensures value { result.now ≡ record self.old { padding = padding } }
+    {
+        self.padding = padding;
+        self
+    }
+
+    /// The places of both paddings together, 65535 where there are more.
+    pub fn padding_width(&self) -> u16
+        ensures { result ≡ padding_stopped self.now }
+    {
+        let (left, right) = self.padding;
+        left.saturating_add(right)
+    }
+
+    /// Sets where the texts of the column's cells are cut, unless a cell says otherwise.
+    pub fn set_delimiter(&mut self, delimiter: char) -> &mut Self
+        ensures same_reference { result.ghost_name ≡ self.entry.ghost_name }
+        ensures value { result.now ≡ record self.old { delimiter = Some delimiter } }
+    {
+        self.delimiter = Some(delimiter);
+        self
+    }
+
+    /// Sets what the column's width is held to.
+    pub fn set_constraint(&mut self, constraint: ColumnConstraint) -> &mut Self
+        ensures same_reference { result.ghost_name ≡ self.entry.ghost_name }
+        ensures value { result.now ≡ record self.old { constraint = Some constraint } }
+    {
+        self.constraint = Some(constraint);
+        self
+    }
+
+    /// Leaves the column's width free.
+    pub fn remove_constraint(&mut self) -> &mut Self
+        ensures same_reference { result.ghost_name ≡ self.entry.ghost_name }
+        ensures value { result.now ≡ record self.old { constraint = None } }
+    {
+        self.constraint = None;
+        self
+    }
+
+    /// Sets where the texts of the column's cells stand, unless a cell says otherwise.
+    pub fn set_cell_alignment(&mut self, alignment: CellAlignment)
+        ensures { self.new ≡ record self.old { alignment = Some alignment } }
+    {
+        self.alignment = Some(alignment);
     }
 }

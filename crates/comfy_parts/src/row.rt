@@ -4,7 +4,7 @@ ghost use Rattle.std.specs.Prelude.{◌≡◌, IfOk, OnOk, OnErr, length, []};
 ghost use Rattle.std.specs.Borrow.{sem};
 ghost use Rattle.std.specs.Iterator.Adapters.{IterYieldsInOrder};
 ghost use Rattle.std.specs.Slice.Iter.{iter_rest};
-ghost use Rattle.comfy_parts.specs.CellValue.{CellValue, plain_row, with_cell};
+ghost use Rattle.comfy_parts.specs.CellValue.{CellValue, plain_row, with_cell, with_max_height};
 ghost use Rattle.comfy_parts.specs.GrownRow.{row_of};
 ghost use Rattle.comfy_parts.specs.RowLoans.{RowStaysIfErr};
 
@@ -66,6 +66,16 @@ impl Row {
     {
         self.cells.push(cell)?;
         Ok(())
+    }
+
+    /// Sets how many lines of each cell are drawn at the most; 0 counts as 1. Of a cell with more lines the first ones are
+    /// drawn, and the last of these ends with the table's truncation indicator.
+    pub fn max_height(&mut self, lines: usize) -> &mut Self
+        ensures same_reference { result.ghost_name ≡ self.entry.ghost_name }
+        ensures value { result.now ≡ with_max_height lines self.old }
+    {
+        self.max_height = Some(lines.max(1));
+        self
     }
 
     /// How many cells the row has.

@@ -1,6 +1,6 @@
 -- Lists that are joined or repeated, one part more.
 use Rattle.std.proofs.Common.{◌≡◌, ◌<◌, ◌≤◌, ℕ, zero, suc, ◌+◌, ◌&&◌, Bool, true, false, List, [], ◌∷◌, ◌++◌, length, map, take, nat_lt, arith, refl, sym, ap, ◌∙◌, append-nil, append_assoc, slice_index_or, add-one}
-use Rattle.std.specs.List.{flat_map, join_by, repeat}
+use Rattle.std.specs.List.{flat_map, join_by, join_with_byte, repeat}
 use Rattle.std.specs.Prelude.{if◌then◌else◌}
 use Rattle.std.proofs.lemmas.Bool.Decides.{nat_tests}
 use Rattle.std.proofs.lemmas.Grind.{flat_map-append}
@@ -72,3 +72,9 @@ joined_all f separator xs i start text past made = made ∙ ap (λ ys. start ++ 
 pub join_by-map : {X Y A : Type 0} (f : Y → List A) (g : X → Y) (separator : List A) (xs : List X) → join_by f separator (map g xs) ≡ join_by (λ x. f (g x)) separator xs
 join_by-map f g separator [] = refl
 join_by-map f g separator (x ∷ xs) = ap (λ ys. f (g x) ++ ys) (flat_map-map (λ y. separator ++ f y) g xs)
+
+-- texts with a byte between each two
+pub join_by-with_byte : {X : Type 0} (f : X → List ℕ) (c : ℕ) (xs : List X) → join_by f (c ∷ []) xs ≡ join_with_byte c (map f xs)
+join_by-with_byte f c [] = refl
+join_by-with_byte f c (x ∷ []) = append-nil (f x)
+join_by-with_byte f c (x ∷ y ∷ xs) = ap (λ (ys : List ℕ). f x ++ (c ∷ ys)) (join_by-with_byte f c (y ∷ xs))

@@ -2,7 +2,7 @@
 #![tactic(auto)]
 
 mod table;
-mod utils;
+pub mod utils;
 
 pub use comfy_parts::style::{
     Attribute, CellAlignment, Color, ColumnConstraint, ContentArrangement, ContentLineStyle,

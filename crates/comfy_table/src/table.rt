@@ -6,9 +6,11 @@ ghost use Rattle.comfy_parts.specs.CellValue.{columns_grown_to};
 ghost use Rattle.comfy_parts.specs.Presets.{ascii_full};
 ghost use Rattle.comfy_table.specs.GrownTable.{table_of};
 ghost use Rattle.comfy_table.specs.TableLoans.{TableStaysIfErr};
-ghost use Rattle.comfy_table.specs.TableValue.{is_tty, new_table, should_style, table_width, with_header, with_row};
+ghost use Rattle.comfy_table.specs.TableValue.{is_tty, new_table, should_style, with_header, with_row};
 
 pub mod output;
+mod parts;
+mod settings;
 pub mod terminal;
 
 use comfy_parts::style::presets::ASCII_FULL;
@@ -103,20 +105,6 @@ impl Table {
             self.terminal.stderr_is_tty
         } else {
             self.terminal.stdout_is_tty
-        }
-    }
-
-    // The width that was set, else the terminal's where the output is one.
-    pub(crate) fn known_width(&self) -> Option<u16>
-        ensures { result ≡ table_width self.now }
-    {
-        if self.set_width.is_some() {
-            return self.set_width;
-        }
-        if self.writes_to_tty() {
-            self.terminal.width
-        } else {
-            None
         }
     }
 

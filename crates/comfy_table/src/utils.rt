@@ -11,6 +11,7 @@ use crate::table::Table;
 use crate::table::output::Lines;
 use arrangement::arrange_content;
 use comfy_parts::Result;
+pub use comfy_parts::content_split::ColumnDisplayInfo;
 use formatting::draw;
 
 /// The drawn lines of a table: arranged, formatted and framed.

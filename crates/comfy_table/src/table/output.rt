@@ -1,13 +1,17 @@
 //! The drawn lines of a table.
 
-ghost use Rattle.std.specs.Prelude.{◌≡◌, IfOk, map, string_bytes};
+ghost use Rattle.std.specs.Prelude.{◌≡◌, ◌++◌, ◌∷◌, [], nat_lt, IfOk, OnOk, map, string_bytes, if◌then◌else◌};
 ghost use Rattle.std.specs.Iterator.{YieldsFirstBy, item_count};
-ghost use Rattle.comfy_table.specs.Arrangement.{IsDrawingOf};
+ghost use Rattle.comfy_table.specs.Arrangement.{IsDrawingOf, IsTextOf, IsTrimmedTextOf};
+ghost use Rattle.comfy_table.specs.Drawing.{text_of, trimmed_text_of};
 ghost use Rattle.comfy_table.specs.Headline.{IsTableDrawing};
 
 use crate::table::Table;
+use crate::utils::arrangement::arrange_content;
 use crate::utils::build_table;
+use crate::utils::formatting::draw;
 use comfy_parts::Result;
+use std::alloc::Global;
 use std::marker::Model;
 use std::vec;
 
@@ -59,4 +63,61 @@ impl Table {
     {
         build_table(self)
     }
+
+    /// The drawn lines, joined by line feeds; no line feed stands at the end.
+    pub fn to_text(&self) -> Result<String>
+        ensures { IfOk result (λ text. IsTextOf self.now (string_bytes text)) }
+    {
+        let lines = self.drawn()?;
+        joined(*self.columns.allocator(), lines.as_slice())
+    }
+
+    /// The same, each line without its trailing white space.
+    pub fn trim_fmt(&self) -> Result<String>
+        ensures { IfOk result (λ text. IsTrimmedTextOf self.now (string_bytes text)) }
+    {
+        let lines = self.drawn()?;
+        joined_trimmed(*self.columns.allocator(), lines.as_slice())
+    }
+
+    // The drawn lines as a list.
+    fn drawn(&self) -> Result<Vec<String>>
+        ensures { IfOk result (λ lines. IsDrawingOf self.now (map string_bytes lines.items)) }
+    {
+        let infos = arrange_content(self)?;
+        draw(self, infos.as_slice())
+    }
+}
+
+// The lines with a line feed between each two.
+fn joined(alloc: Global, lines: &[String]) -> Result<String>
+    ensures { IfOk result (λ text. string_bytes text ≡ text_of (map string_bytes lines.now)) }
+{
+    let mut text = String::new(alloc);
+    for (position, line) in lines.iter().enumerate() {
+        push_line(&mut text, position, line.as_str())?;
+    }
+    Ok(text)
+}
+
+// The same, each line without its trailing white space.
+fn joined_trimmed(alloc: Global, lines: &[String]) -> Result<String>
+    ensures { IfOk result (λ text. string_bytes text ≡ trimmed_text_of (map string_bytes lines.now)) }
+{
+    let mut text = String::new(alloc);
+    for (position, line) in lines.iter().enumerate() {
+        push_line(&mut text, position, line.as_str().trim_end())?;
+    }
+    Ok(text)
+}
+
+// Appends a line, behind a line feed where it isn't the first.
+fn push_line(text: &mut String, position: usize, line: &str) -> Result<()>
+    ensures { OnOk result (string_bytes text.new ≡ (string_bytes text.old ++ (if nat_lt 0 position then 0x0A ∷ [] else [])) ++ line.now) }
+{
+    if position > 0 {
+        text.push('\n')?;
+    }
+    text.push_str(line)?;
+    Ok(())
 }

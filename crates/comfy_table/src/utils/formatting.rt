@@ -7,4 +7,5 @@ mod drawing;
 mod piece;
 mod sequences;
 
+pub use comfy_parts::content_split;
 pub(crate) use drawing::draw;

@@ -54,7 +54,7 @@ pub fn absolute_value_from_width(
     match width {
         Width::Fixed(places) => Some(*places),
         Width::Percentage(percent) => {
-            let whole = table.known_width()? as usize;
+            let whole = table.width()? as usize;
             let room = whole.saturating_sub(count_border_columns(table, visible_columns));
             Some((usize::from((*percent).min(100)) * room / 100) as u16)
         }

@@ -1,12 +1,12 @@
 //! How wide the contents of a column are.
 
-ghost use Rattle.std.specs.Prelude.{◌≡◌};
-ghost use Rattle.comfy_table.specs.TableValue.{cell_content, column_content};
+ghost use Rattle.std.specs.Prelude.{◌≡◌, IfOk};
+ghost use Rattle.comfy_table.specs.TableValue.{cell_content, column_content, max_content_widths};
 ghost use Rattle.comfy_table.specs.Contents.{row_content, rows_content};
 
 use crate::table::Table;
 use comfy_parts::content_split::measure_text_width;
-use comfy_parts::{Cell, Row};
+use comfy_parts::{Cell, Result, Row};
 
 /// The greatest measure of a text line of the column at a position, over header and rows. Each cell counts at least 1,
 /// a measure above 65535 counts 65535, and a column without a cell gives 0.
@@ -17,6 +17,22 @@ pub fn column_content(table: &Table, position: usize) -> u16
     match &table.header {
         Some(header) => row_content(header, position).max(below),
         None => below,
+    }
+}
+
+impl Table {
+    /// For each column, in list order, the greatest measure of a text line over header and rows. Each cell counts at least
+    /// 1, a measure above 65535 counts 65535, a column without a cell gives 0, and cells past the last column are left
+    /// out.
+    pub fn column_max_content_widths(&self) -> Result<Vec<u16>>
+        ensures { IfOk result (λ widths. widths.items ≡ max_content_widths self.now) }
+    {
+        let columns = self.columns.as_slice();
+        let mut widths = Vec::new(*self.columns.allocator());
+        for (position, _column) in columns.iter().enumerate() {
+            widths.push(column_content(self, position))?;
+        }
+        Ok(widths)
     }
 }
 

@@ -3,13 +3,14 @@
 ghost use Rattle.std.specs.Prelude.{◌≡◌};
 ghost use Rattle.comfy_parts.specs.CellValue.{column_padding, visible_among};
 ghost use Rattle.comfy_table.specs.Frame.{borders_stopped};
+ghost use Rattle.comfy_table.specs.Lines.{cell_delimiter};
 ghost use Rattle.comfy_table.specs.Widths.{without_padding};
 
 use crate::table::Table;
 use crate::utils::formatting::borders::{
     should_draw_left_border, should_draw_right_border, should_draw_vertical_lines,
 };
-use comfy_parts::Column;
+use comfy_parts::{Cell, Column};
 
 /// The content of a column whose whole width is this: the width less its paddings, at least 1.
 pub fn absolute_width_with_padding(column: &Column, width: u16) -> u16
@@ -38,4 +39,17 @@ pub fn count_border_columns(table: &Table, visible_columns: usize) -> usize
         0
     };
     (left + right).saturating_add(between)
+}
+
+/// Where the texts of a cell are cut: its own delimiter, else its column's, else the table's, else a space.
+pub fn delimiter(table: &Table, column: &Column, cell: &Cell) -> char
+    ensures { result ≡ cell_delimiter table.now column.now.delimiter cell.now }
+{
+    if let Some(delimiter) = cell.cell_delimiter() {
+        return delimiter;
+    }
+    match column.column_delimiter() {
+        Some(delimiter) => delimiter,
+        None => table.delimiter.unwrap_or(' '),
+    }
 }

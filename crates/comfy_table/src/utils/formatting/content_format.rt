@@ -1,8 +1,8 @@
 //! The lines of a row, as pieces side by side.
 
-ghost use Rattle.std.specs.Prelude.{◌≡◌, IfOk, map, option_copied, string_bytes};
+ghost use Rattle.std.specs.Prelude.{◌≡◌, IfOk, map, option_copied, option_to_list, string_bytes};
 ghost use Rattle.comfy_table.specs.Lines.{cell_delimiter};
-ghost use Rattle.comfy_table.specs.Pieces.{row_lines, visible_infos};
+ghost use Rattle.comfy_table.specs.Pieces.{content_lines, row_lines, visible_infos};
 ghost use Rattle.comfy_table.specs.DrawnCells.{drawn_cell, greatest_height, height_of, lines_of_optional, piece_at};
 
 use crate::table::Table;
@@ -23,7 +23,7 @@ struct DrawnCell<'a> {
 }
 
 impl<'a> Model for DrawnCell<'a> {
-    ghost use Rattle.std.specs.Prelude.{map, option_copied, string_bytes};
+    ghost use Rattle.std.specs.Prelude.{map, option_copied, option_to_list, string_bytes};
     ghost use Rattle.comfy_table.specs.DrawnCells.{DrawnCell};
 
     ghost Value = { DrawnCell };
@@ -75,6 +75,38 @@ pub fn format_row(
         lines.push(row_line(alloc, cells, table, line)?)?;
     }
     Ok(lines)
+}
+
+/// The lines of the header, if there is one, and then those of each row in order: lists of lines, each as its pieces.
+pub fn format_content(
+    table: &Table,
+    display_infos: &[ColumnDisplayInfo],
+) -> Result<Vec<Vec<Vec<String>>>>
+    ensures { IfOk result (λ content. map (λ lines. map (λ pieces. map string_bytes pieces.items) lines.items) content.items ≡ content_lines table.now display_infos.now) }
+{
+    let mut content = header_content(table, display_infos)?;
+    let rows = table.rows.as_slice();
+    for row in rows {
+        content.push(format_row(row, display_infos, table)?)?;
+    }
+    Ok(content)
+}
+
+// The lines of the header, if there is one.
+fn header_content(
+    table: &Table,
+    display_infos: &[ColumnDisplayInfo],
+) -> Result<Vec<Vec<Vec<String>>>>
+    ensures { IfOk result (λ content. map (λ lines. map (λ pieces. map string_bytes pieces.items) lines.items) content.items ≡ map (row_lines table.now display_infos.now) (option_to_list table.now.header)) }
+{
+    let mut content = Vec::new(*table.columns.allocator());
+    match &table.header {
+        Some(header) => {
+            content.push(format_row(header, display_infos, table)?)?;
+            Ok(content)
+        }
+        None => Ok(content),
+    }
 }
 
 // The cells of a row in the visible columns, each the one at its column's own position.

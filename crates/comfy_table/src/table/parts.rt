@@ -1,0 +1,60 @@
+//! The rows and columns of a table, read and lent.
+
+ghost use Rattle.std.specs.Prelude.{◌≡◌, ◌<◌, ◌==◌, ◌↔◌, IfSome, IsSome, length, option_copied, slice_get, slice_index_or};
+ghost use Rattle.std.specs.Borrow.{sem};
+ghost use Rattle.std.specs.Iterator.Adapters.{IterYieldsInOrder};
+ghost use Rattle.std.specs.Slice.Iter.{iter_mut_rest, iter_rest};
+ghost use Rattle.comfy_parts.specs.CellValue.{ColumnValue};
+ghost use Rattle.comfy_table.specs.TableLoans.{LendsColumn};
+
+use crate::table::Table;
+use comfy_parts::Column;
+use std::slice;
+
+impl Table {
+    /// How many rows there are, the header not among them.
+    pub fn row_count(&self) -> usize
+        ensures { result ≡ length self.now.rows }
+    {
+        self.rows.len()
+    }
+
+    /// Whether there are no rows. A header doesn't count.
+    pub fn is_empty(&self) -> bool
+        ensures { result ≡ (length self.now.rows == 0) }
+    {
+        self.rows.is_empty()
+    }
+
+    /// The column at a position.
+    pub fn column(&self, index: usize) -> Option<&Column>
+        ensures { option_copied result ≡ slice_get self.now.columns index }
+    {
+        self.columns.get(index)
+    }
+
+    /// The column at a position, to be changed. What is written through it changes that column, and nothing else of the
+    /// table.
+    pub fn column_mut(&mut self, index: usize) -> Option<&mut Column>
+        ensures* lent { sem 𝓛 (LendsColumn self.entry index result) }
+        ensures found { IsSome result ↔ (index < length self.old.columns) }
+        ensures value { IfSome result (λ column. column.now ≡ slice_index_or self.old.columns index column.now) }
+    {
+        self.columns.get_mut(index)
+    }
+
+    /// The columns in order.
+    pub fn column_iter(&self) -> slice::Iter<'_, Column>
+        ensures rest { iter_rest result ≡ self.now.columns }
+        ensures runs { IterYieldsInOrder ColumnValue }
+    {
+        self.columns.iter()
+    }
+
+    /// The columns in order, to be changed.
+    pub fn column_iter_mut(&mut self) -> slice::IterMut<'_, Column>
+        ensures { iter_mut_rest result ≡ self.old.columns }
+    {
+        self.columns.iter_mut()
+    }
+}

@@ -1,0 +1,88 @@
+//! The settings of a table. Only the indicator takes memory.
+
+ghost use Rattle.std.specs.Prelude.{◌≡◌, Some, IfOk, OnOk, OnErr};
+ghost use Rattle.std.specs.Borrow.{sem};
+ghost use Rattle.comfy_table.specs.TableLoans.{LendsStyle};
+ghost use Rattle.comfy_table.specs.TableValue.{table_width};
+
+use crate::table::Table;
+use comfy_parts::Result;
+use comfy_parts::style::TableStyle;
+
+impl Table {
+    /// Replaces the style.
+    pub fn load_style(&mut self, style: TableStyle) -> &mut Self
+        ensures same_reference { result.ghost_name ≡ self.entry.ghost_name }
+        ensures value { result.now ≡ record self.old { style = style } }
+    {
+        self.style = style;
+        self
+    }
+
+    /// The style.
+    pub fn style(&self) -> TableStyle
+        ensures { result ≡ self.now.style }
+    {
+        self.style
+    }
+
+    /// The style, to be changed. What is written through it changes the style, and nothing else of the table.
+    pub fn style_mut(&mut self) -> &mut TableStyle
+        ensures* lent { sem 𝓛 (LendsStyle self.entry result) }
+        ensures value { result.now ≡ self.old.style }
+    {
+        &mut self.style
+    }
+
+    /// Sets where texts are cut, unless their column or cell says otherwise. Without it a space.
+    pub fn set_delimiter(&mut self, delimiter: char) -> &mut Self
+        ensures same_reference { result.ghost_name ≡ self.entry.ghost_name }
+        ensures value { result.now ≡ record self.old { delimiter = Some delimiter } }
+    {
+        self.delimiter = Some(delimiter);
+        self
+    }
+
+    /// Sets the text that stands behind a line which `Row::max_height` cuts. Where memory is refused, the table stays as
+    /// it is.
+    pub fn set_truncation_indicator(&mut self, indicator: &str) -> Result<&mut Self>
+        ensures same_reference { IfOk result (λ table. table.ghost_name ≡ self.entry.ghost_name) }
+        ensures set { IfOk result (λ table. table.now ≡ record self.old { indicator = indicator.now }) }
+    {
+        self.put_indicator(indicator)?;
+        Ok(self)
+    }
+
+    // `set_truncation_indicator`, with no answer but the outcome.
+    fn put_indicator(&mut self, indicator: &str) -> Result<()>
+        ensures ok { OnOk result (self.new ≡ record self.old { indicator = indicator.now }) }
+        ensures err { OnErr result (self.new ≡ self.old) }
+    {
+        let set = String::from_str(*self.rows.allocator(), indicator)?;
+        self.indicator = Some(set);
+        Ok(())
+    }
+
+    /// Sets the width in places that the table's percentages are of.
+    pub fn set_width(&mut self, width: u16) -> &mut Self
+        ensures same_reference { result.ghost_name ≡ self.entry.ghost_name }
+        ensures value { result.now ≡ record self.old { set_width = Some width } }
+    {
+        self.set_width = Some(width);
+        self
+    }
+
+    /// The width in places: the one that was set, else the terminal's where the output is one.
+    pub fn width(&self) -> Option<u16>
+        ensures { result ≡ table_width self.now }
+    {
+        if self.set_width.is_some() {
+            return self.set_width;
+        }
+        if self.writes_to_tty() {
+            self.terminal.width
+        } else {
+            None
+        }
+    }
+}
