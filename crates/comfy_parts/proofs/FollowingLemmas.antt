@@ -1,16 +1,15 @@
 -- The first element of a text by its first delimiter, and the end of a line by what follows its first element.
-use Rattle.std.proofs.Common.{◌≡◌, ◌<◌, ◌≤◌, ℕ, zero, suc, ◌+◌, ◌-◌, ◌*◌, Bool, true, false, not, cond, ◌&&◌, ◌||◌, ◌==◌, List, [], ◌∷◌, ◌++◌, length, take, drop, Option, Some, None, sum_by, map, nat_lt, nat_le, refl, sym, ap, ap₂, ◌∙◌, subst, arith, slice_index_or, append-nil, length-append, drop-cons, below_more, take_at, drop_at, eqb-true, zero-add}
+use Rattle.std.proofs.Common.{◌≡◌, ◌<◌, ◌≤◌, ℕ, suc, ◌+◌, ◌-◌, Bool, true, false, not, cond, ◌&&◌, ◌||◌, ◌==◌, List, [], ◌∷◌, ◌++◌, length, take, drop, Some, None, sum_by, map, nat_lt, nat_le, refl, sym, ap, ap₂, ◌∙◌, subst, arith, slice_index_or, append-nil, length-append, drop-cons, below_more, take_at, drop_at, zero-add}
 use Rattle.std.specs.Char.{IsScalar}
 use Rattle.std.specs.List.{slice_split, onto_first}
-use Rattle.std.specs.Option.{MatchOption}
 use Rattle.std.specs.Prelude.{if◌then◌else◌, chars, encode_utf8, encode_utf8_all, IsUtf8}
 use Rattle.std.specs.Str.{all_scalars, IsCharBoundary, NoCharPasses}
-use Rattle.std.specs.Str.Pattern.{FindsChar, FindsCharPrefix, HasCharAt, SplitsAroundMatch, StripsPrefix}
+use Rattle.std.specs.Str.Pattern.{FindsChar, FindsCharPrefix, SplitsAroundMatch, StripsPrefix}
 use Rattle.std.proofs.Math.Seq.{take-suc, take-add}
 use Rattle.std.proofs.lemmas.Bool.{or_left, or_right, and_right}
 use Rattle.std.proofs.lemmas.Bool.Decides.{nat_tests}
 use Rattle.std.proofs.lemmas.List.{append_assoc, append_cancel_left, take-append-drop, length-map, length-drop, length-take-le}
-use Rattle.std.proofs.lemmas.List.Sums.{sum_by-append, sum_by-cons}
+use Rattle.std.proofs.lemmas.List.Sums.{sum_by-append}
 use Rattle.std.proofs.lemmas.Str.{IsUtf8-nil, IsUtf8-take, IsUtf8-drop, IsUtf8-between, IsCharBoundary-at_seam, chars-append, encodes-append, encodes-chars, encodes_same}
 use Rattle.unicode_segmentation.proofs.TextLemmas.{encode_utf8_nonempty}
 use Rattle.comfy_parts.specs.Text.{Text, measure, head, begins_with, is_first, elements}

@@ -1,4 +1,4 @@
-use Rattle.std.proofs.Common.{◌≡◌, ◌++◌, ◌∷◌, [], ◌∙◌, map, length, take, drop, string_bytes, sym, ap, ap₂, subst, arith, append-nil}
+use Rattle.std.proofs.Common.{◌++◌, ◌∷◌, ◌∙◌, map, length, take, drop, string_bytes, sym, ap, ap₂, subst, arith, append-nil}
 use Rattle.std.specs.Str.{IsCharBoundary}
 use Rattle.std.proofs.lemmas.Str.{IsUtf8-drop}
 use Rattle.comfy_parts.specs.Wrapping.{wrapped}

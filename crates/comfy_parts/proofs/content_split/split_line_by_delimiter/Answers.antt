@@ -1,4 +1,4 @@
-use Rattle.std.proofs.Common.{◌∷◌, ◌++◌, [], ◌∙◌, map, ap, sym, append-nil}
+use Rattle.std.proofs.Common.{◌++◌, [], ◌∙◌, map, ap, sym, append-nil}
 use Rattle.comfy_parts.specs.Text.{elements}
 use Rattle.comfy_parts.proofs.ElementLemmas.{elements-none}
 use Rattle.comfy_parts.proofs.FollowingLemmas.{elements-around, utf8-around}

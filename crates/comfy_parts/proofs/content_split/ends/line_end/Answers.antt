@@ -1,5 +1,5 @@
 use Rattle.std.proofs.Common.{◌≡◌, ◌+◌, ◌∙◌, length, take, drop, nat_lt, true, false, sym, ap, ap₂}
-use Rattle.comfy_parts.specs.Following.{bytes_taken, Follow}
+use Rattle.comfy_parts.specs.Following.{bytes_taken}
 use Rattle.comfy_parts.specs.Text.{measure}
 use Rattle.comfy_parts.specs.Wrapping.{head_or_first}
 use Rattle.comfy_parts.proofs.FollowingLemmas.{line_end-wide, line_end-narrow}

@@ -1,5 +1,4 @@
-use Rattle.std.proofs.Common.{◌≡◌, ◌++◌, ◌∙◌, arith}
-use Rattle.std.specs.Prelude.{encode_utf8}
+use Rattle.std.proofs.Common.{◌∙◌, arith}
 use Rattle.std.proofs.lemmas.Str.{IsUtf8-past_char}
 use Rattle.comfy_parts.proofs.FollowingLemmas.{stripped}
 use Rattle.comfy_parts.proofs.StartLemmas.{begins_otherwise-none, wrapped-delimiter}

@@ -1,4 +1,4 @@
-use Rattle.std.proofs.Common.{◌≡◌, ◌+◌, ◌++◌, ◌∙◌, length, ap, arith, length-append}
+use Rattle.std.proofs.Common.{◌≡◌, ◌+◌, ◌∙◌, length, ap, arith, length-append}
 use Rattle.std.specs.Prelude.{encode_utf8}
 use Rattle.comfy_parts.specs.Following.{bytes_taken}
 use Rattle.comfy_parts.specs.Text.{measure}

@@ -1,4 +1,4 @@
-use Rattle.std.proofs.Common.{◌≡◌, ℕ, ◌+◌, ◌≤◌, List, length}
+use Rattle.std.proofs.Common.{◌≡◌, ◌+◌, ◌≤◌, List, length}
 use denote.Text.{Utf8}
 use denote.Shadow.{shadow}
 use Rattle.comfy_parts.specs.Following.{Follow, bytes_taken}

@@ -1,0 +1,59 @@
+-- How a line's cells and an input's rows come together.
+use Rattle.std.proofs.Common.{◌≡◌, ◌==◌, ◌<◌, ℕ, Bool, true, false, List, [], ◌∷◌, ◌++◌, map, length, refl, ap, sym, ◌∙◌, append_assoc, arith, rules, cond, length-append}
+use borrow.Author.Tests.{tests}
+use Rattle.std.proofs.lemmas.Bool.Decides.{nat_tests}
+use Rattle.std.proofs.lemmas.List.{map-append, length-map}
+use Rattle.std.specs.List.{join_with_byte, slice_split, onto_first}
+use Rattle.std.proofs.lemmas.List.Splits.{length-slice_split}
+use Rattle.comfy_run.specs.Input.{break_of}
+
+-- one more piece at the end of some
+pub join-push : (pieces : List (List ℕ)) (piece : List ℕ) → 0 < length pieces → join_with_byte 0x0A (pieces ++ piece ∷ []) ≡ join_with_byte 0x0A pieces ++ 0x0A ∷ piece
+join-push [] piece some = absurd (omega arith)
+join-push (x ∷ []) piece some = refl
+join-push (x ∷ y ∷ more) piece some =
+    ap (λ t. x ++ 0x0A ∷ t) (join-push (y ∷ more) piece (omega arith)) ∙ sym (append_assoc x (0x0A ∷ join_with_byte 0x0A (y ∷ more)) (0x0A ∷ piece))
+
+empty : {P : Type 0} (pieces : List P) → length pieces ≡ 0 → pieces ≡ []
+empty [] none = refl
+empty (x ∷ more) none = absurd (omega arith)
+
+join-onto : (b : ℕ) (pieces : List (List ℕ)) → join_with_byte 0x0A (onto_first b pieces) ≡ b ∷ join_with_byte 0x0A pieces
+join-onto b [] = refl
+join-onto b (x ∷ []) = refl
+join-onto b (x ∷ y ∷ more) = refl
+
+join-start : (pieces : List (List ℕ)) → 0 < length pieces → join_with_byte 0x0A ([] ∷ pieces) ≡ 0x0A ∷ join_with_byte 0x0A pieces
+join-start [] some = absurd (omega arith)
+join-start (x ∷ more) some = refl
+
+slice_split-some : (text : List ℕ) → 0 < length (slice_split (λ b. b == 0x0B) text)
+slice_split-some text = omega (arith, length-slice_split (λ b. b == 0x0B) text)
+
+-- line feeds where a text was cut at its breaks
+pub joined-breaks : (text : List ℕ) → join_with_byte 0x0A (slice_split (λ b. b == 0x0B) text) ≡ map break_of text
+joined-breaks [] = refl
+joined-breaks (b ∷ text) =
+    let more = joined-breaks text in
+    let some = slice_split-some text in
+    elim (b == 0x0B) as (λ (v : Bool). join_with_byte 0x0A (cond v ([] ∷ slice_split (λ b. b == 0x0B) text) (onto_first b (slice_split (λ b. b == 0x0B) text))) ≡ cond v 0x0A b ∷ map break_of text) [
+      | true ↦ join-start _ some ∙ ap (λ t. 0x0A ∷ t) more
+      | false ↦ join-onto b _ ∙ ap (λ t. b ∷ t) more
+    ]
+
+module _ {P : Type 0} (now : P → List ℕ) (pieces : List P) (piece : P) (text : List ℕ) where
+  -- the first piece
+  pub joined-first : (length pieces == 0) ≡ true → text ≡ join_with_byte 0x0A (map now pieces) → text ++ now piece ≡ join_with_byte 0x0A (map now (pieces ++ piece ∷ []))
+  joined-first none is =
+      let bare : pieces ≡ [] = empty pieces (search (rules, tests)) in
+      rw (is, bare) refl
+
+  -- a piece behind others
+  pub joined-more : (length pieces == 0) ≡ false → text ≡ join_with_byte 0x0A (map now pieces) → (text ++ 0x0A ∷ []) ++ now piece ≡ join_with_byte 0x0A (map now (pieces ++ piece ∷ []))
+  joined-more some is =
+      let are : 0 < length (map now pieces) = rw length-map (search (rules, tests)) in
+      append_assoc text (0x0A ∷ []) (now piece) ∙ ap (λ t. t ++ 0x0A ∷ now piece) is ∙ sym (join-push (map now pieces) (now piece) are) ∙ ap (join_with_byte 0x0A) (sym (map-append now pieces (piece ∷ [])))
+
+-- one item at the end makes a list that isn't empty
+pub pushed-some : {P : Type 0} (pieces : List P) (piece : P) → false ≡ (length (pieces ++ piece ∷ []) == 0)
+pushed-some pieces piece = grind (arith, nat_tests, length-append)

@@ -1,0 +1,40 @@
+-- What `run` may answer on an empty input and on half a character.
+use Rattle.std.proofs.Common.{[], ◌∷◌, refl, None, true, false, arith}
+use Rattle.std.specs.Prelude.{codes}
+use Rattle.comfy_parts.proofs.Computing.{wrapping}
+use Rattle.comfy_parts.specs.Presets.{ascii_full}
+use Rattle.comfy_parts.specs.declared.style.table.ContentArrangement.TheVariants.{Disabled}
+use Rattle.comfy_run.specs.Input.{IsOutputFor}
+use Rattle.comfy_run.specs.Outcome.{RunFacts, IsAfterOk, IsAfterRead, IsAfterWrite}
+
+abbrev both_lines : IsOutputFor None Disabled ascii_full [] (codes "++\n++\n")
+unfolding wrapping
+both_lines =
+    (codes "++" ∷ codes "++" ∷ [], ([], record { one_for_each = refl; hidden_widths = refl; visible_widths = refl }, refl), refl)
+
+abbrev all_written : RunFacts
+all_written = record { input = []; end_was_read = true; written = codes "++\n++\n"; read_failed = false; write_failed = false }
+
+after_ok : IsAfterOk None Disabled ascii_full all_written
+after_ok = record { has_text = record { whole = refl; is_text = ([], (refl, refl)) }; output = both_lines }
+
+-- the writer failed behind the first line
+abbrev half_written : RunFacts
+half_written = record { input = []; end_was_read = true; written = codes "++\n"; read_failed = false; write_failed = true }
+
+after_write : IsAfterWrite None Disabled ascii_full half_written
+after_write =
+    record {
+      failed = refl;
+      has_text = record { whole = refl; is_text = ([], (refl, refl)) };
+      output = codes "++\n++\n";
+      is_output = both_lines;
+      beginning = record { rest = codes "++\n"; joins = refl; some_are_missing = omega arith };
+    }
+
+-- the reader failed, before the end or with all bytes read
+abbrev half_read : RunFacts
+half_read = record { input = 0xE2 ∷ 0x9C ∷ []; end_was_read = false; written = []; read_failed = true; write_failed = false }
+
+after_read : IsAfterRead None Disabled ascii_full half_read
+after_read = record { failed = refl; nothing_written = refl; text = λ whole. absurd (cc whole) }

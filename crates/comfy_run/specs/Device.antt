@@ -1,0 +1,51 @@
+-- What calls of a device answer.
+use Rattle.std.specs.Prelude.{ℕ, ◌-◌, ◌==◌, Bool, false, ◌&&◌, ◌||◌, nat_lt, [], ◌++◌, Option, Some, None, Result, Ok, Err, length, take, drop, min, unwrap_or, if◌then◌else◌}
+use Rattle.comfy_parts.specs.Text.{Text}
+
+-- the answer says that the end was read: 0 bytes for a buffer that isn't empty
+abbrev pub is_end : {E : Type 0} → Result ℕ E → ℕ → Bool
+is_end (Ok count) room = (count == 0) && nat_lt 0 room
+is_end (Err _) room = false
+
+-- the next call of a device over memory fails: it has failed before, or its count is at 1
+abbrev pub is_due : Bool → ℕ → Bool
+is_due failed fails_at = failed || (fails_at == 1)
+
+-- a source over memory: the bytes that are left, none once the end was read; which call from now on fails, 0 for no call; whether it has failed
+pub record MemorySourceValue : Type 0 where
+  pub rest : Option Text
+  pub fails_at : ℕ
+  pub failed : Bool
+
+-- the bytes that are left
+abbrev pub left_in : MemorySourceValue → Text
+left_in source = unwrap_or source.rest []
+
+-- what is left behind a call for this many bytes
+abbrev pub rest_after : Option Text → ℕ → Option Text
+rest_after None room = None
+rest_after (Some left) room = if (length left == 0) && nat_lt 0 room then None else Some (drop (min (length left) room) left)
+
+-- the source behind a call for this many bytes that didn't fail
+abbrev pub after_reading : ℕ → MemorySourceValue → MemorySourceValue
+after_reading room source = record source { rest = rest_after source.rest room; fails_at = source.fails_at - 1 }
+
+-- a sink in memory: the bytes that it has taken, how many it has room for in all, which call from now on fails, 0 for no call; whether it has failed
+pub record MemorySinkValue : Type 0 where
+  pub bytes : Text
+  pub room : ℕ
+  pub fails_at : ℕ
+  pub failed : Bool
+
+-- how many bytes of a piece have room
+abbrev pub fitting : Text → MemorySinkValue → ℕ
+fitting piece sink = min (length piece) (sink.room - length sink.bytes)
+
+-- the piece isn't empty, and no room is left
+abbrev pub is_full_for : Text → MemorySinkValue → Bool
+is_full_for piece sink = nat_lt 0 (length piece) && (fitting piece sink == 0)
+
+-- the sink behind a call with this piece that didn't fail
+abbrev pub after_writing : Text → MemorySinkValue → MemorySinkValue
+after_writing piece sink =
+    record sink { bytes = sink.bytes ++ take (fitting piece sink) piece; fails_at = sink.fails_at - 1 }

@@ -1,0 +1,43 @@
+-- The table that an input text stands for: a line for the header, a line for each row, and a TAB between cells.
+use Rattle.std.specs.Prelude.{◌≡◌, ℕ, ◌==◌, List, [], ◌∷◌, ◌++◌, Option, map, fold, flat_map, if◌then◌else◌}
+use Rattle.std.specs.List.{slice_split}
+use Rattle.std.specs.Str.Lines.{lines}
+use Rattle.comfy_parts.specs.CellValue.{CellValue, RowValue, plain_row}
+use Rattle.comfy_parts.specs.Text.{Text}
+use Rattle.comfy_parts.specs.declared.style.table.ContentArrangement.{ContentArrangement}
+use Rattle.comfy_parts.specs.declared.style.table_style.TableStyle.{TableStyle}
+use Rattle.comfy_parts.specs.CellValue.{plain_cell}
+use Rattle.comfy_table.specs.Arrangement.{IsDrawingOf}
+use Rattle.comfy_table.specs.TableValue.{TableValue, new_table, with_header, with_row}
+
+-- inside a cell U+000B stands for a line feed
+abbrev pub break_of : ℕ → ℕ
+break_of b = if b == 0x0B then 0x0A else b
+
+-- a line's cells
+abbrev pub cells_of_line : Text → List CellValue
+cells_of_line line = map (λ (cell : Text). plain_cell (map break_of cell)) (slice_split (λ b. b == 0x09) line)
+
+-- a line's row
+abbrev pub row_of_line : Text → RowValue
+row_of_line line = plain_row (cells_of_line line)
+
+-- the first line is the header, the others are rows
+abbrev pub table_of_lines : TableValue → List Text → TableValue
+table_of_lines table [] = table
+table_of_lines table (first ∷ others) =
+    fold (λ (t : TableValue) (line : Text). with_row (row_of_line line) t) (with_header (row_of_line first) table) others
+
+-- the table of an input under these settings; a carriage return before a line feed is no part of a line, and an empty last piece is no line
+abbrev pub input_table : Option ℕ → ContentArrangement → TableStyle → Text → TableValue
+input_table width arrangement style text =
+    table_of_lines (record (new_table style) { set_width = width; arrangement = arrangement }) (lines text)
+
+-- each line followed by a line feed
+abbrev pub written_lines : List Text → Text
+written_lines drawn = flat_map (λ (line : Text). line ++ 0x0A ∷ []) drawn
+
+-- the bytes written for an input: a drawing of its table
+abbrev pub IsOutputFor : Option ℕ → ContentArrangement → TableStyle → Text → Text → Type 0
+IsOutputFor width arrangement style text output =
+    (drawn : List Text) × IsDrawingOf (input_table width arrangement style text) drawn × (output ≡ written_lines drawn)

@@ -1,0 +1,7 @@
+pub mod Device
+pub mod DeviceLaws
+pub mod Input
+pub mod Outcome
+pub mod Program
+pub mod Run
+pub mod Stream

@@ -1,0 +1,60 @@
+-- What a call of `run` may answer, by what happened in it.
+use Rattle.std.specs.Prelude.{◌≡◌, ℕ, ◌<◌, Bool, true, [], ◌++◌, Option, length, IsUtf8}
+use Rattle.comfy_parts.specs.Text.{Text}
+use Rattle.comfy_parts.specs.declared.style.table.ContentArrangement.{ContentArrangement}
+use Rattle.comfy_parts.specs.declared.style.table_style.TableStyle.{TableStyle}
+use Rattle.comfy_run.specs.Input.{IsOutputFor}
+
+-- what happened in a call: all bytes of the source, whether its end was seen, the bytes that were written, and whether the reader and the writer failed
+pub record RunFacts : Type 0 where
+  pub input : Text
+  pub end_was_read : Bool
+  pub written : Text
+  pub read_failed : Bool
+  pub write_failed : Bool
+
+-- a beginning of the bytes, not all of them
+pub record IsBeginningOnly (part whole : Text) : Type 0 where
+  pub rest : Text
+  pub joins : whole ≡ part ++ rest
+  pub some_are_missing : 0 < length rest
+
+module _ (width : Option ℕ) (arrangement : ContentArrangement) (style : TableStyle) (facts : RunFacts) where
+  -- the whole input was read, and is UTF-8
+  pub record HasText : Type 0 where
+    pub whole : facts.end_was_read ≡ true
+    pub is_text : IsUtf8 facts.input
+
+  -- an input that was read whole is UTF-8, since any other one has an answer of its own
+  abbrev pub IsTextIfWhole : Type 0
+  IsTextIfWhole = facts.end_was_read ≡ true → IsUtf8 facts.input
+
+  -- Ok: the whole input was read, and exactly a drawing of its table was written
+  pub record IsAfterOk : Type 0 where
+    pub has_text : HasText
+    pub output : IsOutputFor width arrangement style facts.input facts.written
+
+  -- the input can't be read: the reader failed, and nothing was written
+  pub record IsAfterRead : Type 0 where
+    pub failed : facts.read_failed ≡ true
+    pub nothing_written : facts.written ≡ []
+    pub text : IsTextIfWhole
+
+  -- the output can't be written: the writer failed, and a beginning of such a drawing was written, not all of it
+  pub record IsAfterWrite : Type 0 where
+    pub failed : facts.write_failed ≡ true
+    pub has_text : HasText
+    pub output : Text
+    pub is_output : IsOutputFor width arrangement style facts.input output
+    pub beginning : IsBeginningOnly facts.written output
+
+  -- the input isn't UTF-8: it was read whole, and nothing was written
+  pub record IsAfterNotUtf8 : Type 0 where
+    pub whole : facts.end_was_read ≡ true
+    pub no_text : ¬ (IsUtf8 facts.input)
+    pub nothing_written : facts.written ≡ []
+
+  -- memory was refused: nothing was written
+  pub record IsAfterTable : Type 0 where
+    pub nothing_written : facts.written ≡ []
+    pub text : IsTextIfWhole

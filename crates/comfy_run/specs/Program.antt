@@ -1,0 +1,39 @@
+-- What the program answers and reports, by the answer of its run.
+use Rattle.std.specs.Prelude.{◌≡◌, ℕ, Bool, false, List, [], ◌++◌, Option, Some, None, Result, Ok, Err, codes}
+use Rattle.comfy_parts.specs.Text.{Text}
+use Rattle.comfy_parts.specs.declared.error.TableError.TheVariants.{OutOfMemory}
+use Rattle.comfy_run.specs.Run.{plain_settings}
+use Rattle.comfy_run.specs.declared.run.error.RunError.{RunError}
+use Rattle.comfy_run.specs.declared.run.error.RunError.TheVariants.{Read, Write, NotUtf8, Table}
+use Rattle.comfy_run.specs.declared.run.settings.Settings.{Settings}
+
+-- the settings that these words ask for: without words the plain ones, and no others yet
+abbrev pub settings_for : {A : Type 0} → List A → Option Settings
+settings_for [] = Some plain_settings
+settings_for _ = None
+
+-- the line on other words
+abbrev pub usage_line : Text
+usage_line = codes "usage: ctable [WIDTH|- [disabled|dynamic|full [STYLE]]]\n"
+
+-- the line on an error
+abbrev pub error_line : RunError → Text
+error_line Read = codes "ctable: the input can't be read\n"
+error_line Write = codes "ctable: the output can't be written\n"
+error_line NotUtf8 = codes "ctable: the input isn't UTF-8\n"
+error_line (Table OutOfMemory) = codes "ctable: out of memory\n"
+
+-- the status after a run
+abbrev pub status_of : {T : Type 0} → Result T RunError → ℕ
+status_of (Ok _) = 0
+status_of (Err _) = 1
+
+-- what is reported after a run
+abbrev pub report_of : {T : Type 0} → Result T RunError → Text
+report_of (Ok _) = []
+report_of (Err error) = error_line error
+
+-- a sink took the text, or a beginning of it where it failed
+abbrev pub Reports : Text → Option Text → Option Text → Bool → Type 0
+Reports text old new failed =
+    (had : Text) → old ≡ Some had → (part : Text) × (rest : Text) × (new ≡ Some (had ++ part)) × (text ≡ part ++ rest) × (failed ≡ false → rest ≡ [])

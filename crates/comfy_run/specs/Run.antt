@@ -1,0 +1,44 @@
+-- What a call of `run` ensures, by its answer.
+use Rattle.std.specs.Prelude.{◌≡◌, Bool, true, false, ◌++◌, Option, Some, None, Result, Ok, Err, IsUtf8}
+use Rattle.comfy_parts.specs.Presets.{ascii_full}
+use Rattle.comfy_parts.specs.Text.{Text}
+use Rattle.comfy_parts.specs.declared.style.table.ContentArrangement.TheVariants.{Disabled}
+use Rattle.comfy_run.specs.Outcome.{RunFacts, IsAfterOk, IsAfterRead, IsAfterWrite, IsAfterNotUtf8, IsAfterTable}
+use Rattle.comfy_run.specs.declared.run.error.RunError.{RunError}
+use Rattle.comfy_run.specs.declared.run.error.RunError.TheVariants.{Read, Write, NotUtf8, Table}
+use Rattle.comfy_run.specs.declared.run.settings.Settings.{Settings}
+
+-- no width, contents alone decide, and the first preset: the settings that a drawing is promised for so far
+abbrev pub plain_settings : Settings
+plain_settings = record { width = None; arrangement = Disabled; style = ascii_full }
+
+-- what the facts of a call are, by its answer
+abbrev pub IsAfter : {T : Type 0} → Settings → Result T RunError → RunFacts → Type 0
+IsAfter settings (Ok _) facts =
+    settings ≡ plain_settings → IsAfterOk settings.width settings.arrangement settings.style facts
+IsAfter settings (Err Read) facts = IsAfterRead settings.width settings.arrangement settings.style facts
+IsAfter settings (Err Write) facts =
+    settings ≡ plain_settings → IsAfterWrite settings.width settings.arrangement settings.style facts
+IsAfter settings (Err NotUtf8) facts = IsAfterNotUtf8 settings.width settings.arrangement settings.style facts
+IsAfter settings (Err (Table _)) facts = IsAfterTable settings.width settings.arrangement settings.style facts
+
+-- what a source and a sink tell at one time: the bytes that are left, whether the end was read, whether the source has failed, the bytes that were taken, and whether the sink has failed
+pub record Devices : Type 0 where
+  pub remaining : Option Text
+  pub end_was_read : Bool
+  pub read_failed : Bool
+  pub taken : Option Text
+  pub write_failed : Bool
+
+-- what happened between two times, where both told their bytes at the first and hadn't failed
+abbrev pub Between : Devices → Devices → (RunFacts → Type 0) → Type 0
+Between old new Says =
+    (input had : Text) → old.remaining ≡ Some input → old.taken ≡ Some had → old.read_failed ≡ false → old.write_failed ≡ false →
+    (written : Text) × (new.taken ≡ Some (had ++ written)) × Says (record { input = input; end_was_read = new.end_was_read; written = written; read_failed = new.read_failed; write_failed = new.write_failed })
+
+-- why there is nothing to write, by what the source tells behind the call
+abbrev pub IsRefusal : RunError → Text → Bool → Bool → Type 0
+IsRefusal Read input ended failed = (failed ≡ true) × (ended ≡ true → IsUtf8 input)
+IsRefusal Write input ended failed = ⊥
+IsRefusal NotUtf8 input ended failed = (ended ≡ true) × ¬ (IsUtf8 input)
+IsRefusal (Table _) input ended failed = ended ≡ true → IsUtf8 input

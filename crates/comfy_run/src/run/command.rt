@@ -1,0 +1,71 @@
+//! The program: what it does for the words after its name, and what it says.
+
+ghost use Rattle.std.specs.Prelude.{◌≡◌, ◌<◌, List, [], Result, length};
+ghost use Rattle.comfy_run.specs.Program.{usage_line, error_line, status_of, report_of, Reports};
+ghost use Rattle.comfy_run.specs.Run.{Between, IsAfter, plain_settings};
+
+use crate::run::device::{Sink, Source};
+use crate::run::error::RunError;
+use crate::run::settings::settings_of;
+use crate::run::transfer::{run, write_all};
+use comfy_table::TableError;
+use std::alloc::Global;
+
+const USAGE: &str = "usage: ctable [WIDTH|- [disabled|dynamic|full [STYLE]]]\n";
+
+// The statuses that aren't success.
+const FAILED: u8 = 1;
+
+const MISUSED: u8 = 2;
+
+/// Draws the table of the source, as the words after the program's name ask for, and answers the
+/// status that the program ends with.
+///
+/// The status is 0 where all was written. It is 1 after an error, and 2 where the words ask for
+/// nothing that is known; the source isn't read then. A line on `faults` says which it was. A fault
+/// of `faults` changes no status.
+pub fn program<R: Source, W: Sink, F: Sink>(
+    alloc: Global,
+    args: &[&str],
+    source: &mut R,
+    sink: &mut W,
+    faults: &mut F,
+) -> u8
+    ensures misused { 0 < length args.now → (result ≡ 2) × (source.new ≡ source.old) × (sink.new ≡ sink.old) × Reports usage_line (F.taken faults.old) (F.taken faults.new) (F.has_failed faults.new) }
+    ensures ran { length args.now ≡ 0 → (answer : Result (Unit {0}) RunError) × (result ≡ status_of answer) × Reports (report_of answer) (F.taken faults.old) (F.taken faults.new) (F.has_failed faults.new)
+        × Between
+        (record { remaining = R.remaining source.old; end_was_read = R.end_was_read source.old; read_failed = R.has_failed source.old; taken = W.taken sink.old; write_failed = W.has_failed sink.old })
+        (record { remaining = R.remaining source.new; end_was_read = R.end_was_read source.new; read_failed = R.has_failed source.new; taken = W.taken sink.new; write_failed = W.has_failed sink.new })
+        (IsAfter plain_settings answer) }
+{
+    let Some(settings) = settings_of(args) else {
+        report(faults, USAGE);
+        return MISUSED;
+    };
+    match run(alloc, source, sink, settings) {
+        Ok(()) => 0,
+        Err(error) => {
+            report(faults, line_for(error));
+            FAILED
+        }
+    }
+}
+
+// The line on an error.
+fn line_for(error: RunError) -> &'static str
+    ensures { result.now ≡ error_line error }
+{
+    match error {
+        RunError::Read => "ctable: the input can't be read\n",
+        RunError::Write => "ctable: the output can't be written\n",
+        RunError::NotUtf8 => "ctable: the input isn't UTF-8\n",
+        RunError::Table(TableError::OutOfMemory) => "ctable: out of memory\n",
+    }
+}
+
+// Writes a line. Where that fails there is nobody left to tell.
+fn report<F: Sink>(faults: &mut F, line: &str)
+    ensures { Reports line.now (F.taken faults.old) (F.taken faults.new) (F.has_failed faults.new) }
+{
+    let _ = write_all(faults, line.as_bytes());
+}

@@ -1,0 +1,56 @@
+//! The table that a text stands for: its first line is the header, its other lines are rows.
+
+ghost use Rattle.std.specs.Prelude.{◌≡◌, None, IfOk, map, string_bytes};
+ghost use Rattle.comfy_parts.specs.CellValue.{plain_cell};
+ghost use Rattle.comfy_parts.specs.Presets.{ascii_full};
+ghost use Rattle.comfy_run.specs.Input.{input_table, row_of_line, break_of};
+
+use comfy_table::{Cell, ContentArrangement, Result, Row, Table};
+use std::alloc::Global;
+
+// What stands for a line feed inside a cell.
+const BREAK: char = '\u{b}';
+
+/// The table of a text. A carriage return before a line feed is no part of a line, and an empty last
+/// piece is no line.
+pub fn table_of(alloc: Global, text: &str) -> Result<Table>
+    ensures { IfOk result (λ table. table ≡ input_table None ContentArrangement.Disabled ascii_full text.now) }
+{
+    let mut table = Table::new(alloc);
+    let mut lines = text.lines();
+    let Some(first) = lines.next() else {
+        return Ok(table);
+    };
+    table.set_header(row_of(alloc, first)?)?;
+    for line in lines {
+        table.add_row(row_of(alloc, line)?)?;
+    }
+    Ok(table)
+}
+
+// The row of a line, whose cells stand between TABs.
+fn row_of(alloc: Global, line: &str) -> Result<Row>
+    ensures { IfOk result (λ row. row ≡ row_of_line line.now) }
+{
+    let mut row = Row::new(alloc);
+    for part in line.split('\t') {
+        row.add_cell(cell_of(alloc, part)?)?;
+    }
+    Ok(row)
+}
+
+// The cell of what stands between TABs, with its breaks as line feeds.
+fn cell_of(alloc: Global, part: &str) -> Result<Cell>
+    ensures { IfOk result (λ cell. cell ≡ plain_cell (map break_of part.now)) }
+{
+    let mut text = String::new(alloc);
+    let mut is_first = true;
+    for piece in part.split(BREAK) {
+        if !is_first {
+            text.push('\n')?;
+        }
+        text.push_str(piece)?;
+        is_first = false;
+    }
+    Cell::new_owned(alloc, text)
+}

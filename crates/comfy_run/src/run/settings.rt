@@ -1,0 +1,33 @@
+//! How the table of an input is drawn, and the words that say so.
+
+ghost use Rattle.std.specs.Prelude.{◌≡◌};
+ghost use Rattle.comfy_run.specs.Program.{settings_for};
+
+use comfy_table::presets::ASCII_FULL;
+use comfy_table::{ContentArrangement, TableStyle};
+
+/// How the table of an input is drawn.
+#[derive(Clone, Copy, Debug)]
+pub struct Settings {
+    /// The width that the table keeps to, in places.
+    pub width: Option<u16>,
+    /// How the widths of the columns are found.
+    pub arrangement: ContentArrangement,
+    /// The characters of the frame.
+    pub style: TableStyle,
+}
+
+/// The settings that the words after the program's name ask for, if they ask for any. No word is
+/// known yet.
+pub fn settings_of(args: &[&str]) -> Option<Settings>
+    ensures { result ≡ settings_for args.now }
+{
+    if !args.is_empty() {
+        return None;
+    }
+    Some(Settings {
+        width: None,
+        arrangement: ContentArrangement::Disabled,
+        style: ASCII_FULL,
+    })
+}

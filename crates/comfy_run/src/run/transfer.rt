@@ -1,0 +1,114 @@
+//! Reads a whole input, draws its table, and writes the drawing.
+
+ghost use Rattle.std.specs.Prelude.{◌≡◌, ◌++◌, List, ℕ, true, Some, None, OnOk, IfOk, IfErr, IsUtf8, string_bytes};
+ghost use Rattle.comfy_parts.specs.Presets.{ascii_full};
+ghost use Rattle.comfy_run.specs.Input.{written_lines, IsOutputFor};
+ghost use Rattle.comfy_run.specs.Outcome.{IsBeginningOnly};
+ghost use Rattle.comfy_run.specs.Run.{Between, IsAfter, IsRefusal, plain_settings};
+ghost use Rattle.comfy_run.specs.declared.run.error.RunError.TheVariants.{Write};
+
+use crate::run::device::{Sink, Source};
+use crate::run::error::RunError;
+use crate::run::input::table_of;
+use crate::run::settings::Settings;
+use comfy_table::{ContentArrangement, Lines};
+use std::alloc::{AllocError, Global};
+
+// How many bytes are asked for at a time.
+const CHUNK: usize = 4096;
+
+/// Reads the whole source, and writes the drawing of its table to the sink, each line followed by a
+/// line feed.
+///
+/// All memory is asked for before the first write. Where the input can't be read, isn't UTF-8 or
+/// there is no memory, nothing is written. Where the output can't be written, a beginning of it was.
+pub fn run<R: Source, W: Sink>(
+    alloc: Global,
+    source: &mut R,
+    sink: &mut W,
+    settings: Settings,
+) -> Result<(), RunError>
+    ensures { Between
+        (record { remaining = R.remaining source.old; end_was_read = R.end_was_read source.old; read_failed = R.has_failed source.old; taken = W.taken sink.old; write_failed = W.has_failed sink.old })
+        (record { remaining = R.remaining source.new; end_was_read = R.end_was_read source.new; read_failed = R.has_failed source.new; taken = W.taken sink.new; write_failed = W.has_failed sink.new })
+        (IsAfter settings result) }
+{
+    let output = output_for(alloc, source, settings)?;
+    write_all(sink, output.as_bytes())
+}
+
+// Reads the whole source, and draws its table into one text.
+fn output_for<R: Source>(
+    alloc: Global,
+    source: &mut R,
+    settings: Settings,
+) -> Result<String, RunError>
+    ensures ended { OnOk result (R.end_was_read source.new ≡ true) }
+    ensures output { IfOk result (λ output. (input : List ℕ) → R.remaining source.old ≡ Some input → IsUtf8 input × (settings ≡ plain_settings → IsOutputFor settings.width settings.arrangement settings.style input (string_bytes output))) }
+    ensures refused { IfErr result (λ e. (input : List ℕ) → R.remaining source.old ≡ Some input → IsRefusal e input (R.end_was_read source.new) (R.has_failed source.new)) }
+{
+    let _ = settings;
+    let input = read_all(alloc, source)?;
+    let Ok(text) = str::from_utf8(input.as_slice()) else {
+        return Err(RunError::NotUtf8);
+    };
+    let output = drawing_of(alloc, text)?;
+    Ok(output)
+}
+
+// All that the source has left.
+fn read_all<R: Source>(alloc: Global, source: &mut R) -> Result<Vec<u8>, RunError>
+    ensures ended { OnOk result (R.end_was_read source.new ≡ true) }
+    ensures input { IfOk result (λ bytes. (input : List ℕ) → R.remaining source.old ≡ Some input → bytes.items ≡ input) }
+    ensures refused { IfErr result (λ e. (input : List ℕ) → R.remaining source.old ≡ Some input → IsRefusal e input (R.end_was_read source.new) (R.has_failed source.new)) }
+{
+    let mut bytes = Vec::new(alloc);
+    let mut buffer = [0u8; CHUNK];
+    loop {
+        let Ok(count) = source.read(&mut buffer) else {
+            return Err(RunError::Read);
+        };
+        if count == 0 {
+            return Ok(bytes);
+        }
+        bytes.extend_from_slice(&buffer[..count])?;
+    }
+}
+
+// The drawing of a text's table, each line followed by a line feed.
+fn drawing_of(alloc: Global, text: &str) -> comfy_table::Result<String>
+    ensures { IfOk result (λ output. IsOutputFor None ContentArrangement.Disabled ascii_full text.now (string_bytes output)) }
+{
+    let lines = table_of(alloc, text)?.lines()?;
+    let output = joined(alloc, lines)?;
+    Ok(output)
+}
+
+// The lines in one text, each followed by a line feed.
+fn joined(alloc: Global, lines: Lines) -> Result<String, AllocError>
+    ensures { IfOk result (λ text. string_bytes text ≡ written_lines lines) }
+{
+    let mut text = String::new(alloc);
+    for line in lines {
+        text.push_str(line.as_str())?;
+        text.push('\n')?;
+    }
+    Ok(text)
+}
+
+// Writes the whole piece. Where the sink fails, a beginning of the piece was written, not all of it.
+pub(crate) fn write_all<W: Sink>(sink: &mut W, piece: &[u8]) -> Result<(), RunError>
+    ensures written { OnOk result ((had : List ℕ) → W.taken sink.old ≡ Some had → W.taken sink.new ≡ Some (had ++ piece.now)) }
+    ensures error { IfErr result (λ e. (e ≡ Write) × (W.has_failed sink.new ≡ true)) }
+    ensures beginning { IfErr result (λ _. (had : List ℕ) → W.taken sink.old ≡ Some had → (part : List ℕ) × (W.taken sink.new ≡ Some (had ++ part)) × IsBeginningOnly part piece.now) }
+{
+    let mut rest = piece;
+    while !rest.is_empty() {
+        let Ok(count) = sink.write(rest) else {
+            return Err(RunError::Write);
+        };
+        let (_written, others) = rest.split_at(count);
+        rest = others;
+    }
+    Ok(())
+}

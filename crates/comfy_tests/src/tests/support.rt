@@ -1,0 +1,18 @@
+//! What the tests share.
+
+use comfy_parts::{Cell, Result};
+use std::alloc::Global;
+use std::process::Abort;
+
+/// The cell of a text.
+pub fn cell(alloc: Global, text: &str) -> Result<Cell> {
+    Cell::new_owned(alloc, String::from_str(alloc, text)?)
+}
+
+/// Compares texts one by one.
+pub fn assert_texts(rt: &impl Abort, texts: &[String], expected: &[&str], case: &str) {
+    assert_eq!(rt; texts.len(), expected.len(), "{case}");
+    for (text, wanted) in texts.iter().zip(expected) {
+        assert_eq!(rt; text.as_str(), *wanted, "{case}");
+    }
+}

@@ -1,0 +1,87 @@
+//! Texts and the lines that they are wrapped into.
+
+use comfy_parts::Column;
+use comfy_parts::content_split::{
+    ColumnDisplayInfo, measure_text_width, split_line, split_line_by_delimiter, split_long_word,
+};
+use std::alloc::Global;
+use std::test::Fail;
+
+// Each text, the content width, the delimiter, and the lines, joined by bars.
+const WRAPPED: [(&str, u16, char, &str); 9] = [
+    ("abcd  efghi", 10, ' ', "abcd |efghi"),
+    ("abcd  efghi", 5, ' ', "abcd|efghi"),
+    (
+        "This is anotherverylongtextwithlongwords text",
+        6,
+        ' ',
+        "This|is ano|therve|rylong|textwi|thlong|words|text",
+    ),
+    ("aa bbbbbbb", 5, ' ', "aa|bbbbb|bb"),
+    ("--a--b--", 4, '-', "a--b"),
+    ("✅✅", 1, ' ', "✅|✅"),
+    ("     ", 3, ' ', ""),
+    ("", 3, ' ', ""),
+    ("ab cd", 0, ' ', "a|b|c|d"),
+];
+
+// The lines, joined by bars.
+fn wrapped(alloc: Global, text: &str, width: u16, delimiter: char) -> comfy_parts::Result<String> {
+    let mut info = ColumnDisplayInfo::new(&Column::new(0), width);
+    info.content_width = width;
+    let mut joined = String::new(alloc);
+    for (at, line) in split_line(alloc, text, &info, delimiter)?
+        .iter()
+        .enumerate()
+    {
+        if at > 0 {
+            joined.push('|')?;
+        }
+        joined.push_str(line.as_str())?;
+    }
+    Ok(joined)
+}
+
+#[test]
+fn texts_are_wrapped(rt: HostRuntime) -> Result<(), Fail> {
+    for (text, width, delimiter, expected) in WRAPPED {
+        let lines = wrapped(rt.alloc(), text, width, delimiter)?;
+        assert_eq!(rt; lines.as_str(), expected, "`{text}` at {width}");
+    }
+    Ok(())
+}
+
+#[test]
+fn a_line_is_divided_at_each_delimiter(rt: HostRuntime) -> Result<(), Fail> {
+    let parts = split_line_by_delimiter(rt.alloc(), "a--b", '-')?;
+    assert_eq!(rt; parts.len(), 3);
+    assert_eq!(rt; parts[0], "a");
+    assert_eq!(rt; parts[1], "");
+    assert_eq!(rt; parts[2], "b");
+    Ok(())
+}
+
+#[test]
+fn a_head_is_cut_before_the_first_cluster_without_room(rt: HostRuntime) {
+    let (head, rest) = split_long_word(3, "年年年");
+    assert_eq!(rt; head, "年");
+    assert_eq!(rt; rest, "年年");
+    assert_eq!(rt; measure_text_width("年年年"), 6);
+}
+
+#[test]
+fn an_info_is_as_wide_as_its_content_and_paddings(rt: HostRuntime) {
+    let mut info = ColumnDisplayInfo::new(&Column::new(0), 0);
+    assert_eq!(rt; info.content_width, 1);
+    info.padding = (65535, 65535);
+    assert_eq!(rt; info.width(), 131071);
+    assert!(rt; !info.is_hidden());
+}
+
+#[test]
+fn a_new_column_has_no_settings(rt: HostRuntime) {
+    let column = Column::new(3);
+    assert!(rt; column.column_delimiter().is_none());
+    assert!(rt; column.column_alignment().is_none());
+    assert!(rt; !column.is_hidden());
+}
