@@ -4,7 +4,7 @@ use Rattle.std.specs.Str.{IsUtf8}
 use Rattle.comfy_parts.specs.Text.{Text}
 use Rattle.comfy_run.specs.Input.{IsOutputFor}
 use Rattle.comfy_run.specs.Outcome.{IsBeginningOnly}
-use Rattle.comfy_run.specs.Run.{IsAfter, IsRefusal, plain_settings}
+use Rattle.comfy_run.specs.Run.{IsAfter, IsByContent, IsRefusal}
 use Rattle.comfy_run.specs.declared.run.error.RunError.{RunError}
 use Rattle.comfy_run.specs.declared.run.error.RunError.TheVariants.{Read, Write, NotUtf8, Table}
 use Rattle.comfy_run.specs.declared.run.settings.Settings.{Settings}
@@ -19,7 +19,7 @@ after_refusal T settings (Table e) input ended failed write_failed why = record 
 
 module _ {T : Type 0} (settings : Settings) (input had output : Text) (old new : Option Text) (read_failed write_failed : Bool) where
   -- the output was written, or a beginning of it
-  pub after_writing : (r : Result T RunError) → old ≡ Some had → IsUtf8 input × (settings ≡ plain_settings → IsOutputFor settings.width settings.arrangement settings.style input output)
+  pub after_writing : (r : Result T RunError) → old ≡ Some had → IsUtf8 input × (IsByContent settings → IsOutputFor settings.width settings.arrangement settings.style input output)
       → OnOk r ((had : Text) → old ≡ Some had → new ≡ Some (had ++ output)) → IfErr r (λ e. (e ≡ Write) × (write_failed ≡ true))
       → IfErr r (λ _. (had : Text) → old ≡ Some had → (part : Text) × (new ≡ Some (had ++ part)) × IsBeginningOnly part output)
       → (written : Text) × (new ≡ Some (had ++ written)) × IsAfter settings r (record { input = input; end_was_read = true; written = written; read_failed = read_failed; write_failed = write_failed })

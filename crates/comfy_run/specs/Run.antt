@@ -8,17 +8,21 @@ use Rattle.comfy_run.specs.declared.run.error.RunError.{RunError}
 use Rattle.comfy_run.specs.declared.run.error.RunError.TheVariants.{Read, Write, NotUtf8, Table}
 use Rattle.comfy_run.specs.declared.run.settings.Settings.{Settings}
 
--- no width, contents alone decide, and the first preset: the settings that a drawing is promised for so far
+-- the settings that the program asks for: no width, contents alone decide, and the first preset
 abbrev pub plain_settings : Settings
 plain_settings = record { width = None; arrangement = Disabled; style = ascii_full }
+
+-- contents alone decide the widths: the arrangement that a drawing is promised for so far
+abbrev pub IsByContent : Settings → Type 0
+IsByContent settings = settings.arrangement ≡ Disabled
 
 -- what the facts of a call are, by its answer
 abbrev pub IsAfter : {T : Type 0} → Settings → Result T RunError → RunFacts → Type 0
 IsAfter settings (Ok _) facts =
-    settings ≡ plain_settings → IsAfterOk settings.width settings.arrangement settings.style facts
+    IsByContent settings → IsAfterOk settings.width settings.arrangement settings.style facts
 IsAfter settings (Err Read) facts = IsAfterRead settings.width settings.arrangement settings.style facts
 IsAfter settings (Err Write) facts =
-    settings ≡ plain_settings → IsAfterWrite settings.width settings.arrangement settings.style facts
+    IsByContent settings → IsAfterWrite settings.width settings.arrangement settings.style facts
 IsAfter settings (Err NotUtf8) facts = IsAfterNotUtf8 settings.width settings.arrangement settings.style facts
 IsAfter settings (Err (Table _)) facts = IsAfterTable settings.width settings.arrangement settings.style facts
 

@@ -1,22 +1,23 @@
 //! The table that a text stands for: its first line is the header, its other lines are rows.
 
-ghost use Rattle.std.specs.Prelude.{◌≡◌, None, IfOk, map, string_bytes};
+ghost use Rattle.std.specs.Prelude.{◌≡◌, IfOk, map, string_bytes};
 ghost use Rattle.comfy_parts.specs.CellValue.{plain_cell};
-ghost use Rattle.comfy_parts.specs.Presets.{ascii_full};
 ghost use Rattle.comfy_run.specs.Input.{input_table, row_of_line, break_of};
+ghost use Rattle.comfy_table.specs.TableValue.{new_table};
 
+use crate::run::settings::Settings;
 use comfy_table::{Cell, ContentArrangement, Result, Row, Table};
 use std::alloc::Global;
 
 // What stands for a line feed inside a cell.
 const BREAK: char = '\u{b}';
 
-/// The table of a text. A carriage return before a line feed is no part of a line, and an empty last
-/// piece is no line.
-pub fn table_of(alloc: Global, text: &str) -> Result<Table>
-    ensures { IfOk result (λ table. table ≡ input_table None ContentArrangement.Disabled ascii_full text.now) }
+/// The table of a text, with the width and the style that are wanted. A carriage return before a line
+/// feed is no part of a line, and an empty last piece is no line.
+pub fn table_of(alloc: Global, text: &str, settings: Settings) -> Result<Table>
+    ensures { IfOk result (λ table. table ≡ input_table settings.width ContentArrangement.Disabled settings.style text.now) }
 {
-    let mut table = Table::new(alloc);
+    let mut table = empty_table(alloc, settings);
     let mut lines = text.lines();
     let Some(first) = lines.next() else {
         return Ok(table);
@@ -26,6 +27,18 @@ pub fn table_of(alloc: Global, text: &str) -> Result<Table>
         table.add_row(row_of(alloc, line)?)?;
     }
     Ok(table)
+}
+
+// A table with nothing in it.
+fn empty_table(alloc: Global, settings: Settings) -> Table
+    ensures { result ≡ record (new_table settings.style) { set_width = settings.width } }
+{
+    let mut table = Table::new(alloc);
+    table.load_style(settings.style);
+    if let Some(width) = settings.width {
+        table.set_width(width);
+    }
+    table
 }
 
 // The row of a line, whose cells stand between TABs.

@@ -1,10 +1,9 @@
 //! Reads a whole input, draws its table, and writes the drawing.
 
-ghost use Rattle.std.specs.Prelude.{◌≡◌, ◌++◌, List, ℕ, true, Some, None, OnOk, IfOk, IfErr, IsUtf8, string_bytes};
-ghost use Rattle.comfy_parts.specs.Presets.{ascii_full};
+ghost use Rattle.std.specs.Prelude.{◌≡◌, ◌++◌, List, ℕ, true, Some, OnOk, IfOk, IfErr, IsUtf8, string_bytes};
 ghost use Rattle.comfy_run.specs.Input.{written_lines, IsOutputFor};
 ghost use Rattle.comfy_run.specs.Outcome.{IsBeginningOnly};
-ghost use Rattle.comfy_run.specs.Run.{Between, IsAfter, IsRefusal, plain_settings};
+ghost use Rattle.comfy_run.specs.Run.{Between, IsAfter, IsByContent, IsRefusal};
 ghost use Rattle.comfy_run.specs.declared.run.error.RunError.TheVariants.{Write};
 
 use crate::run::device::{Sink, Source};
@@ -44,15 +43,14 @@ fn output_for<R: Source>(
     settings: Settings,
 ) -> Result<String, RunError>
     ensures ended { OnOk result (R.end_was_read source.new ≡ true) }
-    ensures output { IfOk result (λ output. (input : List ℕ) → R.remaining source.old ≡ Some input → IsUtf8 input × (settings ≡ plain_settings → IsOutputFor settings.width settings.arrangement settings.style input (string_bytes output))) }
+    ensures output { IfOk result (λ output. (input : List ℕ) → R.remaining source.old ≡ Some input → IsUtf8 input × (IsByContent settings → IsOutputFor settings.width settings.arrangement settings.style input (string_bytes output))) }
     ensures refused { IfErr result (λ e. (input : List ℕ) → R.remaining source.old ≡ Some input → IsRefusal e input (R.end_was_read source.new) (R.has_failed source.new)) }
 {
-    let _ = settings;
     let input = read_all(alloc, source)?;
     let Ok(text) = str::from_utf8(input.as_slice()) else {
         return Err(RunError::NotUtf8);
     };
-    let output = drawing_of(alloc, text)?;
+    let output = drawing_of(alloc, text, settings)?;
     Ok(output)
 }
 
@@ -76,10 +74,10 @@ fn read_all<R: Source>(alloc: Global, source: &mut R) -> Result<Vec<u8>, RunErro
 }
 
 // The drawing of a text's table, each line followed by a line feed.
-fn drawing_of(alloc: Global, text: &str) -> comfy_table::Result<String>
-    ensures { IfOk result (λ output. IsOutputFor None ContentArrangement.Disabled ascii_full text.now (string_bytes output)) }
+fn drawing_of(alloc: Global, text: &str, settings: Settings) -> comfy_table::Result<String>
+    ensures { IfOk result (λ output. IsOutputFor settings.width ContentArrangement.Disabled settings.style text.now (string_bytes output)) }
 {
-    let lines = table_of(alloc, text)?.lines()?;
+    let lines = table_of(alloc, text, settings)?.lines()?;
     let output = joined(alloc, lines)?;
     Ok(output)
 }
