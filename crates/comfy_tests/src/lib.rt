@@ -1,5 +1,7 @@
-//! Tests of the libraries below, and nothing else. Nothing stands on this crate.
+//! Tests of the libraries below, and callers of them with claims of their own. Nothing stands on this crate.
 #![tactic(auto)]
+
+pub mod uses;
 
 #[cfg(test)]
 mod tests;
