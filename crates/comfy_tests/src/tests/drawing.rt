@@ -1,52 +1,10 @@
 //! Whole drawings. `|` between texts separates cells.
 
-use super::support::{assert_texts, cell};
+use super::support::{assert_drawn, cell, constrain, row, table};
 use comfy_parts::style::{CellAlignment, ColumnConstraint, LineStyle, TableStyle, Width, presets};
-use comfy_table::{Cell, Result, Row, Table};
-use std::alloc::Global;
+use comfy_table::{Result, Row, Table};
 use std::process::Abort;
 use std::test::Fail;
-
-// A row of the texts between the bars; a slash is a line feed.
-fn row(alloc: Global, texts: &str) -> Result<Row> {
-    let mut row = Row::new(alloc);
-    for text in texts.split('|') {
-        row.add_cell(broken(alloc, text)?)?;
-    }
-    Ok(row)
-}
-
-fn broken(alloc: Global, text: &str) -> Result<Cell> {
-    let mut lines = String::new(alloc);
-    for character in text.chars() {
-        lines.push(if character == '/' { '\n' } else { character })?;
-    }
-    Cell::new_owned(alloc, lines)
-}
-
-// A table of a header, none where it is empty, and rows.
-fn table(alloc: Global, header: &str, rows: &[&str]) -> Result<Table> {
-    let mut table = Table::new(alloc);
-    if !header.is_empty() {
-        table.set_header(row(alloc, header)?)?;
-    }
-    for texts in rows {
-        table.add_row(row(alloc, texts)?)?;
-    }
-    Ok(table)
-}
-
-fn assert_drawn(
-    rt: &impl Abort,
-    alloc: Global,
-    table: &Table,
-    expected: &[&str],
-    case: &str,
-) -> Result<()> {
-    let lines = table.lines()?.collect::<Vec<String>>(alloc)?;
-    assert_texts(rt, lines.as_slice(), expected, case);
-    Ok(())
-}
 
 #[test]
 fn plain_tables(rt: HostRuntime) -> std::result::Result<(), Fail> {
@@ -142,12 +100,6 @@ fn awkward_texts(rt: HostRuntime) -> std::result::Result<(), Fail> {
         "delimiters alone",
     )?;
     Ok(())
-}
-
-fn constrain(table: &mut Table, index: usize, constraint: ColumnConstraint) {
-    if let Some(column) = table.column_mut(index) {
-        column.set_constraint(constraint);
-    }
 }
 
 fn align(table: &mut Table, index: usize, alignment: CellAlignment) {

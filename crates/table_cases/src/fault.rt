@@ -1,0 +1,39 @@
+//! Why a case can't be tried.
+
+use comfy_table::TableError;
+use std::alloc::{AllocError, AllocFailed};
+use thiserror::Error;
+
+/// Why a case can't be tried.
+#[derive(Clone, Copy, Debug, PartialEq, Eq, Error)]
+pub enum Fault {
+    /// There is no memory; this ends the whole run.
+    #[error("out of memory")]
+    OutOfMemory,
+    /// A line can't be read, or asks for a call that isn't there: the reason.
+    #[error("{0}")]
+    NotRead(&'static str),
+}
+
+impl From<AllocError> for Fault {
+    fn from(_error: AllocError) -> Fault {
+        Fault::OutOfMemory
+    }
+}
+
+impl<T: Drop> From<AllocFailed<T>> for Fault {
+    fn from(_error: AllocFailed<T>) -> Fault {
+        Fault::OutOfMemory
+    }
+}
+
+impl From<TableError> for Fault {
+    fn from(error: TableError) -> Fault {
+        match error {
+            TableError::OutOfMemory => Fault::OutOfMemory,
+        }
+    }
+}
+
+/// The answer of a step that a case may not pass.
+pub type Result<T> = std::result::Result<T, Fault>;

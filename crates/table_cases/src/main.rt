@@ -1,0 +1,36 @@
+//! Reads cases from standard input, draws each one's table and compares. A case whose words ask for a call that isn't
+//! there yet is counted by itself. Status 1 where a case failed or couldn't be read.
+#![tactic(auto)]
+
+mod builder;
+mod case;
+mod fault;
+mod report;
+mod run;
+mod settings;
+mod step;
+mod text;
+
+use report::Tally;
+use run::Run;
+use std::process::ExitCode;
+
+fn main(rt: HostRuntime) -> anyhow::Result<ExitCode> {
+    let alloc = rt.alloc();
+    let mut run = Run::new(alloc);
+    let mut tally = Tally::default();
+    for line in rt.lines(alloc) {
+        if let Some(judged) = run.read(line?.as_str())? {
+            tally.count(&rt, judged)?;
+        }
+    }
+    if let Some(judged) = run.end_of_input()? {
+        tally.count(&rt, judged)?;
+    }
+    tally.print(&rt)?;
+    if tally.failed == 0 && tally.not_read == 0 {
+        Ok(ExitCode::SUCCESS)
+    } else {
+        Ok(ExitCode::FAILURE)
+    }
+}

@@ -1,0 +1,65 @@
+//! What is printed of the cases.
+
+use crate::case::{Difference, Judged, Outcome};
+use std::io;
+
+/// How many cases came to what.
+#[derive(Clone, Copy, Debug, Default, PartialEq, Eq)]
+pub struct Tally {
+    pub passed: u64,
+    pub failed: u64,
+    pub not_read: u64,
+}
+
+impl Tally {
+    /// Counts a case, and prints it where it didn't pass.
+    pub fn count(&mut self, rt: &impl Print, judged: Judged) -> io::Result<()> {
+        let Judged { name, outcome } = judged;
+        let name = name.as_str();
+        match outcome {
+            Outcome::Passed => {
+                self.passed = self.passed.saturating_add(1);
+                Ok(())
+            }
+            Outcome::Differs(differences) => {
+                self.failed = self.failed.saturating_add(1);
+                for difference in differences {
+                    print_difference(rt, name, &difference)?;
+                }
+                Ok(())
+            }
+            Outcome::NotRead(unread) => {
+                self.not_read = self.not_read.saturating_add(1);
+                let line = unread.line;
+                let reason = unread.reason;
+                println!(rt; "{name}: not read: line {line}: {reason}")
+            }
+        }
+    }
+
+    /// Prints the counts: those that couldn't be tried by themselves.
+    pub fn print(&self, rt: &impl Print) -> io::Result<()> {
+        let not_read = self.not_read;
+        if not_read > 0 {
+            println!(rt; "{not_read} not read")?;
+        }
+        let passed = self.passed;
+        let failed = self.failed;
+        println!(rt; "{passed} passed, {failed} failed")
+    }
+}
+
+fn print_difference(rt: &impl Print, name: &str, difference: &Difference) -> io::Result<()> {
+    let kind = difference.expectation.kind.word();
+    println!(rt; "{name}: {kind}: expected")?;
+    print_lines(rt, difference.expectation.wanted.as_slice())?;
+    println!(rt; "{name}: {kind}: drawn")?;
+    print_lines(rt, difference.drawn.as_slice())
+}
+
+fn print_lines(rt: &impl Print, lines: &[String]) -> io::Result<()> {
+    for line in lines {
+        println!(rt; "={line}")?;
+    }
+    Ok(())
+}
