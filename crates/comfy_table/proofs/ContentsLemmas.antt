@@ -5,7 +5,7 @@ use Rattle.std.specs.Prelude.{option_to_list}
 use Rattle.comfy_parts.specs.CellValue.{CellValue, RowValue}
 use Rattle.comfy_parts.specs.Text.{greatest}
 use Rattle.comfy_table.specs.Contents.{optional_content, row_content, rows_content}
-use Rattle.comfy_table.specs.TableValue.{TableValue, cell_content, column_content, header_and_rows}
+use Rattle.comfy_table.specs.TableValue.{TableValue, cell_content, column_content}
 
 -- the greatest content of some cells and perhaps one more
 greatest-cons_option : (cell : Option CellValue) (cells : List CellValue) → greatest (map cell_content (cons_option cell cells)) ≡ max (optional_content cell) (greatest (map cell_content cells))

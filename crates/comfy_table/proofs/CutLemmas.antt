@@ -4,7 +4,7 @@ use Rattle.std.proofs.lemmas.Bool.Decides.{nat_tests}
 use Rattle.std.specs.Prelude.{if◌then◌else◌}
 use Rattle.comfy_parts.proofs.PrintableLemmas.{measure-printable}
 use Rattle.comfy_parts.specs.Text.{Text, head, measure}
-use Rattle.comfy_table.specs.Lines.{cut_at_height, cut_line, fitting_indicator}
+use Rattle.comfy_table.specs.Lines.{cut_at_height, cut_line}
 
 -- an indicator that is wider than the column isn't written
 pub cut_line-wide : (w : ℕ) (indicator line : Text) → w < measure indicator → cut_line w indicator line ≡ head w line

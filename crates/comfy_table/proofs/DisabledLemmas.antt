@@ -1,5 +1,5 @@
 -- The widths by content are those of an arrangement that keeps no width.
-use Rattle.std.proofs.Common.{◌≡◌, ℕ, zero, suc, ◌+◌, ◌-◌, Bool, true, false, not, cond, List, [], ◌∷◌, Option, None, length, map, max, arith, refl, sym, ap, ap₂, ◌∙◌, slice_index}
+use Rattle.std.proofs.Common.{◌≡◌, ℕ, suc, ◌+◌, Bool, true, false, not, cond, List, [], ◌∷◌, length, map, max, arith, refl, sym, ap, ap₂, ◌∙◌, slice_index}
 use Rattle.std.specs.List.{enumerate_from, filter}
 use Rattle.std.specs.Prelude.{if◌then◌else◌, zip}
 use Rattle.std.proofs.lemmas.List.{length-map}

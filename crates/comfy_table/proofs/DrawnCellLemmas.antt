@@ -4,8 +4,8 @@ use Rattle.std.specs.List.{range_with_len, slice_get}
 use Rattle.std.proofs.lemmas.List.{get_or-map, length-map}
 use Rattle.comfy_parts.specs.CellValue.{CellValue, RowValue, ColumnInfo}
 use Rattle.comfy_parts.specs.Text.{Text, greatest}
-use Rattle.comfy_table.specs.DrawnCells.{drawn_cell, greatest_height, height_of, height_of_lines, lines_of_optional, piece_at, piece_of_lines}
-use Rattle.comfy_table.specs.Pieces.{filling, piece, pieces_at, pieces_of_optional, row_cell_lines, row_height, row_line, row_lines, visible_infos}
+use Rattle.comfy_table.specs.DrawnCells.{drawn_cell, greatest_height, height_of_lines, lines_of_optional, piece_at, piece_of_lines}
+use Rattle.comfy_table.specs.Pieces.{filling, piece, pieces_at, pieces_of_optional, row_cell_lines, row_lines, visible_infos}
 use Rattle.comfy_table.specs.TableValue.{TableValue}
 
 -- a filling, whatever the line

@@ -1,7 +1,6 @@
 //! Tests of the libraries below, and callers of them with claims of their own. Nothing stands on this crate.
 #![tactic(auto)]
 
-pub mod uses;
-
 #[cfg(test)]
 mod tests;
+pub mod uses;

@@ -55,7 +55,10 @@ impl Builder {
         match kind {
             Kind::Lines => self.lines(),
             Kind::Trim => self.trimmed(),
-            Kind::MaxWidths => one_line(self.alloc, self.table.column_max_content_widths()?.as_slice()),
+            Kind::MaxWidths => one_line(
+                self.alloc,
+                self.table.column_max_content_widths()?.as_slice(),
+            ),
             Kind::Widths => self.widths(),
         }
     }

@@ -17,11 +17,20 @@ use std::test::Fail;
 fn contents(rt: HostRuntime) -> Result<(), Fail> {
     let alloc = rt.alloc();
     let mut growing = table(alloc, "thr|four|fivef", &[])?;
-    assert_eq!(rt; growing.column_max_content_widths()?.as_slice(), [3u16, 4, 5].as_slice());
+    assert_eq!(rt;
+        growing.column_max_content_widths()?.as_slice(),
+        [3u16, 4, 5].as_slice()
+    );
     growing.add_row(row(alloc, "four|fivef|very long text with 23")?)?;
-    assert_eq!(rt; growing.column_max_content_widths()?.as_slice(), [4u16, 5, 22].as_slice());
+    assert_eq!(rt;
+        growing.column_max_content_widths()?.as_slice(),
+        [4u16, 5, 22].as_slice()
+    );
     growing.add_row(row(alloc, "||shorter")?)?;
-    assert_eq!(rt; growing.column_max_content_widths()?.as_slice(), [4u16, 5, 22].as_slice());
+    assert_eq!(rt;
+        growing.column_max_content_widths()?.as_slice(),
+        [4u16, 5, 22].as_slice()
+    );
     let heads = table(alloc, "head|head|head", &["__|fivef|sixsix"])?;
     let mut widths = Vec::new(alloc);
     for info in &arrange_content(&heads)? {
@@ -48,7 +57,10 @@ fn lines_of_a_very_long_text(rt: HostRuntime) -> Result<(), Fail> {
         assert_eq!(rt; line.len(), 65_539);
     }
     for (line, count) in lines.as_slice().iter().skip(1).zip([65_535usize, 4_465]) {
-        assert_eq!(rt; line.as_str().bytes().filter(|byte| *byte == b'x').count(), count);
+        assert_eq!(rt;
+            line.as_str().bytes().filter(|byte| *byte == b'x').count(),
+            count
+        );
     }
     Ok(())
 }
@@ -101,16 +113,27 @@ fn helpers(rt: HostRuntime) -> Result<(), Fail> {
     let mut one = table(alloc, "", &["a"])?;
     assert_eq!(rt; count_border_columns(&one, 3), 4);
     assert_eq!(rt; count_border_columns(&one, 0), 2);
-    assert_eq!(rt; absolute_value_from_width(&one, &Width::Percentage(150), 1), None);
+    assert_eq!(rt;
+        absolute_value_from_width(&one, &Width::Percentage(150), 1),
+        None
+    );
     one.set_width(22);
     assert_eq!(rt; one.width(), Some(22));
-    assert_eq!(rt; absolute_value_from_width(&one, &Width::Percentage(150), 1), Some(20));
+    assert_eq!(rt;
+        absolute_value_from_width(&one, &Width::Percentage(150), 1),
+        Some(20)
+    );
     constrain(&mut one, 0, ColumnConstraint::Hidden);
     let mut columns = Vec::new(alloc);
     columns.push(Column::new(0))?;
     columns.push(Column::new(1))?;
     assert_eq!(rt; count_visible_columns(columns.as_slice()), 2);
-    assert_eq!(rt; one.column_iter().filter(|column| column.is_hidden()).count(), 1);
+    assert_eq!(rt;
+        one.column_iter()
+            .filter(|column| column.is_hidden())
+            .count(),
+        1
+    );
     Ok(())
 }
 
@@ -133,6 +156,12 @@ fn delimiters(rt: HostRuntime) -> Result<(), Fail> {
     }
     one.set_delimiter('-');
     constrain(&mut one, 0, ColumnConstraint::Absolute(Width::Fixed(3)));
-    assert_drawn(&rt, alloc, &one, &["+---+", "| a |", "| b |", "+---+"], "cut at -")?;
+    assert_drawn(
+        &rt,
+        alloc,
+        &one,
+        &["+---+", "| a |", "| b |", "+---+"],
+        "cut at -",
+    )?;
     Ok(())
 }

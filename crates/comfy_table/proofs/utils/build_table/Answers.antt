@@ -1,6 +1,5 @@
-use Rattle.std.proofs.Common.{◌≡◌, map, string_bytes, ap, subst, ◌∙◌}
+use Rattle.std.proofs.Common.{ap, subst, ◌∙◌}
 use Rattle.std.specs.Str.{IsUtf8}
-use Rattle.comfy_parts.specs.CellValue.{ColumnInfo}
 use Rattle.comfy_table.proofs.HeadlineLemmas.{table_drawing, utf8_indicator}
 use Rattle.comfy_table.specs.Drawing.{drawing_of_infos}
 use Rattle.comfy_table.specs.TableValue.{TableValue}

@@ -1,4 +1,4 @@
-use Rattle.std.proofs.Common.{◌≡◌, ℕ, List, [], ◌∷◌, ◌++◌, map, ap, ap₂, sym, ◌∙◌, slice_index_or}
+use Rattle.std.proofs.Common.{ℕ, List, [], ◌∷◌, ◌++◌, map, ap, ap₂, sym, ◌∙◌}
 use Rattle.std.specs.List.{enumerate_from}
 use Rattle.comfy_parts.specs.CellValue.{ColumnValue}
 use Rattle.comfy_table.proofs.LoopLemmas.{enumerated_all, enumerated_more}

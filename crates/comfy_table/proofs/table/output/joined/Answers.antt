@@ -1,9 +1,7 @@
-use Rattle.std.proofs.Common.{◌≡◌, ℕ, List, [], ◌∷◌, ◌++◌, map, true, String, Global, string_bytes, nat_lt, ap, sym, ◌∙◌}
+use Rattle.std.proofs.Common.{[], ◌∷◌, ◌++◌, true, String, Global, string_bytes, nat_lt, ap, ◌∙◌}
 use Rattle.std.specs.Prelude.{if◌then◌else◌}
-use Rattle.std.specs.Str.{trim_end}
 use Rattle.comfy_parts.specs.Text.{Text}
-use Rattle.comfy_table.proofs.JoinLemmas.{join_by-with_byte, joined_all, joined_more, map-map}
-use Rattle.comfy_table.specs.Drawing.{text_of}
+use Rattle.comfy_table.proofs.JoinLemmas.{join_by-with_byte, joined_all, joined_more}
 use Rattle.comfy_table.proofs.table.output.joined.Goals as goal
 
 pub loop-position-preserved : goal.loop-position-preserved

@@ -1,4 +1,4 @@
-use Rattle.std.proofs.Common.{◌≡◌, ℕ, List, [], ◌∷◌, ◌++◌, map, true, String, Global, string_bytes, nat_lt, ap, sym, ◌∙◌}
+use Rattle.std.proofs.Common.{[], ◌∷◌, ◌++◌, true, String, Global, string_bytes, nat_lt, ap, sym, ◌∙◌}
 use Rattle.std.specs.Prelude.{if◌then◌else◌}
 use Rattle.std.specs.Str.{trim_end}
 use Rattle.comfy_parts.specs.Text.{Text}

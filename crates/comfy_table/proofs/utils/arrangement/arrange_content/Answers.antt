@@ -1,6 +1,6 @@
-use Rattle.std.proofs.Common.{◌≡◌, ℕ, List, [], ◌∷◌, ◌++◌, map, take, ap, ap₂, sym, ◌∙◌}
+use Rattle.std.proofs.Common.{◌≡◌, List, [], ◌∷◌, ◌++◌, map, ap, ap₂, sym, ◌∙◌}
 use Rattle.std.specs.List.{enumerate_from}
-use Rattle.comfy_parts.specs.CellValue.{ColumnInfo, ColumnValue, info_of, visible_among}
+use Rattle.comfy_parts.specs.CellValue.{ColumnInfo, info_of, visible_among}
 use Rattle.comfy_parts.specs.declared.style.table.ContentArrangement.TheVariants.{Disabled}
 use Rattle.comfy_table.proofs.DisabledLemmas.{info_by_content, infos_by_content, visible_count-among}
 use Rattle.comfy_table.proofs.LoopLemmas.{enumerated_all, enumerated_more}

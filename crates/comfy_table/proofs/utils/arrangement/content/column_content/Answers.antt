@@ -1,7 +1,7 @@
-use Rattle.std.proofs.Common.{◌≡◌, ap, sym, ◌∙◌, max, Some, None}
+use Rattle.std.proofs.Common.{◌≡◌, ap, sym, ◌∙◌, Some, None}
 use Rattle.comfy_table.proofs.ContentsLemmas.{column_content-none, column_content-some}
 use Rattle.comfy_table.specs.TableValue.{TableValue}
-use Rattle.comfy_table.specs.Contents.{row_content, rows_content}
+use Rattle.comfy_table.specs.Contents.{rows_content}
 use Rattle.comfy_table.proofs.utils.arrangement.content.column_content.Goals as goal
 
 pub returns-in-Some : goal.returns-in-Some

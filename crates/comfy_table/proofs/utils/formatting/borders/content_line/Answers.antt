@@ -1,5 +1,4 @@
-use Rattle.std.proofs.Common.{◌≡◌, List, ℕ, [], ◌++◌, ◌&&◌, Bool, map, take, string_bytes, ap, sym, ◌∙◌, nat_lt}
-use Rattle.std.specs.List.{join_by}
+use Rattle.std.proofs.Common.{◌≡◌, [], ◌++◌, ◌&&◌, Bool, string_bytes, ap, ◌∙◌, nat_lt}
 use Rattle.std.specs.Prelude.{if◌then◌else◌}
 use Rattle.comfy_parts.specs.Text.{Text}
 use Rattle.comfy_table.proofs.FrameLemmas.{joined-made}

@@ -1,7 +1,6 @@
-use Rattle.std.proofs.Common.{◌≡◌, [], ◌++◌, map, take, string_bytes}
+use Rattle.std.proofs.Common.{◌≡◌, [], ◌++◌, take, string_bytes}
 use Rattle.std.specs.List.{join_by}
 use Rattle.std.specs.Prelude.{if◌then◌else◌}
-use Rattle.comfy_parts.specs.Text.{Text}
 use Rattle.comfy_table.specs.Frame.{character}
 use Rattle.comfy_table.proofs.utils.formatting.borders.content_line.Given as goal
 

@@ -1,6 +1,6 @@
-use Rattle.std.proofs.Common.{◌≡◌, List, ℕ, [], ◌++◌, ◌&&◌, Bool, map, take, string_bytes, ap, sym, ◌∙◌, nat_lt, slice_index_or}
+use Rattle.std.proofs.Common.{◌≡◌, ℕ, [], ◌++◌, ◌&&◌, Bool, string_bytes, ap, ◌∙◌, nat_lt, slice_index_or}
 use Rattle.std.proofs.lemmas.List.{get_or_default}
-use Rattle.std.specs.List.{join_by, repeat}
+use Rattle.std.specs.List.{repeat}
 use Rattle.std.specs.Prelude.{encode_utf8, if◌then◌else◌}
 use Rattle.comfy_parts.specs.Text.{Text}
 use Rattle.comfy_table.proofs.FrameLemmas.{joined-made}

@@ -1,4 +1,4 @@
-use Rattle.std.proofs.Common.{◌≡◌, List, ℕ, ◌++◌, string_bytes, ap, sym, ◌∙◌, append_assoc}
+use Rattle.std.proofs.Common.{List, ℕ, ◌++◌, string_bytes, ap, sym, ◌∙◌, append_assoc}
 use Rattle.std.specs.List.{repeat}
 use Rattle.std.specs.Prelude.{encode_utf8}
 use Rattle.comfy_table.proofs.JoinLemmas.{repeat_more}

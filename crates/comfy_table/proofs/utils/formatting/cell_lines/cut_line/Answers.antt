@@ -1,4 +1,4 @@
-use Rattle.std.proofs.Common.{◌≡◌, ◌<◌, ap, sym, ◌∙◌, arith}
+use Rattle.std.proofs.Common.{◌<◌, ap, sym, ◌∙◌, arith}
 use Rattle.comfy_parts.specs.Text.{head, measure}
 use Rattle.comfy_table.proofs.CutLemmas.{cut_line-wide}
 use Rattle.comfy_table.proofs.utils.formatting.cell_lines.cut_line.Goals as goal

@@ -1,4 +1,4 @@
-use Rattle.std.proofs.Common.{rules, ◌≡◌, ℕ, Bool, true, false, not, cond, List, [], ◌∷◌, ◌++◌, map, ap, ap₂, sym, ◌∙◌, append-nil, refl, Vec}
+use Rattle.std.proofs.Common.{rules, ◌≡◌, ℕ, Bool, true, false, not, List, [], ◌∷◌, ◌++◌, ap, ap₂, sym, ◌∙◌, append-nil}
 use Rattle.comfy_parts.specs.CellValue.{ColumnInfo}
 use Rattle.comfy_table.proofs.LoopLemmas.{filtered_all, filtered_more}
 use Rattle.comfy_table.specs.DrawnCells.{DrawnCell, drawn_cell}

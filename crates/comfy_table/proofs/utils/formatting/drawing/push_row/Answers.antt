@@ -1,4 +1,4 @@
-use Rattle.std.proofs.Common.{◌≡◌, List, ◌++◌, map, take, string_bytes, ap, sym, ◌∙◌}
+use Rattle.std.proofs.Common.{List, ◌++◌, map, string_bytes, ap, sym, ◌∙◌}
 use Rattle.std.proofs.lemmas.List.{take_all}
 use Rattle.comfy_parts.specs.Text.{Text}
 use Rattle.comfy_table.proofs.JoinLemmas.{map-map}

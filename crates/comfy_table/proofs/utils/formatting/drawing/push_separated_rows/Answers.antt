@@ -1,6 +1,6 @@
-use Rattle.std.proofs.Common.{◌≡◌, ◌<◌, List, [], ◌++◌, map, true, string_bytes, ap, sym, ◌∙◌, nat_lt, length}
+use Rattle.std.proofs.Common.{List, ◌++◌, map, true, string_bytes, ap, ◌∙◌}
 use Rattle.std.specs.List.{join_by}
-use Rattle.std.specs.Prelude.{option_to_list, if◌then◌else◌}
+use Rattle.std.specs.Prelude.{option_to_list}
 use Rattle.comfy_parts.specs.CellValue.{RowValue}
 use Rattle.comfy_parts.specs.Text.{Text}
 use Rattle.comfy_parts.specs.declared.style.table_style.ContentLineStyle.{ContentLineStyle}
