@@ -26,13 +26,13 @@ module _ {T : Type 0} (settings : Settings) (input had output : Text) (old new :
   after_writing (Ok x) known drawn all error part = (
     output,
     all had known,
-    λ plain. record { has_text = record { whole = refl; is_text = drawn.0 }; output = drawn.1 plain },
+    (record { whole = refl; is_text = drawn.0 }, λ plain. record { has_text = record { whole = refl; is_text = drawn.0 }; output = drawn.1 plain }),
   )
   after_writing (Err Write) known drawn all error part =
       let beginning = part had known in (
         beginning.0,
         beginning.1,
-        λ plain. record { failed = error.1; has_text = record { whole = refl; is_text = drawn.0 }; output = output; is_output = drawn.1 plain; beginning = beginning.2 },
+        (error.1, record { whole = refl; is_text = drawn.0 }, λ plain. record { failed = error.1; has_text = record { whole = refl; is_text = drawn.0 }; output = output; is_output = drawn.1 plain; beginning = beginning.2 }),
       )
   after_writing (Err Read) known drawn all error part = absurd (cc error.0)
   after_writing (Err NotUtf8) known drawn all error part = absurd (cc error.0)

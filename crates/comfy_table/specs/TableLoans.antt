@@ -1,6 +1,9 @@
 -- What a table ends as, once a call that lends it on, or a part of it, has returned.
-use Rattle.std.specs.Prelude.{ℕ, Option, Result, slice_set}
-use Rattle.std.specs.Borrow.{Fml, MutBor, Lends, LendsIf, LendsIfOk}
+use Rattle.std.specs.Prelude.{ℕ, List, Option, Result, length, slice_set}
+use Rattle.std.specs.Borrow.{Fml, MutBor, Array, Lends, LendsIf, LendsIfOk, follows}
+use Rattle.std.specs.List.{refill}
+use Rattle.std.specs.Slice.Iter.{iter_mut_name}
+use Rattle.std.specs.declared.slice.IterMut.{IterMut}
 use Rattle.comfy_parts.specs.CellValue.{ColumnValue}
 use Rattle.comfy_parts.specs.contracts.column.Column as column
 use Rattle.comfy_parts.specs.contracts.style.table_style.TableStyle as style
@@ -19,3 +22,8 @@ LendsColumn t i r = LendsIf table.the_row column.the_row t r (λ c. record t.now
 -- the style is the last one written, and nothing else changes
 abbrev pub LendsStyle : MutBor TableValue → MutBor TableStyle → Fml
 LendsStyle t r = Lends table.the_row style.the_row t r (λ s. record t.now { style = s })
+
+-- the columns are the last ones written, and nothing else changes
+abbrev pub LendsColumns : MutBor TableValue → IterMut ColumnValue → Fml
+LendsColumns t it =
+    follows table.the_row (Array column.the_row 0) t.ghost_name (iter_mut_name it) (λ (cs : List ColumnValue). record t.now { columns = refill (length t.now.columns) t.now.columns cs })

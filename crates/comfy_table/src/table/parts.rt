@@ -2,10 +2,10 @@
 
 ghost use Rattle.std.specs.Prelude.{◌≡◌, ◌<◌, ◌==◌, ◌↔◌, IfSome, IsSome, length, option_copied, slice_get, slice_index_or};
 ghost use Rattle.std.specs.Borrow.{sem};
-ghost use Rattle.std.specs.Iterator.Adapters.{IterYieldsInOrder};
+ghost use Rattle.std.specs.Iterator.Adapters.{IterMutYieldsInOrder, IterYieldsInOrder};
 ghost use Rattle.std.specs.Slice.Iter.{iter_mut_rest, iter_rest};
 ghost use Rattle.comfy_parts.specs.CellValue.{ColumnValue};
-ghost use Rattle.comfy_table.specs.TableLoans.{LendsColumn};
+ghost use Rattle.comfy_table.specs.TableLoans.{LendsColumn, LendsColumns};
 
 use crate::table::Table;
 use comfy_parts::Column;
@@ -53,7 +53,9 @@ impl Table {
 
     /// The columns in order, to be changed.
     pub fn column_iter_mut(&mut self) -> slice::IterMut<'_, Column>
-        ensures { iter_mut_rest result ≡ self.old.columns }
+        ensures* lent { sem 𝓛 (LendsColumns self.entry result) }
+        ensures rest { iter_mut_rest result ≡ self.old.columns }
+        ensures runs { IterMutYieldsInOrder ColumnValue }
     {
         self.columns.iter_mut()
     }
