@@ -2,10 +2,11 @@
 
 ghost use Rattle.std.specs.Prelude.{◌≡◌, Some, IfOk, OnOk, OnErr};
 ghost use Rattle.std.specs.Borrow.{sem};
-ghost use Rattle.comfy_table.specs.TableLoans.{LendsStyle};
+ghost use Rattle.comfy_table.specs.GrownTable.{table_of};
+ghost use Rattle.comfy_table.specs.TableLoans.{LendsStyle, TableStaysIfErr};
 ghost use Rattle.comfy_table.specs.TableValue.{table_width};
 
-use crate::table::Table;
+use crate::table::{Grown, Table, handed_on};
 use comfy_parts::Result;
 use comfy_parts::style::TableStyle;
 
@@ -46,11 +47,21 @@ impl Table {
     /// Sets the text that stands behind a line which `Row::max_height` cuts. Where memory is refused, the table stays as
     /// it is.
     pub fn set_truncation_indicator(&mut self, indicator: &str) -> Result<&mut Self>
+        ensures* err { sem 𝓛 (TableStaysIfErr self.entry result) }
         ensures same_reference { IfOk result (λ table. table.ghost_name ≡ self.entry.ghost_name) }
         ensures set { IfOk result (λ table. table.now ≡ record self.old { indicator = indicator.now }) }
     {
+        handed_on(self.grown_by_indicator(indicator))
+    }
+
+    // `set_truncation_indicator`, with the reference in a struct: so callers learn what stands at an error.
+    fn grown_by_indicator<'a>(&'a mut self, indicator: &str) -> Result<Grown<'a>>
+        ensures* err { sem 𝓛 (TableStaysIfErr self.entry (table_of result)) }
+        ensures same_reference { IfOk (table_of result) (λ table. table.ghost_name ≡ self.entry.ghost_name) }
+        ensures set { IfOk (table_of result) (λ table. table.now ≡ record self.old { indicator = indicator.now }) }
+    {
         self.put_indicator(indicator)?;
-        Ok(self)
+        Ok(Grown { table: self })
     }
 
     // `set_truncation_indicator`, with no answer but the outcome.
