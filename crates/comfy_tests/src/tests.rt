@@ -1,5 +1,6 @@
 //! What no clause says: that calls succeed where there is memory, and that the clauses mean what is wanted. Expected values come from outside.
 
+mod calls;
 mod cells;
 mod presets;
 mod styles;

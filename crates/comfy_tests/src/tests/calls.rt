@@ -1,0 +1,76 @@
+//! Calls that no drawing makes.
+
+use super::support::cell;
+use comfy_parts::style::{ColumnConstraint, Width};
+use comfy_parts::{Column, Row};
+use comfy_table::Table;
+use comfy_table::utils::arrangement::constraint::absolute_value_from_width;
+use comfy_table::utils::arrangement::helper::{
+    absolute_width_with_padding, count_border_columns, count_visible_columns, delimiter,
+};
+use comfy_table::utils::build_table;
+use std::alloc::Global;
+use std::test::Fail;
+
+// A table of one row of one cell.
+fn one(alloc: Global, text: &str) -> comfy_parts::Result<Table> {
+    let mut row = Row::new(alloc);
+    row.add_cell(cell(alloc, text)?)?;
+    let mut table = Table::new(alloc);
+    table.add_row(row)?;
+    Ok(table)
+}
+
+#[test]
+fn a_text_joins_its_lines(rt: HostRuntime) -> Result<(), Fail> {
+    let table = one(rt.alloc(), "a")?;
+    let text = table.to_text()?;
+    assert_eq!(rt; text.as_str(), "+---+\n| a |\n+---+");
+    assert_eq!(rt; table.row_count(), 1);
+    assert_eq!(rt; table.column_iter().count(), 1);
+    let built = build_table(&table)?;
+    assert_eq!(rt; built.count(), 3);
+    Ok(())
+}
+
+#[test]
+fn a_column_keeps_its_settings(rt: HostRuntime) {
+    let mut column = Column::new(0);
+    assert_eq!(rt; absolute_width_with_padding(&column, 8), 6);
+    column.set_padding((65535, 65535));
+    assert_eq!(rt; absolute_width_with_padding(&column, 10), 1);
+    assert_eq!(rt; column.padding_width(), 65535);
+    column.set_constraint(ColumnConstraint::Hidden);
+    assert!(rt; column.is_hidden());
+    column.remove_constraint();
+    assert!(rt; !column.is_hidden());
+}
+
+#[test]
+fn helpers_give_single_values(rt: HostRuntime) -> Result<(), Fail> {
+    let mut table = one(rt.alloc(), "a")?;
+    assert_eq!(rt; count_border_columns(&table, 3), 4);
+    assert_eq!(rt; count_border_columns(&table, 0), 2);
+    let whole = Width::Percentage(150);
+    assert_eq!(rt; absolute_value_from_width(&table, &whole, 1), None);
+    table.set_width(22);
+    assert_eq!(rt; absolute_value_from_width(&table, &whole, 1), Some(20));
+    let columns = [Column::new(0), Column::new(1)];
+    assert_eq!(rt; count_visible_columns(columns.as_slice()), 2);
+    Ok(())
+}
+
+#[test]
+fn a_cell_has_the_first_delimiter_that_is_set(rt: HostRuntime) -> Result<(), Fail> {
+    let mut table = one(rt.alloc(), "a")?;
+    let cell = cell(rt.alloc(), "x")?;
+    let mut column = Column::new(0);
+    assert_eq!(rt; delimiter(&table, &column, &cell), ' ');
+    table.set_delimiter('t');
+    assert_eq!(rt; delimiter(&table, &column, &cell), 't');
+    column.set_delimiter('c');
+    assert_eq!(rt; delimiter(&table, &column, &cell), 'c');
+    let own = cell.set_delimiter('o');
+    assert_eq!(rt; delimiter(&table, &column, &own), 'o');
+    Ok(())
+}
