@@ -2,7 +2,10 @@
 
 mod calls;
 mod cells;
+mod devices;
 mod presets;
+mod program;
+mod readme;
 mod styles;
 mod support;
 mod wrapping;

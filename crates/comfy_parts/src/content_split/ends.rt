@@ -33,7 +33,7 @@ pub fn first_element(text: &str, delimiter: char) -> (&str, &str)
 }
 
 /// The place where the line from the text's front ends. The text's first element has `first` bytes.
-pub fn line_end(text: &str, first: usize, width: usize, delimiter: char) -> usize
+pub(crate) fn line_end(text: &str, first: usize, width: usize, delimiter: char) -> usize
     requires place { IsCharBoundary text.now first }
     requires element { IsFirstElement delimiter text.now (take first text.now) (drop first text.now) }
     requires narrow { width ≤ 65535 }

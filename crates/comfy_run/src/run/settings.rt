@@ -11,7 +11,7 @@ use comfy_table::{ContentArrangement, TableStyle};
 pub struct Settings {
     /// The width that the table keeps to, in places.
     pub width: Option<u16>,
-    /// How the widths of the columns are found.
+    /// How the widths of the columns are found. Each is drawn as `Disabled` so far.
     pub arrangement: ContentArrangement,
     /// The characters of the frame.
     pub style: TableStyle,

@@ -1,6 +1,7 @@
 //! Calls that no drawing makes.
 
-use super::support::cell;
+use super::support::{assert_texts, cell};
+use comfy_parts::content_split::ColumnDisplayInfo;
 use comfy_parts::style::{ColumnConstraint, Width};
 use comfy_parts::{Column, Row};
 use comfy_table::Table;
@@ -9,6 +10,7 @@ use comfy_table::utils::arrangement::helper::{
     absolute_width_with_padding, count_border_columns, count_visible_columns, delimiter,
 };
 use comfy_table::utils::build_table;
+use comfy_table::utils::formatting::content_format::{self, format_row};
 use std::alloc::Global;
 use std::test::Fail;
 
@@ -72,5 +74,53 @@ fn a_cell_has_the_first_delimiter_that_is_set(rt: HostRuntime) -> Result<(), Fai
     assert_eq!(rt; delimiter(&table, &column, &cell), 'c');
     let own = cell.set_delimiter('o');
     assert_eq!(rt; delimiter(&table, &column, &own), 'o');
+    Ok(())
+}
+
+// The column's delimiter is read from its info.
+#[test]
+fn an_info_has_the_delimiter_of_its_column(rt: HostRuntime) -> Result<(), Fail> {
+    let mut table = one(rt.alloc(), "a")?;
+    let cell = cell(rt.alloc(), "x")?;
+    let mut column = Column::new(0);
+    let info = ColumnDisplayInfo::new(&column, 5);
+    assert_eq!(rt; content_format::delimiter(&cell, &info, &table), ' ');
+    table.set_delimiter('t');
+    assert_eq!(rt; content_format::delimiter(&cell, &info, &table), 't');
+    column.set_delimiter('c');
+    let info = ColumnDisplayInfo::new(&column, 5);
+    assert_eq!(rt; content_format::delimiter(&cell, &info, &table), 'c');
+    let own = cell.set_delimiter('o');
+    assert_eq!(rt; content_format::delimiter(&own, &info, &table), 'o');
+    Ok(())
+}
+
+#[test]
+fn a_row_is_formatted_by_the_infos_handed_in(rt: HostRuntime) -> Result<(), Fail> {
+    let table = one(rt.alloc(), "unused")?;
+    let mut row = Row::new(rt.alloc());
+    row.add_cell(cell(rt.alloc(), "ab cd")?)?
+        .add_cell(cell(rt.alloc(), "past the last info")?)?;
+    let info = ColumnDisplayInfo::new(&Column::new(0), 3);
+    let lines = format_row(&row, [info].as_slice(), &table)?;
+    assert_eq!(rt; lines.len(), 2);
+    for (pieces, wanted) in lines.iter().zip([" ab  ", " cd  "]) {
+        assert_texts(&rt, pieces.as_slice(), &[wanted], "pieces");
+    }
+    Ok(())
+}
+
+#[test]
+fn each_column_is_lent_in_order(rt: HostRuntime) -> Result<(), Fail> {
+    let mut row = Row::new(rt.alloc());
+    row.add_cell(cell(rt.alloc(), "a")?)?
+        .add_cell(cell(rt.alloc(), "b")?)?;
+    let mut table = Table::new(rt.alloc());
+    table.add_row(row)?;
+    for (column, left) in table.column_iter_mut().zip([2, 0]) {
+        column.set_padding((left, 0));
+    }
+    let text = table.to_text()?;
+    assert_eq!(rt; text.as_str(), "+---+-+\n|  a|b|\n+---+-+");
     Ok(())
 }

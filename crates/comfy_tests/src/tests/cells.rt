@@ -1,6 +1,7 @@
 //! Cells, rows, columns and the error.
 
 use super::support::{assert_texts, cell};
+use comfy_parts::style::CellAlignment;
 use comfy_parts::{Column, IntoRow, Row, TableError};
 use std::test::Fail;
 
@@ -40,6 +41,38 @@ fn a_row_has_its_cells_in_order(rt: HostRuntime) -> Result<(), Fail> {
     }
     assert_texts(&rt, contents.as_slice(), &["one", "two\nlines"], "contents");
     Ok(())
+}
+
+#[test]
+fn a_new_cell_has_no_settings(rt: HostRuntime) -> Result<(), Fail> {
+    let cell = cell(rt.alloc(), "a")?;
+    assert!(rt; cell.cell_delimiter().is_none());
+    assert!(rt; cell.cell_alignment().is_none());
+    assert!(rt; cell.foreground().is_none());
+    assert!(rt; cell.background().is_none());
+    assert!(rt; cell.attributes().is_empty());
+    Ok(())
+}
+
+#[test]
+fn a_cell_keeps_its_settings(rt: HostRuntime) -> Result<(), Fail> {
+    let cell = cell(rt.alloc(), "a")?
+        .set_delimiter('-')
+        .set_alignment(CellAlignment::Right);
+    assert_eq!(rt; cell.cell_delimiter(), Some('-'));
+    assert_eq!(rt; cell.cell_alignment(), Some(CellAlignment::Right));
+    Ok(())
+}
+
+// A height of no line is one line.
+#[test]
+fn a_row_is_at_least_one_line_high(rt: HostRuntime) {
+    let mut row = Row::new(rt.alloc());
+    assert!(rt; row.height_limit().is_none());
+    row.max_height(0);
+    assert_eq!(rt; row.height_limit(), Some(1));
+    row.max_height(3);
+    assert_eq!(rt; row.height_limit(), Some(3));
 }
 
 #[test]

@@ -5,7 +5,76 @@ use comfy_parts::style::{ContentLineStyle, LineStyle, TableStyle, presets};
 use std::alloc::{AllocError, Global};
 use std::test::Fail;
 
-// the characters; `_` is one that isn't set
+// The characters of each preset's six parts; `_` is one that isn't set.
+const PRESETS: [(&str, TableStyle, [&str; 6]); 13] = [
+    (
+        "ASCII_FULL",
+        presets::ASCII_FULL,
+        ["+-++", "|||", "+==+", "|||", "|-+|", "+-++"],
+    ),
+    (
+        "ASCII_FULL_CONDENSED",
+        presets::ASCII_FULL_CONDENSED,
+        ["+-++", "|||", "+==+", "|||", "____", "+-++"],
+    ),
+    (
+        "ASCII_NO_BORDERS",
+        presets::ASCII_NO_BORDERS,
+        ["____", "_|_", "_==_", "_|_", "_-+_", "____"],
+    ),
+    (
+        "ASCII_BORDERS_ONLY",
+        presets::ASCII_BORDERS_ONLY,
+        ["+--+", "|_|", "+==+", "|_|", "|__|", "+--+"],
+    ),
+    (
+        "ASCII_BORDERS_ONLY_CONDENSED",
+        presets::ASCII_BORDERS_ONLY_CONDENSED,
+        ["+--+", "|_|", "+==+", "|_|", "____", "+--+"],
+    ),
+    (
+        "ASCII_HORIZONTAL_ONLY",
+        presets::ASCII_HORIZONTAL_ONLY,
+        ["_--_", "___", "_==_", "___", "_--_", "_--_"],
+    ),
+    (
+        "ASCII_MARKDOWN",
+        presets::ASCII_MARKDOWN,
+        ["____", "|||", "|-||", "|||", "____", "____"],
+    ),
+    (
+        "UTF8_FULL",
+        presets::UTF8_FULL,
+        ["┌─┬┐", "│┆│", "╞═╪╡", "│┆│", "├╌┼┤", "└─┴┘"],
+    ),
+    (
+        "UTF8_FULL_CONDENSED",
+        presets::UTF8_FULL_CONDENSED,
+        ["┌─┬┐", "│┆│", "╞═╪╡", "│┆│", "____", "└─┴┘"],
+    ),
+    (
+        "UTF8_NO_BORDERS",
+        presets::UTF8_NO_BORDERS,
+        ["____", "_┆_", "_═╪_", "_┆_", "_╌┼_", "____"],
+    ),
+    (
+        "UTF8_BORDERS_ONLY",
+        presets::UTF8_BORDERS_ONLY,
+        ["┌──┐", "│_│", "╞══╡", "│_│", "____", "└──┘"],
+    ),
+    (
+        "UTF8_HORIZONTAL_ONLY",
+        presets::UTF8_HORIZONTAL_ONLY,
+        ["_──_", "___", "_══_", "___", "_──_", "_──_"],
+    ),
+    (
+        "NOTHING",
+        presets::NOTHING,
+        ["____", "___", "____", "___", "____", "____"],
+    ),
+];
+
+// The characters of one part.
 fn characters(alloc: Global, parts: &[Option<char>]) -> Result<String, AllocError> {
     let mut text = String::new(alloc);
     for part in parts {
@@ -22,7 +91,7 @@ fn content(alloc: Global, line: ContentLineStyle) -> Result<String, AllocError> 
     characters(alloc, &[line.left, line.junction, line.right])
 }
 
-// the characters of the six parts, in the order in which a table shows them
+// The characters of the six parts, in the order in which a table shows them.
 fn parts(alloc: Global, style: TableStyle) -> Result<Vec<String>, AllocError> {
     let mut parts = Vec::new(alloc);
     parts.push(line(alloc, style.top_border)?)?;
@@ -36,74 +105,7 @@ fn parts(alloc: Global, style: TableStyle) -> Result<Vec<String>, AllocError> {
 
 #[test]
 fn presets_have_these_characters(rt: HostRuntime) -> Result<(), Fail> {
-    let cases: [(&str, TableStyle, [&str; 6]); 13] = [
-        (
-            "ASCII_FULL",
-            presets::ASCII_FULL,
-            ["+-++", "|||", "+==+", "|||", "|-+|", "+-++"],
-        ),
-        (
-            "ASCII_FULL_CONDENSED",
-            presets::ASCII_FULL_CONDENSED,
-            ["+-++", "|||", "+==+", "|||", "____", "+-++"],
-        ),
-        (
-            "ASCII_NO_BORDERS",
-            presets::ASCII_NO_BORDERS,
-            ["____", "_|_", "_==_", "_|_", "_-+_", "____"],
-        ),
-        (
-            "ASCII_BORDERS_ONLY",
-            presets::ASCII_BORDERS_ONLY,
-            ["+--+", "|_|", "+==+", "|_|", "|__|", "+--+"],
-        ),
-        (
-            "ASCII_BORDERS_ONLY_CONDENSED",
-            presets::ASCII_BORDERS_ONLY_CONDENSED,
-            ["+--+", "|_|", "+==+", "|_|", "____", "+--+"],
-        ),
-        (
-            "ASCII_HORIZONTAL_ONLY",
-            presets::ASCII_HORIZONTAL_ONLY,
-            ["_--_", "___", "_==_", "___", "_--_", "_--_"],
-        ),
-        (
-            "ASCII_MARKDOWN",
-            presets::ASCII_MARKDOWN,
-            ["____", "|||", "|-||", "|||", "____", "____"],
-        ),
-        (
-            "UTF8_FULL",
-            presets::UTF8_FULL,
-            ["┌─┬┐", "│┆│", "╞═╪╡", "│┆│", "├╌┼┤", "└─┴┘"],
-        ),
-        (
-            "UTF8_FULL_CONDENSED",
-            presets::UTF8_FULL_CONDENSED,
-            ["┌─┬┐", "│┆│", "╞═╪╡", "│┆│", "____", "└─┴┘"],
-        ),
-        (
-            "UTF8_NO_BORDERS",
-            presets::UTF8_NO_BORDERS,
-            ["____", "_┆_", "_═╪_", "_┆_", "_╌┼_", "____"],
-        ),
-        (
-            "UTF8_BORDERS_ONLY",
-            presets::UTF8_BORDERS_ONLY,
-            ["┌──┐", "│_│", "╞══╡", "│_│", "____", "└──┘"],
-        ),
-        (
-            "UTF8_HORIZONTAL_ONLY",
-            presets::UTF8_HORIZONTAL_ONLY,
-            ["_──_", "___", "_══_", "___", "_──_", "_──_"],
-        ),
-        (
-            "NOTHING",
-            presets::NOTHING,
-            ["____", "___", "____", "___", "____", "____"],
-        ),
-    ];
-    for (name, style, expected) in cases {
+    for (name, style, expected) in PRESETS {
         let parts = parts(rt.alloc(), style)?;
         assert_texts(&rt, parts.as_slice(), expected.as_slice(), name);
     }

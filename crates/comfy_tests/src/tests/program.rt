@@ -1,0 +1,176 @@
+//! What the program writes, reports and answers.
+
+use super::readme::DRAWN;
+use comfy_run::run::{MemorySink, MemorySource, RunError, program};
+use comfy_table::TableError;
+use std::alloc::{Alloc, AllocError, Global};
+use std::process::Abort;
+use std::test::Fail;
+
+const USAGE: &[u8] = b"usage: ctable [WIDTH|- [disabled|dynamic|full [STYLE]]]\n";
+
+const README: &[u8] = b"Header1\tHeader2\tHeader3
+This is a text\tThis is another text\tThis is the third text
+This is another text\tNow\x0badd some\x0bmulti line stuff\tThis is awesome
+";
+
+const SMALL: &[u8] = b"+---+---+\n| a | b |\n+=======+\n| c | d |\n+---+---+\n";
+
+// What a run of the program is given besides its words: the input, and the calls at which its devices fail.
+#[derive(Clone, Copy)]
+struct Given {
+    input: &'static [u8],
+    failing_read: u64,
+    failing_write: u64,
+    failing_report: u64,
+}
+
+// An input over devices that don't fail.
+fn sound(input: &'static [u8]) -> Given {
+    Given {
+        input,
+        failing_read: 0,
+        failing_write: 0,
+        failing_report: 0,
+    }
+}
+
+// Runs the program, and compares the status, what it wrote and what it reported.
+fn assert_ends(
+    rt: &(impl Abort + Alloc<A = Global>),
+    words: &[&str],
+    given: Given,
+    ended: (u8, &[u8], &[u8]),
+) -> Result<(), AllocError> {
+    let mut source = MemorySource::new(given.input, given.failing_read);
+    let mut sink = MemorySink::new(rt.alloc(), 4096, given.failing_write)?;
+    let mut reports = MemorySink::new(rt.alloc(), 256, given.failing_report)?;
+    let status = program(rt.alloc(), words, &mut source, &mut sink, &mut reports);
+    let (wanted, output, faults) = ended;
+    assert_eq!(rt; status, wanted);
+    assert_eq!(rt; sink.bytes(), output);
+    assert_eq!(rt; reports.bytes(), faults);
+    Ok(())
+}
+
+#[test]
+fn the_table_of_the_readme_is_drawn(rt: HostRuntime) -> Result<(), Fail> {
+    assert_ends(&rt, &[], sound(README), (0, DRAWN.as_bytes(), b""))?;
+    Ok(())
+}
+
+#[test]
+fn no_input_is_an_empty_table(rt: HostRuntime) -> Result<(), Fail> {
+    assert_ends(&rt, &[], sound(b""), (0, &[43, 43, 10, 43, 43, 10], b""))?;
+    Ok(())
+}
+
+// The last line feed may be missing, and a carriage return before a line feed is dropped.
+#[test]
+fn lines_end_in_three_ways(rt: HostRuntime) -> Result<(), Fail> {
+    for input in [
+        b"a\tb\nc\td\n".as_slice(),
+        b"a\tb\nc\td".as_slice(),
+        b"a\tb\r\nc\td\r\n".as_slice(),
+    ] {
+        assert_ends(&rt, &[], sound(input), (0, SMALL, b""))?;
+    }
+    Ok(())
+}
+
+#[test]
+fn a_tab_divides_two_cells(rt: HostRuntime) -> Result<(), Fail> {
+    let drawn = b"+---+---+\n|   |   |\n+=======+\n+---+---+\n";
+    assert_ends(&rt, &[], sound(b"\t\n"), (0, drawn, b""))?;
+    Ok(())
+}
+
+#[test]
+fn a_vertical_tab_breaks_a_line_in_a_cell(rt: HostRuntime) -> Result<(), Fail> {
+    let drawn = b"+---+---+\n| a |   |\n+=======+\n| b | d |\n| c |   |\n+---+---+\n";
+    assert_ends(&rt, &[], sound(b"a\nb\x0bc\td"), (0, drawn, b""))?;
+    Ok(())
+}
+
+#[test]
+fn bytes_that_are_no_text_are_refused(rt: HostRuntime) -> Result<(), Fail> {
+    let refused = b"ctable: the input isn't UTF-8\n";
+    assert_ends(&rt, &[], sound(b"\xff"), (1, b"", refused))?;
+    assert_ends(&rt, &[], sound(b"a\n\xe2\x9c"), (1, b"", refused))?;
+    Ok(())
+}
+
+// A source that fails at once shows that it isn't read.
+#[test]
+fn words_are_refused_and_nothing_is_read(rt: HostRuntime) -> Result<(), Fail> {
+    for word in ["-", "", "20", "65536", "+5", "--help", "\u{fffd}"] {
+        let given = Given {
+            failing_read: 1,
+            ..sound(b"a\n")
+        };
+        assert_ends(&rt, &[word], given, (2, b"", USAGE))?;
+    }
+    let words = ["-", "disabled", "ASCII_FULL", "-"];
+    assert_ends(&rt, &words, sound(b"a\n"), (2, b"", USAGE))?;
+    Ok(())
+}
+
+#[test]
+fn a_failing_source_is_reported(rt: HostRuntime) -> Result<(), Fail> {
+    let given = Given {
+        failing_read: 1,
+        ..sound(b"a\n")
+    };
+    let reported = b"ctable: the input can't be read\n";
+    assert_ends(&rt, &[], given, (1, b"", reported))?;
+    Ok(())
+}
+
+#[test]
+fn a_failing_sink_is_reported(rt: HostRuntime) -> Result<(), Fail> {
+    let given = Given {
+        failing_write: 1,
+        ..sound(b"a\n")
+    };
+    let reported = b"ctable: the output can't be written\n";
+    assert_ends(&rt, &[], given, (1, b"", reported))?;
+    Ok(())
+}
+
+// A fault of the sink for reports changes no status.
+#[test]
+fn a_failing_report_changes_nothing(rt: HostRuntime) -> Result<(), Fail> {
+    let given = Given {
+        failing_report: 1,
+        ..sound(b"a\tb\nc\td\n")
+    };
+    assert_ends(&rt, &[], given, (0, SMALL, b""))?;
+    let given = Given {
+        failing_report: 1,
+        ..sound(b"\xff")
+    };
+    assert_ends(&rt, &[], given, (1, b"", b""))?;
+    let given = Given {
+        failing_report: 1,
+        ..sound(b"a\n")
+    };
+    assert_ends(&rt, &["x"], given, (2, b"", b""))?;
+    Ok(())
+}
+
+#[test]
+fn errors_have_their_words(rt: HostRuntime) -> Result<(), Fail> {
+    for (error, words) in [
+        (RunError::Read, "the input can't be read"),
+        (RunError::Write, "the output can't be written"),
+        (RunError::NotUtf8, "the input isn't UTF-8"),
+        (RunError::Table(TableError::OutOfMemory), "out of memory"),
+    ] {
+        let shown = error.to_string(rt.alloc())?;
+        assert_eq!(rt; shown.as_str(), words);
+    }
+    let lacking = RunError::Table(TableError::OutOfMemory);
+    assert_eq!(rt; RunError::from(AllocError), lacking);
+    assert_eq!(rt; RunError::from(TableError::OutOfMemory), lacking);
+    Ok(())
+}
