@@ -74,7 +74,7 @@ impl Cell {
         self.text_lines.as_slice()
     }
 
-    /// Sets where the cell's texts are cut, whatever its column and its table say.
+    /// Sets the character at which the cell's texts may break, whatever its column and its table have.
     pub fn set_delimiter(self, delimiter: char) -> Cell
         ensures { result ≡ record self { delimiter = Some delimiter } }
     {
@@ -96,7 +96,7 @@ impl Cell {
         }
     }
 
-    /// Sets where the cell's texts stand, whatever its column says.
+    /// Sets where the cell's texts stand, whatever its column has.
     pub fn set_alignment(self, alignment: CellAlignment) -> Cell
         ensures { result ≡ record self { alignment = Some alignment } }
     {
@@ -118,28 +118,28 @@ impl Cell {
         }
     }
 
-    /// The cell's own delimiter.
+    /// The character at which the cell's texts may break; none where its column's or its table's is taken.
     pub fn cell_delimiter(&self) -> Option<char>
         ensures { result ≡ self.now.delimiter }
     {
         self.delimiter
     }
 
-    /// The cell's own alignment.
+    /// Where the cell's texts stand; none where its column's alignment is taken.
     pub fn cell_alignment(&self) -> Option<CellAlignment>
         ensures { result ≡ self.now.alignment }
     {
         self.alignment
     }
 
-    /// The colour of the text, where one is set.
+    /// The colour of the text; none where none is set.
     pub fn foreground(&self) -> Option<Color>
         ensures { result ≡ self.now.foreground }
     {
         self.foreground
     }
 
-    /// The colour behind the text, where one is set.
+    /// The colour behind the text; none where none is set.
     pub fn background(&self) -> Option<Color>
         ensures { result ≡ self.now.background }
     {

@@ -41,28 +41,28 @@ impl Column {
         }
     }
 
-    /// The places left free to the left and to the right of the contents.
+    /// The places left free to the left and to the right of the contents, in this order.
     pub fn padding(&self) -> (u16, u16)
         ensures { result ≡ self.now.padding }
     {
         self.padding
     }
 
-    /// The column's own delimiter.
+    /// The character at which the texts of the column may break; none where the table's is taken.
     pub fn column_delimiter(&self) -> Option<char>
         ensures { result ≡ self.now.delimiter }
     {
         self.delimiter
     }
 
-    /// The column's own alignment.
+    /// Where the texts of the column stand; none where they stand at the left.
     pub fn column_alignment(&self) -> Option<CellAlignment>
         ensures { result ≡ self.now.alignment }
     {
         self.alignment
     }
 
-    /// What the column's width is held to.
+    /// What the column's width is held to; none where it is free.
     pub fn constraint(&self) -> Option<&ColumnConstraint>
         ensures { option_copied result ≡ self.now.constraint }
     {
@@ -76,7 +76,7 @@ impl Column {
         matches!(self.constraint, Some(ColumnConstraint::Hidden))
     }
 
-    /// Sets the places left free to the left and to the right of the contents.
+    /// Sets the places left free to the left and to the right of the contents, in this order.
     pub fn set_padding(&mut self, padding: (u16, u16)) -> &mut Self
         ensures same_reference { result.ghost_name ≡ self.entry.ghost_name }
         ensures value { result.now ≡ record self.old { padding = padding } }
@@ -93,7 +93,7 @@ impl Column {
         left.saturating_add(right)
     }
 
-    /// Sets where the texts of the column's cells are cut, unless a cell says otherwise.
+    /// Sets the character at which the texts of the column may break, unless a cell has one of its own.
     pub fn set_delimiter(&mut self, delimiter: char) -> &mut Self
         ensures same_reference { result.ghost_name ≡ self.entry.ghost_name }
         ensures value { result.now ≡ record self.old { delimiter = Some delimiter } }
@@ -120,7 +120,7 @@ impl Column {
         self
     }
 
-    /// Sets where the texts of the column's cells stand, unless a cell says otherwise.
+    /// Sets where the texts of the column stand, unless a cell has an alignment of its own.
     pub fn set_cell_alignment(&mut self, alignment: CellAlignment)
         ensures { self.new ≡ record self.old { alignment = Some alignment } }
     {

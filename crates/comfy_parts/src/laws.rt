@@ -1,9 +1,10 @@
 //! What wrapping promises beyond its definition. Each function does nothing: its clauses are the law.
-//! `split_line` gives the lines of which they speak, for every text, width `w` and delimiter `d`.
+//! `split_line` gives the lines of which they speak, for every text, width `w` and delimiter `d`. "In printable ASCII"
+//! means that text and delimiter are, and that the width is at least one place.
 
 ghost use Rattle.std.specs.Prelude.{ℕ, List, []};
 ghost use Rattle.std.specs.Char.{IsScalar};
-ghost use Rattle.comfy_parts.specs.Laws.{CutLinesAreFull, HeadIsLongest, IsCutOutsideNarrow, LinesAreFew, LinesAreFewest, LinesFit, NeighboursFillALine, PrintableClustersAreCharacters, PrintableMeasuresItsLength, WrappedIsOne, WrappedIsWrapped};
+ghost use Rattle.comfy_parts.specs.Laws.{CutLinesAreFull, HeadIsLongest, IsCutOutsideNarrow, LinesAreFew, LinesAreFewest, LinesFit, NeighboursFillALine, PrintableClustersAreCharacters, PrintableIsEven, PrintableMeasuresItsLength, WrappedIsOne, WrappedIsWrapped};
 ghost use Rattle.comfy_parts.specs.Text.{Text};
 ghost use Rattle.comfy_parts.specs.Wrapping.{IsWrapped};
 
@@ -18,7 +19,7 @@ pub fn narrow_elements_stay_whole()
     ensures { (w d : ℕ) (text : Text) (lines : List Text) → IsScalar d → IsWrapped w d text lines → IsCutOutsideNarrow w d [] text lines }
 {}
 
-/// In printable ASCII each line fits its width, where that is at least 1.
+/// In printable ASCII each line fits its width.
 pub fn lines_fit()
     ensures { (w d : ℕ) (text : Text) (lines : List Text) → IsWrapped w d text lines → LinesFit w d text lines }
 {}
@@ -28,7 +29,7 @@ pub fn neighbours_fill_a_line()
     ensures { (w d : ℕ) (text : Text) (lines : List Text) → IsWrapped w d text lines → NeighboursFillALine w d text lines }
 {}
 
-/// A printable ASCII text has at most one line more than twice its length in lines.
+/// In printable ASCII a text of so many characters has at most one line more than twice that number of whole widths.
 pub fn lines_are_few()
     ensures { (w d : ℕ) (text : Text) (lines : List Text) → IsWrapped w d text lines → LinesAreFew w d text lines }
 {}
@@ -38,8 +39,8 @@ pub fn cut_lines_are_full()
     ensures { (w d : ℕ) (text : Text) (lines : List Text) → IsWrapped w d text lines → CutLinesAreFull w d text lines }
 {}
 
-/// Where each element of a printable ASCII text fits a line, no division into lines that fit and cut no element has
-/// fewer lines.
+/// In printable ASCII, where each element fits a line, no division into lines that fit and cut no element has fewer
+/// lines.
 pub fn lines_are_fewest()
     ensures { (w d : ℕ) (text : Text) (lines : List Text) → IsWrapped w d text lines → LinesAreFewest w d text lines }
 {}
@@ -53,4 +54,9 @@ pub fn head_is_longest()
 pub fn printable_measures_its_length()
     ensures measure { (text : Text) → PrintableMeasuresItsLength text }
     ensures clusters { (text : Text) → PrintableClustersAreCharacters text }
+{}
+
+/// A printable ASCII indicator is even: behind printable ASCII it adds as many places as it has characters.
+pub fn printable_is_even()
+    ensures { (indicator : Text) → PrintableIsEven indicator }
 {}

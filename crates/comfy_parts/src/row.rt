@@ -49,7 +49,7 @@ impl Row {
         handed_on(self.grown(cell))
     }
 
-    // `add_cell`, with the reference in a struct: so callers learn what stands at an error.
+    // `add_cell`, with the reference in a struct: so that its `err` can be proved.
     fn grown(&mut self, cell: Cell) -> Result<Grown<'_>>
         ensures* err { sem 𝓛 (RowStaysIfErr self.entry (row_of result)) }
         ensures same_reference { IfOk (row_of result) (λ row. row.ghost_name ≡ self.entry.ghost_name) }
@@ -85,7 +85,7 @@ impl Row {
         self.cells.len()
     }
 
-    /// How many lines of each cell are drawn at the most, at least 1; none where all are drawn.
+    /// How many lines of each cell are drawn at the most; none where all are drawn.
     pub fn height_limit(&self) -> Option<usize>
         ensures { result ≡ self.now.max_height }
     {
@@ -101,11 +101,12 @@ impl Row {
     }
 }
 
-// A row that has grown.
+// A reference to a row that has grown.
 struct Grown<'a> {
     row: &'a mut Row,
 }
 
+// The reference, taken out of its struct.
 fn handed_on<'a>(grown: Result<Grown<'a>>) -> Result<&'a mut Row>
     ensures { result ≡ row_of grown.entry }
 {

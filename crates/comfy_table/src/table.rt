@@ -125,7 +125,7 @@ impl Table {
         self.enforce_styling || self.writes_to_tty()
     }
 
-    // `set_header`, with the reference in a struct: so callers learn what stands at an error.
+    // `set_header`, with the reference in a struct: so that its `err` can be proved.
     fn grown_by_header<T: IntoRow>(&mut self, row: T) -> Result<Grown<'_>>
         ensures* err { sem 𝓛 (TableStaysIfErr self.entry (table_of result)) }
         ensures same_reference { IfOk (table_of result) (λ table. table.ghost_name ≡ self.entry.ghost_name) }
@@ -172,11 +172,12 @@ impl Table {
     }
 }
 
-// A table that has grown.
+// A reference to a table that has grown.
 struct Grown<'a> {
     table: &'a mut Table,
 }
 
+// The reference, taken out of its struct.
 fn handed_on<'a>(grown: Result<Grown<'a>>) -> Result<&'a mut Table>
     ensures { result ≡ table_of grown.entry }
 {

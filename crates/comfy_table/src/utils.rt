@@ -19,7 +19,7 @@ pub fn build_table(table: &Table) -> Result<Lines>
     ensures drawing { IfOk result (λ lines. IsDrawingOf table.now lines) }
     ensures headline { IfOk result (λ lines. IsTableDrawing table.now lines) }
 {
-    // opened, since what a text line or the indicator can be is known of the fields alone
+    // Reading a field opens the table, which tells what every table keeps.
     let _ = &table.indicator;
     let infos = arrange_content(table)?;
     let lines = draw(table, infos.as_slice())?;

@@ -5,6 +5,7 @@ mod cells;
 mod devices;
 mod presets;
 mod program;
+mod readers;
 mod readme;
 mod styles;
 mod support;

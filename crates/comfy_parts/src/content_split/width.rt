@@ -13,7 +13,8 @@ pub fn measure_text_width(text: &str) -> usize
     text.width()
 }
 
-/// Whether a text takes more than these places. Of a long text it looks mostly at as much as decides it.
+/// Whether a text takes more than these places. A long text is measured from its end in growing pieces, mostly no
+/// further than it takes to decide.
 pub fn is_wider(text: &str, places: usize) -> bool
     ensures { result ≡ nat_lt places (measure text.now) }
 {

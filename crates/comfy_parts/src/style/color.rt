@@ -3,23 +3,42 @@
 /// A colour of a terminal: the terminal's own, one of sixteen, one by its three parts, or one of 256.
 #[derive(Copy, Clone, Debug, PartialEq, Eq, PartialOrd, Ord, Hash)]
 pub enum Color {
+    /// The terminal's own colour.
     Reset,
+    /// Colour 0 of 256.
     Black,
+    /// Colour 8 of 256.
     DarkGrey,
+    /// Colour 9 of 256.
     Red,
+    /// Colour 1 of 256.
     DarkRed,
+    /// Colour 10 of 256.
     Green,
+    /// Colour 2 of 256.
     DarkGreen,
+    /// Colour 11 of 256.
     Yellow,
+    /// Colour 3 of 256.
     DarkYellow,
+    /// Colour 12 of 256.
     Blue,
+    /// Colour 4 of 256.
     DarkBlue,
+    /// Colour 13 of 256.
     Magenta,
+    /// Colour 5 of 256.
     DarkMagenta,
+    /// Colour 14 of 256.
     Cyan,
+    /// Colour 6 of 256.
     DarkCyan,
+    /// Colour 15 of 256.
     White,
+    /// Colour 7 of 256.
     Grey,
+    /// A colour by its red, green and blue part.
     Rgb { r: u8, g: u8, b: u8 },
+    /// One of 256 colours by its number.
     AnsiValue(u8),
 }

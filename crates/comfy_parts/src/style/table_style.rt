@@ -13,9 +13,13 @@ ghost use Rattle.comfy_parts.specs.StyleModifiers.{with_rounded_corners, with_so
 /// ```
 #[derive(Copy, Clone, Debug, Default, PartialEq, Eq)]
 pub struct LineStyle {
+    /// The left border's character.
     pub left: Option<char>,
+    /// The character that fills the widths of the columns.
     pub fill: Option<char>,
+    /// The character between two columns.
     pub junction: Option<char>,
+    /// The right border's character.
     pub right: Option<char>,
 }
 
@@ -89,8 +93,11 @@ impl LineStyle {
 /// ```
 #[derive(Copy, Clone, Debug, Default, PartialEq, Eq)]
 pub struct ContentLineStyle {
+    /// The left border's character.
     pub left: Option<char>,
+    /// The character between two columns.
     pub junction: Option<char>,
+    /// The right border's character.
     pub right: Option<char>,
 }
 
@@ -156,11 +163,17 @@ impl ContentLineStyle {
 /// ```
 #[derive(Copy, Clone, Debug, Default, PartialEq, Eq)]
 pub struct TableStyle {
+    /// The line above everything.
     pub top_border: LineStyle,
+    /// The borders of the header's lines.
     pub header_lines: ContentLineStyle,
+    /// The line below the header.
     pub header_separator: LineStyle,
+    /// The borders of the rows' lines.
     pub content_lines: ContentLineStyle,
+    /// The line between two rows.
     pub row_separator: LineStyle,
+    /// The line below everything.
     pub bottom_border: LineStyle,
 }
 

@@ -29,7 +29,7 @@ pub fn table_of(alloc: Global, text: &str, settings: Settings) -> Result<Table>
     Ok(table)
 }
 
-// A table with nothing in it.
+// A table without rows that has the width and the style of the settings.
 fn empty_table(alloc: Global, settings: Settings) -> Table
     ensures { result ≡ record (new_table settings.style) { set_width = settings.width } }
 {

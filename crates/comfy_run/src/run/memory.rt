@@ -5,7 +5,7 @@ ghost use Rattle.comfy_run.specs.Device.{left_in, is_due, after_reading, is_full
 ghost use Rattle.comfy_run.specs.DeviceLaws.{none_is_left};
 
 use crate::run::device::{DeviceFault, Sink, Source};
-use std::alloc::{AllocError, Global};
+use std::alloc::Global;
 use std::marker::Model;
 
 /// A source over bytes, one call of which fails.
@@ -99,7 +99,7 @@ impl MemorySink {
     /// An empty sink with room for this many bytes, which is taken here: no later call takes memory.
     /// It takes as many bytes of a piece as have room, and fails where the piece isn't empty and no
     /// room is left. Its `k`-th call fails; with 0 none does for that.
-    pub fn new(alloc: Global, room: usize, k: u64) -> Result<MemorySink, AllocError>
+    pub fn new(alloc: Global, room: usize, k: u64) -> comfy_table::Result<MemorySink>
         ensures { IfOk result (λ s. s ≡ record { bytes = []; room = room; fails_at = k; failed = false }) }
     {
         Ok(MemorySink {

@@ -9,7 +9,7 @@ use comfy_table::{ContentArrangement, TableStyle};
 /// How the table of an input is drawn.
 #[derive(Clone, Copy, Debug)]
 pub struct Settings {
-    /// The width that the table keeps to, in places.
+    /// The width of the table in places; none where none is kept.
     pub width: Option<u16>,
     /// How the widths of the columns are found. Each is drawn as `Disabled` so far.
     pub arrangement: ContentArrangement,
@@ -17,8 +17,8 @@ pub struct Settings {
     pub style: TableStyle,
 }
 
-/// The settings that the words after the program's name ask for, if they ask for any. No word is
-/// known yet.
+/// The settings that the words after the program's name ask for, or none where a word isn't known.
+/// No word is known yet, and without words they are the plain ones.
 pub fn settings_of(args: &[&str]) -> Option<Settings>
     ensures { result ≡ settings_for args.now }
 {

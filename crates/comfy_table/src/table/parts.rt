@@ -26,15 +26,15 @@ impl Table {
         self.rows.is_empty()
     }
 
-    /// The column at a position.
+    /// The column at a position, counted from 0; none past the last.
     pub fn column(&self, index: usize) -> Option<&Column>
         ensures { option_copied result ≡ slice_get self.now.columns index }
     {
         self.columns.get(index)
     }
 
-    /// The column at a position, to be changed. What is written through it changes that column, and nothing else of the
-    /// table.
+    /// The column at a position, counted from 0, to be changed; none past the last. What is written through it changes
+    /// that column, and nothing else of the table.
     pub fn column_mut(&mut self, index: usize) -> Option<&mut Column>
         ensures* lent { sem 𝓛 (LendsColumn self.entry index result) }
         ensures found { IsSome result ↔ (index < length self.old.columns) }

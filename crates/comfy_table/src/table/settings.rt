@@ -35,7 +35,8 @@ impl Table {
         &mut self.style
     }
 
-    /// Sets where texts are cut, unless their column or cell says otherwise. Without it a space.
+    /// Sets the character at which texts may break, unless their column or cell has one of its own. Without it that is a
+    /// space.
     pub fn set_delimiter(&mut self, delimiter: char) -> &mut Self
         ensures same_reference { result.ghost_name ≡ self.entry.ghost_name }
         ensures value { result.now ≡ record self.old { delimiter = Some delimiter } }
@@ -54,7 +55,7 @@ impl Table {
         handed_on(self.grown_by_indicator(indicator))
     }
 
-    // `set_truncation_indicator`, with the reference in a struct: so callers learn what stands at an error.
+    // `set_truncation_indicator`, with the reference in a struct: so that its `err` can be proved.
     fn grown_by_indicator<'a>(&'a mut self, indicator: &str) -> Result<Grown<'a>>
         ensures* err { sem 𝓛 (TableStaysIfErr self.entry (table_of result)) }
         ensures same_reference { IfOk (table_of result) (λ table. table.ghost_name ≡ self.entry.ghost_name) }
@@ -74,7 +75,7 @@ impl Table {
         Ok(())
     }
 
-    /// Sets the width in places that the table's percentages are of.
+    /// Sets the width of the table in places. Percentages of constraints are taken of it.
     pub fn set_width(&mut self, width: u16) -> &mut Self
         ensures same_reference { result.ghost_name ≡ self.entry.ghost_name }
         ensures value { result.now ≡ record self.old { set_width = Some width } }

@@ -7,7 +7,7 @@ pub struct Terminal {
     pub stdout_is_tty: bool,
     /// Whether standard error is a terminal.
     pub stderr_is_tty: bool,
-    /// How many places a line of it has.
+    /// How many places a line of it has; none where that isn't known.
     pub width: Option<u16>,
 }
 

@@ -1,6 +1,6 @@
-//! Calls that no drawing makes.
+//! Calls of a table beside `lines`, and the calls that `lines` makes.
 
-use super::support::{assert_texts, cell};
+use super::support::{assert_texts, cell, table_of_one_cell};
 use comfy_parts::content_split::ColumnDisplayInfo;
 use comfy_parts::style::{ColumnConstraint, Width};
 use comfy_parts::{Column, Row};
@@ -11,21 +11,11 @@ use comfy_table::utils::arrangement::helper::{
 };
 use comfy_table::utils::build_table;
 use comfy_table::utils::formatting::content_format::{self, format_row};
-use std::alloc::Global;
 use std::test::Fail;
-
-// A table of one row of one cell.
-fn one(alloc: Global, text: &str) -> comfy_parts::Result<Table> {
-    let mut row = Row::new(alloc);
-    row.add_cell(cell(alloc, text)?)?;
-    let mut table = Table::new(alloc);
-    table.add_row(row)?;
-    Ok(table)
-}
 
 #[test]
 fn a_text_joins_its_lines(rt: HostRuntime) -> Result<(), Fail> {
-    let table = one(rt.alloc(), "a")?;
+    let table = table_of_one_cell(rt.alloc(), "a")?;
     let text = table.to_text()?;
     assert_eq!(rt; text.as_str(), "+---+\n| a |\n+---+");
     assert_eq!(rt; table.row_count(), 1);
@@ -36,7 +26,7 @@ fn a_text_joins_its_lines(rt: HostRuntime) -> Result<(), Fail> {
 }
 
 #[test]
-fn a_column_keeps_its_settings(rt: HostRuntime) {
+fn paddings_and_hiding_are_looked_at(rt: HostRuntime) {
     let mut column = Column::new(0);
     assert_eq!(rt; absolute_width_with_padding(&column, 8), 6);
     column.set_padding((65535, 65535));
@@ -50,7 +40,7 @@ fn a_column_keeps_its_settings(rt: HostRuntime) {
 
 #[test]
 fn helpers_give_single_values(rt: HostRuntime) -> Result<(), Fail> {
-    let mut table = one(rt.alloc(), "a")?;
+    let mut table = table_of_one_cell(rt.alloc(), "a")?;
     assert_eq!(rt; count_border_columns(&table, 3), 4);
     assert_eq!(rt; count_border_columns(&table, 0), 2);
     let whole = Width::Percentage(150);
@@ -64,7 +54,7 @@ fn helpers_give_single_values(rt: HostRuntime) -> Result<(), Fail> {
 
 #[test]
 fn a_cell_has_the_first_delimiter_that_is_set(rt: HostRuntime) -> Result<(), Fail> {
-    let mut table = one(rt.alloc(), "a")?;
+    let mut table = table_of_one_cell(rt.alloc(), "a")?;
     let cell = cell(rt.alloc(), "x")?;
     let mut column = Column::new(0);
     assert_eq!(rt; delimiter(&table, &column, &cell), ' ');
@@ -80,7 +70,7 @@ fn a_cell_has_the_first_delimiter_that_is_set(rt: HostRuntime) -> Result<(), Fai
 // The column's delimiter is read from its info.
 #[test]
 fn an_info_has_the_delimiter_of_its_column(rt: HostRuntime) -> Result<(), Fail> {
-    let mut table = one(rt.alloc(), "a")?;
+    let mut table = table_of_one_cell(rt.alloc(), "a")?;
     let cell = cell(rt.alloc(), "x")?;
     let mut column = Column::new(0);
     let info = ColumnDisplayInfo::new(&column, 5);
@@ -97,7 +87,7 @@ fn an_info_has_the_delimiter_of_its_column(rt: HostRuntime) -> Result<(), Fail> 
 
 #[test]
 fn a_row_is_formatted_by_the_infos_handed_in(rt: HostRuntime) -> Result<(), Fail> {
-    let table = one(rt.alloc(), "unused")?;
+    let table = table_of_one_cell(rt.alloc(), "unused")?;
     let mut row = Row::new(rt.alloc());
     row.add_cell(cell(rt.alloc(), "ab cd")?)?
         .add_cell(cell(rt.alloc(), "past the last info")?)?;

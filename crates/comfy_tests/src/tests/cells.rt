@@ -90,3 +90,11 @@ fn an_error_has_its_text(rt: HostRuntime) -> Result<(), Fail> {
     assert_eq!(rt; text.as_str(), "out of memory");
     Ok(())
 }
+
+#[test]
+fn a_new_column_has_no_settings(rt: HostRuntime) {
+    let column = Column::new(3);
+    assert!(rt; column.column_delimiter().is_none());
+    assert!(rt; column.column_alignment().is_none());
+    assert!(rt; !column.is_hidden());
+}

@@ -5,7 +5,7 @@ use comfy_run::run::{
     run,
 };
 use comfy_table::ContentArrangement;
-use comfy_table::presets::ASCII_FULL;
+use comfy_table::presets::{ASCII_FULL, ASCII_MARKDOWN};
 use std::alloc::{AllocError, Global};
 use std::io::{self, Read, Write};
 use std::test::Fail;
@@ -203,6 +203,22 @@ fn a_slow_writer_takes_everything(rt: HostRuntime) -> Result<(), Fail> {
     let (bytes, answer) = run_slowly(rt.alloc(), 18, false)?;
     assert_eq!(rt; answer, Ok(()));
     assert_eq!(rt; bytes.as_slice(), OUTPUT);
+    Ok(())
+}
+
+#[test]
+fn the_style_is_that_of_the_settings(rt: HostRuntime) -> Result<(), Fail> {
+    let mut source = MemorySource::new(b"Hello\tthere\na\tb\n", 0);
+    let mut sink = MemorySink::new(rt.alloc(), 200, 0)?;
+    let settings = Settings {
+        width: Some(5),
+        style: ASCII_MARKDOWN,
+        ..PLAIN
+    };
+    let answer = run(rt.alloc(), &mut source, &mut sink, settings);
+    assert_eq!(rt; answer, Ok(()));
+    let drawn = b"| Hello | there |\n|-------|-------|\n| a     | b     |\n".as_slice();
+    assert_eq!(rt; sink.bytes(), drawn);
     Ok(())
 }
 

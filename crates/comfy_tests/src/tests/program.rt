@@ -41,7 +41,7 @@ fn assert_ends(
     words: &[&str],
     given: Given,
     ended: (u8, &[u8], &[u8]),
-) -> Result<(), AllocError> {
+) -> comfy_table::Result<()> {
     let mut source = MemorySource::new(given.input, given.failing_read);
     let mut sink = MemorySink::new(rt.alloc(), 4096, given.failing_write)?;
     let mut reports = MemorySink::new(rt.alloc(), 256, given.failing_report)?;

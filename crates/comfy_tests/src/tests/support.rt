@@ -1,12 +1,22 @@
 //! What the tests share.
 
-use comfy_parts::{Cell, Result};
+use comfy_parts::{Cell, Result, Row};
+use comfy_table::Table;
 use std::alloc::Global;
 use std::process::Abort;
 
 /// The cell of a text.
 pub fn cell(alloc: Global, text: &str) -> Result<Cell> {
     Cell::new_owned(alloc, String::from_str(alloc, text)?)
+}
+
+/// A table of one row of one cell.
+pub fn table_of_one_cell(alloc: Global, text: &str) -> Result<Table> {
+    let mut row = Row::new(alloc);
+    row.add_cell(cell(alloc, text)?)?;
+    let mut table = Table::new(alloc);
+    table.add_row(row)?;
+    Ok(table)
 }
 
 /// Compares texts one by one.

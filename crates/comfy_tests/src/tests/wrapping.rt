@@ -77,11 +77,3 @@ fn an_info_is_as_wide_as_its_content_and_paddings(rt: HostRuntime) {
     assert_eq!(rt; info.width(), 131071);
     assert!(rt; !info.is_hidden());
 }
-
-#[test]
-fn a_new_column_has_no_settings(rt: HostRuntime) {
-    let column = Column::new(3);
-    assert!(rt; column.column_delimiter().is_none());
-    assert!(rt; column.column_alignment().is_none());
-    assert!(rt; !column.is_hidden());
-}

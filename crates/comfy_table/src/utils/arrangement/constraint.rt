@@ -7,8 +7,8 @@ use crate::table::Table;
 use crate::utils::arrangement::helper::count_border_columns;
 use comfy_parts::style::{ColumnConstraint, Width};
 
-/// The lower boundary of a constraint, in places of a whole column; none where it has none, or where it is a percentage
-/// and the table's width isn't known.
+/// The lower boundary of a constraint, in places of a whole column; none for a constraint without one, and for a
+/// percentage where the table's width isn't known.
 pub fn min(
     table: &Table,
     constraint: &Option<ColumnConstraint>,

@@ -41,14 +41,22 @@ pub fn count_border_columns(table: &Table, visible_columns: usize) -> usize
     (left + right).saturating_add(between)
 }
 
-/// Where the texts of a cell are cut: its own delimiter, else its column's, else the table's, else a space.
+/// The character at which the texts of a cell may break: its own delimiter, else its column's, else the table's, else a
+/// space.
 pub fn delimiter(table: &Table, column: &Column, cell: &Cell) -> char
     ensures { result ≡ cell_delimiter table.now column.now.delimiter cell.now }
+{
+    chosen_delimiter(cell, column.column_delimiter(), table)
+}
+
+// The same, where the column's delimiter is known.
+pub(crate) fn chosen_delimiter(cell: &Cell, column_delimiter: Option<char>, table: &Table) -> char
+    ensures { result ≡ cell_delimiter table.now column_delimiter cell.now }
 {
     if let Some(delimiter) = cell.cell_delimiter() {
         return delimiter;
     }
-    match column.column_delimiter() {
+    match column_delimiter {
         Some(delimiter) => delimiter,
         None => table.delimiter.unwrap_or(' '),
     }

@@ -48,8 +48,8 @@ pub fn should_draw_vertical_lines(table: &Table) -> bool
         || style.bottom_border.junction.is_some()
 }
 
-// A line of content: its pieces between the drawn borders, with junctions where vertical lines are drawn.
-pub fn content_line(
+/// A line of content: its pieces between the drawn borders, with junctions where vertical lines are drawn.
+pub(crate) fn content_line(
     alloc: Global,
     table: &Table,
     line: &ContentLineStyle,
@@ -68,8 +68,8 @@ pub fn content_line(
     Ok(text)
 }
 
-// A line of the frame over columns of these whole widths, where it is drawn: any of its four parts is set.
-pub fn optional_frame_line(
+/// A line of the frame over columns of these whole widths, where it is drawn: any of its four parts is set.
+pub(crate) fn optional_frame_line(
     alloc: Global,
     table: &Table,
     line: &LineStyle,

@@ -45,7 +45,7 @@ fn push_lines_of_text(
     Ok(())
 }
 
-// Of more lines than a row's greatest height those that stay, the last of them cut.
+// The first `max_height` lines, the last of them cut, where there are more.
 pub fn cut_at(
     alloc: Global,
     lines: Vec<String>,
@@ -86,12 +86,12 @@ fn cut_line(alloc: Global, line: &str, width: u16, indicator: &str) -> Result<St
     ensures { IfOk result (λ cut. string_bytes cut ≡ cut_line width indicator.now line.now) }
 {
     let places = usize::from(width);
-    let shown = measure_text_width(indicator);
-    if shown > places {
+    let indicator_width = measure_text_width(indicator);
+    if indicator_width > places {
         let (head, _) = split_long_word(places, line);
         return Ok(String::from_str(alloc, head)?);
     }
-    let (head, _) = split_long_word(places - shown, line);
+    let (head, _) = split_long_word(places - indicator_width, line);
     let mut cut = String::from_str(alloc, head)?;
     cut.push_str(indicator)?;
     Ok(cut)

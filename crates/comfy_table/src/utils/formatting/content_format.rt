@@ -6,6 +6,7 @@ ghost use Rattle.comfy_table.specs.Pieces.{content_lines, row_lines, visible_inf
 ghost use Rattle.comfy_table.specs.DrawnCells.{drawn_cell, greatest_height, height_of, lines_of_optional, piece_at};
 
 use crate::table::Table;
+use crate::utils::arrangement::helper::chosen_delimiter;
 use crate::utils::formatting::cell_lines::{cell_lines, cut_at};
 use crate::utils::formatting::piece::{filling, piece};
 use comfy_parts::content_split::ColumnDisplayInfo;
@@ -165,17 +166,12 @@ fn row_cell_lines(
     )
 }
 
-/// Where the texts of a cell are cut: its own delimiter, else its column's, else the table's, else a space.
+/// The character at which the texts of a cell may break: its own delimiter, else its column's, else the table's, else a
+/// space.
 pub fn delimiter(cell: &Cell, info: &ColumnDisplayInfo, table: &Table) -> char
     ensures { result ≡ cell_delimiter table.now info.now.delimiter cell.now }
 {
-    if let Some(delimiter) = cell.cell_delimiter() {
-        return delimiter;
-    }
-    match info.delimiter {
-        Some(delimiter) => delimiter,
-        None => table.delimiter.unwrap_or(' '),
-    }
+    chosen_delimiter(cell, info.delimiter, table)
 }
 
 // The height of a row: that of its highest visible cell.

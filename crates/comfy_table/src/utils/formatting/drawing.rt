@@ -28,7 +28,7 @@ pub fn draw(table: &Table, infos: &[ColumnDisplayInfo]) -> Result<Vec<String>>
     Ok(lines)
 }
 
-// The whole widths of the visible columns.
+// The whole widths of the visible columns, counted by position as the definition counts them.
 fn visible_widths(alloc: Global, infos: &[ColumnDisplayInfo]) -> Result<Vec<usize>>
     ensures { IfOk result (λ widths. widths.items ≡ visible_widths infos.now) }
 {

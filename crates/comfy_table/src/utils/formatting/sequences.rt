@@ -7,7 +7,7 @@ use comfy_parts::style::{Attribute, Color};
 use comfy_parts::{Cell, Result};
 use std::alloc::Global;
 
-// all attributes, in the order in which they are written
+// All attributes, in the order in which they are written
 const ALL_ATTRIBUTES: [Attribute; 28] = [
     Attribute::Reset,
     Attribute::Bold,
@@ -50,7 +50,7 @@ pub(crate) fn styled(alloc: Global, cell: &Cell, text: &str) -> Result<String>
     Ok(line)
 }
 
-// what stands before a styled text: background, foreground, attributes
+// What stands before a styled text: background, foreground, attributes
 fn push_style_begin(alloc: Global, line: &mut String, cell: &Cell) -> Result<()>
     ensures { OnOk result (string_bytes line.new ≡ string_bytes line.old ++ style_begin cell.now) }
 {
@@ -78,7 +78,7 @@ fn push_foreground(alloc: Global, line: &mut String, color: Option<Color>) -> Re
     }
 }
 
-// what stands behind a styled text
+// What stands behind a styled text
 fn push_style_end(line: &mut String, cell: &Cell) -> Result<()>
     ensures { OnOk result (string_bytes line.new ≡ string_bytes line.old ++ style_end cell.now) }
 {
@@ -94,14 +94,14 @@ fn push_style_end(line: &mut String, cell: &Cell) -> Result<()>
     Ok(())
 }
 
-// the sequences of these attributes, each once and in the order of all
+// The sequences of these attributes, each once and in the order of all
 fn push_attributes(line: &mut String, given: &[Attribute]) -> Result<()>
     ensures { OnOk result (string_bytes line.new ≡ string_bytes line.old ++ attribute_sequences given.now) }
 {
     push_given(line, &ALL_ATTRIBUTES, given)
 }
 
-// the sequences of those attributes that were given
+// The sequences of those attributes that were given
 fn push_given(line: &mut String, attributes: &[Attribute], given: &[Attribute]) -> Result<()>
     ensures { OnOk result (string_bytes line.new ≡ string_bytes line.old ++ flat_map (λ a. sequence (attribute_code a)) (filter (has_attribute given.now) attributes.now)) }
 {
@@ -113,7 +113,7 @@ fn push_given(line: &mut String, attributes: &[Attribute], given: &[Attribute]) 
     Ok(())
 }
 
-// attributes are told apart by their codes, since no two share one
+// Attributes are told apart by their codes, since no two share one
 fn has_attribute(given: &[Attribute], attribute: Attribute) -> bool
     ensures { result ≡ has_attribute given.now attribute }
 {
@@ -151,7 +151,7 @@ fn foreground_code(alloc: Global, color: Color) -> Result<String>
     Ok(code)
 }
 
-// by its number of sixteen or of 256, or by its three parts
+// The code of a colour other than `Reset`: by its number of sixteen or of 256, or by its three parts
 fn push_color_code(code: &mut String, color: Color) -> Result<()>
     ensures { OnOk result (string_bytes code.new ≡ string_bytes code.old ++ color_code color) }
 {

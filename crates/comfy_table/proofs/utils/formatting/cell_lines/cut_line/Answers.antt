@@ -3,10 +3,10 @@ use Rattle.comfy_parts.specs.Text.{head, measure}
 use Rattle.comfy_table.proofs.CutLemmas.{cut_line-wide}
 use Rattle.comfy_table.proofs.utils.formatting.cell_lines.cut_line.Goals as goal
 
-pub returns-then-shown-places : goal.returns-then-shown-places
-returns-then-shown-places c =
+pub returns-then-indicator_width-places : goal.returns-then-indicator_width-places
+returns-then-indicator_width-places c =
     let places = c.from-places.ensures in
-    let wide : c.args.width < measure c.args.indicator.now = omega (arith, c.measure_text_width-shown.ensures.value, places, c.if-shown-places.true) in
+    let wide : c.args.width < measure c.args.indicator.now = omega (arith, c.measure_text_width-indicator_width.ensures.value, places, c.if-indicator_width-places.true) in
     c.in_ok-from_str.ensures.ok
     ∙ c.split_long_word.ensures.head
     ∙ ap (λ n. head n c.args.line.now) places
