@@ -1,11 +1,13 @@
 -- The laws of texts of cells, and of columns that grow.
-use Rattle.std.proofs.Common.{◌≡◌, ◌<◌, ◌==◌, ℕ, ◌-◌, ◌+◌, zero, suc, Bool, true, false, List, [], ◌∷◌, ◌++◌, length, map, arith, refl, sym, ap, ◌∙◌, length-append, lit<}
+use Rattle.std.proofs.Common.{◌≡◌, ◌<◌, ◌==◌, ℕ, ◌-◌, ◌+◌, zero, suc, Bool, true, false, List, [], ◌∷◌, ◌++◌, length, map, arith, refl, sym, ap, ◌∙◌, length-append, lit<, String, string_bytes}
 use Rattle.std.proofs.lemmas.List.{length-map}
 use Rattle.std.proofs.lemmas.List.Elements.{All-cons, All-nil, All-head, All-tail}
 use Rattle.std.specs.List.{All, list_any, onto_first, range_with_len, slice_split}
 use Rattle.std.proofs.lemmas.List.FromFn.{length-range_with_len}
 use Rattle.std.proofs.lemmas.List.Splits.{join_with_byte-slice_split, length-slice_split, slice_split-cons_no, slice_split-cons_yes}
 use Rattle.comfy_parts.specs.CellValue.{ColumnValue, ContentIsTheText, HasTextLines, NoFewerColumns, new_column}
+use Rattle.std.proofs.lemmas.Str.{IsUtf8-string_bytes}
+use Rattle.std.specs.Str.{IsUtf8}
 use Rattle.comfy_parts.specs.Text.{Text}
 
 -- the content of a cell that was made of a text is that text
@@ -31,9 +33,15 @@ unbroken-split (c ∷ cs) = by_test (c == 0x0A) refl (unbroken-split cs)
     by_test true is rest = rw (slice_split-cons_yes (λ b. b == 0x0A) c cs is) (All-cons IsUnbroken [] (slice_split (λ b. b == 0x0A) cs) refl rest)
     by_test false is rest = rw (slice_split-cons_no (λ b. b == 0x0A) c cs is) (unbroken-onto_first c (slice_split (λ b. b == 0x0A) cs) is rest)
 
+-- what strings hold is whole characters
+whole_texts : {A : Type 0} (texts : List (String A)) → All IsUtf8 (map string_bytes texts)
+whole_texts [] = All-nil IsUtf8
+whole_texts (text ∷ texts) = All-cons IsUtf8 (string_bytes text) (map string_bytes texts) (IsUtf8-string_bytes text) (whole_texts texts)
+
 -- a text has text lines
-pub has_text_lines : (text : Text) → HasTextLines (slice_split (λ b. b == 0x0A) text)
-has_text_lines text = record { some_line = omega (arith, length-slice_split (λ b. b == 0x0A) text); no_breaks = unbroken-split text }
+pub has_text_lines : {A : Type 0} (text : Text) (texts : List (String A)) → map string_bytes texts ≡ slice_split (λ b. b == 0x0A) text → HasTextLines (map string_bytes texts)
+has_text_lines text texts cut =
+    record { some_line = rw cut (omega (arith, length-slice_split (λ b. b == 0x0A) text)); no_breaks = rw cut (unbroken-split text); whole = whole_texts texts }
 
 -- columns that grow to n are as many as before or n, whichever is more
 pub no_fewer_columns : (n : ℕ) (columns : List ColumnValue) → NoFewerColumns n columns

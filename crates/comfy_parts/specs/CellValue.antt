@@ -1,5 +1,5 @@
 -- What cells, rows, columns and drawn columns are, as values.
-use Rattle.std.specs.Prelude.{ℕ, ℤ, ◌+◌, ◌-◌, Bool, true, false, not, List, [], ◌∷◌, ◌++◌, Option, Some, None, map, filter, length, max, min, codes, decimal, encode_utf8, if◌then◌else◌, ◌≡◌, ◌<◌, ◌≤◌, ◌==◌, All, IfSome}
+use Rattle.std.specs.Prelude.{ℕ, ℤ, ◌+◌, ◌-◌, Bool, true, false, not, List, [], ◌∷◌, ◌++◌, Option, Some, None, map, filter, length, max, min, codes, decimal, encode_utf8, if◌then◌else◌, ◌≡◌, ◌<◌, ◌≤◌, ◌==◌, All, IfSome, IsUtf8}
 use Rattle.std.specs.Fmt.{signed_decimal}
 use Rattle.std.specs.List.{range_with_len, slice_split, list_any, join_with_byte}
 use Rattle.comfy_parts.specs.Text.{Text}
@@ -18,10 +18,11 @@ pub record CellValue : Type 0 where
   pub background : Option Color
   pub attributes : List Attribute
 
--- at least one text line, and none holds a line feed
+-- at least one text line, none holds a line feed, and each is whole characters
 pub record HasTextLines (text_lines : List Text) : Type 0 where
   pub some_line : 0 < length text_lines
   pub no_breaks : All (λ (line : Text). list_any (λ b. b == 0x0A) line ≡ false) text_lines
+  pub whole : All IsUtf8 text_lines
 
 -- what every cell keeps
 abbrev pub IsCell : CellValue → Type 0

@@ -1,10 +1,10 @@
 //! A row: its cells, and the greatest height of its cells.
 
-ghost use Rattle.std.specs.Prelude.{◌≡◌, IfOk, OnOk, OnErr, length, []};
+ghost use Rattle.std.specs.Prelude.{◌≡◌, ◌≤◌, IfOk, IfSome, OnOk, OnErr, length, []};
 ghost use Rattle.std.specs.Borrow.{sem};
 ghost use Rattle.std.specs.Iterator.Adapters.{IterYieldsInOrder};
 ghost use Rattle.std.specs.Slice.Iter.{iter_rest};
-ghost use Rattle.comfy_parts.specs.CellValue.{CellValue, plain_row, with_cell, with_max_height};
+ghost use Rattle.comfy_parts.specs.CellValue.{CellValue, IsRow, plain_row, with_cell, with_max_height};
 ghost use Rattle.comfy_parts.specs.GrownRow.{row_of};
 ghost use Rattle.comfy_parts.specs.RowLoans.{RowStaysIfErr};
 
@@ -22,9 +22,11 @@ pub struct Row {
 }
 
 impl Model for Row {
-    ghost use Rattle.comfy_parts.specs.CellValue.{RowValue};
+    ghost use Rattle.comfy_parts.specs.CellValue.{IsRow, RowValue};
 
     ghost Value = { RowValue };
+
+    ghost invariant = { λ r. IsRow (record { cells = r.cells.items; max_height = r.max_height }) };
 
     ghost view = { λ r. record { cells = r.cells.items; max_height = r.max_height } };
 }
@@ -64,6 +66,8 @@ impl Row {
         ensures ok { OnOk result (self.new ≡ with_cell cell self.old) }
         ensures err { OnErr result (self.new ≡ self.old) }
     {
+        // what every cell keeps
+        let _ = cell.text_lines();
         self.cells.push(cell)?;
         Ok(())
     }
@@ -80,14 +84,16 @@ impl Row {
 
     /// How many cells the row has.
     pub fn cell_count(&self) -> usize
-        ensures { result ≡ length self.now.cells }
+        ensures value { result ≡ length self.now.cells }
+        ensures kept { IsRow self.now }
     {
         self.cells.len()
     }
 
-    /// How many lines of each cell are drawn at the most; none where all are drawn.
+    /// How many lines of each cell are drawn at the most, at least 1; none where all are drawn.
     pub fn height_limit(&self) -> Option<usize>
-        ensures { result ≡ self.now.max_height }
+        ensures value { result ≡ self.now.max_height }
+        ensures kept { IfSome result (λ lines. 1 ≤ lines) }
     {
         self.max_height
     }

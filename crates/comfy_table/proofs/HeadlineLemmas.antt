@@ -1,25 +1,66 @@
 -- What a drawing over the table's infos promises.
-use Rattle.std.proofs.Common.{◌≡◌, List, Option, Some, None, String, refl, ap, ◌∙◌}
+use Rattle.std.proofs.Common.{◌≡◌, ◌⊎◌, inl, inr, ℕ, Bool, true, false, if◌then◌else◌, nat_le, List, [], ◌∷◌, ◌++◌, Option, Some, None, option_to_list, String, refl, ap, sym, ◌∙◌}
+use Rattle.std.proofs.lemmas.List.Elements.{All-cons, All-weaker}
 use Rattle.std.proofs.lemmas.Str.{IsUtf8-string_bytes}
+use Rattle.std.specs.Char.{IsScalar}
+use Rattle.std.specs.List.{All}
+use Rattle.std.specs.Option.{IfSome}
 use Rattle.std.specs.Str.{IsUtf8}
 use Rattle.comfy_parts.proofs.Computing.{wrapping}
+use Rattle.comfy_parts.proofs.WrappedLemmas.{wrapped_is_wrapped}
 use Rattle.comfy_parts.proofs.WrappingLemmas.{one_character}
-use Rattle.comfy_parts.specs.CellValue.{ColumnInfo}
-use Rattle.comfy_parts.specs.Text.{Text}
+use Rattle.comfy_parts.specs.CellValue.{CellValue, ColumnInfo, IsCell, IsRow, RowValue}
+use Rattle.comfy_parts.specs.Text.{Text, measure}
+use Rattle.comfy_parts.specs.Wrapping.{IsWrapped, wrapped}
 use Rattle.comfy_table.proofs.EqualCountLemmas.{equal_counts}
+use Rattle.comfy_table.proofs.ListLemmas.{All-at, All-every}
 use Rattle.comfy_table.specs.Arrangement.{AreInfosOf, IsDrawingOf}
-use Rattle.comfy_table.specs.Drawing.{drawing_of_infos}
-use Rattle.comfy_table.specs.Headline.{IsTableDrawing}
-use Rattle.comfy_table.specs.TableValue.{TableValue, ellipsis, indicator_of}
+use Rattle.comfy_table.proofs.UnstyledLemmas.{unstyled_drawing}
+use Rattle.comfy_table.specs.Drawing.{drawing_of_infos, infos_of}
+use Rattle.comfy_table.specs.Headline.{IsCutIntoSlices, IsTableDrawing, IsTextOrSlices}
+use Rattle.comfy_table.specs.Lines.{cell_delimiter}
+use Rattle.comfy_table.specs.Pieces.{visible_infos}
+use Rattle.comfy_table.specs.TableValue.{KeepsRows, TableValue, ellipsis, header_and_rows, indicator_of}
 
 -- lines that are drawn over the table's infos are its drawing
 pub drawing_of_table : (table : TableValue) (infos : List ColumnInfo) (lines : List Text) → AreInfosOf table infos → lines ≡ drawing_of_infos table infos → IsDrawingOf table lines
 drawing_of_table table infos lines (widths, arranged, is) drawn = (widths, arranged, drawn ∙ ap (drawing_of_infos table) is)
 
+-- the lines of a text are the text, or slices of it
+text_or_slices : (w d : ℕ) (text : Text) → IsScalar d → IsUtf8 text → IsTextOrSlices w d text
+text_or_slices w d text scalar whole = by_test (nat_le (measure text) w)
+  where
+    by_test : (fits : Bool) → ((if fits then text ∷ [] else wrapped w d text) ≡ text ∷ []) ⊎ IsWrapped w d text (if fits then text ∷ [] else wrapped w d text)
+    by_test true = inl refl
+    by_test false = inr (wrapped_is_wrapped w d text scalar whole)
+
+-- such are the lines of each text line of a row's cells
+row_slices : (table : TableValue) (row : RowValue) → IsRow row → (p : ℕ × ColumnInfo) → IsCutIntoSlices table row p
+row_slices table row kept p cell is scalar =
+    All-weaker IsUtf8 (IsTextOrSlices p.1.content_width (cell_delimiter table p.1.delimiter cell))
+    (λ text whole. text_or_slices p.1.content_width (cell_delimiter table p.1.delimiter cell) text scalar whole) cell.text_lines (All-at IsCell row.cells p.0 cell kept.cells is).whole
+
+-- a table's rows and its header keep what rows keep
+all_rows : (table : TableValue) → KeepsRows table.header table.rows → All IsRow (header_and_rows table)
+all_rows table kept = by_header table.header kept.0
+  where
+    by_header : (header : Option RowValue) → IfSome header IsRow → All IsRow (option_to_list header ++ table.rows)
+    by_header None _ = kept.1
+    by_header (Some header) first = All-cons IsRow header table.rows first kept.1
+
 -- and promise what every drawing does
-pub table_drawing : (table : TableValue) (infos : List ColumnInfo) (lines : List Text) → IsUtf8 table.indicator → AreInfosOf table infos → lines ≡ drawing_of_infos table infos → IsTableDrawing table lines
-table_drawing table infos lines utf8 (widths, arranged, is) drawn =
-    record { widths = widths; arranged = arranged; drawn = drawn ∙ ap (drawing_of_infos table) is; equal_counts = λ plain. equal_counts table widths utf8 plain arranged }
+pub table_drawing : (table : TableValue) (infos : List ColumnInfo) (lines : List Text) → IsUtf8 table.indicator → KeepsRows table.header table.rows → AreInfosOf table infos → lines ≡ drawing_of_infos table infos → IsTableDrawing table lines
+table_drawing table infos lines utf8 kept (widths, arranged, is) drawn =
+    let whole = drawn ∙ ap (drawing_of_infos table) is in
+    record {
+      widths = widths;
+      arranged = arranged;
+      drawn = whole;
+      slices = All-weaker IsRow (λ (row : RowValue). All (IsCutIntoSlices table row) (visible_infos (infos_of table widths)))
+          (λ row each. All-every (IsCutIntoSlices table row) (visible_infos (infos_of table widths)) (row_slices table row each)) (header_and_rows table) (all_rows table kept);
+      unstyled_lines = λ off. whole ∙ sym (unstyled_drawing table (infos_of table widths) off);
+      equal_counts = λ plain. equal_counts table widths utf8 plain arranged;
+    }
 
 -- the indicator of a new table is a character
 utf8_ellipsis : IsUtf8 ellipsis

@@ -1,14 +1,31 @@
 -- What every drawing of a table promises.
-use Rattle.std.specs.Prelude.{◌≡◌, ℕ, List, All}
+use Rattle.std.specs.Prelude.{◌≡◌, ◌⊎◌, ℕ, false, List, [], ◌∷◌, Some, slice_get, All}
+use Rattle.std.specs.Char.{IsScalar}
+use Rattle.comfy_parts.specs.CellValue.{CellValue, ColumnInfo, RowValue}
+use Rattle.comfy_parts.specs.Wrapping.{IsWrapped, lines_of_text}
 use Rattle.comfy_parts.specs.Text.{Text}
 use Rattle.comfy_table.specs.Arrangement.{IsArranged}
-use Rattle.comfy_table.specs.Drawing.{drawing}
+use Rattle.comfy_table.specs.Drawing.{drawing, infos_of}
 use Rattle.comfy_table.specs.Laws.{IsPlainTable, count, line_total, unstyled}
-use Rattle.comfy_table.specs.TableValue.{TableValue}
+use Rattle.comfy_table.specs.Lines.{cell_delimiter}
+use Rattle.comfy_table.specs.Pieces.{visible_infos}
+use Rattle.comfy_table.specs.TableValue.{TableValue, header_and_rows, should_style}
 
--- the lines are the drawing of the table over its widths, and for printable ASCII all lines have the same count of characters
+-- the lines of a text line in a column of w places: the text as it is, or slices of it that lose only the delimiter d
+abbrev pub IsTextOrSlices : ℕ → ℕ → Text → Type 0
+IsTextOrSlices w d text = (lines_of_text w d text ≡ text ∷ []) ⊎ IsWrapped w d text (lines_of_text w d text)
+
+-- such are the lines of each text line of the cell that a row has in a column, if it has one
+abbrev pub IsCutIntoSlices : TableValue → RowValue → ℕ × ColumnInfo → Type 0
+IsCutIntoSlices table row p =
+    (cell : CellValue) → slice_get row.cells p.0 ≡ Some cell
+    → let d = cell_delimiter table p.1.delimiter cell in IsScalar d → All (IsTextOrSlices p.1.content_width d) cell.text_lines
+
+-- the lines are the drawing of the table over its widths; the lines of its visible cells are texts or slices of them; without styling the lines are the unstyled ones, and those have for printable ASCII the same count of characters
 pub record IsTableDrawing (table : TableValue) (lines : List Text) : Type 0 where
   pub widths : List ℕ
   pub arranged : IsArranged table widths
   pub drawn : lines ≡ drawing table widths
+  pub slices : All (λ (row : RowValue). All (IsCutIntoSlices table row) (visible_infos (infos_of table widths))) (header_and_rows table)
+  pub unstyled_lines : should_style table ≡ false → lines ≡ drawing (unstyled table) widths
   pub equal_counts : IsPlainTable table widths → All (λ line. count line ≡ line_total table widths) (drawing (unstyled table) widths)

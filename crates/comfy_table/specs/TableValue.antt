@@ -63,6 +63,10 @@ IsWithRowsBeforeOne rows old new = (n : ℕ) × (n < length rows) × (new ≡ wi
 abbrev pub header_and_rows : TableValue → List RowValue
 header_and_rows table = option_to_list table.header ++ table.rows
 
+-- header and rows keep what rows keep
+abbrev pub KeepsRows : Option RowValue → List RowValue → Type 0
+KeepsRows header rows = IfSome header IsRow × All IsRow rows
+
 -- the text lines of all cells are UTF-8
 abbrev pub HasTextLines : TableValue → Type 0
 HasTextLines table =

@@ -25,7 +25,7 @@ pub returns : goal.returns
 returns c =
     let f = info_by_content c.args.table.now in
     let columns : c.as_slice-columns.result.now ≡ c.args.table.now.columns = c.as_slice-columns.ensures.value ∙ ap (λ (t : TableValue). t.columns) c.table.view_is in
-    let disabled : c.args.table.now.arrangement ≡ Disabled = ap (λ (t : TableValue). t.arrangement) (sym c.table.view_is) ∙ c.table.invariant in
+    let disabled : c.args.table.now.arrangement ≡ Disabled = ap (λ (t : TableValue). t.arrangement) (sym c.table.view_is) ∙ c.table.invariant.0 in
     let arranged = infos_by_content c.args.table.now disabled in (
       arranged.0,
       arranged.1,
