@@ -1,6 +1,7 @@
 #!/bin/sh
-# Refuses each request for memory that the built ctable makes on its stored input, one after another.
-# Each such run must end with status 1, write nothing, and say `ctable: out of memory`.
+# Refuses each request for memory of two built programs, one after another: those of ctable on its stored input, and
+# those of table_cases on two of its cases. Each such run must end with status 1, print nothing, and say that there
+# is no memory.
 #
 # usage: tools/refused_requests.sh RUNNER
 # RUNNER is called as `RUNNER INPUT PROGRAM`. It runs PROGRAM on INPUT with its first request refused,
@@ -16,16 +17,28 @@ case $runner in
   /*) ;;
   *) runner=$PWD/$runner ;;
 esac
-cd "$(dirname "$0")/../crates/ctable" || exit 2
-rt run > /dev/null || exit 2
-said=$("$runner" stdin out/ctable) || exit 2
-printf '%s\n' "$said"
-wanted=': status 1, 0 bytes, ctable: out of memory *$'
-if ! printf '%s\n' "$said" | grep -q '^refused in turn: [1-9]'; then
-  echo "$0: no request was refused" >&2
-  exit 1
-fi
-if printf '%s\n' "$said" | grep '^request ' | grep -v "$wanted"; then
-  echo "$0: a refused request ended otherwise" >&2
-  exit 1
-fi
+crates=$(cd "$(dirname "$0")/../crates" && pwd) || exit 2
+work=$(mktemp -d) || exit 2
+trap 'rm -rf "$work"' EXIT
+
+# Each refused request of a program on an input must end with what is said.
+refuse() {
+  name=$1
+  input=$2
+  words=$3
+  (cd "$crates/$name" && rt run < stdin > /dev/null) || exit 2
+  said=$("$runner" "$input" "$crates/$name/out/$name") || exit 2
+  printf '%s\n' "$said" | sed "s/^/$name: /"
+  if ! printf '%s\n' "$said" | grep -q '^refused in turn: [1-9]'; then
+    echo "$0: no request of $name was refused" >&2
+    exit 1
+  fi
+  if printf '%s\n' "$said" | grep '^request ' | grep -v ": status 1, 0 bytes, $words *\$"; then
+    echo "$0: a refused request of $name ended otherwise" >&2
+    exit 1
+  fi
+}
+
+refuse ctable "$crates/ctable/stdin" 'ctable: out of memory'
+awk '/^case\tworked-height-[01]$/, /^end$/' "$crates/table_cases/stdin" > "$work/two.cases"
+refuse table_cases "$work/two.cases" 'Error: out of memory'

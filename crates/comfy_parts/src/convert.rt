@@ -1,4 +1,4 @@
-//! What rows can be made of.
+//! The trait of what `set_header` and `add_row` of a table take.
 
 ghost use Rattle.std.specs.Prelude.{◌≡◌, IfOk};
 ghost use Rattle.comfy_parts.specs.CellValue.{RowValue};

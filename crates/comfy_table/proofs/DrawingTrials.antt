@@ -52,7 +52,7 @@ unfolding wrapping trim_end
 missing_cells =
     (9 ∷ 7 ∷ 9 ∷ [], record { one_for_each = refl; hidden_widths = refl; visible_widths = refl }, refl)
 
--- row 5's table with every column hidden: only the side borders are left
+-- a table whose columns are all hidden: only the side borders are left
 all_hidden : IsDrawingOf
     (with_constraints (Some Hidden ∷ Some Hidden ∷ [])
     (table_of utf8_full ("hidden_header" ∷ "smol" ∷ []) (("start_hidden" ∷ "smol" ∷ []) ∷ ("asdf" ∷ "smol" ∷ []) ∷ []))) (texts ("┌┐" ∷ "╞╡" ∷ "├┤" ∷ "└┘" ∷ []))

@@ -9,7 +9,7 @@ use Rattle.std.specs.Str.{IsUtf8}
 use Rattle.comfy_parts.proofs.Computing.{wrapping}
 use Rattle.comfy_parts.proofs.WrappedLemmas.{wrapped_is_wrapped}
 use Rattle.comfy_parts.proofs.WrappingLemmas.{one_character}
-use Rattle.comfy_parts.specs.CellValue.{CellValue, ColumnInfo, IsCell, IsRow, RowValue}
+use Rattle.comfy_parts.specs.CellValue.{ColumnInfo, IsCell, IsRow, RowValue}
 use Rattle.comfy_parts.specs.Text.{Text, measure}
 use Rattle.comfy_parts.specs.Wrapping.{IsWrapped, wrapped}
 use Rattle.comfy_table.proofs.EqualCountLemmas.{equal_counts}

@@ -112,13 +112,6 @@ width_or_terminal None tty fact = if tty then fact else None
 abbrev pub table_width : TableValue → Option ℕ
 table_width table = width_or_terminal table.set_width (is_tty table) table.terminal.width
 
--- what every table keeps: its rows do, all its texts are whole characters, and its width is a number of 16 bits
-pub record IsTable (table : TableValue) : Type 0 where
-  pub rows : All IsRow (header_and_rows table)
-  pub text_lines : HasTextLines table
-  pub indicator : IsUtf8 table.indicator
-  pub width : IfSome (table_width table) (λ w. w ≤ 65535)
-
 -- whether colours and attributes are written
 abbrev pub should_style : TableValue → Bool
 should_style table = table.enforce_styling || is_tty table

@@ -1,16 +1,19 @@
 //! Short functions as a caller writes them, each with a claim of its own that the contracts below carry.
 
-ghost use Rattle.std.specs.Prelude.{◌≡◌, [], IfOk, string_bytes};
+ghost use Rattle.std.specs.Prelude.{◌≡◌, [], IfOk, None, string_bytes};
 ghost use Rattle.comfy_parts.specs.CellValue.{plain_cell, plain_row, with_cell};
 ghost use Rattle.comfy_parts.specs.Presets.{ascii_full};
+ghost use Rattle.comfy_run.specs.Input.{IsOutputFor};
 ghost use Rattle.comfy_table.specs.Arrangement.{IsDrawingOf};
 ghost use Rattle.comfy_table.specs.TableValue.{new_table, with_header, with_row};
 
-use comfy_table::{Cell, Lines, Result, Row, Table};
+use comfy_run::run::{MemorySink, MemorySource, RunError, Settings, run};
+use comfy_table::presets::ASCII_FULL;
+use comfy_table::{Cell, ContentArrangement, Lines, Row, Table};
 use std::alloc::Global;
 
 /// A row of two texts.
-pub fn pair(alloc: Global, first: String, second: String) -> Result<Row>
+pub fn pair(alloc: Global, first: String, second: String) -> comfy_table::Result<Row>
     ensures { IfOk result (λ row. row ≡ with_cell (plain_cell (string_bytes second)) (with_cell (plain_cell (string_bytes first)) (plain_row []))) }
 {
     let mut row = Row::new(alloc);
@@ -20,10 +23,25 @@ pub fn pair(alloc: Global, first: String, second: String) -> Result<Row>
 }
 
 /// The drawing of a header and one row.
-pub fn drawn(alloc: Global, header: Row, row: Row) -> Result<Lines>
+pub fn drawn(alloc: Global, header: Row, row: Row) -> comfy_table::Result<Lines>
     ensures { IfOk result (λ lines. IsDrawingOf (with_row row (with_header header (new_table ascii_full))) lines) }
 {
     let mut table = Table::new(alloc);
     table.set_header(header)?.add_row(row)?;
     table.lines()
+}
+
+/// A sink that holds the output for an input, both in memory.
+pub fn output_for(alloc: Global, input: &[u8], room: usize) -> Result<MemorySink, RunError>
+    ensures { IfOk result (λ sink. IsOutputFor None ContentArrangement.Disabled ascii_full input.now sink.bytes) }
+{
+    let mut source = MemorySource::new(input, 0);
+    let mut sink = MemorySink::new(alloc, room, 0)?;
+    let settings = Settings {
+        width: None,
+        arrangement: ContentArrangement::Disabled,
+        style: ASCII_FULL,
+    };
+    run(alloc, &mut source, &mut sink, settings)?;
+    Ok(sink)
 }

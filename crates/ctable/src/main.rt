@@ -7,30 +7,40 @@ use std::io::ErrorKind;
 use std::process::ExitCode;
 use std::{env, io};
 
+// Stands for a word that isn't text: the program knows no such word.
+const NO_TEXT: &str = "\u{fffd}";
+
+const FAILED: u8 = 1;
+
 fn main(rt: HostRuntime) -> ExitCode {
-    let status = match run_with_words(&rt) {
+    let status = match run_with_arguments(&rt) {
         Ok(status) => status,
-        // A word that isn't text is none that the program knows.
-        Err(error) if error.kind() == ErrorKind::InvalidData => run_with(&rt, &["\u{fffd}"]),
+        Err(error) if error.kind() == ErrorKind::InvalidData => run_with(&rt, &[NO_TEXT]),
         Err(_) => {
             let _ = eprintln!(rt; "ctable: {}", RunError::from(AllocError));
-            1
+            FAILED
         }
     };
     ExitCode::from(status)
 }
 
 // Runs the program with the words after its name.
-fn run_with_words(rt: &HostRuntime) -> io::Result<u8> {
-    let mut owned = Vec::new(rt.alloc());
-    for word in env::args(rt)?.skip(1) {
-        owned.push(word)?;
-    }
+fn run_with_arguments(rt: &HostRuntime) -> io::Result<u8> {
+    let arguments = arguments(rt)?;
     let mut words = Vec::new(rt.alloc());
-    for word in &owned {
+    for word in &arguments {
         words.push(word.as_str())?;
     }
     Ok(run_with(rt, words.as_slice()))
+}
+
+// The words after the program's name.
+fn arguments(rt: &HostRuntime) -> io::Result<Vec<String>> {
+    let mut words = Vec::new(rt.alloc());
+    for word in env::args(rt)?.skip(1) {
+        words.push(word)?;
+    }
+    Ok(words)
 }
 
 fn run_with(rt: &HostRuntime, words: &[&str]) -> u8 {

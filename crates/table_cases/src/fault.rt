@@ -35,5 +35,5 @@ impl From<TableError> for Fault {
     }
 }
 
-/// The answer of a step that a case may not pass.
+/// The answer of a step, or why its case can't be tried.
 pub type Result<T> = std::result::Result<T, Fault>;

@@ -37,7 +37,7 @@ impl Tally {
         }
     }
 
-    /// Prints the counts: those that couldn't be tried by themselves.
+    /// Prints the counts; those that couldn't be tried stand on a line of their own.
     pub fn print(&self, rt: &impl Print) -> io::Result<()> {
         let not_read = self.not_read;
         if not_read > 0 {

@@ -104,33 +104,33 @@ pub fn read_step(alloc: Global, line: &str) -> Result<Step> {
         words.push(word)?;
     }
     match words.as_slice().split_first() {
-        Some((first, rest)) => worded(alloc, first, rest),
+        Some((first, rest)) => read_by_first_word(alloc, first, rest),
         None => Ok(Step::Nothing),
     }
 }
 
-// a step by its first word
-fn worded(alloc: Global, first: &str, rest: &[&str]) -> Result<Step> {
+// A step by its first word.
+fn read_by_first_word(alloc: Global, first: &str, rest: &[&str]) -> Result<Step> {
     match first {
-        "case" => Ok(Step::Case(String::from_str(alloc, one(rest)?)?)),
-        "style" => Ok(Step::Style(style(rest)?)),
+        "case" => Ok(Step::Case(String::from_str(alloc, only_word(rest)?)?)),
+        "style" => Ok(Step::Style(read_style(rest)?)),
         "part" => Ok(Step::Part(read_part(alloc, rest)?)),
-        "width" => Ok(Step::Width(places(one(rest)?)?)),
+        "width" => Ok(Step::Width(places(only_word(rest)?)?)),
         "terminal" => Ok(Step::Terminal(read_facts(rest)?)),
-        "arrangement" => Ok(Step::Arrangement(arrangement(one(rest)?)?)),
-        "delimiter" => Ok(Step::Delimiter(character(alloc, one(rest)?)?)),
+        "arrangement" => Ok(Step::Arrangement(read_arrangement(only_word(rest)?)?)),
+        "delimiter" => Ok(Step::Delimiter(character(alloc, only_word(rest)?)?)),
         "indicator" => Ok(Step::Indicator(text(alloc, first_or_empty(rest))?)),
-        "cell" => Ok(Step::Cell(cell_words(alloc, rest)?)),
-        "late" => Ok(Step::Late(cell_words(alloc, rest)?)),
-        "height" => Ok(Step::Height(number(one(rest)?)?)),
-        "column" => column(alloc, rest),
-        "expect" => Ok(Step::Expect(read_kind(one(rest)?)?)),
-        _ => lone(first, rest),
+        "cell" => Ok(Step::Cell(read_cell(alloc, rest)?)),
+        "late" => Ok(Step::Late(read_cell(alloc, rest)?)),
+        "height" => Ok(Step::Height(number(only_word(rest)?)?)),
+        "column" => read_column(alloc, rest),
+        "expect" => Ok(Step::Expect(read_kind(only_word(rest)?)?)),
+        _ => read_single_word(first, rest),
     }
 }
 
-// a step of one word alone
-fn lone(first: &str, rest: &[&str]) -> Result<Step> {
+// A step of one word alone.
+fn read_single_word(first: &str, rest: &[&str]) -> Result<Step> {
     if !rest.is_empty() {
         return Err(Fault::NotRead("a line has words too many, or isn't known"));
     }
@@ -147,15 +147,15 @@ fn lone(first: &str, rest: &[&str]) -> Result<Step> {
     }
 }
 
-// the one word that is wanted
-fn one<'a>(words: &[&'a str]) -> Result<&'a str> {
+// The one word that is wanted.
+fn only_word<'a>(words: &[&'a str]) -> Result<&'a str> {
     match words {
         [word] => Ok(*word),
         _ => Err(Fault::NotRead("one word is wanted")),
     }
 }
 
-// a text at a line's end may be missing, and is empty then
+// A text at a line's end may be missing, and is empty then.
 fn first_or_empty<'a>(words: &[&'a str]) -> &'a str {
     match words {
         [word, ..] => *word,
@@ -163,7 +163,7 @@ fn first_or_empty<'a>(words: &[&'a str]) -> &'a str {
     }
 }
 
-fn style(words: &[&str]) -> Result<TableStyle> {
+fn read_style(words: &[&str]) -> Result<TableStyle> {
     let Some((name, modifiers)) = words.split_first() else {
         return Err(Fault::NotRead("a style has a name"));
     };
@@ -252,7 +252,7 @@ fn read_facts(words: &[&str]) -> Result<Facts> {
     }
 }
 
-fn arrangement(word: &str) -> Result<ContentArrangement> {
+fn read_arrangement(word: &str) -> Result<ContentArrangement> {
     match word {
         "disabled" => Ok(ContentArrangement::Disabled),
         "dynamic" => Ok(ContentArrangement::Dynamic),
@@ -261,7 +261,7 @@ fn arrangement(word: &str) -> Result<ContentArrangement> {
     }
 }
 
-fn cell_words(alloc: Global, words: &[&str]) -> Result<CellWords> {
+fn read_cell(alloc: Global, words: &[&str]) -> Result<CellWords> {
     let mut settings = Vec::new(alloc);
     if let Some((_, others)) = words.split_first() {
         for word in others {
@@ -274,7 +274,7 @@ fn cell_words(alloc: Global, words: &[&str]) -> Result<CellWords> {
     })
 }
 
-fn column(alloc: Global, words: &[&str]) -> Result<Step> {
+fn read_column(alloc: Global, words: &[&str]) -> Result<Step> {
     let Some((index, others)) = words.split_first() else {
         return Err(Fault::NotRead("a column has a place"));
     };

@@ -11,7 +11,7 @@ use contract.Monad.{fact}
 use contract.Running.{tables}
 use prog.Wp.{WpFn, spot_of}
 use types.Kit.{‵, raw, ◌⊛◌, some, later, ◌$◌, ◌∵◌, !, qed, by, move, keep, drop, use1, use2, split, join, pick, await, rewrite}
-use types.Run.{enter, of_opd, addr, stop, no_more, and_then, returns}
+use types.Run.{enter, addr, stop, no_more, and_then, returns}
 use types.ByLocal.{alloc_all, pass_all, free_all, look_at, get, through, sets, lands_as, env}
 use denote.Laws.{Typed, shows}
 use denote.Plain.{UInt}
