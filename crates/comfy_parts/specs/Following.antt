@@ -1,5 +1,5 @@
 -- An element at a text's front, what follows it, and how much of that a line takes.
-use Rattle.std.specs.Prelude.{◌≡◌, ℕ, ◌+◌, ◌-◌, nat_lt, nat_le, ◌&&◌, List, [], ◌∷◌, ◌++◌, length, encode_utf8, if◌then◌else◌, IsUtf8}
+use Rattle.std.specs.Prelude.{◌≡◌, ℕ, ◌+◌, ◌-◌, ◌<◌, ◌≤◌, nat_lt, nat_le, ◌&&◌, List, [], ◌∷◌, ◌++◌, length, encode_utf8, if◌then◌else◌, IsUtf8}
 use Rattle.comfy_parts.specs.Text.{Text, measure, head, elements}
 
 -- what follows an element: a delimiter and a text of these elements, or nothing where there are none
@@ -15,6 +15,10 @@ pub record IsFirstElement (d : ℕ) (text first behind : Text) : Type 0 where
   pub joined : first ++ behind ≡ text
   pub whole_first : IsUtf8 first
   pub whole_behind : IsUtf8 behind
+
+-- each end of a word that has at least so many bytes is wider than w places
+abbrev pub IsWideFrom : ℕ → ℕ → Text → Type 0
+IsWideFrom w bytes word = (front tail : Text) → word ≡ front ++ tail → IsUtf8 front → IsUtf8 tail → bytes ≤ length tail → w < measure tail
 
 -- the bytes of the next element that a line of w places takes, with the delimiter before it, where not the whole element has room
 abbrev pub part_taken : ℕ → ℕ → ℕ → Text → ℕ

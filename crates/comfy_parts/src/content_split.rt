@@ -15,6 +15,7 @@ use ends::{first_element, line_end, line_start};
 pub use prefix::split_long_word;
 use std::alloc::Global;
 pub use width::measure_text_width;
+use width::wide_end;
 
 /// What stands between the delimiters of a line, in order and empty parts too.
 pub fn split_line_by_delimiter(alloc: Global, line: &str, delimiter: char) -> Result<Vec<&str>>
@@ -44,18 +45,23 @@ pub fn split_line(
     let width = usize::from(info.content_width);
     let mut lines: Vec<String> = Vec::new(alloc);
     let mut rest = line_start(line, delimiter);
-    let mut first = first_element(rest, delimiter).0.len();
+    let (word, _) = first_element(rest, delimiter);
+    let mut first = word.len();
+    let mut wide = wide_end(word, width);
     while !rest.is_empty() {
-        let end = line_end(rest, first, width, delimiter);
+        let end = line_end(rest, first, wide, width, delimiter);
         let (front, behind) = rest.split_at(end);
         lines.push(String::from_str(alloc, front)?)?;
         if end < first {
-            // The line ends inside a long element, and its rest comes next: its end isn't searched for again.
+            // The line ends inside a long element, and its rest comes next: its end isn't searched for again, nor
+            // measured.
             rest = behind;
             first -= end;
         } else {
             rest = line_start(behind, delimiter);
-            first = first_element(rest, delimiter).0.len();
+            let (word, _) = first_element(rest, delimiter);
+            first = word.len();
+            wide = wide_end(word, width);
         }
     }
     Ok(lines)

@@ -1,13 +1,13 @@
 //! Where the lines of a wrapped text begin and end. A place is a number of bytes from a text's front.
 
-ghost use Rattle.std.specs.Prelude.{◌≡◌, ℕ, ◌+◌, ◌≤◌, List, length, take, drop, false};
+ghost use Rattle.std.specs.Prelude.{◌≡◌, ℕ, ◌+◌, ◌<◌, ◌≤◌, List, length, take, drop, false};
 ghost use Rattle.std.specs.Str.{IsCharBoundary};
 ghost use Rattle.comfy_parts.specs.Following.{Follow, IsFirstElement, bytes_taken, part_taken};
-ghost use Rattle.comfy_parts.specs.Text.{Text, begins_with};
+ghost use Rattle.comfy_parts.specs.Text.{Text, begins_with, measure};
 ghost use Rattle.comfy_parts.specs.Wrapping.{head_or_first, line_end, wrapped};
 
 use crate::content_split::prefix::split_long_word;
-use crate::content_split::width::{char_width, is_wider, measure_text_width};
+use crate::content_split::width::{char_width, measure_text_width};
 
 /// The text from its first character that is no delimiter.
 pub fn line_start(text: &str, delimiter: char) -> &str
@@ -32,18 +32,30 @@ pub fn first_element(text: &str, delimiter: char) -> (&str, &str)
     }
 }
 
-/// The place where the line from the text's front ends. The text's first element has `first` bytes.
-pub(crate) fn line_end(text: &str, first: usize, width: usize, delimiter: char) -> usize
+/// The place where the line from the text's front ends. The text's first element has `first` bytes, and is known to be
+/// wider than a line where these are at least `wide`.
+pub(crate) fn line_end(
+    text: &str,
+    first: usize,
+    wide: usize,
+    width: usize,
+    delimiter: char,
+) -> usize
     requires place { IsCharBoundary text.now first }
     requires element { IsFirstElement delimiter text.now (take first text.now) (drop first text.now) }
+    requires wide { wide ≤ first → width < measure (take first text.now) }
     requires narrow { width ≤ 65535 }
     ensures { result ≡ line_end width delimiter text.now }
 {
     let (word, behind) = text.split_at(first);
-    if is_wider(word, width) {
+    if first >= wide {
         return end_within(word, width);
     }
-    first + taken_behind(measure_text_width(word), behind, width, delimiter)
+    let places = measure_text_width(word);
+    if places > width {
+        return end_within(word, width);
+    }
+    first + taken_behind(places, behind, width, delimiter)
 }
 
 // The bytes of a word that is wider than a line which the line takes: its head, or at least its first character.
@@ -75,7 +87,7 @@ fn taken_behind(first: usize, behind: &str, width: usize, delimiter: char) -> us
         let (next, following) = first_element(others, delimiter);
         let places = measure_text_width(next);
         if places >= width.saturating_sub(filled) {
-            return behind.len() - rest.len() + part_of_next(next, filled, width, delimiter);
+            return behind.len() - rest.len() + part_of_next(next, places, filled, width, delimiter);
         }
         filled += places + char_width(delimiter);
         rest = following;
@@ -83,13 +95,15 @@ fn taken_behind(first: usize, behind: &str, width: usize, delimiter: char) -> us
     behind.len() - rest.len()
 }
 
-// The bytes that a line takes of the next element, which has no room as a whole, and of the delimiter before it.
-fn part_of_next(next: &str, filled: usize, width: usize, delimiter: char) -> usize
+// The bytes that a line takes of the next element, which takes so many places and has no room as a whole, and of the
+// delimiter before it.
+fn part_of_next(next: &str, places: usize, filled: usize, width: usize, delimiter: char) -> usize
+    requires places { places ≡ measure next.now }
     requires narrow { filled ≤ 65535 }
     ensures value { result ≡ part_taken width delimiter filled next.now }
     ensures bound { result ≤ length next.now + 4 }
 {
-    if filled + 4 <= width && is_wider(next, width) {
+    if filled + 4 <= width && places > width {
         let (front, _) = split_long_word(width - filled - 1, next);
         delimiter.len_utf8() + front.len()
     } else {

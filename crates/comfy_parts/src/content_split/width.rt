@@ -1,9 +1,13 @@
 //! How many places a text takes.
 
-ghost use Rattle.std.specs.Prelude.{◌≡◌, ◌*◌, ◌≤◌, length, nat_lt, encode_utf8};
+ghost use Rattle.std.specs.Prelude.{◌≡◌, ◌+◌, ◌*◌, ◌≤◌, length, nat_lt, encode_utf8};
+ghost use Rattle.comfy_parts.specs.Following.{IsWideFrom};
 ghost use Rattle.comfy_parts.specs.Text.{measure};
 
 use unicode_width::UnicodeWidthStr;
+
+// How many bytes more or less aren't looked for.
+const CLOSE: usize = 8;
 
 /// The places that a text takes, by the Unicode rules for terminals. They are at most two for each of its bytes.
 pub fn measure_text_width(text: &str) -> usize
@@ -13,21 +17,50 @@ pub fn measure_text_width(text: &str) -> usize
     text.width()
 }
 
-/// Whether a text takes more than these places. A long text is measured from its end in growing pieces, mostly no
-/// further than it takes to decide.
-pub fn is_wider(text: &str, places: usize) -> bool
-    ensures { result ≡ nat_lt places (measure text.now) }
+/// How many bytes of a word's end show that the word is wider than these places: each end of the word with at least so
+/// many bytes is wider. Where none shows it, more bytes than the word has.
+pub fn wide_end(word: &str, places: usize) -> usize
+    ensures { IsWideFrom places result word.now }
 {
-    let mut size = 8;
-    while size < text.len() {
-        let (_, tail) = text.split_at(text.floor_char_boundary(text.len() - size));
-        // What stands before a text takes at most one of its places away, so a wide end shows that the whole is wide.
-        if measure_text_width(tail) > places.saturating_add(1) {
-            return true;
+    let mut wide = first_wide_end(word, places);
+    let mut narrow = wide / 2;
+    while wide <= word.len() && wide - narrow > CLOSE {
+        let middle = narrow + (wide - narrow) / 2;
+        let (_, end) = word.split_at(word.floor_char_boundary(word.len() - middle));
+        if end.len() < wide && shows_wide(end, places) {
+            wide = end.len();
+        } else {
+            narrow = middle;
+        }
+    }
+    wide
+}
+
+// The same, of ends that double.
+fn first_wide_end(word: &str, places: usize) -> usize
+    ensures { IsWideFrom places result word.now }
+{
+    let mut size = CLOSE;
+    while size < word.len() {
+        let (_, end) = word.split_at(word.floor_char_boundary(word.len() - size));
+        if shows_wide(end, places) {
+            return end.len();
         }
         size *= 2;
     }
-    measure_text_width(text) > places
+    if shows_wide(word, places) {
+        word.len()
+    } else {
+        word.len() + 1
+    }
+}
+
+// What stands before an end takes at most one of its places away, so an end that is wider than one place more shows that
+// the whole is wide.
+fn shows_wide(end: &str, places: usize) -> bool
+    ensures { result ≡ nat_lt (places + 1) (measure end.now) }
+{
+    measure_text_width(end) > places.saturating_add(1)
 }
 
 /// The places that a character takes as a text.

@@ -4,6 +4,7 @@ use Rattle.std.proofs.lemmas.Str.{IsUtf8-drop}
 use Rattle.comfy_parts.specs.Wrapping.{wrapped}
 use Rattle.comfy_parts.proofs.FollowingLemmas.{first-at, first-inside}
 use Rattle.comfy_parts.proofs.StartLemmas.{line-cut, not_empty, pushed, wrapped-empty}
+use Rattle.comfy_parts.proofs.WideEndLemmas.{first-wide, known-wide, rest-wide}
 use Rattle.comfy_parts.proofs.WrappedLemmas.{wrapped_is_wrapped}
 use Rattle.comfy_parts.proofs.content_split.split_line.Goals as goal
 
@@ -15,8 +16,12 @@ loop-rest-init c =
       begins = c.line_start-rest.ensures.begins;
       place = at.0;
       element = at.1;
+      wide = first-wide c.args.delimiter c.line_start-rest.result.now c.first_element.result.0.now c.first_element.result.1.now c.first_element.ensures c.from-width.result c.wide_end-wide.result c.wide_end-wide.ensures;
       lines = rw c.new-lines.ensures.items (c.line_start-rest.ensures.lines c.from-width.result);
     }
+
+pub line_end-end-requires-clause-wide : goal.line_end-end-requires-clause-wide
+line_end-end-requires-clause-wide c = known-wide c.args.delimiter c.loop-rest.rest.now c.loop-rest.first c.loop-rest.invariant.place c.loop-rest.invariant.element c.from-width.result c.loop-rest.wide c.loop-rest.invariant.wide
 
 pub split_at-requires : goal.split_at-requires
 split_at-requires c =
@@ -54,6 +59,7 @@ loop-rest-preserved-then-end-first c =
       begins = inside.2;
       place = inside.0;
       element = inside.1;
+      wide = rest-wide rest c.loop-rest.first end c.loop-rest.invariant.utf8 place c.if-end-first.true w c.loop-rest.wide c.loop-rest.invariant.wide;
       lines = pushed string_bytes done c.in_ok-from_str.field-0 c.push.new.self.items later (wrapped w d c.args.line.now) c.in_ok-push.ensures.items shows;
     }
 
@@ -86,6 +92,7 @@ loop-rest-preserved c =
       begins = start.ensures.begins;
       place = at.0;
       element = at.1;
+      wide = first-wide d start.result.now c.first_element-else-end-first.result.0.now c.first_element-else-end-first.result.1.now c.first_element-else-end-first.ensures w c.wide_end-wide-else-end-first.result c.wide_end-wide-else-end-first.ensures;
       lines = pushed string_bytes done c.in_ok-from_str.field-0 c.push.new.self.items (wrapped w d start.result.now) (wrapped w d c.args.line.now) c.in_ok-push.ensures.items shows;
     }
 

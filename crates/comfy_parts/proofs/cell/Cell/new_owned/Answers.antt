@@ -1,9 +1,8 @@
-use Rattle.std.proofs.Common.{◌≡◌, List, ℕ, [], ap, sym, ◌∙◌, lit<, None, map, string_bytes}
+use Rattle.std.proofs.Common.{[], ap, ◌∙◌, lit<, None, string_bytes}
 use Rattle.std.specs.Str.Iter.{split_text, split_has_more, split_pattern}
 use Rattle.std.proofs.lemmas.Iterator.Consumers.{YieldsList-end}
 use Rattle.std.proofs.lemmas.Iterator.Splits.{YieldsList-from_str_split}
 use Rattle.comfy_parts.proofs.ValueLemmas.{content_is_the_text, has_text_lines}
-use Rattle.comfy_parts.specs.CellValue.{HasTextLines, plain_cell}
 use Rattle.comfy_parts.proofs.cell.Cell.new_owned.Goals as goal
 
 pub invariant_of-result : goal.invariant_of-result

@@ -1,0 +1,45 @@
+-- An end that is wider than a line and one place shows that each longer end is wider than a line.
+use Rattle.std.proofs.Common.{◌≡◌, ◌<◌, ◌≤◌, ◌++◌, ◌∙◌, ℕ, ◌+◌, ◌-◌, length, take, drop, sym, ap, ap₂, subst, arith, length-append, length-take-le, take-add, [], refl}
+use Rattle.std.proofs.Math.Seq.{drop-append-add, drop-append_seam, take-append_seam}
+use Rattle.std.proofs.lemmas.List.{append_assoc, take-append-drop}
+use Rattle.std.proofs.lemmas.Str.{IsCharBoundary-from_drop, IsUtf8-append, IsUtf8-nil, IsUtf8-take}
+use Rattle.std.specs.Str.{IsCharBoundary, IsUtf8}
+use Rattle.comfy_parts.proofs.TailLemmas.{measure-tail}
+use Rattle.comfy_parts.specs.Following.{IsFirstElement, IsWideFrom}
+use Rattle.comfy_parts.specs.Text.{Text, measure}
+
+pub wide-from : (w : ℕ) (word front end : Text) → word ≡ front ++ end → IsUtf8 end → w + 1 < measure end → IsWideFrom w (length end) word
+wide-from w word a end joins utf8 wide front tail splits before behind long =
+    let n = length a - length front in
+    let lengths : length a + length end ≡ length front + length tail = sym (length-append a end) ∙ ap length (sym joins ∙ splits) ∙ length-append front tail in
+    let place : length front + n ≡ length a = omega (arith, lengths, long) in
+    let inside : n ≤ length tail = omega (arith, lengths, long) in
+    let same : drop n tail ≡ end = sym (drop-append-add front tail n) ∙ ap₂ (λ (i : ℕ) (t : Text). drop i t) place (sym splits ∙ joins) ∙ drop-append_seam a end in
+    let whole : take n tail ++ end ≡ tail = ap (λ t. take n tail ++ t) (sym same) ∙ take-append-drop n tail in
+    let boundary = IsCharBoundary-from_drop tail n inside (subst IsUtf8 (sym same) utf8) in
+    let most = measure-tail (take n tail) end (IsUtf8-take tail n behind boundary) in
+    let all = ap measure whole in
+    omega (arith, most, all, wide)
+
+-- what is wide from a number of bytes on stays so when its front is taken off
+pub wide-behind : (w bytes : ℕ) (word front rest : Text) → word ≡ front ++ rest → IsUtf8 front → IsWideFrom w bytes word → IsWideFrom w bytes rest
+wide-behind w bytes word a rest joins utf8 wide front tail splits before behind long =
+    wide (a ++ front) tail (joins ∙ ap (λ t. a ++ t) splits ∙ sym (append_assoc a front tail)) (IsUtf8-append a front utf8 before) behind long
+
+-- it stays so for what is left of a text's first bytes behind a place in them
+pub rest-wide : (text : Text) (first end : ℕ) → IsUtf8 text → IsCharBoundary text end → end < first → (w bytes : ℕ) → IsWideFrom w bytes (take first text) → IsWideFrom w bytes (take (first - end) (drop end text))
+rest-wide text first end utf8 cut inside w bytes wide =
+    let sum : first ≡ end + (first - end) = omega arith in
+    let front : take first text ≡ take end text ++ take (first - end) (drop end text) = ap (λ n. take n text) sum ∙ take-add end (first - end) text in
+    wide-behind w bytes (take first text) (take end text) (take (first - end) (drop end text)) front (IsUtf8-take text end utf8 cut) wide
+
+-- the first element of a text is its first bytes
+pub first-wide : (d : ℕ) (text first behind : Text) → IsFirstElement d text first behind → (w bytes : ℕ) → IsWideFrom w bytes first → IsWideFrom w bytes (take (length first) text)
+first-wide d text first behind is w bytes wide =
+    subst (IsWideFrom w bytes) (sym (ap (λ t. take (length first) t) (sym is.joined) ∙ take-append_seam first behind)) wide
+
+-- a first element of that many bytes is wider than a line
+pub known-wide : (d : ℕ) (text : Text) (first : ℕ) → IsCharBoundary text first → IsFirstElement d text (take first text) (drop first text) → (w bytes : ℕ) → IsWideFrom w bytes (take first text) → bytes ≤ first → w < measure (take first text)
+known-wide d text first place is w bytes wide known =
+    let long : length (take first text) ≡ first = length-take-le first text place.0 in
+    wide [] (take first text) refl IsUtf8-nil is.whole_first (omega (arith, long, known))
