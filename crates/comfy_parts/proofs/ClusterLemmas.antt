@@ -1,5 +1,5 @@
 -- Where a text is cut between two of its clusters, and that what stands before the cut is its head.
-use Rattle.std.proofs.Common.{◌≡◌, ℕ, ◌+◌, ◌-◌, ◌≤◌, ◌<◌, Bool, true, false, List, [], ◌∷◌, ◌++◌, map, length, take, sum_by, nat_le, refl, sym, ap, ◌∙◌, subst, arith, length-append, append-nil}
+use Rattle.std.proofs.Common.{◌≡◌, ℕ, ◌+◌, ◌-◌, ◌≤◌, ◌<◌, Bool, true, false, List, [], ◌∷◌, ◌++◌, map, length, take, sum_by, nat_le, refl, sym, ap, ap₂, ◌∙◌, subst, arith, length-append, append-nil}
 use Rattle.std.proofs.Math.Seq.{take-append_seam, get_or-append_seam}
 use Rattle.std.specs.Borrow.{Bor}
 use Rattle.std.specs.List.{All, concat}
@@ -103,3 +103,39 @@ pub sum_by-shown : (xs : List (ℕ × Bor (List ℕ))) → sum_by measure (piece
 sum_by-shown [] = refl
 sum_by-shown (x ∷ xs) =
     sum_by-cons measure x.1.now (pieces (map shown xs)) ∙ ap (λ n. measure x.1.now + n) (sum_by-shown xs) ∙ sym (sum_by-cons (λ x. measure x.1.now) x xs)
+
+-- the same for a list of clusters that needn't be all of a text: the place of the first that is too wide
+pub within-cut : (k : ℕ) (ps : List Text) (done : List Placed) (x : Placed) (rest : List Placed) → done ++ x ∷ rest ≡ with_offsets 0 ps
+    → sum_by measure (pieces done) ≤ k → k < sum_by measure (pieces done) + measure x.1 → x.0 ≡ length (clusters_within k ps)
+within-cut k ps done x rest e fits wide =
+    let qs = pieces done in
+    let at = begins_at 0 done x rest ps e in
+    let taken : clusters_within k ps ≡ concat qs ++ [] =
+    ap (clusters_within k) (around done x rest ps e) ∙ within-front k qs (x.1 ∷ pieces rest) fits ∙ ap (λ t. concat qs ++ t) (within-wide (k - sum_by measure qs) x.1 (pieces rest) (omega (arith, fits, wide))) in
+    omega (arith, at, ap length (taken ∙ append-nil (concat qs)))
+
+-- or the end of all, where none is
+pub within-all : (k : ℕ) (ps : List Text) (done : List Placed) → done ≡ with_offsets 0 ps → sum_by measure (pieces done) ≤ k → concat ps ≡ clusters_within k ps
+within-all k ps done e fits =
+    let same : pieces done ≡ ps = ap pieces e ∙ map-with_offsets 0 ps in
+    let taken : clusters_within k ps ≡ concat (pieces done) ++ [] = ap (clusters_within k) (sym same ∙ sym (append-nil (pieces done))) ∙ within-front k (pieces done) [] fits in
+    sym (taken ∙ append-nil (concat (pieces done)) ∙ ap concat same)
+
+pub some-placed : (n : ℕ) (others : List Text) (last : Text) → 0 < length (with_offsets n (others ++ last ∷ []))
+unfolding with_offsets
+some-placed n [] last = omega arith
+some-placed n (q ∷ qs) last = omega arith
+
+-- the clusters before the last, and the place where the last begins
+pub before-last : (n : ℕ) (others : List Text) (last : Text) (rest : List Placed) (x : Placed) → with_offsets n (others ++ last ∷ []) ≡ rest ++ x ∷ [] → (rest ≡ with_offsets n others) × (x.0 ≡ n + length (concat others))
+unfolding with_offsets
+before-last n [] last [] x e = let here : x ≡ (n, last) = cc e in (refl, ap (λ y. y.0) here ∙ omega arith)
+before-last n [] last (y ∷ rest) x e = absurd (omega (arith, ap length e, length-append rest (x ∷ [])))
+before-last n (p ∷ ps) last [] x e = absurd (omega (arith, ap length e, some-placed (n + length p) ps last))
+before-last n (p ∷ ps) last (y ∷ rest) x e =
+    let first : y ≡ (n, p) = cc e in
+    let others : with_offsets (n + length p) (ps ++ last ∷ []) ≡ rest ++ x ∷ [] = cc e in
+    let later = before-last (n + length p) ps last rest x others in
+    let lengths = length-append p (concat ps) in
+    let place : x.0 ≡ n + length (p ++ concat ps) = omega (arith, later.1, lengths) in
+    (ap₂ (λ a b. a ∷ b) first later.0, place)

@@ -1,9 +1,9 @@
 -- A text measures at least what its end measures by itself, but for one place. A text is read from its end: a character takes
 -- at most one place away from what follows it, and only where that left one for it.
-use Rattle.std.proofs.Common.{◌≡◌, ◌≤◌, ℕ, ◌+◌, ◌-◌, Bool, true, false, cond, not, ◌==◌, nat_le, ◌&&◌, List, [], ◌∷◌, ◌++◌, Option, Some, None, refl, sym, ap, ◌∙◌, subst, arith, add_assoc}
+use Rattle.std.proofs.Common.{◌≡◌, ◌≤◌, ℕ, ◌+◌, ◌-◌, Bool, true, false, cond, not, ◌==◌, nat_le, ◌&&◌, List, [], ◌∷◌, ◌++◌, Option, Some, None, refl, sym, ap, ◌∙◌, subst, arith, add_assoc, add-zero}
 use Rattle.std.specs.Int.{is_in_range}
-use Rattle.std.specs.Prelude.{IsUtf8, chars}
-use Rattle.std.proofs.lemmas.Str.{chars-append}
+use Rattle.std.specs.Prelude.{IsUtf8, chars, encode_utf8}
+use Rattle.std.proofs.lemmas.Str.{chars-append, chars_past_char}
 use Rattle.unicode_width.specs.declared.kind.Kind.{Kind}
 use Rattle.unicode_width.specs.declared.kind.Kind.TheVariants as kinds
 use Rattle.unicode_width.specs.declared.state.After.{After}
@@ -235,6 +235,101 @@ str_width-tail xs ys =
     let all : (read_before false (xs ++ ys) (0, plain)).0 ≡ (r.0 - least) + (read_before false xs (least, r.1)).0 =
     ap (λ x. x.0) (read_before-append false xs ys (0, plain) ∙ ap (λ n. read_before false xs (n, r.1)) (sym parts) ∙ (Shifts-read_before false xs r.1 least (omega arith)).shifts (r.0 - least)) in
     omega (arith, all, covered, one)
+
+-- ---- a character that adds two places leaves nothing to take away
+
+-- f, from a total to a reading, leaves no credit where it adds two
+record Clears (f : ℕ → Reading) (t : ℕ) : Type 0 where
+  clears : (f t).0 ≡ t + 2 → credit (f t).1.after ≡ 0
+
+Clears-cond : (b : Bool) (f g : ℕ → Reading) (t : ℕ) → Clears f t → Clears g t → Clears (λ x. cond b (f x) (g x)) t
+Clears-cond true f g t p q = p
+Clears-cond false f g t p q = q
+
+Clears-add : (n : ℕ) (s : State) (t : ℕ) → (n ≡ 2 → credit s.after ≡ 0) → Clears (λ x. (x + n, s)) t
+Clears-add n s t clear = record { clears = λ two. clear (omega (arith, two)) }
+
+Clears-same : (s : State) (t : ℕ) → Clears (λ x. (x, s)) t
+Clears-same s t = record { clears = λ two. absurd (omega (arith, two)) }
+
+of_kind-clears : (cjk : Bool) (c : ℕ) (k : Kind) → (of_kind cjk c k).0 ≡ 2 → credit (of_kind cjk c k).1.after ≡ 0
+of_kind-clears cjk c kinds.Zero two = refl
+of_kind-clears cjk c kinds.Narrow two = refl
+of_kind-clears cjk c kinds.Wide two = refl
+of_kind-clears cjk c kinds.Ambiguous two = refl
+of_kind-clears cjk c kinds.Alef two = refl
+of_kind-clears cjk c kinds.KhmerLetter two = absurd (omega (arith, two))
+of_kind-clears cjk c kinds.TifinaghConsonant two = refl
+of_kind-clears cjk c kinds.LisuTone two = refl
+of_kind-clears cjk c kinds.RegionalIndicator two = refl
+of_kind-clears cjk c kinds.EmojiModifier two = refl
+of_kind-clears cjk c kinds.Emoji two = refl
+of_kind-clears cjk c kinds.Single two = single-credit cjk c
+
+Clears-alone : (cjk : Bool) (c t : ℕ) → Clears (λ x. added x (alone cjk c)) t
+unfolding alone
+Clears-alone cjk c t = Clears-add (alone cjk c).0 (alone cjk c).1 t (of_kind-clears cjk c (kind c))
+
+Clears-joined : (j : Option (Change × After)) (own : ℕ × State) (t : ℕ) → Clears (λ x. added x own) t → Clears (λ x. joined_or x j own) t
+Clears-joined None own t rest = rest
+Clears-joined (Some (Less, next)) own t rest = record { clears = λ two. absurd (omega (arith, two)) }
+Clears-joined (Some (Same, next)) own t rest = record { clears = λ two. absurd (omega (arith, two)) }
+Clears-joined (Some (One, next)) own t rest = record { clears = λ two. absurd (omega (arith, two)) }
+Clears-joined (Some (Three, next)) own t rest = record { clears = λ two. absurd (omega (arith, two)) }
+
+Clears-past_selectors : (cjk : Bool) (c : ℕ) (after : After) (t : ℕ) → Clears (λ x. past_selectors cjk c x after) t
+unfolding past_selectors
+Clears-past_selectors cjk c after t =
+    Clears-cond (skips_marks after && (c == 0x200D)) _ _ t (Clears-same (before (with_joiner after)) t)
+    (Clears-cond (skips_marks after && is_ligature_transparent c) _ _ t (Clears-same (before after) t)
+    (Clears-cond ((cjk && is_solidus after) && is_solidus_transparent c) _ _ t (Clears-add (alone cjk c).0 (before Solidus) t (λ two. refl))
+    (Clears-joined (joins cjk after c) (alone cjk c) t (Clears-alone cjk c t))))
+
+Clears-in_context : (cjk : Bool) (c : ℕ) (s : State) (t : ℕ) → Clears (λ x. in_context cjk c x s) t
+unfolding in_context
+Clears-in_context cjk c s t =
+    Clears-cond (c == 0xFE0F) _ _ t (Clears-same (record (cond (is_joined_emoji s.after) s (if_kept s)) { emoji = true }) t)
+    (Clears-cond (is_quote_selector cjk c) _ _ t (Clears-same (record (if_kept s) { quote = true }) t)
+    (Clears-cond (not cjk && (c == 0xFE0E)) _ _ t (Clears-same (record (if_kept s) { text = true }) t)
+    (Clears-cond (s.text && is_text_presentation_base c) _ _ t (Clears-add 1 plain t (λ two. refl))
+    (Clears-cond (s.quote && is_quote c) _ _ t (Clears-add (cond cjk 1 2) plain t (λ two. refl)) (Clears-past_selectors cjk c s.after t)))))
+
+Clears-past_emoji : (cjk : Bool) (c : ℕ) (s : State) (t : ℕ) → Clears (λ x. past_emoji cjk c x s) t
+unfolding past_emoji
+Clears-past_emoji cjk c s t =
+    Clears-cond (((cjk && is_striking s.after) && not s.quote) && is_in_range 0x3C 0x3E c) _ _ t (Clears-add 2 plain t (λ two. refl))
+    (Clears-cond (c == 0x0A) _ _ t (Clears-add 1 (before LineFeed) t (λ two. refl))
+    (Clears-cond ((c == 0x0D) && is_line_feed s.after) _ _ t (Clears-same plain t)
+    (Clears-cond (nat_le c 0xA0) _ _ t (Clears-add 1 plain t (λ two. refl))
+    (Clears-cond (is_plain s) _ _ t (Clears-alone cjk c t) (Clears-in_context cjk c s t)))))
+
+Clears-step : (cjk : Bool) (c : ℕ) (s : State) (t : ℕ) → Clears (λ x. step cjk c (x, s)) t
+unfolding step
+Clears-step cjk c s t =
+    Clears-cond (not s.emoji) _ _ t (Clears-past_emoji cjk c s t)
+    (Clears-cond _ _ _ t (Clears-add (cond (is_joined_emoji s.after) 0 2) (before Emoji) t (λ two. refl))
+    (Clears-past_emoji cjk c (record (if_kept s) { emoji = false }) t))
+
+str_width-two : (xs ys : List ℕ) (c : ℕ) → str_width false (c ∷ ys) ≡ str_width false ys + 2 → str_width false (c ∷ ys) ≤ str_width false (xs ++ c ∷ ys)
+unfolding str_width
+str_width-two xs ys c two =
+    let behind : Reading = read_before false ys (0, plain) in
+    let r : Reading = read_before false (c ∷ ys) (0, plain) in
+    let none : credit r.1.after ≡ 0 = (Clears-step false c behind.1 behind.0).clears two in
+    let shifted = (Shifts-read_before false xs r.1 0 (omega (arith, none))).shifts r.0 in
+    let all : (read_before false (xs ++ c ∷ ys) (0, plain)).0 ≡ r.0 + (read_before false xs (0, r.1)).0 =
+    ap (λ x. x.0) (read_before-append false xs (c ∷ ys) (0, plain) ∙ ap (λ n. read_before false xs (n, r.1)) (sym (add-zero r.0)) ∙ shifted) in
+    omega (arith, all)
+
+-- where its end's first character adds two places, a text measures at least what its end measures by itself
+pub measure-two : (front tail behind : Text) (c : ℕ) → IsUtf8 front → IsUtf8 tail → tail ≡ encode_utf8 c ++ behind → measure tail ≡ measure behind + 2 → measure tail ≤ measure (front ++ tail)
+measure-two front tail behind c utf8 utf8' begins two =
+    let cs : chars tail ≡ c ∷ chars behind = chars_past_char tail behind c utf8' begins in
+    let least = str_width-two (chars front) (chars behind) c (sym (ap (str_width false) cs) ∙ two) in
+    let all : chars (front ++ tail) ≡ chars front ++ c ∷ chars behind = chars-append front tail utf8 ∙ ap (λ t. chars front ++ t) cs in
+    omega (arith, least, ap (str_width false) cs, ap (str_width false) all)
+
+-- ---- the end of a text
 
 -- a text measures at most one place less than its end by itself
 pub measure-tail : (front tail : Text) → IsUtf8 front → measure tail ≤ measure (front ++ tail) + 1

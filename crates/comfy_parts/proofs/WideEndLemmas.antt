@@ -3,12 +3,14 @@ use Rattle.std.proofs.Common.{◌≡◌, ◌<◌, ◌≤◌, ◌++◌, ◌∙◌
 use Rattle.std.proofs.Math.Seq.{drop-append-add, drop-append_seam, take-append_seam}
 use Rattle.std.proofs.lemmas.List.{append_assoc, take-append-drop}
 use Rattle.std.proofs.lemmas.Str.{IsCharBoundary-from_drop, IsUtf8-append, IsUtf8-nil, IsUtf8-take}
+use Rattle.std.specs.Prelude.{Option, Some, None, MatchOption, true, encode_utf8}
+use Rattle.std.specs.Option.{is_some}
 use Rattle.std.specs.Str.{IsCharBoundary, IsUtf8}
-use Rattle.comfy_parts.proofs.TailLemmas.{measure-tail}
-use Rattle.comfy_parts.specs.Following.{IsFirstElement, IsWideFrom}
+use Rattle.comfy_parts.proofs.TailLemmas.{measure-tail, measure-two}
+use Rattle.comfy_parts.specs.Following.{IsFirstElement, IsWideBehind, IsWideFrom}
 use Rattle.comfy_parts.specs.Text.{Text, measure}
 
-pub wide-from : (w : ℕ) (word front end : Text) → word ≡ front ++ end → IsUtf8 end → w + 1 < measure end → IsWideFrom w (length end) word
+pub wide-from : (w : ℕ) (word front end : Text) → word ≡ front ++ end → IsUtf8 end → IsWideBehind w end → IsWideFrom w (length end) word
 wide-from w word a end joins utf8 wide front tail splits before behind long =
     let n = length a - length front in
     let lengths : length a + length end ≡ length front + length tail = sym (length-append a end) ∙ ap length (sym joins ∙ splits) ∙ length-append front tail in
@@ -17,9 +19,19 @@ wide-from w word a end joins utf8 wide front tail splits before behind long =
     let same : drop n tail ≡ end = sym (drop-append-add front tail n) ∙ ap₂ (λ (i : ℕ) (t : Text). drop i t) place (sym splits ∙ joins) ∙ drop-append_seam a end in
     let whole : take n tail ++ end ≡ tail = ap (λ t. take n tail ++ t) (sym same) ∙ take-append-drop n tail in
     let boundary = IsCharBoundary-from_drop tail n inside (subst IsUtf8 (sym same) utf8) in
-    let most = measure-tail (take n tail) end (IsUtf8-take tail n behind boundary) in
-    let all = ap measure whole in
-    omega (arith, most, all, wide)
+    let most = wide (take n tail) (IsUtf8-take tail n behind boundary) in
+    omega (arith, most, ap measure whole)
+
+-- where an end is wider than a line and one place, or its first character adds two of more places than a line has, it is wide whatever stands before
+pub wide-by-two : (w : ℕ) (end : Text) → w + 1 < measure end → IsWideBehind w end
+wide-by-two w end wide front utf8 =
+    let most = measure-tail front end utf8 in
+    omega (arith, most, wide)
+
+pub wide-at-two : (w : ℕ) (end behind : Text) (c : ℕ) → IsUtf8 end → end ≡ encode_utf8 c ++ behind → measure end ≡ measure behind + 2 → w < measure end → IsWideBehind w end
+wide-at-two w end behind c utf8' begins two wide front utf8 =
+    let most = measure-two front end behind c utf8 utf8' begins two in
+    omega (arith, most, wide)
 
 -- what is wide from a number of bytes on stays so when its front is taken off
 pub wide-behind : (w bytes : ℕ) (word front rest : Text) → word ≡ front ++ rest → IsUtf8 front → IsWideFrom w bytes word → IsWideFrom w bytes rest
@@ -43,3 +55,9 @@ pub known-wide : (d : ℕ) (text : Text) (first : ℕ) → IsCharBoundary text f
 known-wide d text first place is w bytes wide known =
     let long : length (take first text) ≡ first = length-take-le first text place.0 in
     wide [] (take first text) refl IsUtf8-nil is.whole_first (omega (arith, long, known))
+
+-- the same, where the first character was taken
+pub wide-at-first : (A : Type 0) (w : ℕ) (end start behind rest : Text) (r : Option ℕ) → IsUtf8 end → is_some r ≡ true → start ≡ end → rest ≡ behind → MatchOption r A (λ c. start ≡ encode_utf8 c ++ rest)
+    → measure end ≡ measure behind + 2 → w < measure end → IsWideBehind w end
+wide-at-first A w end start behind rest None utf8 some same later steps two wide = absurd (grind (arith, some))
+wide-at-first A w end start behind rest (Some c) utf8 some same later steps two wide = wide-at-two w end behind c utf8 (sym same ∙ steps ∙ ap (λ t. encode_utf8 c ++ t) later) two wide

@@ -4,12 +4,14 @@ ghost use Rattle.std.specs.Prelude.{◌≡◌, map, IfOk, string_bytes};
 ghost use Rattle.comfy_parts.specs.Text.{elements};
 ghost use Rattle.comfy_parts.specs.Wrapping.{IsWrapped, wrapped};
 
+mod cluster;
 pub mod display_info;
 mod ends;
 mod prefix;
 mod width;
 
 use crate::error::Result;
+use cluster::{cluster_behind, no_cluster};
 pub use display_info::ColumnDisplayInfo;
 use ends::{first_element, line_end, line_start};
 pub use prefix::split_long_word;
@@ -48,13 +50,16 @@ pub fn split_line(
     let (word, _) = first_element(rest, delimiter);
     let mut first = word.len();
     let mut wide = wide_end(word, width);
+    let mut cluster = no_cluster();
     while !rest.is_empty() {
-        let end = line_end(rest, first, wide, width, delimiter);
+        let end = line_end(rest, first, wide, cluster, width, delimiter);
         let (front, behind) = rest.split_at(end);
         lines.push(String::from_str(alloc, front)?)?;
         if end < first {
             // The line ends inside a long element, and its rest comes next: its end isn't searched for again, nor
             // measured.
+            let (word, _) = rest.split_at(first);
+            cluster = cluster_behind(word, cluster, end, width);
             rest = behind;
             first -= end;
         } else {
@@ -62,6 +67,7 @@ pub fn split_line(
             let (word, _) = first_element(rest, delimiter);
             first = word.len();
             wide = wide_end(word, width);
+            cluster = no_cluster();
         }
     }
     Ok(lines)

@@ -2,10 +2,11 @@
 
 ghost use Rattle.std.specs.Prelude.{◌≡◌, ℕ, ◌+◌, ◌<◌, ◌≤◌, List, length, take, drop, false};
 ghost use Rattle.std.specs.Str.{IsCharBoundary};
-ghost use Rattle.comfy_parts.specs.Following.{Follow, IsFirstElement, bytes_taken, part_taken};
-ghost use Rattle.comfy_parts.specs.Text.{Text, begins_with, measure};
+ghost use Rattle.comfy_parts.specs.Following.{Follow, IsFirstElement, IsLongCluster, bytes_taken, part_taken};
+ghost use Rattle.comfy_parts.specs.Text.{Text, begins_with, head, measure};
 ghost use Rattle.comfy_parts.specs.Wrapping.{head_or_first, line_end, wrapped};
 
+use crate::content_split::cluster::{LongCluster, first_end_of_look_back, head_before_last};
 use crate::content_split::prefix::split_long_word;
 use crate::content_split::width::{char_width, measure_text_width};
 
@@ -33,43 +34,62 @@ pub fn first_element(text: &str, delimiter: char) -> (&str, &str)
 }
 
 /// The place where the line from the text's front ends. The text's first element has `first` bytes, and is known to be
-/// wider than a line where these are at least `wide`.
+/// wider than a line where these are at least `wide`. A long cluster may be known at its front.
 pub(crate) fn line_end(
     text: &str,
     first: usize,
     wide: usize,
+    cluster: LongCluster,
     width: usize,
     delimiter: char,
 ) -> usize
     requires place { IsCharBoundary text.now first }
     requires element { IsFirstElement delimiter text.now (take first text.now) (drop first text.now) }
     requires wide { wide ≤ first → width < measure (take first text.now) }
+    requires cluster { IsLongCluster width cluster.len cluster.wide (take first text.now) }
     requires narrow { width ≤ 65535 }
     ensures { result ≡ line_end width delimiter text.now }
 {
     let (word, behind) = text.split_at(first);
     if first >= wide {
-        return end_within(word, width);
+        return end_within(word, cluster, width);
     }
     let places = measure_text_width(word);
     if places > width {
-        return end_within(word, width);
+        return end_within(word, cluster, width);
     }
     first + taken_behind(places, behind, width, delimiter)
 }
 
 // The bytes of a word that is wider than a line which the line takes: its head, or at least its first character.
-fn end_within(word: &str, width: usize) -> usize
+fn end_within(word: &str, cluster: LongCluster, width: usize) -> usize
+    requires { IsLongCluster width cluster.len cluster.wide word.now }
     ensures { result ≡ length (head_or_first width word.now) }
 {
-    let (front, _) = split_long_word(width, word);
-    if !front.is_empty() {
-        return front.len();
+    let end = head_end(word, cluster, width);
+    if end > 0 {
+        return end;
     }
     match word.chars().next() {
         Some(first) => first.len_utf8(),
         None => 0,
     }
+}
+
+// The bytes of a word's head. What is left of a long cluster that is wider than a line isn't walked.
+fn head_end(word: &str, cluster: LongCluster, width: usize) -> usize
+    requires { IsLongCluster width cluster.len cluster.wide word.now }
+    ensures { result ≡ length (head width word.now) }
+{
+    let (left, _) = word.split_at(cluster.len);
+    if let Some(reach) = first_end_of_look_back(left) {
+        if cluster.len - reach >= cluster.wide {
+            let (front, _) = word.split_at(reach);
+            return head_before_last(front, width);
+        }
+    }
+    let (front, _) = split_long_word(width, word);
+    front.len()
 }
 
 // The bytes that a line takes behind its first element, which fills so many places.

@@ -3,6 +3,7 @@ use Rattle.std.specs.Str.{IsCharBoundary}
 use Rattle.std.proofs.lemmas.Str.{IsUtf8-drop}
 use Rattle.comfy_parts.specs.Wrapping.{wrapped}
 use Rattle.comfy_parts.proofs.FollowingLemmas.{first-at, first-inside}
+use Rattle.comfy_parts.proofs.LongClusterLemmas.{long-none, place-in-first, rest-of-first}
 use Rattle.comfy_parts.proofs.StartLemmas.{line-cut, not_empty, pushed, wrapped-empty}
 use Rattle.comfy_parts.proofs.WideEndLemmas.{first-wide, known-wide, rest-wide}
 use Rattle.comfy_parts.proofs.WrappedLemmas.{wrapped_is_wrapped}
@@ -16,12 +17,24 @@ loop-rest-init c =
       begins = c.line_start-rest.ensures.begins;
       place = at.0;
       element = at.1;
+      cluster = rw (c.no_cluster-cluster.ensures.len, c.no_cluster-cluster.ensures.wide) (long-none c.from-width.result (take (length c.first_element.result.0.now) c.line_start-rest.result.now) at.1.whole_first);
       wide = first-wide c.args.delimiter c.line_start-rest.result.now c.first_element.result.0.now c.first_element.result.1.now c.first_element.ensures c.from-width.result c.wide_end-wide.result c.wide_end-wide.ensures;
       lines = rw c.new-lines.ensures.items (c.line_start-rest.ensures.lines c.from-width.result);
     }
 
 pub line_end-end-requires-clause-wide : goal.line_end-end-requires-clause-wide
 line_end-end-requires-clause-wide c = known-wide c.args.delimiter c.loop-rest.rest.now c.loop-rest.first c.loop-rest.invariant.place c.loop-rest.invariant.element c.from-width.result c.loop-rest.wide c.loop-rest.invariant.wide
+
+pub cluster_behind-cluster-requires-clause-place : goal.cluster_behind-cluster-requires-clause-place
+cluster_behind-cluster-requires-clause-place c =
+    let rest = c.loop-rest.rest.now in
+    let some = not_empty (length rest) c.is_empty.result c.is_empty.ensures c.loop-rest-test.true in
+    let cut = line-cut c.from-width.result c.args.delimiter rest c.loop-rest.invariant.utf8 some c.loop-rest.invariant.begins in
+    let place : IsCharBoundary rest c.line_end-end.result = subst (IsCharBoundary rest) (sym c.line_end-end.ensures) cut.place in
+    rw c.split_at-then-end-first.ensures.front (place-in-first rest c.loop-rest.first c.line_end-end.result c.loop-rest.invariant.utf8 c.loop-rest.invariant.place place c.if-end-first.true)
+
+pub cluster_behind-cluster-requires-clause-cluster : goal.cluster_behind-cluster-requires-clause-cluster
+cluster_behind-cluster-requires-clause-cluster c = rw c.split_at-then-end-first.ensures.front c.loop-rest.invariant.cluster
 
 pub split_at-requires : goal.split_at-requires
 split_at-requires c =
@@ -59,6 +72,7 @@ loop-rest-preserved-then-end-first c =
       begins = inside.2;
       place = inside.0;
       element = inside.1;
+      cluster = rw (ap (drop end) c.split_at-then-end-first.ensures.front ∙ rest-of-first rest c.loop-rest.first end c.if-end-first.true) at c.cluster_behind-cluster.ensures;
       wide = rest-wide rest c.loop-rest.first end c.loop-rest.invariant.utf8 place c.if-end-first.true w c.loop-rest.wide c.loop-rest.invariant.wide;
       lines = pushed string_bytes done c.in_ok-from_str.field-0 c.push.new.self.items later (wrapped w d c.args.line.now) c.in_ok-push.ensures.items shows;
     }
@@ -92,6 +106,7 @@ loop-rest-preserved c =
       begins = start.ensures.begins;
       place = at.0;
       element = at.1;
+      cluster = rw (c.no_cluster-cluster-else-end-first.ensures.len, c.no_cluster-cluster-else-end-first.ensures.wide) (long-none w (take (length c.first_element-else-end-first.result.0.now) start.result.now) at.1.whole_first);
       wide = first-wide d start.result.now c.first_element-else-end-first.result.0.now c.first_element-else-end-first.result.1.now c.first_element-else-end-first.ensures w c.wide_end-wide-else-end-first.result c.wide_end-wide-else-end-first.ensures;
       lines = pushed string_bytes done c.in_ok-from_str.field-0 c.push.new.self.items (wrapped w d start.result.now) (wrapped w d c.args.line.now) c.in_ok-push.ensures.items shows;
     }

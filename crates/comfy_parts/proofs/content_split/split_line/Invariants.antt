@@ -2,7 +2,7 @@ use Rattle.std.proofs.Common.{◌≡◌, ◌++◌, false, map, length, take, dro
 use denote.Text.{Utf8}
 use denote.Shadow.{shadow}
 use Rattle.std.specs.Str.{IsCharBoundary}
-use Rattle.comfy_parts.specs.Following.{IsFirstElement, IsWideFrom}
+use Rattle.comfy_parts.specs.Following.{IsFirstElement, IsLongCluster, IsWideFrom}
 use Rattle.comfy_parts.specs.Text.{begins_with}
 use Rattle.comfy_parts.specs.Wrapping.{wrapped}
 use Rattle.comfy_parts.proofs.content_split.split_line.Given as goal
@@ -14,6 +14,7 @@ invariant-loop-rest l =
       begins : begins_with l.delimiter l.rest ≡ false;
       place : IsCharBoundary l.rest l.first;
       element : IsFirstElement l.delimiter l.rest (take l.first l.rest) (drop l.first l.rest);
+      cluster : IsLongCluster l.width l.cluster.len l.cluster.wide (take l.first l.rest);
       wide : IsWideFrom l.width l.wide (take l.first l.rest);
       lines : map string_bytes l.lines.items ++ wrapped l.width l.delimiter l.rest ≡ wrapped l.width l.delimiter l.line;
     }

@@ -1,9 +1,8 @@
-use Rattle.std.proofs.Common.{◌≤◌, ◌-◌}
-use Rattle.comfy_parts.specs.Following.{IsWideFrom}
+use Rattle.std.specs.Str.{IsCharBoundary}
 use Rattle.comfy_parts.proofs.content_split.width.wide_end.Given as goal
 
-abbrev pub invariant-loop-wide : goal.invariant-loop-wide
-invariant-loop-wide l = record { narrower : l.narrow ≤ l.wide; shown : IsWideFrom l.places l.wide l.word }
+abbrev pub invariant-loop-tries : goal.invariant-loop-tries
+invariant-loop-tries l = IsCharBoundary l.word l.at
 
-abbrev pub decreases-loop-wide : goal.decreases-loop-wide
-decreases-loop-wide l = l.wide - l.narrow
+abbrev pub decreases-loop-tries : goal.decreases-loop-tries
+decreases-loop-tries l = l.tries

@@ -1,0 +1,11 @@
+use Rattle.std.proofs.Common.{◌≡◌, ◌++◌, ℕ, List, length}
+use Rattle.std.specs.Str.{IsUtf8}
+use Rattle.std.specs.Str.Iter.{chars_rest}
+use Rattle.comfy_parts.specs.Text.{Text}
+use Rattle.comfy_parts.proofs.content_split.cluster.first_end_of_look_back.Given as goal
+
+abbrev pub invariant-loop-character : goal.invariant-loop-character
+invariant-loop-character l = (front : Text) × (l.text ≡ front ++ chars_rest l.characters) × IsUtf8 front × IsUtf8 (chars_rest l.characters)
+
+abbrev pub decreases-loop-character : goal.decreases-loop-character
+decreases-loop-character l = length (chars_rest l.characters)
