@@ -48,6 +48,10 @@ abbrev pub is_conjunct_mark : IndicConjunctBreak → Bool
 is_conjunct_mark Extend = true
 is_conjunct_mark _ = false
 
+-- a mark or a joiner: it joins what stands before it
+abbrev pub is_joining : ℕ → Bool
+is_joining c = is_extend (grapheme_cluster_break c) || is_zwj (grapheme_cluster_break c)
+
 -- a rule that looks back over marks, joiners or halves of flags for the start of a cluster looks no further back than this character
 abbrev pub ends_look_back : ℕ → Bool
 ends_look_back c =
@@ -73,14 +77,14 @@ pub record EndsLookBackAt (text : Text) (bytes : ℕ) : Type 0 where
   pub bytes_are : bytes ≡ length front + length (encode_utf8 character)
   pub within : bytes ≤ length text
 
--- a text's first bytes, so many, are one cluster, and what is left of them behind a front is one, where it begins so that no rule looks back into that front
-abbrev pub IsClusterFrom : ℕ → Text → Type 0
-IsClusterFrom bytes text =
-    (front tail : Text) → text ≡ front ++ tail → IsUtf8 front → IsUtf8 tail → length front < bytes → is_end_of_look_back (chars tail) ≡ true
+-- a text's first bytes, so many, are one cluster, and what is left of them behind a front is one, where it begins so that no rule looks back into that front, or anywhere
+abbrev pub IsClusterFrom : Bool → ℕ → Text → Type 0
+IsClusterFrom anywhere bytes text =
+    (front tail : Text) → text ≡ front ++ tail → IsUtf8 front → IsUtf8 tail → length front < bytes → (anywhere || is_end_of_look_back (chars tail)) ≡ true
     → (more : List Text) × (clusters tail ≡ take (bytes - length front) tail ∷ more)
 
 -- such first bytes of a word, of which each end with at least `wide` bytes is wider than w places
-pub record IsLongCluster (w bytes wide : ℕ) (word : Text) : Type 0 where
+pub record IsLongCluster (w : ℕ) (anywhere : Bool) (bytes wide : ℕ) (word : Text) : Type 0 where
   pub boundary : IsCharBoundary word bytes
-  pub one : IsClusterFrom bytes word
+  pub one : IsClusterFrom anywhere bytes word
   pub ends : IsWideFrom w wide (take bytes word)

@@ -46,7 +46,7 @@ pub(crate) fn line_end(
     requires place { IsCharBoundary text.now first }
     requires element { IsFirstElement delimiter text.now (take first text.now) (drop first text.now) }
     requires wide { wide ≤ first → width < measure (take first text.now) }
-    requires cluster { IsLongCluster width cluster.len cluster.wide (take first text.now) }
+    requires cluster { IsLongCluster width cluster.is_run cluster.len cluster.wide (take first text.now) }
     requires narrow { width ≤ 65535 }
     ensures { result ≡ line_end width delimiter text.now }
 {
@@ -63,7 +63,7 @@ pub(crate) fn line_end(
 
 // The bytes of a word that is wider than a line which the line takes: its head, or at least its first character.
 fn end_within(word: &str, cluster: LongCluster, width: usize) -> usize
-    requires { IsLongCluster width cluster.len cluster.wide word.now }
+    requires { IsLongCluster width cluster.is_run cluster.len cluster.wide word.now }
     ensures { result ≡ length (head_or_first width word.now) }
 {
     let end = head_end(word, cluster, width);
@@ -78,9 +78,12 @@ fn end_within(word: &str, cluster: LongCluster, width: usize) -> usize
 
 // The bytes of a word's head. What is left of a long cluster that is wider than a line isn't walked.
 fn head_end(word: &str, cluster: LongCluster, width: usize) -> usize
-    requires { IsLongCluster width cluster.len cluster.wide word.now }
+    requires { IsLongCluster width cluster.is_run cluster.len cluster.wide word.now }
     ensures { result ≡ length (head width word.now) }
 {
+    if cluster.is_run && cluster.len > 0 && cluster.len >= cluster.wide {
+        return 0;
+    }
     let (left, _) = word.split_at(cluster.len);
     if let Some(reach) = first_end_of_look_back(left) {
         if cluster.len - reach >= cluster.wide {

@@ -17,7 +17,7 @@ loop-rest-init c =
       begins = c.line_start-rest.ensures.begins;
       place = at.0;
       element = at.1;
-      cluster = rw (c.no_cluster-cluster.ensures.len, c.no_cluster-cluster.ensures.wide) (long-none c.from-width.result (take (length c.first_element.result.0.now) c.line_start-rest.result.now) at.1.whole_first);
+      cluster = rw (c.no_cluster-cluster.ensures.len, c.no_cluster-cluster.ensures.wide, c.no_cluster-cluster.ensures.is_run) (long-none c.from-width.result (take (length c.first_element.result.0.now) c.line_start-rest.result.now) at.1.whole_first);
       wide = first-wide c.args.delimiter c.line_start-rest.result.now c.first_element.result.0.now c.first_element.result.1.now c.first_element.ensures c.from-width.result c.wide_end-wide.result c.wide_end-wide.ensures;
       lines = rw c.new-lines.ensures.items (c.line_start-rest.ensures.lines c.from-width.result);
     }
@@ -106,7 +106,7 @@ loop-rest-preserved c =
       begins = start.ensures.begins;
       place = at.0;
       element = at.1;
-      cluster = rw (c.no_cluster-cluster-else-end-first.ensures.len, c.no_cluster-cluster-else-end-first.ensures.wide) (long-none w (take (length c.first_element-else-end-first.result.0.now) start.result.now) at.1.whole_first);
+      cluster = rw (c.no_cluster-cluster-else-end-first.ensures.len, c.no_cluster-cluster-else-end-first.ensures.wide, c.no_cluster-cluster-else-end-first.ensures.is_run) (long-none w (take (length c.first_element-else-end-first.result.0.now) start.result.now) at.1.whole_first);
       wide = first-wide d start.result.now c.first_element-else-end-first.result.0.now c.first_element-else-end-first.result.1.now c.first_element-else-end-first.ensures w c.wide_end-wide-else-end-first.result c.wide_end-wide-else-end-first.ensures;
       lines = pushed string_bytes done c.in_ok-from_str.field-0 c.push.new.self.items (wrapped w d start.result.now) (wrapped w d c.args.line.now) c.in_ok-push.ensures.items shows;
     }

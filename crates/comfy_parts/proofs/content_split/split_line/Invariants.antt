@@ -14,7 +14,7 @@ invariant-loop-rest l =
       begins : begins_with l.delimiter l.rest ≡ false;
       place : IsCharBoundary l.rest l.first;
       element : IsFirstElement l.delimiter l.rest (take l.first l.rest) (drop l.first l.rest);
-      cluster : IsLongCluster l.width l.cluster.len l.cluster.wide (take l.first l.rest);
+      cluster : IsLongCluster l.width l.cluster.is_run l.cluster.len l.cluster.wide (take l.first l.rest);
       wide : IsWideFrom l.width l.wide (take l.first l.rest);
       lines : map string_bytes l.lines.items ++ wrapped l.width l.delimiter l.rest ≡ wrapped l.width l.delimiter l.line;
     }

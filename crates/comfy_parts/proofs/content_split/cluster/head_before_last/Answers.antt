@@ -1,7 +1,6 @@
-use Rattle.std.proofs.Common.{◌≡◌, ◌++◌, ◌∷◌, [], List, map, length, arith, ap, ◌∙◌, sym, append-nil}
+use Rattle.std.proofs.Common.{◌++◌, map, length, arith, ap, ◌∙◌, sym, append-nil}
 use Rattle.unicode_segmentation.specs.Iter.{grapheme_indices_left}
 use Rattle.unicode_segmentation.specs.Segments.{with_offsets}
-use Rattle.comfy_parts.specs.Text.{Text, clusters}
 use Rattle.comfy_parts.proofs.ClusterLemmas.{before-last, shown, sum_by-shown, within-all, within-cut, some-placed}
 use Rattle.comfy_parts.proofs.content_split.cluster.head_before_last.Goals as goal
 
