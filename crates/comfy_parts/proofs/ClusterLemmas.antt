@@ -1,5 +1,5 @@
 -- Where a text is cut between two of its clusters, and that what stands before the cut is its head.
-use Rattle.std.proofs.Common.{◌≡◌, ℕ, ◌+◌, ◌-◌, ◌≤◌, ◌<◌, Bool, true, false, List, [], ◌∷◌, ◌++◌, map, length, take, sum_by, nat_le, refl, sym, ap, ap₂, ◌∙◌, subst, arith, length-append, append-nil}
+use Rattle.std.proofs.Common.{◌≡◌, ℕ, ◌+◌, ◌-◌, ◌≤◌, ◌<◌, Bool, true, false, List, [], ◌∷◌, ◌++◌, map, length, take, sum_by, nat_le, refl, sym, ap, ◌∙◌, subst, arith, length-append, append-nil}
 use Rattle.std.proofs.Math.Seq.{take-append_seam, get_or-append_seam}
 use Rattle.std.specs.Borrow.{Bor}
 use Rattle.std.specs.List.{All, concat}
@@ -11,7 +11,8 @@ use Rattle.std.proofs.lemmas.List.Folds.{concat-append}
 use Rattle.std.proofs.lemmas.List.Sums.{sum_by-cons}
 use Rattle.unicode_segmentation.specs.Segments.{with_offsets}
 use Rattle.unicode_segmentation.specs.Grapheme.{is_grapheme_break}
-use Rattle.unicode_segmentation.proofs.SegmentsLemmas.{map-with_offsets, concat-segments, All-IsPieceOf, IsPieceOf}
+use Rattle.unicode_segmentation.proofs.SegmentsLemmas.{map-with_offsets, concat-segments, All-IsPieceOf, IsPieceOf, AllPieces, segments_nonempty}
+use Rattle.comfy_parts.specs.Following.{IsFirstCluster}
 use Rattle.comfy_parts.specs.Text.{Text, measure, clusters, clusters_within, head}
 
 -- a piece with the place where it begins
@@ -40,11 +41,33 @@ begins_at n (y ∷ done) x rest (p ∷ ps) e =
 around : (done : List Placed) (x : Placed) (rest : List Placed) (ps : List Text) → done ++ x ∷ rest ≡ with_offsets 0 ps → ps ≡ pieces done ++ x.1 ∷ pieces rest
 around done x rest ps e = sym (map-with_offsets 0 ps) ∙ sym (ap pieces e) ∙ map-append (λ x. x.1) done (x ∷ rest)
 
-pub boundary : (text : Text) (done : List Placed) (x : Placed) (rest : List Placed) → IsUtf8 text → done ++ x ∷ rest ≡ with_offsets 0 (clusters text) → IsCharBoundary text x.0
-boundary text done x rest u e =
+piece : (text : Text) (done : List Placed) (x : Placed) (rest : List Placed) → IsUtf8 text → done ++ x ∷ rest ≡ with_offsets 0 (clusters text) → IsPieceOf text x
+piece text done x rest u e =
     let all = All-IsPieceOf (is_grapheme_break true) text u in
     let here = subst (All (IsPieceOf text)) (sym e) all (length done) x (omega (arith, length-append done (x ∷ rest))) in
-    (subst (IsPieceOf text) (get_or-append_seam done x rest x) here).start
+    subst (IsPieceOf text) (get_or-append_seam done x rest x) here
+
+-- it begins and ends between characters
+pub boundary : (text : Text) (done : List Placed) (x : Placed) (rest : List Placed) → IsUtf8 text → done ++ x ∷ rest ≡ with_offsets 0 (clusters text) → IsCharBoundary text x.0
+boundary text done x rest u e = (piece text done x rest u e).start
+
+pub boundary-end : (text : Text) (done : List Placed) (x : Placed) (rest : List Placed) → IsUtf8 text → done ++ x ∷ rest ≡ with_offsets 0 (clusters text) → IsCharBoundary text (x.0 + length x.1)
+boundary-end text done x rest u e = (piece text done x rest u e).end
+
+-- one that begins at the text's front is the first
+pub first-placed : (text : Text) (done : List Placed) (x : Placed) (rest : List Placed) → IsUtf8 text → done ++ x ∷ rest ≡ with_offsets 0 (clusters text) → x.0 ≡ 0 → IsFirstCluster (length x.1) text
+first-placed text done x rest u e start =
+    let at = begins_at 0 done x rest (clusters text) e in
+    by_done done (around done x rest (clusters text) e) (omega (arith, at, start))
+  where
+    by_done : (done : List Placed) → clusters text ≡ pieces done ++ x.1 ∷ pieces rest → length (concat (pieces done)) ≡ 0 → IsFirstCluster (length x.1) text
+    by_done [] parts none =
+        let all : text ≡ x.1 ++ concat (pieces rest) = sym (concat-segments (is_grapheme_break true) text u) ∙ ap concat parts in
+        let front : take (length x.1) text ≡ x.1 = ap (take (length x.1)) all ∙ take-append_seam x.1 (concat (pieces rest)) in
+        record { more = pieces rest; clusters_are = parts ∙ ap (λ t. t ∷ pieces rest) (sym front) }
+    by_done (d ∷ ds) parts none =
+        let some = (subst (AllPieces (λ p. 0 < length p)) parts (segments_nonempty (is_grapheme_break true) text)).0 in
+        absurd (omega (arith, some, none, length-append d.1 (concat (pieces ds))))
 
 -- clusters that fit are taken, and the head goes on behind them with the places that they leave
 within-front : (k : ℕ) (qs more : List Text) → sum_by measure qs ≤ k → clusters_within k (qs ++ more) ≡ concat qs ++ clusters_within (k - sum_by measure qs) more
@@ -103,39 +126,3 @@ pub sum_by-shown : (xs : List (ℕ × Bor (List ℕ))) → sum_by measure (piece
 sum_by-shown [] = refl
 sum_by-shown (x ∷ xs) =
     sum_by-cons measure x.1.now (pieces (map shown xs)) ∙ ap (λ n. measure x.1.now + n) (sum_by-shown xs) ∙ sym (sum_by-cons (λ x. measure x.1.now) x xs)
-
--- the same for a list of clusters that needn't be all of a text: the place of the first that is too wide
-pub within-cut : (k : ℕ) (ps : List Text) (done : List Placed) (x : Placed) (rest : List Placed) → done ++ x ∷ rest ≡ with_offsets 0 ps
-    → sum_by measure (pieces done) ≤ k → k < sum_by measure (pieces done) + measure x.1 → x.0 ≡ length (clusters_within k ps)
-within-cut k ps done x rest e fits wide =
-    let qs = pieces done in
-    let at = begins_at 0 done x rest ps e in
-    let taken : clusters_within k ps ≡ concat qs ++ [] =
-    ap (clusters_within k) (around done x rest ps e) ∙ within-front k qs (x.1 ∷ pieces rest) fits ∙ ap (λ t. concat qs ++ t) (within-wide (k - sum_by measure qs) x.1 (pieces rest) (omega (arith, fits, wide))) in
-    omega (arith, at, ap length (taken ∙ append-nil (concat qs)))
-
--- or the end of all, where none is
-pub within-all : (k : ℕ) (ps : List Text) (done : List Placed) → done ≡ with_offsets 0 ps → sum_by measure (pieces done) ≤ k → concat ps ≡ clusters_within k ps
-within-all k ps done e fits =
-    let same : pieces done ≡ ps = ap pieces e ∙ map-with_offsets 0 ps in
-    let taken : clusters_within k ps ≡ concat (pieces done) ++ [] = ap (clusters_within k) (sym same ∙ sym (append-nil (pieces done))) ∙ within-front k (pieces done) [] fits in
-    sym (taken ∙ append-nil (concat (pieces done)) ∙ ap concat same)
-
-pub some-placed : (n : ℕ) (others : List Text) (last : Text) → 0 < length (with_offsets n (others ++ last ∷ []))
-unfolding with_offsets
-some-placed n [] last = omega arith
-some-placed n (q ∷ qs) last = omega arith
-
--- the clusters before the last, and the place where the last begins
-pub before-last : (n : ℕ) (others : List Text) (last : Text) (rest : List Placed) (x : Placed) → with_offsets n (others ++ last ∷ []) ≡ rest ++ x ∷ [] → (rest ≡ with_offsets n others) × (x.0 ≡ n + length (concat others))
-unfolding with_offsets
-before-last n [] last [] x e = let here : x ≡ (n, last) = cc e in (refl, ap (λ y. y.0) here ∙ omega arith)
-before-last n [] last (y ∷ rest) x e = absurd (omega (arith, ap length e, length-append rest (x ∷ [])))
-before-last n (p ∷ ps) last [] x e = absurd (omega (arith, ap length e, some-placed (n + length p) ps last))
-before-last n (p ∷ ps) last (y ∷ rest) x e =
-    let first : y ≡ (n, p) = cc e in
-    let others : with_offsets (n + length p) (ps ++ last ∷ []) ≡ rest ++ x ∷ [] = cc e in
-    let later = before-last (n + length p) ps last rest x others in
-    let lengths = length-append p (concat ps) in
-    let place : x.0 ≡ n + length (p ++ concat ps) = omega (arith, later.1, lengths) in
-    (ap₂ (λ a b. a ∷ b) first later.0, place)

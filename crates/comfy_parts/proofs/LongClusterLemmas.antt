@@ -1,23 +1,25 @@
--- What is left of a long cluster when characters are cut off its front, and the head of a word that begins with it.
-use Rattle.std.proofs.Common.{◌≡◌, ◌≤◌, ◌<◌, ℕ, ◌+◌, ◌-◌, Bool, true, false, nat_le, ◌&&◌, ◌||◌, List, [], ◌∷◌, ◌++◌, map, length, take, drop, refl, sym, ap, ap₂, ◌∙◌, subst, arith, length-append, append-nil, length-take-le, zero-add}
-use Rattle.std.proofs.Math.Seq.{take-append_seam, take-append-add, drop-append_seam}
-use Rattle.std.specs.List.{All, concat, list_all}
+-- A long cluster at a word's front, the run of marks and joiners that it begins with, what is left of both when characters
+-- are cut off, and the head of a word that begins with one.
+use Rattle.std.proofs.Common.{◌≡◌, ◌≤◌, ◌<◌, ℕ, ◌+◌, ◌-◌, Bool, true, false, nat_le, nat_lt, not, ◌&&◌, ◌||◌, List, [], ◌∷◌, ◌++◌, map, length, take, drop, refl, sym, ap, ap₂, ◌∙◌, subst, arith, length-append, append-nil, length-take-le}
+use Rattle.std.proofs.Math.Seq.{take-append_seam, take-append-add, drop-append-add}
+use Rattle.std.specs.List.{concat, list_all}
 use Rattle.std.proofs.lemmas.Bool.{and_parts}
-use Rattle.std.specs.Prelude.{chars, encode_utf8, encode_utf8_all, IsUtf8, if◌then◌else◌}
-use Rattle.std.specs.Str.{all_scalars, IsCharBoundary}
+use Rattle.std.specs.Prelude.{chars, encode_utf8_all, IsUtf8, if◌then◌else◌, reverse}
+use Rattle.std.specs.Str.{IsCharBoundary}
 use Rattle.std.proofs.lemmas.Bool.Decides.{nat_tests}
-use Rattle.std.proofs.lemmas.List.{append_assoc, map-append, drop-append-le, drop-drop, drop-take, length-drop, take-append-drop}
-use Rattle.std.proofs.lemmas.List.Elements.{All-head}
-use Rattle.std.proofs.lemmas.Str.{chars-append, chars-encodes, chars_past_char, encodes-append, encodes-chars, encodes_same, scalars-chars, IsUtf8-append, IsUtf8-between, IsUtf8-nil, IsUtf8-take, IsUtf8-drop, IsUtf8-past_char, IsCharBoundary-at_seam, IsCharBoundary-from_drop, IsCharBoundary-start}
-use Rattle.unicode_segmentation.specs.Grapheme.{is_grapheme_break}
-use Rattle.unicode_segmentation.specs.Segments.{prepend, cut, segments, with_offsets}
-use Rattle.unicode_segmentation.proofs.SegmentsLemmas.{concat-segments, All-IsPieceOf, IsPieceOf}
-use Rattle.unicode_segmentation.proofs.TextLemmas.{encode_utf8_nonempty}
-use Rattle.comfy_parts.specs.Following.{is_joining, ends_look_back, is_end_of_look_back, EndsLookBackAt, IsWideFrom, IsClusterFrom, IsLongCluster}
+use Rattle.std.proofs.lemmas.List.{append_assoc, map-append, drop-drop, drop-take, length-drop, take-append-drop}
+use Rattle.std.proofs.lemmas.Str.{chars-append, chars-nil, encodes-append, encodes-chars, IsUtf8-append, IsUtf8-between, IsUtf8-nil, IsUtf8-take, IsUtf8-drop, IsCharBoundary-from_drop}
+use Rattle.ucd_derived.specs.IndicConjunctBreak.{indic_conjunct_break}
+use Rattle.unicode_segmentation.specs.Grapheme.{ends_in_linker, is_extend, is_zwj, is_regional, is_grapheme_break}
+use Rattle.unicode_segmentation.specs.Segments.{prepend, cut, segments}
+use Rattle.unicode_segmentation.proofs.SegmentsLemmas.{concat-segments}
+use Rattle.comfy_parts.specs.declared.content_split.cluster.LongCluster.{LongCluster}
+use Rattle.comfy_parts.specs.Following.{is_joining, ends_look_back, begins_anew, begins_with_consonant, is_linked, IsRun, IsLinkedUpTo, IsWideFrom, IsPart, IsFirstCluster, IsCluster, IsClosed, IsClosedBehind, IsLongCluster}
 use Rattle.comfy_parts.specs.Text.{Text, measure, clusters, clusters_within, head}
-use Rattle.comfy_parts.proofs.PlaceLemmas.{scalars-parts}
+use Rattle.comfy_parts.proofs.CharacterLemmas.{consonant-other}
 use Rattle.comfy_parts.proofs.WideEndLemmas.{rest-wide}
-use Rattle.comfy_parts.proofs.RunLemmas.{run-clusters}
+use Rattle.comfy_parts.proofs.WrappingLemmas.{first_of_text}
+use Rattle.comfy_parts.proofs.RunLemmas.{run-break, run-closed, run-joined}
 use Rattle.comfy_parts.proofs.SeamLemmas.{ends, cut-seam, seam, back_over}
 
 -- ---- the clusters of a text around a character that ends each look back
@@ -35,23 +37,18 @@ encodes-concat : (ps : List (List ℕ)) → encode_utf8_all (concat ps) ≡ conc
 encodes-concat [] = refl
 encodes-concat (p ∷ ps) = encodes-append p (concat ps) ∙ ap (λ t. encode_utf8_all p ++ t) (encodes-concat ps)
 
--- the front and the tail of a text, where the tail begins with such a character c, and the text up to c
-record AreAroundSeam (text front tail short : Text) : Type 0 where
+-- the front and the tail of a text, where the tail begins with such a character
+record AreAroundSeam (text front tail : Text) : Type 0 where
   done : List Text
   part : Text
   first : Text
-  last : Text
   later : List Text
   text_is : clusters text ≡ done ++ (part ++ first) ∷ later
   tail_is : clusters tail ≡ first ∷ later
-  short_is : clusters short ≡ done ++ last ∷ []
   front_is : concat done ++ part ≡ front
-  whole_done : IsUtf8 (concat done)
-  whole_part : IsUtf8 part
-  whole_first : IsUtf8 first
 
 around : (text front tail : Text) (c : ℕ) (v : List ℕ) → text ≡ front ++ tail → IsUtf8 front → IsUtf8 tail → chars tail ≡ c ∷ v → ends_look_back c ≡ true
-    → AreAroundSeam text front tail (front ++ encode_utf8 c)
+    → AreAroundSeam text front tail
 unfolding segments
 around text front tail c v joins utf8 utf8' begins holds =
     let u = chars front in
@@ -59,38 +56,32 @@ around text front tail c v joins utf8 utf8' begins holds =
     let first = some.0 in
     let later = some.1 in
     let here = seam u c v [] first later (cut-seam c (ends c holds) (back_over u []) v [] ∙ some.2) in
-    let scalars = scalars-chars front utf8 in
-    let parts = scalars-parts (concat here.done) here.part (ap all_scalars here.front_is ∙ scalars) in
-    let one : all_scalars (c ∷ []) ≡ true = (scalars-parts (c ∷ []) v (sym (ap all_scalars begins) ∙ scalars-chars tail utf8')).0 in
     let all : chars text ≡ u ++ c ∷ v = ap chars joins ∙ chars-append front tail utf8 ∙ ap (λ cs. u ++ cs) begins in
-    let bytes : encode_utf8_all (c ∷ []) ≡ encode_utf8 c = append-nil (encode_utf8 c) in
-    let short : chars (front ++ encode_utf8 c) ≡ u ++ c ∷ [] = chars-append front (encode_utf8 c) utf8 ∙ ap (λ cs. u ++ cs) (ap chars (sym bytes) ∙ chars-encodes (c ∷ []) one) in
-    let spelt : encode_utf8_all (concat (first ∷ later)) ≡ encode_utf8_all (c ∷ v) =
-    encodes-concat (first ∷ later) ∙ sym (ap concat (ap (λ cs. map encode_utf8_all (cut (is_grapheme_break true) [] cs [])) begins ∙ ap (map encode_utf8_all) some.2)) ∙ concat-segments (is_grapheme_break true) tail utf8' ∙ sym (encodes-chars tail utf8') ∙ ap encode_utf8_all begins in
-    let joined : first ++ concat later ≡ c ∷ v = encodes_same (first ++ concat later) (c ∷ v) spelt in
     record {
       done = map encode_utf8_all here.done;
       part = encode_utf8_all here.part;
       first = encode_utf8_all first;
-      last = encode_utf8_all (here.part ++ c ∷ []);
       later = map encode_utf8_all later;
       text_is = ap (λ cs. map encode_utf8_all (cut (is_grapheme_break true) [] cs [])) all ∙ ap (map encode_utf8_all) here.whole_is ∙ map-append encode_utf8_all here.done ((here.part ++ first) ∷ later)
           ∙ ap (λ t. map encode_utf8_all here.done ++ t ∷ map encode_utf8_all later) (encodes-append here.part first);
       tail_is = ap (λ cs. map encode_utf8_all (cut (is_grapheme_break true) [] cs [])) begins ∙ ap (map encode_utf8_all) some.2;
-      short_is = ap (λ cs. map encode_utf8_all (cut (is_grapheme_break true) [] cs [])) short ∙ ap (map encode_utf8_all) here.short_is ∙ map-append encode_utf8_all here.done ((here.part ++ c ∷ []) ∷ []);
       front_is = ap (λ t. t ++ encode_utf8_all here.part) (sym (encodes-concat here.done)) ∙ sym (encodes-append (concat here.done) here.part) ∙ ap encode_utf8_all here.front_is ∙ encodes-chars front utf8;
-      whole_done = (concat here.done, (parts.0, encodes-concat here.done));
-      whole_part = (here.part, (parts.1, refl));
-      whole_first = (first, ((scalars-parts first (concat later) (ap all_scalars joined ∙ sym (ap all_scalars begins) ∙ scalars-chars tail utf8')).0, refl));
     }
 
 -- ---- the rest of a first cluster
 
+not-below : (n : ℕ) → nat_lt n 0 ≡ false
+not-below n = grind (arith, nat_tests)
+
+-- what is asked of a front where nothing is joined
+only-anew : (n : ℕ) (b : Bool) → (nat_lt n 0 || b) ≡ b
+only-anew n b = ap (λ x. x || b) (not-below n)
+
 -- behind a front inside the first cluster, the first is what is left of it
-pub first-cluster : (text first : Text) (more : List Text) → clusters text ≡ first ∷ more → IsClusterFrom false (length first) text
-first-cluster text k more same front tail joins utf8 utf8' inside begins = by_characters (chars tail) refl begins
+inside-first : (text first : Text) (more : List Text) → clusters text ≡ first ∷ more → IsCluster 0 (length first) text
+inside-first text k more same front tail joins utf8 utf8' inside begins = by_characters (chars tail) refl (sym (only-anew (length front) (begins_anew (chars tail))) ∙ begins)
   where
-    by_done : (c : ℕ) (a : AreAroundSeam text front tail (front ++ encode_utf8 c)) (done : List Text) → a.done ≡ done → (later : List Text) × (clusters tail ≡ take (length k - length front) tail ∷ later)
+    by_done : (c : ℕ) (a : AreAroundSeam text front tail) (done : List Text) → a.done ≡ done → IsFirstCluster (length k - length front) tail
     by_done c a [] none =
         let whole : k ≡ a.part ++ a.first = cc (sym same ∙ a.text_is ∙ ap (λ ds. ds ++ (a.part ++ a.first) ∷ a.later) none) in
         let part : a.part ≡ front = sym (ap (λ ds. concat ds ++ a.part) none) ∙ a.front_is in
@@ -98,89 +89,25 @@ first-cluster text k more same front tail joins utf8 utf8' inside begins = by_ch
         let left : length k - length front ≡ length a.first = omega (arith, lengths) in
         let all : tail ≡ a.first ++ concat a.later = sym (concat-segments (is_grapheme_break true) tail utf8') ∙ ap concat a.tail_is in
         let taken : take (length k - length front) tail ≡ a.first = ap₂ (λ (n : ℕ) (t : Text). take n t) left all ∙ take-append_seam a.first (concat a.later) in
-        (a.later, a.tail_is ∙ ap (λ t. t ∷ a.later) (sym taken))
+        record { more = a.later; clusters_are = a.tail_is ∙ ap (λ t. t ∷ a.later) (sym taken) }
     by_done c a (d ∷ ds) some =
         let whole : k ≡ d = cc (sym same ∙ a.text_is ∙ ap (λ xs. xs ++ (a.part ++ a.first) ∷ a.later) some) in
         let lengths = sym (ap length a.front_is) ∙ length-append (concat a.done) a.part in
         let longer = ap (λ xs. length (concat xs)) some ∙ length-append d (concat ds) in
         absurd (omega (arith, inside, ap length whole, lengths, longer))
 
-    by_characters : (cs : List ℕ) → chars tail ≡ cs → is_end_of_look_back (chars tail) ≡ true → (later : List Text) × (clusters tail ≡ take (length k - length front) tail ∷ later)
-    by_characters [] none holds = absurd (grind (arith, ap is_end_of_look_back none, holds))
+    by_characters : (cs : List ℕ) → chars tail ≡ cs → begins_anew (chars tail) ≡ true → IsFirstCluster (length k - length front) tail
+    by_characters [] none holds = absurd (grind (arith, ap begins_anew none, holds))
     by_characters (c ∷ v) some holds =
-        let a = around text front tail c v joins utf8 utf8' some (sym (ap is_end_of_look_back some) ∙ holds) in
+        let a = around text front tail c v joins utf8 utf8' some (sym (ap begins_anew some) ∙ holds) in
         by_done c a a.done refl
 
--- what is known of a text's first bytes is known of what is left of them
-pub cluster-behind : (anywhere : Bool) (bytes : ℕ) (text a rest : Text) → text ≡ a ++ rest → IsUtf8 a → IsClusterFrom anywhere bytes text → IsClusterFrom anywhere (bytes - length a) rest
-cluster-behind anywhere bytes text a rest joins utf8 one front tail splits before behind inside begins =
-    let lengths = length-append a front in
-    let left : bytes - length (a ++ front) ≡ bytes - length a - length front = omega (arith, lengths) in
-    let there = one (a ++ front) tail (joins ∙ ap (λ t. a ++ t) splits ∙ sym (append_assoc a front tail)) (IsUtf8-append a front utf8 before) behind (omega (arith, lengths, inside)) begins in
-    (there.0, there.1 ∙ ap (λ n. take n tail ∷ there.0) left)
+pub first-cluster : (text : Text) (bytes : ℕ) → IsCharBoundary text bytes → IsFirstCluster bytes text → IsCluster 0 bytes text
+first-cluster text bytes place is = subst (λ n. IsCluster 0 n text) (length-take-le bytes text place.0) (inside-first text (take bytes text) is.more is.clusters_are)
 
--- ---- the head of a word that begins with a long cluster
+-- ---- a place in a text's first bytes
 
--- a cluster that is wider than a line ends the head wherever it stands
-within-wide : (w k : ℕ) (ps : List Text) (p : Text) (later : List Text) → k ≤ w → w < measure p → clusters_within k (ps ++ p ∷ later) ≡ clusters_within k ps
-within-wide w k [] p later most wide = by_test (nat_le (measure p) k) refl
-  where
-    by_test : (b : Bool) → nat_le (measure p) k ≡ b → (if b then p ++ clusters_within (k - measure p) later else []) ≡ []
-    by_test true fits = absurd (grind (arith, nat_tests, fits, most, wide))
-    by_test false fits = refl
-within-wide w k (q ∷ qs) p later most wide =
-    let rest = within-wide w (k - measure q) qs p later (omega (arith, most)) wide in
-    ap (λ t. if nat_le (measure q) k then q ++ t else []) rest
-
-either : (a b : Bool) → b ≡ true → (a || b) ≡ true
-either true b holds = refl
-either false b holds = holds
-
--- the head is what fits of the clusters before the one that reaches the first character that ends each look back
-pub long-head : (w : ℕ) (anywhere : Bool) (bytes wide : ℕ) (word front tail : Text) (c : ℕ) (v : List ℕ) → IsUtf8 word → IsLongCluster w anywhere bytes wide word → word ≡ front ++ tail → IsUtf8 front → IsUtf8 tail → chars tail ≡ c ∷ v → ends_look_back c ≡ true
-    → length front < bytes → wide + length front ≤ bytes → (others : List Text) × (last : Text) × (clusters (front ++ encode_utf8 c) ≡ others ++ last ∷ []) × (head w word ≡ clusters_within w others)
-long-head w anywhere bytes wide word front tail c v utf8 is joins before behind begins holds inside long =
-    let a = around word front tail c v joins before behind begins holds in
-    let rest = is.one front tail joins before behind inside (either anywhere (is_end_of_look_back (chars tail)) (ap is_end_of_look_back begins ∙ holds)) in
-    let first : a.first ≡ take (bytes - length front) tail = cc (sym a.tail_is ∙ rest.1) in
-    let sum : bytes ≡ length front + (bytes - length front) = omega (arith, inside) in
-    let lead : take bytes word ≡ concat a.done ++ (a.part ++ a.first) =
-    ap₂ (λ (n : ℕ) (t : Text). take n t) sum joins ∙ take-append-add front tail (bytes - length front) ∙ ap₂ (λ x y. x ++ y) (sym a.front_is) (sym first) ∙ append_assoc (concat a.done) a.part a.first in
-    let most : bytes ≤ length word = is.boundary.0 in
-    let count : length (take bytes word) ≡ bytes = length-take-le bytes word most in
-    let lengths : length (take bytes word) ≡ length (concat a.done) + length (a.part ++ a.first) = ap length lead ∙ length-append (concat a.done) (a.part ++ a.first) in
-    let fronts : length (concat a.done) + length a.part ≡ length front = sym (length-append (concat a.done) a.part) ∙ ap length a.front_is in
-    let wider = is.ends (concat a.done) (a.part ++ a.first) lead a.whole_done (IsUtf8-append a.part a.first a.whole_part a.whole_first) (omega (arith, lengths, fronts, count, long)) in
-    (a.done, a.last, a.short_is, ap (clusters_within w) a.text_is ∙ within-wide w w a.done (a.part ++ a.first) a.later (omega arith) wider)
-
--- where the characters are walked, it is found at the one that was taken last
-pub found-end : (text front rest behind : Text) (c : ℕ) → text ≡ front ++ rest → IsUtf8 front → IsUtf8 rest → rest ≡ encode_utf8 c ++ behind → ends_look_back c ≡ true → EndsLookBackAt text (length text - length behind)
-found-end text front rest behind c joins utf8 utf8' steps holds =
-    let all = ap length joins ∙ length-append front rest in
-    let parts = ap length steps ∙ length-append (encode_utf8 c) behind in
-    record {
-      front = front;
-      tail = rest;
-      character = c;
-      others = chars behind;
-      joins = joins;
-      whole_front = utf8;
-      whole_tail = utf8';
-      begins = chars_past_char rest behind c utf8' steps;
-      holds = holds;
-      bytes_are = omega (arith, all, parts);
-      within = omega arith;
-    }
-
--- and else it is looked for behind that one
-pub behind-character : (text rest behind : Text) (c : ℕ) → IsUtf8 rest → rest ≡ encode_utf8 c ++ behind → (front : Text) × (text ≡ front ++ rest) × IsUtf8 front
-    → (front : Text) × (text ≡ front ++ behind) × IsUtf8 front × IsUtf8 behind
-behind-character text rest behind c utf8 steps (front, joins, before) =
-    let later = IsUtf8-past_char rest behind c utf8 steps in
-    let one : IsUtf8 (encode_utf8 c) = (c ∷ [], ((scalars-parts (c ∷ []) (chars behind) (sym (ap all_scalars (chars_past_char rest behind c utf8 steps)) ∙ scalars-chars rest utf8)).0, append-nil (encode_utf8 c))) in
-    (front ++ encode_utf8 c, joins ∙ ap (λ t. front ++ t) steps ∙ sym (append_assoc front (encode_utf8 c) behind), IsUtf8-append front (encode_utf8 c) before one, later)
-
--- what is left of a text's first bytes behind a place in them
+-- what is left of them behind it
 pub rest-of-first : (text : Text) (first end : ℕ) → end < first → drop end (take first text) ≡ take (first - end) (drop end text)
 rest-of-first text first end inside =
     let sum : first ≡ end + (first - end) = omega (arith, inside) in
@@ -192,145 +119,314 @@ place-in-first text first end utf8 whole place inside =
     let long : length (take first text) ≡ first = length-take-le first text whole.0 in
     IsCharBoundary-from_drop (take first text) end (omega (arith, long, inside)) (subst IsUtf8 (sym (rest-of-first text first end inside)) (IsUtf8-between text end first utf8 (omega (arith, inside)) place whole))
 
--- ---- what is known of a long cluster
+-- ---- what is left of a long cluster
 
--- a word's first cluster ends between characters of it
-end-of-first : (word first : Text) (more : List Text) → IsUtf8 word → clusters word ≡ first ∷ more → IsCharBoundary word (length first)
-unfolding with_offsets
-end-of-first word k more utf8 same =
-    let all = All-IsPieceOf (is_grapheme_break true) word utf8 in
-    let here = All-head (IsPieceOf word) (0, k) (with_offsets (0 + length k) more) (subst (All (IsPieceOf word)) (ap (with_offsets 0) same) all) in
-    subst (IsCharBoundary word) (zero-add (length k)) here.end
-
--- the first cluster of a word is one
-pub long-first : (w wide : ℕ) (word first : Text) (more : List Text) → IsUtf8 word → clusters word ≡ first ∷ more → IsWideFrom w wide first → IsLongCluster w false (length first) wide word
-long-first w wide word k more utf8 same wider =
-    let joins : word ≡ k ++ concat more = sym (concat-segments (is_grapheme_break true) word utf8) ∙ ap concat same in
-    record {
-      boundary = end-of-first word k more utf8 same;
-      one = first-cluster word k more same;
-      ends = subst (IsWideFrom w wide) (sym (ap (take (length k)) joins ∙ take-append_seam k (concat more))) wider;
-    }
-
--- and so is what is left of one behind a place in it
-pub long-rest : (w : ℕ) (anywhere : Bool) (bytes wide end : ℕ) (word : Text) → IsUtf8 word → IsCharBoundary word end → end < bytes → IsLongCluster w anywhere bytes wide word → IsLongCluster w anywhere (bytes - end) wide (drop end word)
-long-rest w anywhere bytes wide end word utf8 place inside is =
+-- what is left of a text's first bytes behind a place in them
+pub part-behind : (w bytes wide end : ℕ) (word : Text) → IsUtf8 word → IsCharBoundary word end → end < bytes → IsPart w bytes wide word → IsPart w (bytes - end) wide (drop end word)
+part-behind w bytes wide end word utf8 place inside is =
     let most : bytes ≤ length word = is.boundary.0 in
     let left = length-drop end word in
     let sum : end + (bytes - end) ≡ bytes = omega (arith, inside) in
     let back : drop (bytes - end) (drop end word) ≡ drop bytes word = drop-drop (bytes - end) end word ∙ ap (λ n. drop n word) sum in
-    let long : length (take end word) ≡ end = length-take-le end word (omega (arith, most, inside)) in
     record {
       boundary = IsCharBoundary-from_drop (drop end word) (bytes - end) (omega (arith, left, most)) (subst IsUtf8 (sym back) (IsUtf8-drop word bytes utf8 is.boundary));
-      one = subst (λ n. IsClusterFrom anywhere (bytes - n) (drop end word)) long (cluster-behind anywhere bytes word (take end word) (drop end word) (sym (take-append-drop end word)) (IsUtf8-take word end utf8 place) is.one);
       ends = rest-wide word bytes end utf8 place inside w wide is.ends;
     }
 
--- what is left of the first cluster behind a place in it is one wherever it begins, where it is a run of marks and joiners
-long-run : (w wide end : ℕ) (word first : Text) (more : List Text) → IsUtf8 word → IsCharBoundary word end → end < length first → clusters word ≡ first ∷ more → list_all is_joining (chars (drop end first)) ≡ true
-    → IsLongCluster w false (length first) wide word → IsLongCluster w true (length first - end) wide (drop end word)
-long-run w wide end word k more utf8 place inside same all is =
-    let rest = long-rest w false (length k) wide end word utf8 place inside is in
-    let joins : word ≡ k ++ concat more = sym (concat-segments (is_grapheme_break true) word utf8) ∙ ap concat same in
-    let first : take (length k) word ≡ k = ap (take (length k)) joins ∙ take-append_seam k (concat more) in
-    let cut : IsCharBoundary k end = subst (λ t. IsCharBoundary t end) first (place-in-first word (length k) end utf8 is.boundary place inside) in
-    let whole : IsUtf8 k = subst IsUtf8 first (IsUtf8-take word (length k) utf8 is.boundary) in
-    let behind : IsUtf8 (concat more) = subst IsUtf8 (ap (drop (length k)) joins ∙ drop-append_seam k (concat more)) (IsUtf8-drop word (length k) utf8 is.boundary) in
-    let left : length (drop end k) ≡ length k - end = length-drop end k in
-    let back : drop end word ≡ drop end k ++ concat more = ap (drop end) joins ∙ drop-append-le end k (concat more) (omega (arith, inside)) in
-    record {
-      boundary = rest.boundary;
-      one = λ front tail splits before after lies holds. subst (λ n. (later : List Text) × (clusters tail ≡ take (n - length front) tail ∷ later)) left
-          (run-clusters word k more (take end k) (drop end k) front tail utf8 same (sym (take-append-drop end k)) (IsUtf8-take k end whole cut) all behind (sym back ∙ splits) before after (omega (arith, left, lies)));
-      ends = rest.ends;
-    }
+-- a place in the rest of a word is one in the word
+module _ (word : Text) (end : ℕ) (utf8 : IsUtf8 word) (place : IsCharBoundary word end) (front tail : Text) (splits : drop end word ≡ front ++ tail) (before : IsUtf8 front) where
+  onto : word ≡ (take end word ++ front) ++ tail
+  onto = sym (take-append-drop end word) ∙ ap (λ t. take end word ++ t) splits ∙ sym (append_assoc (take end word) front tail)
 
-pub long-behind : (anywhere : Bool) (w wide end : ℕ) (word first : Text) (more : List Text) → IsUtf8 word → IsCharBoundary word end → end < length first → clusters word ≡ first ∷ more
-    → (anywhere ≡ true → list_all is_joining (chars (drop end first)) ≡ true) → IsWideFrom w wide first → IsLongCluster w anywhere (length first - end) wide (drop end word)
-long-behind true w wide end word k more utf8 place inside same all wider = long-run w wide end word k more utf8 place inside same (all refl) (long-first w wide word k more utf8 same wider)
-long-behind false w wide end word k more utf8 place inside same all wider = long-rest w false (length k) wide end word utf8 place inside (long-first w wide word k more utf8 same wider)
+  onto-utf8 : IsUtf8 (take end word ++ front)
+  onto-utf8 = IsUtf8-append (take end word) front (IsUtf8-take word end utf8 place) before
 
--- where no long cluster is known, nothing is said
-pub long-none : (w : ℕ) (word : Text) → IsUtf8 word → IsLongCluster w false 0 1 word
-long-none w word utf8 =
-    record {
-      boundary = IsCharBoundary-start word utf8;
-      one = λ front tail joins before behind inside begins. absurd (omega (arith, inside));
-      ends = λ front tail joins before behind long. absurd (omega (arith, long, ap length joins, length-append front tail));
-    }
+  onto-length : length (take end word ++ front) ≡ end + length front
+  onto-length = length-append (take end word) front ∙ ap (λ n. n + length front) (length-take-le end word place.0)
 
--- ---- the head of a word that begins with a long cluster, by the first character in it that ends each look back
+pub cluster-behind : (joined bytes end : ℕ) (word : Text) → IsUtf8 word → IsCharBoundary word end → IsCluster joined bytes word → IsCluster (joined - end) (bytes - end) (drop end word)
+cluster-behind joined bytes end word utf8 place is front tail splits before behind inside begins =
+    let count = onto-length word end utf8 place front tail splits before in
+    let left : bytes - length (take end word ++ front) ≡ bytes - end - length front = omega (arith, count) in
+    let test : nat_lt (length (take end word ++ front)) joined ≡ nat_lt (length front) (joined - end) = grind (arith, nat_tests, count) in
+    subst (λ n. IsFirstCluster n tail) left
+    (is (take end word ++ front) tail (onto word end utf8 place front tail splits before) (onto-utf8 word end utf8 place front tail splits before) behind (omega (arith, count, inside)) (ap (λ b. b || begins_anew (chars tail)) test ∙ begins))
 
-pub record IsHeadBy (w reach : ℕ) (word : Text) : Type 0 where
-  pub boundary : IsCharBoundary word reach
-  pub others : List Text
-  pub last : Text
-  pub clusters_are : clusters (take reach word) ≡ others ++ last ∷ []
-  pub head_is : head w word ≡ clusters_within w others
+pub closed-behind : (joined bytes end : ℕ) (word : Text) → IsUtf8 word → IsCharBoundary word end → IsClosedBehind joined bytes word → IsClosedBehind (joined - end) (bytes - end) (drop end word)
+closed-behind joined bytes end word utf8 place is front tail splits before behind from inside =
+    let count = onto-length word end utf8 place front tail splits before in
+    let left : bytes - length (take end word ++ front) ≡ bytes - end - length front = omega (arith, count) in
+    subst (λ n. IsClosed n tail) left
+    (is (take end word ++ front) tail (onto word end utf8 place front tail splits before) (onto-utf8 word end utf8 place front tail splits before) behind (omega (arith, count, from)) (omega (arith, count, inside)))
 
-pub head-by : (w : ℕ) (anywhere : Bool) (bytes wide reach : ℕ) (word : Text) → IsUtf8 word → IsLongCluster w anywhere bytes wide word → EndsLookBackAt (take bytes word) reach → wide ≤ bytes - reach → IsHeadBy w reach word
-head-by w anywhere bytes wide reach word utf8 is at long =
-    let c = at.character in
-    let back = drop bytes word in
-    let most : bytes ≤ length word = is.boundary.0 in
-    let count : length (take bytes word) ≡ bytes = length-take-le bytes word most in
-    let utf8' : IsUtf8 back = IsUtf8-drop word bytes utf8 is.boundary in
-    let joins : word ≡ at.front ++ (at.tail ++ back) = sym (take-append-drop bytes word) ∙ ap (λ t. t ++ back) at.joins ∙ append_assoc at.front at.tail back in
-    let begins : chars (at.tail ++ back) ≡ c ∷ (at.others ++ chars back) = chars-append at.tail back at.whole_tail ∙ ap (λ cs. cs ++ chars back) at.begins in
-    let within = at.within in
-    let bytes_are = at.bytes_are in
-    let here = long-head w anywhere bytes wide word at.front (at.tail ++ back) c (at.others ++ chars back) utf8 is joins at.whole_front (IsUtf8-append at.tail back at.whole_tail utf8') begins at.holds
-    (omega (arith, within, bytes_are, count, encode_utf8_nonempty c)) (omega (arith, within, bytes_are, count, long)) in
-    let tail : at.tail ≡ encode_utf8 c ++ encode_utf8_all at.others = sym (encodes-chars at.tail at.whole_tail) ∙ ap encode_utf8_all at.begins in
-    let rest : Text = encode_utf8_all at.others ++ back in
-    let behind : at.tail ++ back ≡ encode_utf8 c ++ rest = ap (λ t. t ++ back) tail ∙ append_assoc (encode_utf8 c) (encode_utf8_all at.others) back in
-    let splits : word ≡ (at.front ++ encode_utf8 c) ++ rest = joins ∙ ap (λ t. at.front ++ t) behind ∙ sym (append_assoc at.front (encode_utf8 c) rest) in
-    let scalars = (scalars-parts (c ∷ []) at.others (sym (ap all_scalars at.begins) ∙ scalars-chars at.tail at.whole_tail)).1 in
-    let whole : IsUtf8 rest = IsUtf8-append (encode_utf8_all at.others) back (at.others, (scalars, refl)) utf8' in
-    let reaches : length (at.front ++ encode_utf8 c) ≡ reach = length-append at.front (encode_utf8 c) ∙ sym bytes_are in
-    let short : take reach word ≡ at.front ++ encode_utf8 c = ap₂ (λ (n : ℕ) (t : Text). take n t) (sym reaches) splits ∙ take-append_seam (at.front ++ encode_utf8 c) rest in
-    record {
-      boundary = subst (IsCharBoundary word) reaches (IsCharBoundary-at_seam word (at.front ++ encode_utf8 c) rest splits whole);
-      others = here.0;
-      last = here.1;
-      clusters_are = subst (λ t. clusters t ≡ here.0 ++ here.1 ∷ []) (sym short) here.2;
-      head_is = here.3;
-    }
-
--- a word that begins with a run that is wider than a line has no head
-pub run-head : (w : ℕ) (anywhere : Bool) (bytes wide : ℕ) (word : Text) → IsUtf8 word → IsLongCluster w anywhere bytes wide word → anywhere ≡ true → 0 < bytes → wide ≤ bytes → [] ≡ head w word
-run-head w false bytes wide word utf8 is run some long = absurd (grind (arith, run))
-run-head w true bytes wide word utf8 is run some long =
-    let here = is.one [] word refl IsUtf8-nil utf8 some refl in
-    let first : Text = take (bytes - length {A = ℕ} []) word in
-    let all : bytes - 0 ≡ bytes = omega arith in
-    let whole : IsUtf8 (take bytes word) = IsUtf8-take word bytes utf8 is.boundary in
-    let count : length (take bytes word) ≡ bytes = length-take-le bytes word is.boundary.0 in
-    let wider : w < measure (take bytes word) = is.ends [] (take bytes word) refl IsUtf8-nil whole (omega (arith, count, long)) in
-    sym (ap (clusters_within w) (here.1 ∙ ap (λ n. take n word ∷ here.0) all) ∙ within-wide w w [] (take bytes word) here.0 (omega arith) wider)
-
--- ---- a run of marks and joiners
-
--- a walk that has passed only marks and joiners goes on
-pub run-walk : (text rest behind : Text) (c : ℕ) → IsUtf8 rest → rest ≡ encode_utf8 c ++ behind → is_joining c ≡ true → (front : Text) × (text ≡ front ++ rest) × IsUtf8 front × (list_all is_joining (chars front) ≡ true)
-    → (front : Text) × (text ≡ front ++ behind) × IsUtf8 front × (list_all is_joining (chars front) ≡ true) × IsUtf8 behind
-unfolding behind-character
-run-walk text rest behind c utf8 steps joining (front, joins, before, all) =
-    let next = behind-character text rest behind c utf8 steps (front, joins, before) in
-    let scalars = (scalars-parts (c ∷ []) (chars behind) (sym (ap all_scalars (chars_past_char rest behind c utf8 steps)) ∙ scalars-chars rest utf8)).0 in
-    let one : chars (encode_utf8 c) ≡ c ∷ [] = ap chars (sym (append-nil (encode_utf8 c))) ∙ chars-encodes (c ∷ []) scalars in
-    let parts : chars (front ++ encode_utf8 c) ≡ chars front ++ c ∷ [] = chars-append front (encode_utf8 c) before ∙ ap (λ cs. chars front ++ cs) one in
-    (next.0, next.1, next.2, ap (list_all is_joining) parts ∙ more-joining (chars front) all, next.3)
+-- the cluster is one at its characters over which no rule looks back, whatever is known of a run
+pub cluster-anyway : (joined bytes : ℕ) (word : Text) → IsCluster joined bytes word → IsCluster 0 bytes word
+cluster-anyway joined bytes word is front tail splits before behind inside begins = is front tail splits before behind inside (by_test (nat_lt (length front) joined) (sym (only-anew (length front) (begins_anew (chars tail))) ∙ begins))
   where
-    more-joining : (cs : List ℕ) → list_all is_joining cs ≡ true → list_all is_joining (cs ++ c ∷ []) ≡ true
-    more-joining [] all = ap (λ b. b && true) joining
-    more-joining (d ∷ ds) all =
-        let both = and_parts (is_joining d) (list_all is_joining ds) all in
-        ap₂ (λ a b. a && b) both.0 (more-joining ds both.1)
+    by_test : (b : Bool) → begins_anew (chars tail) ≡ true → (b || begins_anew (chars tail)) ≡ true
+    by_test true holds = refl
+    by_test false holds = holds
 
--- a place in a word's first cluster is one in that cluster by itself
-pub cut-of-first : (word first : Text) (more : List Text) (end : ℕ) → IsUtf8 word → clusters word ≡ first ∷ more → IsCharBoundary word end → end < length first → IsCharBoundary first end
-cut-of-first word k more end utf8 same place inside =
-    let joins : word ≡ k ++ concat more = sym (concat-segments (is_grapheme_break true) word utf8) ∙ ap concat same in
-    let first : take (length k) word ≡ k = ap (take (length k)) joins ∙ take-append_seam k (concat more) in
-    subst (λ t. IsCharBoundary t end) first (place-in-first word (length k) end utf8 (end-of-first word k more utf8 same) place inside)
+-- ---- the run of marks and joiners at a text's front
+
+-- what is left of the run behind a front
+record IsRestOfRun (text front tail : Text) (bytes : ℕ) : Type 0 where
+  run : take bytes text ≡ front ++ take (bytes - length front) tail
+  splits : tail ≡ take (bytes - length front) tail ++ drop bytes text
+  behind : drop (bytes - length front) tail ≡ drop bytes text
+  whole_run : IsUtf8 (take (bytes - length front) tail)
+  whole_behind : IsUtf8 (drop bytes text)
+  first : ℕ
+  others : List ℕ
+  characters : chars (take (bytes - length front) tail) ≡ first ∷ others
+  joining : list_all is_joining (first ∷ others) ≡ true
+  tail_is : chars tail ≡ (first ∷ others) ++ chars (drop bytes text)
+
+rest-of-run : (text front tail : Text) (bytes : ℕ) → IsUtf8 text → IsRun text bytes → text ≡ front ++ tail → IsUtf8 front → IsUtf8 tail → length front < bytes → IsRestOfRun text front tail bytes
+rest-of-run text front tail bytes utf8 is joins before after inside =
+    let m : ℕ = bytes - length front in
+    let sum : length front + m ≡ bytes = omega (arith, inside) in
+    let run : take bytes text ≡ front ++ take m tail = ap₂ (λ (n : ℕ) (t : Text). take n t) (sym sum) joins ∙ take-append-add front tail m in
+    let back : drop m tail ≡ drop bytes text = sym (drop-append-add front tail m) ∙ ap₂ (λ (n : ℕ) (t : Text). drop n t) sum (sym joins) in
+    let most : bytes ≤ length text = is.boundary.0 in
+    let all = ap length joins ∙ length-append front tail in
+    let whole_behind = IsUtf8-drop text bytes utf8 is.boundary in
+    let place : IsCharBoundary tail m = IsCharBoundary-from_drop tail m (omega (arith, all, most, inside)) (subst IsUtf8 (sym back) whole_behind) in
+    let whole = IsUtf8-take tail m after place in
+    let some = first_of_text (take m tail) whole (omega (arith, length-take-le m tail place.0, inside)) in
+    let parts : tail ≡ take m tail ++ drop bytes text = sym (take-append-drop m tail) ∙ ap (λ t. take m tail ++ t) back in
+    let joining = all-behind (chars front) (chars (take m tail)) (ap (list_all is_joining) (sym (chars-append front (take m tail) before) ∙ ap chars (sym run)) ∙ is.joins) in
+    by_first run parts back whole whole_behind joining some.0 some.1 some.2
+  where
+    all-behind : (xs ys : List ℕ) → list_all is_joining (xs ++ ys) ≡ true → list_all is_joining ys ≡ true
+    all-behind [] ys all = all
+    all-behind (x ∷ xs) ys all = all-behind xs ys (and_parts (is_joining x) (list_all is_joining (xs ++ ys)) all).1
+
+    by_first : let r = take (bytes - length front) tail in
+        take bytes text ≡ front ++ r → tail ≡ r ++ drop bytes text → drop (bytes - length front) tail ≡ drop bytes text → IsUtf8 r → IsUtf8 (drop bytes text) → list_all is_joining (chars r) ≡ true → (c : ℕ) (cs : List ℕ) → chars r ≡ c ∷ cs → IsRestOfRun text front tail bytes
+    by_first run parts back whole whole_behind joining c cs same =
+        record {
+          run = run;
+          splits = parts;
+          behind = back;
+          whole_run = whole;
+          whole_behind = whole_behind;
+          first = c;
+          others = cs;
+          characters = same;
+          joining = ap (list_all is_joining) (sym same) ∙ joining;
+          tail_is = ap chars parts ∙ chars-append (take (bytes - length front) tail) (drop bytes text) whole ∙ ap (λ ds. ds ++ chars (drop bytes text)) same;
+        }
+
+-- from so many of the run's first bytes on, and from no others, a consonant behind the run is joined
+abbrev pub IsJoinedUpTo : Text → ℕ → ℕ → Type 0
+IsJoinedUpTo text bytes joined =
+    (front tail : Text) → take bytes text ≡ front ++ tail → IsUtf8 front → IsUtf8 tail → nat_lt (length front) joined ≡ (is_linked tail && begins_with_consonant (chars (drop bytes text)))
+
+anew-cut : (before z : List ℕ) → begins_anew z ≡ true → cut (is_grapheme_break true) before z [] ≡ cut (is_grapheme_break true) [] z []
+anew-cut before [] begins = absurd (grind (arith, begins))
+anew-cut before (c ∷ cs) begins = cut-seam c (ends c begins) before cs []
+
+consonant-anew : (z : List ℕ) → begins_with_consonant z ≡ true → begins_anew z ≡ true
+consonant-anew [] begins = absurd (grind (arith, begins))
+consonant-anew (c ∷ cs) begins = ap (λ g. not (is_extend g || (is_zwj g || is_regional g))) (consonant-other c begins)
+
+first-of-map : (ps : List (List ℕ)) (k : Text) (more : List Text) → map encode_utf8_all ps ≡ k ∷ more → (p : List ℕ) × (qs : List (List ℕ)) × (ps ≡ p ∷ qs) × (encode_utf8_all p ≡ k)
+first-of-map [] k more same = absurd (omega (arith, ap length same))
+first-of-map (p ∷ ps) k more same = let first : encode_utf8_all p ≡ k = cc same in (p, ps, refl, first)
+
+module _ (text : Text) (bytes joined : ℕ) (utf8 : IsUtf8 text) (is : IsRun text bytes) (up : IsJoinedUpTo text bytes joined) (front tail : Text) (before : IsUtf8 front) (r : IsRestOfRun text front tail bytes) where
+  breaks-behind : is_grapheme_break true (back_over (r.first ∷ r.others) []) (chars (drop bytes text)) ≡ not (nat_lt (length front) joined)
+  breaks-behind =
+      run-break r.first r.others (chars (drop bytes text)) r.joining is.stops
+      ∙ ap (λ cs. not (ends_in_linker (map indic_conjunct_break (reverse cs)) && begins_with_consonant (chars (drop bytes text)))) (sym r.characters)
+      ∙ ap not (sym (up front (take (bytes - length front) tail) r.run before r.whole_run))
+
+  -- where it doesn't join what stands behind it, an end of the run is a cluster
+  closed-rest : joined ≤ length front → IsClosed (bytes - length front) tail
+  unfolding segments
+  closed-rest from =
+      let z = chars (drop bytes text) in
+      let later = cut (is_grapheme_break true) (back_over (r.first ∷ r.others) []) z [] in
+      let none : nat_lt (length front) joined ≡ false = grind (arith, nat_tests, from) in
+      let pieces : cut (is_grapheme_break true) [] (chars tail) [] ≡ (r.first ∷ r.others) ∷ later =
+      ap (λ cs. cut (is_grapheme_break true) [] cs []) r.tail_is ∙ run-closed [] r.first r.others z r.joining (breaks-behind ∙ ap not none) in
+      let spelt : encode_utf8_all (r.first ∷ r.others) ≡ take (bytes - length front) tail = ap encode_utf8_all (sym r.characters) ∙ encodes-chars (take (bytes - length front) tail) r.whole_run in
+      record {
+        first = record { more = map encode_utf8_all later; clusters_are = ap (map encode_utf8_all) pieces ∙ ap (λ t. t ∷ map encode_utf8_all later) spelt };
+        behind = λ anew. ap (map encode_utf8_all) (anew-cut (back_over (r.first ∷ r.others) []) z (sym (ap (λ t. begins_anew (chars t)) r.behind) ∙ anew)) ∙ ap clusters (sym r.behind);
+      }
+
+  -- and else it is one with the first cluster behind the run
+  joined-first : (n : ℕ) (p : List ℕ) (ps : List (List ℕ)) → cut (is_grapheme_break true) [] (chars (drop bytes text)) [] ≡ p ∷ ps → encode_utf8_all p ≡ take n (drop bytes text) → nat_lt (length front) joined ≡ true → begins_anew (chars (drop bytes text)) ≡ true
+      → length (take (bytes - length front) tail) ≡ bytes - length front → IsFirstCluster (bytes - length front + n) tail
+  unfolding segments
+  joined-first n p ps cuts spelt holds anew long =
+      let m : ℕ = bytes - length front in
+      let z = chars (drop bytes text) in
+      let pieces = ap (λ cs. cut (is_grapheme_break true) [] cs []) r.tail_is
+      ∙ run-joined [] r.first r.others z p ps r.joining (breaks-behind ∙ ap not holds) (anew-cut (back_over (r.first ∷ r.others) []) z anew ∙ cuts) in
+      let whole : take (m + n) tail ≡ take m tail ++ take n (drop bytes text) =
+      ap₂ (λ (k : ℕ) (t : Text). take k t) (ap (λ k. k + n) (sym long)) r.splits ∙ take-append-add (take m tail) (drop bytes text) n in
+      let all : encode_utf8_all ((r.first ∷ r.others) ++ p) ≡ take (m + n) tail =
+      encodes-append (r.first ∷ r.others) p ∙ ap₂ (λ x y. x ++ y) (ap encode_utf8_all (sym r.characters) ∙ encodes-chars (take m tail) r.whole_run) spelt ∙ sym whole in
+      record { more = map encode_utf8_all ps; clusters_are = ap (map encode_utf8_all) pieces ∙ ap (λ t. t ∷ map encode_utf8_all ps) all }
+
+  -- which is the rest of the long cluster
+  joined-rest : (all : ℕ) → bytes < all → IsCluster 0 all text → nat_lt (length front) joined ≡ true → length front < bytes → text ≡ front ++ tail → IsFirstCluster (all - length front) tail
+  unfolding segments
+  joined-rest all long one holds inside splits =
+      let m : ℕ = bytes - length front in
+      let back = drop bytes text in
+      let both = and_parts (is_linked (take m tail)) (begins_with_consonant (chars back)) (sym (up front (take m tail) r.run before r.whole_run) ∙ holds) in
+      let anew = consonant-anew (chars back) both.1 in
+      let count : length (take bytes text) ≡ bytes = length-take-le bytes text is.boundary.0 in
+      let there = one (take bytes text) back (sym (take-append-drop bytes text)) (IsUtf8-take text bytes utf8 is.boundary) r.whole_behind (omega (arith, count, long)) (only-anew (length (take bytes text)) (begins_anew (chars back)) ∙ anew) in
+      let n : ℕ = all - length (take bytes text) in
+      let lengths : length (take m tail) ≡ m = length-take-le m tail (omega (arith, ap length splits, length-append front tail, is.boundary.0)) in
+      let sum : m + n ≡ all - length front = omega (arith, count, long, inside) in
+      subst (λ k. IsFirstCluster k tail) sum (by_cluster n there lengths anew)
+    where
+      by_cluster : (n : ℕ) → IsFirstCluster n (drop bytes text) → length (take (bytes - length front) tail) ≡ bytes - length front → begins_anew (chars (drop bytes text)) ≡ true → IsFirstCluster (bytes - length front + n) tail
+      by_cluster n there lengths anew =
+          let some = first-of-map (cut (is_grapheme_break true) [] (chars (drop bytes text)) []) (take n (drop bytes text)) there.more there.clusters_are in
+          joined-first n some.0 some.1 some.2 some.3 holds anew lengths
+
+-- ---- what is known of a long cluster with its run
+
+-- no more of the run is joined than there is of it
+joined-within : (text : Text) (bytes joined : ℕ) → IsUtf8 text → IsCharBoundary text bytes → IsJoinedUpTo text bytes joined → joined ≤ bytes
+unfolding ends_in_linker
+joined-within text bytes joined utf8 place up =
+    let none = up (take bytes text) [] (sym (append-nil (take bytes text))) (IsUtf8-take text bytes utf8 place) IsUtf8-nil in
+    let nothing : is_linked [] ≡ false = ap (λ cs. ends_in_linker (map indic_conjunct_break (reverse cs))) chars-nil in
+    let test = none ∙ ap (λ b. b && begins_with_consonant (chars (drop bytes text))) nothing in
+    grind (arith, nat_tests, test, length-take-le bytes text place.0)
+
+pub with-run : (w : ℕ) (text : Text) (c : LongCluster) → IsUtf8 text → IsPart w c.all.len c.all.wide text → IsCluster 0 c.all.len text → IsRun text c.run.len → IsWideFrom w c.run.wide (take c.run.len text) → IsJoinedUpTo text c.run.len c.joined
+    → (0 < c.joined → c.run.len < c.all.len) → IsLongCluster w text c
+with-run w text c utf8 part one is wide up below =
+    record {
+      all = part;
+      run = record { boundary = is.boundary; ends = wide };
+      closes = λ front tail splits before after from inside. closed-rest text c.run.len c.joined utf8 is up front tail before (rest-of-run text front tail c.run.len utf8 is splits before after inside) from;
+      reaches = λ front tail splits before after inside begins. by_test front tail splits before after inside begins (nat_lt (length front) c.joined) refl;
+    }
+  where
+    by_test : (front tail : Text) → text ≡ front ++ tail → IsUtf8 front → IsUtf8 tail → length front < c.all.len → (nat_lt (length front) c.joined || begins_anew (chars tail)) ≡ true → (b : Bool) → nat_lt (length front) c.joined ≡ b → IsFirstCluster (c.all.len - length front) tail
+    by_test front tail splits before after inside begins true joined =
+        let lies : length front < c.joined = grind (arith, nat_tests, joined) in
+        let short : length front < c.run.len = omega (arith, lies, joined-within text c.run.len c.joined utf8 is.boundary up) in
+        joined-rest text c.run.len c.joined utf8 is up front tail before (rest-of-run text front tail c.run.len utf8 is splits before after short) c.all.len (below (omega (arith, lies))) one joined short splits
+    by_test front tail splits before after inside begins false joined =
+        one front tail splits before after inside (only-anew (length front) (begins_anew (chars tail)) ∙ sym (ap (λ b. b || begins_anew (chars tail)) joined) ∙ begins)
+
+-- where a consonant stands behind the run it is joined by the linkers of the run, and else nothing is
+pub joined-by : (text : Text) (bytes joined : ℕ) (consonant : Bool) → consonant ≡ begins_with_consonant (chars (drop bytes text)) → (consonant ≡ true → IsLinkedUpTo (take bytes text) joined) → (consonant ≡ false → joined ≡ 0) → IsJoinedUpTo text bytes joined
+joined-by text bytes joined true same linked none front tail splits before after = linked refl front tail splits before after ∙ sym (ap (λ b. is_linked tail && b) (sym same) ∙ by_first (is_linked tail))
+  where
+    by_first : (b : Bool) → (b && true) ≡ b
+    by_first true = refl
+    by_first false = refl
+joined-by text bytes joined false same linked none front tail splits before after = ap (λ n. nat_lt (length front) n) (none refl) ∙ not-below (length front) ∙ sym (ap (λ b. is_linked tail && b) (sym same) ∙ by_first (is_linked tail))
+  where
+    by_first : (b : Bool) → (b && false) ≡ false
+    by_first true = refl
+    by_first false = refl
+
+-- behind a place in the run, all of it is what is left
+pub long-behind : (w end : ℕ) (word : Text) (c d : LongCluster) → IsUtf8 word → IsCharBoundary word end → end < c.all.len → end < c.run.len → IsLongCluster w word c
+    → d.all.len ≡ c.all.len - end → d.all.wide ≡ c.all.wide → d.run.len ≡ c.run.len - end → d.run.wide ≡ c.run.wide → d.joined ≡ c.joined - end → IsLongCluster w (drop end word) d
+long-behind w end word c d utf8 place inside inside-run is len wide run-len run-wide joined =
+    record {
+      all = rw (len, wide) (part-behind w c.all.len c.all.wide end word utf8 place inside is.all);
+      run = rw (run-len, run-wide) (part-behind w c.run.len c.run.wide end word utf8 place inside-run is.run);
+      reaches = rw (len, joined) (cluster-behind c.joined c.all.len end word utf8 place is.reaches);
+      closes = rw (run-len, joined) (closed-behind c.joined c.run.len end word utf8 place is.closes);
+    }
+
+-- behind any place in the cluster, at least the cluster is
+pub rest-cluster : (joined bytes end : ℕ) (word : Text) → IsUtf8 word → IsCharBoundary word end → IsCluster joined bytes word → IsCluster 0 (bytes - end) (drop end word)
+rest-cluster joined bytes end word utf8 place is = cluster-anyway (joined - end) (bytes - end) (drop end word) (cluster-behind joined bytes end word utf8 place is)
+
+-- ---- the head of a word that begins with a long cluster
+
+-- a cluster that is wider than a line ends the head wherever it stands
+within-wide : (w k : ℕ) (p : Text) (later : List Text) → k ≤ w → w < measure p → clusters_within k (p ∷ later) ≡ []
+within-wide w k p later most wide = by_test (nat_le (measure p) k) refl
+  where
+    by_test : (b : Bool) → nat_le (measure p) k ≡ b → (if b then p ++ clusters_within (k - measure p) later else []) ≡ []
+    by_test true fits = absurd (grind (arith, nat_tests, fits, most, wide))
+    by_test false fits = refl
+
+-- a part of so many bytes is wide
+wide-part : (w bytes wide : ℕ) (word : Text) → IsUtf8 word → IsPart w bytes wide word → wide ≤ bytes → w < measure (take bytes word)
+wide-part w bytes wide word utf8 is long =
+    is.ends [] (take bytes word) refl IsUtf8-nil (IsUtf8-take word bytes utf8 is.boundary) (omega (arith, long, length-take-le bytes word is.boundary.0))
+
+-- where the first cluster is wide, there is no head
+pub no-head : (w bytes wide : ℕ) (word : Text) → IsUtf8 word → IsFirstCluster bytes word → IsPart w bytes wide word → wide ≤ bytes → 0 ≡ length (head w word)
+no-head w bytes wide word utf8 first is long =
+    sym (ap (λ ps. length (clusters_within w ps)) first.clusters_are ∙ ap length (within-wide w w (take bytes word) first.more (omega arith) (wide-part w bytes wide word utf8 is long)))
+
+-- the first cluster is all that is left of the long one, or the run
+pub first-joined : (w : ℕ) (word : Text) (c : LongCluster) → IsUtf8 word → IsLongCluster w word c → 0 < c.joined → 0 < c.all.len → IsFirstCluster c.all.len word
+first-joined w word c utf8 is joined some =
+    let all : c.all.len - 0 ≡ c.all.len = omega arith in
+    let within : nat_lt 0 c.joined ≡ true = grind (arith, nat_tests, joined) in
+    subst (λ n. IsFirstCluster n word) all (is.reaches [] word refl IsUtf8-nil utf8 some (ap (λ b. b || begins_anew (chars word)) within))
+
+pub first-closed : (w : ℕ) (word : Text) (c : LongCluster) → IsUtf8 word → IsLongCluster w word c → c.joined ≤ 0 → 0 < c.run.len → IsClosed c.run.len word
+first-closed w word c utf8 is none some =
+    let all : c.run.len - 0 ≡ c.run.len = omega arith in
+    subst (λ n. IsClosed n word) all (is.closes [] word refl IsUtf8-nil utf8 none some)
+
+-- where a character follows the run over which no rule looks back, and what is left of the cluster from there on is wide, the head is the run, as far as that fits
+pub run-head : (w : ℕ) (word : Text) (c : LongCluster) → IsUtf8 word → IsLongCluster w word c → c.joined ≤ 0 → c.run.len < c.all.len → c.all.wide ≤ c.all.len - c.run.len → begins_anew (chars (drop c.run.len word)) ≡ true
+    → (if nat_le (measure (take c.run.len word)) w then c.run.len else 0) ≡ length (head w word)
+run-head w word c utf8 is none inside long anew = by_run (nat_lt 0 c.run.len) refl
+  where
+    run : Text
+    run = take c.run.len word
+
+    back : Text
+    back = drop c.run.len word
+
+    count : length run ≡ c.run.len
+    count = length-take-le c.run.len word is.run.boundary.0
+
+    place : IsCharBoundary word c.run.len
+    place = is.run.boundary
+
+    left : c.all.len - length run ≡ c.all.len - c.run.len
+    left = ap (λ n. c.all.len - n) count
+
+    behind : IsFirstCluster (c.all.len - c.run.len) back
+    behind = subst (λ n. IsFirstCluster n back) left (is.reaches run back (sym (take-append-drop c.run.len word)) (IsUtf8-take word c.run.len utf8 place) (IsUtf8-drop word c.run.len utf8 place) (omega (arith, count, inside)) (either (nat_lt (length run) c.joined) (begins_anew (chars back)) anew))
+      where
+        either : (a b : Bool) → b ≡ true → (a || b) ≡ true
+        either true b holds = refl
+        either false b holds = holds
+
+    part : IsPart w (c.all.len - c.run.len) c.all.wide back
+    part = part-behind w c.all.len c.all.wide c.run.len word utf8 place inside is.all
+
+    by_fit : (b : Bool) → (if b then c.run.len else 0) ≡ length (if b then run ++ [] else [])
+    by_fit true = sym (ap length (append-nil run) ∙ count)
+    by_fit false = refl
+
+    by_run : (b : Bool) → nat_lt 0 c.run.len ≡ b → (if nat_le (measure run) w then c.run.len else 0) ≡ length (head w word)
+    by_run false empty =
+        let nothing : c.run.len ≡ 0 = grind (arith, nat_tests, empty) in
+        let whole : back ≡ word = ap (λ n. drop n word) nothing in
+        by_test (nat_le (measure run) w) nothing ∙ subst (λ t. 0 ≡ length (head w t)) whole (no-head w (c.all.len - c.run.len) c.all.wide back (IsUtf8-drop word c.run.len utf8 place) behind part long)
+      where
+        by_test : (b : Bool) → c.run.len ≡ 0 → (if b then c.run.len else 0) ≡ 0
+        by_test true nothing = nothing
+        by_test false nothing = refl
+    by_run true some =
+        let first = first-closed w word c utf8 is none (grind (arith, nat_tests, some)) in
+        let pieces : clusters word ≡ run ∷ (take (c.all.len - c.run.len) back ∷ behind.more) = first.first.clusters_are ∙ ap (λ ps. run ∷ ps) (first.behind anew ∙ behind.clusters_are) in
+        let nothing : clusters_within (w - measure run) (take (c.all.len - c.run.len) back ∷ behind.more) ≡ [] =
+        within-wide w (w - measure run) (take (c.all.len - c.run.len) back) behind.more (omega arith) (wide-part w (c.all.len - c.run.len) c.all.wide back (IsUtf8-drop word c.run.len utf8 place) part long) in
+        by_fit (nat_le (measure run) w) ∙ sym (ap (λ ps. length (clusters_within w ps)) pieces ∙ ap (λ t. length (if nat_le (measure run) w then run ++ t else [])) nothing)

@@ -9,7 +9,8 @@ use Rattle.ucd_derived.specs.declared.IndicConjunctBreak.TheVariants as InCb
 use Rattle.ucd_emoji.specs.Binary.{is_extended_pictographic}
 use Rattle.unicode_segmentation.specs.Grapheme.{break_by_pair, ends_in_linker, is_consonant, is_extend, is_zwj, is_regional, ends_in_pictograph, joins_emoji, ends_in_half_flag, is_grapheme_break}
 use Rattle.unicode_segmentation.specs.Segments.{prepend, cut}
-use Rattle.comfy_parts.specs.Following.{is_conjunct_mark, ends_look_back}
+use Rattle.comfy_parts.specs.Following.{ends_look_back}
+use Rattle.comfy_parts.proofs.CharacterLemmas.{is_conjunct_mark, no-conjunct_mark}
 
 -- ---- no rule looks back over such a character
 
@@ -21,15 +22,13 @@ pub record Ends (c : ℕ) : Type 0 where
   pub mark : is_conjunct_mark (indic_conjunct_break c) ≡ false
 
 pub ends : (c : ℕ) → ends_look_back c ≡ true → Ends c
-ends c holds = by_tests (is_extend (grapheme_cluster_break c)) (is_zwj (grapheme_cluster_break c)) (is_regional (grapheme_cluster_break c)) (is_conjunct_mark (indic_conjunct_break c)) refl refl refl refl holds
+ends c holds = by_tests (is_extend (grapheme_cluster_break c)) (is_zwj (grapheme_cluster_break c)) (is_regional (grapheme_cluster_break c)) refl refl refl holds
   where
-    by_tests : (e z r m : Bool) → is_extend (grapheme_cluster_break c) ≡ e → is_zwj (grapheme_cluster_break c) ≡ z → is_regional (grapheme_cluster_break c) ≡ r → is_conjunct_mark (indic_conjunct_break c) ≡ m
-        → (not (e || (z || r)) && not m) ≡ true → Ends c
-    by_tests false false false false e z r m holds = record { extend = e; zwj = z; regional = r; mark = m }
-    by_tests true _ _ _ e z r m holds = absurd (grind (arith, holds))
-    by_tests false true _ _ e z r m holds = absurd (grind (arith, holds))
-    by_tests false false true _ e z r m holds = absurd (grind (arith, holds))
-    by_tests false false false true e z r m holds = absurd (grind (arith, holds))
+    by_tests : (e z r : Bool) → is_extend (grapheme_cluster_break c) ≡ e → is_zwj (grapheme_cluster_break c) ≡ z → is_regional (grapheme_cluster_break c) ≡ r → not (e || (z || r)) ≡ true → Ends c
+    by_tests false false false e z r holds = record { extend = e; zwj = z; regional = r; mark = no-conjunct_mark c e z }
+    by_tests true _ _ e z r holds = absurd (grind (arith, holds))
+    by_tests false true _ e z r holds = absurd (grind (arith, holds))
+    by_tests false false true e z r holds = absurd (grind (arith, holds))
 
 module _ (c : ℕ) (is : Ends c) (before : List ℕ) where
   linker-seam : (xs : List ℕ) → ends_in_linker (map indic_conjunct_break (xs ++ c ∷ before)) ≡ ends_in_linker (map indic_conjunct_break (xs ++ c ∷ []))
@@ -92,52 +91,27 @@ module _ (c : ℕ) (is : Ends c) (before : List ℕ) where
 
 -- ---- the part before it
 
--- a rule reads no more of what follows a place than the first character
-next-only : (before : List ℕ) (n : ℕ) (xs ys : List ℕ) → is_grapheme_break true before (n ∷ xs) ≡ is_grapheme_break true before (n ∷ ys)
-unfolding is_grapheme_break
-next-only [] n xs ys = refl
-next-only (last ∷ before) n xs ys = refl
-
 -- the characters of u, nearest first, and then `before`
 abbrev pub back_over : List ℕ → List ℕ → List ℕ
 back_over [] before = before
 back_over (x ∷ u) before = back_over u (x ∷ before)
 
--- two texts that begin with u and c have the same pieces before the one that reaches c
-pub record IsSeam (u : List ℕ) (c : ℕ) (first : List ℕ) (later short whole : List (List ℕ)) : Type 0 where
+-- the pieces of a text that begins with u, up to the one that reaches what follows u
+pub record IsSeam (u : List ℕ) (first : List ℕ) (later whole : List (List ℕ)) : Type 0 where
   pub done : List (List ℕ)
   pub part : List ℕ
-  pub short_is : short ≡ done ++ (part ++ c ∷ []) ∷ []
   pub whole_is : whole ≡ done ++ (part ++ first) ∷ later
   pub front_is : concat done ++ part ≡ u
 
-pub seam : (u : List ℕ) (c : ℕ) (v before first : List ℕ) (later : List (List ℕ)) → cut (is_grapheme_break true) (back_over u before) (c ∷ v) [] ≡ first ∷ later
-    → IsSeam u c first later (cut (is_grapheme_break true) before (u ++ c ∷ []) []) (cut (is_grapheme_break true) before (u ++ c ∷ v) [])
+pub seam : (u : List ℕ) (c : ℕ) (v before first : List ℕ) (later : List (List ℕ)) → cut (is_grapheme_break true) (back_over u before) (c ∷ v) [] ≡ first ∷ later → IsSeam u first later (cut (is_grapheme_break true) before (u ++ c ∷ v) [])
 unfolding cut
-seam [] c v before first later pieces =
-    record { done = []; part = []; short_is = by_break (is_grapheme_break true (c ∷ before) []); whole_is = pieces; front_is = refl }
+seam [] c v before first later pieces = record { done = []; part = []; whole_is = pieces; front_is = refl }
+seam (x ∷ u) c v before first later pieces = by_break (is_grapheme_break true (x ∷ before) ((u ++ c ∷ v) ++ [])) (seam u c v (x ∷ before) first later pieces)
   where
-    by_break : (b : Bool) → (if b then (c ∷ []) ∷ [] else prepend (c ∷ []) []) ≡ (c ∷ []) ∷ []
-    by_break true = refl
-    by_break false = refl
-seam (x ∷ u) c v before first later pieces =
-    by_break (is_grapheme_break true (x ∷ before) ((u ++ c ∷ []) ++ [])) (is_grapheme_break true (x ∷ before) ((u ++ c ∷ v) ++ [])) (same u) (seam u c v (x ∷ before) first later pieces)
-  where
-    same : (u : List ℕ) → is_grapheme_break true (x ∷ before) ((u ++ c ∷ []) ++ []) ≡ is_grapheme_break true (x ∷ before) ((u ++ c ∷ v) ++ [])
-    same [] = next-only (x ∷ before) c [] (v ++ [])
-    same (y ∷ u) = next-only (x ∷ before) y ((u ++ c ∷ []) ++ []) ((u ++ c ∷ v) ++ [])
+    by_done : (done : List (List ℕ)) (part : List ℕ) (whole : List (List ℕ)) → whole ≡ done ++ (part ++ first) ∷ later → concat done ++ part ≡ u → IsSeam (x ∷ u) first later (prepend (x ∷ []) whole)
+    by_done [] part whole w f = record { done = []; part = x ∷ part; whole_is = ap (prepend (x ∷ [])) w; front_is = ap (λ t. x ∷ t) f }
+    by_done (d ∷ ds) part whole w f = record { done = (x ∷ d) ∷ ds; part = part; whole_is = ap (prepend (x ∷ [])) w; front_is = ap (λ t. x ∷ t) f }
 
-    by_done : (done : List (List ℕ)) (part : List ℕ) (short whole : List (List ℕ)) → short ≡ done ++ (part ++ c ∷ []) ∷ [] → whole ≡ done ++ (part ++ first) ∷ later → concat done ++ part ≡ u
-        → IsSeam (x ∷ u) c first later (prepend (x ∷ []) short) (prepend (x ∷ []) whole)
-    by_done [] part short whole o w f =
-        record { done = []; part = x ∷ part; short_is = ap (prepend (x ∷ [])) o; whole_is = ap (prepend (x ∷ [])) w; front_is = ap (λ t. x ∷ t) f }
-    by_done (d ∷ ds) part short whole o w f =
-        record { done = (x ∷ d) ∷ ds; part = part; short_is = ap (prepend (x ∷ [])) o; whole_is = ap (prepend (x ∷ [])) w; front_is = ap (λ t. x ∷ t) f }
-
-    by_break : (b b' : Bool) → b ≡ b' → {short whole : List (List ℕ)} → IsSeam u c first later short whole
-        → IsSeam (x ∷ u) c first later (if b then (x ∷ []) ∷ short else prepend (x ∷ []) short) (if b' then (x ∷ []) ∷ whole else prepend (x ∷ []) whole)
-    by_break true true e s =
-        record { done = (x ∷ []) ∷ s.done; part = s.part; short_is = ap (λ ps. (x ∷ []) ∷ ps) s.short_is; whole_is = ap (λ ps. (x ∷ []) ∷ ps) s.whole_is; front_is = ap (λ t. x ∷ t) s.front_is }
-    by_break false false e {short} {whole} s = by_done s.done s.part short whole s.short_is s.whole_is s.front_is
-    by_break true false e s = absurd (grind (arith, e))
-    by_break false true e s = absurd (grind (arith, e))
+    by_break : (b : Bool) → {whole : List (List ℕ)} → IsSeam u first later whole → IsSeam (x ∷ u) first later (if b then (x ∷ []) ∷ whole else prepend (x ∷ []) whole)
+    by_break true s = record { done = (x ∷ []) ∷ s.done; part = s.part; whole_is = ap (λ ps. (x ∷ []) ∷ ps) s.whole_is; front_is = ap (λ t. x ∷ t) s.front_is }
+    by_break false {whole} s = by_done s.done s.part whole s.whole_is s.front_is

@@ -1,9 +1,12 @@
 -- A text measures at least what its end measures by itself, but for one place. A text is read from its end: a character takes
 -- at most one place away from what follows it, and only where that left one for it.
-use Rattle.std.proofs.Common.{◌≡◌, ◌≤◌, ℕ, ◌+◌, ◌-◌, Bool, true, false, cond, not, ◌==◌, nat_le, ◌&&◌, List, [], ◌∷◌, ◌++◌, Option, Some, None, refl, sym, ap, ◌∙◌, subst, arith, add_assoc, add-zero}
+use Rattle.std.proofs.Common.{◌≡◌, ◌≤◌, ℕ, ◌+◌, ◌-◌, Bool, true, false, cond, not, ◌==◌, nat_le, ◌&&◌, ◌||◌, List, [], ◌∷◌, ◌++◌, Option, Some, None, unwrap_or, refl, sym, ap, ◌∙◌, subst, arith, add_assoc, add-zero}
 use Rattle.std.specs.Int.{is_in_range}
-use Rattle.std.specs.Prelude.{IsUtf8, chars, encode_utf8}
-use Rattle.std.proofs.lemmas.Str.{chars-append, chars_past_char}
+use Rattle.std.specs.Prelude.{IsUtf8, chars}
+use Rattle.std.proofs.lemmas.Bool.{and_parts, or_parts}
+use Rattle.std.proofs.lemmas.Bool.Decides.{nat_tests}
+use Rattle.std.proofs.lemmas.Str.{chars-append}
+use Rattle.ucd_table.specs.Rows.{Row, value_in, in_ranges}
 use Rattle.unicode_width.specs.declared.kind.Kind.{Kind}
 use Rattle.unicode_width.specs.declared.kind.Kind.TheVariants as kinds
 use Rattle.unicode_width.specs.declared.state.After.{After}
@@ -11,8 +14,9 @@ use Rattle.unicode_width.specs.declared.state.After.TheVariants.{Nothing, LineFe
 use Rattle.unicode_width.specs.declared.state.State.{State}
 use Rattle.unicode_width.specs.declared.state.Change.{Change}
 use Rattle.unicode_width.specs.declared.state.Change.TheVariants.{Less, Same, One, Three}
-use Rattle.unicode_width.specs.Kind.{kind, is_ligature_transparent, is_solidus_transparent, is_text_presentation_base}
-use Rattle.unicode_width.specs.Width.{before, plain, single, of_kind, alone, before_alef, joins, Reading, added, joined_or, with_joiner, if_kept, is_joined_emoji, skips_marks, is_kept, is_solidus, is_striking, is_line_feed, is_quote, is_quote_selector, is_plain, past_selectors, in_context, past_emoji, step, read_before, str_width}
+use Rattle.unicode_width.specs.Kind.{kind, named_rows, named_kind, by_width, by_emoji, width_kind, letter_kind, unnamed_kind, is_ligature_transparent, is_solidus_transparent, is_text_presentation_base}
+use Rattle.unicode_width.specs.Width.{is_emoji_variation_base, before, plain, single, of_kind, alone, before_alef, joins, Reading, added, joined_or, with_joiner, if_kept, is_joined_emoji, skips_marks, is_kept, is_solidus, is_striking, is_line_feed, is_quote, is_quote_selector, is_plain, past_selectors, in_context, past_emoji, step, read_before, str_width}
+use Rattle.comfy_parts.specs.Following.{begins_settled, is_ignored_mark, may_lose_place}
 use Rattle.comfy_parts.specs.Text.{Text, measure}
 
 -- ---- no step takes away more than there is
@@ -236,98 +240,221 @@ str_width-tail xs ys =
     ap (λ x. x.0) (read_before-append false xs ys (0, plain) ∙ ap (λ n. read_before false xs (n, r.1)) (sym parts) ∙ (Shifts-read_before false xs r.1 least (omega arith)).shifts (r.0 - least)) in
     omega (arith, all, covered, one)
 
--- ---- a character that adds two places leaves nothing to take away
+-- ---- a character that can't lose a place leaves nothing to take away
 
--- f, from a total to a reading, leaves no credit where it adds two
-record Clears (f : ℕ → Reading) (t : ℕ) : Type 0 where
-  clears : (f t).0 ≡ t + 2 → credit (f t).1.after ≡ 0
+-- the parts of the test that it can't
+record Keeps (c : ℕ) : Type 0 where
+  khmer : is_in_range 0x1780 0x17AF c ≡ false
+  joiner : (c == 0x2D7F) ≡ false
+  indicator : is_in_range 0x1F1E6 0x1F1FF c ≡ false
+  zwj : (c == 0x200D) ≡ false
+  selector : is_in_range 0xFE00 0xFE0F c ≡ false
+  mark : is_ignored_mark c ≡ false
 
-Clears-cond : (b : Bool) (f g : ℕ → Reading) (t : ℕ) → Clears f t → Clears g t → Clears (λ x. cond b (f x) (g x)) t
-Clears-cond true f g t p q = p
-Clears-cond false f g t p q = q
+keeps : (c : ℕ) → may_lose_place c ≡ false → Keeps c
+keeps c h =
+    let both = or_parts (is_in_range 0x1780 0x17AF c || ((c == 0x2D7F) || is_in_range 0x1F1E6 0x1F1FF c)) ((c == 0x200D) || (is_in_range 0xFE00 0xFE0F c || is_ignored_mark c)) h in
+    let front = or_parts (is_in_range 0x1780 0x17AF c) ((c == 0x2D7F) || is_in_range 0x1F1E6 0x1F1FF c) both.0 in
+    let back = or_parts (c == 0x200D) (is_in_range 0xFE00 0xFE0F c || is_ignored_mark c) both.1 in
+    let middle = or_parts (c == 0x2D7F) (is_in_range 0x1F1E6 0x1F1FF c) front.1 in
+    let last = or_parts (is_in_range 0xFE00 0xFE0F c) (is_ignored_mark c) back.1 in
+    record { khmer = front.0; joiner = middle.0; indicator = middle.1; zwj = back.0; selector = last.0; mark = last.1 }
 
-Clears-add : (n : ℕ) (s : State) (t : ℕ) → (n ≡ 2 → credit s.after ≡ 0) → Clears (λ x. (x + n, s)) t
-Clears-add n s t clear = record { clears = λ two. clear (omega (arith, two)) }
+-- the rows that name characters name Khmer letters within these bounds
+abbrev is_khmer_letter : Kind → Bool
+is_khmer_letter kinds.KhmerLetter = true
+is_khmer_letter _ = false
 
-Clears-same : (s : State) (t : ℕ) → Clears (λ x. (x, s)) t
-Clears-same s t = record { clears = λ two. absurd (omega (arith, two)) }
+abbrev names_khmer_letter : Option Kind → Bool
+names_khmer_letter (Some k) = is_khmer_letter k
+names_khmer_letter None = false
 
-of_kind-clears : (cjk : Bool) (c : ℕ) (k : Kind) → (of_kind cjk c k).0 ≡ 2 → credit (of_kind cjk c k).1.after ≡ 0
-of_kind-clears cjk c kinds.Zero two = refl
-of_kind-clears cjk c kinds.Narrow two = refl
-of_kind-clears cjk c kinds.Wide two = refl
-of_kind-clears cjk c kinds.Ambiguous two = refl
-of_kind-clears cjk c kinds.Alef two = refl
-of_kind-clears cjk c kinds.KhmerLetter two = absurd (omega (arith, two))
-of_kind-clears cjk c kinds.TifinaghConsonant two = refl
-of_kind-clears cjk c kinds.LisuTone two = refl
-of_kind-clears cjk c kinds.RegionalIndicator two = refl
-of_kind-clears cjk c kinds.EmojiModifier two = refl
-of_kind-clears cjk c kinds.Emoji two = refl
-of_kind-clears cjk c kinds.Single two = single-credit cjk c
+abbrev khmer_rows : List (Row (Option Kind)) → Bool
+khmer_rows [] = true
+khmer_rows (r ∷ rs) = (not (names_khmer_letter r.2) || (nat_le 0x1780 r.0 && nat_le r.1 0x17AF)) && khmer_rows rs
 
-Clears-alone : (cjk : Bool) (c t : ℕ) → Clears (λ x. added x (alone cjk c)) t
+khmer_rows-hold : (rows : List (Row (Option Kind))) (c : ℕ) → khmer_rows rows ≡ true → names_khmer_letter (value_in None rows c) ≡ true → is_in_range 0x1780 0x17AF c ≡ true
+unfolding value_in
+khmer_rows-hold [] c within named = absurd (grind (arith, named))
+khmer_rows-hold (r ∷ rs) c within named =
+    let parts = and_parts (not (names_khmer_letter r.2) || (nat_le 0x1780 r.0 && nat_le r.1 0x17AF)) (khmer_rows rs) within in
+    by_row (nat_le r.0 c && nat_le c r.1) (names_khmer_letter r.2) refl refl parts.0 (khmer_rows-hold rs c parts.1) named
+  where
+    by_row : (b k : Bool) → (nat_le r.0 c && nat_le c r.1) ≡ b → names_khmer_letter r.2 ≡ k → (not k || (nat_le 0x1780 r.0 && nat_le r.1 0x17AF)) ≡ true
+        → (names_khmer_letter (value_in None rs c) ≡ true → is_in_range 0x1780 0x17AF c ≡ true) → names_khmer_letter (cond b r.2 (value_in None rs c)) ≡ true → is_in_range 0x1780 0x17AF c ≡ true
+    by_row false k here is inside later h = later h
+    by_row true true here is inside later h = grind (arith, nat_tests, here, inside)
+    by_row true false here is inside later h = absurd (grind (arith, is, h))
+
+-- and no other rule gives it
+record IsOther (k : Kind) : Type 0 where
+  other : is_khmer_letter k ≡ false
+
+by_width-other : (zero wide ambiguous : Bool) → IsOther (by_width zero wide ambiguous)
+by_width-other true wide ambiguous = record { other = refl }
+by_width-other false true ambiguous = record { other = refl }
+by_width-other false false true = record { other = refl }
+by_width-other false false false = record { other = refl }
+
+by_emoji-other : (indicator modifier emoji alef : Bool) (other : Kind) → IsOther other → IsOther (by_emoji indicator modifier emoji (cond alef kinds.Alef other))
+by_emoji-other true modifier emoji alef other h = record { other = refl }
+by_emoji-other false true emoji alef other h = record { other = refl }
+by_emoji-other false false true alef other h = record { other = refl }
+by_emoji-other false false false true other h = record { other = refl }
+by_emoji-other false false false false other h = h
+
+unnamed-other : (c : ℕ) → IsOther (unnamed_kind c)
+unfolding unnamed_kind letter_kind width_kind
+unnamed-other c = by_emoji-other _ _ _ _ _ (by_width-other _ _ _)
+
+khmer-named : (named : Option Kind) (other : Kind) → is_khmer_letter other ≡ false → is_khmer_letter (unwrap_or named other) ≡ names_khmer_letter named
+khmer-named None other h = h
+khmer-named (Some k) other h = refl
+
+kind-other : (c : ℕ) → is_in_range 0x1780 0x17AF c ≡ false → is_khmer_letter (kind c) ≡ false
+unfolding kind named_kind named_rows
+kind-other c outside = by_name (names_khmer_letter (named_kind c)) refl
+  where
+    by_name : (b : Bool) → names_khmer_letter (value_in None named_rows c) ≡ b → is_khmer_letter (unwrap_or (value_in None named_rows c) (unnamed_kind c)) ≡ false
+    by_name false is = khmer-named (value_in None named_rows c) (unnamed_kind c) (unnamed-other c).other ∙ is
+    by_name true is = absurd (grind (arith, outside, khmer_rows-hold named_rows c refl is))
+
+-- a reading that leaves no credit
+record Settles (r : Reading) : Type 0 where
+  none : credit r.1.after ≡ 0
+
+Settles-cond : (b : Bool) (r s : Reading) → (b ≡ true → Settles r) → (b ≡ false → Settles s) → Settles (cond b r s)
+Settles-cond true r s p q = p refl
+Settles-cond false r s p q = q refl
+
+of_kind-settles : (cjk : Bool) (c : ℕ) (k : Kind) → is_khmer_letter k ≡ false → credit (of_kind cjk c k).1.after ≡ 0
+of_kind-settles cjk c kinds.Zero h = refl
+of_kind-settles cjk c kinds.Narrow h = refl
+of_kind-settles cjk c kinds.Wide h = refl
+of_kind-settles cjk c kinds.Ambiguous h = refl
+of_kind-settles cjk c kinds.Alef h = refl
+of_kind-settles cjk c kinds.KhmerLetter h = absurd (grind (arith, h))
+of_kind-settles cjk c kinds.TifinaghConsonant h = refl
+of_kind-settles cjk c kinds.LisuTone h = refl
+of_kind-settles cjk c kinds.RegionalIndicator h = refl
+of_kind-settles cjk c kinds.EmojiModifier h = refl
+of_kind-settles cjk c kinds.Emoji h = refl
+of_kind-settles cjk c kinds.Single h = single-credit cjk c
+
+Settles-alone : (cjk : Bool) (c total : ℕ) → Keeps c → Settles (added total (alone cjk c))
 unfolding alone
-Clears-alone cjk c t = Clears-add (alone cjk c).0 (alone cjk c).1 t (of_kind-clears cjk c (kind c))
+Settles-alone cjk c total k = record { none = of_kind-settles cjk c (kind c) (kind-other c k.khmer) }
 
-Clears-joined : (j : Option (Change × After)) (own : ℕ × State) (t : ℕ) → Clears (λ x. added x own) t → Clears (λ x. joined_or x j own) t
-Clears-joined None own t rest = rest
-Clears-joined (Some (Less, next)) own t rest = record { clears = λ two. absurd (omega (arith, two)) }
-Clears-joined (Some (Same, next)) own t rest = record { clears = λ two. absurd (omega (arith, two)) }
-Clears-joined (Some (One, next)) own t rest = record { clears = λ two. absurd (omega (arith, two)) }
-Clears-joined (Some (Three, next)) own t rest = record { clears = λ two. absurd (omega (arith, two)) }
+-- what a join leaves
+abbrev IsSettled : Option (Change × After) → Type 0
+IsSettled None = Unit {0}
+IsSettled (Some (change, next)) = credit next ≡ 0
 
-Clears-past_selectors : (cjk : Bool) (c : ℕ) (after : After) (t : ℕ) → Clears (λ x. past_selectors cjk c x after) t
-unfolding past_selectors
-Clears-past_selectors cjk c after t =
-    Clears-cond (skips_marks after && (c == 0x200D)) _ _ t (Clears-same (before (with_joiner after)) t)
-    (Clears-cond (skips_marks after && is_ligature_transparent c) _ _ t (Clears-same (before after) t)
-    (Clears-cond ((cjk && is_solidus after) && is_solidus_transparent c) _ _ t (Clears-add (alone cjk c).0 (before Solidus) t (λ two. refl))
-    (Clears-joined (joins cjk after c) (alone cjk c) t (Clears-alone cjk c t))))
+IsSettled-alef : (a b c : Bool) → IsSettled (cond a (Some (Same, SolidusAlef)) (cond b (Some (Same, Nothing)) (cond c (Some (Same, Alef)) None)))
+IsSettled-alef true b c = refl
+IsSettled-alef false true c = refl
+IsSettled-alef false false true = refl
+IsSettled-alef false false false = tt
 
-Clears-in_context : (cjk : Bool) (c : ℕ) (s : State) (t : ℕ) → Clears (λ x. in_context cjk c x s) t
+joins-settled : (cjk : Bool) (after : After) (c : ℕ) → Keeps c → IsSettled (joins cjk after c)
+unfolding joins before_alef
+joins-settled cjk Nothing c k = grind (arith, k.joiner, k.indicator)
+joins-settled cjk LineFeed c k = grind (arith, k.joiner, k.indicator)
+joins-settled cjk EmojiModifier c k = grind (arith, k.joiner, k.indicator)
+joins-settled cjk RegionalIndicator c k = grind (arith, k.joiner, k.indicator)
+joins-settled cjk RegionalIndicators c k = grind (arith, k.joiner, k.indicator)
+joins-settled cjk Emoji c k = grind (arith, k.joiner, k.indicator)
+joins-settled cjk ZwjEmoji c k = grind (arith, k.joiner, k.indicator)
+joins-settled cjk KeycapZwjEmoji c k = grind (arith, k.joiner, k.indicator)
+joins-settled cjk IndicatorZwj c k = grind (arith, k.joiner, k.indicator)
+joins-settled cjk EvenIndicatorsZwj c k = grind (arith, k.joiner, k.indicator)
+joins-settled cjk OddIndicatorsZwj c k = grind (arith, k.joiner, k.indicator)
+joins-settled cjk TagEnd c k = grind (arith, k.joiner, k.indicator)
+joins-settled cjk TagDigit1 c k = grind (arith, k.joiner, k.indicator)
+joins-settled cjk TagDigit2 c k = grind (arith, k.joiner, k.indicator)
+joins-settled cjk TagDigit3 c k = grind (arith, k.joiner, k.indicator)
+joins-settled cjk TagLetter1 c k = grind (arith, k.joiner, k.indicator)
+joins-settled cjk TagLetter2 c k = grind (arith, k.joiner, k.indicator)
+joins-settled cjk TagLetter3 c k = grind (arith, k.joiner, k.indicator)
+joins-settled cjk TagLetter4 c k = grind (arith, k.joiner, k.indicator)
+joins-settled cjk TagLetter5 c k = grind (arith, k.joiner, k.indicator)
+joins-settled cjk TagLetter6 c k = grind (arith, k.joiner, k.indicator)
+joins-settled cjk KiratE c k = grind (arith, k.joiner, k.indicator)
+joins-settled cjk KiratAi c k = grind (arith, k.joiner, k.indicator)
+joins-settled cjk Alef c k = IsSettled-alef _ _ _
+joins-settled cjk Solidus c k = grind (arith, k.joiner, k.indicator)
+joins-settled cjk SolidusAlef c k = grind (arith, k.joiner, k.indicator)
+joins-settled cjk Lamed c k = grind (arith, k.joiner, k.indicator)
+joins-settled cjk ZwjLamed c k = grind (arith, k.joiner, k.indicator)
+joins-settled cjk Ya c k = grind (arith, k.joiner, k.indicator)
+joins-settled cjk ZwjYa c k = grind (arith, k.joiner, k.indicator)
+joins-settled cjk VowelZwjYa c k = grind (arith, k.joiner, k.indicator)
+joins-settled cjk Tifinagh c k = grind (arith, k.joiner, k.indicator)
+joins-settled cjk ZwjTifinagh c k = grind (arith, k.joiner, k.indicator)
+joins-settled cjk JoinerTifinagh c k = grind (arith, k.joiner, k.indicator)
+joins-settled cjk LisuTone c k = grind (arith, k.joiner, k.indicator)
+joins-settled cjk OrkhonI c k = grind (arith, k.joiner, k.indicator)
+joins-settled cjk ZwjOrkhonI c k = grind (arith, k.joiner, k.indicator)
+joins-settled cjk KhmerLetter c k = grind (arith, k.joiner, k.indicator)
+
+Settles-joined : (total : ℕ) (j : Option (Change × After)) (own : ℕ × State) → IsSettled j → Settles (added total own) → Settles (joined_or total j own)
+Settles-joined total None own h rest = rest
+Settles-joined total (Some (change, next)) own h rest = record { none = h }
+
+Settles-past_selectors : (cjk : Bool) (c total : ℕ) (after : After) → Keeps c → Settles (past_selectors cjk c total after)
+unfolding past_selectors is_ligature_transparent in_ranges
+Settles-past_selectors cjk c total after k =
+    Settles-cond (skips_marks after && (c == 0x200D)) _ _ (λ h. absurd (grind (arith, h, k.zwj)))
+    (λ no. Settles-cond (skips_marks after && is_ligature_transparent c) _ _ (λ h. absurd (grind (arith, nat_tests, h, k.zwj, k.mark)))
+    (λ no. Settles-cond ((cjk && is_solidus after) && is_solidus_transparent c) _ _ (λ h. record { none = refl })
+    (λ no. Settles-joined total (joins cjk after c) (alone cjk c) (joins-settled cjk after c k) (Settles-alone cjk c total k))))
+
+Settles-in_context : (c total : ℕ) (s : State) → Keeps c → Settles (in_context false c total s)
 unfolding in_context
-Clears-in_context cjk c s t =
-    Clears-cond (c == 0xFE0F) _ _ t (Clears-same (record (cond (is_joined_emoji s.after) s (if_kept s)) { emoji = true }) t)
-    (Clears-cond (is_quote_selector cjk c) _ _ t (Clears-same (record (if_kept s) { quote = true }) t)
-    (Clears-cond (not cjk && (c == 0xFE0E)) _ _ t (Clears-same (record (if_kept s) { text = true }) t)
-    (Clears-cond (s.text && is_text_presentation_base c) _ _ t (Clears-add 1 plain t (λ two. refl))
-    (Clears-cond (s.quote && is_quote c) _ _ t (Clears-add (cond cjk 1 2) plain t (λ two. refl)) (Clears-past_selectors cjk c s.after t)))))
+Settles-in_context c total s k =
+    Settles-cond (c == 0xFE0F) _ _ (λ h. absurd (grind (arith, nat_tests, h, k.selector)))
+    (λ no. Settles-cond (is_quote_selector false c) _ _ (λ h. absurd (grind (arith, nat_tests, h, k.selector)))
+    (λ no. Settles-cond (not false && (c == 0xFE0E)) _ _ (λ h. absurd (grind (arith, nat_tests, h, k.selector)))
+    (λ no. Settles-cond (s.text && is_text_presentation_base c) _ _ (λ h. record { none = refl })
+    (λ no. Settles-cond (s.quote && is_quote c) _ _ (λ h. record { none = refl }) (λ no. Settles-past_selectors false c total s.after k)))))
 
-Clears-past_emoji : (cjk : Bool) (c : ℕ) (s : State) (t : ℕ) → Clears (λ x. past_emoji cjk c x s) t
+Settles-past_emoji : (c total : ℕ) (s : State) → Keeps c → Settles (past_emoji false c total s)
 unfolding past_emoji
-Clears-past_emoji cjk c s t =
-    Clears-cond (((cjk && is_striking s.after) && not s.quote) && is_in_range 0x3C 0x3E c) _ _ t (Clears-add 2 plain t (λ two. refl))
-    (Clears-cond (c == 0x0A) _ _ t (Clears-add 1 (before LineFeed) t (λ two. refl))
-    (Clears-cond ((c == 0x0D) && is_line_feed s.after) _ _ t (Clears-same plain t)
-    (Clears-cond (nat_le c 0xA0) _ _ t (Clears-add 1 plain t (λ two. refl))
-    (Clears-cond (is_plain s) _ _ t (Clears-alone cjk c t) (Clears-in_context cjk c s t)))))
+Settles-past_emoji c total s k =
+    Settles-cond (c == 0x0A) _ _ (λ h. record { none = refl })
+    (λ no. Settles-cond ((c == 0x0D) && is_line_feed s.after) _ _ (λ h. record { none = refl })
+    (λ no. Settles-cond (nat_le c 0xA0) _ _ (λ h. record { none = refl })
+    (λ no. Settles-cond (is_plain s) _ _ (λ h. Settles-alone false c total k) (λ no. Settles-in_context c total s k))))
 
-Clears-step : (cjk : Bool) (c : ℕ) (s : State) (t : ℕ) → Clears (λ x. step cjk c (x, s)) t
+Settles-step : (c : ℕ) (r : Reading) → Keeps c → Settles (step false c r)
 unfolding step
-Clears-step cjk c s t =
-    Clears-cond (not s.emoji) _ _ t (Clears-past_emoji cjk c s t)
-    (Clears-cond _ _ _ t (Clears-add (cond (is_joined_emoji s.after) 0 2) (before Emoji) t (λ two. refl))
-    (Clears-past_emoji cjk c (record (if_kept s) { emoji = false }) t))
+Settles-step c (total, s) k =
+    Settles-cond (not s.emoji) _ _ (λ h. Settles-past_emoji c total s k)
+    (λ no. Settles-cond (is_emoji_variation_base c) _ _ (λ h. record { none = refl })
+    (λ no. Settles-past_emoji c total (record (if_kept s) { emoji = false }) k))
 
-str_width-two : (xs ys : List ℕ) (c : ℕ) → str_width false (c ∷ ys) ≡ str_width false ys + 2 → str_width false (c ∷ ys) ≤ str_width false (xs ++ c ∷ ys)
+not_lost : (b : Bool) → not b ≡ true → b ≡ false
+not_lost true h = sym h
+not_lost false h = refl
+
+Settles-read : (cs : List ℕ) → begins_settled cs ≡ true → Settles (read_before false cs (0, plain))
+Settles-read [] h = record { none = refl }
+Settles-read (c ∷ cs) h = Settles-step c (read_before false cs (0, plain)) (keeps c (not_lost (may_lose_place c) h))
+
+str_width-settled : (xs ys : List ℕ) → begins_settled ys ≡ true → str_width false ys ≤ str_width false (xs ++ ys)
 unfolding str_width
-str_width-two xs ys c two =
-    let behind : Reading = read_before false ys (0, plain) in
-    let r : Reading = read_before false (c ∷ ys) (0, plain) in
-    let none : credit r.1.after ≡ 0 = (Clears-step false c behind.1 behind.0).clears two in
+str_width-settled xs ys settled =
+    let r : Reading = read_before false ys (0, plain) in
+    let none : credit r.1.after ≡ 0 = (Settles-read ys settled).none in
     let shifted = (Shifts-read_before false xs r.1 0 (omega (arith, none))).shifts r.0 in
-    let all : (read_before false (xs ++ c ∷ ys) (0, plain)).0 ≡ r.0 + (read_before false xs (0, r.1)).0 =
-    ap (λ x. x.0) (read_before-append false xs (c ∷ ys) (0, plain) ∙ ap (λ n. read_before false xs (n, r.1)) (sym (add-zero r.0)) ∙ shifted) in
+    let all : (read_before false (xs ++ ys) (0, plain)).0 ≡ r.0 + (read_before false xs (0, r.1)).0 =
+    ap (λ x. x.0) (read_before-append false xs ys (0, plain) ∙ ap (λ n. read_before false xs (n, r.1)) (sym (add-zero r.0)) ∙ shifted) in
     omega (arith, all)
 
--- where its end's first character adds two places, a text measures at least what its end measures by itself
-pub measure-two : (front tail behind : Text) (c : ℕ) → IsUtf8 front → IsUtf8 tail → tail ≡ encode_utf8 c ++ behind → measure tail ≡ measure behind + 2 → measure tail ≤ measure (front ++ tail)
-measure-two front tail behind c utf8 utf8' begins two =
-    let cs : chars tail ≡ c ∷ chars behind = chars_past_char tail behind c utf8' begins in
-    let least = str_width-two (chars front) (chars behind) c (sym (ap (str_width false) cs) ∙ two) in
-    let all : chars (front ++ tail) ≡ chars front ++ c ∷ chars behind = chars-append front tail utf8 ∙ ap (λ t. chars front ++ t) cs in
-    omega (arith, least, ap (str_width false) cs, ap (str_width false) all)
+-- where its end begins settled, a text measures at least what its end measures by itself
+pub measure-settled : (front tail : Text) → IsUtf8 front → begins_settled (chars tail) ≡ true → measure tail ≤ measure (front ++ tail)
+measure-settled front tail utf8 settled =
+    subst (λ cs. measure tail ≤ str_width false cs) (sym (chars-append front tail utf8)) (str_width-settled (chars front) (chars tail) settled)
 
 -- ---- the end of a text
 

@@ -1,13 +1,12 @@
--- An end that is wider than a line and one place shows that each longer end is wider than a line.
-use Rattle.std.proofs.Common.{◌≡◌, ◌<◌, ◌≤◌, ◌++◌, ◌∙◌, ℕ, ◌+◌, ◌-◌, length, take, drop, sym, ap, ap₂, subst, arith, length-append, length-take-le, take-add, [], refl}
+-- An end that is wider than a line and one place, or begins settled, shows that each longer end is wider than a line.
+use Rattle.std.proofs.Common.{◌≡◌, ◌<◌, ◌≤◌, ◌++◌, ◌∙◌, ℕ, ◌+◌, ◌-◌, length, take, drop, sym, ap, ap₂, subst, arith, length-append, length-take-le, take-add, [], ◌∷◌, refl}
 use Rattle.std.proofs.Math.Seq.{drop-append-add, drop-append_seam, take-append_seam}
 use Rattle.std.proofs.lemmas.List.{append_assoc, take-append-drop}
 use Rattle.std.proofs.lemmas.Str.{IsCharBoundary-from_drop, IsUtf8-append, IsUtf8-nil, IsUtf8-take}
-use Rattle.std.specs.Prelude.{Option, Some, None, MatchOption, true, encode_utf8}
-use Rattle.std.specs.Option.{is_some}
+use Rattle.std.specs.Prelude.{true, chars}
 use Rattle.std.specs.Str.{IsCharBoundary, IsUtf8}
-use Rattle.comfy_parts.proofs.TailLemmas.{measure-tail, measure-two}
-use Rattle.comfy_parts.specs.Following.{IsFirstElement, IsWideBehind, IsWideFrom}
+use Rattle.comfy_parts.proofs.TailLemmas.{measure-settled, measure-tail}
+use Rattle.comfy_parts.specs.Following.{begins_settled, IsFirstElement, IsSettledEnd, IsWideBehind, IsWideFrom}
 use Rattle.comfy_parts.specs.Text.{Text, measure}
 
 pub wide-from : (w : ℕ) (word front end : Text) → word ≡ front ++ end → IsUtf8 end → IsWideBehind w end → IsWideFrom w (length end) word
@@ -22,16 +21,30 @@ wide-from w word a end joins utf8 wide front tail splits before behind long =
     let most = wide (take n tail) (IsUtf8-take tail n behind boundary) in
     omega (arith, most, ap measure whole)
 
--- where an end is wider than a line and one place, or its first character adds two of more places than a line has, it is wide whatever stands before
+-- where an end is wider than a line and one place, or begins settled and is wider than a line, it is wide whatever stands before
 pub wide-by-two : (w : ℕ) (end : Text) → w + 1 < measure end → IsWideBehind w end
 wide-by-two w end wide front utf8 =
     let most = measure-tail front end utf8 in
     omega (arith, most, wide)
 
-pub wide-at-two : (w : ℕ) (end behind : Text) (c : ℕ) → IsUtf8 end → end ≡ encode_utf8 c ++ behind → measure end ≡ measure behind + 2 → w < measure end → IsWideBehind w end
-wide-at-two w end behind c utf8' begins two wide front utf8 =
-    let most = measure-two front end behind c utf8 utf8' begins two in
+pub wide-at-settled : (w : ℕ) (end : Text) → begins_settled (chars end) ≡ true → w < measure end → IsWideBehind w end
+wide-at-settled w end settled wide front utf8 =
+    let most = measure-settled front end utf8 settled in
     omega (arith, most, wide)
+
+-- an end's own end that begins settled shows it for the word
+pub wide-from-settled : (w : ℕ) (word front end tail : Text) → word ≡ front ++ end → IsSettledEnd end tail → w < measure tail → IsWideFrom w (length tail) word
+wide-from-settled w word front end tail joins is wide =
+    wide-from w word (front ++ is.front) tail (joins ∙ ap (λ t. front ++ t) is.joins ∙ sym (append_assoc front is.front tail)) is.whole_tail
+    (wide-at-settled w tail is.begins wide)
+
+-- where nothing stands before it, it is the end itself
+pub settled-whole : (end tail : Text) → IsSettledEnd end tail → length tail ≡ length end → tail ≡ end
+settled-whole end tail is long = by_front is.front is.joins
+  where
+    by_front : (front : Text) → end ≡ front ++ tail → tail ≡ end
+    by_front [] joins = sym joins
+    by_front (b ∷ bs) joins = absurd (omega (arith, ap length joins, length-append (b ∷ bs) tail))
 
 -- what is wide from a number of bytes on stays so when its front is taken off
 pub wide-behind : (w bytes : ℕ) (word front rest : Text) → word ≡ front ++ rest → IsUtf8 front → IsWideFrom w bytes word → IsWideFrom w bytes rest
@@ -55,9 +68,3 @@ pub known-wide : (d : ℕ) (text : Text) (first : ℕ) → IsCharBoundary text f
 known-wide d text first place is w bytes wide known =
     let long : length (take first text) ≡ first = length-take-le first text place.0 in
     wide [] (take first text) refl IsUtf8-nil is.whole_first (omega (arith, long, known))
-
--- the same, where the first character was taken
-pub wide-at-first : (A : Type 0) (w : ℕ) (end start behind rest : Text) (r : Option ℕ) → IsUtf8 end → is_some r ≡ true → start ≡ end → rest ≡ behind → MatchOption r A (λ c. start ≡ encode_utf8 c ++ rest)
-    → measure end ≡ measure behind + 2 → w < measure end → IsWideBehind w end
-wide-at-first A w end start behind rest None utf8 some same later steps two wide = absurd (grind (arith, some))
-wide-at-first A w end start behind rest (Some c) utf8 some same later steps two wide = wide-at-two w end behind c utf8 (sym same ∙ steps ∙ ap (λ t. encode_utf8 c ++ t) later) two wide

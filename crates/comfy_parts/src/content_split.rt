@@ -1,6 +1,7 @@
 //! The cutting of texts: what they measure, their heads, and the lines that they are wrapped into.
 
-ghost use Rattle.std.specs.Prelude.{◌≡◌, map, IfOk, string_bytes};
+ghost use Rattle.std.specs.Prelude.{◌≡◌, map, take, drop, IfOk, string_bytes};
+ghost use Rattle.comfy_parts.specs.Following.{IsFirstElement, IsPart};
 ghost use Rattle.comfy_parts.specs.Text.{elements};
 ghost use Rattle.comfy_parts.specs.Wrapping.{IsWrapped, wrapped};
 
@@ -11,7 +12,7 @@ mod prefix;
 mod width;
 
 use crate::error::Result;
-use cluster::{cluster_behind, no_cluster};
+use cluster::{Part, cluster_behind};
 pub use display_info::ColumnDisplayInfo;
 use ends::{first_element, line_end, line_start};
 pub use prefix::split_long_word;
@@ -47,28 +48,35 @@ pub fn split_line(
     let width = usize::from(info.content_width);
     let mut lines: Vec<String> = Vec::new(alloc);
     let mut rest = line_start(line, delimiter);
-    let (word, _) = first_element(rest, delimiter);
-    let mut first = word.len();
-    let mut wide = wide_end(word, width);
-    let mut cluster = no_cluster();
+    let mut word = first_word(rest, width, delimiter);
+    let mut cluster = None;
     while !rest.is_empty() {
-        let end = line_end(rest, first, wide, cluster, width, delimiter);
+        let end = line_end(rest, word, cluster, width, delimiter);
         let (front, behind) = rest.split_at(end);
         lines.push(String::from_str(alloc, front)?)?;
-        if end < first {
-            // The line ends inside a long element, and its rest comes next: its end isn't searched for again, nor
-            // measured.
-            let (word, _) = rest.split_at(first);
-            cluster = cluster_behind(word, cluster, end, width);
+        if end < word.len {
+            // The line ends inside a long word, and its rest comes next: its end isn't searched for again, nor measured.
+            let (first, _) = rest.split_at(word.len);
+            cluster = cluster_behind(first, cluster, end, width);
             rest = behind;
-            first -= end;
+            word = word.behind(end);
         } else {
             rest = line_start(behind, delimiter);
-            let (word, _) = first_element(rest, delimiter);
-            first = word.len();
-            wide = wide_end(word, width);
-            cluster = no_cluster();
+            word = first_word(rest, width, delimiter);
+            cluster = None;
         }
     }
     Ok(lines)
+}
+
+// The text's first element, and what is known of it in lines of this width.
+fn first_word(text: &str, width: usize, delimiter: char) -> Part
+    ensures part { IsPart width result.len result.wide text.now }
+    ensures element { IsFirstElement delimiter text.now (take result.len text.now) (drop result.len text.now) }
+{
+    let (word, _) = first_element(text, delimiter);
+    Part {
+        len: word.len(),
+        wide: wide_end(word, width),
+    }
 }

@@ -1,16 +1,14 @@
 //! A cluster that is wider than a line is cut off a character at a time. What is known of it is kept from line to line,
 //! so that it isn't walked again for each of them.
 
-ghost use Rattle.std.specs.Prelude.{◌≡◌, false, List, [], ◌∷◌, ◌++◌, length, drop, chars, IfSome, IsTrue};
-ghost use Rattle.std.specs.List.{list_all};
+ghost use Rattle.std.specs.Prelude.{◌≡◌, ◌+◌, ◌-◌, ◌<◌, ◌≤◌, nat_lt, nat_le, ◌&&◌, length, drop, chars, IfSome};
 ghost use Rattle.std.specs.Str.{IsCharBoundary};
-ghost use Rattle.comfy_parts.specs.Following.{is_joining, ends_look_back, EndsLookBackAt, IsLongCluster};
-ghost use Rattle.comfy_parts.specs.Text.{Text, clusters, clusters_within};
+ghost use Rattle.comfy_parts.specs.Following.{is_joining, ends_look_back, begins_anew, begins_with_consonant, IsRun, IsLinkedUpTo, IsPart, IsCluster, IsLongCluster};
 
-use crate::content_split::width::{measure_text_width, wide_end};
+use crate::content_split::prefix::first_without_room;
+use crate::content_split::width::wide_end;
 use ucd_breaks::GraphemeClusterBreak;
 use ucd_derived::IndicConjunctBreak;
-use unicode_segmentation::UnicodeSegmentation;
 
 // A line with more bytes isn't a character that was cut off a cluster.
 const LONGEST_CHARACTER: usize = 4;
@@ -18,149 +16,193 @@ const LONGEST_CHARACTER: usize = 4;
 // A cluster of fewer bytes is as well walked again.
 const LONG: usize = 64;
 
-// A run of marks with more bytes inside a cluster is looked at by itself.
-const FAR: usize = 1024;
+/// A text's first bytes, `len` of them. Each end of these with at least `wide` bytes is wider than a line.
+#[derive(Clone, Copy)]
+pub(crate) struct Part {
+    pub len: usize,
+    pub wide: usize,
+}
 
-/// What is left of a long cluster at a word's front.
+impl Part {
+    /// Whether what is left of it behind so many bytes is known to be wider than a line.
+    pub fn is_wide_behind(self, end: usize) -> bool
+        ensures { result ≡ (nat_lt end self.len && nat_le self.wide (self.len - end)) }
+    {
+        end < self.len && self.len - end >= self.wide
+    }
+
+    /// What is left of it behind so many bytes.
+    pub fn behind(self, end: usize) -> Part
+        requires { end ≤ self.len }
+        ensures len { result.len ≡ self.len - end }
+        ensures wide { result.wide ≡ self.wide }
+    {
+        Part {
+            len: self.len - end,
+            wide: self.wide,
+        }
+    }
+}
+
+/// What is left of a long cluster at a word's front, and the run of marks and joiners that it begins with, which may be
+/// empty. What is left behind a place in the run's first `joined` bytes is one cluster to the end of the long one, and
+/// behind a later place in the run it is one to the run's end.
 #[derive(Clone, Copy)]
 pub(crate) struct LongCluster {
-    /// The bytes up to the cluster's end, 0 where no such cluster is known.
-    pub len: usize,
-    /// So many bytes at the cluster's end are wider than a line.
-    pub wide: usize,
-    /// Whether only marks and joiners are left of it.
-    pub is_run: bool,
+    pub all: Part,
+    pub run: Part,
+    pub joined: usize,
 }
 
-/// No long cluster is known.
-pub(crate) fn no_cluster() -> LongCluster
-    ensures len { result.len ≡ 0 }
-    ensures wide { result.wide ≡ 1 }
-    ensures is_run { result.is_run ≡ false }
-{
-    LongCluster {
-        len: 0,
-        wide: 1,
-        is_run: false,
-    }
-}
-
-/// What is left of a long cluster at a word's front behind these bytes: of the one that is known, or else of one that is
-/// found, as where a long run of marks begins inside the one that is known.
+/// What is known behind these bytes of the long cluster at a word's front: of the one that was known before, or else of
+/// the word's first one.
 pub(crate) fn cluster_behind(
     word: &str,
-    cluster: LongCluster,
+    cluster: Option<LongCluster>,
     end: usize,
     width: usize,
-) -> LongCluster
+) -> Option<LongCluster>
     requires place { IsCharBoundary word.now end }
-    requires cluster { IsLongCluster width cluster.is_run cluster.len cluster.wide word.now }
-    ensures { IsLongCluster width result.is_run result.len result.wide (drop end word.now) }
+    requires cluster { IfSome cluster (IsLongCluster width word.now) }
+    ensures { IfSome result (IsLongCluster width (drop end word.now)) }
 {
-    if end < cluster.len {
-        let (front, _) = word.split_at(word.floor_char_boundary(FAR));
-        let is_near = cluster.is_run || first_end_of_look_back(front).is_some();
-        if is_near {
-            return LongCluster {
-                len: cluster.len - end,
-                ..cluster
-            };
-        }
+    let known = match cluster {
+        Some(known) if end < known.all.len => known,
+        _ => return first_cluster_behind(word, end, width),
+    };
+    let all = known.all.behind(end);
+    if end >= known.run.len {
+        let (_, rest) = word.split_at(end);
+        return with_run(rest, all, width);
     }
-    first_cluster_behind(word, end, width)
+    Some(LongCluster {
+        all,
+        run: known.run.behind(end),
+        joined: known.joined.saturating_sub(end),
+    })
 }
 
-// The same of the word's first cluster, where it is a long one.
-fn first_cluster_behind(word: &str, end: usize, width: usize) -> LongCluster
+// The same of the word's first cluster, where it is a long one that takes a place.
+fn first_cluster_behind(word: &str, end: usize, width: usize) -> Option<LongCluster>
     requires place { IsCharBoundary word.now end }
-    ensures { IsLongCluster width result.is_run result.len result.wide (drop end word.now) }
+    ensures { IfSome result (IsLongCluster width (drop end word.now)) }
 {
     if end > LONGEST_CHARACTER {
-        return no_cluster();
+        return None;
     }
-    let Some(cluster) = word.graphemes(true).next() else {
-        return no_cluster();
-    };
-    if cluster.len() < LONG || cluster.len() <= end {
-        return no_cluster();
+    // Without places the walk ends at the first cluster that takes one, which is as early as it can.
+    let (at, len) = first_without_room(0, word);
+    if at > 0 || len < LONG || len <= end {
+        return None;
     }
-    let (_, left) = cluster.split_at(end);
-    LongCluster {
-        len: left.len(),
+    let (cluster, _) = word.split_at(len);
+    let all = Part {
+        len: len - end,
         wide: wide_end(cluster, width),
-        is_run: is_run(left),
-    }
+    };
+    let (_, rest) = word.split_at(end);
+    with_run(rest, all, width)
 }
 
-// Whether the text has only marks and joiners.
-fn is_run(text: &str) -> bool
-    ensures { IsTrue result → IsTrue (list_all is_joining (chars text.now)) }
+// What is known of the rest of a long cluster at a text's front, with the run that it begins with.
+fn with_run(text: &str, all: Part, width: usize) -> Option<LongCluster>
+    requires part { IsPart width all.len all.wide text.now }
+    requires cluster { IsCluster 0 all.len text.now }
+    ensures { IfSome result (IsLongCluster width text.now) }
+{
+    let (run, behind) = text.split_at(run_len(text));
+    let joined = if starts_conjunct(behind) {
+        joined_len(run)
+    } else {
+        0
+    };
+    // A run that joins what follows it can't end the cluster.
+    if joined > 0 && run.len() >= all.len {
+        return None;
+    }
+    Some(LongCluster {
+        all,
+        run: Part {
+            len: run.len(),
+            wide: wide_end(run, width),
+        },
+        joined,
+    })
+}
+
+// The bytes of the marks and joiners at a text's front.
+fn run_len(text: &str) -> usize
+    ensures { IsRun text.now result }
 {
     let mut characters = text.chars();
+    let mut rest = text;
     while let Some(character) = characters.next() {
         if !is_joining(character) {
-            return false;
+            return text.len() - rest.len();
         }
+        rest = characters.as_str();
     }
-    true
+    text.len()
 }
 
-// Whether the character is a mark or a joiner, which joins what stands before it.
+// The bytes of a run up to its last linker, where only marks inside conjuncts follow this: from each place in them on, the
+// run joins a consonant behind it.
+fn joined_len(run: &str) -> usize
+    ensures { IsLinkedUpTo run.now result }
+{
+    let mut joined = 0;
+    let mut characters = run.chars();
+    while let Some(character) = characters.next() {
+        joined = match IndicConjunctBreak::for_char(character) {
+            IndicConjunctBreak::Linker => run.len() - characters.as_str().len(),
+            IndicConjunctBreak::Extend => joined,
+            _ => 0,
+        };
+    }
+    joined
+}
+
+// Whether the character is a mark or a joiner: it joins what stands before it.
 fn is_joining(character: char) -> bool
     ensures { result ≡ is_joining character }
 {
     matches!(
         GraphemeClusterBreak::for_char(character),
-        GraphemeClusterBreak::Extend | GraphemeClusterBreak::Zwj
+        GraphemeClusterBreak::Extend | GraphemeClusterBreak::Zwj | GraphemeClusterBreak::SpacingMark
     )
 }
 
-/// The bytes up to the end of the first character over which no rule for boundaries looks back.
-pub(crate) fn first_end_of_look_back(text: &str) -> Option<usize>
-    ensures { IfSome result (EndsLookBackAt text.now) }
+// Whether the text begins with a consonant, which joins a linker before it.
+fn starts_conjunct(text: &str) -> bool
+    ensures { result ≡ begins_with_consonant (chars text.now) }
 {
-    let mut characters = text.chars();
-    while let Some(character) = characters.next() {
-        if ends_look_back(character) {
-            return Some(text.len() - characters.as_str().len());
-        }
+    match text.chars().next() {
+        Some(character) => matches!(
+            IndicConjunctBreak::for_char(character),
+            IndicConjunctBreak::Consonant
+        ),
+        None => false,
     }
-    None
+}
+
+/// Whether the text begins with a character over which no rule for boundaries looks back.
+pub(crate) fn starts_anew(text: &str) -> bool
+    ensures { result ≡ begins_anew (chars text.now) }
+{
+    match text.chars().next() {
+        Some(character) => ends_look_back(character),
+        None => false,
+    }
 }
 
 // Whether a rule that looks back over marks, joiners or halves of flags looks no further back than this character.
 fn ends_look_back(character: char) -> bool
     ensures { result ≡ ends_look_back character }
 {
-    let value = GraphemeClusterBreak::for_char(character);
-    let is_looked_over = matches!(
-        value,
+    !matches!(
+        GraphemeClusterBreak::for_char(character),
         GraphemeClusterBreak::Extend
             | GraphemeClusterBreak::Zwj
             | GraphemeClusterBreak::RegionalIndicator
-    );
-    let is_mark = matches!(
-        IndicConjunctBreak::for_char(character),
-        IndicConjunctBreak::Extend
-    );
-    !is_looked_over && !is_mark
-}
-
-/// The bytes of a text's clusters but the last, as far as they fit in these places.
-pub(crate) fn head_before_last(text: &str, allowed_width: usize) -> usize
-    ensures { (others : List Text) (last : Text) → clusters text.now ≡ others ++ last ∷ [] → result ≡ length (clusters_within allowed_width others) }
-{
-    let mut all = text.grapheme_indices(true);
-    let Some((last, _)) = all.next_back() else {
-        return 0;
-    };
-    let mut left = allowed_width;
-    for (at, cluster) in all {
-        let width = measure_text_width(cluster);
-        if width > left {
-            return at;
-        }
-        left -= width;
-    }
-    last
+    )
 }

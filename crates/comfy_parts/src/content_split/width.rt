@@ -1,17 +1,15 @@
 //! How many places a text takes.
 
-ghost use Rattle.std.specs.Prelude.{◌≡◌, ◌*◌, ◌≤◌, length, encode_utf8, IsTrue};
-ghost use Rattle.std.specs.Str.{IsCharBoundary};
-ghost use Rattle.comfy_parts.specs.Following.{IsWideBehind, IsWideFrom};
+ghost use Rattle.std.specs.Prelude.{◌≡◌, ◌*◌, ◌≤◌, length, encode_utf8, IfSome};
+ghost use Rattle.comfy_parts.specs.Following.{IsSettledEnd, IsWideFrom, is_ignored_mark, may_lose_place};
 ghost use Rattle.comfy_parts.specs.Text.{measure};
 
+use ucd_category::{GeneralCategory, GeneralCategoryGroup};
+use ucd_derived::is_default_ignorable_code_point;
 use unicode_width::UnicodeWidthStr;
 
-// How many bytes more or less aren't looked for.
+// The shortest end is looked for up to so many bytes. Lines that begin in them are measured in full, which costs little.
 const CLOSE: usize = 8;
-
-// So many ends are looked at a character at a time.
-const TRIES: usize = 16;
 
 /// The places that a text takes, by the Unicode rules for terminals. They are at most two for each of its bytes.
 pub fn measure_text_width(text: &str) -> usize
@@ -29,73 +27,100 @@ pub fn wide_end(word: &str, places: usize) -> usize
     if measure_text_width(word) <= places {
         return word.len() + 1;
     }
-    let mut at = near_wide_end(word, places);
-    let mut tries = TRIES;
-    while tries > 0 {
-        let (_, end) = word.split_at(at);
-        if shows_wide(end, places) {
-            return end.len();
-        }
-        if at == 0 {
-            break;
-        }
-        at = word.floor_char_boundary(at - 1);
-        tries -= 1;
-    }
-    word.len() + 1
-}
-
-// A place between characters shortly behind the one where the shortest end begins that is wider than these places.
-fn near_wide_end(word: &str, places: usize) -> usize
-    ensures { IsCharBoundary word.now result }
-{
-    let mut wide = first_wide_end(word, places);
-    let mut narrow = wide / 2;
-    while wide - narrow > CLOSE {
+    let Some(first) = first_shown_end(word, places) else {
+        return word.len() + 1;
+    };
+    let mut wide = first;
+    let mut narrow = 0;
+    // Where an end shows nothing, no shorter one does, but for a stretch of characters that may lose a place: so halving
+    // finds the shortest that shows it.
+    while wide.saturating_sub(narrow) > CLOSE {
         let middle = narrow + (wide - narrow) / 2;
-        let (_, end) = word.split_at(word.floor_char_boundary(word.len() - middle));
-        if end.len() < wide && measure_text_width(end) > places {
-            wide = end.len();
-        } else {
-            narrow = middle;
+        match shown_end(word, middle, places) {
+            Some(bytes) if bytes < wide => wide = bytes,
+            _ => narrow = middle,
         }
     }
-    word.floor_char_boundary(word.len() - narrow)
+    wide
 }
 
-// The bytes of the first end, of ends that double, that is wider than these places, and else all.
-fn first_wide_end(word: &str, places: usize) -> usize
-    ensures { result ≤ length word.now }
+// The bytes of the first end that shows that the word is wider than these places, of ends whose size doubles.
+fn first_shown_end(word: &str, places: usize) -> Option<usize>
+    ensures { IfSome result (λ bytes. IsWideFrom places bytes word.now) }
 {
     let mut size = 1;
     while size < word.len() {
-        let (_, end) = word.split_at(word.floor_char_boundary(word.len() - size));
-        if measure_text_width(end) > places {
-            return end.len();
+        let shown = shown_end(word, size, places);
+        if shown.is_some() {
+            return shown;
         }
         size *= 2;
     }
-    word.len()
+    shown_end(word, word.len(), places)
 }
 
-// Whether a text that ends so is wider than these places whatever stands before. That takes at most one place of the
-// end's away, and none where the end's first character adds two.
-fn shows_wide(end: &str, places: usize) -> bool
-    ensures { IsTrue result → IsWideBehind places end.now }
+// The bytes of an end that shows that the word is wider than these places: of the end with about so many bytes, or of what
+// is left of that from where it begins settled. Behind other characters an end may measure one place less than by itself,
+// but not where it begins settled. Where nothing is found, no shorter end shows it, unless only characters that may lose a
+// place stand between.
+fn shown_end(word: &str, size: usize, places: usize) -> Option<usize>
+    ensures { IfSome result (λ bytes. IsWideFrom places bytes word.now) }
 {
+    let at = word.floor_char_boundary(word.len().saturating_sub(size));
+    let (_, end) = word.split_at(at);
     let all = measure_text_width(end);
     if all <= places {
-        return false;
+        return None;
     }
     if all - places > 1 {
-        return true;
+        return Some(end.len());
     }
-    let mut characters = end.chars();
-    if characters.next().is_none() {
-        return false;
+    let settled = settled_end(end);
+    if settled.len() == end.len() {
+        return Some(end.len());
     }
-    let behind = measure_text_width(characters.as_str());
-    behind < all && all - behind == 2
+    if measure_text_width(settled) > places {
+        Some(settled.len())
+    } else {
+        None
+    }
+}
+
+// The end of a text from its first character that can't lose a place to one before.
+fn settled_end(text: &str) -> &str
+    ensures { IsSettledEnd text.now result.now }
+{
+    let mut characters = text.chars();
+    let mut rest = text;
+    while let Some(character) = characters.next() {
+        if !may_lose_place(character) {
+            return rest;
+        }
+        rest = characters.as_str();
+    }
+    rest
+}
+
+// Whether a text that begins with this character may lose a place to one before.
+fn may_lose_place(character: char) -> bool
+    ensures { result ≡ may_lose_place character }
+{
+    matches!(
+        character,
+        '\u{1780}'..='\u{17af}'
+            | '\u{200d}'
+            | '\u{2d7f}'
+            | '\u{fe00}'..='\u{fe0f}'
+            | '\u{1f1e6}'..='\u{1f1ff}'
+    ) || is_ignored_mark(character)
+}
+
+// Whether the character is a mark that is ignored by default.
+fn is_ignored_mark(character: char) -> bool
+    ensures { result ≡ is_ignored_mark character }
+{
+    is_default_ignorable_code_point(character)
+        && GeneralCategoryGroup::Mark.contains(GeneralCategory::for_char(character))
 }
 
 /// The places that a character takes as a text.

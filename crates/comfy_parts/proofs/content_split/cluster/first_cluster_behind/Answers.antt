@@ -1,20 +1,27 @@
-use Rattle.std.proofs.Common.{◌≡◌, true, ◌-◌, length, arith, drop, sym, ap, subst, ◌∙◌}
-use Rattle.std.specs.List.{list_all}
-use Rattle.std.specs.Str.{chars}
-use Rattle.unicode_segmentation.specs.Iter.{graphemes_left}
-use Rattle.comfy_parts.specs.Following.{is_joining, IsLongCluster}
-use Rattle.comfy_parts.proofs.LongClusterLemmas.{long-behind, cut-of-first}
+use Rattle.std.proofs.Common.{◌≡◌, arith, subst}
+use Rattle.std.specs.Str.{IsCharBoundary}
+use Rattle.comfy_parts.specs.Following.{IsFirstCluster, IsWideFrom}
+use Rattle.comfy_parts.proofs.LongClusterLemmas.{first-cluster, part-behind, rest-cluster}
 use Rattle.comfy_parts.proofs.content_split.cluster.first_cluster_behind.Goals as goal
 
-pub split_at-requires : goal.split_at-requires
-split_at-requires c =
-    cut-of-first c.args.word.now c.in-Some.cluster.now (graphemes_left c.next.new.self) c.args.end c.utf8.word (sym c.graphemes.ensures.left ∙ c.in-Some.ensures.steps) c.requires.place c.if-cluster-end.false
+module _ (c : goal.After-rest-1) where
+  at-front : c.first_without_room-at.result.0 ≡ 0
+  at-front = omega (arith, c.if-at-gt0.false)
 
-pub returns : goal.returns
-returns c =
-    let word = c.args.word.now in
-    let first = c.in-Some.cluster.now in
-    let all = λ (run : c.is_run.result ≡ true). ap (λ t. list_all is_joining (chars t)) (sym c.split_at.ensures.back) ∙ c.is_run.ensures run in
-    let left : length c.split_at.result.1.now ≡ length first - c.args.end = omega (arith, c.split_at.ensures.back_len) in
-    subst (λ n. IsLongCluster c.args.width c.is_run.result n c.wide_end.result (drop c.args.end word)) (sym left)
-    (long-behind c.is_run.result c.args.width c.wide_end.result c.args.end word first (graphemes_left c.next.new.self) c.utf8.word c.requires.place c.if-cluster-end.false (sym c.graphemes.ensures.left ∙ c.in-Some.ensures.steps) all c.wide_end.ensures)
+  place : IsCharBoundary c.args.word.now c.first_without_room-at.result.1
+  place = subst (IsCharBoundary c.args.word.now) (omega (arith, at-front)) c.first_without_room-at.ensures.end
+
+  cluster : IsFirstCluster c.first_without_room-at.result.1 c.args.word.now
+  cluster = c.first_without_room-at.ensures.cluster at-front (omega (arith, c.if-len-end.false))
+
+pub with_run-requires-clause-part : goal.with_run-requires-clause-part
+with_run-requires-clause-part c =
+    let len = c.first_without_room-at.result.1 in
+    rw c.split_at-2.ensures.back
+    (part-behind c.args.width len c.wide_end.result c.args.end c.args.word.now c.utf8.word c.requires.place c.if-len-end.false
+    (record { boundary = place c; ends = subst (IsWideFrom c.args.width c.wide_end.result) c.split_at.ensures.front c.wide_end.ensures }))
+
+pub with_run-requires-clause-cluster : goal.with_run-requires-clause-cluster
+with_run-requires-clause-cluster c =
+    let len = c.first_without_room-at.result.1 in
+    rw c.split_at-2.ensures.back (rest-cluster 0 len c.args.end c.args.word.now c.utf8.word c.requires.place (first-cluster c.args.word.now len (place c) (cluster c)))

@@ -1,8 +1,9 @@
-use Rattle.std.specs.Str.{IsCharBoundary}
+use Rattle.std.proofs.Common.{◌-◌}
+use Rattle.comfy_parts.specs.Following.{IsWideFrom}
 use Rattle.comfy_parts.proofs.content_split.width.wide_end.Given as goal
 
-abbrev pub invariant-loop-tries : goal.invariant-loop-tries
-invariant-loop-tries l = IsCharBoundary l.word l.at
+abbrev pub invariant-loop-middle : goal.invariant-loop-middle
+invariant-loop-middle l = IsWideFrom l.places l.wide l.word
 
-abbrev pub decreases-loop-tries : goal.decreases-loop-tries
-decreases-loop-tries l = l.tries
+abbrev pub decreases-loop-middle : goal.decreases-loop-middle
+decreases-loop-middle l = l.wide - l.narrow

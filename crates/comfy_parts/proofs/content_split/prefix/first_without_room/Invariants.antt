@@ -2,7 +2,7 @@ use Rattle.std.proofs.Common.{◌≡◌, ◌+◌, ◌++◌, map, sum_by}
 use Rattle.comfy_parts.specs.Text.{measure, clusters}
 use Rattle.unicode_segmentation.specs.Iter.{grapheme_indices_left}
 use Rattle.unicode_segmentation.specs.Segments.{with_offsets}
-use Rattle.comfy_parts.proofs.content_split.prefix.split_long_word.Given as goal
+use Rattle.comfy_parts.proofs.content_split.prefix.first_without_room.Given as goal
 
 abbrev pub invariant-loop-at : goal.invariant-loop-at
 invariant-loop-at l =

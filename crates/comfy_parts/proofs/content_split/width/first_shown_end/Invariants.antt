@@ -1,5 +1,5 @@
 use Rattle.std.proofs.Common.{◌<◌, ◌-◌, length}
-use Rattle.comfy_parts.proofs.content_split.width.first_wide_end.Given as goal
+use Rattle.comfy_parts.proofs.content_split.width.first_shown_end.Given as goal
 
 abbrev pub invariant-loop-size : goal.invariant-loop-size
 invariant-loop-size l = 0 < l.size
