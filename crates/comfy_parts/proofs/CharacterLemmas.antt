@@ -32,7 +32,7 @@ abbrev pub is_conjunct_mark : IndicConjunctBreak → Bool
 is_conjunct_mark InCb.Extend = true
 is_conjunct_mark _ = false
 
--- ---- no mark is a pictograph, a consonant has no value for clusters, and a mark inside a conjunct is a mark
+-- ---- no mark or joiner is a pictograph, a consonant has the value Other, and a mark inside a conjunct is an extending mark or a joiner
 
 abbrev no_pictograph : GraphemeClusterBreak → Bool → Bool
 no_pictograph g p = not (joins_before g && p)

@@ -1,5 +1,6 @@
--- A text measures at least what its end measures by itself, but for one place. A text is read from its end: a character takes
--- at most one place away from what follows it, and only where that left one for it.
+-- A text measures at least what its end measures by itself, but for one place, and without that where the end begins settled.
+-- A text is read from its end: a character takes at most one place away from what follows it, and only where that left one
+-- for it.
 use Rattle.std.proofs.Common.{◌≡◌, ◌≤◌, ℕ, ◌+◌, ◌-◌, Bool, true, false, cond, not, ◌==◌, nat_le, ◌&&◌, ◌||◌, List, [], ◌∷◌, ◌++◌, Option, Some, None, unwrap_or, refl, sym, ap, ◌∙◌, subst, arith, add_assoc, add-zero}
 use Rattle.std.specs.Int.{is_in_range}
 use Rattle.std.specs.Prelude.{IsUtf8, chars}

@@ -1,4 +1,4 @@
--- An end that is wider than a line and one place, or begins settled, shows that each longer end is wider than a line.
+-- An end that is wider than a line and one place, or is wider than a line and begins settled, shows that each longer end is wider than a line.
 use Rattle.std.proofs.Common.{◌≡◌, ◌<◌, ◌≤◌, ◌++◌, ◌∙◌, ℕ, ◌+◌, ◌-◌, length, take, drop, sym, ap, ap₂, subst, arith, length-append, length-take-le, take-add, [], ◌∷◌, refl}
 use Rattle.std.proofs.Math.Seq.{drop-append-add, drop-append_seam, take-append_seam}
 use Rattle.std.proofs.lemmas.List.{append_assoc, take-append-drop}

@@ -1,4 +1,4 @@
--- An element at a text's front, what follows it, and how much of that a line takes.
+-- An element at a text's front, what follows it, and how much of that a line takes; what is known of a long word's end, and of a long cluster.
 use Rattle.std.specs.Prelude.{◌≡◌, ℕ, ◌+◌, ◌-◌, ◌<◌, ◌≤◌, ◌==◌, nat_lt, nat_le, Bool, true, false, not, ◌&&◌, ◌||◌, List, [], ◌∷◌, ◌++◌, length, take, drop, map, reverse, chars, encode_utf8, if◌then◌else◌, IsUtf8}
 use Rattle.std.specs.Int.{is_in_range}
 use Rattle.std.specs.List.{list_all}
@@ -75,7 +75,7 @@ bytes_taken w d filled (next ∷ others) =
     else if nat_lt w (filled + 1 + measure next) then part_taken w d filled next
     else length (encode_utf8 d) + length next + bytes_taken w d (filled + measure next + measure (encode_utf8 d)) others
 
--- the value of a mark that takes places
+-- the value of a spacing mark
 abbrev pub is_spacing : GraphemeClusterBreak → Bool
 is_spacing SpacingMark = true
 is_spacing _ = false

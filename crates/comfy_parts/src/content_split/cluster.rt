@@ -1,5 +1,5 @@
-//! A cluster that is wider than a line is cut off a character at a time. What is known of it is kept from line to line,
-//! so that it isn't walked again for each of them.
+//! A cluster that is wider than a line is cut off a character at a time, or a run of marks and joiners that fits. What is
+//! known of it is kept from line to line, so that it isn't walked again for each of them.
 
 ghost use Rattle.std.specs.Prelude.{◌≡◌, ◌+◌, ◌-◌, ◌<◌, ◌≤◌, nat_lt, nat_le, ◌&&◌, length, drop, chars, IfSome};
 ghost use Rattle.std.specs.Str.{IsCharBoundary};
@@ -116,7 +116,7 @@ fn with_run(text: &str, all: Part, width: usize) -> Option<LongCluster>
     } else {
         0
     };
-    // A run that joins what follows it can't end the cluster.
+    // A run that joins what follows it doesn't end the cluster; that isn't proved, so it is tested.
     if joined > 0 && run.len() >= all.len {
         return None;
     }
@@ -145,8 +145,8 @@ fn run_len(text: &str) -> usize
     text.len()
 }
 
-// The bytes of a run up to its last linker, where only marks inside conjuncts follow this: from each place in them on, the
-// run joins a consonant behind it.
+// The bytes of a run up to and with its last linker, where only marks inside conjuncts stand behind that, and else 0. From
+// each place in these bytes on, the run joins a consonant behind it.
 fn joined_len(run: &str) -> usize
     ensures { IsLinkedUpTo run.now result }
 {

@@ -8,7 +8,8 @@ use ucd_category::{GeneralCategory, GeneralCategoryGroup};
 use ucd_derived::is_default_ignorable_code_point;
 use unicode_width::UnicodeWidthStr;
 
-// The shortest end is looked for up to so many bytes. Lines that begin in them are measured in full, which costs little.
+// The shortest end is looked for to within so many bytes. Lines that begin in them are measured in full, which costs
+// little.
 const CLOSE: usize = 8;
 
 /// The places that a text takes, by the Unicode rules for terminals. They are at most two for each of its bytes.
@@ -59,10 +60,10 @@ fn first_shown_end(word: &str, places: usize) -> Option<usize>
     shown_end(word, word.len(), places)
 }
 
-// The bytes of an end that shows that the word is wider than these places: of the end with about so many bytes, or of what
-// is left of that from where it begins settled. Behind other characters an end may measure one place less than by itself,
-// but not where it begins settled. Where nothing is found, no shorter end shows it, unless only characters that may lose a
-// place stand between.
+// The bytes of an end that shows that the word is wider than these places: of the shortest end with at least so many
+// bytes, or of what is left of that from where it begins settled. Behind other characters an end may measure one place
+// less than by itself, but not where it begins settled. Where nothing is found, no shorter end shows it, unless only
+// characters that may lose a place stand between.
 fn shown_end(word: &str, size: usize, places: usize) -> Option<usize>
     ensures { IfSome result (λ bytes. IsWideFrom places bytes word.now) }
 {
