@@ -6,7 +6,7 @@
 PROGRAM wraps what it reads: the first line is the width (docs/PERFORMANCE.md has its source). Random texts are made of
 up to five parts, of which one or two are repeated, or all. The program's instructions are counted by valgrind at 1,500 and
 at 6,000 characters, and where they grow more than 4.45 times also at 24,000. Such texts are printed with both ratios; four
-is proportion, and the logarithm of the length adds up to half.
+is proportion, and the logarithm of the length adds up to three quarters.
 """
 import random
 import re
