@@ -11,8 +11,7 @@ use Rattle.std.proofs.lemmas.List.Folds.{concat-append}
 use Rattle.std.proofs.lemmas.List.Sums.{sum_by-cons}
 use Rattle.unicode_segmentation.specs.Segments.{with_offsets}
 use Rattle.unicode_segmentation.specs.Grapheme.{is_grapheme_break}
-use Rattle.unicode_segmentation.proofs.SegmentsLemmas.{map-with_offsets, concat-segments, All-IsPieceOf, IsPieceOf, AllPieces, segments_nonempty}
-use Rattle.comfy_parts.specs.Following.{IsFirstCluster}
+use Rattle.unicode_segmentation.proofs.SegmentsLemmas.{map-with_offsets, concat-segments, All-IsPieceOf, IsPieceOf}
 use Rattle.comfy_parts.specs.Text.{Text, measure, clusters, clusters_within, head}
 
 -- a piece with the place where it begins
@@ -41,33 +40,11 @@ begins_at n (y ∷ done) x rest (p ∷ ps) e =
 around : (done : List Placed) (x : Placed) (rest : List Placed) (ps : List Text) → done ++ x ∷ rest ≡ with_offsets 0 ps → ps ≡ pieces done ++ x.1 ∷ pieces rest
 around done x rest ps e = sym (map-with_offsets 0 ps) ∙ sym (ap pieces e) ∙ map-append (λ x. x.1) done (x ∷ rest)
 
-piece : (text : Text) (done : List Placed) (x : Placed) (rest : List Placed) → IsUtf8 text → done ++ x ∷ rest ≡ with_offsets 0 (clusters text) → IsPieceOf text x
-piece text done x rest u e =
+pub boundary : (text : Text) (done : List Placed) (x : Placed) (rest : List Placed) → IsUtf8 text → done ++ x ∷ rest ≡ with_offsets 0 (clusters text) → IsCharBoundary text x.0
+boundary text done x rest u e =
     let all = All-IsPieceOf (is_grapheme_break true) text u in
     let here = subst (All (IsPieceOf text)) (sym e) all (length done) x (omega (arith, length-append done (x ∷ rest))) in
-    subst (IsPieceOf text) (get_or-append_seam done x rest x) here
-
--- it begins and ends between characters
-pub boundary : (text : Text) (done : List Placed) (x : Placed) (rest : List Placed) → IsUtf8 text → done ++ x ∷ rest ≡ with_offsets 0 (clusters text) → IsCharBoundary text x.0
-boundary text done x rest u e = (piece text done x rest u e).start
-
-pub boundary-end : (text : Text) (done : List Placed) (x : Placed) (rest : List Placed) → IsUtf8 text → done ++ x ∷ rest ≡ with_offsets 0 (clusters text) → IsCharBoundary text (x.0 + length x.1)
-boundary-end text done x rest u e = (piece text done x rest u e).end
-
--- one that begins at the text's front is the first
-pub first-placed : (text : Text) (done : List Placed) (x : Placed) (rest : List Placed) → IsUtf8 text → done ++ x ∷ rest ≡ with_offsets 0 (clusters text) → x.0 ≡ 0 → IsFirstCluster (length x.1) text
-first-placed text done x rest u e start =
-    let at = begins_at 0 done x rest (clusters text) e in
-    by_done done (around done x rest (clusters text) e) (omega (arith, at, start))
-  where
-    by_done : (done : List Placed) → clusters text ≡ pieces done ++ x.1 ∷ pieces rest → length (concat (pieces done)) ≡ 0 → IsFirstCluster (length x.1) text
-    by_done [] parts none =
-        let all : text ≡ x.1 ++ concat (pieces rest) = sym (concat-segments (is_grapheme_break true) text u) ∙ ap concat parts in
-        let front : take (length x.1) text ≡ x.1 = ap (take (length x.1)) all ∙ take-append_seam x.1 (concat (pieces rest)) in
-        record { more = pieces rest; clusters_are = parts ∙ ap (λ t. t ∷ pieces rest) (sym front) }
-    by_done (d ∷ ds) parts none =
-        let some = (subst (AllPieces (λ p. 0 < length p)) parts (segments_nonempty (is_grapheme_break true) text)).0 in
-        absurd (omega (arith, some, none, length-append d.1 (concat (pieces ds))))
+    (subst (IsPieceOf text) (get_or-append_seam done x rest x) here).start
 
 -- clusters that fit are taken, and the head goes on behind them with the places that they leave
 within-front : (k : ℕ) (qs more : List Text) → sum_by measure qs ≤ k → clusters_within k (qs ++ more) ≡ concat qs ++ clusters_within (k - sum_by measure qs) more

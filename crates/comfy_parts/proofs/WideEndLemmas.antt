@@ -1,15 +1,14 @@
--- An end that is wider than a line and one place, or is wider than a line and begins settled, shows that each longer end is wider than a line.
-use Rattle.std.proofs.Common.{◌≡◌, ◌<◌, ◌≤◌, ◌++◌, ◌∙◌, ℕ, ◌+◌, ◌-◌, length, take, drop, sym, ap, ap₂, subst, arith, length-append, length-take-le, take-add, [], ◌∷◌, refl}
+-- An end that is wider than a line and one place shows that each longer end is wider than a line.
+use Rattle.std.proofs.Common.{◌≡◌, ◌<◌, ◌≤◌, ◌++◌, ◌∙◌, ℕ, ◌+◌, ◌-◌, length, take, drop, sym, ap, ap₂, subst, arith, length-append, length-take-le, take-add, [], refl}
 use Rattle.std.proofs.Math.Seq.{drop-append-add, drop-append_seam, take-append_seam}
 use Rattle.std.proofs.lemmas.List.{append_assoc, take-append-drop}
 use Rattle.std.proofs.lemmas.Str.{IsCharBoundary-from_drop, IsUtf8-append, IsUtf8-nil, IsUtf8-take}
-use Rattle.std.specs.Prelude.{true, chars}
 use Rattle.std.specs.Str.{IsCharBoundary, IsUtf8}
-use Rattle.comfy_parts.proofs.TailLemmas.{measure-settled, measure-tail}
-use Rattle.comfy_parts.specs.Following.{begins_settled, IsFirstElement, IsSettledEnd, IsWideBehind, IsWideFrom}
+use Rattle.comfy_parts.proofs.TailLemmas.{measure-tail}
+use Rattle.comfy_parts.specs.Following.{IsFirstElement, IsWideFrom}
 use Rattle.comfy_parts.specs.Text.{Text, measure}
 
-pub wide-from : (w : ℕ) (word front end : Text) → word ≡ front ++ end → IsUtf8 end → IsWideBehind w end → IsWideFrom w (length end) word
+pub wide-from : (w : ℕ) (word front end : Text) → word ≡ front ++ end → IsUtf8 end → w + 1 < measure end → IsWideFrom w (length end) word
 wide-from w word a end joins utf8 wide front tail splits before behind long =
     let n = length a - length front in
     let lengths : length a + length end ≡ length front + length tail = sym (length-append a end) ∙ ap length (sym joins ∙ splits) ∙ length-append front tail in
@@ -18,33 +17,9 @@ wide-from w word a end joins utf8 wide front tail splits before behind long =
     let same : drop n tail ≡ end = sym (drop-append-add front tail n) ∙ ap₂ (λ (i : ℕ) (t : Text). drop i t) place (sym splits ∙ joins) ∙ drop-append_seam a end in
     let whole : take n tail ++ end ≡ tail = ap (λ t. take n tail ++ t) (sym same) ∙ take-append-drop n tail in
     let boundary = IsCharBoundary-from_drop tail n inside (subst IsUtf8 (sym same) utf8) in
-    let most = wide (take n tail) (IsUtf8-take tail n behind boundary) in
-    omega (arith, most, ap measure whole)
-
--- where an end is wider than a line and one place, or begins settled and is wider than a line, it is wide whatever stands before
-pub wide-by-two : (w : ℕ) (end : Text) → w + 1 < measure end → IsWideBehind w end
-wide-by-two w end wide front utf8 =
-    let most = measure-tail front end utf8 in
-    omega (arith, most, wide)
-
-pub wide-at-settled : (w : ℕ) (end : Text) → begins_settled (chars end) ≡ true → w < measure end → IsWideBehind w end
-wide-at-settled w end settled wide front utf8 =
-    let most = measure-settled front end utf8 settled in
-    omega (arith, most, wide)
-
--- an end's own end that begins settled shows it for the word
-pub wide-from-settled : (w : ℕ) (word front end tail : Text) → word ≡ front ++ end → IsSettledEnd end tail → w < measure tail → IsWideFrom w (length tail) word
-wide-from-settled w word front end tail joins is wide =
-    wide-from w word (front ++ is.front) tail (joins ∙ ap (λ t. front ++ t) is.joins ∙ sym (append_assoc front is.front tail)) is.whole_tail
-    (wide-at-settled w tail is.begins wide)
-
--- where nothing stands before it, it is the end itself
-pub settled-whole : (end tail : Text) → IsSettledEnd end tail → length tail ≡ length end → tail ≡ end
-settled-whole end tail is long = by_front is.front is.joins
-  where
-    by_front : (front : Text) → end ≡ front ++ tail → tail ≡ end
-    by_front [] joins = sym joins
-    by_front (b ∷ bs) joins = absurd (omega (arith, ap length joins, length-append (b ∷ bs) tail))
+    let most = measure-tail (take n tail) end (IsUtf8-take tail n behind boundary) in
+    let all = ap measure whole in
+    omega (arith, most, all, wide)
 
 -- what is wide from a number of bytes on stays so when its front is taken off
 pub wide-behind : (w bytes : ℕ) (word front rest : Text) → word ≡ front ++ rest → IsUtf8 front → IsWideFrom w bytes word → IsWideFrom w bytes rest

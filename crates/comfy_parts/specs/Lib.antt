@@ -6,5 +6,6 @@ pub mod Presets
 pub mod RowLoans
 pub mod StyleModifiers
 pub mod Text
+pub mod VisibleLines
 pub mod VisibleText
 pub mod Wrapping

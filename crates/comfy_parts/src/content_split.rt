@@ -1,21 +1,20 @@
 //! The cutting of texts: what they measure, their heads, and the lines that they are wrapped into.
 
-ghost use Rattle.std.specs.Prelude.{◌≡◌, map, take, drop, IfOk, string_bytes};
-ghost use Rattle.comfy_parts.specs.Following.{IsFirstElement, IsPart};
+ghost use Rattle.std.specs.Prelude.{◌≡◌, map, IfOk, string_bytes};
 ghost use Rattle.comfy_parts.specs.Text.{elements};
 ghost use Rattle.comfy_parts.specs.Wrapping.{IsWrapped, wrapped};
 
-mod cluster;
 pub mod display_info;
 mod ends;
 mod prefix;
+mod sequences;
 mod width;
 
 use crate::error::Result;
-use cluster::{Part, cluster_behind};
 pub use display_info::ColumnDisplayInfo;
 use ends::{first_element, line_end, line_start};
 pub use prefix::split_long_word;
+pub use sequences::visible_text;
 use std::alloc::Global;
 pub use width::measure_text_width;
 use width::wide_end;
@@ -48,35 +47,24 @@ pub fn split_line(
     let width = usize::from(info.content_width);
     let mut lines: Vec<String> = Vec::new(alloc);
     let mut rest = line_start(line, delimiter);
-    let mut word = first_word(rest, width, delimiter);
-    let mut cluster = None;
+    let (word, _) = first_element(rest, delimiter);
+    let mut first = word.len();
+    let mut wide = wide_end(word, width);
     while !rest.is_empty() {
-        let end = line_end(rest, word, cluster, width, delimiter);
+        let end = line_end(rest, first, wide, width, delimiter);
         let (front, behind) = rest.split_at(end);
         lines.push(String::from_str(alloc, front)?)?;
-        if end < word.len {
-            // The line ends inside a long word, and its rest comes next: its end isn't searched for again, nor measured.
-            let (first, _) = rest.split_at(word.len);
-            cluster = cluster_behind(first, cluster, end, width);
+        if end < first {
+            // The line ends inside a long element, and its rest comes next: its end isn't searched for again, nor
+            // measured.
             rest = behind;
-            word = word.behind(end);
+            first -= end;
         } else {
             rest = line_start(behind, delimiter);
-            word = first_word(rest, width, delimiter);
-            cluster = None;
+            let (word, _) = first_element(rest, delimiter);
+            first = word.len();
+            wide = wide_end(word, width);
         }
     }
     Ok(lines)
-}
-
-// The text's first element, and what is known of it in lines of this width.
-fn first_word(text: &str, width: usize, delimiter: char) -> Part
-    ensures part { IsPart width result.len result.wide text.now }
-    ensures element { IsFirstElement delimiter text.now (take result.len text.now) (drop result.len text.now) }
-{
-    let (word, _) = first_element(text, delimiter);
-    Part {
-        len: word.len(),
-        wide: wide_end(word, width),
-    }
 }

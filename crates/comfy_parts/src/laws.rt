@@ -4,7 +4,7 @@
 
 ghost use Rattle.std.specs.Prelude.{ℕ, List, []};
 ghost use Rattle.std.specs.Char.{IsScalar};
-ghost use Rattle.comfy_parts.specs.Laws.{CutLinesAreFull, HeadIsLongest, IsCutOutsideNarrow, LinesAreFew, LinesAreFewest, LinesFit, NeighboursFillALine, PrintableClustersAreCharacters, PrintableIsEven, PrintableMeasuresItsLength, WrappedIsOne, WrappedIsWrapped};
+ghost use Rattle.comfy_parts.specs.Laws.{ActiveIsResumed, ClosedTextsLeaveNone, CutLinesAreFull, HeadIsLongest, IsCutOutsideNarrow, LinesAreFew, LinesAreFewest, LinesAreResumed, LinesAreSeen, LinesFit, NeighboursFillALine, NoneIsLeftOpen, OtherBytesAreVisible, PrintableClustersAreCharacters, PrintableIsEven, PrintableMeasuresItsLength, SequencesAreTakenOut, SequencesLeaveTheLines, WrappedIsOne, WrappedIsWrapped};
 ghost use Rattle.comfy_parts.specs.Text.{Text};
 ghost use Rattle.comfy_parts.specs.Wrapping.{IsWrapped};
 
@@ -59,4 +59,29 @@ pub fn printable_measures_its_length()
 /// A printable ASCII indicator is even: behind printable ASCII it adds as many places as it has characters.
 pub fn printable_is_even()
     ensures { (indicator : Text) → PrintableIsEven indicator }
+{}
+
+/// What is visible of a text: a sequence at its front is taken out, any other first byte stays, and so on behind it.
+pub fn sequences_are_taken_out_in_one_pass()
+    ensures sequence { (code rest : Text) → SequencesAreTakenOut code rest }
+    ensures visible { (b : ℕ) (rest : Text) → OtherBytesAreVisible b rest }
+{}
+
+/// The lines of a cell with sequences are those of its visible texts, and the sequences taken out of what is written for
+/// a line, the line is left.
+pub fn sequences_count_nothing()
+    ensures lines { (w d : ℕ) (text_lines : List Text) → LinesAreSeen w d text_lines }
+    ensures written { (w d : ℕ) (text_lines : List Text) → SequencesLeaveTheLines w d text_lines }
+{}
+
+/// No sequence is left open at the end of a line, cut or not.
+pub fn lines_leave_no_sequence_open()
+    ensures lines { (w d : ℕ) (text_lines : List Text) → NoneIsLeftOpen w d text_lines }
+    ensures cut { (text : Text) → ClosedTextsLeaveNone text }
+{}
+
+/// Before each visible character of a line the sequences are open that are active there in its cell.
+pub fn active_sequences_are_resumed()
+    ensures text { (earlier : List Text) (text : Text) (start len k : ℕ) → ActiveIsResumed earlier text start len k }
+    ensures lines { (w d : ℕ) (text_lines : List Text) → LinesAreResumed w d text_lines }
 {}

@@ -2,8 +2,8 @@
 use Rattle.std.proofs.Common.{◌≡◌, Bool, true, List, [], ◌∷◌, ◌++◌, Option, Some, Result, Ok, Err, OnOk, IfErr, length, refl, sym, append-nil, ap, subst, ◌∙◌, arith}
 use Rattle.comfy_parts.specs.Text.{Text}
 use Rattle.comfy_run.specs.Outcome.{RunFacts, IsBeginningOnly}
-use Rattle.comfy_run.specs.Program.{Reports, settings_for}
-use Rattle.comfy_run.specs.Run.{IsAfter, plain_settings}
+use Rattle.comfy_run.specs.Program.{Reports}
+use Rattle.comfy_run.specs.Run.{IsAfter}
 use Rattle.comfy_run.specs.declared.run.error.RunError.{RunError}
 use Rattle.comfy_run.specs.declared.run.error.RunError.TheVariants.{Write}
 use Rattle.comfy_run.specs.declared.run.settings.Settings.{Settings}
@@ -20,11 +20,10 @@ reported (Err e) text old new failed all error part = λ had known.
 pub nothing_reported : (old : Option Text) (failed : Bool) → Reports [] old old failed
 nothing_reported old failed = λ had known. ([], [], known ∙ ap Some (sym (append-nil had)), refl, λ fine. refl)
 
--- without words the settings are plain
-pub plain_without_words : {A : Type 0} (args : List A) (settings : Settings) → Some settings ≡ settings_for args → length args ≡ 0 → settings ≡ plain_settings
-plain_without_words [] settings is none = cc
-plain_without_words (x ∷ more) settings is none = absurd (omega arith)
+-- settings found once are found again
+pub same_settings : (a b : Settings) (x : Option Settings) → Some a ≡ x → x ≡ Some b → a ≡ b
+same_settings a b x first second = cc
 
--- what holds under settings that are plain holds under the plain ones
-pub after_plain : {T : Type 0} (settings : Settings) (r : Result T RunError) (facts : RunFacts) → settings ≡ plain_settings → IsAfter settings r facts → IsAfter plain_settings r facts
-after_plain settings r facts plain after = subst (λ (s : Settings). IsAfter s r facts) plain after
+-- what holds under settings holds under the same ones
+pub after_same : {T : Type 0} (a b : Settings) (r : Result T RunError) (facts : RunFacts) → a ≡ b → IsAfter a r facts → IsAfter b r facts
+after_same a b r facts same after = subst (λ (s : Settings). IsAfter s r facts) same after

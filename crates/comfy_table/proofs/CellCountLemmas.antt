@@ -19,7 +19,7 @@ use Rattle.comfy_table.proofs.ListLemmas.{All-flat_map}
 use Rattle.comfy_table.specs.Laws.{count, IsPlainCell}
 use Rattle.comfy_table.specs.Lines.{cell_lines, cell_delimiter, fitting_indicator, cut_line, cut_at_height, cut_at}
 use Rattle.comfy_table.specs.Pieces.{cell_alignment, free_before, free_places, plain_piece, row_cell_lines}
-use Rattle.comfy_table.specs.TableValue.{TableValue}
+use Rattle.comfy_table.specs.TableValue.{TableValue, seen_cell}
 
 -- a line that measures at most w, and has as many characters as places
 pub record IsCountedLine (w : ℕ) (line : Text) : Type 0 where
@@ -105,16 +105,16 @@ cut_at_height-counted h w indicator lines utf8 even plain = by_test (nat_le (len
 
 -- the lines of a plain cell in a row are counted, where the indicator is even if a line is cut
 pub row_cell_lines-counted : (table : TableValue) (row : RowValue) (info : ColumnInfo) (cell : CellValue) → 1 ≤ info.content_width → IsUtf8 table.indicator
-    → IsPlainCell table info.delimiter cell
-    → ((h : ℕ) → row.max_height ≡ Some h → h < length (cell_lines info.content_width (cell_delimiter table info.delimiter cell) cell) → IsEven (fitting_indicator info.content_width table.indicator))
+    → IsPlainCell table info.delimiter (seen_cell table cell)
+    → ((h : ℕ) → row.max_height ≡ Some h → h < length (cell_lines info.content_width (cell_delimiter table info.delimiter cell) (seen_cell table cell)) → IsEven (fitting_indicator info.content_width table.indicator))
     → All (IsCountedLine info.content_width) (row_cell_lines table row info cell)
 row_cell_lines-counted table row info cell places utf8 plain even = by_height row.max_height even
   where
-    lines : All (IsPlainLine info.content_width) (cell_lines info.content_width (cell_delimiter table info.delimiter cell) cell)
-    lines = cell_lines-plain table info.delimiter info.content_width cell places plain
+    lines : All (IsPlainLine info.content_width) (cell_lines info.content_width (cell_delimiter table info.delimiter cell) (seen_cell table cell))
+    lines = cell_lines-plain table info.delimiter info.content_width (seen_cell table cell) places plain
 
-    by_height : (height : Option ℕ) → ((h : ℕ) → height ≡ Some h → h < length (cell_lines info.content_width (cell_delimiter table info.delimiter cell) cell) → IsEven (fitting_indicator info.content_width table.indicator))
-        → All (IsCountedLine info.content_width) (cut_at height info.content_width table.indicator (cell_lines info.content_width (cell_delimiter table info.delimiter cell) cell))
+    by_height : (height : Option ℕ) → ((h : ℕ) → height ≡ Some h → h < length (cell_lines info.content_width (cell_delimiter table info.delimiter cell) (seen_cell table cell)) → IsEven (fitting_indicator info.content_width table.indicator))
+        → All (IsCountedLine info.content_width) (cut_at height info.content_width table.indicator (cell_lines info.content_width (cell_delimiter table info.delimiter cell) (seen_cell table cell)))
     by_height None even = All-weaker (IsPlainLine info.content_width) (IsCountedLine info.content_width) (counted-plain info.content_width) _ lines
     by_height (Some h) even = cut_at_height-counted h info.content_width table.indicator _ utf8 (even h refl) lines
 

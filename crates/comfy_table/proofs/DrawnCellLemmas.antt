@@ -1,11 +1,13 @@
--- The lines of a row are made of the cells that its visible columns draw.
-use Rattle.std.proofs.Common.{◌≡◌, ◌<◌, ℕ, List, [], ◌∷◌, Option, Some, None, length, map, max, refl, ap, ap₂, ◌∙◌, sym, slice_index_or, zero, suc, arith}
+-- Without custom styling, the lines of a row are made of the cells that its visible columns draw.
+use Rattle.std.specs.Prelude.{if◌then◌else◌}
+use Rattle.comfy_parts.specs.VisibleLines.{CellLine}
+use Rattle.std.proofs.Common.{◌≡◌, Bool, false, ◌<◌, ℕ, List, [], ◌∷◌, Option, Some, None, length, map, max, refl, ap, ap₂, ◌∙◌, sym, slice_index_or, zero, suc, arith}
 use Rattle.std.specs.List.{range_with_len, slice_get}
 use Rattle.std.proofs.lemmas.List.{get_or-map, length-map}
 use Rattle.comfy_parts.specs.CellValue.{CellValue, RowValue, ColumnInfo}
 use Rattle.comfy_parts.specs.Text.{Text, greatest}
 use Rattle.comfy_table.specs.DrawnCells.{drawn_cell, greatest_height, height_of_lines, lines_of_optional, piece_at, piece_of_lines}
-use Rattle.comfy_table.specs.Pieces.{filling, piece, pieces_at, pieces_of_optional, row_cell_lines, row_lines, visible_infos}
+use Rattle.comfy_table.specs.Pieces.{cell_pieces, filling, piece, row_cell_texts, written_piece, pieces_at, pieces_of_optional, row_cell_lines, row_lines, visible_infos}
 use Rattle.comfy_table.specs.TableValue.{TableValue}
 
 -- a filling, whatever the line
@@ -13,18 +15,24 @@ one_filling : (info : ColumnInfo) (k : ℕ) → filling info ≡ slice_index_or 
 one_filling info zero = refl
 one_filling info (suc k) = refl
 
-module _ (table : TableValue) (row : RowValue) where
+module _ (table : TableValue) (row : RowValue) (off : table.custom_styling ≡ false) where
+  -- the pieces of a cell
+  pieces_of_cell : (info : ColumnInfo) (cell : CellValue) → map (piece table cell info) (row_cell_lines table row info cell) ≡ cell_pieces table row info cell
+  pieces_of_cell info cell =
+      sym (ap (λ (custom : Bool). if custom then map (λ (line : CellLine). written_piece table cell info line.seen line.written) (row_cell_texts table row info cell) else map (piece table cell info) (row_cell_lines table row info cell)) off)
+
   -- the piece of an optional cell
   piece_of_optional : (info : ColumnInfo) (cell : Option CellValue) (k : ℕ)
       → piece_of_lines table k info cell (lines_of_optional table row info cell) ≡ slice_index_or (pieces_of_optional table row info cell) k (filling info)
   piece_of_optional info None k = one_filling info k
-  piece_of_optional info (Some cell) k = refl
+  piece_of_optional info (Some cell) k = ap (λ (ps : List Text). slice_index_or ps k (filling info)) (pieces_of_cell info cell)
 
   -- the lines that it takes
   height_of_optional : (info : ColumnInfo) (cell : Option CellValue)
       → height_of_lines cell (lines_of_optional table row info cell) ≡ length (pieces_of_optional table row info cell)
   height_of_optional info None = refl
-  height_of_optional info (Some cell) = sym (length-map (row_cell_lines table row info cell) (piece table cell info))
+  height_of_optional info (Some cell) =
+      sym (length-map (row_cell_lines table row info cell) (piece table cell info)) ∙ ap length (pieces_of_cell info cell)
 
   -- line by line
   pub drawn_pieces : (k : ℕ) (ps : List (ℕ × ColumnInfo))

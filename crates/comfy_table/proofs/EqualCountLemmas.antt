@@ -17,7 +17,7 @@ use Rattle.comfy_table.specs.Frame.{border_count, content_line, frame_line, is_d
 use Rattle.comfy_table.specs.Laws.{count, unstyled, line_total, IsPlainCell, IsEvenWhereWritten, EqualCounts}
 use Rattle.comfy_table.specs.Lines.{cell_lines, cell_delimiter, fitting_indicator}
 use Rattle.comfy_table.specs.Pieces.{filling, pieces_of_optional, pieces_at, piece, row_cell_lines, row_line, row_lines, row_height, visible_infos}
-use Rattle.comfy_table.specs.TableValue.{TableValue, column_cells, header_and_rows}
+use Rattle.comfy_table.specs.TableValue.{TableValue, column_cells, seen_table, seen_rows}
 use Rattle.comfy_table.specs.Widths.{visible_count}
 
 -- ---- columns
@@ -83,9 +83,9 @@ pieces-counted table row p utf8 places plain even = by_option (slice_get row.cel
     by_option None plain even =
         All-cons (HasCount (info_width p.1)) (filling p.1) [] (HasCount-spaces (info_width p.1)) (All-nil (HasCount (info_width p.1)))
     by_option (Some cell) plain even =
-        All-map (HasCount (info_width p.1)) (piece (unstyled table) cell p.1) (row_cell_lines table row p.1 cell)
-        (All-weaker (IsCountedLine p.1.content_width) (λ line. HasCount (info_width p.1) (piece (unstyled table) cell p.1 line)) (HasCount-plain_piece cell p.1) (row_cell_lines table row p.1 cell)
-        (row_cell_lines-counted table row p.1 cell places utf8 (plain cell refl) (λ h. even cell h refl)))
+        All-map (HasCount (info_width p.1)) (piece (unstyled table) cell p.1) (row_cell_lines (unstyled table) row p.1 cell)
+        (All-weaker (IsCountedLine p.1.content_width) (λ line. HasCount (info_width p.1) (piece (unstyled table) cell p.1 line)) (HasCount-plain_piece cell p.1) (row_cell_lines (unstyled table) row p.1 cell)
+        (row_cell_lines-counted (unstyled table) row p.1 cell places utf8 (plain cell refl) (λ h. even cell h refl)))
 
 -- ---- the drawing
 
@@ -118,34 +118,34 @@ module _ (table : TableValue) (infos : List ColumnInfo) where
       by_test false = All-nil (HasCount total_of)
 
   -- all lines have them
-  drawing_counted : All (λ row. All (ArePiecesCounted table row) (visible_infos infos)) (header_and_rows table) → All (HasCount total_of) (drawing_of_infos (unstyled table) infos)
-  drawing_counted each = by_header table.header each
+  drawing_counted : All (λ row. All (ArePiecesCounted table row) (visible_infos infos)) (seen_rows table) → All (HasCount total_of) (drawing_of_infos (unstyled table) infos)
+  drawing_counted each = by_header (seen_table table).header each
     where
-      by_header : (header : Option RowValue) → All (λ row. All (ArePiecesCounted table row) (visible_infos infos)) (option_to_list header ++ table.rows)
-          → All (HasCount total_of) (optional_frame_line table.style table.style.top_border (visible_widths infos) ++ (drawn_header (unstyled table) infos header ++ (drawn_rows (unstyled table) infos table.rows ++ optional_frame_line table.style table.style.bottom_border (visible_widths infos))))
+      by_header : (header : Option RowValue) → All (λ row. All (ArePiecesCounted table row) (visible_infos infos)) (option_to_list header ++ (seen_table table).rows)
+          → All (HasCount total_of) (optional_frame_line table.style table.style.top_border (visible_widths infos) ++ (drawn_header (unstyled table) infos header ++ (drawn_rows (unstyled table) infos (seen_table table).rows ++ optional_frame_line table.style table.style.bottom_border (visible_widths infos))))
       by_header header each =
           All-append (HasCount total_of) _ _ (frame_counted table.style.top_border)
           (All-append (HasCount total_of) (drawn_header (unstyled table) infos header) _ (header_lines header each)
-          (All-append (HasCount total_of) (drawn_rows (unstyled table) infos table.rows) _ (rows_lines (rows_of header each)) (frame_counted table.style.bottom_border)))
+          (All-append (HasCount total_of) (drawn_rows (unstyled table) infos (seen_table table).rows) _ (rows_lines (rows_of header each)) (frame_counted table.style.bottom_border)))
         where
-          rows_of : (header : Option RowValue) → All (λ row. All (ArePiecesCounted table row) (visible_infos infos)) (option_to_list header ++ table.rows)
-              → All (λ row. All (ArePiecesCounted table row) (visible_infos infos)) table.rows
+          rows_of : (header : Option RowValue) → All (λ row. All (ArePiecesCounted table row) (visible_infos infos)) (option_to_list header ++ (seen_table table).rows)
+              → All (λ row. All (ArePiecesCounted table row) (visible_infos infos)) (seen_table table).rows
           rows_of None each = each
-          rows_of (Some row) each = All-tail (λ row. All (ArePiecesCounted table row) (visible_infos infos)) row table.rows each
+          rows_of (Some row) each = All-tail (λ row. All (ArePiecesCounted table row) (visible_infos infos)) row (seen_table table).rows each
 
-          header_lines : (header : Option RowValue) → All (λ row. All (ArePiecesCounted table row) (visible_infos infos)) (option_to_list header ++ table.rows)
+          header_lines : (header : Option RowValue) → All (λ row. All (ArePiecesCounted table row) (visible_infos infos)) (option_to_list header ++ (seen_table table).rows)
               → All (HasCount total_of) (drawn_header (unstyled table) infos header)
           header_lines None each = All-nil (HasCount total_of)
           header_lines (Some row) each =
               All-append (HasCount total_of) (drawn_row (unstyled table) infos table.style.header_lines row) _
-              (row_counted table.style.header_lines row (All-head (λ row. All (ArePiecesCounted table row) (visible_infos infos)) row table.rows each)) (frame_counted table.style.header_separator)
+              (row_counted table.style.header_lines row (All-head (λ row. All (ArePiecesCounted table row) (visible_infos infos)) row (seen_table table).rows each)) (frame_counted table.style.header_separator)
 
-          rows_lines : All (λ row. All (ArePiecesCounted table row) (visible_infos infos)) table.rows → All (HasCount total_of) (drawn_rows (unstyled table) infos table.rows)
+          rows_lines : All (λ row. All (ArePiecesCounted table row) (visible_infos infos)) (seen_table table).rows → All (HasCount total_of) (drawn_rows (unstyled table) infos (seen_table table).rows)
           rows_lines each =
-              All-join_by (HasCount total_of) (drawn_row (unstyled table) infos table.style.content_lines) (optional_frame_line table.style table.style.row_separator (visible_widths infos)) table.rows
+              All-join_by (HasCount total_of) (drawn_row (unstyled table) infos table.style.content_lines) (optional_frame_line table.style table.style.row_separator (visible_widths infos)) (seen_table table).rows
               (frame_counted table.style.row_separator)
               (All-weaker (λ row. All (ArePiecesCounted table row) (visible_infos infos)) (λ row. All (HasCount total_of) (drawn_row (unstyled table) infos table.style.content_lines row))
-              (row_counted table.style.content_lines) table.rows each)
+              (row_counted table.style.content_lines) (seen_table table).rows each)
 
 -- all lines of a plain table have the same count
 pub equal_counts : (table : TableValue) (widths : List ℕ) → EqualCounts table widths
@@ -165,8 +165,8 @@ equal_counts table widths utf8 plain arranged =
     known : All (IsKnownInfo Known) (visible_infos infos)
     known = known_from Known 0 table.columns widths plain.plain_cells
 
-    each : All (λ row. All (ArePiecesCounted table row) (visible_infos infos)) (header_and_rows table)
+    each : All (λ row. All (ArePiecesCounted table row) (visible_infos infos)) (seen_rows table)
     each k default below j other low =
-        pieces-counted table (slice_index_or (header_and_rows table) k default) (slice_index_or (visible_infos infos) j other) utf8 (known j other low).places
-        (All-given (IsPlainCell table (slice_index_or (visible_infos infos) j other).1.delimiter) (λ (row : RowValue). slice_get row.cells (slice_index_or (visible_infos infos) j other).0) (header_and_rows table) (known j other low).known k default below)
+        pieces-counted table (slice_index_or (seen_rows table) k default) (slice_index_or (visible_infos infos) j other) utf8 (known j other low).places
+        (All-given (IsPlainCell table (slice_index_or (visible_infos infos) j other).1.delimiter) (λ (row : RowValue). slice_get row.cells (slice_index_or (visible_infos infos) j other).0) (seen_rows table) (known j other low).known k default below)
         (plain.even_indicator k default below j other low)

@@ -13,7 +13,7 @@ use Rattle.comfy_parts.specs.VisibleText.{is_parameter}
 use Rattle.comfy_parts.specs.declared.style.attribute.Attribute.{Attribute}
 use Rattle.comfy_parts.specs.declared.style.color.Color.{Color}
 use Rattle.comfy_parts.specs.declared.style.color.Color.TheVariants as colors
-use Rattle.comfy_table.specs.Pieces.{padded, plain_piece, piece, spaces_before, spaces_after}
+use Rattle.comfy_table.specs.Pieces.{padded, plain_piece, spaces_before, spaces_after, written_piece}
 use Rattle.comfy_table.specs.Styling.{sequence, color_code, foreground_code, background_code, attribute_code, all_attributes, has_attribute, attribute_sequences, optional_sequence, style_begin, style_end_without_attributes, style_end, styled}
 use Rattle.comfy_table.specs.TableValue.{TableValue, should_style}
 
@@ -135,13 +135,13 @@ Shows-padded cell info line shown text shows =
     (Shows-append _ _ text (spaces_after cell info line ++ spaces info.padding.1) shows
     (Shows-append _ _ (spaces_after cell info line) (spaces info.padding.1) (Shows-spaces _) (Shows-spaces info.padding.1))))
 
--- the piece of a line that shows itself shows the plain piece
-pub Shows-piece : (table : TableValue) (cell : CellValue) (info : ColumnInfo) (line : Text) → Shows line line → Shows (plain_piece cell info line) (piece table cell info line)
-Shows-piece table cell info line shows = by_tests (should_style table) table.style_text_only
+-- the piece of a line that is written as a text which shows it shows the plain piece
+pub Shows-written_piece : (table : TableValue) (cell : CellValue) (info : ColumnInfo) (line text : Text) → Shows line text → Shows (plain_piece cell info line) (written_piece table cell info line text)
+Shows-written_piece table cell info line text shows = by_tests (should_style table) table.style_text_only
   where
     by_tests : (styles text_only : Bool)
-        → Shows (plain_piece cell info line) (if styles then (if text_only then padded cell info line (styled cell line) else styled cell (plain_piece cell info line)) else plain_piece cell info line)
-    by_tests true true = Shows-padded cell info line line (styled cell line) (Shows-styled cell line line shows)
+        → Shows (plain_piece cell info line) (if styles then (if text_only then padded cell info line (styled cell text) else styled cell (padded cell info line text)) else padded cell info line text)
+    by_tests true true = Shows-padded cell info line line (styled cell text) (Shows-styled cell line text shows)
     by_tests true false =
-        Shows-styled cell (plain_piece cell info line) (plain_piece cell info line) (Shows-padded cell info line line line shows)
-    by_tests false text_only = Shows-padded cell info line line line shows
+        Shows-styled cell (plain_piece cell info line) (padded cell info line text) (Shows-padded cell info line line text shows)
+    by_tests false text_only = Shows-padded cell info line line text shows

@@ -1,10 +1,10 @@
 -- The sequences taken out of the styled lines, the unstyled lines are left.
-use Rattle.std.proofs.Common.{◌≡◌, ◌<◌, ℕ, zero, suc, Bool, true, false, ◌==◌, List, [], ◌∷◌, ◌++◌, Option, Some, None, length, map, unwrap_or, refl, sym, ap₂, ◌∙◌, subst, arith, slice_index_or}
-use Rattle.std.specs.List.{All, AllZip, flat_map, join_by, repeat, range_with_len, slice_get}
-use Rattle.std.specs.Prelude.{if◌then◌else◌, option_to_list}
+use Rattle.std.proofs.Common.{◌≡◌, ◌<◌, ℕ, zero, suc, Bool, true, false, ◌==◌, List, [], ◌∷◌, ◌++◌, Option, Some, None, length, map, unwrap_or, refl, sym, ap₂, subst, arith, slice_index_or}
+use Rattle.std.specs.List.{All, AllByRecursion, AllZip, flat_map, join_by, repeat, range_with_len, slice_get}
+use Rattle.std.specs.Prelude.{if◌then◌else◌, option_map, option_to_list}
 use Rattle.std.specs.Str.{IsUtf8}
-use Rattle.std.proofs.lemmas.List.{length-map}
-use Rattle.std.proofs.lemmas.List.Elements.{All-head, All-tail, All-weaker}
+use Rattle.std.proofs.lemmas.Slice.Zip.{AllZip-long}
+use Rattle.std.proofs.lemmas.List.Elements.{All-cons, All-head, All-nil, All-tail, All-weaker}
 use Rattle.comfy_parts.proofs.ShownLemmas.{Shows, Shows-nil, Shows-append, Shows-clear, visible_text-is}
 use Rattle.comfy_parts.specs.CellValue.{CellValue, RowValue, ColumnInfo, info_width}
 use Rattle.comfy_parts.specs.Text.{Text, greatest}
@@ -14,12 +14,16 @@ use Rattle.comfy_parts.specs.declared.style.table_style.LineStyle.{LineStyle}
 use Rattle.comfy_parts.specs.declared.style.table_style.TableStyle.{TableStyle}
 use Rattle.comfy_table.proofs.EscapeLemmas.{HasNoEscape-character, row_cell_lines-clear}
 use Rattle.comfy_table.proofs.ListLemmas.{All-every, All-at, AllZip-map, AllZip-map_map, AllZip-append, AllZip-join_by, At-or-both}
-use Rattle.comfy_table.proofs.StyledLemmas.{Shows-spaces, Shows-piece}
+use Rattle.comfy_table.proofs.SeenLemmas.{cell_seen, get_seen, header_seen, join_by-map, row_seen, rows_seen, seen_whole}
+use Rattle.comfy_table.proofs.StyledLemmas.{Shows-spaces, Shows-written_piece}
+use Rattle.comfy_table.proofs.WrittenLemmas.{texts_seen, texts_show}
 use Rattle.comfy_table.specs.Drawing.{infos_of, visible_widths, drawn_row, drawn_header, drawn_rows, drawing_of_infos, drawing}
 use Rattle.comfy_table.specs.Frame.{character, joined, content_line, frame_line, is_drawn, optional_frame_line, draws_left_border, draws_right_border, draws_vertical_lines, left_characters, right_characters, junction_characters}
 use Rattle.comfy_table.specs.Laws.{unstyled, HasNoEscape, IsFreeOfEscapes, StylingTakenOut}
-use Rattle.comfy_table.specs.Pieces.{filling, pieces_of_optional, pieces_at, piece, row_cell_lines, row_line, row_height, visible_infos}
-use Rattle.comfy_table.specs.TableValue.{TableValue, header_and_rows}
+use Rattle.comfy_table.specs.Lines.{cell_delimiter, cell_lines, cut_at}
+use Rattle.comfy_parts.specs.VisibleLines.{CellLine}
+use Rattle.comfy_table.specs.Pieces.{cell_pieces, plain_piece, row_cell_texts, written_piece, filling, pieces_of_optional, pieces_at, piece, row_cell_lines, row_line, row_height, visible_infos}
+use Rattle.comfy_table.specs.TableValue.{TableValue, header_and_rows, seen_cell, seen_rows, visible_row}
 
 -- ---- framed lines
 
@@ -125,70 +129,116 @@ record IsClearRow (row : RowValue) : Type 0 where
   clear : All (λ (cell : CellValue). All HasNoEscape cell.text_lines) row.cells
   whole : All (λ (cell : CellValue). All IsUtf8 cell.text_lines) row.cells
 
--- the pieces of a cell show the unstyled ones
-pieces_show : (table : TableValue) (row : RowValue) (p : ℕ × ColumnInfo) → HasNoEscape table.indicator → IsClearRow row → AllZip Shows (pieces_at (unstyled table) row p) (pieces_at table row p)
-pieces_show table row p mark cells = by_option (slice_get row.cells p.0) refl
+-- a list of lines shows what is seen of each
+seen_shown : (f : CellLine → Text) (g : Text → Text) (lines : List CellLine) → AllByRecursion (λ (line : CellLine). Shows (g line.seen) (f line)) lines → AllZip Shows (map g (map (λ (line : CellLine). line.seen) lines)) (map f lines)
+seen_shown f g [] each = tt
+seen_shown f g (line ∷ lines) each = (each.0, seen_shown f g lines each.1)
+
+-- what follows for each line
+each_follows : (P Q : CellLine → Type 0) (lines : List CellLine) → ((line : CellLine) → P line → Q line) → AllByRecursion P lines → AllByRecursion Q lines
+each_follows P Q [] follows each = tt
+each_follows P Q (line ∷ lines) follows each = (follows line each.0, each_follows P Q lines follows each.1)
+
+-- the pieces of a cell show the unstyled ones of the cell as it is seen, with custom styling or without
+cell_pieces_show : (table : TableValue) (row : RowValue) (info : ColumnInfo) (cell : CellValue) → HasNoEscape table.indicator → All IsUtf8 (seen_cell table cell).text_lines → All HasNoEscape (seen_cell table cell).text_lines
+    → AllZip Shows (map (plain_piece cell info) (row_cell_lines table row info cell)) (cell_pieces table row info cell)
+cell_pieces_show table row info cell mark = by_setting table.custom_styling
   where
-    by_option : (o : Option CellValue) → slice_get row.cells p.0 ≡ o → AllZip Shows (pieces_of_optional (unstyled table) row p.1 o) (pieces_of_optional table row p.1 o)
+    d : ℕ
+    d = cell_delimiter table info.delimiter cell
+
+    by_setting : (custom : Bool) → All IsUtf8 (cell_seen custom cell).text_lines → All HasNoEscape (cell_seen custom cell).text_lines
+        → AllZip Shows (map (plain_piece cell info) (cut_at row.max_height info.content_width table.indicator (cell_lines info.content_width d (cell_seen custom cell))))
+        (if custom
+        then map (λ (line : CellLine). written_piece table cell info line.seen line.written) (row_cell_texts table row info cell)
+        else map (piece table cell info) (cut_at row.max_height info.content_width table.indicator (cell_lines info.content_width d (cell_seen custom cell))))
+    by_setting true whole clear =
+        subst (λ (lines : List Text). AllZip Shows (map (plain_piece cell info) lines) (map (λ (line : CellLine). written_piece table cell info line.seen line.written) (row_cell_texts table row info cell))) (texts_seen table row info cell)
+        (seen_shown (λ (line : CellLine). written_piece table cell info line.seen line.written) (plain_piece cell info) (row_cell_texts table row info cell)
+        (each_follows (λ (line : CellLine). Shows line.seen line.written) (λ (line : CellLine). Shows (plain_piece cell info line.seen) (written_piece table cell info line.seen line.written)) (row_cell_texts table row info cell)
+        (λ line shows. Shows-written_piece table cell info line.seen line.written shows) (texts_show table row info cell mark whole clear)))
+    by_setting false whole clear =
+        let lines : List Text = cut_at row.max_height info.content_width table.indicator (cell_lines info.content_width d cell) in
+        AllZip-map Shows (plain_piece cell info) (piece table cell info) lines
+        (All-weaker HasNoEscape (λ line. Shows (plain_piece cell info line) (piece table cell info line)) (λ line free. Shows-written_piece table cell info line line (Shows-clear line free)) lines
+        (row_cell_lines-clear (unstyled table) row info cell mark whole clear))
+
+-- so do the pieces in a column
+pieces_show : (table : TableValue) (row : RowValue) (p : ℕ × ColumnInfo) → HasNoEscape table.indicator → IsClearRow (row_seen table.custom_styling row)
+    → AllZip Shows (pieces_at (unstyled table) (row_seen table.custom_styling row) p) (pieces_at table row p)
+pieces_show table row p mark cells =
+    subst (λ (o : Option CellValue). AllZip Shows (pieces_of_optional (unstyled table) (row_seen table.custom_styling row) p.1 o) (pieces_at table row p)) (sym (get_seen table.custom_styling row.cells p.0))
+    (by_option (slice_get row.cells p.0) (get_seen table.custom_styling row.cells p.0))
+  where
+    by_option : (o : Option CellValue) → slice_get (row_seen table.custom_styling row).cells p.0 ≡ option_map (cell_seen table.custom_styling) o
+        → AllZip Shows (pieces_of_optional (unstyled table) (row_seen table.custom_styling row) p.1 (option_map (cell_seen table.custom_styling) o)) (pieces_of_optional table row p.1 o)
     by_option None none = (Shows-spaces (info_width p.1), tt)
     by_option (Some cell) found =
-        AllZip-map Shows (piece (unstyled table) cell p.1) (piece table cell p.1) (row_cell_lines table row p.1 cell)
-        (All-weaker HasNoEscape (λ line. Shows (piece (unstyled table) cell p.1 line) (piece table cell p.1 line)) (λ line clear. Shows-piece table cell p.1 line (Shows-clear line clear)) (row_cell_lines table row p.1 cell)
-        (row_cell_lines-clear table row p.1 cell mark (All-at (λ (cell : CellValue). All IsUtf8 cell.text_lines) row.cells p.0 cell cells.whole found)
-        (All-at (λ (cell : CellValue). All HasNoEscape cell.text_lines) row.cells p.0 cell cells.clear found)))
+        cell_pieces_show table row p.1 cell mark
+        (All-at (λ (cell : CellValue). All IsUtf8 cell.text_lines) (row_seen table.custom_styling row).cells p.0 (cell_seen table.custom_styling cell) cells.whole found)
+        (All-at (λ (cell : CellValue). All HasNoEscape cell.text_lines) (row_seen table.custom_styling row).cells p.0 (cell_seen table.custom_styling cell) cells.clear found)
 
--- styling changes no height
-row_height-unstyled : (table : TableValue) (infos : List ColumnInfo) (row : RowValue) → row_height (unstyled table) infos row ≡ row_height table infos row
-row_height-unstyled table infos row = λ i. greatest (map (λ (p : ℕ × ColumnInfo). at p (slice_get row.cells p.0) i) (visible_infos infos))
-  where
-    at : (p : ℕ × ColumnInfo) (o : Option CellValue) → length (pieces_of_optional (unstyled table) row p.1 o) ≡ length (pieces_of_optional table row p.1 o)
-    at p None = refl
-    at p (Some cell) =
-        length-map (row_cell_lines table row p.1 cell) (piece (unstyled table) cell p.1) ∙ sym (length-map (row_cell_lines table row p.1 cell) (piece table cell p.1))
+module _ (table : TableValue) (infos : List ColumnInfo) (mark : HasNoEscape table.indicator) where
+  -- a row as it is seen
+  abbrev seen : RowValue → RowValue
+  seen row = row_seen table.custom_styling row
 
--- the lines of a row show the unstyled ones
-row_shows : (table : TableValue) (infos : List ColumnInfo) (line : ContentLineStyle) (row : RowValue) → HasNoEscape table.indicator → IsClearContent line → IsClearRow row → AllZip Shows (drawn_row (unstyled table) infos line row) (drawn_row table infos line row)
-row_shows table infos line row mark clear cells =
-    subst (λ h. AllZip Shows (map (content_line table.style line) (map (row_line (unstyled table) infos row) (range_with_len 0 h))) (drawn_row table infos line row)) (sym (row_height-unstyled table infos row))
-    (AllZip-map_map Shows (content_line table.style line) (row_line (unstyled table) infos row) (row_line table infos row) (range_with_len 0 (row_height table infos row)) at)
-  where
-    at : (k : ℕ) → Shows (content_line table.style line (row_line (unstyled table) infos row k)) (content_line table.style line (row_line table infos row k))
-    at k =
-        Shows-joined table.style line.left line.junction line.right (row_line (unstyled table) infos row k) (row_line table infos row k) clear.left clear.junction clear.right
-        (AllZip-map Shows (λ (p : ℕ × ColumnInfo). slice_index_or (pieces_at (unstyled table) row p) k (filling p.1)) (λ (p : ℕ × ColumnInfo). slice_index_or (pieces_at table row p) k (filling p.1)) (visible_infos infos)
-        (All-every (λ (p : ℕ × ColumnInfo). Shows (slice_index_or (pieces_at (unstyled table) row p) k (filling p.1)) (slice_index_or (pieces_at table row p) k (filling p.1))) (visible_infos infos)
-        (λ p. At-or-both Shows (pieces_at (unstyled table) row p) (pieces_at table row p) k (filling p.1) (filling p.1) (pieces_show table row p mark cells) (Shows-spaces (info_width p.1)))))
+  -- styling changes no height
+  row_height-unstyled : (row : RowValue) → IsClearRow (seen row) → row_height (unstyled table) infos (seen row) ≡ row_height table infos row
+  row_height-unstyled row cells = λ i. greatest (map (λ (p : ℕ × ColumnInfo). at p i) (visible_infos infos))
+    where
+      at : (p : ℕ × ColumnInfo) → length (pieces_at (unstyled table) (seen row) p) ≡ length (pieces_at table row p)
+      at p = sym (AllZip-long Shows (pieces_at (unstyled table) (seen row) p) (pieces_at table row p) (pieces_show table row p mark cells))
 
--- ---- the drawing
+  -- the lines of a row show the unstyled ones
+  row_shows : (line : ContentLineStyle) (row : RowValue) → IsClearContent line → IsClearRow (seen row) → AllZip Shows (drawn_row (unstyled table) infos line (seen row)) (drawn_row table infos line row)
+  row_shows line row clear cells =
+      subst (λ h. AllZip Shows (map (content_line table.style line) (map (row_line (unstyled table) infos (seen row)) (range_with_len 0 h))) (drawn_row table infos line row)) (sym (row_height-unstyled row cells))
+      (AllZip-map_map Shows (content_line table.style line) (row_line (unstyled table) infos (seen row)) (row_line table infos row) (range_with_len 0 (row_height table infos row)) at)
+    where
+      at : (k : ℕ) → Shows (content_line table.style line (row_line (unstyled table) infos (seen row) k)) (content_line table.style line (row_line table infos row k))
+      at k =
+          Shows-joined table.style line.left line.junction line.right (row_line (unstyled table) infos (seen row) k) (row_line table infos row k) clear.left clear.junction clear.right
+          (AllZip-map Shows (λ (p : ℕ × ColumnInfo). slice_index_or (pieces_at (unstyled table) (seen row) p) k (filling p.1)) (λ (p : ℕ × ColumnInfo). slice_index_or (pieces_at table row p) k (filling p.1)) (visible_infos infos)
+          (All-every (λ (p : ℕ × ColumnInfo). Shows (slice_index_or (pieces_at (unstyled table) (seen row) p) k (filling p.1)) (slice_index_or (pieces_at table row p) k (filling p.1))) (visible_infos infos)
+          (λ p. At-or-both Shows (pieces_at (unstyled table) (seen row) p) (pieces_at table row p) k (filling p.1) (filling p.1) (pieces_show table row p mark cells) (Shows-spaces (info_width p.1)))))
 
-module _ (table : TableValue) (infos : List ColumnInfo) (mark : HasNoEscape table.indicator) (style : IsClearStyle table.style) where
+  -- ---- the drawing
+
   -- all lines show the unstyled ones
-  drawing_shows : All IsClearRow (header_and_rows table) → AllZip Shows (drawing_of_infos (unstyled table) infos) (drawing_of_infos table infos)
-  drawing_shows each =
+  drawing_shows : IsClearStyle table.style → All (λ (row : RowValue). IsClearRow (seen row)) (header_and_rows table) → AllZip Shows (drawing_of_infos (unstyled table) infos) (drawing_of_infos table infos)
+  drawing_shows style each =
       AllZip-append Shows (optional_frame_line table.style table.style.top_border (visible_widths infos)) _ (optional_frame_line table.style table.style.top_border (visible_widths infos)) _
       (frame_shows table.style table.style.top_border (visible_widths infos) style.top_border)
-      (AllZip-append Shows (drawn_header (unstyled table) infos table.header) _ (drawn_header table infos table.header) _ (header_shows table.header each)
-      (AllZip-append Shows (drawn_rows (unstyled table) infos table.rows) _ (drawn_rows table infos table.rows) _ (rows_show (rows_of table.header each))
+      (AllZip-append Shows (drawn_header (unstyled table) infos (unstyled table).header) _ (drawn_header table infos table.header) _
+      (subst (λ (header : Option RowValue). AllZip Shows (drawn_header (unstyled table) infos header) (drawn_header table infos table.header)) (sym (header_seen table.custom_styling table.header)) (header_shows table.header each))
+      (AllZip-append Shows (drawn_rows (unstyled table) infos (unstyled table).rows) _ (drawn_rows table infos table.rows) _
+      (subst (λ (rows : List RowValue). AllZip Shows (drawn_rows (unstyled table) infos rows) (drawn_rows table infos table.rows)) (sym (rows_seen table.custom_styling table.rows)) (rows_show (rows_of table.header each)))
       (frame_shows table.style table.style.bottom_border (visible_widths infos) style.bottom_border)))
     where
-      rows_of : (header : Option RowValue) → All IsClearRow (option_to_list header ++ table.rows) → All IsClearRow table.rows
-      rows_of None each = each
-      rows_of (Some row) each = All-tail IsClearRow row table.rows each
+      IsClearSeen : RowValue → Type 0
+      IsClearSeen row = IsClearRow (seen row)
 
-      header_shows : (header : Option RowValue) → All IsClearRow (option_to_list header ++ table.rows) → AllZip Shows (drawn_header (unstyled table) infos header) (drawn_header table infos header)
+      rows_of : (header : Option RowValue) → All IsClearSeen (option_to_list header ++ table.rows) → All IsClearSeen table.rows
+      rows_of None each = each
+      rows_of (Some row) each = All-tail IsClearSeen row table.rows each
+
+      header_shows : (header : Option RowValue) → All IsClearSeen (option_to_list header ++ table.rows) → AllZip Shows (drawn_header (unstyled table) infos (option_map seen header)) (drawn_header table infos header)
       header_shows None each = tt
       header_shows (Some row) each =
-          AllZip-append Shows (drawn_row (unstyled table) infos table.style.header_lines row) _ (drawn_row table infos table.style.header_lines row) _
-          (row_shows table infos table.style.header_lines row mark style.header_lines (All-head IsClearRow row table.rows each))
+          AllZip-append Shows (drawn_row (unstyled table) infos table.style.header_lines (seen row)) _ (drawn_row table infos table.style.header_lines row) _
+          (row_shows table.style.header_lines row style.header_lines (All-head IsClearSeen row table.rows each))
           (frame_shows table.style table.style.header_separator (visible_widths infos) style.header_separator)
 
-      rows_show : All IsClearRow table.rows → AllZip Shows (drawn_rows (unstyled table) infos table.rows) (drawn_rows table infos table.rows)
+      rows_show : All IsClearSeen table.rows → AllZip Shows (drawn_rows (unstyled table) infos (map seen table.rows)) (drawn_rows table infos table.rows)
       rows_show each =
-          AllZip-join_by Shows (drawn_row (unstyled table) infos table.style.content_lines) (drawn_row table infos table.style.content_lines)
+          subst (λ (lines : List Text). AllZip Shows lines (drawn_rows table infos table.rows))
+          (sym (join_by-map (drawn_row (unstyled table) infos table.style.content_lines) (optional_frame_line table.style table.style.row_separator (visible_widths infos)) seen table.rows))
+          (AllZip-join_by Shows (λ (row : RowValue). drawn_row (unstyled table) infos table.style.content_lines (seen row)) (drawn_row table infos table.style.content_lines)
           (optional_frame_line table.style table.style.row_separator (visible_widths infos)) (optional_frame_line table.style table.style.row_separator (visible_widths infos)) table.rows
           (frame_shows table.style table.style.row_separator (visible_widths infos) style.row_separator)
-          (All-weaker IsClearRow (λ row. AllZip Shows (drawn_row (unstyled table) infos table.style.content_lines row) (drawn_row table infos table.style.content_lines row))
-          (λ row cells. row_shows table infos table.style.content_lines row mark style.content_lines cells) table.rows each)
+          (All-weaker IsClearSeen (λ row. AllZip Shows (drawn_row (unstyled table) infos table.style.content_lines (seen row)) (drawn_row table infos table.style.content_lines row))
+          (λ row cells. row_shows table.style.content_lines row style.content_lines cells) table.rows each))
 
 -- lines that show these have them as their visible texts
 visible_texts-are : (shown texts : List Text) → AllZip Shows shown texts → map visible_text texts ≡ shown
@@ -198,8 +248,31 @@ visible_texts-are (s ∷ shown) [] each = absurd each
 visible_texts-are (s ∷ shown) (text ∷ texts) each =
     ap₂ (λ x xs. x ∷ xs) (visible_text-is s text each.0) (visible_texts-are shown texts each.1)
 
--- the sequences taken out of the styled lines, the unstyled lines are left
+-- the rows of a table as it is seen, row by row
+rows_clear : (table : TableValue) → All IsClearRow (seen_rows table) → All (λ (row : RowValue). IsClearRow (row_seen table.custom_styling row)) (header_and_rows table)
+rows_clear table each = by_setting table.custom_styling each
+  where
+    every : (custom : Bool) (rows : List RowValue) → All IsClearRow (map (row_seen custom) rows) → All (λ (row : RowValue). IsClearRow (row_seen custom row)) rows
+    every custom [] each = All-nil (λ (row : RowValue). IsClearRow (row_seen custom row))
+    every custom (row ∷ rows) each =
+        All-cons (λ (row : RowValue). IsClearRow (row_seen custom row)) row rows (All-head IsClearRow (row_seen custom row) (map (row_seen custom) rows) each)
+        (every custom rows (All-tail IsClearRow (row_seen custom row) (map (row_seen custom) rows) each))
+
+    with_header : (custom : Bool) (header : Option RowValue) → All IsClearRow (option_to_list (option_map (row_seen custom) header) ++ map (row_seen custom) table.rows)
+        → All (λ (row : RowValue). IsClearRow (row_seen custom row)) (option_to_list header ++ table.rows)
+    with_header custom None each = every custom table.rows each
+    with_header custom (Some row) each =
+        All-cons (λ (row : RowValue). IsClearRow (row_seen custom row)) row table.rows (All-head IsClearRow (row_seen custom row) (map (row_seen custom) table.rows) each)
+        (every custom table.rows (All-tail IsClearRow (row_seen custom row) (map (row_seen custom) table.rows) each))
+
+    by_setting : (custom : Bool) → All IsClearRow (option_to_list (if custom then option_map visible_row table.header else table.header) ++ (if custom then map visible_row table.rows else table.rows))
+        → All (λ (row : RowValue). IsClearRow (row_seen custom row)) (header_and_rows table)
+    by_setting custom each =
+        with_header custom table.header (subst (λ (header : Option RowValue). All IsClearRow (option_to_list header ++ map (row_seen custom) table.rows)) (header_seen custom table.header)
+        (subst (λ (rows : List RowValue). All IsClearRow (option_to_list (if custom then option_map visible_row table.header else table.header) ++ rows)) (rows_seen custom table.rows) each))
+
+-- the sequences taken out of the drawn lines, the unstyled lines are left
 pub styling_taken_out : (table : TableValue) (widths : List ℕ) → StylingTakenOut table widths
 styling_taken_out table widths whole free =
     visible_texts-are (drawing (unstyled table) widths) (drawing table widths) (drawing_shows table (infos_of table widths) free.indicator (style_clear table free)
-    (λ k default below. record { clear = free.text_lines k default below; whole = whole k default below }))
+    (rows_clear table (λ k default below. record { clear = free.text_lines k default below; whole = seen_whole table whole k default below })))

@@ -12,8 +12,9 @@ use Rattle.comfy_parts.specs.declared.style.color.Color.{Color}
 use Rattle.comfy_parts.specs.declared.style.color.Color.TheVariants.{Reset, Green, Black, Rgb, AnsiValue}
 use Rattle.comfy_table.proofs.TrialTables.{texts}
 use Rattle.comfy_table.specs.Pieces.{piece}
-use Rattle.comfy_table.specs.TableValue.{TableValue, new_table, with_row, max_content_widths}
-use Rattle.comfy_table.specs.VisibleLines.{line_texts, visible_table, cut_line_text}
+use Rattle.comfy_table.specs.TableValue.{TableValue, new_table, with_row, max_content_widths, seen_table}
+use Rattle.comfy_parts.specs.VisibleLines.{CellLine, line_texts}
+use Rattle.comfy_table.specs.Drawing.{drawing}
 use Rattle.comfy_table.specs.Arrangement.{IsDrawingOf}
 use Rattle.comfy_parts.specs.declared.style.table.ContentArrangement.TheVariants.{Dynamic}
 
@@ -68,40 +69,78 @@ nothing_set = refl
 
 -- ---- sequences in cells
 
-over_two_lines : line_texts 10 0x20 (plain_cell (codes "hello\u{1b}[34m\u{1b}[2m123\n456\u{1b}[0mcell1")) ≡ (codes "hello123", codes "hello\u{1b}[34m\u{1b}[2m123\u{1b}[0m") ∷ (codes "456cell1", codes "\u{1b}[34m\u{1b}[2m456\u{1b}[0mcell1") ∷ []
+-- a line as it is seen and as it is written
+abbrev as_line : String → String → CellLine
+as_line seen written = record { seen = codes seen; written = codes written }
+
+over_two_lines : line_texts 10 0x20 (codes "hello\u{1b}[34m\u{1b}[2m123" ∷ codes "456\u{1b}[0mcell1" ∷ []) ≡ as_line "hello123" "hello\u{1b}[34m\u{1b}[2m123\u{1b}[0m" ∷ as_line "456cell1" "\u{1b}[34m\u{1b}[2m456\u{1b}[0mcell1" ∷ []
 unfolding wrapping
 over_two_lines = refl
 
-over_a_break : line_texts 3 0x20 (plain_cell (codes "\u{1b}[1mabcdef\u{1b}[0m")) ≡ (codes "abc", codes "\u{1b}[1mabc\u{1b}[0m") ∷ (codes "def", codes "\u{1b}[1mdef\u{1b}[0m") ∷ []
+-- `ESC[m` closes nothing, and so is resumed and closed itself
+other_resets : line_texts 2 0x20 (codes "\u{1b}[1mab\u{1b}[mcd" ∷ []) ≡ as_line "ab" "\u{1b}[1mab\u{1b}[0m" ∷ as_line "cd" "\u{1b}[1m\u{1b}[mcd\u{1b}[0m" ∷ []
 unfolding wrapping
-over_a_break = refl
+other_resets = refl
 
-over_a_space : line_texts 1 0x20 (plain_cell (codes "a\u{1b}[31m b\u{1b}[0m c")) ≡ (codes "a", codes "a") ∷ (codes "b", codes "\u{1b}[31mb\u{1b}[0m") ∷ (codes "c", codes "c") ∷ []
+-- a text line of sequences alone is an empty line, and they stay active
+sequences_alone : line_texts 5 0x20 (codes "\u{1b}[1m" ∷ codes "a\u{1b}[0m" ∷ codes "\u{1b}[0m" ∷ []) ≡ as_line "" "" ∷ as_line "a" "\u{1b}[1ma\u{1b}[0m" ∷ as_line "" "" ∷ []
+unfolding wrapping
+sequences_alone = refl
+
+-- an ESC that begins no sequence is seen, also where what is taken out would join to one
+visible_escapes : line_texts 9 0x20 (codes "\u{1b}[\u{1b}[1m1mx\u{1b}" ∷ []) ≡ as_line "\u{1b}[1mx\u{1b}" "\u{1b}[\u{1b}[1m1mx\u{1b}\u{1b}[0m" ∷ []
+unfolding wrapping
+visible_escapes = refl
+
+-- ---- tables with custom styling
+
+abbrev custom_cell : CellValue → TableValue
+custom_cell cell = record (with_row (plain_row (cell ∷ [])) (new_table ascii_full)) { custom_styling = true }
+
+abbrev bold_letters : TableValue
+bold_letters = custom_cell (plain_cell (codes "\u{1b}[1mabcdef\u{1b}[0m"))
+
+custom_contents : max_content_widths bold_letters ≡ 6 ∷ []
+unfolding wrapping
+custom_contents = refl
+
+seen_drawing : IsDrawingOf (seen_table bold_letters) (texts ("+--------+" ∷ "| abcdef |" ∷ "+--------+" ∷ []))
+unfolding wrapping
+seen_drawing = (6 ∷ [], record { one_for_each = refl; hidden_widths = refl; visible_widths = refl }, refl)
+
+seen_dynamic_drawing : IsDrawingOf (seen_table (record bold_letters { arrangement = Dynamic; set_width = Some 7 })) (texts ("+-----+" ∷ "| abc |" ∷ "| def |" ∷ "+-----+" ∷ []))
+unfolding wrapping
+seen_dynamic_drawing =
+    (3 ∷ [], record { one_for_each = refl; hidden_widths = refl; visible_widths = (record { lower = []; level = Some 3; shrunk = [] }, record { lower_taken = refl; level_found = (lit≤ tt, lit≤ tt, lit≤ tt, λ some. refl); shrunk_taken = refl; widths_are = refl }) }, refl)
+
+over_a_break : IsDrawingOf (record bold_letters { arrangement = Dynamic; set_width = Some 7 }) (texts ("+-----+" ∷ "| \u{1b}[1mabc\u{1b}[0m |" ∷ "| \u{1b}[1mdef\u{1b}[0m |" ∷ "+-----+" ∷ []))
+unfolding wrapping
+over_a_break =
+    (3 ∷ [], record { one_for_each = refl; hidden_widths = refl; visible_widths = (record { lower = []; level = Some 3; shrunk = [] }, record { lower_taken = refl; level_found = (lit≤ tt, lit≤ tt, lit≤ tt, λ some. refl); shrunk_taken = refl; widths_are = refl }) }, refl)
+
+-- a cut line keeps no sequence
+cut_without_sequences : drawing (record bold_letters { rows = record (plain_row (plain_cell (codes "\u{1b}[1mabcdef\u{1b}[0m") ∷ [])) { max_height = Some 1 } ∷ [] }) (3 ∷ []) ≡ texts ("+-----+" ∷ "| ab… |" ∷ "+-----+" ∷ [])
+unfolding wrapping
+cut_without_sequences = refl
+
+-- one that its indicator brings is closed
+cut_and_closed : drawing (record bold_letters { rows = record (plain_row (plain_cell (codes "\u{1b}[1mabcdefghi\u{1b}[0m") ∷ [])) { max_height = Some 1 } ∷ []; indicator = codes "\u{1b}[2m" }) (6 ∷ []) ≡ texts ("+--------+" ∷ "| ab\u{1b}[2m\u{1b}[0m |" ∷ "+--------+" ∷ [])
+unfolding wrapping
+cut_and_closed = refl
+
+over_a_space : drawing (custom_cell (plain_cell (codes "a\u{1b}[31m bc\u{1b}[0m d"))) (2 ∷ []) ≡ texts ("+----+" ∷ "| a  |" ∷ "| \u{1b}[31mbc\u{1b}[0m |" ∷ "| d  |" ∷ "+----+" ∷ [])
 unfolding wrapping
 over_a_space = refl
 
-inside_a_sequence_nothing_divides : line_texts 1 0x6D (plain_cell (codes "a\u{1b}[1mb")) ≡ (codes "a", codes "a") ∷ (codes "b", codes "\u{1b}[1mb\u{1b}[0m") ∷ []
+over_each_space : line_texts 1 0x20 (codes "a\u{1b}[31m b\u{1b}[0m c" ∷ []) ≡ as_line "a" "a" ∷ as_line "b" "\u{1b}[31mb\u{1b}[0m" ∷ as_line "c" "c" ∷ []
+unfolding wrapping
+over_each_space = refl
+
+inside_a_sequence_nothing_divides : line_texts 1 0x6D (codes "a\u{1b}[1mb" ∷ []) ≡ as_line "a" "a" ∷ as_line "b" "\u{1b}[1mb\u{1b}[0m" ∷ []
 unfolding wrapping
 inside_a_sequence_nothing_divides = refl
 
--- ---- tables of visible texts
-
-abbrev bold_letters : TableValue
-bold_letters = visible_table (with_row (plain_row (plain_cell (codes "\u{1b}[1mabcdef\u{1b}[0m") ∷ [])) (new_table ascii_full))
-
-visible_contents : max_content_widths bold_letters ≡ 6 ∷ []
+-- a cell's own colours stand round its line
+round_the_line : drawing (record (custom_cell (record (plain_cell (codes "\u{1b}[1mx")) { foreground = Some Green })) { enforce_styling = true; style_text_only = true }) (2 ∷ []) ≡ texts ("+----+" ∷ "| \u{1b}[38;5;10m\u{1b}[1mx\u{1b}[0m\u{1b}[39m  |" ∷ "+----+" ∷ [])
 unfolding wrapping
-visible_contents = refl
-
-visible_drawing : IsDrawingOf bold_letters (texts ("+--------+" ∷ "| abcdef |" ∷ "+--------+" ∷ []))
-unfolding wrapping
-visible_drawing = (6 ∷ [], record { one_for_each = refl; hidden_widths = refl; visible_widths = refl }, refl)
-
-visible_dynamic_drawing : IsDrawingOf (record bold_letters { arrangement = Dynamic; set_width = Some 7 }) (texts ("+-----+" ∷ "| abc |" ∷ "| def |" ∷ "+-----+" ∷ []))
-unfolding wrapping
-visible_dynamic_drawing =
-    (3 ∷ [], record { one_for_each = refl; hidden_widths = refl; visible_widths = (record { lower = []; level = Some 3; shrunk = [] }, record { lower_taken = refl; level_found = (lit≤ tt, lit≤ tt, lit≤ tt, λ some. refl); shrunk_taken = refl; widths_are = refl }) }, refl)
-
--- a cut line keeps no sequence; one that its indicator brings is closed
-cut_texts : (cut_line_text (codes "ab...") ≡ codes "ab...") × (cut_line_text (codes "ab\u{1b}[1m") ≡ codes "ab\u{1b}[1m\u{1b}[0m")
-cut_texts = (refl, refl)
+round_the_line = refl

@@ -1,20 +1,21 @@
 -- What drawings and widths promise beyond their definitions. Each is a statement at given values.
-use Rattle.std.specs.Prelude.{◌≡◌, ℕ, ◌+◌, ◌-◌, ◌<◌, ◌≤◌, Bool, true, false, List, [], ◌∷◌, ◌++◌, Option, Some, None, map, length, max, min, sum, sum_by, All, IsUtf8, chars, slice_get, unwrap_or, ◌==◌, nat_lt}
+use Rattle.std.specs.Prelude.{◌≡◌, ℕ, ◌+◌, ◌-◌, ◌<◌, ◌≤◌, Bool, true, false, List, [], ◌∷◌, ◌++◌, Option, Some, None, map, take, drop, length, max, min, sum, sum_by, All, IsUtf8, chars, slice_get, unwrap_or, ◌==◌, nat_lt}
 use Rattle.std.specs.Int.{is_in_range}
-use Rattle.std.specs.List.{AllZip, list_any}
+use Rattle.std.specs.List.{AllByRecursion, AllZip, list_any}
 use Rattle.comfy_parts.specs.CellValue.{CellValue, RowValue, ColumnValue, ColumnInfo, column_padding}
 use Rattle.comfy_parts.specs.Text.{Text, is_printable_ascii, IsEven}
-use Rattle.comfy_parts.specs.VisibleText.{Part, parts, parts_before, open_after, active, visible_text}
+use Rattle.comfy_parts.specs.Laws.{IsResumedLine}
+use Rattle.comfy_parts.specs.VisibleLines.{CellLine, line_texts}
+use Rattle.comfy_parts.specs.VisibleText.{closed, parts, open_after, visible_text}
 use Rattle.comfy_parts.specs.declared.style.table.ContentArrangement.TheVariants.{Dynamic, DynamicFullWidth}
 use Rattle.comfy_table.specs.Arrangement.{IsArranged}
 use Rattle.comfy_table.specs.Drawing.{drawing, infos_of, visible_widths}
 use Rattle.comfy_table.specs.Dynamic.{Steps, IsArrangedBy, IsDynamic, content_room, early_shares, places_of, total}
 use Rattle.comfy_table.specs.Frame.{border_count, left_characters, right_characters, junction_characters}
 use Rattle.comfy_table.specs.Levels.{IsUnconstrained, IsLevelled, IsLevelledAt, IsFull}
-use Rattle.comfy_table.specs.Lines.{cell_lines, cell_delimiter, fitting_indicator}
-use Rattle.comfy_table.specs.Pieces.{visible_infos}
-use Rattle.comfy_table.specs.TableValue.{TableValue, HasTextLines, table_width, visible_columns, column_cells, header_and_rows}
-use Rattle.comfy_table.specs.VisibleLines.{line_text, line_texts}
+use Rattle.comfy_table.specs.Lines.{cell_lines, cell_delimiter, fitting_indicator, uncut_count}
+use Rattle.comfy_table.specs.Pieces.{visible_infos, row_cell_texts}
+use Rattle.comfy_table.specs.TableValue.{TableValue, HasTextLines, table_width, visible_columns, column_cells, seen_table, seen_rows}
 use Rattle.comfy_table.specs.Widths.{ColumnNeeds, visible_count}
 
 -- ---- counts of lines
@@ -23,9 +24,9 @@ use Rattle.comfy_table.specs.Widths.{ColumnNeeds, visible_count}
 abbrev pub count : Text → ℕ
 count line = length (chars line)
 
--- the table without styling
+-- the table as it is seen, without styling
 abbrev pub unstyled : TableValue → TableValue
-unstyled table = record table { no_tty = true; enforce_styling = false }
+unstyled table = record (seen_table table) { no_tty = true; enforce_styling = false }
 
 -- the border characters of a line, and the whole widths of the visible columns
 abbrev pub line_total : TableValue → List ℕ → ℕ
@@ -55,7 +56,7 @@ HasPlainCells table = All (λ (p : ℕ × ColumnValue). All (IsPlainCell table p
 -- all known cells of the visible columns are printable ASCII, and the indicator is even wherever it is written
 pub record IsPlainTable (table : TableValue) (widths : List ℕ) : Type 0 where
   pub plain_cells : HasPlainCells table
-  pub even_indicator : All (λ (row : RowValue). All (IsEvenWhereWritten table row) (visible_infos (infos_of table widths))) (header_and_rows table)
+  pub even_indicator : All (λ (row : RowValue). All (IsEvenWhereWritten table row) (visible_infos (infos_of table widths))) (seen_rows table)
 
 -- all lines, frame lines too, have the same count, whatever the arrangement and the constraints; an indicator that ends inside a character would swallow what follows it
 abbrev pub EqualCounts : TableValue → List ℕ → Type 0
@@ -144,9 +145,9 @@ LevelIsBest room columns level widths =
 abbrev pub HasNoEscape : Text → Type 0
 HasNoEscape text = list_any (λ b. b == 0x1B) text ≡ false
 
--- no text line, no character of the style and no indicator holds ESC
+-- no text line as it is seen, no character of the style and no indicator holds ESC
 pub record IsFreeOfEscapes (table : TableValue) : Type 0 where
-  pub text_lines : All (λ (row : RowValue). All (λ (cell : CellValue). All HasNoEscape cell.text_lines) row.cells) (header_and_rows table)
+  pub text_lines : All (λ (row : RowValue). All (λ (cell : CellValue). All HasNoEscape cell.text_lines) row.cells) (seen_rows table)
   pub indicator : HasNoEscape table.indicator
   pub style_ends : All (λ (c : Option ℕ). (unwrap_or c 0x20 == 0x1B) ≡ false) (left_characters table.style ++ (right_characters table.style ++ junction_characters table.style))
   pub style_fills : All (λ (c : Option ℕ). (unwrap_or c 0x20 == 0x1B) ≡ false) (table.style.top_border.fill ∷ table.style.header_separator.fill ∷ table.style.row_separator.fill ∷ table.style.bottom_border.fill ∷ [])
@@ -156,17 +157,19 @@ abbrev pub StylingTakenOut : TableValue → List ℕ → Type 0
 StylingTakenOut table widths =
     HasTextLines table → IsFreeOfEscapes table → map visible_text (drawing table widths) ≡ drawing (unstyled table) widths
 
--- no sequence stands open at the end of a line
-abbrev pub NoneIsOpenAtTheEnd : ℕ → ℕ → CellValue → Type 0
-NoneIsOpenAtTheEnd w d cell = All (λ (line : Text × Text). open_after (parts line.1) ≡ []) (line_texts w d cell)
+-- with custom styling, no sequence stands open at the end of a line's text before the cell's own styling, cut lines too
+abbrev pub NoneIsOpenAtTheEnd : TableValue → RowValue → ColumnInfo → CellValue → Type 0
+NoneIsOpenAtTheEnd table row info cell =
+    AllByRecursion (λ (line : CellLine). open_after (parts line.written) ≡ []) (row_cell_texts table row info cell)
 
--- the sequences taken out of a line's text, its visible line is left
-abbrev pub SequencesTakenOut : ℕ → ℕ → CellValue → Type 0
-SequencesTakenOut w d cell =
-    All (λ line. HasNoEscape (visible_text line)) cell.text_lines → All (λ (line : Text × Text). visible_text line.1 ≡ line.0) (line_texts w d cell)
+-- with custom styling, before each visible byte of a line that isn't cut the sequences are open that are active there in the cell
+abbrev pub LinesAreResumedInRow : TableValue → RowValue → ColumnInfo → CellValue → Type 0
+LinesAreResumedInRow table row info cell =
+    AllByRecursion (IsResumedLine cell.text_lines)
+    (take (uncut_count row.max_height (line_texts info.content_width (cell_delimiter table info.delimiter cell) cell.text_lines)) (row_cell_texts table row info cell))
 
--- before each visible character of a line's text the sequences open are those that are active there in the cell
-abbrev pub ActiveIsResumed : List Part → Text → ℕ → ℕ → ℕ → Type 0
-ActiveIsResumed before text start len k =
-    start + len ≤ length (visible_text text) → k < len
-    → open_after (parts_before k (parts (line_text before text start len))) ≡ active before text (start + k)
+-- with custom styling, a line that is cut is written as it is seen, closed
+abbrev pub CutLinesAreClosed : TableValue → RowValue → ColumnInfo → CellValue → Type 0
+CutLinesAreClosed table row info cell =
+    AllByRecursion (λ (line : CellLine). line.written ≡ closed line.seen)
+    (drop (uncut_count row.max_height (line_texts info.content_width (cell_delimiter table info.delimiter cell) cell.text_lines)) (row_cell_texts table row info cell))

@@ -15,5 +15,4 @@ pub mod Styling
 pub mod TableLaws
 pub mod TableLoans
 pub mod TableValue
-pub mod VisibleLines
 pub mod Widths

@@ -5,9 +5,10 @@ use Rattle.comfy_parts.specs.CellValue.{CellValue, RowValue, ColumnInfo, info_wi
 use Rattle.comfy_parts.specs.Text.{Text, measure, spaces, greatest}
 use Rattle.comfy_parts.specs.declared.style.cell.CellAlignment.{CellAlignment}
 use Rattle.comfy_parts.specs.declared.style.cell.CellAlignment.TheVariants.{Left, Right, Center}
-use Rattle.comfy_table.specs.Lines.{cell_lines, cell_delimiter, cut_at}
+use Rattle.comfy_parts.specs.VisibleLines.{CellLine, line_texts}
+use Rattle.comfy_table.specs.Lines.{cell_lines, cell_delimiter, cut_at, cut_cell_lines_at}
 use Rattle.comfy_table.specs.Styling.{styled}
-use Rattle.comfy_table.specs.TableValue.{TableValue, should_style, header_and_rows}
+use Rattle.comfy_table.specs.TableValue.{TableValue, should_style, header_and_rows, seen_cell}
 
 -- the alignment of a cell: its own, else its column's, else left
 abbrev pub cell_alignment : CellValue → ColumnInfo → CellAlignment
@@ -40,24 +41,40 @@ padded cell info line text =
 abbrev pub plain_piece : CellValue → ColumnInfo → Text → Text
 plain_piece cell info line = padded cell info line line
 
--- where styles are written, they stand round the whole piece, or round the line alone
+-- the piece of a line that is written as a text: where styles are written, they stand round the whole piece, or round the text alone
+abbrev pub written_piece : TableValue → CellValue → ColumnInfo → Text → Text → Text
+written_piece table cell info line text =
+    if should_style table then (if table.style_text_only then padded cell info line (styled cell text) else styled cell (padded cell info line text)) else padded cell info line text
+
+-- the piece of a line that is written as it is
 abbrev pub piece : TableValue → CellValue → ColumnInfo → Text → Text
-piece table cell info line =
-    if should_style table then (if table.style_text_only then padded cell info line (styled cell line) else styled cell (plain_piece cell info line)) else plain_piece cell info line
+piece table cell info line = written_piece table cell info line line
 
 -- what stands where a column has no line
 abbrev pub filling : ColumnInfo → Text
 filling info = spaces (info_width info)
 
--- the lines of a cell in a row: wrapped at the column's width and cut at the row's height
+-- the lines of a cell in a row as they are seen: wrapped at the column's width and cut at the row's height
 abbrev pub row_cell_lines : TableValue → RowValue → ColumnInfo → CellValue → List Text
 row_cell_lines table row info cell =
-    cut_at row.max_height info.content_width table.indicator (cell_lines info.content_width (cell_delimiter table info.delimiter cell) cell)
+    cut_at row.max_height info.content_width table.indicator (cell_lines info.content_width (cell_delimiter table info.delimiter cell) (seen_cell table cell))
+
+-- with custom styling, the same lines, each with the text that is written for it
+abbrev pub row_cell_texts : TableValue → RowValue → ColumnInfo → CellValue → List CellLine
+row_cell_texts table row info cell =
+    cut_cell_lines_at row.max_height info.content_width table.indicator (line_texts info.content_width (cell_delimiter table info.delimiter cell) cell.text_lines)
+
+-- the pieces of a cell in one column of a row, from the top
+abbrev pub cell_pieces : TableValue → RowValue → ColumnInfo → CellValue → List Text
+cell_pieces table row info cell =
+    if table.custom_styling
+    then map (λ (line : CellLine). written_piece table cell info line.seen line.written) (row_cell_texts table row info cell)
+    else map (piece table cell info) (row_cell_lines table row info cell)
 
 -- the pieces of the cell in one column of a row, from the top; a missing cell is one filling
 abbrev pub pieces_of_optional : TableValue → RowValue → ColumnInfo → Option CellValue → List Text
 pieces_of_optional table row info None = filling info ∷ []
-pieces_of_optional table row info (Some cell) = map (piece table cell info) (row_cell_lines table row info cell)
+pieces_of_optional table row info (Some cell) = cell_pieces table row info cell
 
 -- the drawn columns that are visible, each with its position
 abbrev pub visible_infos : List ColumnInfo → List (ℕ × ColumnInfo)

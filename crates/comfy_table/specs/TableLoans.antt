@@ -4,8 +4,9 @@ use Rattle.std.specs.Borrow.{Fml, MutBor, Array, Lends, LendsIf, LendsIfOk, foll
 use Rattle.std.specs.List.{refill}
 use Rattle.std.specs.Slice.Iter.{iter_mut_name}
 use Rattle.std.specs.declared.slice.IterMut.{IterMut}
-use Rattle.comfy_parts.specs.CellValue.{ColumnValue}
+use Rattle.comfy_parts.specs.CellValue.{ColumnValue, RowValue}
 use Rattle.comfy_parts.specs.contracts.column.Column as column
+use Rattle.comfy_parts.specs.contracts.row.Row as row
 use Rattle.comfy_parts.specs.contracts.style.table_style.TableStyle as style
 use Rattle.comfy_parts.specs.declared.style.table_style.TableStyle.{TableStyle}
 use Rattle.comfy_table.specs.TableValue.{TableValue}
@@ -27,3 +28,7 @@ LendsStyle t r = Lends table.the_row style.the_row t r (λ s. record t.now { sty
 abbrev pub LendsColumns : MutBor TableValue → IterMut ColumnValue → Fml
 LendsColumns t it =
     follows table.the_row (Array column.the_row 0) t.ghost_name (iter_mut_name it) (λ (cs : List ColumnValue). record t.now { columns = refill (length t.now.columns) t.now.columns cs })
+
+-- the row at i is the last one written, and nothing else changes
+abbrev pub LendsRow : MutBor TableValue → ℕ → Option (MutBor RowValue) → Fml
+LendsRow t i r = LendsIf table.the_row row.the_row t r (λ c. record t.now { rows = slice_set t.now.rows i c }) t.now

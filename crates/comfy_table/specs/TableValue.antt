@@ -1,8 +1,9 @@
 -- What a table is, as a value, and what its settings say.
-use Rattle.std.specs.Prelude.{◌≡◌, ℕ, ◌<◌, ◌≤◌, Bool, false, not, ◌&&◌, ◌||◌, List, [], ◌∷◌, ◌++◌, Option, Some, None, option_to_list, option_and_then, map, fold, length, take, filter, filter_map, slice_get, max, min, All, IfSome, IsUtf8, if◌then◌else◌, String, string_bytes}
+use Rattle.std.specs.Prelude.{◌≡◌, ℕ, ◌<◌, ◌≤◌, Bool, false, not, ◌&&◌, ◌||◌, List, [], ◌∷◌, ◌++◌, Option, Some, None, option_to_list, option_and_then, option_map, map, fold, length, take, filter, filter_map, slice_get, max, min, All, IfSome, IsUtf8, if◌then◌else◌, String, string_bytes}
 use Rattle.std.specs.List.{enumerate_from}
 use Rattle.comfy_parts.specs.CellValue.{CellValue, RowValue, ColumnValue, IsRow, columns_grown_to, is_hidden_column}
 use Rattle.comfy_parts.specs.Text.{Text, measure, greatest}
+use Rattle.comfy_parts.specs.VisibleText.{visible_text}
 use Rattle.comfy_parts.specs.declared.style.column.ColumnConstraint.{ColumnConstraint}
 use Rattle.comfy_parts.specs.declared.style.table.ContentArrangement.{ContentArrangement}
 use Rattle.comfy_parts.specs.declared.style.table.ContentArrangement.TheVariants.{Disabled}
@@ -24,6 +25,7 @@ pub record TableValue : Type 0 where
   pub use_stderr : Bool
   pub enforce_styling : Bool
   pub style_text_only : Bool
+  pub custom_styling : Bool
 
 -- a terminal of which nothing is known
 abbrev pub no_terminal : Terminal
@@ -41,7 +43,7 @@ indicator_of (Some set) = string_bytes set
 -- a new table with this style: nothing in it
 abbrev pub new_table : TableStyle → TableValue
 new_table style =
-    record { columns = []; header = None; rows = []; style = style; arrangement = Disabled; delimiter = None; indicator = ellipsis; set_width = None; terminal = no_terminal; no_tty = false; use_stderr = false; enforce_styling = false; style_text_only = false }
+    record { columns = []; header = None; rows = []; style = style; arrangement = Disabled; delimiter = None; indicator = ellipsis; set_width = None; terminal = no_terminal; no_tty = false; use_stderr = false; enforce_styling = false; style_text_only = false; custom_styling = false }
 
 -- the header is replaced, and the columns grow to its cells
 abbrev pub with_header : RowValue → TableValue → TableValue
@@ -116,9 +118,30 @@ table_width table = width_or_terminal table.set_width (is_tty table) table.termi
 abbrev pub should_style : TableValue → Bool
 should_style table = table.enforce_styling || is_tty table
 
--- the cells at position i of the header and the rows, from the top; a row without one is passed over
+-- each text line is replaced by its visible text
+abbrev pub visible_cell : CellValue → CellValue
+visible_cell cell = record cell { text_lines = map visible_text cell.text_lines }
+
+-- the same of each cell of a row
+abbrev pub visible_row : RowValue → RowValue
+visible_row row = record row { cells = map visible_cell row.cells }
+
+-- a cell as its widths, line ends and cuts are found: with custom styling by what is visible of it
+abbrev pub seen_cell : TableValue → CellValue → CellValue
+seen_cell table cell = record cell { text_lines = if table.custom_styling then map visible_text cell.text_lines else cell.text_lines }
+
+-- the same of a whole table, which then has no custom styling: what joins where a sequence was taken out isn't looked at again
+abbrev pub seen_table : TableValue → TableValue
+seen_table table =
+    record table { header = if table.custom_styling then option_map visible_row table.header else table.header; rows = if table.custom_styling then map visible_row table.rows else table.rows; custom_styling = false }
+
+-- its header, if there is one, and its rows
+abbrev pub seen_rows : TableValue → List RowValue
+seen_rows table = header_and_rows (seen_table table)
+
+-- the cells at position i of the header and the rows as they are seen, from the top; a row without one is passed over
 abbrev pub column_cells : TableValue → ℕ → List CellValue
-column_cells table i = filter_map (λ (row : RowValue). slice_get row.cells i) (header_and_rows table)
+column_cells table i = filter_map (λ (row : RowValue). slice_get row.cells i) (seen_rows table)
 
 -- the greatest measure of a cell's text lines, at least 1 and at most 65535
 abbrev pub cell_content : CellValue → ℕ

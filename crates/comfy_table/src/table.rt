@@ -37,19 +37,20 @@ pub struct Table {
     pub(crate) use_stderr: bool,
     pub(crate) enforce_styling: bool,
     pub(crate) style_text_only: bool,
+    pub(crate) custom_styling: bool,
 }
 
 impl Model for Table {
-    ghost use Rattle.std.specs.Prelude.{◌≡◌};
+    ghost use Rattle.std.specs.Prelude.{◌≡◌, false};
     ghost use Rattle.comfy_parts.specs.declared.style.table.ContentArrangement.TheVariants.{Disabled};
-    ghost use Rattle.comfy_table.specs.TableValue.{KeepsRows, TableValue, indicator_of};
+    ghost use Rattle.comfy_table.specs.TableValue.{TableValue, indicator_of};
 
     ghost Value = { TableValue };
 
-    // no call sets another arrangement yet
-    ghost invariant = { λ t. (t.arrangement ≡ Disabled) × KeepsRows t.header t.rows.items };
+    // no call sets another arrangement yet, or custom styling
+    ghost invariant = { λ t. (t.arrangement ≡ Disabled) × (t.custom_styling ≡ false) };
 
-    ghost view = { λ t. record { columns = t.columns.items; header = t.header; rows = t.rows.items; style = t.style; arrangement = t.arrangement; delimiter = t.delimiter; indicator = indicator_of t.indicator; set_width = t.set_width; terminal = t.terminal; no_tty = t.no_tty; use_stderr = t.use_stderr; enforce_styling = t.enforce_styling; style_text_only = t.style_text_only } };
+    ghost view = { λ t. record { columns = t.columns.items; header = t.header; rows = t.rows.items; style = t.style; arrangement = t.arrangement; delimiter = t.delimiter; indicator = indicator_of t.indicator; set_width = t.set_width; terminal = t.terminal; no_tty = t.no_tty; use_stderr = t.use_stderr; enforce_styling = t.enforce_styling; style_text_only = t.style_text_only; custom_styling = t.custom_styling } };
 }
 
 impl Table {
@@ -71,6 +72,7 @@ impl Table {
             use_stderr: false,
             enforce_styling: false,
             style_text_only: false,
+            custom_styling: false,
         }
     }
 

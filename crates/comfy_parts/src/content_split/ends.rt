@@ -1,11 +1,11 @@
 //! Where the lines of a wrapped text begin and end. A place is a number of bytes from a text's front.
 
-ghost use Rattle.std.specs.Prelude.{◌≡◌, ℕ, ◌+◌, ◌≤◌, List, length, take, drop, false, IfSome};
-ghost use Rattle.comfy_parts.specs.Following.{Follow, IsFirstElement, IsPart, IsLongCluster, bytes_taken, part_taken};
-ghost use Rattle.comfy_parts.specs.Text.{Text, begins_with, head, measure};
+ghost use Rattle.std.specs.Prelude.{◌≡◌, ℕ, ◌+◌, ◌<◌, ◌≤◌, List, length, take, drop, false};
+ghost use Rattle.std.specs.Str.{IsCharBoundary};
+ghost use Rattle.comfy_parts.specs.Following.{Follow, IsFirstElement, bytes_taken, part_taken};
+ghost use Rattle.comfy_parts.specs.Text.{Text, begins_with, measure};
 ghost use Rattle.comfy_parts.specs.Wrapping.{head_or_first, line_end, wrapped};
 
-use crate::content_split::cluster::{LongCluster, Part, starts_anew};
 use crate::content_split::prefix::split_long_word;
 use crate::content_split::width::{char_width, measure_text_width};
 
@@ -32,72 +32,44 @@ pub fn first_element(text: &str, delimiter: char) -> (&str, &str)
     }
 }
 
-/// The place where the line from the text's front ends. The text's first element is the word, and a long cluster may be
-/// known at its front.
+/// The place where the line from the text's front ends. The text's first element has `first` bytes, and is known to be
+/// wider than a line where these are at least `wide`.
 pub(crate) fn line_end(
     text: &str,
-    word: Part,
-    cluster: Option<LongCluster>,
+    first: usize,
+    wide: usize,
     width: usize,
     delimiter: char,
 ) -> usize
-    requires part { IsPart width word.len word.wide text.now }
-    requires element { IsFirstElement delimiter text.now (take word.len text.now) (drop word.len text.now) }
-    requires cluster { IfSome cluster (IsLongCluster width (take word.len text.now)) }
+    requires place { IsCharBoundary text.now first }
+    requires element { IsFirstElement delimiter text.now (take first text.now) (drop first text.now) }
+    requires wide { wide ≤ first → width < measure (take first text.now) }
     requires narrow { width ≤ 65535 }
     ensures { result ≡ line_end width delimiter text.now }
 {
-    let (first, behind) = text.split_at(word.len);
-    if word.is_wide_behind(0) {
-        return end_within(first, cluster, width);
+    let (word, behind) = text.split_at(first);
+    if first >= wide {
+        return end_within(word, width);
     }
-    let places = measure_text_width(first);
+    let places = measure_text_width(word);
     if places > width {
-        return end_within(first, cluster, width);
+        return end_within(word, width);
     }
-    word.len + taken_behind(places, behind, width, delimiter)
+    first + taken_behind(places, behind, width, delimiter)
 }
 
 // The bytes of a word that is wider than a line which the line takes: its head, or at least its first character.
-fn end_within(word: &str, cluster: Option<LongCluster>, width: usize) -> usize
-    requires { IfSome cluster (IsLongCluster width word.now) }
+fn end_within(word: &str, width: usize) -> usize
     ensures { result ≡ length (head_or_first width word.now) }
 {
-    let end = head_end(word, cluster, width);
-    if end > 0 {
-        return end;
+    let (front, _) = split_long_word(width, word);
+    if !front.is_empty() {
+        return front.len();
     }
     match word.chars().next() {
         Some(first) => first.len_utf8(),
         None => 0,
     }
-}
-
-// The bytes of a word's head. What is known of a long cluster at its front spares walking it.
-fn head_end(word: &str, cluster: Option<LongCluster>, width: usize) -> usize
-    requires { IfSome cluster (IsLongCluster width word.now) }
-    ensures { result ≡ length (head width word.now) }
-{
-    if let Some(known) = cluster {
-        let first = if known.joined > 0 {
-            known.all
-        } else {
-            known.run
-        };
-        if first.is_wide_behind(0) {
-            return 0;
-        }
-        let (run, behind) = word.split_at(known.run.len);
-        if known.joined == 0 && known.all.is_wide_behind(run.len()) && starts_anew(behind) {
-            return if measure_text_width(run) <= width {
-                run.len()
-            } else {
-                0
-            };
-        }
-    }
-    let (front, _) = split_long_word(width, word);
-    front.len()
 }
 
 // The bytes that a line takes behind its first element, which fills so many places.

@@ -1,8 +1,9 @@
 //! The program: what it does for the words after its name, and what it says.
 
-ghost use Rattle.std.specs.Prelude.{◌≡◌, ◌<◌, List, [], Result, length};
-ghost use Rattle.comfy_run.specs.Program.{usage_line, error_line, status_of, report_of, Reports};
-ghost use Rattle.comfy_run.specs.Run.{Between, IsAfter, plain_settings};
+ghost use Rattle.std.specs.Prelude.{◌≡◌, List, None, Some, Result};
+ghost use Rattle.comfy_run.specs.Program.{usage_line, error_line, settings_for, status_of, report_of, Reports};
+ghost use Rattle.comfy_run.specs.Run.{Between, IsAfter};
+ghost use Rattle.comfy_run.specs.declared.run.settings.Settings.{Settings};
 
 use crate::run::device::{Sink, Source};
 use crate::run::error::RunError;
@@ -31,12 +32,12 @@ pub fn program<R: Source, W: Sink, F: Sink>(
     sink: &mut W,
     faults: &mut F,
 ) -> u8
-    ensures misused { 0 < length args.now → (result ≡ 2) × (source.new ≡ source.old) × (sink.new ≡ sink.old) × Reports usage_line (F.taken faults.old) (F.taken faults.new) (F.has_failed faults.new) }
-    ensures ran { length args.now ≡ 0 → (answer : Result (Unit {0}) RunError) × (result ≡ status_of answer) × Reports (report_of answer) (F.taken faults.old) (F.taken faults.new) (F.has_failed faults.new)
+    ensures misused { settings_for args.now ≡ None → (result ≡ 2) × (source.new ≡ source.old) × (sink.new ≡ sink.old) × Reports usage_line (F.taken faults.old) (F.taken faults.new) (F.has_failed faults.new) }
+    ensures ran { (settings : Settings) → settings_for args.now ≡ Some settings → (answer : Result (Unit {0}) RunError) × (result ≡ status_of answer) × Reports (report_of answer) (F.taken faults.old) (F.taken faults.new) (F.has_failed faults.new)
         × Between
         (record { remaining = R.remaining source.old; end_was_read = R.end_was_read source.old; read_failed = R.has_failed source.old; taken = W.taken sink.old; write_failed = W.has_failed sink.old })
         (record { remaining = R.remaining source.new; end_was_read = R.end_was_read source.new; read_failed = R.has_failed source.new; taken = W.taken sink.new; write_failed = W.has_failed sink.new })
-        (IsAfter plain_settings answer) }
+        (IsAfter settings answer) }
 {
     let Some(settings) = settings_of(args) else {
         report(faults, USAGE);

@@ -5,10 +5,10 @@ ghost use Rattle.std.specs.Borrow.{sem};
 ghost use Rattle.std.specs.Iterator.Adapters.{IterMutYieldsInOrder, IterYieldsInOrder};
 ghost use Rattle.std.specs.Slice.Iter.{iter_mut_rest, iter_rest};
 ghost use Rattle.comfy_parts.specs.CellValue.{ColumnValue};
-ghost use Rattle.comfy_table.specs.TableLoans.{LendsColumn, LendsColumns};
+ghost use Rattle.comfy_table.specs.TableLoans.{LendsColumn, LendsColumns, LendsRow};
 
 use crate::table::Table;
-use comfy_parts::Column;
+use comfy_parts::{Column, Row};
 use std::slice;
 
 impl Table {
@@ -58,5 +58,14 @@ impl Table {
         ensures runs { IterMutYieldsInOrder ColumnValue }
     {
         self.columns.iter_mut()
+    }
+
+    /// The row at a position, to be changed.
+    pub fn row_mut(&mut self, index: usize) -> Option<&mut Row>
+        ensures* lent { sem 𝓛 (LendsRow self.entry index result) }
+        ensures found { IsSome result ↔ (index < length self.old.rows) }
+        ensures value { IfSome result (λ row. row.now ≡ slice_index_or self.old.rows index row.now) }
+    {
+        self.rows.get_mut(index)
     }
 }

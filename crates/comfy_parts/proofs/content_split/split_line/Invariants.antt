@@ -1,8 +1,8 @@
 use Rattle.std.proofs.Common.{◌≡◌, ◌++◌, false, map, length, take, drop, string_bytes}
 use denote.Text.{Utf8}
 use denote.Shadow.{shadow}
-use Rattle.std.specs.Prelude.{IfSome}
-use Rattle.comfy_parts.specs.Following.{IsFirstElement, IsPart, IsLongCluster}
+use Rattle.std.specs.Str.{IsCharBoundary}
+use Rattle.comfy_parts.specs.Following.{IsFirstElement, IsWideFrom}
 use Rattle.comfy_parts.specs.Text.{begins_with}
 use Rattle.comfy_parts.specs.Wrapping.{wrapped}
 use Rattle.comfy_parts.proofs.content_split.split_line.Given as goal
@@ -12,9 +12,9 @@ invariant-loop-rest l =
     record {
       utf8 : shadow (Utf8 l.rest);
       begins : begins_with l.delimiter l.rest ≡ false;
-      part : IsPart l.width l.word.len l.word.wide l.rest;
-      element : IsFirstElement l.delimiter l.rest (take l.word.len l.rest) (drop l.word.len l.rest);
-      cluster : IfSome l.cluster (IsLongCluster l.width (take l.word.len l.rest));
+      place : IsCharBoundary l.rest l.first;
+      element : IsFirstElement l.delimiter l.rest (take l.first l.rest) (drop l.first l.rest);
+      wide : IsWideFrom l.width l.wide (take l.first l.rest);
       lines : map string_bytes l.lines.items ++ wrapped l.width l.delimiter l.rest ≡ wrapped l.width l.delimiter l.line;
     }
 

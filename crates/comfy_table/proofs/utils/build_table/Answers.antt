@@ -8,6 +8,6 @@ use Rattle.comfy_table.proofs.utils.build_table.Goals as goal
 pub returns-clause-headline : goal.returns-clause-headline
 returns-clause-headline c =
     let utf8 : IsUtf8 c.args.table.now.indicator = subst (λ (t : TableValue). IsUtf8 t.indicator) c.table.view_is (utf8_indicator c.table.inside.indicator) in
-    let kept : KeepsRows c.args.table.now.header c.args.table.now.rows = subst (λ (t : TableValue). KeepsRows t.header t.rows) c.table.view_is c.table.invariant.1 in
+    let kept : KeepsRows c.args.table.now.header c.args.table.now.rows = c.look_at_rows.ensures in
     table_drawing c.args.table.now c.in_ok-infos.infos.items c.new.result utf8 kept c.in_ok-infos.ensures
     (c.new.ensures ∙ c.in_ok-lines.ensures ∙ ap (drawing_of_infos c.args.table.now) c.as_slice.ensures.value)

@@ -156,6 +156,8 @@ fn row_cell_lines(
     let Some(cell) = cell else {
         return Ok(Vec::new(alloc));
     };
+    // Reading a field opens the table, which tells that no call sets custom styling yet.
+    let _ = &table.custom_styling;
     let lines = cell_lines(alloc, cell, info, delimiter(cell, info, table))?;
     cut_at(
         alloc,

@@ -1,37 +1,32 @@
-use Rattle.std.proofs.Common.{◌≡◌, ◌≤◌, ◌+◌, ◌-◌, ◌∙◌, length, take, drop, nat_lt, nat_le, true, false, sym, ap, ap₂, arith}
-use Rattle.std.proofs.lemmas.Bool.{and_parts}
+use Rattle.std.proofs.Common.{◌≡◌, ◌+◌, ◌∙◌, length, take, drop, nat_lt, true, false, sym, ap, ap₂, arith}
 use Rattle.std.proofs.lemmas.Bool.Decides.{nat_tests}
 use Rattle.comfy_parts.specs.Following.{bytes_taken}
 use Rattle.comfy_parts.specs.Text.{measure}
 use Rattle.comfy_parts.specs.Wrapping.{head_or_first}
 use Rattle.comfy_parts.proofs.FollowingLemmas.{line_end-wide, line_end-narrow}
-use Rattle.comfy_parts.proofs.WideEndLemmas.{known-wide}
 use Rattle.comfy_parts.proofs.content_split.ends.line_end.Goals as goal
 
-pub returns-then-is_wide_behind : goal.returns-then-is_wide_behind
-returns-then-is_wide_behind c =
-    let word = take c.args.word.len c.args.text.now in
-    let parts = and_parts (nat_lt 0 c.args.word.len) (nat_le c.args.word.wide (c.args.word.len - 0)) (sym c.is_wide_behind.ensures ∙ c.if-is_wide_behind.true) in
-    let long : c.args.word.wide ≤ c.args.word.len = grind (arith, nat_tests, parts.1) in
-    let wider = known-wide c.args.delimiter c.args.text.now c.args.word.len c.requires.part.boundary c.requires.element c.args.width c.args.word.wide c.requires.part.ends long in
-    let wide : nat_lt c.args.width (measure word) ≡ true = grind (arith, nat_tests, wider) in
+pub returns-then-first-wide : goal.returns-then-first-wide
+returns-then-first-wide c =
+    let word = take c.args.first c.args.text.now in
+    let wide : nat_lt c.args.width (measure word) ≡ true = grind (arith, nat_tests, c.requires.wide c.if-first-wide.true) in
     c.end_within.ensures ∙ ap (λ t. length (head_or_first c.args.width t)) c.split_at.ensures.front
-    ∙ sym (line_end-wide c.args.width c.args.delimiter c.args.text.now word (drop c.args.word.len c.args.text.now) c.requires.element wide)
+    ∙ sym (line_end-wide c.args.width c.args.delimiter c.args.text.now word (drop c.args.first c.args.text.now) c.requires.element wide)
 
 pub returns-then-places-width : goal.returns-then-places-width
 returns-then-places-width c =
-    let word = take c.args.word.len c.args.text.now in
+    let word = take c.args.first c.args.text.now in
     let places = c.measure_text_width-places.ensures.value ∙ ap measure c.split_at.ensures.front in
     let wide : nat_lt c.args.width (measure word) ≡ true = grind (arith, nat_tests, places, c.if-places-width.true) in
     c.end_within-then-places-width.ensures ∙ ap (λ t. length (head_or_first c.args.width t)) c.split_at.ensures.front
-    ∙ sym (line_end-wide c.args.width c.args.delimiter c.args.text.now word (drop c.args.word.len c.args.text.now) c.requires.element wide)
+    ∙ sym (line_end-wide c.args.width c.args.delimiter c.args.text.now word (drop c.args.first c.args.text.now) c.requires.element wide)
 
 pub returns : goal.returns
 returns c =
-    let word = take c.args.word.len c.args.text.now in
+    let word = take c.args.first c.args.text.now in
     let places = c.measure_text_width-places.ensures.value ∙ ap measure c.split_at.ensures.front in
     let narrow : nat_lt c.args.width (measure word) ≡ false = grind (arith, nat_tests, places, c.if-places-width.false) in
-    let long : length word ≡ c.args.word.len = ap length (sym c.split_at.ensures.front) ∙ c.split_at.ensures.front_len in
+    let long : length word ≡ c.args.first = ap length (sym c.split_at.ensures.front) ∙ c.split_at.ensures.front_len in
     let taken = c.taken_behind.ensures.value c.requires.element.others (rw c.split_at.ensures.back c.requires.element.follow) in
     ap₂ (λ a b. a + b) (sym long) (taken ∙ ap (λ n. bytes_taken c.args.width c.args.delimiter n c.requires.element.others) places)
-    ∙ sym (line_end-narrow c.args.width c.args.delimiter c.args.text.now word (drop c.args.word.len c.args.text.now) c.requires.element narrow)
+    ∙ sym (line_end-narrow c.args.width c.args.delimiter c.args.text.now word (drop c.args.first c.args.text.now) c.requires.element narrow)

@@ -1,12 +1,12 @@
 use Rattle.std.proofs.Common.{Result, Ok, Err, refl}
-use Rattle.comfy_run.proofs.ProgramLemmas.{after_plain, nothing_reported, plain_without_words}
+use Rattle.comfy_run.proofs.ProgramLemmas.{after_same, nothing_reported, same_settings}
 use Rattle.comfy_run.specs.Outcome.{RunFacts}
 use Rattle.comfy_run.specs.declared.run.error.RunError.{RunError}
 use Rattle.comfy_run.proofs.run.command.program.Goals as goal
 
 pub returns-in-Ok-clause-ran : goal.returns-in-Ok-clause-ran
-returns-in-Ok-clause-ran g c = λ none.
-    let plain = plain_without_words c.args.args.now c.in-Some.settings c.in-Some.ensures none in
+returns-in-Ok-clause-ran g c = λ settings is.
+    let plain = same_settings c.in-Some.settings settings _ c.in-Some.ensures is in
     let answer : Result (Unit {0}) RunError = Ok c.in-Ok.field-0 in (
       answer,
       refl,
@@ -14,12 +14,12 @@ returns-in-Ok-clause-ran g c = λ none.
       λ input had known taken read write.
           let happened = c.in-Ok.ensures input had known taken read write in
           let facts : RunFacts = record { input = input; end_was_read = g.R.Source.end_was_read c.run.new.source; written = happened.0; read_failed = g.R.Source.has_failed c.run.new.source; write_failed = g.W.Sink.has_failed c.run.new.sink } in
-          (happened.0, happened.1, after_plain c.in-Some.settings answer facts plain happened.2),
+          (happened.0, happened.1, after_same c.in-Some.settings settings answer facts plain happened.2),
     )
 
 pub returns-in-Err-clause-ran : goal.returns-in-Err-clause-ran
-returns-in-Err-clause-ran g c = λ none.
-    let plain = plain_without_words c.args.args.now c.in-Some.settings c.in-Some.ensures none in
+returns-in-Err-clause-ran g c = λ settings is.
+    let plain = same_settings c.in-Some.settings settings _ c.in-Some.ensures is in
     let answer : Result (Unit {0}) RunError = Err c.in-Err.error in (
       answer,
       refl,
@@ -27,5 +27,5 @@ returns-in-Err-clause-ran g c = λ none.
       λ input had known taken read write.
           let happened = c.in-Err.ensures input had known taken read write in
           let facts : RunFacts = record { input = input; end_was_read = g.R.Source.end_was_read c.run.new.source; written = happened.0; read_failed = g.R.Source.has_failed c.run.new.source; write_failed = g.W.Sink.has_failed c.run.new.sink } in
-          (happened.0, happened.1, after_plain c.in-Some.settings answer facts plain happened.2),
+          (happened.0, happened.1, after_same c.in-Some.settings settings answer facts plain happened.2),
     )

@@ -1,0 +1,381 @@
+-- The text of a line of a cell with sequences: no sequence is left open, those that were active are resumed, and what is seen of it is the line.
+use Rattle.std.proofs.Common.{◌≡◌, inl, inr, ◌<◌, ◌≤◌, ℕ, zero, suc, ◌+◌, Bool, true, false, ◌==◌, List, [], ◌∷◌, ◌++◌, length, map, take, drop, refl, sym, ap, ◌∙◌, subst, arith, append_assoc, append-nil}
+use Rattle.std.specs.List.{list_any, flat_map, concat, after_last, AllByRecursion}
+use Rattle.std.specs.Prelude.{if◌then◌else◌, bytes_eq, codes}
+use Rattle.std.proofs.lemmas.Bool.{or_parts, or_from}
+use Rattle.std.proofs.lemmas.Bool.Decides.{nat_tests}
+use Rattle.std.proofs.lemmas.Grind.{flat_map-append}
+use Rattle.std.proofs.lemmas.List.{length-drop}
+use Rattle.comfy_parts.specs.Text.{Text}
+use Rattle.comfy_parts.specs.VisibleText.{Part, parts, visible_bytes, visible_text, sequences_in, reset, open_after, parts_before, parts_from, parts_up_to, active, closing, closed, line_text}
+use Rattle.comfy_parts.proofs.OpenLemmas.{after_last-push, after_last-again, every-after_last, sequences_in-append, sequences_in-sequences}
+use Rattle.comfy_parts.proofs.ScanLemmas.{AreScanned, bytes_of, sequence_part, parts-scanned, scanned-parts, scanned-stops, scan}
+use Rattle.comfy_parts.proofs.SequenceLemmas.{IsSequence, Stops-nil, Stops-escape}
+use Rattle.comfy_parts.proofs.ShownLemmas.{Shows, Shows-nil, Shows-append, Shows-byte, Shows-sequence}
+
+-- ---- parts before and behind a visible byte
+
+-- what is seen of some parts
+abbrev pub seen_of : List Part → Text
+seen_of ps = flat_map visible_bytes ps
+
+-- how many visible bytes there are among some parts
+abbrev pub visible_count : List Part → ℕ
+visible_count [] = 0
+visible_count (p ∷ ps) = if p.is_sequence then visible_count ps else suc (visible_count ps)
+
+-- no part stands before a visible byte where there is none
+before_nil : (n : ℕ) → parts_before n [] ≡ []
+before_nil zero = refl
+before_nil (suc n) = refl
+
+-- the parts before a visible byte, and those from it on
+before_from : (n : ℕ) (ps : List Part) → parts_before n ps ++ parts_from n ps ≡ ps
+before_from zero [] = refl
+before_from (suc n) [] = refl
+before_from zero (p ∷ ps) = by_test p.is_sequence (before_from zero ps)
+  where
+    by_test : (b : Bool) → parts_before zero ps ++ parts_from zero ps ≡ ps
+        → (if b then p ∷ parts_before zero ps else []) ++ (if b then parts_from zero ps else p ∷ ps) ≡ p ∷ ps
+    by_test true more = ap (λ xs. p ∷ xs) more
+    by_test false more = refl
+before_from (suc n) (p ∷ ps) = ap (λ xs. p ∷ xs) (before_from (if p.is_sequence then suc n else n) ps)
+
+-- the parts up to a visible byte are the first ones
+up_to_more : (n : ℕ) (ps : List Part) → (more : List Part) × (ps ≡ parts_up_to n ps ++ more)
+up_to_more zero ps = (ps, refl)
+up_to_more (suc n) [] = ([], refl)
+up_to_more (suc n) (p ∷ ps) =
+    let rest = up_to_more (if p.is_sequence then suc n else n) ps in
+    (rest.0, ap (λ xs. p ∷ xs) rest.1)
+
+-- a sequence stands before each visible byte behind it
+before_sequence : (k : ℕ) (p : Part) (ps : List Part) → p.is_sequence ≡ true → parts_before k (p ∷ ps) ≡ p ∷ parts_before k ps
+before_sequence zero p ps is = ap (λ b. if b then p ∷ parts_before zero ps else []) is
+before_sequence (suc k) p ps is = ap (λ b. p ∷ parts_before (if b then suc k else k) ps) is
+
+-- sequences in front stand before it
+before_sequences : (k : ℕ) (ss : List Text) (ps : List Part) → parts_before k (map sequence_part ss ++ ps) ≡ map sequence_part ss ++ parts_before k ps
+before_sequences k [] ps = refl
+before_sequences k (s ∷ ss) ps =
+    before_sequence k (sequence_part s) (map sequence_part ss ++ ps) refl ∙ ap (λ xs. sequence_part s ∷ xs) (before_sequences k ss ps)
+
+-- the parts before a visible byte begin with those before the first one
+before_zero : (k : ℕ) (ps : List Part) → parts_before k ps ≡ parts_before zero ps ++ parts_before k (parts_from zero ps)
+before_zero k [] = refl
+before_zero k (p ∷ ps) = by_test p.is_sequence refl (before_zero k ps)
+  where
+    by_test : (b : Bool) → p.is_sequence ≡ b → parts_before k ps ≡ parts_before zero ps ++ parts_before k (parts_from zero ps)
+        → parts_before k (p ∷ ps) ≡ (if b then p ∷ parts_before zero ps else []) ++ parts_before k (if b then parts_from zero ps else p ∷ ps)
+    by_test true is more = before_sequence k p ps is ∙ ap (λ xs. p ∷ xs) more
+    by_test false is more = refl
+
+-- and with those before each earlier one
+before_further : (n k m : ℕ) (ps : List Part) → m ≡ n + k → parts_before m ps ≡ parts_before n ps ++ parts_before k (parts_from n ps)
+before_further zero k m ps is =
+    let same : m ≡ k = omega (arith, is) in
+    ap (λ j. parts_before j ps) same ∙ before_zero k ps
+before_further (suc n) k m [] is = before_nil m ∙ sym (before_nil k)
+before_further (suc n) k zero (p ∷ ps) is = absurd (omega (arith, is))
+before_further (suc n) k (suc m) (p ∷ ps) is =
+    ap (λ xs. p ∷ xs) (before_further (if p.is_sequence then suc n else n) k (if p.is_sequence then suc m else m) ps (by_test p.is_sequence))
+  where
+    by_test : (b : Bool) → (if b then suc m else m) ≡ (if b then suc n else n) + k
+    by_test true = is
+    by_test false = omega (arith, is)
+
+-- behind enough visible bytes nothing matters
+before_within : (k len : ℕ) (ps more : List Part) → k < len → k < visible_count ps → parts_before k (parts_up_to len ps ++ more) ≡ parts_before k ps
+before_within k zero ps more short some = absurd (omega (arith, short))
+before_within k (suc len) [] more short some = absurd (omega (arith, some))
+before_within k (suc len) (p ∷ ps) more short some =
+    by_test p.is_sequence refl some (λ j l. before_within j l ps more)
+  where
+    by_test : (b : Bool) → p.is_sequence ≡ b → k < (if b then visible_count ps else suc (visible_count ps))
+        → ((j l : ℕ) → j < l → j < visible_count ps → parts_before j (parts_up_to l ps ++ more) ≡ parts_before j ps)
+        → parts_before k (p ∷ (parts_up_to (if b then suc len else len) ps ++ more)) ≡ parts_before k (p ∷ ps)
+    by_test true is some rest =
+        before_sequence k p (parts_up_to (suc len) ps ++ more) is ∙ ap (λ xs. p ∷ xs) (rest k (suc len) short some) ∙ sym (before_sequence k p ps is)
+    by_test false is some rest = visible k short some
+      where
+        visible : (k : ℕ) → k < suc len → k < suc (visible_count ps) → parts_before k (p ∷ (parts_up_to len ps ++ more)) ≡ parts_before k (p ∷ ps)
+        visible zero short some =
+            ap (λ b. if b then p ∷ parts_before zero (parts_up_to len ps ++ more) else []) is ∙ sym (ap (λ b. if b then p ∷ parts_before zero ps else []) is)
+        visible (suc k) short some =
+            ap (λ b. p ∷ parts_before (if b then suc k else k) (parts_up_to len ps ++ more)) is
+            ∙ ap (λ xs. p ∷ xs) (rest k len (omega (arith, short)) (omega (arith, some)))
+            ∙ sym (ap (λ b. p ∷ parts_before (if b then suc k else k) ps) is)
+
+-- ---- what is seen of scanned parts
+
+-- the visible bytes from one on
+seen_from : (n : ℕ) (ps : List Part) (rest : Text) → AreScanned ps rest → seen_of (parts_from n ps) ≡ drop n (seen_of ps)
+seen_from zero [] rest scanned = refl
+seen_from (suc n) [] rest scanned = refl
+seen_from zero (p ∷ ps) rest (inl part, more) =
+    subst (λ (x : Part). seen_of (parts_from zero (x ∷ ps)) ≡ seen_of (x ∷ ps)) (sym part.is) (seen_from zero ps rest more)
+seen_from zero (p ∷ ps) rest (inr part, more) =
+    subst (λ (x : Part). seen_of (parts_from zero (x ∷ ps)) ≡ seen_of (x ∷ ps)) (sym part.is) refl
+seen_from (suc n) (p ∷ ps) rest (inl part, more) =
+    subst (λ (x : Part). seen_of (parts_from (suc n) (x ∷ ps)) ≡ drop (suc n) (seen_of (x ∷ ps))) (sym part.is) (seen_from (suc n) ps rest more)
+seen_from (suc n) (p ∷ ps) rest (inr part, more) =
+    subst (λ (x : Part). seen_of (parts_from (suc n) (x ∷ ps)) ≡ drop (suc n) (seen_of (x ∷ ps))) (sym part.is) (seen_from n ps rest more)
+
+-- the visible bytes up to one
+seen_up_to : (n : ℕ) (ps : List Part) (rest : Text) → AreScanned ps rest → seen_of (parts_up_to n ps) ≡ take n (seen_of ps)
+seen_up_to zero ps rest scanned = refl
+seen_up_to (suc n) [] rest scanned = refl
+seen_up_to (suc n) (p ∷ ps) rest (inl part, more) =
+    subst (λ (x : Part). seen_of (parts_up_to (suc n) (x ∷ ps)) ≡ take (suc n) (seen_of (x ∷ ps))) (sym part.is) (seen_up_to (suc n) ps rest more)
+seen_up_to (suc n) (p ∷ ps) rest (inr part, more) =
+    subst (λ (x : Part). seen_of (parts_up_to (suc n) (x ∷ ps)) ≡ take (suc n) (seen_of (x ∷ ps))) (sym part.is) (ap (λ xs. part.byte ∷ xs) (seen_up_to n ps rest more))
+
+-- as many are counted
+count-seen : (ps : List Part) (rest : Text) → AreScanned ps rest → visible_count ps ≡ length (seen_of ps)
+count-seen [] rest scanned = refl
+count-seen (p ∷ ps) rest (inl part, more) =
+    subst (λ (x : Part). visible_count (x ∷ ps) ≡ length (seen_of (x ∷ ps))) (sym part.is) (count-seen ps rest more)
+count-seen (p ∷ ps) rest (inr part, more) =
+    subst (λ (x : Part). visible_count (x ∷ ps) ≡ length (seen_of (x ∷ ps))) (sym part.is) (ap suc (count-seen ps rest more))
+
+-- ---- closed texts
+
+-- the part that closes
+abbrev closing_part : List Text → List Part
+closing_part ss = if length ss == 0 then [] else sequence_part reset ∷ []
+
+-- a closed text has the parts of the text, and perhaps a reset
+parts-closed : (text : Text) → parts (closed text) ≡ parts text ++ closing_part (open_after (parts text))
+parts-closed text = by_test (length (open_after (parts text)) == 0)
+  where
+    by_test : (b : Bool) → parts (text ++ (if b then [] else reset)) ≡ parts text ++ (if b then [] else sequence_part reset ∷ [])
+    by_test true = ap parts (append-nil text) ∙ sym (append-nil (parts text))
+    by_test false =
+        ap (λ t. parts (t ++ reset)) (sym (scan text).bytes)
+        ∙ parts-scanned (parts text) reset (scanned-stops (parts text) [] reset (Stops-escape _) (scan text).scanned)
+
+-- no sequence is open at its end
+pub none_open : (text : Text) → open_after (parts (closed text)) ≡ []
+none_open text = ap open_after (parts-closed text) ∙ by_test (length (open_after (parts text)) == 0) refl
+  where
+    by_test : (b : Bool) → (length (open_after (parts text)) == 0) ≡ b → open_after (parts text ++ (if b then [] else sequence_part reset ∷ [])) ≡ []
+    by_test true none =
+        let len : length (open_after (parts text)) ≡ 0 = grind (arith, nat_tests) in
+        ap open_after (append-nil (parts text)) ∙ no_items (open_after (parts text)) len
+      where
+        no_items : (xs : List Text) → length xs ≡ 0 → xs ≡ []
+        no_items [] len = refl
+        no_items (x ∷ xs) len = absurd (omega (arith, len))
+    by_test false some =
+        ap (after_last (bytes_eq reset)) (sequences_in-append (parts text) (sequence_part reset ∷ [])) ∙ after_last-push (bytes_eq reset) (sequences_in (parts text)) reset
+
+-- as much is seen of it as of the text
+pub seen-closed : (text : Text) → visible_text (closed text) ≡ visible_text text
+seen-closed text =
+    ap seen_of (parts-closed text)
+    ∙ flat_map-append visible_bytes (parts text) (closing_part (open_after (parts text)))
+    ∙ ap (λ xs. visible_text text ++ xs) (by_test (length (open_after (parts text)) == 0))
+    ∙ append-nil (visible_text text)
+  where
+    by_test : (b : Bool) → seen_of (if b then [] else sequence_part reset ∷ []) ≡ []
+    by_test true = refl
+    by_test false = refl
+
+-- ---- sequences that are resumed
+
+-- the sequences among scanned parts are such
+every_sequence : (ps : List Part) (rest : Text) → AreScanned ps rest → AllByRecursion IsSequence (sequences_in ps)
+every_sequence [] rest scanned = tt
+every_sequence (p ∷ ps) rest (inl part, more) =
+    subst (λ (x : Part). AllByRecursion IsSequence (sequences_in (x ∷ ps))) (sym part.is) (part.sequence, every_sequence ps rest more)
+every_sequence (p ∷ ps) rest (inr part, more) =
+    subst (λ (x : Part). AllByRecursion IsSequence (sequences_in (x ∷ ps))) (sym part.is) (every_sequence ps rest more)
+
+-- and so are those of both of two lists of parts
+every_sequence-append : (ps qs : List Part) → AllByRecursion IsSequence (sequences_in ps) → AllByRecursion IsSequence (sequences_in qs) → AllByRecursion IsSequence (sequences_in (ps ++ qs))
+every_sequence-append ps qs each others =
+    subst (AllByRecursion IsSequence) (sym (sequences_in-append ps qs)) (every-append (sequences_in ps) (sequences_in qs) each others)
+  where
+    every-append : (xs ys : List Text) → AllByRecursion IsSequence xs → AllByRecursion IsSequence ys → AllByRecursion IsSequence (xs ++ ys)
+    every-append [] ys each others = others
+    every-append (x ∷ xs) ys each others = (each.0, every-append xs ys each.1 others)
+
+-- of all earlier text lines
+every_earlier : (texts : List Text) → AllByRecursion IsSequence (sequences_in (flat_map parts texts))
+every_earlier [] = tt
+every_earlier (text ∷ texts) =
+    every_sequence-append (parts text) (flat_map parts texts) (every_sequence (parts text) [] (scan text).scanned) (every_earlier texts)
+
+-- sequences are scanned parts, whatever follows them
+sequences_scanned : (ss : List Text) (rest : Text) → AllByRecursion IsSequence ss → AreScanned (map sequence_part ss) rest
+sequences_scanned [] rest each = tt
+sequences_scanned (s ∷ ss) rest each =
+    (inl (record { sequence = each.0; is = refl }), sequences_scanned ss rest each.1)
+
+-- their bytes
+bytes_of-sequences : (ss : List Text) → bytes_of (map sequence_part ss) ≡ concat ss
+bytes_of-sequences [] = refl
+bytes_of-sequences (s ∷ ss) = ap (λ xs. s ++ xs) (bytes_of-sequences ss)
+
+-- nothing is seen of them
+seen_of-sequences : (ss : List Text) → seen_of (map sequence_part ss) ≡ []
+seen_of-sequences [] = refl
+seen_of-sequences (s ∷ ss) = seen_of-sequences ss
+
+-- ---- the text of a line
+
+module _ (earlier : List Text) (text : Text) (start len : ℕ) where
+  -- the sequences that are resumed, the parts that the line takes, and both written
+  abbrev resumed : List Text
+  resumed = active earlier text start
+
+  abbrev taken : List Part
+  taken = parts_up_to len (parts_from start (parts text))
+
+  abbrev written : Text
+  written = concat resumed ++ bytes_of taken
+
+  every_resumed : AllByRecursion IsSequence resumed
+  every_resumed =
+      every-after_last (bytes_eq reset) IsSequence (sequences_in (flat_map parts earlier ++ parts_before start (parts text)))
+      (every_sequence-append (flat_map parts earlier) (parts_before start (parts text)) (every_earlier earlier)
+      (every_sequence (parts_before start (parts text)) (bytes_of (parts_from start (parts text)) ++ [])
+      (scanned-parts (parts_before start (parts text)) (parts_from start (parts text)) [] (subst (λ ps. AreScanned ps []) (sym (before_from start (parts text))) (scan text).scanned)).0))
+
+  from_scanned : AreScanned (parts_from start (parts text)) []
+  from_scanned =
+      (scanned-parts (parts_before start (parts text)) (parts_from start (parts text)) [] (subst (λ ps. AreScanned ps []) (sym (before_from start (parts text))) (scan text).scanned)).1
+
+  taken_scanned : AreScanned taken []
+  taken_scanned =
+      let rest = up_to_more len (parts_from start (parts text)) in
+      scanned-stops taken (bytes_of rest.0 ++ []) [] Stops-nil (scanned-parts taken rest.0 [] (subst (λ ps. AreScanned ps []) rest.1 from_scanned)).0
+
+  -- what is written has these parts
+  parts-written : parts written ≡ map sequence_part resumed ++ taken
+  parts-written =
+      ap (λ xs. parts (xs ++ bytes_of taken)) (sym (bytes_of-sequences resumed))
+      ∙ parts-scanned (map sequence_part resumed) (bytes_of taken) (sequences_scanned resumed (bytes_of taken) every_resumed)
+      ∙ ap (λ xs. map sequence_part resumed ++ parts xs) (sym (append-nil (bytes_of taken)))
+      ∙ ap (λ xs. map sequence_part resumed ++ xs) (parts-scanned taken [] taken_scanned ∙ append-nil taken)
+
+  seen_taken : seen_of taken ≡ take len (drop start (visible_text text))
+  seen_taken = seen_up_to len (parts_from start (parts text)) [] from_scanned ∙ ap (take len) (seen_from start (parts text) [] (scan text).scanned)
+
+  seen_written : visible_text written ≡ take len (drop start (visible_text text))
+  seen_written =
+      ap seen_of parts-written
+      ∙ flat_map-append visible_bytes (map sequence_part resumed) taken
+      ∙ ap (λ xs. xs ++ seen_of taken) (seen_of-sequences resumed)
+      ∙ seen_taken
+
+  -- no sequence is open at its end
+  pub line_closed : open_after (parts (line_text earlier text start len)) ≡ []
+  line_closed = by_test (len == 0)
+    where
+      by_test : (b : Bool) → open_after (parts (if b then [] else closed written)) ≡ []
+      by_test true = refl
+      by_test false = none_open written
+
+  -- what is seen of it is its slice of what is seen of the text line
+  pub line_seen : visible_text (line_text earlier text start len) ≡ take len (drop start (visible_text text))
+  line_seen = by_test (len == 0) refl
+    where
+      by_test : (b : Bool) → (len == 0) ≡ b → visible_text (if b then [] else closed written) ≡ take len (drop start (visible_text text))
+      by_test true none =
+          let zero_len : len ≡ 0 = grind (arith, nat_tests) in
+          ap (λ n. take n (drop start (visible_text text))) (sym zero_len)
+      by_test false some = seen-closed written ∙ seen_written
+
+  -- before each of its visible bytes the sequences are open that are active there
+  pub line_resumes : (k : ℕ) → start + len ≤ length (visible_text text) → k < len → open_after (parts_before k (parts (line_text earlier text start len))) ≡ active earlier text (start + k)
+  line_resumes k within below =
+      ap (λ (b : Bool). open_after (parts_before k (parts (if b then [] else closed written)))) some
+      ∙ ap (λ ps. open_after (parts_before k ps)) (parts-closed written ∙ ap (λ ps. ps ++ last) parts-written ∙ append_assoc (map sequence_part resumed) taken last)
+      ∙ ap open_after (before_sequences k resumed (taken ++ last) ∙ ap (λ ps. map sequence_part resumed ++ ps) (before_within k len (parts_from start (parts text)) last below enough))
+      ∙ ap (after_last (bytes_eq reset)) (sequences_in-append (map sequence_part resumed) inner ∙ ap (λ ss. ss ++ sequences_in inner) (sequences_in-sequences resumed))
+      ∙ after_last-again (bytes_eq reset) (sequences_in (flat_map parts earlier ++ parts_before start (parts text))) (sequences_in inner)
+      ∙ ap (after_last (bytes_eq reset)) (sym (sequences_in-append (flat_map parts earlier ++ parts_before start (parts text)) inner))
+      ∙ ap open_after (append_assoc (flat_map parts earlier) (parts_before start (parts text)) inner ∙ ap (λ ps. flat_map parts earlier ++ ps) (sym (before_further start k (start + k) (parts text) refl)))
+    where
+      last : List Part
+      last = closing_part (open_after (parts written))
+
+      inner : List Part
+      inner = parts_before k (parts_from start (parts text))
+
+      some : (len == 0) ≡ false
+      some = grind (arith, nat_tests, below)
+
+      enough : k < visible_count (parts_from start (parts text))
+      enough =
+          let counted = count-seen (parts_from start (parts text)) [] from_scanned in
+          let seen = ap length (seen_from start (parts text) [] (scan text).scanned) in
+          let left = length-drop start (visible_text text) in
+          omega (arith, counted, seen, left, within, below)
+
+-- ---- what is seen before any other text
+
+-- scanned parts of which no visible byte is ESC
+Shows-scanned : (ps : List Part) (rest : Text) → AreScanned ps rest → list_any (λ b. b == 0x1B) (seen_of ps) ≡ false → Shows (seen_of ps) (bytes_of ps)
+Shows-scanned [] rest scanned clear = Shows-nil
+Shows-scanned (p ∷ ps) rest (inl part, more) clear =
+    let s = part.sequence in
+    subst (λ (x : Part). Shows (seen_of (x ∷ ps)) (x.bytes ++ bytes_of ps)) (sym part.is)
+    (Shows-append [] (seen_of ps) p.bytes (bytes_of ps) (subst (Shows []) (sym s.is) (Shows-sequence s.code s.parameters))
+    (Shows-scanned ps rest more (subst (λ (x : Part). list_any (λ b. b == 0x1B) (seen_of (x ∷ ps)) ≡ false) part.is clear)))
+Shows-scanned (p ∷ ps) rest (inr part, more) clear =
+    let here = or_parts (part.byte == 0x1B) (list_any (λ b. b == 0x1B) (seen_of ps)) (subst (λ (x : Part). list_any (λ b. b == 0x1B) (seen_of (x ∷ ps)) ≡ false) part.is clear) in
+    subst (λ (x : Part). Shows (seen_of (x ∷ ps)) (x.bytes ++ bytes_of ps)) (sym part.is)
+    (Shows-append (part.byte ∷ []) (seen_of ps) (part.byte ∷ []) (bytes_of ps) (Shows-byte part.byte here.0) (Shows-scanned ps rest more here.1))
+
+-- a reset, written or not, shows nothing
+Shows-closing : (ss : List Text) → Shows [] (closing ss)
+Shows-closing ss = by_test (length ss == 0)
+  where
+    by_test : (b : Bool) → Shows [] (if b then [] else reset)
+    by_test true = Shows-nil
+    by_test false = Shows-sequence (codes "0") refl
+
+-- a text of which no visible byte is ESC, closed
+pub Shows-closed : (text : Text) → list_any (λ b. b == 0x1B) (visible_text text) ≡ false → Shows (visible_text text) (closed text)
+Shows-closed text clear =
+    subst (λ s. Shows s (closed text)) (append-nil (visible_text text))
+    (Shows-append (visible_text text) [] text (closing (open_after (parts text)))
+    (subst (Shows (visible_text text)) (scan text).bytes (Shows-scanned (parts text) [] (scan text).scanned clear)) (Shows-closing (open_after (parts text))))
+
+-- ---- lines without ESC
+
+-- a front of a text without ESC has none
+clear-take : (n : ℕ) (text : Text) → list_any (λ b. b == 0x1B) text ≡ false → list_any (λ b. b == 0x1B) (take n text) ≡ false
+clear-take zero text clear = refl
+clear-take (suc n) [] clear = refl
+clear-take (suc n) (b ∷ bs) clear =
+    let both = or_parts (b == 0x1B) (list_any (λ b. b == 0x1B) bs) clear in
+    or_from (b == 0x1B) (list_any (λ b. b == 0x1B) (take n bs)) both.0 (clear-take n bs both.1)
+
+-- nor has an end of it
+clear-drop : (n : ℕ) (text : Text) → list_any (λ b. b == 0x1B) text ≡ false → list_any (λ b. b == 0x1B) (drop n text) ≡ false
+clear-drop zero text clear = clear
+clear-drop (suc n) [] clear = refl
+clear-drop (suc n) (b ∷ bs) clear = clear-drop n bs (or_parts (b == 0x1B) (list_any (λ b. b == 0x1B) bs) clear).1
+
+-- the text of a line shows its slice of what is seen of the text line, before any other text
+pub Shows-line_text : (earlier : List Text) (text : Text) (start len : ℕ) → list_any (λ b. b == 0x1B) (visible_text text) ≡ false
+    → Shows (take len (drop start (visible_text text))) (line_text earlier text start len)
+Shows-line_text earlier text start len clear = by_test (len == 0) refl
+  where
+    slice : Text
+    slice = take len (drop start (visible_text text))
+
+    slice_clear : list_any (λ b. b == 0x1B) slice ≡ false
+    slice_clear = clear-take len (drop start (visible_text text)) (clear-drop start (visible_text text) clear)
+
+    by_test : (b : Bool) → (len == 0) ≡ b → Shows slice (if b then [] else closed (written earlier text start len))
+    by_test true none =
+        let zero_len : len ≡ 0 = grind (arith, nat_tests) in
+        subst (λ n. Shows (take n (drop start (visible_text text))) []) (sym zero_len) Shows-nil
+    by_test false some =
+        let same = seen_written earlier text start len in
+        subst (λ s. Shows s (closed (written earlier text start len))) same
+        (Shows-closed (written earlier text start len) (ap (list_any (λ b. b == 0x1B)) same ∙ slice_clear))

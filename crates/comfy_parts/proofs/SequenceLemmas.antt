@@ -1,0 +1,222 @@
+-- The parts of a text: a text either begins with an SGR sequence or with a visible byte, and its parts are those of any text with them at its front.
+use Rattle.std.proofs.Common.{◌≡◌, ◌⊎◌, inl, inr, ℕ, suc, ◌+◌, ◌-◌, Bool, true, false, cond, ◌&&◌, ◌==◌, [], ◌∷◌, ◌++◌, length, take, nat_lt, refl, sym, ap, ap₂, ◌∙◌, arith, eqb-true}
+use Rattle.std.specs.List.{list_all, prefix_len, flat_map, slice_index}
+use Rattle.std.specs.Prelude.{if◌then◌else◌}
+use Rattle.std.proofs.lemmas.Bool.{and_parts, both_ways}
+use Rattle.std.proofs.lemmas.Bool.Decides.{nat_tests}
+use Rattle.comfy_parts.specs.Text.{Text}
+use Rattle.comfy_parts.specs.VisibleText.{Part, is_parameter, parameter_count, sequence_len, part_at, parts, parts_past, visible_bytes, visible_text}
+use Rattle.comfy_parts.specs.Laws.{SequencesAreTakenOut, OtherBytesAreVisible}
+
+-- the two truth values differ
+pub true_is_false : true ≡ false → ⊥
+true_is_false is = both_ways true is refl
+
+-- one place on
+one_on : (c : ℕ) (cs : Text) (n : ℕ) → slice_index (c ∷ cs) (1 + n) ≡ slice_index cs n
+one_on c cs n =
+    let next : 1 + n ≡ suc n = omega arith in
+    ap (slice_index (c ∷ cs)) next
+
+-- ---- what a text begins with
+
+-- after ESC and `[`: parameters and an `m` follow
+abbrev pub ends_here : Text → Bool
+ends_here text = slice_index text (prefix_len is_parameter text) == 0x6D
+
+-- a text that is an SGR sequence
+pub record IsSequence (text : Text) : Type 0 where
+  pub code : Text
+  pub parameters : list_all is_parameter code ≡ true
+  pub is : text ≡ 0x1B ∷ 0x5B ∷ (code ++ (0x6D ∷ []))
+
+-- a text that begins with one
+pub record BeginsWithSequence (text : Text) : Type 0 where
+  pub code : Text
+  pub rest : Text
+  pub parameters : list_all is_parameter code ≡ true
+  pub is : text ≡ 0x1B ∷ 0x5B ∷ (code ++ (0x6D ∷ rest))
+
+-- what is behind ESC and `[` and ends so is parameters, an `m` and a rest
+ends_here-is : (text : Text) → ends_here text ≡ true → (code : Text) × (rest : Text) × (list_all is_parameter code ≡ true) × (text ≡ code ++ (0x6D ∷ rest))
+ends_here-is [] ends = absurd (true_is_false (sym ends))
+ends_here-is (c ∷ cs) ends = by_test (is_parameter c) refl ends (ends_here-is cs)
+  where
+    by_test : (b : Bool) → is_parameter c ≡ b → (slice_index (c ∷ cs) (cond b (1 + prefix_len is_parameter cs) 0) == 0x6D) ≡ true
+        → (ends_here cs ≡ true → (code : Text) × (rest : Text) × (list_all is_parameter code ≡ true) × (cs ≡ code ++ (0x6D ∷ rest)))
+        → (code : Text) × (rest : Text) × (list_all is_parameter code ≡ true) × (c ∷ cs ≡ code ++ (0x6D ∷ rest))
+    by_test true passes ends rest =
+        let more = rest (ap (λ x. x == 0x6D) (sym (one_on c cs (prefix_len is_parameter cs))) ∙ ends) in
+        (c ∷ more.0, more.1, ap (λ b. b && list_all is_parameter more.0) passes ∙ more.2, ap (λ xs. c ∷ xs) more.3)
+    by_test false stops ends rest = ([], cs, refl, ap (λ x. x ∷ cs) (eqb-true c 0x6D ends))
+
+-- whether a text begins with a sequence
+abbrev pub begins_with_sequence : Text → Bool
+begins_with_sequence text =
+    (slice_index text 0 == 0x1B) && ((slice_index text 1 == 0x5B) && (slice_index text (2 + parameter_count text) == 0x6D))
+
+-- two bytes in, what is told of the bytes behind them
+two_on : (a b : ℕ) (text : Text) → slice_index (a ∷ b ∷ text) (2 + prefix_len is_parameter text) ≡ slice_index text (prefix_len is_parameter text)
+two_on a b text =
+    let next : 2 + prefix_len is_parameter text ≡ suc (suc (prefix_len is_parameter text)) = omega arith in
+    ap (slice_index (a ∷ b ∷ text)) next
+
+-- ESC and `[` in front of what ends so
+begins-two : (a b : ℕ) (text : Text) → begins_with_sequence (a ∷ b ∷ text) ≡ ((a == 0x1B) && ((b == 0x5B) && ends_here text))
+begins-two a b text = ap (λ x. (a == 0x1B) && ((b == 0x5B) && (x == 0x6D))) (two_on a b text)
+
+-- a text that does is such a text
+begins-is : (text : Text) → begins_with_sequence text ≡ true → BeginsWithSequence text
+begins-is [] begins = absurd (true_is_false (sym begins))
+begins-is (a ∷ []) begins =
+    absurd (true_is_false (sym (and_parts (a == 0x1B) false begins).1))
+begins-is (a ∷ b ∷ text) begins =
+    let first = and_parts (a == 0x1B) ((b == 0x5B) && ends_here text) (sym (begins-two a b text) ∙ begins) in
+    let next = and_parts (b == 0x5B) (ends_here text) first.1 in
+    let more = ends_here-is text next.1 in
+    record { code = more.0; rest = more.1; parameters = more.2; is = ap₂ (λ x xs. x ∷ xs) (eqb-true a 0x1B first.0) (ap₂ (λ x xs. x ∷ xs) (eqb-true b 0x5B next.0) more.3) }
+
+-- a text begins with a sequence, or has none at its front
+pub front_of : (text : Text) → BeginsWithSequence text ⊎ (begins_with_sequence text ≡ false)
+front_of text = by_test (begins_with_sequence text) refl
+  where
+    by_test : (b : Bool) → begins_with_sequence text ≡ b → BeginsWithSequence text ⊎ (b ≡ false)
+    by_test true begins = inl (begins-is text begins)
+    by_test false free = inr refl
+
+-- ---- what follows can't make a sequence
+
+-- a text that can't continue an unfinished sequence
+pub record Stops (rest : Text) : Type 0 where
+  pub no_end : ends_here rest ≡ false
+  pub no_start : (slice_index rest 0 == 0x5B) ≡ false
+
+-- the empty text is one, and so is each that begins with ESC
+pub Stops-nil : Stops []
+Stops-nil = record { no_end = refl; no_start = refl }
+
+pub Stops-escape : (more : Text) → Stops (0x1B ∷ more)
+Stops-escape more = record { no_end = refl; no_start = refl }
+
+-- without parameters and an `m` before any rest, there are none before such a one
+ends_here-stops : (xs rest other : Text) → Stops other → ends_here (xs ++ rest) ≡ false → ends_here (xs ++ other) ≡ false
+ends_here-stops [] rest other stops free = stops.no_end
+ends_here-stops (c ∷ cs) rest other stops free = by_test (is_parameter c) free (ends_here-stops cs rest other stops)
+  where
+    by_test : (b : Bool) → (slice_index (c ∷ (cs ++ rest)) (cond b (1 + prefix_len is_parameter (cs ++ rest)) 0) == 0x6D) ≡ false
+        → (ends_here (cs ++ rest) ≡ false → ends_here (cs ++ other) ≡ false)
+        → (slice_index (c ∷ (cs ++ other)) (cond b (1 + prefix_len is_parameter (cs ++ other)) 0) == 0x6D) ≡ false
+    by_test true free more =
+        ap (λ x. x == 0x6D) (one_on c (cs ++ other) (prefix_len is_parameter (cs ++ other)))
+        ∙ more (ap (λ x. x == 0x6D) (sym (one_on c (cs ++ rest) (prefix_len is_parameter (cs ++ rest)))) ∙ free)
+    by_test false free more = free
+
+-- a first byte that is visible before any rest is visible before such a one
+pub visible-stops : (b : ℕ) (xs rest other : Text) → Stops other → begins_with_sequence (b ∷ (xs ++ rest)) ≡ false → begins_with_sequence (b ∷ (xs ++ other)) ≡ false
+visible-stops b [] rest other stops free = by_test (b == 0x1B) (slice_index other 0 == 0x5B) stops.no_start
+  where
+    by_test : (first next : Bool) → next ≡ false → (first && (next && (slice_index (b ∷ other) (2 + parameter_count (b ∷ other)) == 0x6D))) ≡ false
+    by_test false next is = refl
+    by_test true true is = absurd (true_is_false is)
+    by_test true false is = refl
+visible-stops b (c ∷ cs) rest other stops free =
+    begins-two b c (cs ++ other)
+    ∙ by_test (b == 0x1B) (c == 0x5B) (ends_here (cs ++ rest)) (ends_here (cs ++ other)) (sym (begins-two b c (cs ++ rest)) ∙ free) (ends_here-stops cs rest other stops)
+  where
+    by_test : (first next end end' : Bool) → (first && (next && end)) ≡ false → (end ≡ false → end' ≡ false) → (first && (next && end')) ≡ false
+    by_test false next end end' free more = refl
+    by_test true false end end' free more = refl
+    by_test true true end end' free more = more free
+
+-- ---- the parts of a text
+
+-- parameters before an `m` are counted
+prefix_len-parameters : (code rest : Text) → list_all is_parameter code ≡ true → prefix_len is_parameter (code ++ (0x6D ∷ rest)) ≡ length code
+prefix_len-parameters [] rest all = refl
+prefix_len-parameters (c ∷ cs) rest all =
+    let both = and_parts (is_parameter c) (list_all is_parameter cs) all in
+    let more = prefix_len-parameters cs rest both.1 in
+    ap (λ t. cond t (1 + prefix_len is_parameter (cs ++ (0x6D ∷ rest))) 0) both.0 ∙ omega (arith, more)
+
+-- the byte behind a front
+pub slice_index_behind : (xs : Text) (x : ℕ) (ys : Text) → slice_index (xs ++ (x ∷ ys)) (length xs) ≡ x
+slice_index_behind [] x ys = refl
+slice_index_behind (c ∷ cs) x ys = slice_index_behind cs x ys
+
+-- what is skipped gives free part
+parts_past-behind : (code : Text) (m : ℕ) (rest : Text) → parts_past (suc (length code)) (code ++ (m ∷ rest)) ≡ parts_past 0 rest
+parts_past-behind [] m rest = refl
+parts_past-behind (c ∷ cs) m rest = parts_past-behind cs m rest
+
+-- the bytes of a sequence, and no more
+take-sequence : (code rest : Text) → take (suc (length code)) (code ++ (0x6D ∷ rest)) ≡ code ++ (0x6D ∷ [])
+take-sequence [] rest = refl
+take-sequence (c ∷ cs) rest = ap (λ xs. c ∷ xs) (take-sequence cs rest)
+
+-- how long the sequence at the front of such a text is
+pub sequence_len-sequence : (code rest : Text) → list_all is_parameter code ≡ true → sequence_len (0x1B ∷ 0x5B ∷ (code ++ (0x6D ∷ rest))) ≡ suc (suc (suc (length code)))
+sequence_len-sequence code rest all = ap₂ (λ x n. if x == 0x6D then n + 3 else 0) ends count ∙ omega arith
+  where
+    text : Text
+    text = 0x1B ∷ 0x5B ∷ (code ++ (0x6D ∷ rest))
+
+    count : parameter_count text ≡ length code
+    count = prefix_len-parameters code rest all
+
+    ends : slice_index text (2 + parameter_count text) ≡ 0x6D
+    ends =
+        let place : 2 + parameter_count text ≡ suc (suc (length code)) = omega (arith, count) in
+        ap (slice_index text) place ∙ slice_index_behind code 0x6D rest
+
+-- a text that begins with a sequence has it as its first part
+pub parts-sequence : (code rest : Text) → list_all is_parameter code ≡ true
+    → parts (0x1B ∷ 0x5B ∷ (code ++ (0x6D ∷ rest))) ≡ record { is_sequence = true; bytes = 0x1B ∷ 0x5B ∷ (code ++ (0x6D ∷ [])) } ∷ parts rest
+parts-sequence code rest all = ap₂ (λ (p : Part) ps. p ∷ ps) part skipped
+  where
+    text : Text
+    text = 0x1B ∷ 0x5B ∷ (code ++ (0x6D ∷ rest))
+
+    count : parameter_count text ≡ length code
+    count = prefix_len-parameters code rest all
+
+    ends : slice_index text (2 + parameter_count text) ≡ 0x6D
+    ends =
+        let place : 2 + parameter_count text ≡ suc (suc (length code)) = omega (arith, count) in
+        ap (slice_index text) place ∙ slice_index_behind code 0x6D rest
+
+    len : sequence_len text ≡ suc (suc (suc (length code)))
+    len = ap₂ (λ x n. if x == 0x6D then n + 3 else 0) ends count ∙ omega arith
+
+    part : part_at text ≡ record { is_sequence = true; bytes = 0x1B ∷ 0x5B ∷ (code ++ (0x6D ∷ [])) }
+    part =
+        let some : nat_lt 0 (suc (suc (suc (length code)))) ≡ true = grind (arith, nat_tests) in
+        ap (λ n. if nat_lt 0 n then record { is_sequence = true; bytes = take n text } else record { is_sequence = false; bytes = take 1 text }) len
+        ∙ ap (λ t. if t then record { is_sequence = true; bytes = take (suc (suc (suc (length code)))) text } else record { is_sequence = false; bytes = take 1 text }) some
+        ∙ ap (λ (bytes : Text). record { is_sequence = true; bytes = 0x1B ∷ 0x5B ∷ bytes }) (take-sequence code rest)
+
+    skipped : parts_past (sequence_len text - 1) (0x5B ∷ (code ++ (0x6D ∷ rest))) ≡ parts_past 0 rest
+    skipped =
+        let back : sequence_len text - 1 ≡ suc (suc (length code)) = omega (arith, len) in
+        ap (λ n. parts_past n (0x5B ∷ (code ++ (0x6D ∷ rest)))) back ∙ parts_past-behind code 0x6D rest
+
+-- any other has its first byte
+pub parts-visible : (b : ℕ) (rest : Text) → begins_with_sequence (b ∷ rest) ≡ false → parts (b ∷ rest) ≡ record { is_sequence = false; bytes = b ∷ [] } ∷ parts rest
+parts-visible b rest free =
+    ap (λ n. (if nat_lt 0 n then record { is_sequence = true; bytes = take n (b ∷ rest) } else record { is_sequence = false; bytes = take 1 (b ∷ rest) }) ∷ parts_past (n - 1) rest) none
+  where
+    none : sequence_len (b ∷ rest) ≡ 0
+    none = ap (λ t. if t then parameter_count (b ∷ rest) + 3 else 0) free
+
+-- ---- what is visible
+
+-- a sequence at the front of a text shows nothing
+pub sequences_are_taken_out : (code rest : Text) → SequencesAreTakenOut code rest
+sequences_are_taken_out code rest all = ap (flat_map visible_bytes) (parts-sequence code rest all)
+
+-- any other first byte is visible
+pub other_bytes_are_visible : (b : ℕ) (rest : Text) → OtherBytesAreVisible b rest
+other_bytes_are_visible b rest none = by_front (front_of (b ∷ rest))
+  where
+    by_front : BeginsWithSequence (b ∷ rest) ⊎ (begins_with_sequence (b ∷ rest) ≡ false) → visible_text (b ∷ rest) ≡ b ∷ visible_text rest
+    by_front (inl s) = absurd (none s.code s.rest s.parameters s.is)
+    by_front (inr free) = ap (flat_map visible_bytes) (parts-visible b rest free)

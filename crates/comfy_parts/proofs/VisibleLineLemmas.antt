@@ -1,0 +1,206 @@
+-- The lines of a cell with sequences: they are seen as the lines of the visible text, and each is written as its slice with the sequences resumed and closed.
+use Rattle.std.proofs.Common.{◌≡◌, ℕ, zero, suc, ◌+◌, ◌-◌, Bool, true, false, ◌==◌, List, [], ◌∷◌, ◌++◌, length, map, take, drop, zip, nat_le, refl, sym, ap, ap₂, ◌∙◌, subst, arith, ◌<◌, ◌≤◌, append_assoc}
+use Rattle.std.specs.List.{list_any, flat_map, AllByRecursion}
+use Rattle.std.specs.Prelude.{if◌then◌else◌}
+use Rattle.std.proofs.lemmas.List.{map-append, length-take, length-drop}
+use Rattle.comfy_parts.specs.Text.{Text, measure, begins_with}
+use Rattle.comfy_parts.specs.VisibleLines.{CellLine, starts_past, starts_of_text, line_texts_of_text, line_texts_past, line_texts}
+use Rattle.comfy_parts.specs.VisibleText.{parts, visible_text, open_after, line_text}
+use Rattle.comfy_parts.specs.Wrapping.{lines_past, wrapped, lines_of_text, line_end, part_end}
+use Rattle.comfy_parts.specs.Laws.{IsResumedLine, LinesAreResumed}
+use Rattle.comfy_parts.proofs.LineTextLemmas.{line_closed, line_resumes, line_seen, Shows-line_text}
+use Rattle.comfy_parts.proofs.ShownLemmas.{Shows}
+
+-- ---- lists
+
+-- a whole list is taken
+take-length : {X : Type 0} (xs : List X) → take (length xs) xs ≡ xs
+take-length [] = refl
+take-length {X} (x ∷ xs) = ap (λ (ys : List X). x ∷ ys) (take-length xs)
+
+-- a front is as long as it is
+take-take : {X : Type 0} (n : ℕ) (xs : List X) → take (length (take n xs)) xs ≡ take n xs
+take-take zero xs = refl
+take-take (suc n) [] = refl
+take-take {X} (suc n) (x ∷ xs) = ap (λ (ys : List X). x ∷ ys) (take-take n xs)
+
+-- one element more is dropped
+drop_next : (n : ℕ) (xs : Text) (b : ℕ) (rest : Text) → drop n xs ≡ b ∷ rest → drop (n + 1) xs ≡ rest
+drop_next n xs b rest is =
+    let next : n + 1 ≡ suc n = omega arith in
+    ap (λ k. drop k xs) next ∙ one n xs is
+  where
+    one : (n : ℕ) (xs : Text) → drop n xs ≡ b ∷ rest → drop (suc n) xs ≡ rest
+    one zero [] is = absurd (let len = ap length is in omega (arith, len))
+    one zero (x ∷ xs) is = ap (drop 1) is
+    one (suc n) [] is = absurd (let len = ap length is in omega (arith, len))
+    one (suc n) (x ∷ xs) is = one n xs is
+
+-- what holds of pairs, in front of others
+zip-one : (P : ℕ × Text → Type 0) (t : Bool) (at : ℕ) (line : Text) (starts : List ℕ) (lines : List Text) → P (at, line) → AllByRecursion P (zip starts lines)
+    → AllByRecursion P (zip ((if t then [] else at ∷ []) ++ starts) ((if t then [] else line ∷ []) ++ lines))
+zip-one P true at line starts lines here more = more
+zip-one P false at line starts lines here more = (here, more)
+
+-- the second ones of pairs, likewise
+seconds-one : (t : Bool) (at : ℕ) (line : Text) (starts : List ℕ) (lines : List Text) → map (λ (p : ℕ × Text). p.1) (zip starts lines) ≡ lines
+    → map (λ (p : ℕ × Text). p.1) (zip ((if t then [] else at ∷ []) ++ starts) ((if t then [] else line ∷ []) ++ lines)) ≡ (if t then [] else line ∷ []) ++ lines
+seconds-one true at line starts lines more = more
+seconds-one false at line starts lines more = ap (λ xs. line ∷ xs) more
+
+-- ---- where lines stand
+
+-- the line stands at its place in the text
+abbrev StandsIn : Text → ℕ × Text → Type 0
+StandsIn whole p = take (length p.1) (drop p.0 whole) ≡ p.1
+
+-- so do the lines of what follows the skipped bytes
+lines_stand : (w d : ℕ) (whole : Text) (at skip : ℕ) (text : Text) → drop at whole ≡ text → AllByRecursion (StandsIn whole) (zip (starts_past w d at skip text) (lines_past w d skip text))
+unfolding lines_past
+lines_stand w d whole at zero [] is = tt
+lines_stand w d whole at (suc skip) [] is = tt
+lines_stand w d whole at (suc skip) (b ∷ rest) is = lines_stand w d whole (at + 1) skip rest (drop_next at whole b rest is)
+lines_stand w d whole at zero (b ∷ rest) is =
+    let line : Text = take (line_end w d (b ∷ rest)) (b ∷ rest) in
+    zip-one (StandsIn whole) (begins_with d (b ∷ rest)) at line (starts_past w d (at + 1) (part_end w d (b ∷ rest) - 1) rest) (lines_past w d (part_end w d (b ∷ rest) - 1) rest)
+    (ap (take (length line)) is ∙ take-take (line_end w d (b ∷ rest)) (b ∷ rest))
+    (lines_stand w d whole (at + 1) (part_end w d (b ∷ rest) - 1) rest (drop_next at whole b rest is))
+
+-- there are as many places as lines
+as_many : (w d at skip : ℕ) (text : Text) → map (λ (p : ℕ × Text). p.1) (zip (starts_past w d at skip text) (lines_past w d skip text)) ≡ lines_past w d skip text
+unfolding lines_past
+as_many w d at zero [] = refl
+as_many w d at (suc skip) [] = refl
+as_many w d at (suc skip) (b ∷ rest) = as_many w d (at + 1) skip rest
+as_many w d at zero (b ∷ rest) =
+    seconds-one (begins_with d (b ∷ rest)) at (take (line_end w d (b ∷ rest)) (b ∷ rest)) (starts_past w d (at + 1) (part_end w d (b ∷ rest) - 1) rest) (lines_past w d (part_end w d (b ∷ rest) - 1) rest)
+    (as_many w d (at + 1) (part_end w d (b ∷ rest) - 1) rest)
+
+-- the lines of a text stand at their places
+text_lines_stand : (w d : ℕ) (text : Text) → AllByRecursion (StandsIn text) (zip (starts_of_text w d text) (lines_of_text w d text))
+text_lines_stand w d text = by_test (nat_le (measure text) w)
+  where
+    by_test : (b : Bool) → AllByRecursion (StandsIn text) (zip (if b then 0 ∷ [] else starts_past w d 0 0 text) (if b then text ∷ [] else wrapped w d text))
+    by_test true = (take-length text, tt)
+    by_test false = lines_stand w d text 0 0 text refl
+
+-- as many as there are
+as_many_lines : (w d : ℕ) (text : Text) → map (λ (p : ℕ × Text). p.1) (zip (starts_of_text w d text) (lines_of_text w d text)) ≡ lines_of_text w d text
+as_many_lines w d text = by_test (nat_le (measure text) w)
+  where
+    by_test : (b : Bool) → map (λ (p : ℕ × Text). p.1) (zip (if b then 0 ∷ [] else starts_past w d 0 0 text) (if b then text ∷ [] else wrapped w d text)) ≡ (if b then text ∷ [] else wrapped w d text)
+    by_test true = refl
+    by_test false = as_many w d 0 0 text
+
+-- ---- lines that are written
+
+-- what a function gives of each
+every-map : {X Y : Type 0} (P : X → Type 0) (Q : Y → Type 0) (f : X → Y) (xs : List X) → ((x : X) → P x → Q (f x)) → AllByRecursion P xs → AllByRecursion Q (map f xs)
+every-map P Q f [] gives each = tt
+every-map P Q f (x ∷ xs) gives each = (gives x each.0, every-map P Q f xs gives each.1)
+
+-- what a function gives of what another one gives
+map-both : {X Y Z : Type 0} (g : Y → Z) (f : X → Y) (xs : List X) → map g (map f xs) ≡ map (λ x. g (f x)) xs
+map-both g f [] = refl
+map-both {X} {Y} {Z} g f (x ∷ xs) = ap (λ (zs : List Z). g (f x) ∷ zs) (map-both g f xs)
+
+-- both lists
+every-append : {X : Type 0} (P : X → Type 0) (xs ys : List X) → AllByRecursion P xs → AllByRecursion P ys → AllByRecursion P (xs ++ ys)
+every-append P [] ys each others = others
+every-append P (x ∷ xs) ys each others = (each.0, every-append P xs ys each.1 others)
+
+-- the lines of a text line are seen as those of its visible text
+seen_of_text : (w d : ℕ) (earlier : List Text) (text : Text) → map (λ (line : CellLine). line.seen) (line_texts_of_text w d earlier text) ≡ lines_of_text w d (visible_text text)
+seen_of_text w d earlier text =
+    map-both (λ (line : CellLine). line.seen) (λ (p : ℕ × Text). record { seen = p.1; written = line_text earlier text p.0 (length p.1) }) (zip (starts_of_text w d (visible_text text)) (lines_of_text w d (visible_text text)))
+    ∙ as_many_lines w d (visible_text text)
+
+seen_past : (w d : ℕ) (earlier text_lines : List Text) → map (λ (line : CellLine). line.seen) (line_texts_past w d earlier text_lines) ≡ flat_map (lines_of_text w d) (map visible_text text_lines)
+seen_past w d earlier [] = refl
+seen_past w d earlier (text ∷ more) =
+    map-append (λ (line : CellLine). line.seen) (line_texts_of_text w d earlier text) (line_texts_past w d (earlier ++ text ∷ []) more)
+    ∙ ap₂ (λ (xs ys : List Text). xs ++ ys) (seen_of_text w d earlier text) (seen_past w d (earlier ++ text ∷ []) more)
+
+-- the lines of a cell are seen as those of its visible texts
+pub seen_lines : (w d : ℕ) (text_lines : List Text) → map (λ (line : CellLine). line.seen) (line_texts w d text_lines) ≡ flat_map (lines_of_text w d) (map visible_text text_lines)
+seen_lines w d text_lines = seen_past w d [] text_lines
+
+-- what holds of each line of each text line holds of all lines of a cell
+each_line : (w d : ℕ) (P : Text → Type 0) (Q : CellLine → Type 0) → ((earlier : List Text) (text : Text) → P text → AllByRecursion Q (line_texts_of_text w d earlier text))
+    → (earlier text_lines : List Text) → AllByRecursion P text_lines → AllByRecursion Q (line_texts_past w d earlier text_lines)
+each_line w d P Q gives earlier [] each = tt
+each_line w d P Q gives earlier (text ∷ more) each =
+    every-append Q (line_texts_of_text w d earlier text) (line_texts_past w d (earlier ++ text ∷ []) more) (gives earlier text each.0)
+    (each_line w d P Q gives (earlier ++ text ∷ []) more each.1)
+
+-- no sequence is open at the end of a line
+pub lines_closed : (w d : ℕ) (text_lines : List Text) → AllByRecursion (λ (line : CellLine). open_after (parts line.written) ≡ []) (line_texts w d text_lines)
+lines_closed w d text_lines = each_line w d (λ text. Unit {0}) Closed of_text [] text_lines (always text_lines)
+  where
+    Closed : CellLine → Type 0
+    Closed line = open_after (parts line.written) ≡ []
+
+    of_text : (earlier : List Text) (text : Text) → Unit {0} → AllByRecursion Closed (line_texts_of_text w d earlier text)
+    of_text earlier text _ =
+        every-map (StandsIn (visible_text text)) Closed (λ (p : ℕ × Text). record { seen = p.1; written = line_text earlier text p.0 (length p.1) }) (zip (starts_of_text w d (visible_text text)) (lines_of_text w d (visible_text text)))
+        (λ p stands. line_closed earlier text p.0 (length p.1)) (text_lines_stand w d (visible_text text))
+
+    always : (xs : List Text) → AllByRecursion (λ (x : Text). Unit {0}) xs
+    always [] = tt
+    always (x ∷ xs) = (tt, always xs)
+
+-- the sequences taken out of a line's text, what is seen of it is left
+pub lines_seen : (w d : ℕ) (text_lines : List Text) → AllByRecursion (λ (line : CellLine). visible_text line.written ≡ line.seen) (line_texts w d text_lines)
+lines_seen w d text_lines = each_line w d (λ text. Unit {0}) Seen of_text [] text_lines (always text_lines)
+  where
+    Seen : CellLine → Type 0
+    Seen line = visible_text line.written ≡ line.seen
+
+    of_text : (earlier : List Text) (text : Text) → Unit {0} → AllByRecursion Seen (line_texts_of_text w d earlier text)
+    of_text earlier text _ =
+        every-map (StandsIn (visible_text text)) Seen (λ (p : ℕ × Text). record { seen = p.1; written = line_text earlier text p.0 (length p.1) }) (zip (starts_of_text w d (visible_text text)) (lines_of_text w d (visible_text text)))
+        (λ p stands. line_seen earlier text p.0 (length p.1) ∙ stands) (text_lines_stand w d (visible_text text))
+
+    always : (xs : List Text) → AllByRecursion (λ (x : Text). Unit {0}) xs
+    always [] = tt
+    always (x ∷ xs) = (tt, always xs)
+
+-- where no visible text holds ESC, also before any other text
+pub lines_show : (w d : ℕ) (text_lines : List Text) → AllByRecursion (λ text. list_any (λ b. b == 0x1B) (visible_text text) ≡ false) text_lines
+    → AllByRecursion (λ (line : CellLine). Shows line.seen line.written) (line_texts w d text_lines)
+lines_show w d text_lines each = each_line w d Clear Shown of_text [] text_lines each
+  where
+    Clear : Text → Type 0
+    Clear text = list_any (λ b. b == 0x1B) (visible_text text) ≡ false
+
+    Shown : CellLine → Type 0
+    Shown line = Shows line.seen line.written
+
+    of_text : (earlier : List Text) (text : Text) → Clear text → AllByRecursion Shown (line_texts_of_text w d earlier text)
+    of_text earlier text clear =
+        every-map (StandsIn (visible_text text)) Shown (λ (p : ℕ × Text). record { seen = p.1; written = line_text earlier text p.0 (length p.1) }) (zip (starts_of_text w d (visible_text text)) (lines_of_text w d (visible_text text)))
+        (λ p stands. subst (λ s. Shows s (line_text earlier text p.0 (length p.1))) stands (Shows-line_text earlier text p.0 (length p.1) clear)) (text_lines_stand w d (visible_text text))
+
+-- before each visible byte of a line the sequences are open that are active there
+resumed_of_text : (w d : ℕ) (text_lines earlier : List Text) (text : Text) (later : List Text) → text_lines ≡ earlier ++ text ∷ later → AllByRecursion (IsResumedLine text_lines) (line_texts_of_text w d earlier text)
+resumed_of_text w d text_lines earlier text later is =
+    every-map (StandsIn (visible_text text)) (IsResumedLine text_lines) (λ (p : ℕ × Text). record { seen = p.1; written = line_text earlier text p.0 (length p.1) }) (zip (starts_of_text w d (visible_text text)) (lines_of_text w d (visible_text text)))
+    (λ p stands. record { earlier = earlier; text = text; later = later; in_cell = is; start = p.0; place = stands; resumed = λ k below. line_resumes earlier text p.0 (length p.1) k (within p.0 p.1 stands k below) below })
+    (text_lines_stand w d (visible_text text))
+  where
+    within : (start : ℕ) (line : Text) → StandsIn (visible_text text) (start, line) → (k : ℕ) → k < length line → start + length line ≤ length (visible_text text)
+    within start line stands k below =
+        let taken = sym (length-take (length line) (drop start (visible_text text))) ∙ ap length stands in
+        let left = length-drop start (visible_text text) in
+        omega (arith, taken, left, below)
+
+resumed_past : (w d : ℕ) (text_lines earlier more : List Text) → text_lines ≡ earlier ++ more → AllByRecursion (IsResumedLine text_lines) (line_texts_past w d earlier more)
+resumed_past w d text_lines earlier [] is = tt
+resumed_past w d text_lines earlier (text ∷ more) is =
+    every-append (IsResumedLine text_lines) (line_texts_of_text w d earlier text) (line_texts_past w d (earlier ++ text ∷ []) more)
+    (resumed_of_text w d text_lines earlier text more is)
+    (resumed_past w d text_lines (earlier ++ text ∷ []) more (is ∙ sym (append_assoc earlier (text ∷ []) more)))
+
+-- so it is with every line of a cell
+pub lines_resumed : (w d : ℕ) (text_lines : List Text) → LinesAreResumed w d text_lines
+lines_resumed w d text_lines = resumed_past w d text_lines [] text_lines refl

@@ -1,0 +1,8 @@
+use Rattle.comfy_parts.proofs.VisibleLineLemmas.{seen_lines, lines_seen}
+use Rattle.comfy_parts.proofs.laws.sequences_count_nothing.Goals as goal
+
+pub returns-clause-lines : goal.returns-clause-lines
+returns-clause-lines c = seen_lines
+
+pub returns-clause-written : goal.returns-clause-written
+returns-clause-written c = lines_seen

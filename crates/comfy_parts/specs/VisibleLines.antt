@@ -1,0 +1,37 @@
+-- The lines of a cell whose text holds SGR sequences: what is visible of it decides where lines end, and each line resumes and closes the sequences of its part of the cell.
+use Rattle.std.specs.Prelude.{ℕ, zero, suc, ◌+◌, ◌-◌, List, [], ◌∷◌, ◌++◌, map, length, nat_le, zip, if◌then◌else◌}
+use Rattle.comfy_parts.specs.Text.{Text, measure, begins_with}
+use Rattle.comfy_parts.specs.VisibleText.{visible_text, line_text}
+use Rattle.comfy_parts.specs.Wrapping.{lines_of_text, part_end}
+
+-- a line of a cell: what is seen of it, which alone is measured and cut, and what is written
+pub record CellLine : Type 0 where
+  pub seen : Text
+  pub written : Text
+
+-- the places at which the lines of a text begin
+module _ (w d : ℕ) where
+  -- those after the first `skip` bytes, which begin at place `at`
+  abbrev pub starts_past : ℕ → ℕ → Text → List ℕ
+  starts_past at skip [] = []
+  starts_past at zero (b ∷ rest) =
+      (if begins_with d (b ∷ rest) then [] else at ∷ []) ++ starts_past (at + 1) (part_end w d (b ∷ rest) - 1) rest
+  starts_past at (suc skip) (b ∷ rest) = starts_past (at + 1) skip rest
+
+  -- a text that fits is one line, which begins at 0
+  abbrev pub starts_of_text : Text → List ℕ
+  starts_of_text text = if nat_le (measure text) w then 0 ∷ [] else starts_past 0 0 text
+
+-- the lines of a text line that follows earlier ones of its cell
+abbrev pub line_texts_of_text : ℕ → ℕ → List Text → Text → List CellLine
+line_texts_of_text w d earlier text =
+    map (λ (p : ℕ × Text). record { seen = p.1; written = line_text earlier text p.0 (length p.1) }) (zip (starts_of_text w d (visible_text text)) (lines_of_text w d (visible_text text)))
+
+-- the lines of text lines that follow earlier ones: their sequences stay active
+abbrev pub line_texts_past : ℕ → ℕ → List Text → List Text → List CellLine
+line_texts_past w d earlier [] = []
+line_texts_past w d earlier (text ∷ more) = line_texts_of_text w d earlier text ++ line_texts_past w d (earlier ++ text ∷ []) more
+
+-- the lines of all text lines of a cell
+abbrev pub line_texts : ℕ → ℕ → List Text → List CellLine
+line_texts w d text_lines = line_texts_past w d [] text_lines

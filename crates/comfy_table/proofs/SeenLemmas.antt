@@ -1,0 +1,91 @@
+-- A table as it is seen: its rows, and what holds of them.
+use Rattle.std.proofs.Common.{◌≡◌, ℕ, zero, suc, Bool, true, false, List, [], ◌∷◌, ◌++◌, Option, Some, None, map, option_map, option_to_list, refl, ap}
+use Rattle.std.specs.List.{All, slice_get, join_by}
+use Rattle.std.specs.Prelude.{if◌then◌else◌}
+use Rattle.std.specs.Str.{IsUtf8}
+use Rattle.std.proofs.lemmas.List.Elements.{All-cons, All-head, All-nil, All-tail}
+use Rattle.std.proofs.lemmas.List.Folds.{flat_map-map}
+use Rattle.comfy_parts.proofs.VisibleWholeLemmas.{visible_text-whole}
+use Rattle.comfy_parts.specs.CellValue.{CellValue, RowValue}
+use Rattle.comfy_parts.specs.VisibleText.{visible_text}
+use Rattle.comfy_table.specs.TableValue.{TableValue, HasTextLines, header_and_rows, seen_rows, seen_table, visible_cell, visible_row}
+use Rattle.comfy_table.specs.Arrangement.{IsArranged}
+
+-- a cell and a row as they are seen
+abbrev pub cell_seen : Bool → CellValue → CellValue
+cell_seen custom cell = record cell { text_lines = if custom then map visible_text cell.text_lines else cell.text_lines }
+
+abbrev pub row_seen : Bool → RowValue → RowValue
+row_seen custom row = record row { cells = if custom then map visible_cell row.cells else row.cells }
+
+-- the rows of a table are seen one by one
+pub rows_seen : (custom : Bool) (rows : List RowValue) → (if custom then map visible_row rows else rows) ≡ map (row_seen custom) rows
+rows_seen true rows = refl
+rows_seen false [] = refl
+rows_seen false (row ∷ rows) = ap (λ (more : List RowValue). row ∷ more) (rows_seen false rows)
+
+-- and so is a header
+pub header_seen : (custom : Bool) (header : Option RowValue) → (if custom then option_map visible_row header else header) ≡ option_map (row_seen custom) header
+header_seen true header = refl
+header_seen false None = refl
+header_seen false (Some row) = refl
+
+-- the cell of a row at a position
+pub get_seen : (custom : Bool) (cells : List CellValue) (i : ℕ) → slice_get (if custom then map visible_cell cells else cells) i ≡ option_map (cell_seen custom) (slice_get cells i)
+get_seen true [] i = refl
+get_seen true (cell ∷ cells) zero = refl
+get_seen true (cell ∷ cells) (suc i) = get_seen true cells i
+get_seen false [] i = refl
+get_seen false (cell ∷ cells) zero = refl
+get_seen false (cell ∷ cells) (suc i) = get_seen false cells i
+
+-- parts of what a function gives, joined
+pub join_by-map : {X Y Z : Type 0} (f : Y → List Z) (separator : List Z) (g : X → Y) (xs : List X) → join_by f separator (map g xs) ≡ join_by (λ x. f (g x)) separator xs
+join_by-map f separator g [] = refl
+join_by-map {X} {Y} {Z} f separator g (x ∷ xs) = ap (λ (more : List Z). f (g x) ++ more) (flat_map-map (λ y. separator ++ f y) g xs)
+
+-- what follows for each row as it is seen
+pub All-seen : (table : TableValue) (P : RowValue → Type 0) → ((row : RowValue) → P row → P (visible_row row)) → All P (header_and_rows table) → All P (seen_rows table)
+All-seen table P gives each = by_test table.custom_styling
+  where
+    every : (rows : List RowValue) → All P rows → All P (map visible_row rows)
+    every [] each = All-nil P
+    every (row ∷ rows) each = All-cons P (visible_row row) (map visible_row rows) (gives row (All-head P row rows each)) (every rows (All-tail P row rows each))
+
+    with_header : (header : Option RowValue) → All P (option_to_list header ++ table.rows) → All P (option_to_list (option_map visible_row header) ++ map visible_row table.rows)
+    with_header None each = every table.rows each
+    with_header (Some row) each =
+        All-cons P (visible_row row) (map visible_row table.rows) (gives row (All-head P row table.rows each)) (every table.rows (All-tail P row table.rows each))
+
+    by_test : (custom : Bool) → All P (option_to_list (if custom then option_map visible_row table.header else table.header) ++ (if custom then map visible_row table.rows else table.rows))
+    by_test true = with_header table.header each
+    by_test false = each
+
+-- the text lines of a row are whole characters
+abbrev pub IsWholeRow : RowValue → Type 0
+IsWholeRow row = All (λ (cell : CellValue). All IsUtf8 cell.text_lines) row.cells
+
+-- and stay so
+pub seen_whole : (table : TableValue) → HasTextLines table → All IsWholeRow (seen_rows table)
+seen_whole table each = All-seen table IsWholeRow (λ row whole. cells row.cells whole) each
+  where
+    lines : (texts : List (List ℕ)) → All IsUtf8 texts → All IsUtf8 (map visible_text texts)
+    lines [] each = All-nil IsUtf8
+    lines (text ∷ texts) each =
+        All-cons IsUtf8 (visible_text text) (map visible_text texts) (visible_text-whole text (All-head IsUtf8 text texts each)) (lines texts (All-tail IsUtf8 text texts each))
+
+    cells : (cs : List CellValue) → All (λ (cell : CellValue). All IsUtf8 cell.text_lines) cs → All (λ (cell : CellValue). All IsUtf8 cell.text_lines) (map visible_cell cs)
+    cells [] each = All-nil (λ (cell : CellValue). All IsUtf8 cell.text_lines)
+    cells (cell ∷ cs) each =
+        All-cons (λ (cell : CellValue). All IsUtf8 cell.text_lines) (visible_cell cell) (map visible_cell cs)
+        (lines cell.text_lines (All-head (λ (cell : CellValue). All IsUtf8 cell.text_lines) cell cs each)) (cells cs (All-tail (λ (cell : CellValue). All IsUtf8 cell.text_lines) cell cs each))
+
+-- the widths of a table are those of the table as it is seen
+pub arranged_as_seen : (table : TableValue) (widths : List ℕ) → IsArranged table widths → IsArranged (seen_table table) widths
+arranged_as_seen table widths arranged =
+    record { one_for_each = arranged.one_for_each; hidden_widths = arranged.hidden_widths; visible_widths = arranged.visible_widths }
+
+-- and the other way round
+pub seen_is_arranged : (table : TableValue) (widths : List ℕ) → IsArranged (seen_table table) widths → IsArranged table widths
+seen_is_arranged table widths arranged =
+    record { one_for_each = arranged.one_for_each; hidden_widths = arranged.hidden_widths; visible_widths = arranged.visible_widths }

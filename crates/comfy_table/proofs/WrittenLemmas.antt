@@ -1,0 +1,200 @@
+-- The lines of a cell with the texts that are written for them: which are seen, which sequences are open, and what they show.
+use Rattle.std.proofs.Common.{◌≡◌, ℕ, zero, suc, ◌-◌, Bool, true, false, List, [], ◌∷◌, ◌++◌, Option, Some, None, length, map, take, drop, nat_le, refl, sym, ap, ap₂, ◌∙◌, subst, slice_index_or, arith, ◌≤◌}
+use Rattle.std.specs.List.{All, AllByRecursion, flat_map}
+use Rattle.std.specs.Prelude.{if◌then◌else◌}
+use Rattle.std.specs.Str.{IsUtf8}
+use Rattle.std.proofs.lemmas.List.{length-map, map-append}
+use Rattle.std.proofs.lemmas.List.Elements.{All-head, All-tail, All-weaker}
+use Rattle.std.proofs.lemmas.Str.{IsUtf8-nil}
+use Rattle.comfy_parts.proofs.LineTextLemmas.{none_open, Shows-closed}
+use Rattle.comfy_parts.proofs.ShownLemmas.{Shows, Shows-clear, visible_text-is}
+use Rattle.comfy_parts.proofs.VisibleLineLemmas.{lines_closed, lines_resumed, lines_show, seen_lines}
+use Rattle.comfy_parts.proofs.WholeLineLemmas.{lines_of_text-utf8}
+use Rattle.comfy_parts.specs.CellValue.{CellValue, RowValue, ColumnInfo}
+use Rattle.comfy_parts.specs.Laws.{IsResumedLine}
+use Rattle.comfy_parts.specs.Text.{Text}
+use Rattle.std.proofs.lemmas.Bool.Decides.{nat_tests}
+use Rattle.comfy_parts.specs.VisibleLines.{CellLine, line_texts}
+use Rattle.comfy_parts.specs.VisibleText.{closed, open_after, parts, visible_text}
+use Rattle.comfy_parts.specs.Wrapping.{lines_of_text}
+use Rattle.comfy_table.proofs.EscapeLemmas.{cut_line-clear, lines_of_text-clear}
+use Rattle.comfy_table.proofs.ListLemmas.{All-flat_map, At-or}
+use Rattle.comfy_table.specs.Laws.{CutLinesAreClosed, HasNoEscape, LinesAreResumedInRow, NoneIsOpenAtTheEnd}
+use Rattle.comfy_table.specs.Lines.{cell_delimiter, cut_at, cut_cell_line, cut_cell_lines_at, cut_line, uncut_count}
+use Rattle.comfy_table.specs.Pieces.{row_cell_texts}
+use Rattle.comfy_table.specs.TableValue.{TableValue}
+
+-- no line
+abbrev no_line : CellLine
+no_line = record { seen = []; written = [] }
+
+-- what is seen of some lines
+abbrev pub seen_of : List CellLine → List Text
+seen_of lines = map (λ (line : CellLine). line.seen) lines
+
+-- ---- lines of which some are cut
+
+-- what is seen of the line at a place
+seen_at : (lines : List CellLine) (k : ℕ) → (slice_index_or lines k no_line).seen ≡ slice_index_or (seen_of lines) k []
+seen_at [] k = refl
+seen_at (line ∷ lines) zero = refl
+seen_at (line ∷ lines) (suc k) = seen_at lines k
+
+-- of the first lines
+seen_take : (n : ℕ) (lines : List CellLine) → seen_of (take n lines) ≡ take n (seen_of lines)
+seen_take zero lines = refl
+seen_take (suc n) [] = refl
+seen_take (suc n) (line ∷ lines) = ap (λ (xs : List Text). line.seen ∷ xs) (seen_take n lines)
+
+-- lines are cut by what is seen of them
+seen_cut : (height : Option ℕ) (w : ℕ) (indicator : Text) (lines : List CellLine) → seen_of (cut_cell_lines_at height w indicator lines) ≡ cut_at height w indicator (seen_of lines)
+seen_cut None w indicator lines = refl
+seen_cut (Some h) w indicator lines =
+    by_test (nat_le (length lines) h)
+    ∙ ap (λ n. if nat_le n h then seen_of lines else take (h - 1) (seen_of lines) ++ cut_line w indicator (slice_index_or (seen_of lines) (h - 1) []) ∷ []) (sym (length-map lines (λ (line : CellLine). line.seen)))
+  where
+    by_test : (b : Bool) → seen_of (if b then lines else take (h - 1) lines ++ cut_cell_line w indicator (slice_index_or lines (h - 1) no_line) ∷ [])
+        ≡ (if b then seen_of lines else take (h - 1) (seen_of lines) ++ cut_line w indicator (slice_index_or (seen_of lines) (h - 1) []) ∷ [])
+    by_test true = refl
+    by_test false =
+        map-append (λ (line : CellLine). line.seen) (take (h - 1) lines) (cut_cell_line w indicator (slice_index_or lines (h - 1) no_line) ∷ [])
+        ∙ ap₂ (λ (xs : List Text) (x : Text). xs ++ x ∷ []) (seen_take (h - 1) lines) (ap (cut_line w indicator) (seen_at lines (h - 1)))
+
+-- what holds of each line and of those that are cut
+each_cut : (P : CellLine → Type 0) (height : Option ℕ) (w : ℕ) (indicator : Text) (lines : List CellLine) → AllByRecursion P lines → ((k : ℕ) → P (cut_cell_line w indicator (slice_index_or lines k no_line)))
+    → AllByRecursion P (cut_cell_lines_at height w indicator lines)
+each_cut P None w indicator lines each cut = each
+each_cut P (Some h) w indicator lines each cut = by_test (nat_le (length lines) h)
+  where
+    push : (xs : List CellLine) (x : CellLine) → AllByRecursion P xs → P x → AllByRecursion P (xs ++ x ∷ [])
+    push [] x each last = (last, tt)
+    push (y ∷ ys) x each last = (each.0, push ys x each.1 last)
+
+    front : (n : ℕ) (xs : List CellLine) → AllByRecursion P xs → AllByRecursion P (take n xs)
+    front zero xs each = tt
+    front (suc n) [] each = tt
+    front (suc n) (x ∷ xs) each = (each.0, front n xs each.1)
+
+    by_test : (b : Bool) → AllByRecursion P (if b then lines else take (h - 1) lines ++ cut_cell_line w indicator (slice_index_or lines (h - 1) no_line) ∷ [])
+    by_test true = each
+    by_test false =
+        push (take (h - 1) lines) (cut_cell_line w indicator (slice_index_or lines (h - 1) no_line)) (front (h - 1) lines each) (cut (h - 1))
+
+-- ---- the lines of a cell in a row
+
+-- no sequence is open at the end of one, cut or not
+pub none_is_open_at_the_end : (table : TableValue) (row : RowValue) (info : ColumnInfo) (cell : CellValue) → NoneIsOpenAtTheEnd table row info cell
+none_is_open_at_the_end table row info cell =
+    each_cut (λ (line : CellLine). open_after (parts line.written) ≡ []) row.max_height info.content_width table.indicator (line_texts info.content_width (cell_delimiter table info.delimiter cell) cell.text_lines)
+    (lines_closed info.content_width (cell_delimiter table info.delimiter cell) cell.text_lines)
+    (λ k. none_open (cut_line info.content_width table.indicator (slice_index_or (line_texts info.content_width (cell_delimiter table info.delimiter cell) cell.text_lines) k no_line).seen))
+
+-- they are seen as the lines of the visible texts
+pub texts_seen : (table : TableValue) (row : RowValue) (info : ColumnInfo) (cell : CellValue)
+    → seen_of (row_cell_texts table row info cell) ≡ cut_at row.max_height info.content_width table.indicator (flat_map (lines_of_text info.content_width (cell_delimiter table info.delimiter cell)) (map visible_text cell.text_lines))
+texts_seen table row info cell =
+    seen_cut row.max_height info.content_width table.indicator (line_texts info.content_width (cell_delimiter table info.delimiter cell) cell.text_lines)
+    ∙ ap (cut_at row.max_height info.content_width table.indicator) (seen_lines info.content_width (cell_delimiter table info.delimiter cell) cell.text_lines)
+
+-- what is written shows what is seen, where that has no ESC
+pub texts_show : (table : TableValue) (row : RowValue) (info : ColumnInfo) (cell : CellValue) → HasNoEscape table.indicator → All IsUtf8 (map visible_text cell.text_lines) → All HasNoEscape (map visible_text cell.text_lines)
+    → AllByRecursion (λ (line : CellLine). Shows line.seen line.written) (row_cell_texts table row info cell)
+texts_show table row info cell mark utf8 clear =
+    each_cut (λ (line : CellLine). Shows line.seen line.written) row.max_height w table.indicator lines (lines_show w d cell.text_lines (of_map cell.text_lines clear)) cut
+  where
+    w : ℕ
+    w = info.content_width
+
+    d : ℕ
+    d = cell_delimiter table info.delimiter cell
+
+    lines : List CellLine
+    lines = line_texts w d cell.text_lines
+
+    of_map : (texts : List Text) → All HasNoEscape (map visible_text texts) → AllByRecursion (λ text. HasNoEscape (visible_text text)) texts
+    of_map [] each = tt
+    of_map (text ∷ texts) each =
+        (All-head HasNoEscape (visible_text text) (map visible_text texts) each, of_map texts (All-tail HasNoEscape (visible_text text) (map visible_text texts) each))
+
+    whole_lines : All IsUtf8 (seen_of lines)
+    whole_lines =
+        subst (All IsUtf8) (sym (seen_lines w d cell.text_lines))
+        (All-flat_map IsUtf8 (lines_of_text w d) (map visible_text cell.text_lines) (All-weaker IsUtf8 (λ text. All IsUtf8 (lines_of_text w d text)) (lines_of_text-utf8 w d) (map visible_text cell.text_lines) utf8))
+
+    clear_lines : All HasNoEscape (seen_of lines)
+    clear_lines =
+        subst (All HasNoEscape) (sym (seen_lines w d cell.text_lines))
+        (All-flat_map HasNoEscape (lines_of_text w d) (map visible_text cell.text_lines) (All-weaker HasNoEscape (λ text. All HasNoEscape (lines_of_text w d text)) (lines_of_text-clear w d) (map visible_text cell.text_lines) clear))
+
+    cut : (k : ℕ) → Shows (cut_line w table.indicator (slice_index_or lines k no_line).seen) (closed (cut_line w table.indicator (slice_index_or lines k no_line).seen))
+    cut k =
+        let line : Text = (slice_index_or lines k no_line).seen in
+        let at : line ≡ slice_index_or (seen_of lines) k [] = seen_at lines k in
+        let whole : IsUtf8 line = subst IsUtf8 (sym at) (At-or IsUtf8 (seen_of lines) k [] whole_lines IsUtf8-nil) in
+        let free : HasNoEscape line = subst HasNoEscape (sym at) (At-or HasNoEscape (seen_of lines) k [] clear_lines refl) in
+        let cut_free : HasNoEscape (cut_line w table.indicator line) = cut_line-clear w table.indicator line mark whole free in
+        let same : visible_text (cut_line w table.indicator line) ≡ cut_line w table.indicator line = visible_text-is (cut_line w table.indicator line) (cut_line w table.indicator line) (Shows-clear (cut_line w table.indicator line) cut_free) in
+        subst (λ s. Shows s (closed (cut_line w table.indicator line))) same (Shows-closed (cut_line w table.indicator line) (subst HasNoEscape (sym same) cut_free))
+
+-- before each visible byte of a line that isn't cut the sequences are open that are active there
+pub lines_are_resumed : (table : TableValue) (row : RowValue) (info : ColumnInfo) (cell : CellValue) → LinesAreResumedInRow table row info cell
+lines_are_resumed table row info cell = by_height row.max_height
+  where
+    w : ℕ
+    w = info.content_width
+
+    lines : List CellLine
+    lines = line_texts w (cell_delimiter table info.delimiter cell) cell.text_lines
+
+    each : AllByRecursion (IsResumedLine cell.text_lines) lines
+    each = lines_resumed w (cell_delimiter table info.delimiter cell) cell.text_lines
+
+    front : (n : ℕ) (xs : List CellLine) → AllByRecursion (IsResumedLine cell.text_lines) xs → AllByRecursion (IsResumedLine cell.text_lines) (take n xs)
+    front zero xs each = tt
+    front (suc n) [] each = tt
+    front (suc n) (x ∷ xs) each = (each.0, front n xs each.1)
+
+    before : (n : ℕ) (xs : List CellLine) (x : CellLine) → n ≤ length xs → AllByRecursion (IsResumedLine cell.text_lines) xs → AllByRecursion (IsResumedLine cell.text_lines) (take n (take n xs ++ x ∷ []))
+    before zero xs x enough each = tt
+    before (suc n) [] x enough each = absurd (omega (arith, enough))
+    before (suc n) (y ∷ ys) x enough each = (each.0, before n ys x (omega (arith, enough)) each.1)
+
+    by_test : (h : ℕ) (b : Bool) → nat_le (length lines) h ≡ b
+        → AllByRecursion (IsResumedLine cell.text_lines) (take (if b then length lines else h - 1) (if b then lines else take (h - 1) lines ++ cut_cell_line w table.indicator (slice_index_or lines (h - 1) no_line) ∷ []))
+    by_test h true is = front (length lines) lines each
+    by_test h false is = before (h - 1) lines (cut_cell_line w table.indicator (slice_index_or lines (h - 1) no_line)) (grind (arith, nat_tests, is)) each
+
+    by_height : (height : Option ℕ) → AllByRecursion (IsResumedLine cell.text_lines) (take (uncut_count height lines) (cut_cell_lines_at height w table.indicator lines))
+    by_height None = front (length lines) lines each
+    by_height (Some h) = by_test h (nat_le (length lines) h) refl
+
+-- a line that is cut is written as it is seen, closed
+pub cut_lines_are_closed : (table : TableValue) (row : RowValue) (info : ColumnInfo) (cell : CellValue) → CutLinesAreClosed table row info cell
+cut_lines_are_closed table row info cell = by_height row.max_height
+  where
+    w : ℕ
+    w = info.content_width
+
+    lines : List CellLine
+    lines = line_texts w (cell_delimiter table info.delimiter cell) cell.text_lines
+
+    Closed : CellLine → Type 0
+    Closed line = line.written ≡ closed line.seen
+
+    none_behind : (xs : List CellLine) → AllByRecursion Closed (drop (length xs) xs)
+    none_behind [] = tt
+    none_behind (x ∷ xs) = none_behind xs
+
+    behind : (n : ℕ) (xs : List CellLine) (x : CellLine) → n ≤ length xs → Closed x → AllByRecursion Closed (drop n (take n xs ++ x ∷ []))
+    behind zero xs x enough is = (is, tt)
+    behind (suc n) [] x enough is = absurd (omega (arith, enough))
+    behind (suc n) (y ∷ ys) x enough is = behind n ys x (omega (arith, enough)) is
+
+    by_test : (h : ℕ) (b : Bool) → nat_le (length lines) h ≡ b
+        → AllByRecursion Closed (drop (if b then length lines else h - 1) (if b then lines else take (h - 1) lines ++ cut_cell_line w table.indicator (slice_index_or lines (h - 1) no_line) ∷ []))
+    by_test h true is = none_behind lines
+    by_test h false is = behind (h - 1) lines (cut_cell_line w table.indicator (slice_index_or lines (h - 1) no_line)) (grind (arith, nat_tests, is)) refl
+
+    by_height : (height : Option ℕ) → AllByRecursion Closed (drop (uncut_count height lines) (cut_cell_lines_at height w table.indicator lines))
+    by_height None = none_behind lines
+    by_height (Some h) = by_test h (nat_le (length lines) h) refl
