@@ -1,5 +1,6 @@
 -- What cells, rows, columns and drawn columns are, as values.
 use Rattle.std.specs.Prelude.{ℕ, ℤ, ◌+◌, ◌-◌, Bool, true, false, not, List, [], ◌∷◌, ◌++◌, Option, Some, None, map, filter, length, max, min, codes, decimal, encode_utf8, if◌then◌else◌, ◌≡◌, ◌<◌, ◌≤◌, ◌==◌, All, IfSome, IsUtf8}
+use Rattle.std.specs.Char.{IsScalar}
 use Rattle.std.specs.Fmt.{signed_decimal}
 use Rattle.std.specs.List.{range_with_len, slice_split, list_any, join_with_byte}
 use Rattle.comfy_parts.specs.Text.{Text}
@@ -24,9 +25,14 @@ pub record HasTextLines (text_lines : List Text) : Type 0 where
   pub no_breaks : All (λ (line : Text). list_any (λ b. b == 0x0A) line ≡ false) text_lines
   pub whole : All IsUtf8 text_lines
 
+-- a delimiter, where one is set, is a character
+abbrev pub IsDelimiter : Option ℕ → Type 0
+IsDelimiter delimiter = IfSome delimiter IsScalar
+
 -- what every cell keeps
-abbrev pub IsCell : CellValue → Type 0
-IsCell cell = HasTextLines cell.text_lines
+pub record IsCell (cell : CellValue) : Type 0 where
+  pub text_lines : HasTextLines cell.text_lines
+  pub delimiter : IsDelimiter cell.delimiter
 
 -- a row: its cells, and the greatest height of its cells, at least 1
 pub record RowValue : Type 0 where

@@ -21,13 +21,13 @@ pub struct Cell {
 
 impl Model for Cell {
     ghost use Rattle.std.specs.Prelude.{map, string_bytes};
-    ghost use Rattle.comfy_parts.specs.CellValue.{CellValue, HasTextLines};
+    ghost use Rattle.comfy_parts.specs.CellValue.{CellValue, HasTextLines, IsDelimiter};
 
     ghost Value = { CellValue };
 
     ghost view = { λ c. record { text_lines = map string_bytes c.text_lines.items; delimiter = c.delimiter; alignment = c.alignment; foreground = c.foreground; background = c.background; attributes = c.attributes.items } };
 
-    ghost invariant = { λ c. HasTextLines (map string_bytes c.text_lines.items) };
+    ghost invariant = { λ c. HasTextLines (map string_bytes c.text_lines.items) × IsDelimiter c.delimiter };
 }
 
 impl Cell {

@@ -1,7 +1,7 @@
 //! The settings of a column.
 
 ghost use Rattle.std.specs.Prelude.{◌≡◌, None, Some, option_copied};
-ghost use Rattle.comfy_parts.specs.CellValue.{is_hidden_column, new_column, padding_stopped};
+ghost use Rattle.comfy_parts.specs.CellValue.{IsDelimiter, is_hidden_column, new_column, padding_stopped};
 
 use crate::style::{CellAlignment, ColumnConstraint};
 use std::marker::Model;
@@ -18,9 +18,11 @@ pub struct Column {
 }
 
 impl Model for Column {
-    ghost use Rattle.comfy_parts.specs.CellValue.{ColumnValue};
+    ghost use Rattle.comfy_parts.specs.CellValue.{ColumnValue, IsDelimiter};
 
     ghost Value = { ColumnValue };
+
+    ghost invariant = { λ c. IsDelimiter c.delimiter };
 
     ghost view = { λ c. record { padding = c.padding; delimiter = c.delimiter; alignment = c.alignment; constraint = c.constraint; index = c.index } };
 
@@ -50,7 +52,8 @@ impl Column {
 
     /// The character at which the texts of the column may break; none where the table's is taken.
     pub fn column_delimiter(&self) -> Option<char>
-        ensures { result ≡ self.now.delimiter }
+        ensures value { result ≡ self.now.delimiter }
+        ensures is_delimiter { IsDelimiter result }
     {
         self.delimiter
     }

@@ -54,7 +54,7 @@ all_rows table kept = by_header table.header kept.0
 
 -- what rows keep are whole characters
 whole_row : (row : RowValue) → IsRow row → IsWholeRow row
-whole_row row kept = All-weaker IsCell (λ (cell : CellValue). All IsUtf8 cell.text_lines) (λ cell keeps. keeps.whole) row.cells kept.cells
+whole_row row kept = All-weaker IsCell (λ (cell : CellValue). All IsUtf8 cell.text_lines) (λ cell keeps. keeps.text_lines.whole) row.cells kept.cells
 
 -- and promise what every drawing does
 pub table_drawing : (table : TableValue) (infos : List ColumnInfo) (lines : List Text) → IsUtf8 table.indicator → KeepsRows table.header table.rows → AreInfosOf table infos → lines ≡ drawing_of_infos table infos → IsTableDrawing table lines

@@ -11,7 +11,7 @@ invariant_of-result c =
     let split = c.split-line-items.ensures in
     let cut = YieldsList-from_str_split 10 _ (lit< tt) (ap split_text same ∙ split.text ∙ c.as_str.ensures.value) (ap split_has_more same ∙ split.has_more) (ap split_pattern same ∙ split.pattern) in
     let all = YieldsList-end cut c.loop-line.yielded _ c.loop-line.yielded_by _ _ c.in-None.is c.next.ensures.steps in
-    has_text_lines (string_bytes c.args.text) _ (c.loop-line.invariant ∙ all.0)
+    (has_text_lines (string_bytes c.args.text) _ (c.loop-line.invariant ∙ all.0), tt)
 
 pub returns : goal.returns
 returns c =
