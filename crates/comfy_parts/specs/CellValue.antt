@@ -52,6 +52,10 @@ pub record ColumnValue : Type 0 where
   pub constraint : Option ColumnConstraint
   pub index : ℕ
 
+-- what every column keeps
+abbrev pub IsColumn : ColumnValue → Type 0
+IsColumn column = IsDelimiter column.delimiter
+
 -- what a row is drawn by in one column: the column's settings, the width of its content, and whether it is hidden
 pub record ColumnInfo : Type 0 where
   pub padding : ℕ × ℕ

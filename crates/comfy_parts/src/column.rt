@@ -1,7 +1,7 @@
 //! The settings of a column.
 
 ghost use Rattle.std.specs.Prelude.{◌≡◌, None, Some, option_copied};
-ghost use Rattle.comfy_parts.specs.CellValue.{IsDelimiter, is_hidden_column, new_column, padding_stopped};
+ghost use Rattle.comfy_parts.specs.CellValue.{IsColumn, is_hidden_column, new_column, padding_stopped};
 
 use crate::style::{CellAlignment, ColumnConstraint};
 use std::marker::Model;
@@ -53,7 +53,7 @@ impl Column {
     /// The character at which the texts of the column may break; none where the table's is taken.
     pub fn column_delimiter(&self) -> Option<char>
         ensures value { result ≡ self.now.delimiter }
-        ensures is_delimiter { IsDelimiter result }
+        ensures is_column { IsColumn self.now }
     {
         self.delimiter
     }

@@ -1,16 +1,16 @@
 -- What a drawing over the table's infos promises.
-use Rattle.std.proofs.Common.{◌≡◌, ◌⊎◌, inl, inr, ℕ, Bool, true, false, if◌then◌else◌, nat_le, List, [], ◌∷◌, ◌++◌, Option, Some, None, option_to_list, map, String, refl, ap, sym, ◌∙◌}
-use Rattle.std.proofs.lemmas.List.Elements.{All-cons, All-weaker}
+use Rattle.std.proofs.Common.{◌≡◌, ◌⊎◌, inl, inr, ℕ, ◌+◌, Bool, true, false, if◌then◌else◌, nat_le, not, List, [], ◌∷◌, ◌++◌, Option, Some, None, option_to_list, map, zip, unwrap_or, String, refl, ap, sym, ◌∙◌}
+use Rattle.std.proofs.lemmas.List.Elements.{All-cons, All-filter, All-head, All-nil, All-tail, All-weaker}
 use Rattle.std.proofs.lemmas.Str.{IsUtf8-string_bytes}
 use Rattle.std.specs.Char.{IsScalar}
-use Rattle.std.specs.List.{All}
+use Rattle.std.specs.List.{All, enumerate_from}
 use Rattle.std.specs.Option.{IfSome}
 use Rattle.std.specs.Str.{IsUtf8}
 use Rattle.comfy_parts.proofs.Computing.{wrapping}
 use Rattle.comfy_parts.proofs.WrappedLemmas.{wrapped_is_wrapped}
 use Rattle.comfy_parts.proofs.WrappingLemmas.{one_character}
-use Rattle.comfy_table.proofs.SeenLemmas.{IsWholeRow, seen_whole}
-use Rattle.comfy_parts.specs.CellValue.{CellValue, ColumnInfo, IsCell, IsRow, RowValue}
+use Rattle.comfy_table.proofs.SeenLemmas.{IsSeenCell, IsSeenRow, IsWholeRow, seen_kept, whole_row}
+use Rattle.comfy_parts.specs.CellValue.{CellValue, ColumnInfo, ColumnValue, IsCell, IsColumn, IsDelimiter, IsRow, RowValue, info_of}
 use Rattle.comfy_parts.specs.Text.{Text, measure}
 use Rattle.comfy_parts.specs.Wrapping.{IsWrapped, wrapped}
 use Rattle.comfy_table.proofs.EqualCountLemmas.{equal_counts}
@@ -24,7 +24,7 @@ use Rattle.comfy_table.specs.Drawing.{drawing_of_infos, infos_of}
 use Rattle.comfy_table.specs.Headline.{IsClosedInRow, IsCutClosedInRow, IsResumedInRow, IsCutIntoSlices, IsTableDrawing, IsTextOrSlices}
 use Rattle.comfy_table.specs.Lines.{cell_delimiter}
 use Rattle.comfy_table.specs.Pieces.{visible_infos}
-use Rattle.comfy_table.specs.TableValue.{HasTextLines, KeepsRows, TableValue, ellipsis, header_and_rows, indicator_of, seen_rows}
+use Rattle.comfy_table.specs.TableValue.{HasTextLines, KeepsParts, TableValue, ellipsis, header_and_rows, indicator_of, seen_rows}
 
 -- lines that are drawn over the table's infos are its drawing
 pub drawing_of_table : (table : TableValue) (infos : List ColumnInfo) (lines : List Text) → AreInfosOf table infos → lines ≡ drawing_of_infos table infos → IsDrawingOf table lines
@@ -38,35 +38,54 @@ text_or_slices w d text scalar whole = by_test (nat_le (measure text) w)
     by_test true = inl refl
     by_test false = inr (wrapped_is_wrapped w d text scalar whole)
 
--- such are the lines of each text line of a row's cells
-row_slices : (table : TableValue) (row : RowValue) → IsWholeRow row → (p : ℕ × ColumnInfo) → IsCutIntoSlices table row p
-row_slices table row kept p cell is scalar =
+-- a delimiter, or another character where there is none, is a character
+delimiter_or : (delimiter : Option ℕ) (other : ℕ) → IsDelimiter delimiter → IsScalar other → IsScalar (unwrap_or delimiter other)
+delimiter_or None other is given = given
+delimiter_or (Some d) other is given = is
+
+-- such are the lines of each text line of a row's cells, in a column whose delimiter is a character
+row_slices : (table : TableValue) (row : RowValue) → IsDelimiter table.delimiter → All IsSeenCell row.cells → (p : ℕ × ColumnInfo) → IsDelimiter p.1.delimiter → IsCutIntoSlices table row p
+row_slices table row own kept p of_column cell is =
+    let seen : IsSeenCell cell = All-at IsSeenCell row.cells p.0 cell kept is in
+    let scalar : IsScalar (cell_delimiter table p.1.delimiter cell) = delimiter_or cell.delimiter _ seen.1 (delimiter_or p.1.delimiter _ of_column (delimiter_or table.delimiter 0x20 own refl)) in
     All-weaker IsUtf8 (IsTextOrSlices p.1.content_width (cell_delimiter table p.1.delimiter cell))
-    (λ text whole. text_or_slices p.1.content_width (cell_delimiter table p.1.delimiter cell) text scalar whole) cell.text_lines (All-at (λ (cell : CellValue). All IsUtf8 cell.text_lines) row.cells p.0 cell kept is)
+    (λ text whole. text_or_slices p.1.content_width (cell_delimiter table p.1.delimiter cell) text scalar whole) cell.text_lines seen.0
 
 -- a table's rows and its header keep what rows keep
-all_rows : (table : TableValue) → KeepsRows table.header table.rows → All IsRow (header_and_rows table)
-all_rows table kept = by_header table.header kept.0
+all_rows : (table : TableValue) → KeepsParts table → All IsRow (header_and_rows table)
+all_rows table kept = by_header table.header kept.header
   where
     by_header : (header : Option RowValue) → IfSome header IsRow → All IsRow (option_to_list header ++ table.rows)
-    by_header None _ = kept.1
-    by_header (Some header) first = All-cons IsRow header table.rows first kept.1
+    by_header None _ = kept.rows
+    by_header (Some header) first = All-cons IsRow header table.rows first kept.rows
 
--- what rows keep are whole characters
-whole_row : (row : RowValue) → IsRow row → IsWholeRow row
-whole_row row kept = All-weaker IsCell (λ (cell : CellValue). All IsUtf8 cell.text_lines) (λ cell keeps. keeps.text_lines.whole) row.cells kept.cells
+-- what the cells of rows keep
+seen_row : (row : RowValue) → IsRow row → IsSeenRow row
+seen_row row kept = All-weaker IsCell IsSeenCell (λ cell keeps. (keeps.text_lines.whole, keeps.delimiter)) row.cells kept.cells
+
+-- the visible columns are drawn with the delimiters of the table's columns
+info_delimiters : (n : ℕ) (columns : List ColumnValue) (widths : List ℕ) → All IsColumn columns
+    → All (λ (p : ℕ × ColumnInfo). IsDelimiter p.1.delimiter) (enumerate_from n (map (λ (p : ColumnValue × ℕ). info_of p.0 p.1) (zip columns widths)))
+info_delimiters n [] widths kept = All-nil (λ (p : ℕ × ColumnInfo). IsDelimiter p.1.delimiter)
+info_delimiters n (column ∷ columns) [] kept = All-nil (λ (p : ℕ × ColumnInfo). IsDelimiter p.1.delimiter)
+info_delimiters n (column ∷ columns) (width ∷ widths) kept =
+    All-cons (λ (p : ℕ × ColumnInfo). IsDelimiter p.1.delimiter) (n, info_of column width) _ (All-head IsColumn column columns kept)
+    (info_delimiters (n + 1) columns widths (All-tail IsColumn column columns kept))
 
 -- and promise what every drawing does
-pub table_drawing : (table : TableValue) (infos : List ColumnInfo) (lines : List Text) → IsUtf8 table.indicator → KeepsRows table.header table.rows → AreInfosOf table infos → lines ≡ drawing_of_infos table infos → IsTableDrawing table lines
+pub table_drawing : (table : TableValue) (infos : List ColumnInfo) (lines : List Text) → IsUtf8 table.indicator → KeepsParts table → AreInfosOf table infos → lines ≡ drawing_of_infos table infos → IsTableDrawing table lines
 table_drawing table infos lines utf8 kept (widths, arranged, is) drawn =
     let whole = drawn ∙ ap (drawing_of_infos table) is in
-    let texts : HasTextLines table = All-weaker IsRow IsWholeRow whole_row (header_and_rows table) (all_rows table kept) in
+    let rows : All IsSeenRow (header_and_rows table) = All-weaker IsRow IsSeenRow seen_row (header_and_rows table) (all_rows table kept) in
+    let texts : HasTextLines table = All-weaker IsSeenRow IsWholeRow whole_row (header_and_rows table) rows in
+    let delimiters : All (λ (p : ℕ × ColumnInfo). IsDelimiter p.1.delimiter) (visible_infos (infos_of table widths)) =
+        All-filter (λ (p : ℕ × ColumnInfo). not p.1.is_hidden) (λ (p : ℕ × ColumnInfo). IsDelimiter p.1.delimiter) _ (info_delimiters 0 table.columns widths kept.columns) in
     record {
       widths = widths;
       arranged = arranged;
       drawn = whole;
-      slices = All-weaker IsWholeRow (λ (row : RowValue). All (IsCutIntoSlices table row) (visible_infos (infos_of table widths)))
-          (λ row each. All-every (IsCutIntoSlices table row) (visible_infos (infos_of table widths)) (row_slices table row each)) (seen_rows table) (seen_whole table texts);
+      slices = All-weaker IsSeenRow (λ (row : RowValue). All (IsCutIntoSlices table row) (visible_infos (infos_of table widths)))
+          (λ row each. All-weaker (λ (p : ℕ × ColumnInfo). IsDelimiter p.1.delimiter) (IsCutIntoSlices table row) (row_slices table row kept.delimiter each) (visible_infos (infos_of table widths)) delimiters) (seen_rows table) (seen_kept table rows);
       unstyled_lines = λ off plain. whole ∙ sym (unstyled_drawing table (infos_of table widths) off plain);
       equal_counts = λ plain. equal_counts table widths utf8 plain arranged;
       without_sequences = λ free. ap (map visible_text) whole ∙ styling_taken_out table widths texts free;

@@ -3,10 +3,10 @@ use Rattle.std.proofs.Common.{◌≡◌, ℕ, zero, suc, Bool, true, false, List
 use Rattle.std.specs.List.{All, slice_get, join_by}
 use Rattle.std.specs.Prelude.{if◌then◌else◌}
 use Rattle.std.specs.Str.{IsUtf8}
-use Rattle.std.proofs.lemmas.List.Elements.{All-cons, All-head, All-nil, All-tail}
+use Rattle.std.proofs.lemmas.List.Elements.{All-cons, All-head, All-nil, All-tail, All-weaker}
 use Rattle.std.proofs.lemmas.List.Folds.{flat_map-map}
 use Rattle.comfy_parts.proofs.VisibleWholeLemmas.{visible_text-whole}
-use Rattle.comfy_parts.specs.CellValue.{CellValue, RowValue}
+use Rattle.comfy_parts.specs.CellValue.{CellValue, IsDelimiter, RowValue}
 use Rattle.comfy_parts.specs.VisibleText.{visible_text}
 use Rattle.comfy_table.specs.TableValue.{TableValue, HasTextLines, header_and_rows, seen_rows, seen_table, visible_cell, visible_row}
 use Rattle.comfy_table.specs.Arrangement.{IsArranged}
@@ -65,20 +65,43 @@ All-seen table P gives each = by_test table.custom_styling
 abbrev pub IsWholeRow : RowValue → Type 0
 IsWholeRow row = All (λ (cell : CellValue). All IsUtf8 cell.text_lines) row.cells
 
--- and stay so
+-- texts are whole characters as they are seen
+texts_whole : (texts : List (List ℕ)) → All IsUtf8 texts → All IsUtf8 (map visible_text texts)
+texts_whole [] each = All-nil IsUtf8
+texts_whole (text ∷ texts) each =
+    All-cons IsUtf8 (visible_text text) (map visible_text texts) (visible_text-whole text (All-head IsUtf8 text texts each)) (texts_whole texts (All-tail IsUtf8 text texts each))
+
+-- and so the rows of a table
 pub seen_whole : (table : TableValue) → HasTextLines table → All IsWholeRow (seen_rows table)
 seen_whole table each = All-seen table IsWholeRow (λ row whole. cells row.cells whole) each
   where
-    lines : (texts : List (List ℕ)) → All IsUtf8 texts → All IsUtf8 (map visible_text texts)
-    lines [] each = All-nil IsUtf8
-    lines (text ∷ texts) each =
-        All-cons IsUtf8 (visible_text text) (map visible_text texts) (visible_text-whole text (All-head IsUtf8 text texts each)) (lines texts (All-tail IsUtf8 text texts each))
-
     cells : (cs : List CellValue) → All (λ (cell : CellValue). All IsUtf8 cell.text_lines) cs → All (λ (cell : CellValue). All IsUtf8 cell.text_lines) (map visible_cell cs)
     cells [] each = All-nil (λ (cell : CellValue). All IsUtf8 cell.text_lines)
     cells (cell ∷ cs) each =
         All-cons (λ (cell : CellValue). All IsUtf8 cell.text_lines) (visible_cell cell) (map visible_cell cs)
-        (lines cell.text_lines (All-head (λ (cell : CellValue). All IsUtf8 cell.text_lines) cell cs each)) (cells cs (All-tail (λ (cell : CellValue). All IsUtf8 cell.text_lines) cell cs each))
+        (texts_whole cell.text_lines (All-head (λ (cell : CellValue). All IsUtf8 cell.text_lines) cell cs each)) (cells cs (All-tail (λ (cell : CellValue). All IsUtf8 cell.text_lines) cell cs each))
+
+-- what a cell shows that keeps what cells keep: its text lines are whole characters, and so is its delimiter
+abbrev pub IsSeenCell : CellValue → Type 0
+IsSeenCell cell = All IsUtf8 cell.text_lines × IsDelimiter cell.delimiter
+
+-- the same of each cell of a row
+abbrev pub IsSeenRow : RowValue → Type 0
+IsSeenRow row = All IsSeenCell row.cells
+
+-- the text lines of such a row are whole characters
+pub whole_row : (row : RowValue) → IsSeenRow row → IsWholeRow row
+whole_row row each = All-weaker IsSeenCell (λ (cell : CellValue). All IsUtf8 cell.text_lines) (λ cell seen. seen.0) row.cells each
+
+-- rows stay so as they are seen
+pub seen_kept : (table : TableValue) → All IsSeenRow (header_and_rows table) → All IsSeenRow (seen_rows table)
+seen_kept table each = All-seen table IsSeenRow (λ row seen. cells row.cells seen) each
+  where
+    cells : (cs : List CellValue) → All IsSeenCell cs → All IsSeenCell (map visible_cell cs)
+    cells [] each = All-nil IsSeenCell
+    cells (cell ∷ cs) each =
+        All-cons IsSeenCell (visible_cell cell) (map visible_cell cs)
+        (texts_whole cell.text_lines (All-head IsSeenCell cell cs each).0, (All-head IsSeenCell cell cs each).1) (cells cs (All-tail IsSeenCell cell cs each))
 
 -- the widths of a table are those of the table as it is seen
 pub arranged_as_seen : (table : TableValue) (widths : List ℕ) → IsArranged table widths → IsArranged (seen_table table) widths

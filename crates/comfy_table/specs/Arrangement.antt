@@ -6,7 +6,7 @@ use Rattle.comfy_parts.specs.CellValue.{ColumnInfo, ColumnValue, is_hidden_colum
 use Rattle.comfy_parts.specs.Text.{Text}
 use Rattle.comfy_parts.specs.declared.style.table.ContentArrangement.{ContentArrangement}
 use Rattle.comfy_parts.specs.declared.style.table.ContentArrangement.TheVariants.{Disabled, DynamicFullWidth}
-use Rattle.comfy_table.specs.Drawing.{drawing, infos_of, text_of, trimmed_text_of}
+use Rattle.comfy_table.specs.Drawing.{drawing, infos_of}
 use Rattle.comfy_table.specs.Dynamic.{IsDynamic}
 use Rattle.comfy_table.specs.Frame.{border_count}
 use Rattle.comfy_table.specs.TableValue.{TableValue, table_width, visible_columns, column_content}
@@ -53,11 +53,3 @@ AreInfosOf table infos = (widths : List ℕ) × IsArranged table widths × (info
 -- the lines are the drawing of the table over its widths
 abbrev pub IsDrawingOf : TableValue → List Text → Type 0
 IsDrawingOf table lines = (widths : List ℕ) × IsArranged table widths × (lines ≡ drawing table widths)
-
--- the text is that of such a drawing: its lines, joined by line feeds
-abbrev pub IsTextOf : TableValue → Text → Type 0
-IsTextOf table text = (lines : List Text) × IsDrawingOf table lines × (text ≡ text_of lines)
-
--- likewise, each line without its trailing white space
-abbrev pub IsTrimmedTextOf : TableValue → Text → Type 0
-IsTrimmedTextOf table text = (lines : List Text) × IsDrawingOf table lines × (text ≡ trimmed_text_of lines)

@@ -1,12 +1,11 @@
 -- What every drawing of a table promises.
 use Rattle.std.specs.Prelude.{◌≡◌, ◌⊎◌, ℕ, true, false, List, [], ◌∷◌, Some, map, slice_get, All}
-use Rattle.std.specs.Char.{IsScalar}
 use Rattle.comfy_parts.specs.CellValue.{CellValue, ColumnInfo, RowValue}
 use Rattle.comfy_parts.specs.Wrapping.{IsWrapped, lines_of_text}
 use Rattle.comfy_parts.specs.Text.{Text}
 use Rattle.comfy_parts.specs.VisibleText.{visible_text}
 use Rattle.comfy_table.specs.Arrangement.{IsArranged}
-use Rattle.comfy_table.specs.Drawing.{drawing, infos_of}
+use Rattle.comfy_table.specs.Drawing.{drawing, infos_of, text_of, trimmed_text_of}
 use Rattle.comfy_table.specs.Laws.{CutLinesAreClosed, IsFreeOfEscapes, IsPlainTable, LinesAreResumedInRow, NoneIsOpenAtTheEnd, count, line_total, unstyled}
 use Rattle.comfy_table.specs.Lines.{cell_delimiter}
 use Rattle.comfy_table.specs.Pieces.{visible_infos}
@@ -20,7 +19,7 @@ IsTextOrSlices w d text = (lines_of_text w d text ≡ text ∷ []) ⊎ IsWrapped
 abbrev pub IsCutIntoSlices : TableValue → RowValue → ℕ × ColumnInfo → Type 0
 IsCutIntoSlices table row p =
     (cell : CellValue) → slice_get row.cells p.0 ≡ Some cell
-    → let d = cell_delimiter table p.1.delimiter cell in IsScalar d → All (IsTextOrSlices p.1.content_width d) cell.text_lines
+    → All (IsTextOrSlices p.1.content_width (cell_delimiter table p.1.delimiter cell)) cell.text_lines
 
 -- with custom styling, the lines of the cell that a row has in a column leave no sequence open
 abbrev pub IsClosedInRow : TableValue → RowValue → ℕ × ColumnInfo → Type 0
@@ -49,3 +48,11 @@ pub record IsTableDrawing (table : TableValue) (lines : List Text) : Type 0 wher
   pub closed : table.custom_styling ≡ true → All (λ (row : RowValue). All (IsClosedInRow table row) (visible_infos (infos_of table widths))) (header_and_rows table)
   pub resumed : table.custom_styling ≡ true → All (λ (row : RowValue). All (IsResumedInRow table row) (visible_infos (infos_of table widths))) (header_and_rows table)
   pub cut_closed : table.custom_styling ≡ true → All (λ (row : RowValue). All (IsCutClosedInRow table row) (visible_infos (infos_of table widths))) (header_and_rows table)
+
+-- the text is that of such a drawing: its lines, joined by line feeds
+abbrev pub IsTextOf : TableValue → Text → Type 0
+IsTextOf table text = (lines : List Text) × IsTableDrawing table lines × (text ≡ text_of lines)
+
+-- likewise, each line without its trailing white space
+abbrev pub IsTrimmedTextOf : TableValue → Text → Type 0
+IsTrimmedTextOf table text = (lines : List Text) × IsTableDrawing table lines × (text ≡ trimmed_text_of lines)

@@ -1,7 +1,7 @@
 -- What a table is, as a value, and what its settings say.
 use Rattle.std.specs.Prelude.{◌≡◌, ℕ, ◌<◌, ◌≤◌, Bool, false, not, ◌&&◌, ◌||◌, List, [], ◌∷◌, ◌++◌, Option, Some, None, option_to_list, option_and_then, option_map, map, fold, length, take, filter, filter_map, slice_get, max, min, All, IfSome, IsUtf8, if◌then◌else◌, String, string_bytes}
 use Rattle.std.specs.List.{enumerate_from}
-use Rattle.comfy_parts.specs.CellValue.{CellValue, RowValue, ColumnValue, IsRow, columns_grown_to, is_hidden_column}
+use Rattle.comfy_parts.specs.CellValue.{CellValue, RowValue, ColumnValue, IsColumn, IsDelimiter, IsRow, columns_grown_to, is_hidden_column}
 use Rattle.comfy_parts.specs.Text.{Text, measure, greatest}
 use Rattle.comfy_parts.specs.VisibleText.{visible_text}
 use Rattle.comfy_parts.specs.declared.style.column.ColumnConstraint.{ColumnConstraint}
@@ -65,9 +65,12 @@ IsWithRowsBeforeOne rows old new = (n : ℕ) × (n < length rows) × (new ≡ wi
 abbrev pub header_and_rows : TableValue → List RowValue
 header_and_rows table = option_to_list table.header ++ table.rows
 
--- header and rows keep what rows keep
-abbrev pub KeepsRows : Option RowValue → List RowValue → Type 0
-KeepsRows header rows = IfSome header IsRow × All IsRow rows
+-- what the parts of a table keep: its columns, its header, its rows, and its delimiter
+pub record KeepsParts (table : TableValue) : Type 0 where
+  pub columns : All IsColumn table.columns
+  pub header : IfSome table.header IsRow
+  pub rows : All IsRow table.rows
+  pub delimiter : IsDelimiter table.delimiter
 
 -- the text lines of all cells are UTF-8
 abbrev pub HasTextLines : TableValue → Type 0

@@ -1,11 +1,11 @@
 //! What stands between a table and its drawn lines.
 
-ghost use Rattle.std.specs.Prelude.{IfOk, IfSome};
+ghost use Rattle.std.specs.Prelude.{IfOk, IfSome, map, string_bytes};
+ghost use Rattle.std.specs.List.{All};
+ghost use Rattle.comfy_parts.specs.CellValue.{IsColumn, IsRow};
 ghost use Rattle.comfy_table.specs.Arrangement.{IsDrawingOf};
 ghost use Rattle.comfy_table.specs.Headline.{IsTableDrawing};
-ghost use Rattle.comfy_table.specs.TableValue.{KeepsRows};
-ghost use Rattle.comfy_parts.specs.CellValue.{IsRow};
-ghost use Rattle.std.specs.List.{All};
+ghost use Rattle.comfy_table.specs.TableValue.{KeepsParts};
 
 pub mod arrangement;
 pub mod formatting;
@@ -13,7 +13,7 @@ pub mod formatting;
 use crate::table::Table;
 use crate::table::output::Lines;
 use arrangement::arrange_content;
-use comfy_parts::{Result, Row};
+use comfy_parts::{Column, Result, Row};
 pub use comfy_parts::content_split::ColumnDisplayInfo;
 use formatting::draw;
 
@@ -22,19 +22,35 @@ pub fn build_table(table: &Table) -> Result<Lines>
     ensures drawing { IfOk result (λ lines. IsDrawingOf table.now lines) }
     ensures headline { IfOk result (λ lines. IsTableDrawing table.now lines) }
 {
-    look_at_rows(table);
-    let _ = &table.indicator;
-    let infos = arrange_content(table)?;
-    let lines = draw(table, infos.as_slice())?;
+    let lines = drawn(table)?;
     Ok(Lines::new(lines))
 }
 
-// Looks at the header and at each row, which tells what every row keeps.
-fn look_at_rows(table: &Table)
-    ensures { KeepsRows table.now.header table.now.rows }
+// The drawn lines as a list. Whatever draws a table does it here.
+pub(crate) fn drawn(table: &Table) -> Result<Vec<String>>
+    ensures { IfOk result (λ lines. IsTableDrawing table.now (map string_bytes lines.items)) }
 {
+    look_at_parts(table);
+    let _ = &table.indicator;
+    let infos = arrange_content(table)?;
+    draw(table, infos.as_slice())
+}
+
+// Looks at each part of a table, which shows what every part keeps.
+fn look_at_parts(table: &Table)
+    ensures { KeepsParts table.now }
+{
+    look_at_columns(table.columns.as_slice());
     look_at_header(&table.header);
-    look_at(table.rows.as_slice());
+    look_at_rows(table.rows.as_slice());
+}
+
+fn look_at_columns(columns: &[Column])
+    ensures { All IsColumn columns.now }
+{
+    for column in columns {
+        let _ = column.column_delimiter();
+    }
 }
 
 fn look_at_header(header: &Option<Row>)
@@ -45,7 +61,7 @@ fn look_at_header(header: &Option<Row>)
     }
 }
 
-fn look_at(rows: &[Row])
+fn look_at_rows(rows: &[Row])
     ensures { All IsRow rows.now }
 {
     for row in rows {

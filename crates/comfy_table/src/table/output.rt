@@ -2,14 +2,12 @@
 
 ghost use Rattle.std.specs.Prelude.{◌≡◌, ◌++◌, ◌∷◌, [], nat_lt, IfOk, OnOk, map, string_bytes, if◌then◌else◌};
 ghost use Rattle.std.specs.Iterator.{YieldsFirstBy, item_count};
-ghost use Rattle.comfy_table.specs.Arrangement.{IsDrawingOf, IsTextOf, IsTrimmedTextOf};
+ghost use Rattle.comfy_table.specs.Arrangement.{IsDrawingOf};
 ghost use Rattle.comfy_table.specs.Drawing.{text_of, trimmed_text_of};
-ghost use Rattle.comfy_table.specs.Headline.{IsTableDrawing};
+ghost use Rattle.comfy_table.specs.Headline.{IsTableDrawing, IsTextOf, IsTrimmedTextOf};
 
 use crate::table::Table;
-use crate::utils::arrangement::arrange_content;
-use crate::utils::build_table;
-use crate::utils::formatting::draw;
+use crate::utils::{build_table, drawn};
 use comfy_parts::Result;
 use std::alloc::Global;
 use std::marker::Model;
@@ -68,7 +66,7 @@ impl Table {
     pub fn to_text(&self) -> Result<String>
         ensures { IfOk result (λ text. IsTextOf self.now (string_bytes text)) }
     {
-        let lines = self.drawn()?;
+        let lines = drawn(self)?;
         joined(*self.columns.allocator(), lines.as_slice())
     }
 
@@ -76,16 +74,8 @@ impl Table {
     pub fn trim_fmt(&self) -> Result<String>
         ensures { IfOk result (λ text. IsTrimmedTextOf self.now (string_bytes text)) }
     {
-        let lines = self.drawn()?;
+        let lines = drawn(self)?;
         joined_trimmed(*self.columns.allocator(), lines.as_slice())
-    }
-
-    // The drawn lines as a list.
-    fn drawn(&self) -> Result<Vec<String>>
-        ensures { IfOk result (λ lines. IsDrawingOf self.now (map string_bytes lines.items)) }
-    {
-        let infos = arrange_content(self)?;
-        draw(self, infos.as_slice())
     }
 }
 
