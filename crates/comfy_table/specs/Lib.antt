@@ -5,7 +5,6 @@ pub mod Drawing
 pub mod DrawnCells
 pub mod Dynamic
 pub mod Frame
-pub mod GrownTable
 pub mod Headline
 pub mod Laws
 pub mod Levels
@@ -14,5 +13,6 @@ pub mod Pieces
 pub mod Styling
 pub mod TableLaws
 pub mod TableLoans
+pub mod TableReference
 pub mod TableValue
 pub mod Widths

@@ -4,7 +4,7 @@ ghost use Rattle.std.specs.Prelude.{◌≡◌, IfOk, OnOk, OnErr};
 ghost use Rattle.std.specs.Borrow.{sem};
 ghost use Rattle.comfy_parts.specs.CellValue.{columns_grown_to};
 ghost use Rattle.comfy_parts.specs.Presets.{ascii_full};
-ghost use Rattle.comfy_table.specs.GrownTable.{table_of};
+ghost use Rattle.comfy_table.specs.TableReference.{reference_of};
 ghost use Rattle.comfy_table.specs.TableLoans.{TableStaysIfErr};
 ghost use Rattle.comfy_table.specs.TableValue.{is_tty, new_table, should_style, with_header, with_row};
 
@@ -77,24 +77,52 @@ impl Table {
         }
     }
 
-    /// Replaces the header, and appends default columns until there are as many as its cells. Where memory is refused,
-    /// the table stays as it is and the new header is dropped.
+    /// Replaces the header, and appends default columns until there are as many as its cells. After `OutOfMemory` the table
+    /// is unchanged and the new header is dropped.
     pub fn set_header<T: IntoRow>(&mut self, row: T) -> Result<&mut Self>
         ensures* err { sem 𝓛 (TableStaysIfErr self.entry result) }
         ensures same_reference { IfOk result (λ table. table.ghost_name ≡ self.entry.ghost_name) }
         ensures set { IfOk result (λ table. table.now ≡ with_header (T.row_of row) self.old) }
     {
-        handed_on(self.grown_by_header(row))
+        into_reference(self.with_header_set(row))
     }
 
-    /// Appends a row, and default columns until there are as many as its cells. Where memory is refused, the table stays
-    /// as it is and the row is dropped.
+    /// Appends a row, and default columns until there are as many as its cells. After `OutOfMemory` the table is unchanged
+    /// and the row is dropped.
     pub fn add_row<T: IntoRow>(&mut self, row: T) -> Result<&mut Self>
         ensures* err { sem 𝓛 (TableStaysIfErr self.entry result) }
         ensures same_reference { IfOk result (λ table. table.ghost_name ≡ self.entry.ghost_name) }
         ensures added { IfOk result (λ table. table.now ≡ with_row (T.row_of row) self.old) }
     {
-        handed_on(self.grown_by_row(row))
+        into_reference(self.with_row_added(row))
+    }
+
+    /// `set_header` for callers that go on with the table after `OutOfMemory`: then it is unchanged and the new header is
+    /// dropped, and the caller's own proof can use that.
+    pub fn try_set_header<T: IntoRow>(&mut self, row: T) -> Result<()>
+        ensures ok { OnOk result (self.new ≡ with_header (T.row_of row) self.old) }
+        ensures err { OnErr result (self.new ≡ self.old) }
+    {
+        let header = row.into_row(*self.rows.allocator())?;
+        grow_columns(&mut self.columns, header.cell_count())?;
+        self.header = Some(header);
+        Ok(())
+    }
+
+    /// `add_row` for callers that go on with the table after `OutOfMemory`: then it is unchanged and the row is dropped,
+    /// and the caller's own proof can use that.
+    pub fn try_add_row<T: IntoRow>(&mut self, row: T) -> Result<()>
+        ensures ok { OnOk result (self.new ≡ with_row (T.row_of row) self.old) }
+        ensures err { OnErr result (self.new ≡ self.old) }
+    {
+        let added = row.into_row(*self.rows.allocator())?;
+        // The row's place is reserved first: nothing can fail once the columns have grown.
+        if self.rows.try_reserve(1).is_err() {
+            return Err(TableError::OutOfMemory);
+        }
+        grow_columns(&mut self.columns, added.cell_count())?;
+        self.rows.push(added).unwrap();
+        Ok(())
     }
 
     // Whether the output is a terminal, by the facts that were handed in.
@@ -128,65 +156,39 @@ impl Table {
         self.enforce_styling || self.writes_to_tty()
     }
 
-    // `set_header`, with the reference in a struct: so that its `err` can be proved.
-    fn grown_by_header<T: IntoRow>(&mut self, row: T) -> Result<Grown<'_>>
-        ensures* err { sem 𝓛 (TableStaysIfErr self.entry (table_of result)) }
-        ensures same_reference { IfOk (table_of result) (λ table. table.ghost_name ≡ self.entry.ghost_name) }
-        ensures set { IfOk (table_of result) (λ table. table.now ≡ with_header (T.row_of row) self.old) }
+    // `set_header` with the reference in a struct: so its clause on `OutOfMemory` can be proved.
+    fn with_header_set<T: IntoRow>(&mut self, row: T) -> Result<TableReference<'_>>
+        ensures* err { sem 𝓛 (TableStaysIfErr self.entry (reference_of result)) }
+        ensures same_reference { IfOk (reference_of result) (λ table. table.ghost_name ≡ self.entry.ghost_name) }
+        ensures set { IfOk (reference_of result) (λ table. table.now ≡ with_header (T.row_of row) self.old) }
     {
-        let made = row.into_row(*self.rows.allocator())?;
-        self.put_header(made)?;
-        Ok(Grown { table: self })
+        self.try_set_header(row)?;
+        Ok(TableReference { table: self })
     }
 
-    // `add_row`, likewise.
-    fn grown_by_row<T: IntoRow>(&mut self, row: T) -> Result<Grown<'_>>
-        ensures* err { sem 𝓛 (TableStaysIfErr self.entry (table_of result)) }
-        ensures same_reference { IfOk (table_of result) (λ table. table.ghost_name ≡ self.entry.ghost_name) }
-        ensures added { IfOk (table_of result) (λ table. table.now ≡ with_row (T.row_of row) self.old) }
+    // `add_row` with the reference in a struct: so its clause on `OutOfMemory` can be proved.
+    fn with_row_added<T: IntoRow>(&mut self, row: T) -> Result<TableReference<'_>>
+        ensures* err { sem 𝓛 (TableStaysIfErr self.entry (reference_of result)) }
+        ensures same_reference { IfOk (reference_of result) (λ table. table.ghost_name ≡ self.entry.ghost_name) }
+        ensures added { IfOk (reference_of result) (λ table. table.now ≡ with_row (T.row_of row) self.old) }
     {
-        let made = row.into_row(*self.rows.allocator())?;
-        self.push_row(made)?;
-        Ok(Grown { table: self })
-    }
-
-    // `set_header`, with no answer but the outcome.
-    fn put_header(&mut self, row: Row) -> Result<()>
-        ensures ok { OnOk result (self.new ≡ with_header row self.old) }
-        ensures err { OnErr result (self.new ≡ self.old) }
-    {
-        grow_columns(&mut self.columns, row.cell_count())?;
-        self.header = Some(row);
-        Ok(())
-    }
-
-    // `add_row`, with no answer but the outcome. The row's place is reserved first: then the columns may grow, since
-    // nothing can fail after them.
-    fn push_row(&mut self, row: Row) -> Result<()>
-        ensures ok { OnOk result (self.new ≡ with_row row self.old) }
-        ensures err { OnErr result (self.new ≡ self.old) }
-    {
-        if self.rows.try_reserve(1).is_err() {
-            return Err(TableError::OutOfMemory);
-        }
-        grow_columns(&mut self.columns, row.cell_count())?;
-        self.rows.push(row).unwrap();
-        Ok(())
+        self.try_add_row(row)?;
+        Ok(TableReference { table: self })
     }
 }
 
-// A reference to a table that has grown.
-struct Grown<'a> {
+// A mutable reference to a table, in a struct of its own.
+struct TableReference<'a> {
     table: &'a mut Table,
 }
 
 // The reference, taken out of its struct.
-fn handed_on<'a>(grown: Result<Grown<'a>>) -> Result<&'a mut Table>
-    ensures { result ≡ table_of grown.entry }
+fn into_reference<'a>(changed: Result<TableReference<'a>>) -> Result<&'a mut Table>
+    ensures { result ≡ reference_of changed.entry }
 {
-    match grown {
-        Ok(grown) => {
-            let Grown { table } = grown;
+    match changed {
+        Ok(changed) => {
+            let TableReference { table } = changed;
             Ok(table)
         }
         Err(error) => Err(error),

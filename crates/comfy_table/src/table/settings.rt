@@ -2,11 +2,11 @@
 
 ghost use Rattle.std.specs.Prelude.{◌≡◌, Some, IfOk, OnOk, OnErr};
 ghost use Rattle.std.specs.Borrow.{sem};
-ghost use Rattle.comfy_table.specs.GrownTable.{table_of};
+ghost use Rattle.comfy_table.specs.TableReference.{reference_of};
 ghost use Rattle.comfy_table.specs.TableLoans.{LendsStyle, TableStaysIfErr};
 ghost use Rattle.comfy_table.specs.TableValue.{table_width};
 
-use crate::table::{Grown, Table, handed_on};
+use crate::table::{Table, TableReference, into_reference};
 use comfy_parts::Result;
 use comfy_parts::style::TableStyle;
 
@@ -45,34 +45,34 @@ impl Table {
         self
     }
 
-    /// Sets the text that stands behind a line which `Row::max_height` cuts. Where memory is refused, the table stays as
-    /// it is.
+    /// Sets the text that stands behind a line which `Row::max_height` cuts. After `OutOfMemory` the table is unchanged.
     pub fn set_truncation_indicator(&mut self, indicator: &str) -> Result<&mut Self>
         ensures* err { sem 𝓛 (TableStaysIfErr self.entry result) }
         ensures same_reference { IfOk result (λ table. table.ghost_name ≡ self.entry.ghost_name) }
         ensures set { IfOk result (λ table. table.now ≡ record self.old { indicator = indicator.now }) }
     {
-        handed_on(self.grown_by_indicator(indicator))
+        into_reference(self.with_indicator_set(indicator))
     }
 
-    // `set_truncation_indicator`, with the reference in a struct: so that its `err` can be proved.
-    fn grown_by_indicator<'a>(&'a mut self, indicator: &str) -> Result<Grown<'a>>
-        ensures* err { sem 𝓛 (TableStaysIfErr self.entry (table_of result)) }
-        ensures same_reference { IfOk (table_of result) (λ table. table.ghost_name ≡ self.entry.ghost_name) }
-        ensures set { IfOk (table_of result) (λ table. table.now ≡ record self.old { indicator = indicator.now }) }
-    {
-        self.put_indicator(indicator)?;
-        Ok(Grown { table: self })
-    }
-
-    // `set_truncation_indicator`, with no answer but the outcome.
-    fn put_indicator(&mut self, indicator: &str) -> Result<()>
+    /// `set_truncation_indicator` for callers that go on with the table after `OutOfMemory`: then it is unchanged, and the
+    /// caller's own proof can use that.
+    pub fn try_set_truncation_indicator(&mut self, indicator: &str) -> Result<()>
         ensures ok { OnOk result (self.new ≡ record self.old { indicator = indicator.now }) }
         ensures err { OnErr result (self.new ≡ self.old) }
     {
         let set = String::from_str(*self.rows.allocator(), indicator)?;
         self.indicator = Some(set);
         Ok(())
+    }
+
+    // `set_truncation_indicator` with the reference in a struct: so its clause on `OutOfMemory` can be proved.
+    fn with_indicator_set<'a>(&'a mut self, indicator: &str) -> Result<TableReference<'a>>
+        ensures* err { sem 𝓛 (TableStaysIfErr self.entry (reference_of result)) }
+        ensures same_reference { IfOk (reference_of result) (λ table. table.ghost_name ≡ self.entry.ghost_name) }
+        ensures set { IfOk (reference_of result) (λ table. table.now ≡ record self.old { indicator = indicator.now }) }
+    {
+        self.try_set_truncation_indicator(indicator)?;
+        Ok(TableReference { table: self })
     }
 
     /// Sets the width of the table in places. Percentages of constraints are taken of it.

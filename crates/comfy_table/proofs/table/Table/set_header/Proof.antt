@@ -1,4 +1,4 @@
--- `set_header` hands on what `grown_by_header` answers, under the same clauses. Assumes `Logic`.
+-- `set_header` hands on what `with_header_set` answers, under the same clauses. Assumes `Logic`.
 use Rattle.std.proofs.Common.{◌≡◌, List, [], ◌∷◌, refl, sym}
 use Rattle.std.proofs.raw_atomic.Walks.{proved_at, leaves}
 use mathlib.Core.Path.{subst}
@@ -28,17 +28,17 @@ use denote.Triple.Entry.{Vals}
 use denote.Triple.Spec.{triple_of}
 use denote.Triple.Table.{framed}
 use denote.Triple.Walked.{Stays, walk_of, stay_dropped, Goes-dropped, Goes-spent_ref}
-use Rattle.comfy_table.specs.GrownTable.{table_of}
+use Rattle.comfy_table.specs.TableReference.{reference_of}
 use Rattle.comfy_table.specs.contracts.table.Table as table
 use Rattle.comfy_table.specs.contracts.table.Table.set_header as f
 use Rattle.comfy_table.proofs.table.Table.set_header.Statement.{statement}
 use Rattle.comfy_table.proofs.table.Table.set_header.Code as code
 use Rattle.comfy_table.proofs.table.Table.set_header.Kinds as f_kinds
-use Rattle.comfy_table.specs.contracts.table.Table.grown_by_header as g
-use Rattle.comfy_table.proofs.table.Table.grown_by_header.Met.{met as g_met}
-use Rattle.comfy_table.proofs.table.Table.grown_by_header.Kinds as g_kinds
-use Rattle.comfy_table.specs.contracts.table.handed_on as h
-use Rattle.comfy_table.proofs.table.handed_on.Met.{met as h_met}
+use Rattle.comfy_table.specs.contracts.table.Table.with_header_set as g
+use Rattle.comfy_table.proofs.table.Table.with_header_set.Met.{met as g_met}
+use Rattle.comfy_table.proofs.table.Table.with_header_set.Kinds as g_kinds
+use Rattle.comfy_table.specs.contracts.table.into_reference as h
+use Rattle.comfy_table.proofs.table.into_reference.Met.{met as h_met}
 
 abbrev Good : Ty → Val → Type 0
 Good τ v = T (has_ty τ v) × WT v
@@ -74,10 +74,10 @@ set_header_spec {M} 𝓤 𝓛 𝓜 𝓡 wired X L gh d dd m md =
     alloc_all ! (λ l. pass_all ! refl ((tt, tt), (got.2, tt)) $
     sets ! (addr ! (through ! refl (stop !))) refl (tt, tt) $
     sets ! (of_opd ! (get ! refl)) refl got.2 $
-    calls_at ! fm G (g_met 𝓤 𝓛 𝓜 𝓡 (code.calls-comfy_table::table::Table::grown_by_header 𝓡.env wired) X L gh d dd m md) z
+    calls_at ! fm G (g_met 𝓤 𝓛 𝓜 𝓡 (code.calls-comfy_table::table::Table::with_header_set 𝓡.env wired) X L gh d dd m md) z
     (and_then ! (get ! refl) (and_then ! (get ! refl) (no_more !))) (λ v.
     use1 𝓛 (later (some (λ (r : Held.Denot). ((‵ (flft κs.0 qs.0) ⊛ ‵ (flft κs.1.0 qs.1.0) ⊛ ‵ ftrue) ⊛ ‵ (Held.own_val r (v ∷ []))) ⊛
-    some (λ (ws : Lasts (g.ended X gh d dd) κs a). ‵ (lasts (g.ended X gh d dd) κs a ws) ⊛ raw (Ends (table_of r)))))) (id⊢ 𝓤 _) $
+    some (λ (ws : Lasts (g.ended X gh d dd) κs a). ‵ (lasts (g.ended X gh d dd) κs a ws) ⊛ raw (Ends (reference_of r)))))) (id⊢ 𝓤 _) $
     await ! tt $ pick ! (λ r. split ! $ split ! $ move ! (1 ∷ []) $ peeks ! Held _ (shows 𝓛 Held) r (v ∷ []) (λ is.
     move ! (2 ∷ []) $ pick ! (λ ws. split ! $ drop ! $
     -- [what is ensured; the result; the tokens]
@@ -87,10 +87,10 @@ set_header_spec {M} 𝓤 𝓛 𝓜 𝓡 wired X L gh d dd m md =
     let x : H.Ghost = (((κs.0, tt), (qs.0, tt), tt, (r, tt), (v ∷ [], tt)), tt) in
     nothing ! $ move ! (4 ∷ 0 ∷ []) $ join ! $ nothing ! $ move ! (2 ∷ 0 ∷ []) $ join ! $ move ! (0 ∷ 1 ∷ []) $ join ! $
     nothing ! $ move ! (1 ∷ 0 ∷ []) $ use2 𝓛 (raw (H.pre x)) (id⊢ 𝓤 _) $
-    calls_at ! fm H (h_met 𝓤 𝓛 𝓜 𝓡 (code.calls-comfy_table::table::handed_on 𝓡.env wired)) x
+    calls_at ! fm H (h_met 𝓤 𝓛 𝓜 𝓡 (code.calls-comfy_table::table::into_reference 𝓡.env wired)) x
     (and_then ! (get ! refl) (no_more !)) (λ v'.
     use1 𝓛 (later (some (λ (r' : Lent.Denot). ((‵ (flft κs.0 qs.0) ⊛ ‵ ftrue) ⊛ ‵ (Lent.own_val r' (v' ∷ []))) ⊛
-    some (λ (ws' : Lasts h.ended (κs.0, tt) (r, tt)). ‵ (lasts h.ended (κs.0, tt) (r, tt) ws') ⊛ raw (fact 𝓤 (r' ≡ table_of r)))))) (id⊢ 𝓤 _) $
+    some (λ (ws' : Lasts h.ended (κs.0, tt) (r, tt)). ‵ (lasts h.ended (κs.0, tt) (r, tt) ws') ⊛ raw (fact 𝓤 (r' ≡ reference_of r)))))) (id⊢ 𝓤 _) $
     await ! tt $ pick ! (λ r'. split ! $ split ! $ move ! (1 ∷ []) $ peeks ! Lent _ (shows 𝓛 Lent) r' (v' ∷ []) (λ is'.
     move ! (2 ∷ []) $ pick ! (λ ws'. split ! $ drop ! $ heard ! _ (λ e.
     -- [the result; the token of the reference; the token of the type; what is ensured]
