@@ -79,7 +79,7 @@ table_drawing table infos lines utf8 kept (widths, arranged, is) drawn =
     let rows : All IsSeenRow (header_and_rows table) = All-weaker IsRow IsSeenRow seen_row (header_and_rows table) (all_rows table kept) in
     let texts : HasTextLines table = All-weaker IsSeenRow IsWholeRow whole_row (header_and_rows table) rows in
     let delimiters : All (λ (p : ℕ × ColumnInfo). IsDelimiter p.1.delimiter) (visible_infos (infos_of table widths)) =
-        All-filter (λ (p : ℕ × ColumnInfo). not p.1.is_hidden) (λ (p : ℕ × ColumnInfo). IsDelimiter p.1.delimiter) _ (info_delimiters 0 table.columns widths kept.columns) in
+    All-filter (λ (p : ℕ × ColumnInfo). not p.1.is_hidden) (λ (p : ℕ × ColumnInfo). IsDelimiter p.1.delimiter) _ (info_delimiters 0 table.columns widths kept.columns) in
     record {
       widths = widths;
       arranged = arranged;

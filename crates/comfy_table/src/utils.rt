@@ -13,8 +13,8 @@ pub mod formatting;
 use crate::table::Table;
 use crate::table::output::Lines;
 use arrangement::arrange_content;
-use comfy_parts::{Column, Result, Row};
 pub use comfy_parts::content_split::ColumnDisplayInfo;
+use comfy_parts::{Column, Result, Row};
 use formatting::draw;
 
 /// The drawn lines of a table: arranged, formatted and framed.

@@ -1,0 +1,83 @@
+//! What tables promise beyond the clauses of their calls. Each function does nothing: its clauses are the law, so that a
+//! proof of yours can cite it. `IsArranged table widths` says which widths the columns of a table have. The laws of
+//! wrapping are re-exported here too.
+
+ghost use Rattle.std.specs.Prelude.{ℕ, Bool, List};
+ghost use Rattle.comfy_parts.specs.CellValue.{ColumnValue, NoFewerColumns};
+ghost use Rattle.comfy_parts.specs.declared.style.table_style.LineStyle.{LineStyle};
+ghost use Rattle.comfy_table.specs.Laws.{DynamicIsOne, FillsWidth, KeepsToWidth};
+ghost use Rattle.comfy_table.specs.TableLaws.{FillsWiderTotal, FrameCounts, FrameFillsWidth, FrameKeepsToWidth, IsAtMostThreeOver, KeepsToWiderTotal, KeepsToWiderTotalInFull, ShrinkingKeepsCells, TableIsFull, TableIsLevelled, TableKeepsContents, TableLevelIsBest};
+ghost use Rattle.comfy_table.specs.TableValue.{TableValue};
+ghost use Rattle.comfy_table.specs.Widths.{ColumnNeeds};
+
+pub use comfy_parts::laws::{
+    active_sequences_are_resumed, cut_lines_are_full, head_is_longest, lines_are_few,
+    lines_are_fewest, lines_fit, lines_leave_no_sequence_open, narrow_elements_stay_whole,
+    neighbours_fill_a_line, printable_is_even, printable_measures_its_length,
+    sequences_are_taken_out_in_one_pass, sequences_count_nothing, wrapped_lines_are_one_list,
+};
+
+/// Where columns are appended for a row of n cells, there are then as many columns as before or n, whichever is more.
+pub fn columns_only_grow()
+    ensures { (n : ℕ) (columns : List ColumnValue) → NoFewerColumns n columns }
+{}
+
+/// A frame line has as many characters as the borders and the whole widths of the visible columns together, whatever the
+/// texts.
+pub fn frame_lines_have_one_count()
+    ensures { (table : TableValue) (widths : List ℕ) (line : LineStyle) → FrameCounts table widths line }
+{}
+
+/// Where no visible column has a constraint, a frame line has at most as many characters as the set width, or as borders,
+/// paddings and one character for each visible column under `Dynamic`; exactly that under `DynamicFullWidth`.
+pub fn frame_lines_keep_to_the_width()
+    ensures dynamic { (table : TableValue) (w : ℕ) (widths : List ℕ) (line : LineStyle) → FrameKeepsToWidth table w widths line }
+    ensures full { (table : TableValue) (w : ℕ) (widths : List ℕ) (line : LineStyle) → FrameFillsWidth table w widths line }
+{}
+
+/// Borders and whole widths together keep to the same bounds.
+pub fn widths_keep_to_the_width()
+    ensures dynamic { (table : TableValue) (w : ℕ) (widths : List ℕ) → KeepsToWidth table w widths }
+    ensures full { (table : TableValue) (w : ℕ) (widths : List ℕ) → FillsWidth table w widths }
+{}
+
+/// Under every constraint they keep to the set width, or to borders, the whole widths of the columns that a constraint
+/// decides first, and paddings and one character for each other column.
+pub fn widths_keep_to_the_wider_total()
+    ensures dynamic { (table : TableValue) (w : ℕ) (widths : List ℕ) → KeepsToWiderTotal table w widths }
+    ensures full_at_most { (table : TableValue) (w : ℕ) (widths : List ℕ) → KeepsToWiderTotalInFull table w widths }
+    ensures full { (table : TableValue) (w : ℕ) (widths : List ℕ) → FillsWiderTotal table w widths }
+{}
+
+/// Only one list of widths is a dynamic arrangement.
+pub fn dynamic_widths_are_one_list()
+    ensures { (room : ℕ) (columns : List ColumnNeeds) (full : Bool) (widths others : List ℕ) → DynamicIsOne room columns full widths others }
+{}
+
+/// Without constraints there is one level: columns whose content is at most the level get their content, and each other
+/// column gets at least the level or what its lines need.
+pub fn dynamic_widths_are_levelled()
+    ensures dynamic { (table : TableValue) (w : ℕ) (widths : List ℕ) → TableIsLevelled table w widths }
+    ensures full { (table : TableValue) (w : ℕ) (widths : List ℕ) → TableIsFull table w widths }
+{}
+
+/// The level is the best one: no contents within the room give each column its content or one more than the level.
+pub fn the_level_is_the_best()
+    ensures { (table : TableValue) (w level : ℕ) (widths : List ℕ) → TableLevelIsBest table w level widths }
+{}
+
+/// Where all contents fit the set width with borders and paddings, `Dynamic` gives each column its content.
+pub fn contents_that_fit_are_kept()
+    ensures { (table : TableValue) (w : ℕ) (widths : List ℕ) → TableKeepsContents table w widths }
+{}
+
+/// In printable ASCII and without constraints, `Dynamic` makes no column more than three characters wider than its content.
+pub fn columns_are_at_most_three_wider()
+    ensures { (table : TableValue) (w : ℕ) (widths : List ℕ) → IsAtMostThreeOver table w widths }
+{}
+
+/// In printable ASCII a column that is made as narrow as its longest line keeps its lines, each but for at most one
+/// delimiter at its end.
+pub fn shrinking_keeps_the_lines()
+    ensures { (table : TableValue) (p : ℕ × ColumnValue) (b : ℕ) → ShrinkingKeepsCells table p b }
+{}
