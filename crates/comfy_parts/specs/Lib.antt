@@ -1,3 +1,4 @@
+pub mod Borders
 pub mod CellValue
 pub mod Following
 pub mod GrownRow

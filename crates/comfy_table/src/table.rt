@@ -6,10 +6,11 @@ ghost use Rattle.comfy_parts.specs.CellValue.{columns_grown_to};
 ghost use Rattle.comfy_parts.specs.Presets.{ascii_full};
 ghost use Rattle.comfy_table.specs.TableReference.{reference_of};
 ghost use Rattle.comfy_table.specs.TableLoans.{TableStaysIfErr};
-ghost use Rattle.comfy_table.specs.TableValue.{is_tty, new_table, should_style, with_header, with_row};
+ghost use Rattle.comfy_table.specs.TableValue.{new_table, with_header, with_row};
 
+mod access;
+pub(crate) mod content;
 pub mod output;
-mod parts;
 mod settings;
 pub mod terminal;
 
@@ -123,37 +124,6 @@ impl Table {
         grow_columns(&mut self.columns, added.cell_count())?;
         self.rows.push(added).unwrap();
         Ok(())
-    }
-
-    // Whether the output is a terminal, by the facts that were handed in.
-    pub(crate) fn writes_to_tty(&self) -> bool
-        ensures { result ≡ is_tty self.now }
-    {
-        if self.no_tty {
-            return false;
-        }
-        if self.use_stderr {
-            self.terminal.stderr_is_tty
-        } else {
-            self.terminal.stdout_is_tty
-        }
-    }
-
-    // What stands behind a line that is cut.
-    pub(crate) fn truncation_indicator(&self) -> &str
-        ensures { result.now ≡ self.now.indicator }
-    {
-        match &self.indicator {
-            Some(indicator) => indicator.as_str(),
-            None => "…",
-        }
-    }
-
-    // Whether colours and attributes are written.
-    pub(crate) fn writes_styles(&self) -> bool
-        ensures { result ≡ should_style self.now }
-    {
-        self.enforce_styling || self.writes_to_tty()
     }
 
     // `set_header` with the reference in a struct: so its clause on `OutOfMemory` can be proved.

@@ -1,6 +1,7 @@
 //! The characters of a table's frame.
 
 ghost use Rattle.std.specs.Prelude.{◌≡◌};
+ghost use Rattle.comfy_parts.specs.Borders.{draws_left_border, draws_right_border, draws_vertical_lines};
 ghost use Rattle.comfy_parts.specs.Presets.{nothing};
 ghost use Rattle.comfy_parts.specs.StyleModifiers.{with_rounded_corners, with_solid_inner_borders, RoundingTwiceIsOnce, SolidTwiceIsOnce};
 
@@ -250,6 +251,42 @@ impl TableStyle {
             bottom_border: line,
             ..self
         }
+    }
+
+    /// Whether lines begin with a border: any of the six lines has a left character.
+    pub fn draws_left_border(&self) -> bool
+        ensures { result ≡ draws_left_border self.now }
+    {
+        self.top_border.left.is_some()
+            || self.header_lines.left.is_some()
+            || self.header_separator.left.is_some()
+            || self.content_lines.left.is_some()
+            || self.row_separator.left.is_some()
+            || self.bottom_border.left.is_some()
+    }
+
+    /// Whether lines end with a border: any of the six lines has a right character.
+    pub fn draws_right_border(&self) -> bool
+        ensures { result ≡ draws_right_border self.now }
+    {
+        self.top_border.right.is_some()
+            || self.header_lines.right.is_some()
+            || self.header_separator.right.is_some()
+            || self.content_lines.right.is_some()
+            || self.row_separator.right.is_some()
+            || self.bottom_border.right.is_some()
+    }
+
+    /// Whether lines stand between the columns: any of the six lines has a junction.
+    pub fn draws_vertical_lines(&self) -> bool
+        ensures { result ≡ draws_vertical_lines self.now }
+    {
+        self.top_border.junction.is_some()
+            || self.header_lines.junction.is_some()
+            || self.header_separator.junction.is_some()
+            || self.content_lines.junction.is_some()
+            || self.row_separator.junction.is_some()
+            || self.bottom_border.junction.is_some()
     }
 
     /// Rounds the four outer corners.

@@ -3,12 +3,12 @@
 ghost use Rattle.std.specs.Prelude.{◌≡◌, Some, IfOk, OnOk, OnErr};
 ghost use Rattle.std.specs.Borrow.{sem};
 ghost use Rattle.comfy_table.specs.TableReference.{reference_of};
+ghost use Rattle.comfy_table.specs.Lines.{cell_delimiter};
 ghost use Rattle.comfy_table.specs.TableLoans.{LendsStyle, TableStaysIfErr};
-ghost use Rattle.comfy_table.specs.TableValue.{table_width};
 
 use crate::table::{Table, TableReference, into_reference};
-use comfy_parts::Result;
 use comfy_parts::style::TableStyle;
+use comfy_parts::{Cell, Result};
 
 impl Table {
     /// Replaces the style.
@@ -84,17 +84,26 @@ impl Table {
         self
     }
 
-    /// The width in places: the one that was set, else the terminal's where the output is one.
-    pub fn width(&self) -> Option<u16>
-        ensures { result ≡ table_width self.now }
+    // What stands behind a line that is cut.
+    pub(crate) fn truncation_indicator(&self) -> &str
+        ensures { result.now ≡ self.now.indicator }
     {
-        if self.set_width.is_some() {
-            return self.set_width;
+        match &self.indicator {
+            Some(indicator) => indicator.as_str(),
+            None => "…",
         }
-        if self.writes_to_tty() {
-            self.terminal.width
-        } else {
-            None
+    }
+
+    // The character at which the texts of a cell may break, in a column with this delimiter.
+    pub(crate) fn delimiter_of(&self, cell: &Cell, column_delimiter: Option<char>) -> char
+        ensures { result ≡ cell_delimiter self.now column_delimiter cell.now }
+    {
+        if let Some(delimiter) = cell.cell_delimiter() {
+            return delimiter;
+        }
+        match column_delimiter {
+            Some(delimiter) => delimiter,
+            None => self.delimiter.unwrap_or(' '),
         }
     }
 }

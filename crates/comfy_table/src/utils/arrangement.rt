@@ -6,15 +6,14 @@ ghost use Rattle.comfy_table.specs.DisabledWidths.{width_by_content};
 ghost use Rattle.comfy_table.specs.Widths.{visible_count};
 
 pub mod constraint;
-mod content;
 mod disabled;
 mod early;
 pub mod helper;
 
 use crate::table::Table;
+use crate::table::content::column_content;
 use comfy_parts::content_split::ColumnDisplayInfo;
 use comfy_parts::{Column, Result};
-use content::column_content;
 use disabled::disabled_width;
 use helper::count_visible_columns;
 

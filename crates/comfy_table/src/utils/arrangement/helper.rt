@@ -7,9 +7,6 @@ ghost use Rattle.comfy_table.specs.Lines.{cell_delimiter};
 ghost use Rattle.comfy_table.specs.Widths.{without_padding};
 
 use crate::table::Table;
-use crate::utils::formatting::borders::{
-    should_draw_left_border, should_draw_right_border, should_draw_vertical_lines,
-};
 use comfy_parts::{Cell, Column};
 
 /// The content of a column whose whole width is this: the width less its paddings, at least 1.
@@ -31,9 +28,9 @@ pub fn count_visible_columns(columns: &[Column]) -> usize
 pub fn count_border_columns(table: &Table, visible_columns: usize) -> usize
     ensures { result ≡ borders_stopped table.now.style visible_columns }
 {
-    let left = usize::from(should_draw_left_border(table));
-    let right = usize::from(should_draw_right_border(table));
-    let between = if should_draw_vertical_lines(table) {
+    let left = usize::from(table.style.draws_left_border());
+    let right = usize::from(table.style.draws_right_border());
+    let between = if table.style.draws_vertical_lines() {
         visible_columns.saturating_sub(1)
     } else {
         0
@@ -46,18 +43,5 @@ pub fn count_border_columns(table: &Table, visible_columns: usize) -> usize
 pub fn delimiter(table: &Table, column: &Column, cell: &Cell) -> char
     ensures { result ≡ cell_delimiter table.now column.now.delimiter cell.now }
 {
-    chosen_delimiter(cell, column.column_delimiter(), table)
-}
-
-// The same, where the column's delimiter is known.
-pub(crate) fn chosen_delimiter(cell: &Cell, column_delimiter: Option<char>, table: &Table) -> char
-    ensures { result ≡ cell_delimiter table.now column_delimiter cell.now }
-{
-    if let Some(delimiter) = cell.cell_delimiter() {
-        return delimiter;
-    }
-    match column_delimiter {
-        Some(delimiter) => delimiter,
-        None => table.delimiter.unwrap_or(' '),
-    }
+    table.delimiter_of(cell, column.column_delimiter())
 }

@@ -13,39 +13,21 @@ use std::alloc::Global;
 pub fn should_draw_left_border(table: &Table) -> bool
     ensures { result ≡ draws_left_border table.now.style }
 {
-    let style = &table.style;
-    style.top_border.left.is_some()
-        || style.header_lines.left.is_some()
-        || style.header_separator.left.is_some()
-        || style.content_lines.left.is_some()
-        || style.row_separator.left.is_some()
-        || style.bottom_border.left.is_some()
+    table.style.draws_left_border()
 }
 
 /// Whether lines end with a border: any of the six lines of the style has a right character.
 pub fn should_draw_right_border(table: &Table) -> bool
     ensures { result ≡ draws_right_border table.now.style }
 {
-    let style = &table.style;
-    style.top_border.right.is_some()
-        || style.header_lines.right.is_some()
-        || style.header_separator.right.is_some()
-        || style.content_lines.right.is_some()
-        || style.row_separator.right.is_some()
-        || style.bottom_border.right.is_some()
+    table.style.draws_right_border()
 }
 
 /// Whether lines stand between the columns: any of the six lines of the style has a junction.
 pub fn should_draw_vertical_lines(table: &Table) -> bool
     ensures { result ≡ draws_vertical_lines table.now.style }
 {
-    let style = &table.style;
-    style.top_border.junction.is_some()
-        || style.header_lines.junction.is_some()
-        || style.header_separator.junction.is_some()
-        || style.content_lines.junction.is_some()
-        || style.row_separator.junction.is_some()
-        || style.bottom_border.junction.is_some()
+    table.style.draws_vertical_lines()
 }
 
 /// A line of content: its pieces between the drawn borders, with junctions where vertical lines are drawn.
@@ -57,14 +39,14 @@ pub(crate) fn content_line(
 ) -> Result<String>
     ensures { IfOk result (λ text. string_bytes text ≡ content_line table.now.style line.now (map string_bytes pieces.now)) }
 {
-    let vertical = should_draw_vertical_lines(table);
+    let vertical = table.style.draws_vertical_lines();
     let mut text = String::new(alloc);
-    push_border(&mut text, should_draw_left_border(table), line.left)?;
+    push_border(&mut text, table.style.draws_left_border(), line.left)?;
     for (position, piece) in pieces.iter().enumerate() {
         push_border(&mut text, needs_junction(vertical, position), line.junction)?;
         text.push_str(piece.as_str())?;
     }
-    push_border(&mut text, should_draw_right_border(table), line.right)?;
+    push_border(&mut text, table.style.draws_right_border(), line.right)?;
     Ok(text)
 }
 
@@ -88,14 +70,14 @@ pub(crate) fn optional_frame_line(
 fn frame_line(alloc: Global, table: &Table, line: &LineStyle, widths: &[usize]) -> Result<String>
     ensures { IfOk result (λ text. string_bytes text ≡ frame_line table.now.style line.now widths.now) }
 {
-    let vertical = should_draw_vertical_lines(table);
+    let vertical = table.style.draws_vertical_lines();
     let mut text = String::new(alloc);
-    push_border(&mut text, should_draw_left_border(table), line.left)?;
+    push_border(&mut text, table.style.draws_left_border(), line.left)?;
     for (position, width) in widths.iter().enumerate() {
         push_border(&mut text, needs_junction(vertical, position), line.junction)?;
         push_repeated(&mut text, line.fill.unwrap_or(' '), *width)?;
     }
-    push_border(&mut text, should_draw_right_border(table), line.right)?;
+    push_border(&mut text, table.style.draws_right_border(), line.right)?;
     Ok(text)
 }
 

@@ -6,7 +6,6 @@ ghost use Rattle.comfy_table.specs.Pieces.{content_lines, row_lines, visible_inf
 ghost use Rattle.comfy_table.specs.DrawnCells.{drawn_cell, greatest_height, height_of, lines_of_optional, piece_at};
 
 use crate::table::Table;
-use crate::utils::arrangement::helper::chosen_delimiter;
 use crate::utils::formatting::cell_lines::{cell_lines, cut_at};
 use crate::utils::formatting::piece::{filling, piece};
 use comfy_parts::content_split::ColumnDisplayInfo;
@@ -173,7 +172,7 @@ fn row_cell_lines(
 pub fn delimiter(cell: &Cell, info: &ColumnDisplayInfo, table: &Table) -> char
     ensures { result ≡ cell_delimiter table.now info.now.delimiter cell.now }
 {
-    chosen_delimiter(cell, info.delimiter, table)
+    table.delimiter_of(cell, info.delimiter)
 }
 
 // The height of a row: that of its highest visible cell.

@@ -5,12 +5,15 @@ use Rattle.std.specs.Prelude.{encode_utf8, if◌then◌else◌}
 use Rattle.comfy_parts.specs.Text.{Text}
 use Rattle.comfy_table.proofs.FrameLemmas.{joined-made}
 use Rattle.comfy_table.proofs.JoinLemmas.{joined_all, joined_more}
+use Rattle.comfy_table.specs.TableValue.{TableValue}
+use Rattle.comfy_parts.specs.Borders.{draws_left_border, draws_right_border, draws_vertical_lines}
+use Rattle.comfy_parts.specs.declared.style.table_style.TableStyle.{TableStyle}
 use Rattle.comfy_table.specs.Frame.{character}
 use Rattle.comfy_table.proofs.utils.formatting.borders.frame_line.Goals as goal
 
 pub loop-position-preserved : goal.loop-position-preserved
 loop-position-preserved c =
-    let vertical = c.should_draw_vertical_lines-vertical.result in
+    let vertical = c.draws_vertical_lines-vertical.result in
     let line = c.args.line.now in
     let junction = character line.junction in
     let width = slice_index_or c.args.widths.now c.loop-position.position 0 in
@@ -24,12 +27,13 @@ loop-position-preserved c =
 
 pub returns : goal.returns
 returns c =
-    let vertical = c.should_draw_vertical_lines-vertical.result in
+    let of_table : (asks : TableStyle → Bool) → asks c.table.inside.style ≡ asks c.args.table.now.style = λ asks. ap (λ (t : TableValue). asks t.style) c.table.view_is in
+    let vertical = c.draws_vertical_lines-vertical.result in
     let line = c.args.line.now in
     let fills = λ (width : ℕ). repeat width (character line.fill) in
     let inside = joined_all fills (if vertical then character line.junction else []) c.args.widths.now c.loop-position.position (string_bytes c.push_border.new.text) (string_bytes c.loop-position.text) c.loop-position-test.false c.loop-position.invariant in
     joined-made c.args.table.now.style line.left line.junction line.right fills c.args.widths.now
-    c.should_draw_left_border.result vertical c.should_draw_right_border.result
+    c.draws_left_border.result vertical c.draws_right_border.result
     (string_bytes c.new-text.result) (string_bytes c.push_border.new.text) (string_bytes c.loop-position.text) (string_bytes c.push_border-2.new.text)
-    c.should_draw_left_border.ensures c.should_draw_vertical_lines-vertical.ensures c.should_draw_right_border.ensures
+    (c.draws_left_border.ensures ∙ of_table draws_left_border) (c.draws_vertical_lines-vertical.ensures ∙ of_table draws_vertical_lines) (c.draws_right_border.ensures ∙ of_table draws_right_border)
     c.new-text.ensures.bytes c.in_ok-push_border.ensures inside c.in_ok-push_border-3.ensures

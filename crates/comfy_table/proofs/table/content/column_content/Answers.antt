@@ -2,7 +2,7 @@ use Rattle.std.proofs.Common.{◌≡◌, false, ap, sym, ◌∙◌, Some, None}
 use Rattle.comfy_table.proofs.ContentsLemmas.{column_content-none, column_content-some}
 use Rattle.comfy_table.specs.TableValue.{TableValue}
 use Rattle.comfy_table.specs.Contents.{rows_content}
-use Rattle.comfy_table.proofs.utils.arrangement.content.column_content.Goals as goal
+use Rattle.comfy_table.proofs.table.content.column_content.Goals as goal
 
 pub returns-in-Some : goal.returns-in-Some
 returns-in-Some c =

@@ -10,7 +10,7 @@ use comfy_parts::{Cell, Result, Row};
 
 /// The greatest measure of a text line of the column at a position, over header and rows. Each cell counts at least 1,
 /// a measure above 65535 counts 65535, and a column without a cell gives 0.
-pub fn column_content(table: &Table, position: usize) -> u16
+pub(crate) fn column_content(table: &Table, position: usize) -> u16
     ensures { result ≡ column_content table.now position }
 {
     let below = rows_content(table.rows.as_slice(), position);
