@@ -1,6 +1,6 @@
 //! Short functions as a caller writes them, each with a claim of its own that the contracts below carry.
 
-ghost use Rattle.std.specs.Prelude.{◌≡◌, [], IfOk, None, string_bytes};
+ghost use Rattle.std.specs.Prelude.{◌≡◌, [], IfOk, None, OnErr, OnOk, string_bytes};
 ghost use Rattle.comfy_parts.specs.CellValue.{plain_cell, plain_row, with_cell};
 ghost use Rattle.comfy_parts.specs.Presets.{ascii_full};
 ghost use Rattle.comfy_run.specs.Input.{IsOutputFor};
@@ -20,6 +20,20 @@ pub fn pair(alloc: Global, first: String, second: String) -> comfy_table::Result
     row.add_cell(Cell::new_owned(alloc, first)?)?
         .add_cell(Cell::new_owned(alloc, second)?)?;
     Ok(row)
+}
+
+/// Adds a row of two texts. After `OutOfMemory` the table is unchanged.
+pub fn add_pair(
+    alloc: Global,
+    table: &mut Table,
+    first: String,
+    second: String,
+) -> comfy_table::Result<()>
+    ensures added { OnOk result (table.new ≡ with_row (with_cell (plain_cell (string_bytes second)) (with_cell (plain_cell (string_bytes first)) (plain_row []))) table.old) }
+    ensures unchanged { OnErr result (table.new ≡ table.old) }
+{
+    let row = pair(alloc, first, second)?;
+    table.try_add_row(row)
 }
 
 /// The drawing of a header and one row.
