@@ -1,6 +1,6 @@
 -- What a table is, as a value, and what its settings say.
 use Rattle.std.specs.Prelude.{◌≡◌, ℕ, ◌<◌, ◌≤◌, Bool, false, not, ◌&&◌, ◌||◌, List, [], ◌∷◌, ◌++◌, Option, Some, None, option_to_list, option_and_then, option_map, map, fold, length, take, filter, filter_map, slice_get, max, min, All, IfSome, IsUtf8, if◌then◌else◌, String, string_bytes}
-use Rattle.std.specs.List.{enumerate_from}
+use Rattle.std.specs.List.{enumerate_from, range_with_len}
 use Rattle.comfy_parts.specs.CellValue.{CellValue, RowValue, ColumnValue, IsColumn, IsDelimiter, IsRow, columns_grown_to, is_hidden_column}
 use Rattle.comfy_parts.specs.Text.{Text, measure, greatest}
 use Rattle.comfy_parts.specs.VisibleText.{visible_text}
@@ -156,7 +156,7 @@ column_content table i = greatest (map cell_content (column_cells table i))
 
 -- the content of each column, in list order
 abbrev pub max_content_widths : TableValue → List ℕ
-max_content_widths table = map (λ (p : ℕ × ColumnValue). column_content table p.0) (enumerate_from 0 table.columns)
+max_content_widths table = map (column_content table) (range_with_len 0 (length table.columns))
 
 -- the visible columns, each with its position
 abbrev pub visible_columns : TableValue → List (ℕ × ColumnValue)

@@ -27,9 +27,9 @@ impl Table {
     pub fn column_max_content_widths(&self) -> Result<Vec<u16>>
         ensures { IfOk result (λ widths. widths.items ≡ max_content_widths self.now) }
     {
-        let columns = self.columns.as_slice();
+        let count = self.columns.len();
         let mut widths = Vec::new(*self.columns.allocator());
-        for (position, _column) in columns.iter().enumerate() {
+        for position in 0..count {
             widths.push(column_content(self, position))?;
         }
         Ok(widths)

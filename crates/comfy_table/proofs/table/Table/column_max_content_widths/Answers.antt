@@ -1,21 +1,18 @@
-use Rattle.std.proofs.Common.{ℕ, List, [], ◌∷◌, ◌++◌, map, ap, ap₂, sym, ◌∙◌}
-use Rattle.std.specs.List.{enumerate_from}
-use Rattle.comfy_parts.specs.CellValue.{ColumnValue}
-use Rattle.comfy_table.proofs.LoopLemmas.{enumerated_all, enumerated_more}
+use Rattle.std.proofs.Common.{◌≡◌, ℕ, ◌+◌, List, [], ◌∷◌, ◌++◌, length, map, ap, ap₂, arith, sym, ◌∙◌}
+use Rattle.std.proofs.lemmas.List.FromFn.{map-range_with_len_more}
+use Rattle.std.specs.List.{range_with_len}
 use Rattle.comfy_table.specs.TableValue.{TableValue, column_content}
 use Rattle.comfy_table.proofs.table.Table.column_max_content_widths.Goals as goal
 
 pub loop-position-preserved : goal.loop-position-preserved
 loop-position-preserved c =
-    let f : ℕ × ColumnValue → ℕ = λ p. column_content c.args.self.now p.0 in
+    let at : 0 + c.loop-position.position ≡ c.loop-position.position = omega arith in
     c.in_ok-push.ensures.items
     ∙ ap₂ (λ (ws : List ℕ) (w : ℕ). ws ++ w ∷ []) c.loop-position.invariant c.column_content.ensures
-    ∙ sym (enumerated_more f c.as_slice-columns.result.now c.loop-position.position c.index-columns-position.result c.loop-position-test.true c.index-columns-position.is)
+    ∙ sym (map-range_with_len_more (column_content c.args.self.now) 0 c.loop-position.position c.loop-position.position at)
 
 pub returns : goal.returns
 returns c =
-    let f : ℕ × ColumnValue → ℕ = λ p. column_content c.args.self.now p.0 in
-    let columns = c.as_slice-columns.ensures.value ∙ ap (λ (t : TableValue). t.columns) c.self.view_is in
+    let all : c.loop-position.position ≡ c.len-count.result = omega arith in
     c.loop-position.invariant
-    ∙ enumerated_all f c.as_slice-columns.result.now c.loop-position.position c.loop-position-test.false
-    ∙ ap (λ (cs : List ColumnValue). map f (enumerate_from 0 cs)) columns
+    ∙ ap (λ n. map (column_content c.args.self.now) (range_with_len 0 n)) (all ∙ c.len-count.ensures ∙ c.self.inside.columns.ok.0 ∙ ap (λ (t : TableValue). length t.columns) c.self.view_is)
