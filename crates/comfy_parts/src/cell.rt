@@ -75,47 +75,19 @@ impl Cell {
     }
 
     /// Sets the character at which the cell's texts may break, whatever its column and its table have.
-    pub fn set_delimiter(self, delimiter: char) -> Cell
+    pub fn set_delimiter(mut self, delimiter: char) -> Cell
         ensures { result ≡ record self { delimiter = Some delimiter } }
     {
-        let Cell {
-            text_lines,
-            delimiter: _,
-            alignment,
-            foreground,
-            background,
-            attributes,
-        } = self;
-        Cell {
-            text_lines,
-            delimiter: Some(delimiter),
-            alignment,
-            foreground,
-            background,
-            attributes,
-        }
+        self.delimiter = Some(delimiter);
+        self
     }
 
     /// Sets where the cell's texts stand, whatever its column has.
-    pub fn set_alignment(self, alignment: CellAlignment) -> Cell
+    pub fn set_alignment(mut self, alignment: CellAlignment) -> Cell
         ensures { result ≡ record self { alignment = Some alignment } }
     {
-        let Cell {
-            text_lines,
-            delimiter,
-            alignment: _,
-            foreground,
-            background,
-            attributes,
-        } = self;
-        Cell {
-            text_lines,
-            delimiter,
-            alignment: Some(alignment),
-            foreground,
-            background,
-            attributes,
-        }
+        self.alignment = Some(alignment);
+        self
     }
 
     /// The character at which the cell's texts may break; none where its column's or its table's is taken.
