@@ -1,6 +1,5 @@
 pub mod CellValue
 pub mod Following
-pub mod GrownRow
 pub mod Laws
 pub mod Presets
 pub mod RowLoans
@@ -8,4 +7,5 @@ pub mod StyleModifiers
 pub mod Text
 pub mod VisibleLines
 pub mod VisibleText
+pub mod WrappedRow
 pub mod Wrapping
