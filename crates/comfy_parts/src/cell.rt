@@ -1,11 +1,12 @@
 //! A cell: its text lines and its settings.
 
-ghost use Rattle.std.specs.Prelude.{◌≡◌, string_bytes, map, IfOk, Some};
+ghost use Rattle.std.specs.Prelude.{◌≡◌, string_bytes, map, IfOk, IfSome, Some};
 ghost use Rattle.comfy_parts.specs.CellValue.{IsCell, content_of, plain_cell};
 
 use crate::error::Result;
 use crate::style::{Attribute, CellAlignment, Color};
 use std::alloc::Global;
+use std::fmt::Display;
 use std::marker::Model;
 
 /// One cell of a table. It has at least one text line, and no text line holds a line feed.
@@ -31,6 +32,15 @@ impl Model for Cell {
 }
 
 impl Cell {
+    /// The cell of the text that `content` prints: its text lines are what stands between the line feeds. After running
+    /// out of memory `content` is dropped. An error of its own `Display` is returned as `OutOfMemory` too.
+    pub fn new<T: Display + Drop>(alloc: Global, content: T) -> Result<Cell>
+        ensures value { IfOk result (λ cell. IfSome (T.output content) (λ text. cell ≡ plain_cell text)) }
+        ensures content { IfOk result (λ cell. IfSome (T.output content) (λ text. content_of cell ≡ text)) }
+    {
+        Cell::new_owned(alloc, content.to_string(alloc)?)
+    }
+
     /// The cell of a text: its text lines are what stands between the line feeds.
     pub fn new_owned(alloc: Global, text: String) -> Result<Cell>
         ensures value { IfOk result (λ cell. cell ≡ plain_cell (string_bytes text)) }

@@ -2,13 +2,15 @@
 
 ghost use Rattle.std.specs.Prelude.{◌≡◌, ◌≤◌, IfOk, IfSome, OnOk, OnErr, length, []};
 ghost use Rattle.std.specs.Borrow.{sem};
+ghost use Rattle.std.specs.List.{All};
 ghost use Rattle.std.specs.Iterator.Adapters.{IterYieldsInOrder};
 ghost use Rattle.std.specs.Slice.Iter.{iter_rest};
-ghost use Rattle.comfy_parts.specs.CellValue.{CellValue, IsRow, plain_row, with_cell, with_max_height};
+ghost use Rattle.comfy_parts.specs.CellValue.{CellValue, IsCell, IsRow, plain_row, with_cell, with_max_height};
 ghost use Rattle.comfy_parts.specs.WrappedRow.{reference_of};
 ghost use Rattle.comfy_parts.specs.RowLoans.{RowStaysIfErr};
 
 use crate::cell::Cell;
+use crate::convert::Cells;
 use crate::error::Result;
 use std::alloc::Global;
 use std::marker::Model;
@@ -36,8 +38,17 @@ impl Row {
     pub fn new(alloc: Global) -> Row
         ensures { result ≡ plain_row [] }
     {
+        Row::from_cells(Cells(Vec::new(alloc)))
+    }
+
+    // The row of some cells.
+    pub(crate) fn from_cells(cells: Cells) -> Row
+        ensures { result ≡ plain_row cells.0.items }
+    {
+        let Cells(cells) = cells;
+        look_at(cells.as_slice());
         Row {
-            cells: Vec::new(alloc),
+            cells,
             max_height: None,
         }
     }
@@ -105,6 +116,15 @@ impl Row {
         ensures runs { IterYieldsInOrder CellValue }
     {
         self.cells.iter()
+    }
+}
+
+// Looks at each cell, which tells what every cell keeps.
+fn look_at(cells: &[Cell])
+    ensures { All IsCell cells.now }
+{
+    for cell in cells {
+        let _ = cell.text_lines();
     }
 }
 
