@@ -1,7 +1,6 @@
 pub mod Borders
 pub mod CellValue
 pub mod Following
-pub mod GrownRow
 pub mod Laws
 pub mod Presets
 pub mod RowLoans
@@ -9,4 +8,5 @@ pub mod StyleModifiers
 pub mod Text
 pub mod VisibleLines
 pub mod VisibleText
+pub mod WrappedRow
 pub mod Wrapping

@@ -1,11 +1,12 @@
 //! A cell: its text lines and its settings.
 
-ghost use Rattle.std.specs.Prelude.{◌≡◌, string_bytes, map, IfOk, Some};
+ghost use Rattle.std.specs.Prelude.{◌≡◌, string_bytes, map, IfOk, IfSome, Some};
 ghost use Rattle.comfy_parts.specs.CellValue.{IsCell, content_of, plain_cell};
 
 use crate::error::Result;
 use crate::style::{Attribute, CellAlignment, Color};
 use std::alloc::Global;
+use std::fmt::Display;
 use std::marker::Model;
 
 /// One cell of a table. It has at least one text line, and no text line holds a line feed.
@@ -31,6 +32,15 @@ impl Model for Cell {
 }
 
 impl Cell {
+    /// The cell of the text that `content` prints: its text lines are what stands between the line feeds. After running
+    /// out of memory `content` is dropped. An error of its own `Display` is returned as `OutOfMemory` too.
+    pub fn new<T: Display + Drop>(alloc: Global, content: T) -> Result<Cell>
+        ensures value { IfOk result (λ cell. IfSome (T.output content) (λ text. cell ≡ plain_cell text)) }
+        ensures content { IfOk result (λ cell. IfSome (T.output content) (λ text. content_of cell ≡ text)) }
+    {
+        Cell::new_owned(alloc, content.to_string(alloc)?)
+    }
+
     /// The cell of a text: its text lines are what stands between the line feeds.
     pub fn new_owned(alloc: Global, text: String) -> Result<Cell>
         ensures value { IfOk result (λ cell. cell ≡ plain_cell (string_bytes text)) }
@@ -75,47 +85,19 @@ impl Cell {
     }
 
     /// Sets the character at which the cell's texts may break, whatever its column and its table have.
-    pub fn set_delimiter(self, delimiter: char) -> Cell
+    pub fn set_delimiter(mut self, delimiter: char) -> Cell
         ensures { result ≡ record self { delimiter = Some delimiter } }
     {
-        let Cell {
-            text_lines,
-            delimiter: _,
-            alignment,
-            foreground,
-            background,
-            attributes,
-        } = self;
-        Cell {
-            text_lines,
-            delimiter: Some(delimiter),
-            alignment,
-            foreground,
-            background,
-            attributes,
-        }
+        self.delimiter = Some(delimiter);
+        self
     }
 
     /// Sets where the cell's texts stand, whatever its column has.
-    pub fn set_alignment(self, alignment: CellAlignment) -> Cell
+    pub fn set_alignment(mut self, alignment: CellAlignment) -> Cell
         ensures { result ≡ record self { alignment = Some alignment } }
     {
-        let Cell {
-            text_lines,
-            delimiter,
-            alignment: _,
-            foreground,
-            background,
-            attributes,
-        } = self;
-        Cell {
-            text_lines,
-            delimiter,
-            alignment: Some(alignment),
-            foreground,
-            background,
-            attributes,
-        }
+        self.alignment = Some(alignment);
+        self
     }
 
     /// The character at which the cell's texts may break; none where its column's or its table's is taken.

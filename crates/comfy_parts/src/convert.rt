@@ -1,20 +1,116 @@
-//! The trait of what `set_header` and `add_row` of a table take.
+//! What cells, lists of cells, and rows can be made of.
 
-ghost use Rattle.std.specs.Prelude.{◌≡◌, IfOk};
-ghost use Rattle.comfy_parts.specs.CellValue.{RowValue};
+ghost use Rattle.std.specs.Prelude.{◌≡◌, IfOk, List, map, string_bytes};
+ghost use Rattle.comfy_parts.specs.CellValue.{CellValue, RowValue, bool_cell, char_cell, plain_cell, plain_row};
 
+mod numbers;
+
+use crate::cell::Cell;
 use crate::error::Result;
 use crate::row::Row;
 use std::alloc::Global;
 
-/// What a row can be made of.
+/// A value that a cell can be made of: a text, a whole number, a truth value, a character, or a cell.
+pub trait IntoCell: Drop {
+    // the cell that the value stands for
+    ghost cell_of: { Self → CellValue };
+
+    /// Makes the cell. After running out of memory the value is dropped.
+    fn into_cell(self, alloc: Global) -> Result<Cell>
+        ensures { IfOk result (λ cell. cell ≡ cell_of self) };
+}
+
+/// A list that cells can be made of: `Cells`, or a `Vec` or an array of values that a cell can be made of. The items of an
+/// array are `Copy`.
+pub trait IntoCells: Drop {
+    // the cells that the value stands for
+    ghost cells_of: { Self → List CellValue };
+
+    /// Makes the cells, in the order of the list. After running out of memory the list is dropped.
+    fn into_cells(self, alloc: Global) -> Result<Cells>
+        ensures { IfOk result (λ cells. cells.0.items ≡ cells_of self) };
+}
+
+/// A value that a row can be made of: a row, or a list that cells can be made of.
 pub trait IntoRow: Drop {
     // the row that the value stands for
     ghost row_of: { Self → RowValue };
 
-    /// Makes the row. Where memory is refused, the value is dropped.
+    /// Makes the row. After running out of memory the value is dropped.
     fn into_row(self, alloc: Global) -> Result<Row>
         ensures { IfOk result (λ row. row ≡ row_of self) };
+}
+
+/// Cells in order, that are not a row yet.
+#[derive(Debug, Drop)]
+pub struct Cells(pub Vec<Cell>);
+
+impl IntoCell for Cell {
+    ghost cell_of = { λ cell. cell };
+
+    fn into_cell(self, _alloc: Global) -> Result<Cell> {
+        Ok(self)
+    }
+}
+
+impl IntoCell for String {
+    ghost cell_of = { λ text. plain_cell (string_bytes text) };
+
+    fn into_cell(self, alloc: Global) -> Result<Cell> {
+        Cell::new_owned(alloc, self)
+    }
+}
+
+impl IntoCell for &str {
+    ghost cell_of = { λ text. plain_cell text.now };
+
+    fn into_cell(self, alloc: Global) -> Result<Cell> {
+        Cell::new(alloc, self)
+    }
+}
+
+impl IntoCell for bool {
+    ghost cell_of = { bool_cell };
+
+    fn into_cell(self, alloc: Global) -> Result<Cell> {
+        Cell::new(alloc, self)
+    }
+}
+
+impl IntoCell for char {
+    ghost cell_of = { char_cell };
+
+    fn into_cell(self, alloc: Global) -> Result<Cell> {
+        Cell::new(alloc, self)
+    }
+}
+
+impl IntoCells for Cells {
+    ghost cells_of = { λ cells. cells.0.items };
+
+    fn into_cells(self, _alloc: Global) -> Result<Cells> {
+        Ok(self)
+    }
+}
+
+impl<T: IntoCell> IntoCells for Vec<T> {
+    ghost cells_of = { λ values. map T.cell_of values.items };
+
+    fn into_cells(self, alloc: Global) -> Result<Cells> {
+        let mut cells = Vec::new(alloc);
+        for value in self {
+            cells.push(value.into_cell(alloc)?)?;
+        }
+        Ok(Cells(cells))
+    }
+}
+
+impl<T: IntoCell + Copy, const N: usize> IntoCells for [T; N] {
+    ghost cells_of = { λ values. map T.cell_of values };
+
+    fn into_cells(self, alloc: Global) -> Result<Cells> {
+        Vec::from_array(alloc, self)?.into_cells(alloc)
+    }
 }
 
 impl IntoRow for Row {
@@ -22,5 +118,29 @@ impl IntoRow for Row {
 
     fn into_row(self, _alloc: Global) -> Result<Row> {
         Ok(self)
+    }
+}
+
+impl IntoRow for Cells {
+    ghost row_of = { λ cells. plain_row cells.0.items };
+
+    fn into_row(self, _alloc: Global) -> Result<Row> {
+        Ok(Row::from_cells(self))
+    }
+}
+
+impl<T: IntoCell> IntoRow for Vec<T> {
+    ghost row_of = { λ values. plain_row (map T.cell_of values.items) };
+
+    fn into_row(self, alloc: Global) -> Result<Row> {
+        Ok(Row::from_cells(self.into_cells(alloc)?))
+    }
+}
+
+impl<T: IntoCell + Copy, const N: usize> IntoRow for [T; N] {
+    ghost row_of = { λ values. plain_row (map T.cell_of values) };
+
+    fn into_row(self, alloc: Global) -> Result<Row> {
+        Ok(Row::from_cells(self.into_cells(alloc)?))
     }
 }

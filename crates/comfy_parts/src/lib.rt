@@ -12,6 +12,6 @@ pub mod style;
 
 pub use cell::Cell;
 pub use column::Column;
-pub use convert::IntoRow;
+pub use convert::{Cells, IntoCell, IntoCells, IntoRow};
 pub use error::{Result, TableError};
 pub use row::Row;

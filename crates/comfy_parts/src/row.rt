@@ -2,13 +2,15 @@
 
 ghost use Rattle.std.specs.Prelude.{◌≡◌, ◌≤◌, IfOk, IfSome, OnOk, OnErr, length, []};
 ghost use Rattle.std.specs.Borrow.{sem};
+ghost use Rattle.std.specs.List.{All};
 ghost use Rattle.std.specs.Iterator.Adapters.{IterYieldsInOrder};
 ghost use Rattle.std.specs.Slice.Iter.{iter_rest};
-ghost use Rattle.comfy_parts.specs.CellValue.{CellValue, IsRow, plain_row, with_cell, with_max_height};
-ghost use Rattle.comfy_parts.specs.GrownRow.{row_of};
+ghost use Rattle.comfy_parts.specs.CellValue.{CellValue, IsCell, IsRow, plain_row, with_cell, with_max_height};
+ghost use Rattle.comfy_parts.specs.WrappedRow.{reference_of};
 ghost use Rattle.comfy_parts.specs.RowLoans.{RowStaysIfErr};
 
 use crate::cell::Cell;
+use crate::convert::Cells;
 use crate::error::Result;
 use std::alloc::Global;
 use std::marker::Model;
@@ -36,33 +38,43 @@ impl Row {
     pub fn new(alloc: Global) -> Row
         ensures { result ≡ plain_row [] }
     {
+        Row::from_cells(Cells(Vec::new(alloc)))
+    }
+
+    // The row of some cells.
+    pub(crate) fn from_cells(cells: Cells) -> Row
+        ensures { result ≡ plain_row cells.0.items }
+    {
+        let Cells(cells) = cells;
+        look_at(cells.as_slice());
         Row {
-            cells: Vec::new(alloc),
+            cells,
             max_height: None,
         }
     }
 
-    /// Appends a cell. Where memory is refused, the row stays as it is and the cell is dropped.
+    /// Appends a cell. After running out of memory the row is unchanged, and the cell is dropped.
     pub fn add_cell(&mut self, cell: Cell) -> Result<&mut Self>
         ensures* err { sem 𝓛 (RowStaysIfErr self.entry result) }
         ensures same_reference { IfOk result (λ row. row.ghost_name ≡ self.entry.ghost_name) }
         ensures added { IfOk result (λ row. row.now ≡ with_cell cell self.old) }
     {
-        handed_on(self.grown(cell))
+        into_reference(self.add_cell_wrapped(cell))
     }
 
-    // `add_cell`, with the reference in a struct: so that its `err` can be proved.
-    fn grown(&mut self, cell: Cell) -> Result<Grown<'_>>
-        ensures* err { sem 𝓛 (RowStaysIfErr self.entry (row_of result)) }
-        ensures same_reference { IfOk (row_of result) (λ row. row.ghost_name ≡ self.entry.ghost_name) }
-        ensures added { IfOk (row_of result) (λ row. row.now ≡ with_cell cell self.old) }
+    // `add_cell`, with the reference wrapped in a struct: in this form the clause `err` can be proved.
+    fn add_cell_wrapped(&mut self, cell: Cell) -> Result<WrappedRow<'_>>
+        ensures* err { sem 𝓛 (RowStaysIfErr self.entry (reference_of result)) }
+        ensures same_reference { IfOk (reference_of result) (λ row. row.ghost_name ≡ self.entry.ghost_name) }
+        ensures added { IfOk (reference_of result) (λ row. row.now ≡ with_cell cell self.old) }
     {
-        self.push_cell(cell)?;
-        Ok(Grown { row: self })
+        self.try_add_cell(cell)?;
+        Ok(WrappedRow { row: self })
     }
 
-    // `add_cell`, with no answer but the outcome.
-    fn push_cell(&mut self, cell: Cell) -> Result<()>
+    /// `add_cell` for callers that go on with the row after running out of memory: the row is then unchanged, and the
+    /// cell is dropped.
+    pub fn try_add_cell(&mut self, cell: Cell) -> Result<()>
         ensures ok { OnOk result (self.new ≡ with_cell cell self.old) }
         ensures err { OnErr result (self.new ≡ self.old) }
     {
@@ -107,18 +119,27 @@ impl Row {
     }
 }
 
-// A reference to a row that has grown.
-struct Grown<'a> {
+// Looks at each cell, which tells what every cell keeps.
+fn look_at(cells: &[Cell])
+    ensures { All IsCell cells.now }
+{
+    for cell in cells {
+        let _ = cell.text_lines();
+    }
+}
+
+// A reference to a row.
+struct WrappedRow<'a> {
     row: &'a mut Row,
 }
 
 // The reference, taken out of its struct.
-fn handed_on<'a>(grown: Result<Grown<'a>>) -> Result<&'a mut Row>
-    ensures { result ≡ row_of grown.entry }
+fn into_reference<'a>(wrapped: Result<WrappedRow<'a>>) -> Result<&'a mut Row>
+    ensures { result ≡ reference_of wrapped.entry }
 {
-    match grown {
-        Ok(grown) => {
-            let Grown { row } = grown;
+    match wrapped {
+        Ok(wrapped) => {
+            let WrappedRow { row } = wrapped;
             Ok(row)
         }
         Err(error) => Err(error),

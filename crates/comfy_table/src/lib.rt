@@ -9,7 +9,9 @@ pub use comfy_parts::style::{
     Attribute, CellAlignment, Color, ColumnConstraint, ContentArrangement, ContentLineStyle,
     LineStyle, TableStyle, Width, presets,
 };
-pub use comfy_parts::{Cell, Column, IntoRow, Result, Row, TableError, column, style};
+pub use comfy_parts::{
+    Cell, Cells, Column, IntoCell, IntoCells, IntoRow, Result, Row, TableError, column, style,
+};
 pub use table::Table;
 pub use table::output::Lines;
 pub use table::terminal::Terminal;

@@ -2,6 +2,7 @@
 
 mod calls;
 mod cells;
+mod conversions;
 mod devices;
 mod presets;
 mod program;

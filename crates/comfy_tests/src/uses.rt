@@ -1,7 +1,7 @@
 //! Short functions as a caller writes them, each with a claim of its own that the contracts below carry.
 
-ghost use Rattle.std.specs.Prelude.{◌≡◌, [], IfOk, None, OnErr, OnOk, string_bytes};
-ghost use Rattle.comfy_parts.specs.CellValue.{plain_cell, plain_row, with_cell};
+ghost use Rattle.std.specs.Prelude.{◌≡◌, [], ◌∷◌, IfOk, None, OnErr, OnOk, if◌then◌else◌, string_bytes};
+ghost use Rattle.comfy_parts.specs.CellValue.{number_cell, plain_cell, plain_row, with_cell};
 ghost use Rattle.comfy_parts.specs.Presets.{ascii_full};
 ghost use Rattle.comfy_run.specs.Input.{IsOutputFor};
 ghost use Rattle.comfy_table.specs.Arrangement.{IsDrawingOf};
@@ -9,31 +9,42 @@ ghost use Rattle.comfy_table.specs.TableValue.{new_table, with_header, with_row}
 
 use comfy_run::run::{MemorySink, MemorySource, RunError, Settings, run};
 use comfy_table::presets::ASCII_FULL;
-use comfy_table::{Cell, ContentArrangement, Lines, Row, Table};
+use comfy_table::{Cell, ContentArrangement, IntoRow, Lines, Row, Table};
 use std::alloc::Global;
 
 /// A row of two texts.
-pub fn pair(alloc: Global, first: String, second: String) -> comfy_table::Result<Row>
-    ensures { IfOk result (λ row. row ≡ with_cell (plain_cell (string_bytes second)) (with_cell (plain_cell (string_bytes first)) (plain_row []))) }
+pub fn pair(alloc: Global, first: &str, second: &str) -> comfy_table::Result<Row>
+    ensures { IfOk result (λ row. row ≡ plain_row (plain_cell first.now ∷ plain_cell second.now ∷ [])) }
+{
+    [first, second].into_row(alloc)
+}
+
+/// A row of a name and a number.
+pub fn counted(alloc: Global, name: String, count: u64) -> comfy_table::Result<Row>
+    ensures { IfOk result (λ row. row ≡ plain_row (plain_cell (string_bytes name) ∷ number_cell count ∷ [])) }
 {
     let mut row = Row::new(alloc);
-    row.add_cell(Cell::new_owned(alloc, first)?)?
-        .add_cell(Cell::new_owned(alloc, second)?)?;
+    row.add_cell(Cell::new_owned(alloc, name)?)?
+        .add_cell(Cell::new(alloc, count)?)?;
     Ok(row)
 }
 
 /// Adds a row of two texts. After `OutOfMemory` the table is unchanged.
-pub fn add_pair(
-    alloc: Global,
-    table: &mut Table,
-    first: String,
-    second: String,
-) -> comfy_table::Result<()>
-    ensures added { OnOk result (table.new ≡ with_row (with_cell (plain_cell (string_bytes second)) (with_cell (plain_cell (string_bytes first)) (plain_row []))) table.old) }
+pub fn add_pair(table: &mut Table, first: &str, second: &str) -> comfy_table::Result<()>
+    ensures added { OnOk result (table.new ≡ with_row (plain_row (plain_cell first.now ∷ plain_cell second.now ∷ [])) table.old) }
     ensures unchanged { OnErr result (table.new ≡ table.old) }
 {
-    let row = pair(alloc, first, second)?;
-    table.try_add_row(row)
+    table.try_add_row([first, second])
+}
+
+/// Appends a text to a row where there is memory for it, and says whether there was. The row is unchanged otherwise.
+pub fn appended(alloc: Global, row: &mut Row, text: &str) -> bool
+    ensures { row.new ≡ (if result then with_cell (plain_cell text.now) row.old else row.old) }
+{
+    match Cell::new(alloc, text) {
+        Ok(cell) => row.try_add_cell(cell).is_ok(),
+        Err(_) => false,
+    }
 }
 
 /// The drawing of a header and one row.

@@ -5,6 +5,108 @@ ghost use Rattle.comfy_parts.specs.Presets.{ascii_full, ascii_full_condensed, as
 
 use crate::style::table_style::{ContentLineStyle, LineStyle, TableStyle};
 
+// Lines that several presets share, each with what it draws.
+
+// No character is set: no line is drawn.
+const NO_LINE: LineStyle = LineStyle {
+    left: None,
+    fill: None,
+    junction: None,
+    right: None,
+};
+
+// No character is set: nothing stands beside or between the cells.
+const NO_CONTENT: ContentLineStyle = ContentLineStyle {
+    left: None,
+    junction: None,
+    right: None,
+};
+
+// +---+---+
+const ASCII_BORDER: LineStyle = LineStyle {
+    left: Some('+'),
+    fill: Some('-'),
+    junction: Some('+'),
+    right: Some('+'),
+};
+
+// +-------+
+const ASCII_PLAIN_BORDER: LineStyle = LineStyle {
+    left: Some('+'),
+    fill: Some('-'),
+    junction: Some('-'),
+    right: Some('+'),
+};
+
+// +=======+
+const ASCII_SEPARATOR: LineStyle = LineStyle {
+    left: Some('+'),
+    fill: Some('='),
+    junction: Some('='),
+    right: Some('+'),
+};
+
+//  =======
+const ASCII_OPEN_SEPARATOR: LineStyle = LineStyle {
+    fill: Some('='),
+    junction: Some('='),
+    ..NO_LINE
+};
+
+//  -------
+const ASCII_OPEN_LINE: LineStyle = LineStyle {
+    fill: Some('-'),
+    junction: Some('-'),
+    ..NO_LINE
+};
+
+// | a | b |
+const ASCII_CONTENT: ContentLineStyle = ContentLineStyle {
+    left: Some('|'),
+    junction: Some('|'),
+    right: Some('|'),
+};
+
+//   a | b
+const ASCII_DIVIDED_CONTENT: ContentLineStyle = ContentLineStyle {
+    junction: Some('|'),
+    ..NO_CONTENT
+};
+
+// | a   b |
+const ASCII_ENCLOSED_CONTENT: ContentLineStyle = ContentLineStyle {
+    left: Some('|'),
+    right: Some('|'),
+    ..NO_CONTENT
+};
+
+// │ a ┆ b │
+const UTF8_CONTENT: ContentLineStyle = ContentLineStyle {
+    left: Some('│'),
+    junction: Some('┆'),
+    right: Some('│'),
+};
+
+//   a ┆ b
+const UTF8_DIVIDED_CONTENT: ContentLineStyle = ContentLineStyle {
+    junction: Some('┆'),
+    ..NO_CONTENT
+};
+
+// │ a   b │
+const UTF8_ENCLOSED_CONTENT: ContentLineStyle = ContentLineStyle {
+    left: Some('│'),
+    right: Some('│'),
+    ..NO_CONTENT
+};
+
+//  ───────
+const UTF8_OPEN_LINE: LineStyle = LineStyle {
+    fill: Some('─'),
+    junction: Some('─'),
+    ..NO_LINE
+};
+
 /// All borders, of ASCII characters; the style of a new table.
 ///
 /// ```text
@@ -17,40 +119,17 @@ use crate::style::table_style::{ContentLineStyle, LineStyle, TableStyle};
 /// +-------+-------+
 /// ```
 pub const ASCII_FULL: TableStyle = TableStyle {
-    top_border: LineStyle {
-        left: Some('+'),
-        fill: Some('-'),
-        junction: Some('+'),
-        right: Some('+'),
-    },
-    header_lines: ContentLineStyle {
-        left: Some('|'),
-        junction: Some('|'),
-        right: Some('|'),
-    },
-    header_separator: LineStyle {
-        left: Some('+'),
-        fill: Some('='),
-        junction: Some('='),
-        right: Some('+'),
-    },
-    content_lines: ContentLineStyle {
-        left: Some('|'),
-        junction: Some('|'),
-        right: Some('|'),
-    },
+    top_border: ASCII_BORDER,
+    header_lines: ASCII_CONTENT,
+    header_separator: ASCII_SEPARATOR,
+    content_lines: ASCII_CONTENT,
     row_separator: LineStyle {
         left: Some('|'),
         fill: Some('-'),
         junction: Some('+'),
         right: Some('|'),
     },
-    bottom_border: LineStyle {
-        left: Some('+'),
-        fill: Some('-'),
-        junction: Some('+'),
-        right: Some('+'),
-    },
+    bottom_border: ASCII_BORDER,
 };
 
 /// As `ASCII_FULL`, with no lines between rows.
@@ -64,40 +143,8 @@ pub const ASCII_FULL: TableStyle = TableStyle {
 /// +-------+-------+
 /// ```
 pub const ASCII_FULL_CONDENSED: TableStyle = TableStyle {
-    top_border: LineStyle {
-        left: Some('+'),
-        fill: Some('-'),
-        junction: Some('+'),
-        right: Some('+'),
-    },
-    header_lines: ContentLineStyle {
-        left: Some('|'),
-        junction: Some('|'),
-        right: Some('|'),
-    },
-    header_separator: LineStyle {
-        left: Some('+'),
-        fill: Some('='),
-        junction: Some('='),
-        right: Some('+'),
-    },
-    content_lines: ContentLineStyle {
-        left: Some('|'),
-        junction: Some('|'),
-        right: Some('|'),
-    },
-    row_separator: LineStyle {
-        left: None,
-        fill: None,
-        junction: None,
-        right: None,
-    },
-    bottom_border: LineStyle {
-        left: Some('+'),
-        fill: Some('-'),
-        junction: Some('+'),
-        right: Some('+'),
-    },
+    row_separator: NO_LINE,
+    ..ASCII_FULL
 };
 
 /// As `ASCII_FULL`, with no outer borders.
@@ -110,40 +157,15 @@ pub const ASCII_FULL_CONDENSED: TableStyle = TableStyle {
 ///  c     | d
 /// ```
 pub const ASCII_NO_BORDERS: TableStyle = TableStyle {
-    top_border: LineStyle {
-        left: None,
-        fill: None,
-        junction: None,
-        right: None,
-    },
-    header_lines: ContentLineStyle {
-        left: None,
-        junction: Some('|'),
-        right: None,
-    },
-    header_separator: LineStyle {
-        left: None,
-        fill: Some('='),
-        junction: Some('='),
-        right: None,
-    },
-    content_lines: ContentLineStyle {
-        left: None,
-        junction: Some('|'),
-        right: None,
-    },
+    header_lines: ASCII_DIVIDED_CONTENT,
+    header_separator: ASCII_OPEN_SEPARATOR,
+    content_lines: ASCII_DIVIDED_CONTENT,
     row_separator: LineStyle {
-        left: None,
         fill: Some('-'),
         junction: Some('+'),
-        right: None,
+        ..NO_LINE
     },
-    bottom_border: LineStyle {
-        left: None,
-        fill: None,
-        junction: None,
-        right: None,
-    },
+    ..NOTHING
 };
 
 /// Outer borders and the header's separator, of ASCII characters; an empty line between rows.
@@ -158,40 +180,16 @@ pub const ASCII_NO_BORDERS: TableStyle = TableStyle {
 /// +---------------+
 /// ```
 pub const ASCII_BORDERS_ONLY: TableStyle = TableStyle {
-    top_border: LineStyle {
-        left: Some('+'),
-        fill: Some('-'),
-        junction: Some('-'),
-        right: Some('+'),
-    },
-    header_lines: ContentLineStyle {
-        left: Some('|'),
-        junction: None,
-        right: Some('|'),
-    },
-    header_separator: LineStyle {
-        left: Some('+'),
-        fill: Some('='),
-        junction: Some('='),
-        right: Some('+'),
-    },
-    content_lines: ContentLineStyle {
-        left: Some('|'),
-        junction: None,
-        right: Some('|'),
-    },
+    top_border: ASCII_PLAIN_BORDER,
+    header_lines: ASCII_ENCLOSED_CONTENT,
+    header_separator: ASCII_SEPARATOR,
+    content_lines: ASCII_ENCLOSED_CONTENT,
     row_separator: LineStyle {
         left: Some('|'),
-        fill: None,
-        junction: None,
         right: Some('|'),
+        ..NO_LINE
     },
-    bottom_border: LineStyle {
-        left: Some('+'),
-        fill: Some('-'),
-        junction: Some('-'),
-        right: Some('+'),
-    },
+    bottom_border: ASCII_PLAIN_BORDER,
 };
 
 /// As `ASCII_BORDERS_ONLY`, with no line between rows.
@@ -205,40 +203,8 @@ pub const ASCII_BORDERS_ONLY: TableStyle = TableStyle {
 /// +---------------+
 /// ```
 pub const ASCII_BORDERS_ONLY_CONDENSED: TableStyle = TableStyle {
-    top_border: LineStyle {
-        left: Some('+'),
-        fill: Some('-'),
-        junction: Some('-'),
-        right: Some('+'),
-    },
-    header_lines: ContentLineStyle {
-        left: Some('|'),
-        junction: None,
-        right: Some('|'),
-    },
-    header_separator: LineStyle {
-        left: Some('+'),
-        fill: Some('='),
-        junction: Some('='),
-        right: Some('+'),
-    },
-    content_lines: ContentLineStyle {
-        left: Some('|'),
-        junction: None,
-        right: Some('|'),
-    },
-    row_separator: LineStyle {
-        left: None,
-        fill: None,
-        junction: None,
-        right: None,
-    },
-    bottom_border: LineStyle {
-        left: Some('+'),
-        fill: Some('-'),
-        junction: Some('-'),
-        right: Some('+'),
-    },
+    row_separator: NO_LINE,
+    ..ASCII_BORDERS_ONLY
 };
 
 /// Horizontal lines alone, of ASCII characters.
@@ -253,40 +219,12 @@ pub const ASCII_BORDERS_ONLY_CONDENSED: TableStyle = TableStyle {
 /// ---------------
 /// ```
 pub const ASCII_HORIZONTAL_ONLY: TableStyle = TableStyle {
-    top_border: LineStyle {
-        left: None,
-        fill: Some('-'),
-        junction: Some('-'),
-        right: None,
-    },
-    header_lines: ContentLineStyle {
-        left: None,
-        junction: None,
-        right: None,
-    },
-    header_separator: LineStyle {
-        left: None,
-        fill: Some('='),
-        junction: Some('='),
-        right: None,
-    },
-    content_lines: ContentLineStyle {
-        left: None,
-        junction: None,
-        right: None,
-    },
-    row_separator: LineStyle {
-        left: None,
-        fill: Some('-'),
-        junction: Some('-'),
-        right: None,
-    },
-    bottom_border: LineStyle {
-        left: None,
-        fill: Some('-'),
-        junction: Some('-'),
-        right: None,
-    },
+    top_border: ASCII_OPEN_LINE,
+    header_lines: NO_CONTENT,
+    header_separator: ASCII_OPEN_SEPARATOR,
+    content_lines: NO_CONTENT,
+    row_separator: ASCII_OPEN_LINE,
+    bottom_border: ASCII_OPEN_LINE,
 };
 
 /// A table of Markdown.
@@ -298,40 +236,15 @@ pub const ASCII_HORIZONTAL_ONLY: TableStyle = TableStyle {
 /// | c     | d     |
 /// ```
 pub const ASCII_MARKDOWN: TableStyle = TableStyle {
-    top_border: LineStyle {
-        left: None,
-        fill: None,
-        junction: None,
-        right: None,
-    },
-    header_lines: ContentLineStyle {
-        left: Some('|'),
-        junction: Some('|'),
-        right: Some('|'),
-    },
+    header_lines: ASCII_CONTENT,
     header_separator: LineStyle {
         left: Some('|'),
         fill: Some('-'),
         junction: Some('|'),
         right: Some('|'),
     },
-    content_lines: ContentLineStyle {
-        left: Some('|'),
-        junction: Some('|'),
-        right: Some('|'),
-    },
-    row_separator: LineStyle {
-        left: None,
-        fill: None,
-        junction: None,
-        right: None,
-    },
-    bottom_border: LineStyle {
-        left: None,
-        fill: None,
-        junction: None,
-        right: None,
-    },
+    content_lines: ASCII_CONTENT,
+    ..NOTHING
 };
 
 /// All borders, of box drawing characters.
@@ -352,22 +265,14 @@ pub const UTF8_FULL: TableStyle = TableStyle {
         junction: Some('┬'),
         right: Some('┐'),
     },
-    header_lines: ContentLineStyle {
-        left: Some('│'),
-        junction: Some('┆'),
-        right: Some('│'),
-    },
+    header_lines: UTF8_CONTENT,
     header_separator: LineStyle {
         left: Some('╞'),
         fill: Some('═'),
         junction: Some('╪'),
         right: Some('╡'),
     },
-    content_lines: ContentLineStyle {
-        left: Some('│'),
-        junction: Some('┆'),
-        right: Some('│'),
-    },
+    content_lines: UTF8_CONTENT,
     row_separator: LineStyle {
         left: Some('├'),
         fill: Some('╌'),
@@ -393,40 +298,8 @@ pub const UTF8_FULL: TableStyle = TableStyle {
 /// └───────┴───────┘
 /// ```
 pub const UTF8_FULL_CONDENSED: TableStyle = TableStyle {
-    top_border: LineStyle {
-        left: Some('┌'),
-        fill: Some('─'),
-        junction: Some('┬'),
-        right: Some('┐'),
-    },
-    header_lines: ContentLineStyle {
-        left: Some('│'),
-        junction: Some('┆'),
-        right: Some('│'),
-    },
-    header_separator: LineStyle {
-        left: Some('╞'),
-        fill: Some('═'),
-        junction: Some('╪'),
-        right: Some('╡'),
-    },
-    content_lines: ContentLineStyle {
-        left: Some('│'),
-        junction: Some('┆'),
-        right: Some('│'),
-    },
-    row_separator: LineStyle {
-        left: None,
-        fill: None,
-        junction: None,
-        right: None,
-    },
-    bottom_border: LineStyle {
-        left: Some('└'),
-        fill: Some('─'),
-        junction: Some('┴'),
-        right: Some('┘'),
-    },
+    row_separator: NO_LINE,
+    ..UTF8_FULL
 };
 
 /// As `UTF8_FULL`, with no outer borders.
@@ -439,40 +312,19 @@ pub const UTF8_FULL_CONDENSED: TableStyle = TableStyle {
 ///  c     ┆ d
 /// ```
 pub const UTF8_NO_BORDERS: TableStyle = TableStyle {
-    top_border: LineStyle {
-        left: None,
-        fill: None,
-        junction: None,
-        right: None,
-    },
-    header_lines: ContentLineStyle {
-        left: None,
-        junction: Some('┆'),
-        right: None,
-    },
+    header_lines: UTF8_DIVIDED_CONTENT,
     header_separator: LineStyle {
-        left: None,
         fill: Some('═'),
         junction: Some('╪'),
-        right: None,
+        ..NO_LINE
     },
-    content_lines: ContentLineStyle {
-        left: None,
-        junction: Some('┆'),
-        right: None,
-    },
+    content_lines: UTF8_DIVIDED_CONTENT,
     row_separator: LineStyle {
-        left: None,
         fill: Some('╌'),
         junction: Some('┼'),
-        right: None,
+        ..NO_LINE
     },
-    bottom_border: LineStyle {
-        left: None,
-        fill: None,
-        junction: None,
-        right: None,
-    },
+    ..NOTHING
 };
 
 /// Outer borders and the header's separator, of box drawing characters.
@@ -492,34 +344,21 @@ pub const UTF8_BORDERS_ONLY: TableStyle = TableStyle {
         junction: Some('─'),
         right: Some('┐'),
     },
-    header_lines: ContentLineStyle {
-        left: Some('│'),
-        junction: None,
-        right: Some('│'),
-    },
+    header_lines: UTF8_ENCLOSED_CONTENT,
     header_separator: LineStyle {
         left: Some('╞'),
         fill: Some('═'),
         junction: Some('═'),
         right: Some('╡'),
     },
-    content_lines: ContentLineStyle {
-        left: Some('│'),
-        junction: None,
-        right: Some('│'),
-    },
-    row_separator: LineStyle {
-        left: None,
-        fill: None,
-        junction: None,
-        right: None,
-    },
+    content_lines: UTF8_ENCLOSED_CONTENT,
     bottom_border: LineStyle {
         left: Some('└'),
         fill: Some('─'),
         junction: Some('─'),
         right: Some('┘'),
     },
+    ..NOTHING
 };
 
 /// Horizontal lines alone, of box drawing characters.
@@ -534,40 +373,16 @@ pub const UTF8_BORDERS_ONLY: TableStyle = TableStyle {
 /// ───────────────
 /// ```
 pub const UTF8_HORIZONTAL_ONLY: TableStyle = TableStyle {
-    top_border: LineStyle {
-        left: None,
-        fill: Some('─'),
-        junction: Some('─'),
-        right: None,
-    },
-    header_lines: ContentLineStyle {
-        left: None,
-        junction: None,
-        right: None,
-    },
+    top_border: UTF8_OPEN_LINE,
+    header_lines: NO_CONTENT,
     header_separator: LineStyle {
-        left: None,
         fill: Some('═'),
         junction: Some('═'),
-        right: None,
+        ..NO_LINE
     },
-    content_lines: ContentLineStyle {
-        left: None,
-        junction: None,
-        right: None,
-    },
-    row_separator: LineStyle {
-        left: None,
-        fill: Some('─'),
-        junction: Some('─'),
-        right: None,
-    },
-    bottom_border: LineStyle {
-        left: None,
-        fill: Some('─'),
-        junction: Some('─'),
-        right: None,
-    },
+    content_lines: NO_CONTENT,
+    row_separator: UTF8_OPEN_LINE,
+    bottom_border: UTF8_OPEN_LINE,
 };
 
 /// No lines at all.
@@ -578,40 +393,12 @@ pub const UTF8_HORIZONTAL_ONLY: TableStyle = TableStyle {
 ///  c      d
 /// ```
 pub const NOTHING: TableStyle = TableStyle {
-    top_border: LineStyle {
-        left: None,
-        fill: None,
-        junction: None,
-        right: None,
-    },
-    header_lines: ContentLineStyle {
-        left: None,
-        junction: None,
-        right: None,
-    },
-    header_separator: LineStyle {
-        left: None,
-        fill: None,
-        junction: None,
-        right: None,
-    },
-    content_lines: ContentLineStyle {
-        left: None,
-        junction: None,
-        right: None,
-    },
-    row_separator: LineStyle {
-        left: None,
-        fill: None,
-        junction: None,
-        right: None,
-    },
-    bottom_border: LineStyle {
-        left: None,
-        fill: None,
-        junction: None,
-        right: None,
-    },
+    top_border: NO_LINE,
+    header_lines: NO_CONTENT,
+    header_separator: NO_LINE,
+    content_lines: NO_CONTENT,
+    row_separator: NO_LINE,
+    bottom_border: NO_LINE,
 };
 
 /// Each preset has the characters that its definition tells.

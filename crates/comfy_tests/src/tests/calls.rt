@@ -1,9 +1,9 @@
 //! Calls of a table beside `lines`, and the calls that `lines` makes.
 
-use super::support::{assert_texts, cell, table_of_one_cell};
+use super::support::{assert_texts, table_of_one_cell};
 use comfy_parts::content_split::ColumnDisplayInfo;
 use comfy_parts::style::{ColumnConstraint, Width};
-use comfy_parts::{Column, Row};
+use comfy_parts::{Cell, Column, IntoRow};
 use comfy_table::Table;
 use comfy_table::utils::arrangement::constraint::absolute_value_from_width;
 use comfy_table::utils::arrangement::helper::{
@@ -55,7 +55,7 @@ fn helpers_give_single_values(rt: HostRuntime) -> Result<(), Fail> {
 #[test]
 fn a_cell_has_the_first_delimiter_that_is_set(rt: HostRuntime) -> Result<(), Fail> {
     let mut table = table_of_one_cell(rt.alloc(), "a")?;
-    let cell = cell(rt.alloc(), "x")?;
+    let cell = Cell::new(rt.alloc(), "x")?;
     let mut column = Column::new(0);
     assert_eq!(rt; delimiter(&table, &column, &cell), ' ');
     table.set_delimiter('t');
@@ -71,7 +71,7 @@ fn a_cell_has_the_first_delimiter_that_is_set(rt: HostRuntime) -> Result<(), Fai
 #[test]
 fn an_info_has_the_delimiter_of_its_column(rt: HostRuntime) -> Result<(), Fail> {
     let mut table = table_of_one_cell(rt.alloc(), "a")?;
-    let cell = cell(rt.alloc(), "x")?;
+    let cell = Cell::new(rt.alloc(), "x")?;
     let mut column = Column::new(0);
     let info = ColumnDisplayInfo::new(&column, 5);
     assert_eq!(rt; content_format::delimiter(&cell, &info, &table), ' ');
@@ -88,9 +88,7 @@ fn an_info_has_the_delimiter_of_its_column(rt: HostRuntime) -> Result<(), Fail> 
 #[test]
 fn a_row_is_formatted_by_the_infos_handed_in(rt: HostRuntime) -> Result<(), Fail> {
     let table = table_of_one_cell(rt.alloc(), "unused")?;
-    let mut row = Row::new(rt.alloc());
-    row.add_cell(cell(rt.alloc(), "ab cd")?)?
-        .add_cell(cell(rt.alloc(), "past the last info")?)?;
+    let row = ["ab cd", "past the last info"].into_row(rt.alloc())?;
     let info = ColumnDisplayInfo::new(&Column::new(0), 3);
     let lines = format_row(&row, [info].as_slice(), &table)?;
     assert_eq!(rt; lines.len(), 2);
@@ -102,11 +100,8 @@ fn a_row_is_formatted_by_the_infos_handed_in(rt: HostRuntime) -> Result<(), Fail
 
 #[test]
 fn each_column_is_lent_in_order(rt: HostRuntime) -> Result<(), Fail> {
-    let mut row = Row::new(rt.alloc());
-    row.add_cell(cell(rt.alloc(), "a")?)?
-        .add_cell(cell(rt.alloc(), "b")?)?;
     let mut table = Table::new(rt.alloc());
-    table.add_row(row)?;
+    table.add_row(["a", "b"])?;
     for (column, left) in table.column_iter_mut().zip([2, 0]) {
         column.set_padding((left, 0));
     }

@@ -1,8 +1,8 @@
 //! Cells, rows, columns and the error.
 
-use super::support::{assert_texts, cell};
+use super::support::assert_texts;
 use comfy_parts::style::CellAlignment;
-use comfy_parts::{Column, IntoRow, Row, TableError};
+use comfy_parts::{Cell, Column, IntoRow, Row, TableError};
 use std::test::Fail;
 
 #[test]
@@ -18,7 +18,7 @@ fn a_cell_is_cut_at_its_line_feeds(rt: HostRuntime) -> Result<(), Fail> {
         ),
     ];
     for (text, lines) in cases {
-        let cell = cell(rt.alloc(), text)?;
+        let cell = Cell::new(rt.alloc(), text)?;
         assert_texts(&rt, cell.text_lines(), lines, text);
         let content = cell.content()?;
         assert_eq!(rt; content.as_str(), text);
@@ -31,8 +31,8 @@ fn a_row_has_its_cells_in_order(rt: HostRuntime) -> Result<(), Fail> {
     let alloc = rt.alloc();
     let mut row = Row::new(alloc);
     assert_eq!(rt; row.cell_count(), 0);
-    row.add_cell(cell(alloc, "one")?)?
-        .add_cell(cell(alloc, "two\nlines")?)?;
+    row.add_cell(Cell::new(alloc, "one")?)?
+        .add_cell(Cell::new(alloc, "two\nlines")?)?;
     assert_eq!(rt; row.cell_count(), 2);
     let row = row.into_row(alloc)?;
     let mut contents = Vec::new(alloc);
@@ -45,7 +45,7 @@ fn a_row_has_its_cells_in_order(rt: HostRuntime) -> Result<(), Fail> {
 
 #[test]
 fn a_new_cell_has_no_settings(rt: HostRuntime) -> Result<(), Fail> {
-    let cell = cell(rt.alloc(), "a")?;
+    let cell = Cell::new(rt.alloc(), "a")?;
     assert!(rt; cell.cell_delimiter().is_none());
     assert!(rt; cell.cell_alignment().is_none());
     assert!(rt; cell.foreground().is_none());
@@ -56,7 +56,7 @@ fn a_new_cell_has_no_settings(rt: HostRuntime) -> Result<(), Fail> {
 
 #[test]
 fn a_cell_keeps_its_settings(rt: HostRuntime) -> Result<(), Fail> {
-    let cell = cell(rt.alloc(), "a")?
+    let cell = Cell::new(rt.alloc(), "a")?
         .set_delimiter('-')
         .set_alignment(CellAlignment::Right);
     assert_eq!(rt; cell.cell_delimiter(), Some('-'));

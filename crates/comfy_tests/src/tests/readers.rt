@@ -1,17 +1,16 @@
 //! What tables, columns and constraints tell.
 
-use super::support::{cell, table_of_one_cell};
+use super::support::table_of_one_cell;
 use comfy_parts::content_split::ColumnDisplayInfo;
 use comfy_parts::style::presets::{ASCII_FULL, ASCII_NO_BORDERS, NOTHING};
 use comfy_parts::style::{CellAlignment, ColumnConstraint, LineStyle, TableStyle, Width};
-use comfy_parts::{Column, Row};
+use comfy_parts::Column;
 use comfy_table::Table;
 use comfy_table::utils::arrangement::arrange_content;
 use comfy_table::utils::arrangement::constraint::{max, min};
 use comfy_table::utils::formatting::borders::{
     should_draw_left_border, should_draw_right_border, should_draw_vertical_lines,
 };
-use std::alloc::Global;
 use std::test::Fail;
 
 #[test]
@@ -30,9 +29,7 @@ fn a_table_tells_its_settings(rt: HostRuntime) -> Result<(), Fail> {
 fn a_table_tells_its_rows_and_columns(rt: HostRuntime) -> Result<(), Fail> {
     let mut table = Table::new(rt.alloc());
     assert!(rt; table.is_empty());
-    let mut row = Row::new(rt.alloc());
-    row.add_cell(cell(rt.alloc(), "a")?)?;
-    table.add_row(row)?;
+    table.add_row(["a"])?;
     assert!(rt; !table.is_empty());
     assert!(rt; table.column(0).is_some());
     assert!(rt; table.column(1).is_none());
@@ -88,20 +85,11 @@ fn boundaries_are_places(rt: HostRuntime) {
     assert_eq!(rt; max(&table, &None, 1), None);
 }
 
-// A row of these texts.
-fn row(alloc: Global, texts: [&str; 3]) -> comfy_parts::Result<Row> {
-    let mut row = Row::new(alloc);
-    for text in texts {
-        row.add_cell(cell(alloc, text)?)?;
-    }
-    Ok(row)
-}
-
 #[test]
 fn infos_are_as_wide_as_contents_and_paddings(rt: HostRuntime) -> Result<(), Fail> {
     let mut table = Table::new(rt.alloc());
-    table.set_header(row(rt.alloc(), ["head", "head", "head"])?)?;
-    table.add_row(row(rt.alloc(), ["__", "fivef", "sixsix"])?)?;
+    table.set_header(["head", "head", "head"])?;
+    table.add_row(["__", "fivef", "sixsix"])?;
     let infos = arrange_content(&table)?;
     let mut widths = Vec::new(rt.alloc());
     for info in &infos {

@@ -1,7 +1,6 @@
 //! The table of the README through the inner calls.
 
-use super::support::cell;
-use comfy_parts::{Result, Row};
+use comfy_parts::Result;
 use comfy_table::utils::arrangement::arrange_content;
 use comfy_table::utils::build_table;
 use comfy_table::utils::formatting::content_format::format_content;
@@ -9,11 +8,19 @@ use comfy_table::{Lines, Table};
 use std::alloc::{AllocError, Global};
 use std::test::Fail;
 
-const HEADER: &str = "Header1|Header2|Header3";
+const HEADER: [&str; 3] = ["Header1", "Header2", "Header3"];
 
-const FIRST: &str = "This is a text|This is another text|This is the third text";
+const FIRST: [&str; 3] = [
+    "This is a text",
+    "This is another text",
+    "This is the third text",
+];
 
-const SECOND: &str = "This is another text|Now\nadd some\nmulti line stuff|This is awesome";
+const SECOND: [&str; 3] = [
+    "This is another text",
+    "Now\nadd some\nmulti line stuff",
+    "This is awesome",
+];
 
 /// Its drawing, each line followed by a line feed.
 pub const DRAWN: &str = "\
@@ -28,20 +35,9 @@ pub const DRAWN: &str = "\
 +----------------------+----------------------+------------------------+
 ";
 
-// The row of the texts between bars.
-fn row(alloc: Global, texts: &str) -> Result<Row> {
-    let mut row = Row::new(alloc);
-    for text in texts.split('|') {
-        row.add_cell(cell(alloc, text)?)?;
-    }
-    Ok(row)
-}
-
 fn readme(alloc: Global) -> Result<Table> {
     let mut table = Table::new(alloc);
-    table.set_header(row(alloc, HEADER)?)?;
-    table.add_row(row(alloc, FIRST)?)?;
-    table.add_row(row(alloc, SECOND)?)?;
+    table.set_header(HEADER)?.add_row(FIRST)?.add_row(SECOND)?;
     Ok(table)
 }
 

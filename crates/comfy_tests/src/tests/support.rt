@@ -1,21 +1,13 @@
 //! What the tests share.
 
-use comfy_parts::{Cell, Result, Row};
-use comfy_table::Table;
+use comfy_table::{Result, Table};
 use std::alloc::Global;
 use std::process::Abort;
 
-/// The cell of a text.
-pub fn cell(alloc: Global, text: &str) -> Result<Cell> {
-    Cell::new_owned(alloc, String::from_str(alloc, text)?)
-}
-
 /// A table of one row of one cell.
 pub fn table_of_one_cell(alloc: Global, text: &str) -> Result<Table> {
-    let mut row = Row::new(alloc);
-    row.add_cell(cell(alloc, text)?)?;
     let mut table = Table::new(alloc);
-    table.add_row(row)?;
+    table.add_row([text])?;
     Ok(table)
 }
 

@@ -1,4 +1,4 @@
--- `add_cell` hands on what `grown` answers, under the same clauses. Assumes `Logic`.
+-- `add_cell` returns the reference that `add_cell_wrapped` returns in a struct, under the same clauses. Assumes `Logic`.
 use Rattle.std.proofs.Common.{◌≡◌, List, [], ◌∷◌, refl, sym}
 use Rattle.std.proofs.raw_atomic.Walks.{proved_at, leaves}
 use mathlib.Core.Path.{subst}
@@ -25,7 +25,7 @@ use denote.Triple.Entry.{Vals}
 use denote.Triple.Spec.{triple_of}
 use denote.Triple.Table.{framed}
 use denote.Triple.Walked.{Stays, walk_of, stay_dropped, Goes-dropped, Goes-spent_ref}
-use Rattle.comfy_parts.specs.GrownRow.{row_of}
+use Rattle.comfy_parts.specs.WrappedRow.{reference_of}
 use Rattle.comfy_parts.specs.contracts.cell.Cell as cell
 use Rattle.comfy_parts.specs.contracts.row.Row as row
 use Rattle.comfy_parts.proofs.cell.Cell.TheLaws as cell_laws
@@ -33,11 +33,11 @@ use Rattle.comfy_parts.specs.contracts.row.Row.add_cell as f
 use Rattle.comfy_parts.proofs.row.Row.add_cell.Statement.{statement}
 use Rattle.comfy_parts.proofs.row.Row.add_cell.Code as code
 use Rattle.comfy_parts.proofs.row.Row.add_cell.Kinds as f_kinds
-use Rattle.comfy_parts.specs.contracts.row.Row.grown as g
-use Rattle.comfy_parts.proofs.row.Row.grown.Met.{met as g_met}
-use Rattle.comfy_parts.proofs.row.Row.grown.Kinds as g_kinds
-use Rattle.comfy_parts.specs.contracts.row.handed_on as h
-use Rattle.comfy_parts.proofs.row.handed_on.Met.{met as h_met}
+use Rattle.comfy_parts.specs.contracts.row.Row.add_cell_wrapped as g
+use Rattle.comfy_parts.proofs.row.Row.add_cell_wrapped.Met.{met as g_met}
+use Rattle.comfy_parts.proofs.row.Row.add_cell_wrapped.Kinds as g_kinds
+use Rattle.comfy_parts.specs.contracts.row.into_reference as h
+use Rattle.comfy_parts.proofs.row.into_reference.Met.{met as h_met}
 
 abbrev Good : Ty → Val → Type 0
 Good τ v = T (has_ty τ v) × WT v
@@ -74,10 +74,10 @@ add_cell_spec {M} 𝓤 𝓛 𝓜 𝓡 wired =
     alloc_all ! (λ l. pass_all ! refl ((tt, tt), (got.2, tt)) $
     sets ! (addr ! (through ! refl (stop !))) refl (tt, tt) $
     sets ! (of_opd ! (get ! refl)) refl got.2 $
-    calls_at ! fm G (g_met 𝓤 𝓛 𝓜 𝓡 (code.calls-comfy_parts::row::Row::grown 𝓡.env wired)) z
+    calls_at ! fm G (g_met 𝓤 𝓛 𝓜 𝓡 (code.calls-comfy_parts::row::Row::add_cell_wrapped 𝓡.env wired)) z
     (and_then ! (get ! refl) (and_then ! (get ! refl) (no_more !))) (λ v.
     use1 𝓛 (later (some (λ (r : Held.Denot). ((‵ (flft κs.0 qs.0) ⊛ ‵ ftrue) ⊛ ‵ (Held.own_val r (v ∷ []))) ⊛
-    some (λ (ws : Lasts g.ended κs a). ‵ (lasts g.ended κs a ws) ⊛ raw (Ends (row_of r)))))) (id⊢ 𝓤 _) $
+    some (λ (ws : Lasts g.ended κs a). ‵ (lasts g.ended κs a ws) ⊛ raw (Ends (reference_of r)))))) (id⊢ 𝓤 _) $
     await ! tt $ pick ! (λ r. split ! $ split ! $ move ! (1 ∷ []) $ peeks ! Held _ (shows 𝓛 Held) r (v ∷ []) (λ is.
     move ! (2 ∷ []) $ pick ! (λ ws. split ! $ drop ! $
     -- [what is ensured; the result; the tokens]
@@ -85,10 +85,10 @@ add_cell_spec {M} 𝓤 𝓛 𝓜 𝓡 wired =
     let x : H.Ghost = ((κs, qs, y.0.2, (r, tt), (v ∷ [], tt)), tt) in
     nothing ! $ move ! (2 ∷ 0 ∷ []) $ join ! $ move ! (2 ∷ 0 ∷ []) $ join ! $
     nothing ! $ move ! (1 ∷ 0 ∷ []) $ use2 𝓛 (raw (H.pre x)) (id⊢ 𝓤 _) $
-    calls_at ! fm H (h_met 𝓤 𝓛 𝓜 𝓡 (code.calls-comfy_parts::row::handed_on 𝓡.env wired)) x
+    calls_at ! fm H (h_met 𝓤 𝓛 𝓜 𝓡 (code.calls-comfy_parts::row::into_reference 𝓡.env wired)) x
     (and_then ! (get ! refl) (no_more !)) (λ v'.
     use1 𝓛 (later (some (λ (r' : Lent.Denot). ((‵ (flft κs.0 qs.0) ⊛ ‵ ftrue) ⊛ ‵ (Lent.own_val r' (v' ∷ []))) ⊛
-    some (λ (ws' : Lasts h.ended κs (r, tt)). ‵ (lasts h.ended κs (r, tt) ws') ⊛ raw (fact 𝓤 (r' ≡ row_of r)))))) (id⊢ 𝓤 _) $
+    some (λ (ws' : Lasts h.ended κs (r, tt)). ‵ (lasts h.ended κs (r, tt) ws') ⊛ raw (fact 𝓤 (r' ≡ reference_of r)))))) (id⊢ 𝓤 _) $
     await ! tt $ pick ! (λ r'. split ! $ split ! $ move ! (1 ∷ []) $ peeks ! Lent _ (shows 𝓛 Lent) r' (v' ∷ []) (λ is'.
     move ! (2 ∷ []) $ pick ! (λ ws'. split ! $ drop ! $ heard ! _ (λ e.
     -- [the result; the tokens; what is ensured]

@@ -1,7 +1,7 @@
 use Rattle.std.proofs.Common.{[]}
 use Rattle.std.proofs.lemmas.List.Elements.{All-append, All-cons, All-nil}
 use Rattle.comfy_parts.specs.CellValue.{IsCell}
-use Rattle.comfy_parts.proofs.row.Row.push_cell.Goals as goal
+use Rattle.comfy_parts.proofs.row.Row.try_add_cell.Goals as goal
 
 pub invariant_of-self-2 : goal.invariant_of-self-2
 invariant_of-self-2 c =

@@ -1,0 +1,10 @@
+-- A reference to a row inside a struct.
+use Rattle.std.specs.Prelude.{Result, Ok, Err}
+use Rattle.std.specs.Borrow.{MutBor}
+use Rattle.comfy_parts.specs.CellValue.{RowValue}
+use Rattle.comfy_parts.specs.declared.row.WrappedRow.{WrappedRow}
+
+-- the reference that the result holds
+abbrev pub reference_of : {E : Type 0} → Result WrappedRow E → Result (MutBor RowValue) E
+reference_of (Ok wrapped) = Ok wrapped.row
+reference_of (Err error) = Err error
