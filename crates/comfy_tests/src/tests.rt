@@ -2,6 +2,7 @@
 
 mod calls;
 mod cells;
+mod counted;
 mod devices;
 mod presets;
 mod program;
