@@ -16,7 +16,7 @@ abbrev all_written : RunFacts
 all_written = record { input = []; end_was_read = true; written = codes "++\n++\n"; read_failed = false; write_failed = false }
 
 after_ok : IsAfterOk None Disabled ascii_full all_written
-after_ok = record { has_text = record { whole = refl; is_text = ([], (refl, refl)) }; output = both_lines }
+after_ok = record { no_device_failed = record { no_read_failed = refl; no_write_failed = refl }; has_text = record { whole = refl; is_text = ([], (refl, refl)) }; output = both_lines }
 
 -- the writer failed behind the first line
 abbrev half_written : RunFacts
@@ -26,6 +26,7 @@ after_write : IsAfterWrite None Disabled ascii_full half_written
 after_write =
     record {
       failed = refl;
+      no_read_failed = refl;
       has_text = record { whole = refl; is_text = ([], (refl, refl)) };
       output = codes "++\n++\n";
       is_output = both_lines;
@@ -37,4 +38,4 @@ abbrev half_read : RunFacts
 half_read = record { input = 0xE2 ∷ 0x9C ∷ []; end_was_read = false; written = []; read_failed = true; write_failed = false }
 
 after_read : IsAfterRead None Disabled ascii_full half_read
-after_read = record { failed = refl; nothing_written = refl; text = λ whole. absurd (cc whole) }
+after_read = record { failed = refl; no_write_failed = refl; nothing_written = refl; text = λ whole. absurd (cc whole) }

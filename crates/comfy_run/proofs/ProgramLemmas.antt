@@ -1,5 +1,5 @@
 -- What the program reports, and which settings it runs with.
-use Rattle.std.proofs.Common.{◌≡◌, Bool, true, List, [], ◌∷◌, ◌++◌, Option, Some, Result, Ok, Err, OnOk, IfErr, length, refl, sym, append-nil, ap, subst, ◌∙◌, arith}
+use Rattle.std.proofs.Common.{◌≡◌, Bool, true, [], ◌++◌, Option, Some, Result, Ok, Err, OnOk, IfErr, refl, sym, append-nil, ap, subst, ◌∙◌}
 use Rattle.comfy_parts.specs.Text.{Text}
 use Rattle.comfy_run.specs.Outcome.{RunFacts, IsBeginningOnly}
 use Rattle.comfy_run.specs.Program.{Reports}

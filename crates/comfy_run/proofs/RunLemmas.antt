@@ -1,39 +1,47 @@
 -- What the parts of a run ensure, put together.
-use Rattle.std.proofs.Common.{◌≡◌, Bool, true, [], ◌++◌, Option, Some, Result, Ok, Err, OnOk, IfErr, refl}
+use Rattle.std.proofs.Common.{◌≡◌, Bool, true, false, [], ◌++◌, Option, Some, Result, Ok, Err, OnOk, IfErr, refl}
 use Rattle.std.specs.Str.{IsUtf8}
 use Rattle.comfy_parts.specs.Text.{Text}
 use Rattle.comfy_run.specs.Input.{IsOutputFor}
-use Rattle.comfy_run.specs.Outcome.{IsBeginningOnly}
+use Rattle.comfy_run.specs.Outcome.{IsBeginningOnly, NoDeviceFailed, RunFacts}
 use Rattle.comfy_run.specs.Run.{IsAfter, IsByContent, IsRefusal}
 use Rattle.comfy_run.specs.declared.run.error.RunError.{RunError}
 use Rattle.comfy_run.specs.declared.run.error.RunError.TheVariants.{Read, Write, NotUtf8, Table}
 use Rattle.comfy_run.specs.declared.run.settings.Settings.{Settings}
 
--- nothing is written where there is nothing to write
-pub after_refusal : (T : Type 0) (settings : Settings) (e : RunError) (input : Text) (ended failed write_failed : Bool) → IsRefusal e input ended failed
-    → IsAfter {T = T} settings (Err e) (record { input = input; end_was_read = ended; written = []; read_failed = failed; write_failed = write_failed })
-after_refusal T settings Read input ended failed write_failed why = record { failed = why.0; nothing_written = refl; text = why.1 }
-after_refusal T settings Write input ended failed write_failed why = absurd why
-after_refusal T settings NotUtf8 input ended failed write_failed why = record { whole = why.0; no_text = why.1; nothing_written = refl }
-after_refusal T settings (Table e) input ended failed write_failed why = record { nothing_written = refl; text = why }
+-- a writer that hadn't failed before
+pub still_sound : {T E : Type 0} (r : Result T E) (old new : Bool) → old ≡ false → OnOk r (old ≡ false → new ≡ false) → OnOk r (new ≡ false)
+still_sound (Ok x) old new was kept = kept was
+still_sound (Err e) old new was kept = tt
 
-module _ {T : Type 0} (settings : Settings) (input had output : Text) (old new : Option Text) (read_failed write_failed : Bool) where
+-- nothing is written where there is nothing to write
+pub after_refusal : (T : Type 0) (settings : Settings) (e : RunError) (input : Text) (ended failed write_failed : Bool) → write_failed ≡ false → IsRefusal e input ended failed
+    → IsAfter {T = T} settings (Err e) (record { input = input; end_was_read = ended; written = []; read_failed = failed; write_failed = write_failed })
+after_refusal T settings Read input ended failed write_failed sound why = record { failed = why.0; no_write_failed = sound; nothing_written = refl; text = why.1 }
+after_refusal T settings Write input ended failed write_failed sound why = absurd why
+after_refusal T settings NotUtf8 input ended failed write_failed sound why = record { no_device_failed = record { no_read_failed = why.0; no_write_failed = sound }; whole = why.1; no_text = why.2; nothing_written = refl }
+after_refusal T settings (Table e) input ended failed write_failed sound why = record { no_device_failed = record { no_read_failed = why.0; no_write_failed = sound }; nothing_written = refl; text = why.1 }
+
+none_failed : (facts : RunFacts) → facts.read_failed ≡ false → facts.write_failed ≡ false → NoDeviceFailed facts
+none_failed facts read write = record { no_read_failed = read; no_write_failed = write }
+
+module _ {T : Type 0} (settings : Settings) (input had output : Text) (old new : Option Text) (write_failed : Bool) where
   -- the output was written, or a beginning of it
   pub after_writing : (r : Result T RunError) → old ≡ Some had → IsUtf8 input × (IsByContent settings → IsOutputFor settings.width settings.arrangement settings.style input output)
-      → OnOk r ((had : Text) → old ≡ Some had → new ≡ Some (had ++ output)) → IfErr r (λ e. (e ≡ Write) × (write_failed ≡ true))
+      → OnOk r (write_failed ≡ false) → OnOk r ((had : Text) → old ≡ Some had → new ≡ Some (had ++ output)) → IfErr r (λ e. (e ≡ Write) × (write_failed ≡ true))
       → IfErr r (λ _. (had : Text) → old ≡ Some had → (part : Text) × (new ≡ Some (had ++ part)) × IsBeginningOnly part output)
-      → (written : Text) × (new ≡ Some (had ++ written)) × IsAfter settings r (record { input = input; end_was_read = true; written = written; read_failed = read_failed; write_failed = write_failed })
-  after_writing (Ok x) known drawn all error part = (
+      → (written : Text) × (new ≡ Some (had ++ written)) × IsAfter settings r (record { input = input; end_was_read = true; written = written; read_failed = false; write_failed = write_failed })
+  after_writing (Ok x) known drawn sound all error part = (
     output,
     all had known,
-    (record { whole = refl; is_text = drawn.0 }, λ plain. record { has_text = record { whole = refl; is_text = drawn.0 }; output = drawn.1 plain }),
+    (none_failed _ refl sound, record { whole = refl; is_text = drawn.0 }, λ plain. record { no_device_failed = none_failed _ refl sound; has_text = record { whole = refl; is_text = drawn.0 }; output = drawn.1 plain }),
   )
-  after_writing (Err Write) known drawn all error part =
+  after_writing (Err Write) known drawn sound all error part =
       let beginning = part had known in (
         beginning.0,
         beginning.1,
-        (error.1, record { whole = refl; is_text = drawn.0 }, λ plain. record { failed = error.1; has_text = record { whole = refl; is_text = drawn.0 }; output = output; is_output = drawn.1 plain; beginning = beginning.2 }),
+        (error.1, refl, record { whole = refl; is_text = drawn.0 }, λ plain. record { failed = error.1; no_read_failed = refl; has_text = record { whole = refl; is_text = drawn.0 }; output = output; is_output = drawn.1 plain; beginning = beginning.2 }),
       )
-  after_writing (Err Read) known drawn all error part = absurd (cc error.0)
-  after_writing (Err NotUtf8) known drawn all error part = absurd (cc error.0)
-  after_writing (Err (Table e)) known drawn all error part = absurd (cc error.0)
+  after_writing (Err Read) known drawn sound all error part = absurd (cc error.0)
+  after_writing (Err NotUtf8) known drawn sound all error part = absurd (cc error.0)
+  after_writing (Err (Table e)) known drawn sound all error part = absurd (cc error.0)

@@ -3,7 +3,7 @@ use Rattle.std.specs.Prelude.{◌≡◌, Bool, true, false, ◌++◌, Option, So
 use Rattle.comfy_parts.specs.Presets.{ascii_full}
 use Rattle.comfy_parts.specs.Text.{Text}
 use Rattle.comfy_parts.specs.declared.style.table.ContentArrangement.TheVariants.{Disabled}
-use Rattle.comfy_run.specs.Outcome.{RunFacts, HasText, IsAfterOk, IsAfterRead, IsAfterWrite, IsAfterNotUtf8, IsAfterTable}
+use Rattle.comfy_run.specs.Outcome.{RunFacts, HasText, NoDeviceFailed, IsAfterOk, IsAfterRead, IsAfterWrite, IsAfterNotUtf8, IsAfterTable}
 use Rattle.comfy_run.specs.declared.run.error.RunError.{RunError}
 use Rattle.comfy_run.specs.declared.run.error.RunError.TheVariants.{Read, Write, NotUtf8, Table}
 use Rattle.comfy_run.specs.declared.run.settings.Settings.{Settings}
@@ -19,10 +19,10 @@ IsByContent settings = settings.arrangement ≡ Disabled
 -- what the facts of a call are, by its answer
 abbrev pub IsAfter : {T : Type 0} → Settings → Result T RunError → RunFacts → Type 0
 IsAfter settings (Ok _) facts =
-    HasText settings.width settings.arrangement settings.style facts × (IsByContent settings → IsAfterOk settings.width settings.arrangement settings.style facts)
+    NoDeviceFailed facts × HasText settings.width settings.arrangement settings.style facts × (IsByContent settings → IsAfterOk settings.width settings.arrangement settings.style facts)
 IsAfter settings (Err Read) facts = IsAfterRead settings.width settings.arrangement settings.style facts
 IsAfter settings (Err Write) facts =
-    (facts.write_failed ≡ true) × HasText settings.width settings.arrangement settings.style facts × (IsByContent settings → IsAfterWrite settings.width settings.arrangement settings.style facts)
+    (facts.write_failed ≡ true) × (facts.read_failed ≡ false) × HasText settings.width settings.arrangement settings.style facts × (IsByContent settings → IsAfterWrite settings.width settings.arrangement settings.style facts)
 IsAfter settings (Err NotUtf8) facts = IsAfterNotUtf8 settings.width settings.arrangement settings.style facts
 IsAfter settings (Err (Table _)) facts = IsAfterTable settings.width settings.arrangement settings.style facts
 
@@ -44,5 +44,5 @@ Between old new Says =
 abbrev pub IsRefusal : RunError → Text → Bool → Bool → Type 0
 IsRefusal Read input ended failed = (failed ≡ true) × (ended ≡ true → IsUtf8 input)
 IsRefusal Write input ended failed = ⊥
-IsRefusal NotUtf8 input ended failed = (ended ≡ true) × ¬ (IsUtf8 input)
-IsRefusal (Table _) input ended failed = ended ≡ true → IsUtf8 input
+IsRefusal NotUtf8 input ended failed = (failed ≡ false) × (ended ≡ true) × ¬ (IsUtf8 input)
+IsRefusal (Table _) input ended failed = (failed ≡ false) × (ended ≡ true → IsUtf8 input)

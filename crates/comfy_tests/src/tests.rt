@@ -3,6 +3,7 @@
 mod calls;
 mod cells;
 mod conversions;
+mod counted;
 mod devices;
 mod presets;
 mod program;

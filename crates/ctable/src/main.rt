@@ -46,6 +46,6 @@ fn arguments(rt: &HostRuntime) -> io::Result<Vec<String>> {
 fn run_with(rt: &HostRuntime, words: &[&str]) -> u8 {
     let mut source = FromReader::new(rt.stdin());
     let mut sink = ToWriter::new(rt.stdout());
-    let mut faults = ToWriter::new(rt.stderr());
-    program(rt.alloc(), words, &mut source, &mut sink, &mut faults)
+    let mut messages = ToWriter::new(rt.stderr());
+    program(rt.alloc(), words, &mut source, &mut sink, &mut messages)
 }

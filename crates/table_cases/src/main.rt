@@ -1,5 +1,5 @@
 //! Reads cases from standard input, draws each one's table and compares. A case whose words ask for a call that isn't
-//! there yet is counted by itself. Status 1 where a case failed or couldn't be read.
+//! there yet is counted by itself. Status 1 where a case failed or couldn't be read, or where there was no case.
 #![tactic(auto)]
 
 mod builder;
@@ -28,7 +28,7 @@ fn main(rt: HostRuntime) -> anyhow::Result<ExitCode> {
         tally.count(&rt, judged)?;
     }
     tally.print(&rt)?;
-    if tally.failed == 0 && tally.not_read == 0 {
+    if tally.all_passed() {
         Ok(ExitCode::SUCCESS)
     } else {
         Ok(ExitCode::FAILURE)

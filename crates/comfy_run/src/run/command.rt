@@ -19,34 +19,35 @@ const FAILED: u8 = 1;
 
 const MISUSED: u8 = 2;
 
-/// Draws the table of the source, as the words after the program's name ask for, and answers the
+/// Draws the table of the source, as the words after the program's name ask for, and returns the
 /// status that the program ends with.
 ///
-/// The status is 0 where all was written. It is 1 after an error, and 2 where the words ask for
-/// nothing that is known; the source isn't read then. A line on `faults` says which it was. A fault
-/// of `faults` changes no status.
+/// The status is 0 where all was written; then `messages` is left as it was. It is 1 after an error,
+/// and 2 where the words ask for nothing that is known; the source isn't read then. A line written to
+/// `messages` says which it was. A fault of `messages` changes no status.
 pub fn program<R: Source, W: Sink, F: Sink>(
     alloc: Global,
     args: &[&str],
     source: &mut R,
     sink: &mut W,
-    faults: &mut F,
+    messages: &mut F,
 ) -> u8
-    ensures misused { settings_for args.now ≡ None → (result ≡ 2) × (source.new ≡ source.old) × (sink.new ≡ sink.old) × Reports usage_line (F.taken faults.old) (F.taken faults.new) (F.has_failed faults.new) }
-    ensures ran { (settings : Settings) → settings_for args.now ≡ Some settings → (answer : Result (Unit {0}) RunError) × (result ≡ status_of answer) × Reports (report_of answer) (F.taken faults.old) (F.taken faults.new) (F.has_failed faults.new)
+    ensures misused { settings_for args.now ≡ None → (result ≡ 2) × (source.new ≡ source.old) × (sink.new ≡ sink.old) × Reports usage_line (F.taken messages.old) (F.taken messages.new) (F.has_failed messages.new) }
+    ensures ran { (settings : Settings) → settings_for args.now ≡ Some settings → (answer : Result (Unit {0}) RunError) × (result ≡ status_of answer) × Reports (report_of answer) (F.taken messages.old) (F.taken messages.new) (F.has_failed messages.new)
         × Between
         (record { remaining = R.remaining source.old; end_was_read = R.end_was_read source.old; read_failed = R.has_failed source.old; taken = W.taken sink.old; write_failed = W.has_failed sink.old })
         (record { remaining = R.remaining source.new; end_was_read = R.end_was_read source.new; read_failed = R.has_failed source.new; taken = W.taken sink.new; write_failed = W.has_failed sink.new })
         (IsAfter settings answer) }
+    ensures silent { result ≡ 0 → messages.new ≡ messages.old }
 {
     let Some(settings) = settings_of(args) else {
-        report(faults, USAGE);
+        report(messages, USAGE);
         return MISUSED;
     };
     match run(alloc, source, sink, settings) {
         Ok(()) => 0,
         Err(error) => {
-            report(faults, line_for(error));
+            report(messages, line_for(error));
             FAILED
         }
     }
@@ -65,8 +66,8 @@ fn line_for(error: RunError) -> &'static str
 }
 
 // Writes a line. Where that fails there is nobody left to tell.
-fn report<F: Sink>(faults: &mut F, line: &str)
-    ensures { Reports line.now (F.taken faults.old) (F.taken faults.new) (F.has_failed faults.new) }
+fn report<F: Sink>(messages: &mut F, line: &str)
+    ensures { Reports line.now (F.taken messages.old) (F.taken messages.new) (F.has_failed messages.new) }
 {
-    let _ = write_all(faults, line.as_bytes());
+    let _ = write_all(messages, line.as_bytes());
 }

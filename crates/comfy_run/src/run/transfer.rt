@@ -1,6 +1,6 @@
 //! Reads a whole input, draws its table, and writes the drawing.
 
-ghost use Rattle.std.specs.Prelude.{◌≡◌, ◌++◌, List, ℕ, true, Some, OnOk, IfOk, IfErr, IsUtf8, string_bytes};
+ghost use Rattle.std.specs.Prelude.{◌≡◌, ◌++◌, List, ℕ, true, false, Some, OnOk, IfOk, IfErr, IsUtf8, string_bytes};
 ghost use Rattle.comfy_run.specs.Input.{written_lines, IsOutputFor};
 ghost use Rattle.comfy_run.specs.Outcome.{IsBeginningOnly};
 ghost use Rattle.comfy_run.specs.Run.{Between, IsAfter, IsByContent, IsRefusal};
@@ -20,7 +20,10 @@ const CHUNK: usize = 4096;
 /// line feed.
 ///
 /// All memory is asked for before the first write. Where the input can't be read, isn't UTF-8 or
-/// there is no memory, nothing is written. Where the output can't be written, a beginning of it was.
+/// memory runs out, nothing is written. Where the output can't be written, a beginning of it was.
+///
+/// The result says which device failed: `Read` comes only where a call of the source failed, `Write`
+/// only where a call of the sink failed. After `Ok` and every other error, no call of either failed.
 pub fn run<R: Source, W: Sink>(
     alloc: Global,
     source: &mut R,
@@ -43,6 +46,7 @@ fn output_for<R: Source>(
     settings: Settings,
 ) -> Result<String, RunError>
     ensures ended { OnOk result (R.end_was_read source.new ≡ true) }
+    ensures no_fault { OnOk result (R.has_failed source.new ≡ false) }
     ensures output { IfOk result (λ output. (input : List ℕ) → R.remaining source.old ≡ Some input → IsUtf8 input × (IsByContent settings → IsOutputFor settings.width settings.arrangement settings.style input (string_bytes output))) }
     ensures refused { IfErr result (λ e. (input : List ℕ) → R.remaining source.old ≡ Some input → IsRefusal e input (R.end_was_read source.new) (R.has_failed source.new)) }
 {
@@ -57,6 +61,7 @@ fn output_for<R: Source>(
 // All that the source has left.
 fn read_all<R: Source>(alloc: Global, source: &mut R) -> Result<Vec<u8>, RunError>
     ensures ended { OnOk result (R.end_was_read source.new ≡ true) }
+    ensures no_fault { OnOk result (R.has_failed source.new ≡ false) }
     ensures input { IfOk result (λ bytes. (input : List ℕ) → R.remaining source.old ≡ Some input → bytes.items ≡ input) }
     ensures refused { IfErr result (λ e. (input : List ℕ) → R.remaining source.old ≡ Some input → IsRefusal e input (R.end_was_read source.new) (R.has_failed source.new)) }
 {
@@ -97,6 +102,7 @@ fn joined(alloc: Global, lines: Lines) -> Result<String, AllocError>
 // Writes the whole piece. Where the sink fails, a beginning of the piece was written, not all of it.
 pub(crate) fn write_all<W: Sink>(sink: &mut W, piece: &[u8]) -> Result<(), RunError>
     ensures written { OnOk result ((had : List ℕ) → W.taken sink.old ≡ Some had → W.taken sink.new ≡ Some (had ++ piece.now)) }
+    ensures no_fault { OnOk result (W.has_failed sink.old ≡ false → W.has_failed sink.new ≡ false) }
     ensures error { IfErr result (λ e. (e ≡ Write) × (W.has_failed sink.new ≡ true)) }
     ensures beginning { IfErr result (λ _. (had : List ℕ) → W.taken sink.old ≡ Some had → (part : List ℕ) × (W.taken sink.new ≡ Some (had ++ part)) × IsBeginningOnly part piece.now) }
 {

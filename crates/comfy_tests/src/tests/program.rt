@@ -46,10 +46,10 @@ fn assert_ends(
     let mut sink = MemorySink::new(rt.alloc(), 4096, given.failing_write)?;
     let mut reports = MemorySink::new(rt.alloc(), 256, given.failing_report)?;
     let status = program(rt.alloc(), words, &mut source, &mut sink, &mut reports);
-    let (wanted, output, faults) = ended;
+    let (wanted, output, messages) = ended;
     assert_eq!(rt; status, wanted);
     assert_eq!(rt; sink.bytes(), output);
-    assert_eq!(rt; reports.bytes(), faults);
+    assert_eq!(rt; reports.bytes(), messages);
     Ok(())
 }
 

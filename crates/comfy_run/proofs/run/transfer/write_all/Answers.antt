@@ -10,4 +10,5 @@ loop-rest-preserved g c =
       sent ++ now,
       append_assoc sent now _ ∙ ap (λ t. sent ++ (now ++ t)) c.split_at.ensures.back ∙ ap (λ t. sent ++ t) (take-append-drop c.in-Ok.count c.loop-rest.rest.now) ∙ i.1,
       λ had h. c.in-Ok.ensures.bytes _ (i.2 had h) ∙ ap Some (append_assoc had sent now),
+      λ sound. c.in-Ok.ensures.fault,
     )
