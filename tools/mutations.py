@@ -1,0 +1,205 @@
+#!/usr/bin/env python3
+"""Tries the mutations crates/CRATE/mutations/*.edit, many in one check, and says which of them the prover refuses.
+
+    tools/mutations.py [--must-fail] [--jobs N] [CRATE]..
+
+With no CRATE it tries those of every crate; with --must-fail those of must-fail/ too. It works on a copy of the crate and
+of the crates below it, with what earlier checks kept in their out/, so `rt check` in the crate's folder beforehand saves
+time. A check tries mutations of different functions together: each function's line says whether it is proved. A
+function that only calls a mutated one is tried again in a later check. What can't be told so is tried by itself.
+
+It prints a line for each mutation: refused, SURVIVED (the crate is proved with it), DOES NOT STAND ONCE (a text of it
+is missing, or stands more than once), or CANNOT BE READ (what it makes doesn't compile). It ends with 1 unless every
+mutation is refused.
+"""
+import argparse
+import os
+import re
+import shutil
+import subprocess
+import sys
+import tempfile
+
+TOP = os.path.dirname(os.path.dirname(os.path.realpath(__file__)))
+TRIES = 5  # checks that a function may be hidden in by those it calls, before its mutation is tried by itself
+
+
+class Mutation:
+    """A file of pairs of texts: the old one stands once in a file of the crate, and the new one takes its place."""
+
+    def __init__(self, path, crate):
+        self.path, self.pairs, self.tries, self.is_alone = path, [], 0, False
+        self.label = os.path.relpath(path, f"{TOP}/crates")
+        file, old = "", ""
+        with open(path, encoding="utf-8") as lines:
+            for line in lines.read().split("\n"):
+                if line.startswith("file: "):
+                    file = line[6:].strip()
+                elif line.startswith("old: "):
+                    old = line[5:]
+                elif line.startswith("new:"):
+                    self.pairs.append((file, old, line[4:].removeprefix(" ")))
+        self.function = function_at(crate, *self.pairs[0][:2]) if self.pairs else None
+
+    def applied(self, crate, texts):
+        """The texts with this mutation, or None where an old text doesn't stand in them exactly once."""
+        made = dict(texts)
+        for file, old, new in self.pairs:
+            text = made[file] if file in made else text_of(f"{crate}/{file}")
+            if text.count(old) != 1:
+                return None
+            made[file] = text.replace(old, new)
+        return made if self.pairs else None
+
+
+def text_of(path):
+    if not os.path.isfile(path):
+        return ""
+    with open(path, encoding="utf-8") as file:
+        return file.read()
+
+
+def function_at(crate, file, old):
+    """How the name of the function that has a text ends in the lines of a check, or None where no function has it."""
+    text = text_of(f"{crate}/{file}")
+    above = text[: text.find(old) + len(old)]
+    starts = [(it.start(), it[1]) for it in re.finditer(r"^[ \t]*(?:pub(?:\(\w+\))? )?(?:const )?fn (\w+)", above, re.M)]
+    if old not in text or not starts or re.search(r"^}", above[starts[-1][0] :], re.M):
+        return None
+    block = None
+    for it in re.finditer(r"^(?:}|impl\b(?:<[^{]*?>)? ([^{]*)\{)", above, re.M):
+        block = it[1]
+    if not block:
+        module = re.sub(r"^src/|\.rt$", "", file).split("/")
+        return "::".join([os.path.basename(crate), *(it for it in module if it not in ("lib", "main")), starts[-1][1]])
+    trait, _, of = re.sub(r"<[^{]*?>", "", block).split(" where ")[0].rpartition(" for ")
+    return "::" + "".join(it.strip().split("::")[-1] for it in (of, trait)) + "::" + starts[-1][1]
+
+
+def copied(crate, room):
+    """Copies a crate and those below it to another folder, and returns the copy's path."""
+    lines = [it.split("#")[0] for it in text_of(f"{TOP}/crates.txt").split("\n")]
+    below = {it.split(":")[0].split()[0]: it.split(":")[1].split() for it in lines if ":" in it}
+    wanted = [crate]
+    for name in wanted:
+        wanted += [it for it in below[name] if it in below and it not in wanted]
+    with open(f"{room}/crates.txt", "w", encoding="utf-8") as file:
+        file.writelines(f"{it}\n" for it in lines if ":" in it and it.split(":")[0].split()[0] in wanted)
+    for name in wanted:
+        shutil.copytree(f"{TOP}/crates/{name}", f"{room}/crates/{name}", ignore=shutil.ignore_patterns("*.edit"))
+    if os.path.isfile(f"{TOP}/HANDLES"):
+        shutil.copy(f"{TOP}/HANDLES", room)
+    return f"{room}/crates/{crate}"
+
+
+def checked(copy, crate, texts, jobs):
+    """Checks the copy with these texts in place of the crate's own. Returns its lines, or what stopped it from being read."""
+    for file, text in texts.items():
+        with open(f"{copy}/{file}", "w", encoding="utf-8") as it:
+            it.write(text)
+    words = ["rt", "check", *(["--jobs", str(jobs)] if jobs else [])]
+    ran = subprocess.run(words, cwd=copy, stdin=subprocess.DEVNULL, stdout=subprocess.PIPE, stderr=subprocess.STDOUT, text=True)
+    for file in texts:
+        shutil.copy(f"{crate}/{file}", f"{copy}/{file}")
+    lines = ran.stdout.split("\n")
+    unread = [it for it in lines if re.match(r"(\./)?(src|specs)/\S+: error: [^`]", it)]
+    if not unread and not any(it.startswith("logic=") for it in lines):
+        unread = [it for it in lines if it][-1:]
+    return lines, unread, ran.returncode == 0
+
+
+def states_of(lines, calls):
+    """What the lines of a check say of each function. Calls gets the unproved ones that each of them calls."""
+    states = {it[1]: it[2] for it in (re.match(r"fn (\S+): (.*)", line) for line in lines) if it}
+    for function, state in states.items():
+        if "it calls" in state:
+            calls.setdefault(function, set()).update(re.findall(r"`(.+?)`", state))
+    return states
+
+
+def state_of(mutation, states):
+    """What a check says of the function that a mutation changes."""
+    return next((state for it, state in states.items() if mutation.function and it.endswith(mutation.function)), "")
+
+
+def is_over(caller, callee, calls):
+    """Whether it is known that a mutated function is, or in turn calls, another one."""
+    reached = [it for it in calls if it.endswith(caller)]
+    for function in reached:
+        reached += [it for it in calls.get(function, ()) if it not in reached]
+    return caller == callee or any(it.endswith(callee) for it in reached)
+
+
+def batch_of(waiting, crate, calls):
+    """Mutations that one check can try, none in a function that another one's calls, and the texts that they make."""
+    batch, texts = [], {}
+    for it in sorted(waiting, key=lambda it: (it.is_alone, -it.tries)):
+        alone = it.is_alone or not it.function or it.tries >= TRIES
+        functions = [other.function for other in batch]
+        if batch and (alone or any(is_over(it.function, f, calls) or is_over(f, it.function, calls) for f in functions)):
+            continue
+        made = it.applied(crate, texts)
+        if made is not None:
+            batch, texts = [*batch, it], made
+            if alone:
+                break
+    return batch, texts
+
+
+def said_of(state, unread, is_proved, is_alone):
+    """What a check shows of a mutation, or None where another check has to."""
+    if unread:
+        return f"CANNOT BE READ: {unread[0][:200]}" if is_alone else None
+    if is_alone:
+        return "SURVIVED" if is_proved else "refused"
+    return None if not state or state.startswith("proved") or "it calls" in state else "refused"
+
+
+def tried(crate, waiting, jobs):
+    """Tries a crate's mutations, prints what comes of each, and returns how many were not refused."""
+    missing = [it for it in waiting if it.applied(crate, {}) is None]
+    for it in missing:
+        print(f"{it.label}: DOES NOT STAND ONCE", flush=True)
+    bad, waiting, calls = len(missing), [it for it in waiting if it not in missing], {}
+    with tempfile.TemporaryDirectory(prefix="mutations-") as room:
+        copy = copied(os.path.basename(crate), room)
+        while waiting:
+            batch, texts = batch_of(waiting, crate, calls)
+            lines, unread, is_proved = checked(copy, crate, texts, jobs)
+            states = states_of(lines, calls)
+            for it in batch:
+                state = state_of(it, states)
+                said = said_of(state, unread, is_proved, len(batch) == 1)
+                if said:
+                    waiting.remove(it)
+                    bad += said != "refused"
+                    print(f"{it.label}: {said}", flush=True)
+                elif unread or state.startswith("proved"):
+                    it.is_alone = True
+                else:
+                    it.tries += 1
+    return bad
+
+
+def main():
+    parser = argparse.ArgumentParser(description="Tries the mutations crates/CRATE/mutations/*.edit, many in one check.")
+    parser.add_argument("--must-fail", action="store_true", help="try those of must-fail/ too")
+    parser.add_argument("--jobs", type=int, help="how many functions a check may prove side by side")
+    parser.add_argument("crate", nargs="*", help="a crate's name (all crates, where none is given)")
+    options = parser.parse_args()
+    folders = ["mutations", "must-fail"] if options.must_fail else ["mutations"]
+    count = bad = 0
+    for name in options.crate or sorted(os.listdir(f"{TOP}/crates")):
+        crate = f"{TOP}/crates/{name}"
+        if not os.path.isdir(crate):
+            parser.error(f"there is no crate {name}")
+        places = [f"{crate}/{folder}" for folder in folders if os.path.isdir(f"{crate}/{folder}")]
+        found = [Mutation(f"{at}/{it}", crate) for at in places for it in sorted(os.listdir(at)) if it.endswith(".edit")]
+        count += len(found)
+        bad += tried(crate, found, options.jobs) if found else 0
+    print(f"{count - bad} of {count} mutations refused")
+    return 1 if bad else 0
+
+
+if __name__ == "__main__":
+    sys.exit(main())
