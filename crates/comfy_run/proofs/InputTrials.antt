@@ -1,18 +1,27 @@
 -- What is written for small inputs.
-use Rattle.std.proofs.Common.{[], ◌∷◌, refl, Some, None, lit<, map}
+use Rattle.std.proofs.Common.{◌≡◌, ℕ, List, [], ◌∷◌, refl, Option, Some, None, lit<, map}
 use Rattle.std.specs.Prelude.{codes}
 use Prim.Native.String.{String}
 use Rattle.comfy_parts.proofs.Computing.{wrapping}
 use Rattle.comfy_parts.specs.declared.style.table.ContentArrangement.TheVariants.{Disabled, Dynamic}
 use Rattle.comfy_parts.specs.Presets.{ascii_full, ascii_markdown}
-use Rattle.comfy_run.specs.Input.{IsOutputFor, written_lines}
+use Rattle.comfy_parts.specs.Text.{Text}
+use Rattle.comfy_parts.specs.declared.style.table.ContentArrangement.{ContentArrangement}
+use Rattle.comfy_parts.specs.declared.style.table_style.TableStyle.{TableStyle}
+use Rattle.comfy_run.specs.Input.{input_table, written_lines}
+use Rattle.comfy_table.specs.Arrangement.{IsDrawingOf}
 
-empty_input : IsOutputFor None Disabled ascii_full [] (0x2B ∷ 0x2B ∷ 0x0A ∷ 0x2B ∷ 0x2B ∷ 0x0A ∷ [])
+-- the lines of a drawing of the input's table
+abbrev IsWrittenFor : Option ℕ → ContentArrangement → TableStyle → Text → Text → Type 0
+IsWrittenFor width arrangement style text output =
+    (drawn : List Text) × IsDrawingOf (input_table width arrangement style text) drawn × (output ≡ written_lines drawn)
+
+empty_input : IsWrittenFor None Disabled ascii_full [] (0x2B ∷ 0x2B ∷ 0x0A ∷ 0x2B ∷ 0x2B ∷ 0x0A ∷ [])
 unfolding wrapping
 empty_input =
     (codes "++" ∷ codes "++" ∷ [], ([], record { one_for_each = refl; hidden_widths = refl; visible_widths = refl }, refl), refl)
 
-no_room : IsOutputFor (Some 0) Dynamic ascii_full (codes "ab\tcd\n") (codes "+---+---+\n| a | c |\n| b | d |\n+=======+\n+---+---+\n")
+no_room : IsWrittenFor (Some 0) Dynamic ascii_full (codes "ab\tcd\n") (codes "+---+---+\n| a | c |\n| b | d |\n+=======+\n+---+---+\n")
 unfolding wrapping
 no_room = (
   codes "+---+---+" ∷ codes "| a | c |" ∷ codes "| b | d |" ∷ codes "+=======+" ∷ codes "+---+---+" ∷ [],
@@ -24,7 +33,7 @@ no_room = (
   refl,
 )
 
-breaks_and_carriage_returns : IsOutputFor None Disabled ascii_full (codes "a\r\nb\u{b}c\td") (codes "+---+---+\n| a |   |\n+=======+\n| b | d |\n| c |   |\n+---+---+\n")
+breaks_and_carriage_returns : IsWrittenFor None Disabled ascii_full (codes "a\r\nb\u{b}c\td") (codes "+---+---+\n| a |   |\n+=======+\n| b | d |\n| c |   |\n+---+---+\n")
 unfolding wrapping
 breaks_and_carriage_returns = (
   codes "+---+---+" ∷ codes "| a |   |" ∷ codes "+=======+" ∷ codes "| b | d |" ∷ codes "| c |   |" ∷ codes "+---+---+" ∷ [],
@@ -32,7 +41,7 @@ breaks_and_carriage_returns = (
   refl,
 )
 
-cells_with_breaks : IsOutputFor None Disabled ascii_full
+cells_with_breaks : IsWrittenFor None Disabled ascii_full
     (codes "Header1\tHeader2\tHeader3\nThis is a text\tThis is another text\tThis is the third text\nThis is another text\tNow\u{b}add some\u{b}multi line stuff\tThis is awesome\n")
     (written_lines (map (λ (l : String). codes l)
     ("+----------------------+----------------------+------------------------+"
@@ -60,7 +69,7 @@ cells_with_breaks = (
   refl,
 )
 
-markdown : IsOutputFor None Disabled ascii_markdown
+markdown : IsWrittenFor None Disabled ascii_markdown
     (codes "Hello\tthere\na\tb\n") (codes "| Hello | there |\n|-------|-------|\n| a     | b     |\n")
 unfolding wrapping
 markdown = (

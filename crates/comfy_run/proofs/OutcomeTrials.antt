@@ -1,16 +1,27 @@
 -- What `run` may answer on an empty input and on half a character.
-use Rattle.std.proofs.Common.{[], ◌∷◌, refl, None, true, false, arith}
+use Rattle.std.proofs.Common.{[], ◌∷◌, refl, Global, None, true, false, arith}
 use Rattle.std.specs.Prelude.{codes}
 use Rattle.comfy_parts.proofs.Computing.{wrapping}
 use Rattle.comfy_parts.specs.Presets.{ascii_full}
 use Rattle.comfy_parts.specs.declared.style.table.ContentArrangement.TheVariants.{Disabled}
-use Rattle.comfy_run.specs.Input.{IsOutputFor}
+use Rattle.std.proofs.lemmas.List.Elements.{All-nil}
+use Rattle.comfy_parts.specs.CellValue.{IsColumn, IsRow}
+use Rattle.comfy_run.specs.Input.{IsOutputFor, input_table}
+use Rattle.comfy_table.proofs.HeadlineLemmas.{table_drawing, utf8_indicator}
+use Rattle.comfy_table.specs.TableValue.{KeepsParts, TableValue}
 use Rattle.comfy_run.specs.Outcome.{RunFacts, IsAfterOk, IsAfterRead, IsAfterWrite}
+
+-- the table of an empty input
+abbrev no_table : TableValue
+no_table = input_table None Disabled ascii_full []
+
+kept : KeepsParts no_table
+kept = record { columns = All-nil IsColumn; header = tt; rows = All-nil IsRow; delimiter = tt }
 
 abbrev both_lines : IsOutputFor None Disabled ascii_full [] (codes "++\n++\n")
 unfolding wrapping
 both_lines =
-    (codes "++" ∷ codes "++" ∷ [], ([], record { one_for_each = refl; hidden_widths = refl; visible_widths = refl }, refl), refl)
+    (codes "++" ∷ codes "++" ∷ [], table_drawing no_table [] (codes "++" ∷ codes "++" ∷ []) (utf8_indicator {A = Global} None) kept ([], record { one_for_each = refl; hidden_widths = refl; visible_widths = refl }, refl) refl, refl)
 
 abbrev all_written : RunFacts
 all_written = record { input = []; end_was_read = true; written = codes "++\n++\n"; read_failed = false; write_failed = false }

@@ -7,7 +7,7 @@ use Rattle.comfy_parts.specs.Text.{Text}
 use Rattle.comfy_parts.specs.declared.style.table.ContentArrangement.{ContentArrangement}
 use Rattle.comfy_parts.specs.declared.style.table_style.TableStyle.{TableStyle}
 use Rattle.comfy_parts.specs.CellValue.{plain_cell}
-use Rattle.comfy_table.specs.Arrangement.{IsDrawingOf}
+use Rattle.comfy_table.specs.Headline.{IsTableDrawing}
 use Rattle.comfy_table.specs.TableValue.{TableValue, new_table, with_header, with_row}
 
 -- inside a cell U+000B stands for a line feed
@@ -37,7 +37,7 @@ input_table width arrangement style text =
 abbrev pub written_lines : List Text → Text
 written_lines drawn = flat_map (λ (line : Text). line ++ 0x0A ∷ []) drawn
 
--- the bytes written for an input: a drawing of its table
+-- the bytes written for an input: a drawing of its table, with all that a drawing promises
 abbrev pub IsOutputFor : Option ℕ → ContentArrangement → TableStyle → Text → Text → Type 0
 IsOutputFor width arrangement style text output =
-    (drawn : List Text) × IsDrawingOf (input_table width arrangement style text) drawn × (output ≡ written_lines drawn)
+    (drawn : List Text) × IsTableDrawing (input_table width arrangement style text) drawn × (output ≡ written_lines drawn)
