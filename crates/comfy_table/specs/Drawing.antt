@@ -1,5 +1,5 @@
 -- The drawing of a table over given widths.
-use Rattle.std.specs.Prelude.{ℕ, List, [], ◌++◌, Option, Some, None, map, zip}
+use Rattle.std.specs.Prelude.{ℕ, List, [], ◌∷◌, ◌++◌, Option, Some, None, flat_map, map, zip}
 use Rattle.std.specs.List.{join_by, join_with_byte}
 use Rattle.std.specs.Str.{trim_end}
 use Rattle.comfy_parts.specs.CellValue.{RowValue, ColumnValue, ColumnInfo, info_of, info_width}
@@ -50,3 +50,7 @@ text_of lines = join_with_byte 0x0A lines
 -- the same, each line without its trailing white space
 abbrev pub trimmed_text_of : List Text → Text
 trimmed_text_of lines = text_of (map trim_end lines)
+
+-- each line followed by a line feed
+abbrev pub terminated_text_of : List Text → Text
+terminated_text_of lines = flat_map (λ (line : Text). line ++ 0x0A ∷ []) lines

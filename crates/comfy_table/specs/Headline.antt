@@ -5,7 +5,7 @@ use Rattle.comfy_parts.specs.Wrapping.{IsWrapped, lines_of_text}
 use Rattle.comfy_parts.specs.Text.{Text}
 use Rattle.comfy_parts.specs.VisibleText.{visible_text}
 use Rattle.comfy_table.specs.Arrangement.{IsArranged}
-use Rattle.comfy_table.specs.Drawing.{drawing, infos_of, text_of, trimmed_text_of}
+use Rattle.comfy_table.specs.Drawing.{drawing, infos_of, terminated_text_of, text_of, trimmed_text_of}
 use Rattle.comfy_table.specs.Laws.{CutLinesAreClosed, IsFreeOfEscapes, IsPlainTable, LinesAreResumedInRow, NoneIsOpenAtTheEnd, count, line_total, unstyled}
 use Rattle.comfy_table.specs.Lines.{cell_delimiter}
 use Rattle.comfy_table.specs.Pieces.{visible_infos}
@@ -56,3 +56,7 @@ IsTextOf table text = (lines : List Text) × IsTableDrawing table lines × (text
 -- likewise, each line without its trailing white space
 abbrev pub IsTrimmedTextOf : TableValue → Text → Type 0
 IsTrimmedTextOf table text = (lines : List Text) × IsTableDrawing table lines × (text ≡ trimmed_text_of lines)
+
+-- the text is that of such a drawing: each of its lines followed by a line feed
+abbrev pub IsTerminatedTextOf : TableValue → Text → Type 0
+IsTerminatedTextOf table text = (lines : List Text) × IsTableDrawing table lines × (text ≡ terminated_text_of lines)

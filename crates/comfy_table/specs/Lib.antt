@@ -9,6 +9,7 @@ pub mod Headline
 pub mod Laws
 pub mod Levels
 pub mod Lines
+pub mod Output
 pub mod Pieces
 pub mod Styling
 pub mod TableLaws

@@ -1,10 +1,12 @@
 //! What stands between a table and its drawn lines.
 
-ghost use Rattle.std.specs.Prelude.{IfOk, IfSome, map, string_bytes};
+ghost use Rattle.std.specs.Prelude.{◌≡◌, List, IfOk, IfSome};
 ghost use Rattle.std.specs.List.{All};
 ghost use Rattle.comfy_parts.specs.CellValue.{IsColumn, IsRow};
 ghost use Rattle.comfy_table.specs.Arrangement.{IsDrawingOf};
 ghost use Rattle.comfy_table.specs.Headline.{IsTableDrawing};
+ghost use Rattle.comfy_parts.specs.Text.{Text};
+ghost use Rattle.comfy_table.specs.Output.{new_output, with_lines};
 ghost use Rattle.comfy_table.specs.TableValue.{KeepsParts};
 
 pub mod arrangement;
@@ -15,25 +17,25 @@ use crate::table::output::Lines;
 use arrangement::arrange_content;
 pub use comfy_parts::content_split::ColumnDisplayInfo;
 use comfy_parts::{Column, Result, Row};
-use formatting::draw;
+use formatting::{Output, OutputForm, draw};
 
 /// The drawn lines of a table: arranged, formatted and framed.
 pub fn build_table(table: &Table) -> Result<Lines>
     ensures drawing { IfOk result (λ lines. IsDrawingOf table.now lines) }
     ensures headline { IfOk result (λ lines. IsTableDrawing table.now lines) }
 {
-    let lines = drawn(table)?;
-    Ok(Lines::new(lines))
+    let drawing = drawn(table, OutputForm::Lines)?;
+    Ok(Lines::new(drawing.into_lines()))
 }
 
-// The drawn lines as a list. Whatever draws a table does it here.
-pub(crate) fn drawn(table: &Table) -> Result<Vec<String>>
-    ensures { IfOk result (λ lines. IsTableDrawing table.now (map string_bytes lines.items)) }
+// The drawing of a table. Whatever draws a table does it here.
+pub(crate) fn drawn(table: &Table, form: OutputForm) -> Result<Output>
+    ensures { IfOk result (λ output. (lines : List Text) × IsTableDrawing table.now lines × (output ≡ with_lines lines (new_output form))) }
 {
     look_at_parts(table);
     let _ = &table.indicator;
     let infos = arrange_content(table)?;
-    draw(table, infos.as_slice())
+    draw(table, infos.as_slice(), form)
 }
 
 // Looks at each part of a table, which shows what every part keeps.

@@ -1,15 +1,14 @@
 //! The drawn lines of a table.
 
-ghost use Rattle.std.specs.Prelude.{◌≡◌, ◌++◌, ◌∷◌, [], nat_lt, IfOk, OnOk, map, string_bytes, if◌then◌else◌};
+ghost use Rattle.std.specs.Prelude.{◌≡◌, IfOk, map, string_bytes};
 ghost use Rattle.std.specs.Iterator.{YieldsFirstBy, item_count};
 ghost use Rattle.comfy_table.specs.Arrangement.{IsDrawingOf};
-ghost use Rattle.comfy_table.specs.Drawing.{text_of, trimmed_text_of};
-ghost use Rattle.comfy_table.specs.Headline.{IsTableDrawing, IsTextOf, IsTrimmedTextOf};
+ghost use Rattle.comfy_table.specs.Headline.{IsTableDrawing, IsTerminatedTextOf, IsTextOf, IsTrimmedTextOf};
 
 use crate::table::Table;
+use crate::utils::formatting::OutputForm;
 use crate::utils::{build_table, drawn};
 use comfy_parts::Result;
-use std::alloc::Global;
 use std::marker::Model;
 use std::vec;
 
@@ -66,48 +65,24 @@ impl Table {
     pub fn to_text(&self) -> Result<String>
         ensures { IfOk result (λ text. IsTextOf self.now (string_bytes text)) }
     {
-        let lines = drawn(self)?;
-        joined(*self.columns.allocator(), lines.as_slice())
+        let mut text = drawn(self, OutputForm::Joined)?.into_text();
+        text.pop();
+        Ok(text)
     }
 
-    /// The same, each line without its trailing white space.
+    /// The drawn lines, each without its trailing white space, joined by line feeds; no line feed stands at the end.
     pub fn trim_fmt(&self) -> Result<String>
         ensures { IfOk result (λ text. IsTrimmedTextOf self.now (string_bytes text)) }
     {
-        let lines = drawn(self)?;
-        joined_trimmed(*self.columns.allocator(), lines.as_slice())
+        let mut text = drawn(self, OutputForm::Trimmed)?.into_text();
+        text.pop();
+        Ok(text)
     }
-}
 
-// The lines with a line feed between each two.
-fn joined(alloc: Global, lines: &[String]) -> Result<String>
-    ensures { IfOk result (λ text. string_bytes text ≡ text_of (map string_bytes lines.now)) }
-{
-    let mut text = String::new(alloc);
-    for (position, line) in lines.iter().enumerate() {
-        push_line(&mut text, position, line.as_str())?;
+    /// The drawn lines, each followed by a line feed, as a program prints them.
+    pub fn to_terminated_text(&self) -> Result<String>
+        ensures { IfOk result (λ text. IsTerminatedTextOf self.now (string_bytes text)) }
+    {
+        Ok(drawn(self, OutputForm::Joined)?.into_text())
     }
-    Ok(text)
-}
-
-// The same, each line without its trailing white space.
-fn joined_trimmed(alloc: Global, lines: &[String]) -> Result<String>
-    ensures { IfOk result (λ text. string_bytes text ≡ trimmed_text_of (map string_bytes lines.now)) }
-{
-    let mut text = String::new(alloc);
-    for (position, line) in lines.iter().enumerate() {
-        push_line(&mut text, position, line.as_str().trim_end())?;
-    }
-    Ok(text)
-}
-
-// Appends a line, behind a line feed where it isn't the first.
-fn push_line(text: &mut String, position: usize, line: &str) -> Result<()>
-    ensures { OnOk result (string_bytes text.new ≡ (string_bytes text.old ++ (if nat_lt 0 position then 0x0A ∷ [] else [])) ++ line.now) }
-{
-    if position > 0 {
-        text.push('\n')?;
-    }
-    text.push_str(line)?;
-    Ok(())
 }

@@ -4,8 +4,10 @@ pub mod borders;
 mod cell_lines;
 pub mod content_format;
 mod drawing;
+mod output;
 mod piece;
 mod sequences;
 
 pub use comfy_parts::content_split;
 pub(crate) use drawing::draw;
+pub(crate) use output::{Output, OutputForm};

@@ -2,12 +2,13 @@
 
 ghost use Rattle.std.specs.Prelude.{◌≡◌, ◌++◌, ◌&&◌, nat_lt, [], IfOk, OnOk, map, string_bytes, option_to_list, encode_utf8, if◌then◌else◌};
 ghost use Rattle.std.specs.List.{repeat};
+ghost use Rattle.comfy_table.specs.DrawnCells.{piece_at};
 ghost use Rattle.comfy_table.specs.Frame.{character, content_line, draws_left_border, draws_right_border, draws_vertical_lines, frame_line, is_drawn, optional_frame_line};
 
 use crate::table::Table;
+use crate::utils::formatting::content_format::DrawnCell;
 use comfy_parts::Result;
 use comfy_parts::style::{ContentLineStyle, LineStyle};
-use std::alloc::Global;
 
 /// Whether lines begin with a border: any of the six lines of the style has a left character.
 pub fn should_draw_left_border(table: &Table) -> bool
@@ -30,29 +31,28 @@ pub fn should_draw_vertical_lines(table: &Table) -> bool
     table.style.draws_vertical_lines()
 }
 
-/// A line of content: its pieces between the drawn borders, with junctions where vertical lines are drawn.
-pub(crate) fn content_line(
-    alloc: Global,
+/// Appends a line of content: the pieces of these cells between the drawn borders, with junctions where vertical lines are
+/// drawn. Lines of a row are counted from 0.
+pub(crate) fn push_content_line(
+    text: &mut String,
     table: &Table,
-    line: &ContentLineStyle,
-    pieces: &[String],
-) -> Result<String>
-    ensures { IfOk result (λ text. string_bytes text ≡ content_line table.now.style line.now (map string_bytes pieces.now)) }
+    style: &ContentLineStyle,
+    cells: &[DrawnCell],
+    line: usize,
+) -> Result<()>
+    ensures { OnOk result (string_bytes text.new ≡ string_bytes text.old ++ content_line table.now.style style.now (map (piece_at table.now line) cells.now)) }
 {
     let vertical = table.style.draws_vertical_lines();
-    let mut text = String::new(alloc);
-    push_border(&mut text, table.style.draws_left_border(), line.left)?;
-    for (position, piece) in pieces.iter().enumerate() {
-        push_border(&mut text, needs_junction(vertical, position), line.junction)?;
-        text.push_str(piece.as_str())?;
+    push_border(text, table.style.draws_left_border(), style.left)?;
+    for (position, cell) in cells.iter().enumerate() {
+        push_border(text, needs_junction(vertical, position), style.junction)?;
+        cell.push_piece_at(text, table, line)?;
     }
-    push_border(&mut text, table.style.draws_right_border(), line.right)?;
-    Ok(text)
+    push_border(text, table.style.draws_right_border(), style.right)
 }
 
 /// A line of the frame over columns of these whole widths, where it is drawn: any of its four parts is set.
 pub(crate) fn optional_frame_line(
-    alloc: Global,
     table: &Table,
     line: &LineStyle,
     widths: &[usize],
@@ -62,16 +62,16 @@ pub(crate) fn optional_frame_line(
     if !is_drawn(line) {
         return Ok(None);
     }
-    let text = frame_line(alloc, table, line, widths)?;
+    let text = frame_line(table, line, widths)?;
     Ok(Some(text))
 }
 
 // The same line, drawn in any case.
-fn frame_line(alloc: Global, table: &Table, line: &LineStyle, widths: &[usize]) -> Result<String>
+fn frame_line(table: &Table, line: &LineStyle, widths: &[usize]) -> Result<String>
     ensures { IfOk result (λ text. string_bytes text ≡ frame_line table.now.style line.now widths.now) }
 {
     let vertical = table.style.draws_vertical_lines();
-    let mut text = String::new(alloc);
+    let mut text = String::new(*table.columns.allocator());
     push_border(&mut text, table.style.draws_left_border(), line.left)?;
     for (position, width) in widths.iter().enumerate() {
         push_border(&mut text, needs_junction(vertical, position), line.junction)?;

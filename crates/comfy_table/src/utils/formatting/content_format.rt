@@ -1,13 +1,13 @@
 //! The lines of a row, as pieces side by side.
 
-ghost use Rattle.std.specs.Prelude.{◌≡◌, IfOk, map, option_copied, option_to_list, string_bytes};
+ghost use Rattle.std.specs.Prelude.{◌≡◌, ◌++◌, IfOk, OnOk, map, option_copied, option_to_list, string_bytes};
 ghost use Rattle.comfy_table.specs.Lines.{cell_delimiter};
 ghost use Rattle.comfy_table.specs.Pieces.{content_lines, row_lines, visible_infos};
 ghost use Rattle.comfy_table.specs.DrawnCells.{drawn_cell, greatest_height, height_of, lines_of_optional, piece_at};
 
 use crate::table::Table;
 use crate::utils::formatting::cell_lines::{cell_lines, cut_at};
-use crate::utils::formatting::piece::{filling, piece};
+use crate::utils::formatting::piece::{push_piece, push_spaces};
 use comfy_parts::content_split::ColumnDisplayInfo;
 use comfy_parts::{Cell, Result, Row};
 use std::alloc::Global;
@@ -15,7 +15,7 @@ use std::marker::Model;
 
 // A cell of a row as a visible column draws it.
 #[derive(Drop)]
-struct DrawnCell<'a> {
+pub struct DrawnCell<'a> {
     info: &'a ColumnDisplayInfo,
     // none where the row has no cell for the column
     cell: Option<&'a Cell>,
@@ -42,13 +42,13 @@ impl<'a> DrawnCell<'a> {
         }
     }
 
-    // The piece of the cell in a line of its row.
-    fn piece_at(&self, alloc: Global, table: &Table, line: usize) -> Result<String>
-        ensures { IfOk result (λ text. string_bytes text ≡ piece_at table.now line self.now) }
+    // Appends the piece of the cell in a line of its row, which is counted from 0.
+    pub fn push_piece_at(&self, text: &mut String, table: &Table, line: usize) -> Result<()>
+        ensures { OnOk result (string_bytes text.new ≡ string_bytes text.old ++ piece_at table.now line self.now) }
     {
         match (self.cell, self.lines.get(line)) {
-            (Some(cell), Some(text)) => piece(alloc, table, cell, self.info, text.as_str()),
-            _ => filling(alloc, self.info),
+            (Some(cell), Some(drawn)) => push_piece(text, table, cell, self.info, drawn.as_str()),
+            _ => push_spaces(text, self.info.width()),
         }
     }
 }
@@ -68,7 +68,7 @@ pub fn format_row(
     ensures { IfOk result (λ lines. map (λ pieces. map string_bytes pieces.items) lines.items ≡ row_lines table.now display_infos.now row.now) }
 {
     let alloc = *table.columns.allocator();
-    let drawn = drawn_cells(alloc, row, display_infos, table)?;
+    let drawn = drawn_cells(row, display_infos, table)?;
     let cells = drawn.as_slice();
     let mut lines = Vec::new(alloc);
     for line in 0..greatest_height(cells) {
@@ -110,15 +110,15 @@ fn header_content(
 }
 
 // The cells of a row in the visible columns, each the one at its column's own position.
-fn drawn_cells<'a>(
-    alloc: Global,
+pub fn drawn_cells<'a>(
     row: &'a Row,
     infos: &'a [ColumnDisplayInfo],
     table: &Table,
 ) -> Result<Vec<DrawnCell<'a>>>
     ensures { IfOk result (λ cells. cells.items ≡ map (drawn_cell table.now row.now) (visible_infos infos.now)) }
 {
-    let mut cells = Vec::new(alloc);
+    let alloc = *table.columns.allocator();
+    let mut cells = Vec::with_capacity(alloc, infos.len())?;
     for (position, info) in infos.iter().enumerate() {
         if !info.is_hidden() {
             cells.push(drawn_cell(alloc, row, position, info, table)?)?;
@@ -176,7 +176,7 @@ pub fn delimiter(cell: &Cell, info: &ColumnDisplayInfo, table: &Table) -> char
 }
 
 // The height of a row: that of its highest visible cell.
-fn greatest_height(cells: &[DrawnCell]) -> usize
+pub fn greatest_height(cells: &[DrawnCell]) -> usize
     ensures { result ≡ greatest_height cells.now }
 {
     let mut height = 0;
@@ -192,7 +192,9 @@ fn row_line(alloc: Global, cells: &[DrawnCell], table: &Table, line: usize) -> R
 {
     let mut pieces = Vec::new(alloc);
     for cell in cells {
-        pieces.push(cell.piece_at(alloc, table, line)?)?;
+        let mut piece = String::new(alloc);
+        cell.push_piece_at(&mut piece, table, line)?;
+        pieces.push(piece)?;
     }
     Ok(pieces)
 }

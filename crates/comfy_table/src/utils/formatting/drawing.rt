@@ -1,34 +1,151 @@
 //! The lines of a table, in their order.
 
-ghost use Rattle.std.specs.Prelude.{◌≡◌, ◌++◌, [], nat_lt, IfOk, OnOk, map, string_bytes, option_to_list, if◌then◌else◌};
-ghost use Rattle.std.specs.List.{join_by};
+ghost use Rattle.std.specs.Prelude.{◌≡◌, ◌∷◌, [], nat_lt, IfOk, OnOk, map, string_bytes, option_to_list, if◌then◌else◌};
+ghost use Rattle.comfy_table.specs.DrawnCells.{piece_at};
 ghost use Rattle.comfy_table.specs.Drawing.{drawing_of_infos, drawn_header, drawn_row, drawn_rows, visible_widths};
-ghost use Rattle.comfy_table.specs.Frame.{optional_frame_line};
+ghost use Rattle.comfy_table.specs.Frame.{content_line, optional_frame_line};
+ghost use Rattle.comfy_table.specs.Output.{new_output, with_lines, with_written};
 
 use crate::table::Table;
-use crate::utils::formatting::borders::{content_line, optional_frame_line};
-use crate::utils::formatting::content_format::format_row;
+use crate::utils::formatting::borders::{optional_frame_line, push_content_line};
+use crate::utils::formatting::content_format::{DrawnCell, drawn_cells, greatest_height};
+use crate::utils::formatting::output::{Output, OutputForm};
 use comfy_parts::content_split::ColumnDisplayInfo;
 use comfy_parts::style::{ContentLineStyle, LineStyle};
 use comfy_parts::{Result, Row};
 use std::alloc::Global;
+use std::marker::Model;
 
-// The lines of a table whose columns are drawn by these infos: top border, header, rows, bottom border.
-pub fn draw(table: &Table, infos: &[ColumnDisplayInfo]) -> Result<Vec<String>>
-    ensures { IfOk result (λ lines. map string_bytes lines.items ≡ drawing_of_infos table.now infos.now) }
+/// The lines of a table whose columns are drawn by these infos: top border, header, rows, bottom border.
+pub fn draw(table: &Table, infos: &[ColumnDisplayInfo], form: OutputForm) -> Result<Output>
+    ensures { IfOk result (λ output. output ≡ with_lines (drawing_of_infos table.now infos.now) (new_output form)) }
 {
-    let alloc = *table.columns.allocator();
-    let all_widths = visible_widths(alloc, infos)?;
-    let widths = all_widths.as_slice();
-    let mut lines = Vec::new(alloc);
-    push_frame_line(&mut lines, alloc, table, &table.style.top_border, widths)?;
-    push_header(&mut lines, alloc, table, infos, widths)?;
-    push_rows(&mut lines, alloc, table, infos, widths)?;
-    push_frame_line(&mut lines, alloc, table, &table.style.bottom_border, widths)?;
-    Ok(lines)
+    let mut writer = Writer::new(table, infos, form)?;
+    writer.write_frame_line(&table.style.top_border)?;
+    writer.write_header()?;
+    writer.write_rows()?;
+    writer.write_frame_line(&table.style.bottom_border)?;
+    Ok(writer.output)
 }
 
-// The whole widths of the visible columns, counted by position as the definition counts them.
+/// What draws a table, line by line.
+#[derive(Drop)]
+struct Writer<'a> {
+    table: &'a Table,
+    infos: &'a [ColumnDisplayInfo],
+    // the whole widths of the visible columns
+    widths: Vec<usize>,
+    // the line that is drawn now
+    line: String,
+    output: Output,
+}
+
+impl<'a> Model for Writer<'a> {
+    ghost use Rattle.std.specs.Prelude.{◌≡◌};
+    ghost use Rattle.comfy_table.specs.Drawing.{visible_widths};
+    ghost use Rattle.comfy_table.specs.Output.{WriterValue};
+
+    ghost Value = { WriterValue };
+
+    ghost invariant = { λ w. w.widths.items ≡ visible_widths w.infos.now };
+
+    ghost view = { λ w. record { table = w.table.now; infos = w.infos.now; output = w.output } };
+}
+
+impl<'a> Writer<'a> {
+    fn new(
+        table: &'a Table,
+        infos: &'a [ColumnDisplayInfo],
+        form: OutputForm,
+    ) -> Result<Writer<'a>>
+        ensures { IfOk result (λ writer. writer ≡ record { table = table.now; infos = infos.now; output = new_output form }) }
+    {
+        let alloc = *table.columns.allocator();
+        Ok(Writer {
+            table,
+            infos,
+            widths: visible_widths(alloc, infos)?,
+            line: String::new(alloc),
+            output: Output::new(alloc, form),
+        })
+    }
+
+    // A line of the frame, where it is drawn.
+    fn write_frame_line(&mut self, style: &LineStyle) -> Result<()>
+        ensures { OnOk result (self.new ≡ with_written (optional_frame_line self.old.table.style style.now (visible_widths self.old.infos)) self.old) }
+    {
+        if let Some(text) = optional_frame_line(self.table, style, self.widths.as_slice())? {
+            self.output.push_line(text.as_str())?;
+        }
+        Ok(())
+    }
+
+    // The header's lines and the header separator, where there is a header.
+    fn write_header(&mut self) -> Result<()>
+        ensures { OnOk result (self.new ≡ with_written (drawn_header self.old.table self.old.infos self.old.table.header) self.old) }
+    {
+        let table = self.table;
+        if let Some(header) = &table.header {
+            self.write_row(&table.style.header_lines, header)?;
+            self.write_frame_line(&table.style.header_separator)?;
+        }
+        Ok(())
+    }
+
+    // The rows' lines, with the row separator between each two rows.
+    fn write_rows(&mut self) -> Result<()>
+        ensures { OnOk result (self.new ≡ with_written (drawn_rows self.old.table self.old.infos self.old.table.rows) self.old) }
+    {
+        let table = self.table;
+        let separator = optional_frame_line(table, &table.style.row_separator, self.widths.as_slice())?;
+        let rows = table.rows.as_slice();
+        for (position, row) in rows.iter().enumerate() {
+            self.write_separator(&separator, position)?;
+            self.write_row(&table.style.content_lines, row)?;
+        }
+        Ok(())
+    }
+
+    // The row separator, before each row but the first.
+    fn write_separator(&mut self, separator: &Option<String>, position: usize) -> Result<()>
+        ensures { OnOk result (self.new ≡ with_written (if nat_lt 0 position then map string_bytes (option_to_list separator.now) else []) self.old) }
+    {
+        if position > 0
+            && let Some(text) = separator
+        {
+            self.output.push_line(text.as_str())?;
+        }
+        Ok(())
+    }
+
+    // The lines of a row, framed as header lines or as content lines.
+    fn write_row(&mut self, style: &ContentLineStyle, row: &'a Row) -> Result<()>
+        ensures { OnOk result (self.new ≡ with_written (drawn_row self.old.table self.old.infos style.now row.now) self.old) }
+    {
+        let drawn = drawn_cells(row, self.infos, self.table)?;
+        let cells = drawn.as_slice();
+        for line in 0..greatest_height(cells) {
+            self.write_content_line(style, cells, line)?;
+        }
+        Ok(())
+    }
+
+    // One line of a row, counted from 0.
+    fn write_content_line(
+        &mut self,
+        style: &ContentLineStyle,
+        cells: &[DrawnCell<'a>],
+        line: usize,
+    ) -> Result<()>
+        ensures { OnOk result (self.new ≡ with_written (content_line self.old.table.style style.now (map (piece_at self.old.table line) cells.now) ∷ []) self.old) }
+    {
+        self.line.clear();
+        push_content_line(&mut self.line, self.table, style, cells, line)?;
+        self.output.push_line(self.line.as_str())
+    }
+}
+
+// The whole widths of the visible columns.
 fn visible_widths(alloc: Global, infos: &[ColumnDisplayInfo]) -> Result<Vec<usize>>
     ensures { IfOk result (λ widths. widths.items ≡ visible_widths infos.now) }
 {
@@ -39,113 +156,4 @@ fn visible_widths(alloc: Global, infos: &[ColumnDisplayInfo]) -> Result<Vec<usiz
         }
     }
     Ok(widths)
-}
-
-// The header's lines and the header separator, where there is a header.
-fn push_header(
-    lines: &mut Vec<String>,
-    alloc: Global,
-    table: &Table,
-    infos: &[ColumnDisplayInfo],
-    widths: &[usize],
-) -> Result<()>
-    requires { widths.now ≡ visible_widths infos.now }
-    ensures { OnOk result (map string_bytes lines.new.items ≡ map string_bytes lines.old.items ++ drawn_header table.now infos.now table.now.header) }
-{
-    if let Some(header) = &table.header {
-        push_row(
-            lines,
-            alloc,
-            table,
-            infos,
-            &table.style.header_lines,
-            header,
-        )?;
-        push_frame_line(lines, alloc, table, &table.style.header_separator, widths)?;
-    }
-    Ok(())
-}
-
-// The rows' lines, with the row separator between each two rows.
-fn push_rows(
-    lines: &mut Vec<String>,
-    alloc: Global,
-    table: &Table,
-    infos: &[ColumnDisplayInfo],
-    widths: &[usize],
-) -> Result<()>
-    requires { widths.now ≡ visible_widths infos.now }
-    ensures { OnOk result (map string_bytes lines.new.items ≡ map string_bytes lines.old.items ++ drawn_rows table.now infos.now table.now.rows) }
-{
-    let separator = optional_frame_line(alloc, table, &table.style.row_separator, widths)?;
-    push_separated_rows(lines, alloc, table, infos, &separator)
-}
-
-fn push_separated_rows(
-    lines: &mut Vec<String>,
-    alloc: Global,
-    table: &Table,
-    infos: &[ColumnDisplayInfo],
-    separator: &Option<String>,
-) -> Result<()>
-    ensures { OnOk result (map string_bytes lines.new.items ≡ map string_bytes lines.old.items ++ join_by (drawn_row table.now infos.now table.now.style.content_lines) (map string_bytes (option_to_list separator.now)) table.now.rows) }
-{
-    let rows = table.rows.as_slice();
-    for (position, row) in rows.iter().enumerate() {
-        push_separator(lines, alloc, separator, position)?;
-        push_row(lines, alloc, table, infos, &table.style.content_lines, row)?;
-    }
-    Ok(())
-}
-
-// A copy of the row separator, before each row but the first.
-fn push_separator(
-    lines: &mut Vec<String>,
-    alloc: Global,
-    separator: &Option<String>,
-    position: usize,
-) -> Result<()>
-    ensures { OnOk result (map string_bytes lines.new.items ≡ map string_bytes lines.old.items ++ (if nat_lt 0 position then map string_bytes (option_to_list separator.now) else [])) }
-{
-    if position > 0
-        && let Some(text) = separator
-    {
-        lines.push(String::from_str(alloc, text.as_str())?)?;
-    }
-    Ok(())
-}
-
-// The lines of a row, framed as header lines or as content lines.
-fn push_row(
-    lines: &mut Vec<String>,
-    alloc: Global,
-    table: &Table,
-    infos: &[ColumnDisplayInfo],
-    line: &ContentLineStyle,
-    row: &Row,
-) -> Result<()>
-    ensures { OnOk result (map string_bytes lines.new.items ≡ map string_bytes lines.old.items ++ drawn_row table.now infos.now line.now row.now) }
-{
-    let formatted = format_row(row, infos, table)?;
-    let row_lines = formatted.as_slice();
-    for pieces in row_lines {
-        lines.push(content_line(alloc, table, line, pieces.as_slice())?)?;
-    }
-    Ok(())
-}
-
-// A line of the frame, where it is drawn.
-fn push_frame_line(
-    lines: &mut Vec<String>,
-    alloc: Global,
-    table: &Table,
-    line: &LineStyle,
-    widths: &[usize],
-) -> Result<()>
-    ensures { OnOk result (map string_bytes lines.new.items ≡ map string_bytes lines.old.items ++ optional_frame_line table.now.style line.now widths.now) }
-{
-    if let Some(text) = optional_frame_line(alloc, table, line, widths)? {
-        lines.push(text)?;
-    }
-    Ok(())
 }

@@ -1,66 +1,68 @@
 //! A line of a cell as it stands in its column.
 
-ghost use Rattle.std.specs.Prelude.{◌≡◌, ◌++◌, IfOk, OnOk, string_bytes};
+ghost use Rattle.std.specs.Prelude.{◌≡◌, ◌+◌, ◌-◌, ◌++◌, OnOk, string_bytes};
 ghost use Rattle.comfy_parts.specs.Text.{spaces};
-ghost use Rattle.comfy_table.specs.Pieces.{cell_alignment, filling, free_before, padded, piece};
+ghost use Rattle.comfy_table.specs.Pieces.{cell_alignment, free_before, piece};
 
 use crate::table::Table;
-use crate::utils::formatting::sequences::styled;
+use crate::utils::formatting::sequences::{push_style_begin, push_style_end};
 use comfy_parts::content_split::{ColumnDisplayInfo, measure_text_width};
 use comfy_parts::style::CellAlignment;
 use comfy_parts::{Cell, Result};
-use std::alloc::Global;
 
-// A line of a cell as it stands in its column. Where styles are written, they stand round the whole piece, or round the
-// line alone.
-pub fn piece(
-    alloc: Global,
+const SPACES: &str = "                                                                ";
+
+/// Appends a line of a cell as it stands in its column. Where styles are written, they stand round the whole piece, or
+/// round the line alone.
+pub fn push_piece(
+    text: &mut String,
     table: &Table,
     cell: &Cell,
     info: &ColumnDisplayInfo,
     line: &str,
-) -> Result<String>
-    ensures { IfOk result (λ text. string_bytes text ≡ piece table.now cell.now info.now line.now) }
-{
-    if !table.writes_styles() {
-        return padded(alloc, cell, info, line, line);
-    }
-    if table.style_text_only {
-        let text = styled(alloc, cell, line)?;
-        return padded(alloc, cell, info, line, text.as_str());
-    }
-    let plain = padded(alloc, cell, info, line, line)?;
-    styled(alloc, cell, plain.as_str())
-}
-
-// A text in a line's place: between the spaces that the line's alignment leaves, and these between the paddings.
-fn padded(
-    alloc: Global,
-    cell: &Cell,
-    info: &ColumnDisplayInfo,
-    line: &str,
-    text: &str,
-) -> Result<String>
-    ensures { IfOk result (λ piece. string_bytes piece ≡ padded cell.now info.now line.now text.now) }
+) -> Result<()>
+    ensures { OnOk result (string_bytes text.new ≡ string_bytes text.old ++ piece table.now cell.now info.now line.now) }
 {
     let free = usize::from(info.content_width).saturating_sub(measure_text_width(line));
     let before = free_before(cell_alignment(cell, info), free);
-    let mut piece = String::new(alloc);
-    push_spaces(&mut piece, usize::from(info.padding.0))?;
-    push_spaces(&mut piece, before)?;
-    piece.push_str(text)?;
-    push_spaces(&mut piece, free - before)?;
-    push_spaces(&mut piece, usize::from(info.padding.1))?;
-    Ok(piece)
+    let left = usize::from(info.padding.0) + before;
+    let right = free - before + usize::from(info.padding.1);
+    if !table.writes_styles() {
+        return push_padded(text, left, line, right);
+    }
+    if table.style_text_only {
+        push_spaces(text, left)?;
+        push_style_begin(text, cell)?;
+        text.push_str(line)?;
+        push_style_end(text, cell)?;
+        return push_spaces(text, right);
+    }
+    push_style_begin(text, cell)?;
+    push_padded(text, left, line, right)?;
+    push_style_end(text, cell)
 }
 
-// What stands where a column has no line.
-pub fn filling(alloc: Global, info: &ColumnDisplayInfo) -> Result<String>
-    ensures { IfOk result (λ text. string_bytes text ≡ filling info.now) }
+// Appends a line between spaces.
+fn push_padded(text: &mut String, left: usize, line: &str, right: usize) -> Result<()>
+    ensures { OnOk result (string_bytes text.new ≡ string_bytes text.old ++ (spaces left ++ (line.now ++ spaces right))) }
 {
-    let mut text = String::new(alloc);
-    push_spaces(&mut text, info.width())?;
-    Ok(text)
+    push_spaces(text, left)?;
+    text.push_str(line)?;
+    push_spaces(text, right)
+}
+
+/// Appends that many spaces.
+pub fn push_spaces(text: &mut String, count: usize) -> Result<()>
+    ensures { OnOk result (string_bytes text.new ≡ string_bytes text.old ++ spaces count) }
+{
+    let mut left = count;
+    while left > SPACES.len() {
+        text.push_str(SPACES)?;
+        left -= SPACES.len();
+    }
+    let (run, _) = SPACES.split_at(left);
+    text.push_str(run)?;
+    Ok(())
 }
 
 // The cell's own alignment, else its column's, else left.
@@ -73,23 +75,13 @@ fn cell_alignment(cell: &Cell, info: &ColumnDisplayInfo) -> CellAlignment
     }
 }
 
-// Of the free places those before the line: in the centre an odd one goes before it.
+// Of the free columns those before the line: in the centre an odd one goes before it.
 fn free_before(alignment: CellAlignment, free: usize) -> usize
-    ensures { result ≡ free_before alignment free }
+    ensures value { result ≡ free_before alignment free }
 {
     match alignment {
         CellAlignment::Left => 0,
         CellAlignment::Right => free,
         CellAlignment::Center => free - free / 2,
     }
-}
-
-// Appends that many spaces.
-fn push_spaces(text: &mut String, count: usize) -> Result<()>
-    ensures { OnOk result (string_bytes text.new ≡ string_bytes text.old ++ spaces count) }
-{
-    for _ in 0..count {
-        text.push(' ')?;
-    }
-    Ok(())
 }

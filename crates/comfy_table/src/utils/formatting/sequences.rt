@@ -1,11 +1,10 @@
 //! Colours and attributes as the sequences that a terminal takes them in: ESC, `[`, a code, `m`. No other file writes ESC.
 
-ghost use Rattle.std.specs.Prelude.{◌≡◌, ◌++◌, IfOk, OnOk, filter, flat_map, string_bytes};
-ghost use Rattle.comfy_table.specs.Styling.{sequence, color_code, foreground_code, background_code, attribute_code, has_attribute, attribute_sequences, optional_sequence, style_begin, style_end, styled};
+ghost use Rattle.std.specs.Prelude.{◌≡◌, ◌++◌, OnOk, filter, flat_map, string_bytes};
+ghost use Rattle.comfy_table.specs.Styling.{sequence, color_code, foreground_code, background_code, attribute_code, has_attribute, attribute_sequences, optional_sequence, style_begin, style_end};
 
 use comfy_parts::style::{Attribute, Color};
 use comfy_parts::{Cell, Result};
-use std::alloc::Global;
 
 // All attributes, in the order in which they are written
 const ALL_ATTRIBUTES: [Attribute; 28] = [
@@ -39,47 +38,43 @@ const ALL_ATTRIBUTES: [Attribute; 28] = [
     Attribute::NotOverLined,
 ];
 
-/// A text between the sequences of its cell's colours and attributes; a cell without any leaves it as it is.
-pub(crate) fn styled(alloc: Global, cell: &Cell, text: &str) -> Result<String>
-    ensures { IfOk result (λ line. string_bytes line ≡ styled cell.now text.now) }
-{
-    let mut line = String::new(alloc);
-    push_style_begin(alloc, &mut line, cell)?;
-    line.push_str(text)?;
-    push_style_end(&mut line, cell)?;
-    Ok(line)
-}
-
-// What stands before a styled text: background, foreground, attributes
-fn push_style_begin(alloc: Global, line: &mut String, cell: &Cell) -> Result<()>
+/// Appends what stands before a styled text: background, foreground, attributes. A cell without any leaves the text as it
+/// is.
+pub(crate) fn push_style_begin(line: &mut String, cell: &Cell) -> Result<()>
     ensures { OnOk result (string_bytes line.new ≡ string_bytes line.old ++ style_begin cell.now) }
 {
-    push_background(alloc, line, cell.background())?;
-    push_foreground(alloc, line, cell.foreground())?;
+    push_background(line, cell.background())?;
+    push_foreground(line, cell.foreground())?;
     push_attributes(line, cell.attributes())?;
     Ok(())
 }
 
-fn push_background(alloc: Global, line: &mut String, color: Option<Color>) -> Result<()>
+fn push_background(line: &mut String, color: Option<Color>) -> Result<()>
     ensures { OnOk result (string_bytes line.new ≡ string_bytes line.old ++ optional_sequence background_code color) }
 {
-    match color {
-        Some(color) => push_sequence(line, background_code(alloc, color)?.as_str()),
-        None => Ok(()),
-    }
+    let Some(color) = color else {
+        return Ok(());
+    };
+    line.push_str("\u{1b}[")?;
+    push_background_code(line, color)?;
+    line.push_str("m")?;
+    Ok(())
 }
 
-fn push_foreground(alloc: Global, line: &mut String, color: Option<Color>) -> Result<()>
+fn push_foreground(line: &mut String, color: Option<Color>) -> Result<()>
     ensures { OnOk result (string_bytes line.new ≡ string_bytes line.old ++ optional_sequence foreground_code color) }
 {
-    match color {
-        Some(color) => push_sequence(line, foreground_code(alloc, color)?.as_str()),
-        None => Ok(()),
-    }
+    let Some(color) = color else {
+        return Ok(());
+    };
+    line.push_str("\u{1b}[")?;
+    push_foreground_code(line, color)?;
+    line.push_str("m")?;
+    Ok(())
 }
 
-// What stands behind a styled text
-fn push_style_end(line: &mut String, cell: &Cell) -> Result<()>
+/// Appends what stands behind a styled text.
+pub(crate) fn push_style_end(line: &mut String, cell: &Cell) -> Result<()>
     ensures { OnOk result (string_bytes line.new ≡ string_bytes line.old ++ style_end cell.now) }
 {
     if !cell.attributes().is_empty() {
@@ -129,26 +124,26 @@ fn push_sequence(line: &mut String, code: &str) -> Result<()>
     Ok(())
 }
 
-fn background_code(alloc: Global, color: Color) -> Result<String>
-    ensures { IfOk result (λ code. string_bytes code ≡ background_code color) }
+fn push_background_code(line: &mut String, color: Color) -> Result<()>
+    ensures { OnOk result (string_bytes line.new ≡ string_bytes line.old ++ background_code color) }
 {
     if color == Color::Reset {
-        return Ok(String::from_str(alloc, "49")?);
+        line.push_str("49")?;
+        return Ok(());
     }
-    let mut code = String::from_str(alloc, "48;")?;
-    push_color_code(&mut code, color)?;
-    Ok(code)
+    line.push_str("48;")?;
+    push_color_code(line, color)
 }
 
-fn foreground_code(alloc: Global, color: Color) -> Result<String>
-    ensures { IfOk result (λ code. string_bytes code ≡ foreground_code color) }
+fn push_foreground_code(line: &mut String, color: Color) -> Result<()>
+    ensures { OnOk result (string_bytes line.new ≡ string_bytes line.old ++ foreground_code color) }
 {
     if color == Color::Reset {
-        return Ok(String::from_str(alloc, "39")?);
+        line.push_str("39")?;
+        return Ok(());
     }
-    let mut code = String::from_str(alloc, "38;")?;
-    push_color_code(&mut code, color)?;
-    Ok(code)
+    line.push_str("38;")?;
+    push_color_code(line, color)
 }
 
 // The code of a colour other than `Reset`: by its number of sixteen or of 256, or by its three parts

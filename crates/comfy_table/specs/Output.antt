@@ -1,0 +1,45 @@
+-- The drawn lines of a table as they are kept: each as a text of its own, or all in one text.
+use Rattle.std.specs.Prelude.{List, [], ◌∷◌, ◌++◌, flat_map}
+use Rattle.std.specs.Str.{trim_end}
+use Rattle.comfy_parts.specs.CellValue.{ColumnInfo}
+use Rattle.comfy_parts.specs.Text.{Text}
+use Rattle.comfy_table.specs.TableValue.{TableValue}
+use Rattle.comfy_table.specs.declared.utils.formatting.output.OutputForm.{OutputForm}
+use Rattle.comfy_table.specs.declared.utils.formatting.output.OutputForm.TheVariants.{Lines, Joined, Trimmed}
+
+-- the drawn lines so far: those that are texts of their own, and the one text
+pub record OutputValue : Type 0 where
+  pub form : OutputForm
+  pub lines : List Text
+  pub text : Text
+
+-- the lines that are kept as texts of their own
+abbrev pub own_lines : OutputForm → List Text → List Text
+own_lines Lines lines = lines
+own_lines Joined lines = []
+own_lines Trimmed lines = []
+
+-- what stands in the one text for a line
+abbrev pub line_in_text : OutputForm → Text → Text
+line_in_text Lines line = []
+line_in_text Joined line = line ++ 0x0A ∷ []
+line_in_text Trimmed line = trim_end line ++ 0x0A ∷ []
+
+-- an output without lines
+abbrev pub new_output : OutputForm → OutputValue
+new_output form = record { form = form; lines = []; text = [] }
+
+-- an output with these lines behind its own
+abbrev pub with_lines : List Text → OutputValue → OutputValue
+with_lines more output =
+    record output { lines = output.lines ++ own_lines output.form more; text = output.text ++ flat_map (line_in_text output.form) more }
+
+-- what draws a table: the table, its columns' infos, and the output
+pub record WriterValue : Type 0 where
+  pub table : TableValue
+  pub infos : List ColumnInfo
+  pub output : OutputValue
+
+-- the same with these lines behind those of its output
+abbrev pub with_written : List Text → WriterValue → WriterValue
+with_written more writer = record writer { output = with_lines more writer.output }
