@@ -10,8 +10,6 @@ use comfy_parts::content_split::{ColumnDisplayInfo, measure_text_width};
 use comfy_parts::style::CellAlignment;
 use comfy_parts::{Cell, Result};
 
-const SPACES: &str = "                                                                ";
-
 /// Appends a line of a cell as it stands in its column. Where styles are written, they stand round the whole piece, or
 /// round the line alone.
 pub fn push_piece(
@@ -55,14 +53,22 @@ fn push_padded(text: &mut String, left: usize, line: &str, right: usize) -> Resu
 pub fn push_spaces(text: &mut String, count: usize) -> Result<()>
     ensures { OnOk result (string_bytes text.new ≡ string_bytes text.old ++ spaces count) }
 {
+    let run = run_of_spaces();
     let mut left = count;
-    while left > SPACES.len() {
-        text.push_str(SPACES)?;
-        left -= SPACES.len();
+    while left > run.len() {
+        text.push_str(run)?;
+        left -= run.len();
     }
-    let (run, _) = SPACES.split_at(left);
-    text.push_str(run)?;
+    let (front, _) = run.split_at(left);
+    text.push_str(front)?;
     Ok(())
+}
+
+// As many spaces as are copied at once.
+fn run_of_spaces() -> &'static str
+    ensures { result.now ≡ spaces 64 }
+{
+    "                                                                "
 }
 
 // The cell's own alignment, else its column's, else left.

@@ -2,5 +2,8 @@ use Rattle.std.proofs.Common.{◌≡◌, ◌++◌, string_bytes}
 use Rattle.comfy_parts.specs.Text.{spaces}
 use Rattle.comfy_table.proofs.utils.formatting.piece.push_spaces.Given as goal
 
-abbrev pub invariant-loop : goal.invariant-loop
-invariant-loop l = string_bytes l.text ≡ string_bytes l.initial.text ++ spaces l.counter
+abbrev pub invariant-loop-left : goal.invariant-loop-left
+invariant-loop-left l = string_bytes l.text ++ spaces l.left ≡ string_bytes l.initial.text ++ spaces l.count
+
+abbrev pub decreases-loop-left : goal.decreases-loop-left
+decreases-loop-left l = l.left
