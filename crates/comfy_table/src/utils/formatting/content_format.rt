@@ -6,7 +6,7 @@ ghost use Rattle.comfy_table.specs.Pieces.{content_lines, row_lines, visible_inf
 ghost use Rattle.comfy_table.specs.DrawnCells.{drawn_cell, greatest_height, height_of, lines_of_optional, piece_at};
 
 use crate::table::Table;
-use crate::utils::formatting::cell_lines::{cell_lines, cut_at};
+use crate::utils::formatting::cell_lines::{cell_lines, cut_to_limit};
 use crate::utils::formatting::piece::{push_piece, push_spaces};
 use comfy_parts::content_split::ColumnDisplayInfo;
 use comfy_parts::{Cell, Result, Row};
@@ -158,7 +158,7 @@ fn row_cell_lines(
     // Reading a field opens the table, which tells that no call sets custom styling yet.
     let _ = &table.custom_styling;
     let lines = cell_lines(alloc, cell, info, delimiter(cell, info, table))?;
-    cut_at(
+    cut_to_limit(
         alloc,
         lines,
         row.height_limit(),
