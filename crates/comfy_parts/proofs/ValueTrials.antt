@@ -3,7 +3,7 @@ use Rattle.std.proofs.Common.{◌≡◌, [], ◌∷◌, Some, true, false, refl}
 use Rattle.std.specs.Prelude.{codes}
 use Rattle.std.specs.Fmt.{digits}
 use Rattle.comfy_parts.proofs.Computing.{wrapping}
-use Rattle.comfy_parts.specs.CellValue.{number_cell, bool_cell, char_cell, plain_cell, plain_row, content_of, with_cell, with_max_height, new_column, padding_stopped, visible_among}
+use Rattle.comfy_parts.specs.CellValue.{number_cell, bool_cell, char_cell, plain_cell, plain_row, content_of, with_cell, with_max_height, new_column, saturated_padding, visible_among}
 use Rattle.comfy_parts.specs.declared.style.column.ColumnConstraint.TheVariants.{Hidden}
 
 a_number : number_cell 1205 ≡ plain_cell (codes "1205")
@@ -23,7 +23,7 @@ a_content = refl
 a_row : with_max_height 0 (with_cell (bool_cell true) (plain_row [])) ≡ record { cells = plain_cell (codes "true") ∷ []; max_height = Some 1 }
 a_row = refl
 
-wide_padding : padding_stopped (record (new_column 0) { padding = (65535, 65535) }) ≡ 65535
+wide_padding : saturated_padding (record (new_column 0) { padding = (65535, 65535) }) ≡ 65535
 wide_padding = refl
 
 one_of_two : visible_among (record (new_column 0) { constraint = Some Hidden } ∷ new_column 1 ∷ []) ≡ 1

@@ -144,5 +144,5 @@ abbrev pub column_padding : ColumnValue → ℕ
 column_padding column = column.padding.0 + column.padding.1
 
 -- the same as `padding_width` answers it: at most 65535
-abbrev pub padding_stopped : ColumnValue → ℕ
-padding_stopped column = min 65535 (column_padding column)
+abbrev pub saturated_padding : ColumnValue → ℕ
+saturated_padding column = min 65535 (column_padding column)

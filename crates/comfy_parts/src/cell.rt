@@ -75,7 +75,7 @@ impl Cell {
     /// The text lines, in order.
     pub fn text_lines(&self) -> &[String]
         ensures value { map string_bytes result.now ≡ self.now.text_lines }
-        ensures kept { IsCell self.now }
+        ensures is_cell { IsCell self.now }
     {
         self.text_lines.as_slice()
     }

@@ -1,7 +1,7 @@
 //! The settings of a column.
 
 ghost use Rattle.std.specs.Prelude.{◌≡◌, None, Some, option_copied};
-ghost use Rattle.comfy_parts.specs.CellValue.{IsColumn, is_hidden_column, new_column, padding_stopped};
+ghost use Rattle.comfy_parts.specs.CellValue.{IsColumn, is_hidden_column, new_column, saturated_padding};
 
 use crate::style::{CellAlignment, ColumnConstraint};
 use std::marker::Model;
@@ -90,7 +90,7 @@ impl Column {
 
     /// The places of both paddings together, 65535 where there are more.
     pub fn padding_width(&self) -> u16
-        ensures { result ≡ padding_stopped self.now }
+        ensures { result ≡ saturated_padding self.now }
     {
         let (left, right) = self.padding;
         left.saturating_add(right)

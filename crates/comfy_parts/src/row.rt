@@ -97,7 +97,7 @@ impl Row {
     /// How many cells the row has.
     pub fn cell_count(&self) -> usize
         ensures value { result ≡ length self.now.cells }
-        ensures kept { IsRow self.now }
+        ensures is_row { IsRow self.now }
     {
         self.cells.len()
     }
@@ -105,7 +105,7 @@ impl Row {
     /// How many lines of each cell are drawn at the most, at least 1; none where all are drawn.
     pub fn height_limit(&self) -> Option<usize>
         ensures value { result ≡ self.now.max_height }
-        ensures kept { IfSome result (λ lines. 1 ≤ lines) }
+        ensures at_least_one { IfSome result (λ lines. 1 ≤ lines) }
     {
         self.max_height
     }

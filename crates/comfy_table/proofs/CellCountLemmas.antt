@@ -10,14 +10,14 @@ use Rattle.std.proofs.lemmas.Str.{IsUtf8-nil, chars-nil}
 use Rattle.comfy_parts.proofs.PlainTextLemmas.{IsPlainLine, lines_of_text-plain, take-printable}
 use Rattle.comfy_parts.proofs.PrintableLemmas.{measure-printable, head-printable}
 use Rattle.comfy_parts.specs.CellValue.{CellValue, RowValue, ColumnInfo, info_width}
-use Rattle.comfy_parts.specs.Text.{Text, measure, is_printable_ascii, IsEven}
+use Rattle.comfy_parts.specs.Text.{Text, measure, is_printable_ascii, AddsOneColumnEach}
 use Rattle.comfy_parts.specs.Wrapping.{lines_of_text}
 use Rattle.comfy_parts.specs.declared.style.cell.CellAlignment.{CellAlignment}
 use Rattle.comfy_parts.specs.declared.style.cell.CellAlignment.TheVariants.{Left, Right, Center}
 use Rattle.comfy_table.proofs.CountLemmas.{HasCount, count-is, HasCount-same, HasCount-append, HasCount-printable, HasCount-utf8, HasCount-spaces}
 use Rattle.comfy_table.proofs.ListLemmas.{All-flat_map}
 use Rattle.comfy_table.specs.Laws.{count, IsPlainCell}
-use Rattle.comfy_table.specs.Lines.{cell_lines, cell_delimiter, fitting_indicator, cut_line, cut_at_height, cut_at}
+use Rattle.comfy_table.specs.Lines.{cell_lines, cell_delimiter, fitting_indicator, cut_line, cut_to_height, cut_to_limit}
 use Rattle.comfy_table.specs.Pieces.{cell_alignment, free_before, free_places, plain_piece, row_cell_lines}
 use Rattle.comfy_table.specs.TableValue.{TableValue, seen_cell}
 
@@ -50,10 +50,10 @@ fitting_indicator-utf8 w indicator utf8 = by_test (nat_lt w (measure indicator))
     by_test false = utf8
 
 -- an even indicator that is written measures at most w
-fitting_indicator-le : (w : ℕ) (indicator : Text) → IsEven (fitting_indicator w indicator) → measure (fitting_indicator w indicator) ≤ w
+fitting_indicator-le : (w : ℕ) (indicator : Text) → AddsOneColumnEach (fitting_indicator w indicator) → measure (fitting_indicator w indicator) ≤ w
 fitting_indicator-le w indicator = by_test (nat_lt w (measure indicator)) refl
   where
-    by_test : (b : Bool) → nat_lt w (measure indicator) ≡ b → IsEven (if b then [] else indicator) → measure (if b then [] else indicator) ≤ w
+    by_test : (b : Bool) → nat_lt w (measure indicator) ≡ b → AddsOneColumnEach (if b then [] else indicator) → measure (if b then [] else indicator) ≤ w
     by_test true wider even =
         let none = ap length chars-nil in
         let measured = even [] refl in
@@ -61,7 +61,7 @@ fitting_indicator-le w indicator = by_test (nat_lt w (measure indicator)) refl
     by_test false fits even = grind (arith, nat_tests)
 
 -- a plain line that is cut is counted
-cut_line-counted : (w : ℕ) (indicator line : Text) → IsUtf8 indicator → IsEven (fitting_indicator w indicator) → is_printable_ascii line ≡ true → IsCountedLine w (cut_line w indicator line)
+cut_line-counted : (w : ℕ) (indicator line : Text) → IsUtf8 indicator → AddsOneColumnEach (fitting_indicator w indicator) → is_printable_ascii line ≡ true → IsCountedLine w (cut_line w indicator line)
 cut_line-counted w indicator line utf8 even printable =
     subst (λ front. IsCountedLine w (front ++ written)) (sym (head-printable (w - measure written) line printable))
     (record { fits = omega (arith, both, alone, room, short); counted = HasCount-same (length front + count written) (measure (front ++ written)) (front ++ written) (sym both) (HasCount-append (length front) (count written) front written (HasCount-printable front front_printable) (HasCount-utf8 written (fitting_indicator-utf8 w indicator utf8))) })
@@ -88,9 +88,9 @@ cut_line-counted w indicator line utf8 even printable =
     short = let cut = length-take (w - measure written) line in omega (arith, cut)
 
 -- so are all lines of which some may be cut
-cut_at_height-counted : (h w : ℕ) (indicator : Text) (lines : List Text) → IsUtf8 indicator → (h < length lines → IsEven (fitting_indicator w indicator)) → All (IsPlainLine w) lines
-    → All (IsCountedLine w) (cut_at_height h w indicator lines)
-cut_at_height-counted h w indicator lines utf8 even plain = by_test (nat_le (length lines) h) refl
+cut_to_height-counted : (h w : ℕ) (indicator : Text) (lines : List Text) → IsUtf8 indicator → (h < length lines → AddsOneColumnEach (fitting_indicator w indicator)) → All (IsPlainLine w) lines
+    → All (IsCountedLine w) (cut_to_height h w indicator lines)
+cut_to_height-counted h w indicator lines utf8 even plain = by_test (nat_le (length lines) h) refl
   where
     counted : All (IsCountedLine w) lines
     counted = All-weaker (IsPlainLine w) (IsCountedLine w) (counted-plain w) lines plain
@@ -106,17 +106,17 @@ cut_at_height-counted h w indicator lines utf8 even plain = by_test (nat_le (len
 -- the lines of a plain cell in a row are counted, where the indicator is even if a line is cut
 pub row_cell_lines-counted : (table : TableValue) (row : RowValue) (info : ColumnInfo) (cell : CellValue) → 1 ≤ info.content_width → IsUtf8 table.indicator
     → IsPlainCell table info.delimiter (seen_cell table cell)
-    → ((h : ℕ) → row.max_height ≡ Some h → h < length (cell_lines info.content_width (cell_delimiter table info.delimiter cell) (seen_cell table cell)) → IsEven (fitting_indicator info.content_width table.indicator))
+    → ((h : ℕ) → row.max_height ≡ Some h → h < length (cell_lines info.content_width (cell_delimiter table info.delimiter cell) (seen_cell table cell)) → AddsOneColumnEach (fitting_indicator info.content_width table.indicator))
     → All (IsCountedLine info.content_width) (row_cell_lines table row info cell)
 row_cell_lines-counted table row info cell places utf8 plain even = by_height row.max_height even
   where
     lines : All (IsPlainLine info.content_width) (cell_lines info.content_width (cell_delimiter table info.delimiter cell) (seen_cell table cell))
     lines = cell_lines-plain table info.delimiter info.content_width (seen_cell table cell) places plain
 
-    by_height : (height : Option ℕ) → ((h : ℕ) → height ≡ Some h → h < length (cell_lines info.content_width (cell_delimiter table info.delimiter cell) (seen_cell table cell)) → IsEven (fitting_indicator info.content_width table.indicator))
-        → All (IsCountedLine info.content_width) (cut_at height info.content_width table.indicator (cell_lines info.content_width (cell_delimiter table info.delimiter cell) (seen_cell table cell)))
+    by_height : (height : Option ℕ) → ((h : ℕ) → height ≡ Some h → h < length (cell_lines info.content_width (cell_delimiter table info.delimiter cell) (seen_cell table cell)) → AddsOneColumnEach (fitting_indicator info.content_width table.indicator))
+        → All (IsCountedLine info.content_width) (cut_to_limit height info.content_width table.indicator (cell_lines info.content_width (cell_delimiter table info.delimiter cell) (seen_cell table cell)))
     by_height None even = All-weaker (IsPlainLine info.content_width) (IsCountedLine info.content_width) (counted-plain info.content_width) _ lines
-    by_height (Some h) even = cut_at_height-counted h info.content_width table.indicator _ utf8 (even h refl) lines
+    by_height (Some h) even = cut_to_height-counted h info.content_width table.indicator _ utf8 (even h refl) lines
 
 -- ---- pieces
 

@@ -17,7 +17,7 @@ use Rattle.comfy_parts.specs.Text.{Text, spaces, is_printable_ascii}
 use Rattle.comfy_parts.specs.declared.style.table_style.LineStyle.{LineStyle}
 use Rattle.comfy_parts.specs.declared.style.table_style.TableStyle.{TableStyle}
 use Rattle.comfy_table.specs.Drawing.{visible_widths}
-use Rattle.comfy_table.specs.Frame.{border_count, character, joined, frame_line, draws_left_border, draws_right_border, draws_vertical_lines}
+use Rattle.comfy_table.specs.Frame.{border_count, character, between_borders, frame_line, draws_left_border, draws_right_border, draws_vertical_lines}
 use Rattle.comfy_table.specs.TableLaws.{FrameLinesCount}
 use Rattle.comfy_table.specs.Laws.{count}
 use Rattle.comfy_table.specs.Pieces.{visible_infos}
@@ -151,9 +151,9 @@ HasCount-between b separator (w ∷ widths) (piece ∷ pieces) one (first, more)
     total true = let all = sum_by-cons (λ (x : ℕ). x) w widths in omega (arith, all)
     total false = let all = sum_by-cons (λ (x : ℕ). x) w widths in omega (arith, all)
 
--- pieces of these widths are joined to the border characters and the sum of the widths
+-- pieces of these widths between borders have the border characters and the sum of the widths
 pub HasCount-joined : (style : TableStyle) (left junction right : Option ℕ) (widths : List ℕ) (pieces : List Text) → AllZip HasCount widths pieces
-    → HasCount (border_count style (length widths) + sum widths) (joined style left junction right pieces)
+    → HasCount (border_count style (length widths) + sum widths) (between_borders style left junction right pieces)
 HasCount-joined style left junction right widths pieces each =
     HasCount-same _ _ _ (order (if draws_left_border style then 1 else 0) (if draws_right_border style then 1 else 0) (if draws_vertical_lines style then length widths - 1 else 0) (sum widths))
     (HasCount-append _ _ _ _ (HasCount-when (draws_left_border style) (character left) (HasCount-encode _))

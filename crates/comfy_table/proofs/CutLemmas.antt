@@ -4,7 +4,7 @@ use Rattle.std.proofs.lemmas.Bool.Decides.{nat_tests}
 use Rattle.std.specs.Prelude.{if◌then◌else◌}
 use Rattle.comfy_parts.proofs.PrintableLemmas.{measure-printable}
 use Rattle.comfy_parts.specs.Text.{Text, head, measure}
-use Rattle.comfy_table.specs.Lines.{cut_at_height, cut_line}
+use Rattle.comfy_table.specs.Lines.{cut_to_height, cut_line}
 
 -- an indicator that is wider than the column isn't written
 pub cut_line-wide : (w : ℕ) (indicator line : Text) → w < measure indicator → cut_line w indicator line ≡ head w line
@@ -22,8 +22,8 @@ cut_line-fits w indicator line fits =
     ap (λ (b : Bool). let shown = if b then [] else indicator in head (w - measure shown) line ++ shown) test
 
 -- more lines than the height
-pub cut_at_height-over : (h w : ℕ) (indicator : Text) (lines : List Text) → h < length lines
-    → cut_at_height h w indicator lines ≡ take (h - 1) lines ++ cut_line w indicator (slice_index_or lines (h - 1) []) ∷ []
-cut_at_height-over h w indicator lines over =
+pub cut_to_height-over : (h w : ℕ) (indicator : Text) (lines : List Text) → h < length lines
+    → cut_to_height h w indicator lines ≡ take (h - 1) lines ++ cut_line w indicator (slice_index_or lines (h - 1) []) ∷ []
+cut_to_height-over h w indicator lines over =
     let test : nat_le (length lines) h ≡ false = grind (arith, nat_tests) in
     ap (λ (b : Bool). if b then lines else take (h - 1) lines ++ cut_line w indicator (slice_index_or lines (h - 1) []) ∷ []) test

@@ -11,7 +11,7 @@ use Rattle.comfy_parts.specs.declared.style.table.ContentArrangement.TheVariants
 use Rattle.comfy_table.specs.Arrangement.{AreInfosOf, IsArranged, is_full_width, room_beside_borders, widths_at, width_kept}
 use Rattle.comfy_table.specs.Dynamic.{IsDynamic}
 use Rattle.comfy_table.specs.DisabledWidths.{width_by_content, widths_by_content}
-use Rattle.comfy_table.specs.TableValue.{TableValue, column_content, table_width, visible_columns}
+use Rattle.comfy_table.specs.TableValue.{TableValue, column_content_width, table_width, visible_columns}
 use Rattle.comfy_table.specs.Widths.{disabled_width, visible_count, visible_needs}
 
 -- as many columns are visible among those with a position as among those without
@@ -59,14 +59,14 @@ picked_by_content table f test same =
     picked (width_by_content table) f test same (widths_by_content table) 0 table.columns (λ i. let moved : 0 + i ≡ i = omega arith in ap (slice_index (widths_by_content table)) moved)
 
 -- a hidden column has its content's width
-hidden_width : (table : TableValue) (p : ℕ × ColumnValue) → is_hidden_column p.1 ≡ true → width_by_content table p ≡ max 1 (column_content table p.0)
-hidden_width table p is = ap (λ (b : Bool). if b then max 1 (column_content table p.0) else disabled_width table p) is
+hidden_width : (table : TableValue) (p : ℕ × ColumnValue) → is_hidden_column p.1 ≡ true → width_by_content table p ≡ max 1 (column_content_width table p.0)
+hidden_width table p is = ap (λ (b : Bool). if b then max 1 (column_content_width table p.0) else disabled_width table p) is
 
 -- a visible one the disabled width
 visible_width : (table : TableValue) (p : ℕ × ColumnValue) → not (is_hidden_column p.1) ≡ true → width_by_content table p ≡ disabled_width table p
 visible_width table p is =
     let shown : is_hidden_column p.1 ≡ false = by_test (is_hidden_column p.1) is in
-    ap (λ (b : Bool). if b then max 1 (column_content table p.0) else disabled_width table p) shown
+    ap (λ (b : Bool). if b then max 1 (column_content_width table p.0) else disabled_width table p) shown
   where
     by_test : (b : Bool) → not b ≡ true → b ≡ false
     by_test true h = cc
@@ -77,7 +77,7 @@ pub arranged_by_content : (table : TableValue) → table.arrangement ≡ Disable
 arranged_by_content table disabled =
     record {
       one_for_each = length-map (enumerate_from 0 table.columns) (width_by_content table) ∙ length-enumerate_from 0 table.columns;
-      hidden_widths = picked_by_content table (λ p. max 1 (column_content table p.0)) is_hidden_column (hidden_width table);
+      hidden_widths = picked_by_content table (λ p. max 1 (column_content_width table p.0)) is_hidden_column (hidden_width table);
       visible_widths = visible table.arrangement disabled;
     }
   where

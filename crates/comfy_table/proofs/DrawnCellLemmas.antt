@@ -7,11 +7,11 @@ use Rattle.std.proofs.lemmas.List.{get_or-map, length-map}
 use Rattle.comfy_parts.specs.CellValue.{CellValue, RowValue, ColumnInfo}
 use Rattle.comfy_parts.specs.Text.{Text, greatest}
 use Rattle.comfy_table.specs.DrawnCells.{drawn_cell, greatest_height, height_of_lines, lines_of_optional, piece_at, piece_of_lines}
-use Rattle.comfy_table.specs.Pieces.{cell_pieces, filling, piece, row_cell_texts, written_piece, pieces_at, pieces_of_optional, row_cell_lines, row_lines, visible_infos}
+use Rattle.comfy_table.specs.Pieces.{cell_pieces, blank_piece, piece, row_cell_texts, written_piece, pieces_at, pieces_of_optional, row_cell_lines, row_lines, visible_infos}
 use Rattle.comfy_table.specs.TableValue.{TableValue}
 
--- a filling, whatever the line
-one_filling : (info : ColumnInfo) (k : ℕ) → filling info ≡ slice_index_or (filling info ∷ []) k (filling info)
+-- a blank_piece, whatever the line
+one_filling : (info : ColumnInfo) (k : ℕ) → blank_piece info ≡ slice_index_or (blank_piece info ∷ []) k (blank_piece info)
 one_filling info zero = refl
 one_filling info (suc k) = refl
 
@@ -23,9 +23,9 @@ module _ (table : TableValue) (row : RowValue) (off : table.custom_styling ≡ f
 
   -- the piece of an optional cell
   piece_of_optional : (info : ColumnInfo) (cell : Option CellValue) (k : ℕ)
-      → piece_of_lines table k info cell (lines_of_optional table row info cell) ≡ slice_index_or (pieces_of_optional table row info cell) k (filling info)
+      → piece_of_lines table k info cell (lines_of_optional table row info cell) ≡ slice_index_or (pieces_of_optional table row info cell) k (blank_piece info)
   piece_of_optional info None k = one_filling info k
-  piece_of_optional info (Some cell) k = ap (λ (ps : List Text). slice_index_or ps k (filling info)) (pieces_of_cell info cell)
+  piece_of_optional info (Some cell) k = ap (λ (ps : List Text). slice_index_or ps k (blank_piece info)) (pieces_of_cell info cell)
 
   -- the lines that it takes
   height_of_optional : (info : ColumnInfo) (cell : Option CellValue)
@@ -36,7 +36,7 @@ module _ (table : TableValue) (row : RowValue) (off : table.custom_styling ≡ f
 
   -- line by line
   pub drawn_pieces : (k : ℕ) (ps : List (ℕ × ColumnInfo))
-      → map (piece_at table k) (map (drawn_cell table row) ps) ≡ map (λ (p : ℕ × ColumnInfo). slice_index_or (pieces_at table row p) k (filling p.1)) ps
+      → map (piece_at table k) (map (drawn_cell table row) ps) ≡ map (λ (p : ℕ × ColumnInfo). slice_index_or (pieces_at table row p) k (blank_piece p.1)) ps
   drawn_pieces k [] = refl
   drawn_pieces k (p ∷ ps) = ap₂ (λ (x : Text) (xs : List Text). x ∷ xs) (piece_of_optional p.1 (slice_get row.cells p.0) k) (drawn_pieces k ps)
 
@@ -56,5 +56,5 @@ pub piece_found : (table : TableValue) (k : ℕ) (info : ColumnInfo) (cell : Cel
     → piece_of_lines table k info (Some cell) (map f items) ≡ piece table cell info (f x)
 piece_found table k info cell f items x below is =
     let within : k < length (map f items) = omega (arith, length-map items f) in
-    get_or-map (piece table cell info) (map f items) k [] (filling info) within
+    get_or-map (piece table cell info) (map f items) k [] (blank_piece info) within
     ∙ ap (piece table cell info) (get_or-map f items k x [] below ∙ ap f (sym is))

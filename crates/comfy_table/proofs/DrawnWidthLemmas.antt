@@ -14,8 +14,8 @@ use Rattle.comfy_table.specs.Dynamic.{Share, Steps, IsArrangedBy, IsDynamic, con
 use Rattle.comfy_table.specs.Frame.{border_count}
 use Rattle.comfy_table.specs.Laws.{NoConstraints, KeepsToWidth, FillsWidth, line_total, least_total, least_with_steps}
 use Rattle.comfy_table.specs.Levels.{IsUnconstrained}
-use Rattle.comfy_table.specs.TableValue.{TableValue, table_width, visible_columns, column_content}
-use Rattle.comfy_table.specs.Widths.{ColumnNeeds, needs_of, visible_needs, visible_count, disabled_width, even_spread, lower_boundary, upper_boundary, early_by_constraint}
+use Rattle.comfy_table.specs.TableValue.{TableValue, table_width, visible_columns, column_content_width}
+use Rattle.comfy_table.specs.Widths.{ColumnNeeds, needs_of, visible_needs, visible_count, disabled_width, even_spread, lower_boundary, upper_boundary, fixed_by_constraint}
 use Rattle.comfy_table.proofs.BudgetLemmas.{keeps_to_wider_bound, fills_wider_bound}
 use Rattle.comfy_table.proofs.ContentLemmas.{each_content, each_content_short, steps_with}
 use Rattle.comfy_table.proofs.UnconstrainedLemmas.{least_with_steps-unconstrained}
@@ -86,7 +86,7 @@ unconstrained_needs : (table : TableValue) (columns : List (ℕ × ColumnValue))
 unconstrained_needs table [] each = tt
 unconstrained_needs table (p ∷ more) each = (
   record {
-    no_early = ap (early_by_constraint table (visible_count table) (column_content table p.0) (column_padding p.1)) each.0;
+    no_early = ap (fixed_by_constraint table (visible_count table) (column_content_width table p.0) (column_padding p.1)) each.0;
     no_lower = ap (lower_boundary table (visible_count table)) each.0;
     no_upper = ap (upper_boundary table (visible_count table)) each.0;
   },

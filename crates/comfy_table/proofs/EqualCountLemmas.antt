@@ -6,7 +6,7 @@ use Rattle.std.specs.Str.{IsUtf8}
 use Rattle.std.proofs.lemmas.List.{length-map}
 use Rattle.std.proofs.lemmas.List.Elements.{All-cons, All-nil, All-head, All-tail, All-append, All-weaker, All-map}
 use Rattle.comfy_parts.specs.CellValue.{CellValue, RowValue, ColumnValue, ColumnInfo, info_of, info_width, is_hidden_column}
-use Rattle.comfy_parts.specs.Text.{IsEven}
+use Rattle.comfy_parts.specs.Text.{AddsOneColumnEach}
 use Rattle.comfy_parts.specs.declared.style.table_style.ContentLineStyle.{ContentLineStyle}
 use Rattle.comfy_parts.specs.declared.style.table_style.LineStyle.{LineStyle}
 use Rattle.comfy_table.proofs.CellCountLemmas.{IsCountedLine, row_cell_lines-counted, HasCount-plain_piece}
@@ -14,9 +14,9 @@ use Rattle.comfy_table.proofs.CountLemmas.{HasCount, HasCount-spaces, HasCount-j
 use Rattle.comfy_table.proofs.ListLemmas.{All-every, At-or, All-join_by, All-given, AllZip-map}
 use Rattle.comfy_table.specs.Drawing.{infos_of, visible_widths, drawn_row, drawn_header, drawn_rows, drawing_of_infos, drawing}
 use Rattle.comfy_table.specs.Frame.{border_count, content_line, frame_line, is_drawn, optional_frame_line}
-use Rattle.comfy_table.specs.Laws.{count, unstyled, line_total, IsPlainCell, IsEvenWhereWritten, EqualCounts}
+use Rattle.comfy_table.specs.Laws.{count, unstyled, line_total, IsPlainCell, AddsOneColumnEachWhereWritten, EqualCounts}
 use Rattle.comfy_table.specs.Lines.{cell_lines, cell_delimiter, fitting_indicator}
-use Rattle.comfy_table.specs.Pieces.{filling, pieces_of_optional, pieces_at, piece, row_cell_lines, row_line, row_lines, row_height, visible_infos}
+use Rattle.comfy_table.specs.Pieces.{blank_piece, pieces_of_optional, pieces_at, piece, row_cell_lines, row_line, row_lines, row_height, visible_infos}
 use Rattle.comfy_table.specs.TableValue.{TableValue, column_cells, seen_table, seen_rows}
 use Rattle.comfy_table.specs.Widths.{visible_count}
 
@@ -72,16 +72,16 @@ known_from Known n (column ∷ columns) (w ∷ widths) each = by_test (is_hidden
 abbrev ArePiecesCounted : TableValue → RowValue → ℕ × ColumnInfo → Type 0
 ArePiecesCounted table row p = All (HasCount (info_width p.1)) (pieces_at (unstyled table) row p)
 
--- the pieces of a plain cell are as wide as the column, and so is the filling of a missing one
+-- the pieces of a plain cell are as wide as the column, and so is the blank_piece of a missing one
 pieces-counted : (table : TableValue) (row : RowValue) (p : ℕ × ColumnInfo) → IsUtf8 table.indicator → 1 ≤ p.1.content_width
-    → ((cell : CellValue) → slice_get row.cells p.0 ≡ Some cell → IsPlainCell table p.1.delimiter cell) → IsEvenWhereWritten table row p → ArePiecesCounted table row p
+    → ((cell : CellValue) → slice_get row.cells p.0 ≡ Some cell → IsPlainCell table p.1.delimiter cell) → AddsOneColumnEachWhereWritten table row p → ArePiecesCounted table row p
 pieces-counted table row p utf8 places plain even = by_option (slice_get row.cells p.0) plain even
   where
     by_option : (o : Option CellValue) → ((cell : CellValue) → o ≡ Some cell → IsPlainCell table p.1.delimiter cell)
-        → ((cell : CellValue) (h : ℕ) → o ≡ Some cell → row.max_height ≡ Some h → h < length (cell_lines p.1.content_width (cell_delimiter table p.1.delimiter cell) cell) → IsEven (fitting_indicator p.1.content_width table.indicator))
+        → ((cell : CellValue) (h : ℕ) → o ≡ Some cell → row.max_height ≡ Some h → h < length (cell_lines p.1.content_width (cell_delimiter table p.1.delimiter cell) cell) → AddsOneColumnEach (fitting_indicator p.1.content_width table.indicator))
         → All (HasCount (info_width p.1)) (pieces_of_optional (unstyled table) row p.1 o)
     by_option None plain even =
-        All-cons (HasCount (info_width p.1)) (filling p.1) [] (HasCount-spaces (info_width p.1)) (All-nil (HasCount (info_width p.1)))
+        All-cons (HasCount (info_width p.1)) (blank_piece p.1) [] (HasCount-spaces (info_width p.1)) (All-nil (HasCount (info_width p.1)))
     by_option (Some cell) plain even =
         All-map (HasCount (info_width p.1)) (piece (unstyled table) cell p.1) (row_cell_lines (unstyled table) row p.1 cell)
         (All-weaker (IsCountedLine p.1.content_width) (λ line. HasCount (info_width p.1) (piece (unstyled table) cell p.1 line)) (HasCount-plain_piece cell p.1) (row_cell_lines (unstyled table) row p.1 cell)
@@ -104,9 +104,9 @@ module _ (table : TableValue) (infos : List ColumnInfo) where
       at : (k : ℕ) → HasCount total_of (content_line table.style line (row_line (unstyled table) infos row k))
       at k =
           HasCount-joined table.style line.left line.junction line.right (visible_widths infos) (row_line (unstyled table) infos row k)
-          (AllZip-map HasCount (λ (p : ℕ × ColumnInfo). info_width p.1) (λ (p : ℕ × ColumnInfo). slice_index_or (pieces_at (unstyled table) row p) k (filling p.1)) (visible_infos infos)
-          (All-weaker (ArePiecesCounted table row) (λ (p : ℕ × ColumnInfo). HasCount (info_width p.1) (slice_index_or (pieces_at (unstyled table) row p) k (filling p.1)))
-          (λ p counted. At-or (HasCount (info_width p.1)) (pieces_at (unstyled table) row p) k (filling p.1) counted (HasCount-spaces (info_width p.1))) (visible_infos infos) each))
+          (AllZip-map HasCount (λ (p : ℕ × ColumnInfo). info_width p.1) (λ (p : ℕ × ColumnInfo). slice_index_or (pieces_at (unstyled table) row p) k (blank_piece p.1)) (visible_infos infos)
+          (All-weaker (ArePiecesCounted table row) (λ (p : ℕ × ColumnInfo). HasCount (info_width p.1) (slice_index_or (pieces_at (unstyled table) row p) k (blank_piece p.1)))
+          (λ p counted. At-or (HasCount (info_width p.1)) (pieces_at (unstyled table) row p) k (blank_piece p.1) counted (HasCount-spaces (info_width p.1))) (visible_infos infos) each))
 
   -- a frame line that is drawn has them
   frame_counted : (line : LineStyle) → All (HasCount total_of) (optional_frame_line table.style line (visible_widths infos))
@@ -169,4 +169,4 @@ equal_counts table widths utf8 plain arranged =
     each k default below j other low =
         pieces-counted table (slice_index_or (seen_rows table) k default) (slice_index_or (visible_infos infos) j other) utf8 (known j other low).places
         (All-given (IsPlainCell table (slice_index_or (visible_infos infos) j other).1.delimiter) (λ (row : RowValue). slice_get row.cells (slice_index_or (visible_infos infos) j other).0) (seen_rows table) (known j other low).known k default below)
-        (plain.even_indicator k default below j other low)
+        (plain.indicator_adds_one_column_each k default below j other low)

@@ -5,16 +5,16 @@ use Rattle.std.specs.Prelude.{if◌then◌else◌}
 use Rattle.comfy_parts.specs.Text.{Text}
 use Rattle.comfy_parts.specs.declared.style.table_style.TableStyle.{TableStyle}
 use Rattle.comfy_table.proofs.JoinLemmas.{join_by-map}
-use Rattle.comfy_table.specs.Frame.{character, draws_left_border, draws_right_border, draws_vertical_lines, joined}
+use Rattle.comfy_table.specs.Frame.{character, draws_left_border, draws_right_border, draws_vertical_lines, between_borders}
 
 -- the left border, the pieces with what stands between them, the right border
-pub joined-made : {X : Type 0} (style : TableStyle) (left junction right : Option ℕ) (f : X → Text) (xs : List X) (l v r : Bool) (start before inside whole : Text)
+pub between_borders-made : {X : Type 0} (style : TableStyle) (left junction right : Option ℕ) (f : X → Text) (xs : List X) (l v r : Bool) (start before inside whole : Text)
     → l ≡ draws_left_border style → v ≡ draws_vertical_lines style → r ≡ draws_right_border style
     → start ≡ [] → before ≡ start ++ (if l then character left else [])
     → inside ≡ before ++ join_by f (if v then character junction else []) xs
     → whole ≡ inside ++ (if r then character right else [])
-    → whole ≡ joined style left junction right (map f xs)
-joined-made {X} style left junction right f xs l v r start before inside whole el ev er none first second third =
+    → whole ≡ between_borders style left junction right (map f xs)
+between_borders-made {X} style left junction right f xs l v r start before inside whole el ev er none first second third =
     third
     ∙ ap (λ (t : Text). t ++ (if r then character right else [])) second
     ∙ append_assoc before (join_by f (if v then character junction else []) xs) (if r then character right else [])

@@ -24,7 +24,7 @@ use Rattle.comfy_table.specs.Drawing.{drawing_of_infos, infos_of}
 use Rattle.comfy_table.specs.Headline.{IsClosedInRow, IsCutClosedInRow, IsResumedInRow, IsCutIntoSlices, IsTableDrawing, IsTextOrSlices}
 use Rattle.comfy_table.specs.Lines.{cell_delimiter}
 use Rattle.comfy_table.specs.Pieces.{visible_infos}
-use Rattle.comfy_table.specs.TableValue.{HasTextLines, KeepsParts, TableValue, ellipsis, header_and_rows, indicator_of, seen_rows}
+use Rattle.comfy_table.specs.TableValue.{HasWholeTexts, KeepsParts, TableValue, ellipsis, header_and_rows, indicator_of, seen_rows}
 
 -- lines that are drawn over the table's infos are its drawing
 pub drawing_of_table : (table : TableValue) (infos : List ColumnInfo) (lines : List Text) → AreInfosOf table infos → lines ≡ drawing_of_infos table infos → IsDrawingOf table lines
@@ -77,7 +77,7 @@ pub table_drawing : (table : TableValue) (infos : List ColumnInfo) (lines : List
 table_drawing table infos lines utf8 kept (widths, arranged, is) drawn =
     let whole = drawn ∙ ap (drawing_of_infos table) is in
     let rows : All IsSeenRow (header_and_rows table) = All-weaker IsRow IsSeenRow seen_row (header_and_rows table) (all_rows table kept) in
-    let texts : HasTextLines table = All-weaker IsSeenRow IsWholeRow whole_row (header_and_rows table) rows in
+    let texts : HasWholeTexts table = All-weaker IsSeenRow IsWholeRow whole_row (header_and_rows table) rows in
     let delimiters : All (λ (p : ℕ × ColumnInfo). IsDelimiter p.1.delimiter) (visible_infos (infos_of table widths)) =
     All-filter (λ (p : ℕ × ColumnInfo). not p.1.is_hidden) (λ (p : ℕ × ColumnInfo). IsDelimiter p.1.delimiter) _ (info_delimiters 0 table.columns widths kept.columns) in
     record {

@@ -10,12 +10,12 @@ use Rattle.comfy_parts.proofs.Computing.{wrapping}
 use Rattle.comfy_parts.proofs.PlainTextLemmas.{IsUtf8-printable}
 use Rattle.comfy_parts.proofs.PrintableLemmas.{measure-printable}
 use Rattle.comfy_parts.specs.CellValue.{CellValue, RowValue, ColumnValue, new_column}
-use Rattle.comfy_parts.specs.Text.{Text, IsEven, is_printable_ascii}
+use Rattle.comfy_parts.specs.Text.{Text, AddsOneColumnEach, is_printable_ascii}
 use Rattle.comfy_parts.specs.declared.style.table_style.LineStyle.{LineStyle}
 use Rattle.comfy_parts.specs.declared.style.table_style.TableStyle.{TableStyle}
 use Rattle.comfy_table.specs.Arrangement.{IsArranged}
 use Rattle.comfy_table.specs.Drawing.{drawing, infos_of}
-use Rattle.comfy_table.specs.Laws.{count, line_total, unstyled, IsPlainTable, IsPlainCell, IsEvenWhereWritten, HasNoEscape, IsFreeOfEscapes}
+use Rattle.comfy_table.specs.Laws.{count, line_total, unstyled, IsPlainTable, IsPlainCell, AddsOneColumnEachWhereWritten, HasNoEscape, IsFreeOfEscapes}
 use Rattle.comfy_table.specs.TableValue.{TableValue, new_table, column_cells, header_and_rows}
 use Rattle.comfy_table.specs.Pieces.{visible_infos}
 use Rattle.comfy_parts.specs.VisibleText.{visible_text}
@@ -39,7 +39,7 @@ abbrev torn : TableValue
 torn = table_with (Some 0x2502) (0xC3 ∷ []) ((0x61 ∷ []) ∷ (0x61 ∷ []) ∷ [])
 
 -- the indicator is even: it has no character, and takes no place
-torn_is_even : IsEven (0xC3 ∷ [])
+torn_is_even : AddsOneColumnEach (0xC3 ∷ [])
 unfolding wrapping chars
 torn_is_even p printable =
     ap measure_of (chars-append p (0xC3 ∷ []) (IsUtf8-printable p printable) ∙ append-nil (chars p)) ∙ measure-printable p printable ∙ omega arith
@@ -53,7 +53,7 @@ unfolding wrapping chars
 torn_is_plain =
     record {
       plain_cells = All-cons (λ (p : ℕ × ColumnValue). All (IsPlainCell torn p.1.delimiter) (column_cells torn p.0)) _ [] (All-cons (IsPlainCell torn None) _ [] (printable, refl) (All-nil (IsPlainCell torn None))) (All-nil (λ (p : ℕ × ColumnValue). All (IsPlainCell torn p.1.delimiter) (column_cells torn p.0)));
-      even_indicator = All-every (λ (row : RowValue). All (IsEvenWhereWritten torn row) (visible_infos (infos_of torn (1 ∷ [])))) (header_and_rows torn) (λ row. All-cons (IsEvenWhereWritten torn row) _ [] (λ cell h found height cut. torn_is_even) (All-nil (IsEvenWhereWritten torn row)));
+      indicator_adds_one_column_each = All-every (λ (row : RowValue). All (AddsOneColumnEachWhereWritten torn row) (visible_infos (infos_of torn (1 ∷ [])))) (header_and_rows torn) (λ row. All-cons (AddsOneColumnEachWhereWritten torn row) _ [] (λ cell h found height cut. torn_is_even) (All-nil (AddsOneColumnEachWhereWritten torn row)));
     }
   where
     printable : All (λ line. is_printable_ascii line ≡ true) ((0x61 ∷ []) ∷ (0x61 ∷ []) ∷ [])

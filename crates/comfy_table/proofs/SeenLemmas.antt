@@ -8,7 +8,7 @@ use Rattle.std.proofs.lemmas.List.Folds.{flat_map-map}
 use Rattle.comfy_parts.proofs.VisibleWholeLemmas.{visible_text-whole}
 use Rattle.comfy_parts.specs.CellValue.{CellValue, IsDelimiter, RowValue}
 use Rattle.comfy_parts.specs.VisibleText.{visible_text}
-use Rattle.comfy_table.specs.TableValue.{TableValue, HasTextLines, header_and_rows, seen_rows, seen_table, visible_cell, visible_row}
+use Rattle.comfy_table.specs.TableValue.{TableValue, HasWholeTexts, header_and_rows, seen_rows, seen_table, visible_cell, visible_row}
 use Rattle.comfy_table.specs.Arrangement.{IsArranged}
 
 -- a cell and a row as they are seen
@@ -72,7 +72,7 @@ texts_whole (text ∷ texts) each =
     All-cons IsUtf8 (visible_text text) (map visible_text texts) (visible_text-whole text (All-head IsUtf8 text texts each)) (texts_whole texts (All-tail IsUtf8 text texts each))
 
 -- and so the rows of a table
-pub seen_whole : (table : TableValue) → HasTextLines table → All IsWholeRow (seen_rows table)
+pub seen_whole : (table : TableValue) → HasWholeTexts table → All IsWholeRow (seen_rows table)
 seen_whole table each = All-seen table IsWholeRow (λ row whole. cells row.cells whole) each
   where
     cells : (cs : List CellValue) → All (λ (cell : CellValue). All IsUtf8 cell.text_lines) cs → All (λ (cell : CellValue). All IsUtf8 cell.text_lines) (map visible_cell cs)

@@ -18,11 +18,11 @@ use Rattle.comfy_table.proofs.SeenLemmas.{cell_seen, get_seen, header_seen, join
 use Rattle.comfy_table.proofs.StyledLemmas.{Shows-spaces, Shows-written_piece}
 use Rattle.comfy_table.proofs.WrittenLemmas.{texts_seen, texts_show}
 use Rattle.comfy_table.specs.Drawing.{infos_of, visible_widths, drawn_row, drawn_header, drawn_rows, drawing_of_infos, drawing}
-use Rattle.comfy_table.specs.Frame.{character, joined, content_line, frame_line, is_drawn, optional_frame_line, draws_left_border, draws_right_border, draws_vertical_lines, left_characters, right_characters, junction_characters}
+use Rattle.comfy_table.specs.Frame.{character, between_borders, content_line, frame_line, is_drawn, optional_frame_line, draws_left_border, draws_right_border, draws_vertical_lines, left_characters, right_characters, junction_characters}
 use Rattle.comfy_table.specs.Laws.{unstyled, HasNoEscape, IsFreeOfEscapes, StylingTakenOut}
-use Rattle.comfy_table.specs.Lines.{cell_delimiter, cell_lines, cut_at}
+use Rattle.comfy_table.specs.Lines.{cell_delimiter, cell_lines, cut_to_limit}
 use Rattle.comfy_parts.specs.VisibleLines.{CellLine}
-use Rattle.comfy_table.specs.Pieces.{cell_pieces, plain_piece, row_cell_texts, written_piece, filling, pieces_of_optional, pieces_at, piece, row_cell_lines, row_line, row_height, visible_infos}
+use Rattle.comfy_table.specs.Pieces.{cell_pieces, plain_piece, row_cell_texts, written_piece, blank_piece, pieces_of_optional, pieces_at, piece, row_cell_lines, row_line, row_height, visible_infos}
 use Rattle.comfy_table.specs.TableValue.{TableValue, header_and_rows, seen_cell, seen_rows, visible_row}
 
 -- ---- framed lines
@@ -101,9 +101,9 @@ Shows-between separator (s ∷ shown) [] between each = absurd each
 Shows-between separator (s ∷ shown) (text ∷ texts) between each =
     Shows-append s (flat_map (λ (piece : Text). separator ++ piece) shown) text (flat_map (λ (piece : Text). separator ++ piece) texts) each.0 (Shows-separated separator shown texts between each.1)
 
--- joined pieces show what the pieces show, joined
+-- pieces between borders show what the pieces show
 Shows-joined : (style : TableStyle) (left junction right : Option ℕ) (shown texts : List Text) → IsClear left → IsClear junction → IsClear right → AllZip Shows shown texts
-    → Shows (joined style left junction right shown) (joined style left junction right texts)
+    → Shows (between_borders style left junction right shown) (between_borders style left junction right texts)
 Shows-joined style left junction right shown texts l j r each =
     Shows-append _ _ (if draws_left_border style then character left else []) _ (Shows-when (draws_left_border style) (character left) (Shows-character left l))
     (Shows-append _ _ (join_by (λ (piece : Text). piece) (if draws_vertical_lines style then character junction else []) texts) (if draws_right_border style then character right else [])
@@ -148,17 +148,17 @@ cell_pieces_show table row info cell mark = by_setting table.custom_styling
     d = cell_delimiter table info.delimiter cell
 
     by_setting : (custom : Bool) → All IsUtf8 (cell_seen custom cell).text_lines → All HasNoEscape (cell_seen custom cell).text_lines
-        → AllZip Shows (map (plain_piece cell info) (cut_at row.max_height info.content_width table.indicator (cell_lines info.content_width d (cell_seen custom cell))))
+        → AllZip Shows (map (plain_piece cell info) (cut_to_limit row.max_height info.content_width table.indicator (cell_lines info.content_width d (cell_seen custom cell))))
         (if custom
         then map (λ (line : CellLine). written_piece table cell info line.seen line.written) (row_cell_texts table row info cell)
-        else map (piece table cell info) (cut_at row.max_height info.content_width table.indicator (cell_lines info.content_width d (cell_seen custom cell))))
+        else map (piece table cell info) (cut_to_limit row.max_height info.content_width table.indicator (cell_lines info.content_width d (cell_seen custom cell))))
     by_setting true whole clear =
         subst (λ (lines : List Text). AllZip Shows (map (plain_piece cell info) lines) (map (λ (line : CellLine). written_piece table cell info line.seen line.written) (row_cell_texts table row info cell))) (texts_seen table row info cell)
         (seen_shown (λ (line : CellLine). written_piece table cell info line.seen line.written) (plain_piece cell info) (row_cell_texts table row info cell)
         (each_follows (λ (line : CellLine). Shows line.seen line.written) (λ (line : CellLine). Shows (plain_piece cell info line.seen) (written_piece table cell info line.seen line.written)) (row_cell_texts table row info cell)
         (λ line shows. Shows-written_piece table cell info line.seen line.written shows) (texts_show table row info cell mark whole clear)))
     by_setting false whole clear =
-        let lines : List Text = cut_at row.max_height info.content_width table.indicator (cell_lines info.content_width d cell) in
+        let lines : List Text = cut_to_limit row.max_height info.content_width table.indicator (cell_lines info.content_width d cell) in
         AllZip-map Shows (plain_piece cell info) (piece table cell info) lines
         (All-weaker HasNoEscape (λ line. Shows (plain_piece cell info line) (piece table cell info line)) (λ line free. Shows-written_piece table cell info line line (Shows-clear line free)) lines
         (row_cell_lines-clear (unstyled table) row info cell mark whole clear))
@@ -199,9 +199,9 @@ module _ (table : TableValue) (infos : List ColumnInfo) (mark : HasNoEscape tabl
       at : (k : ℕ) → Shows (content_line table.style line (row_line (unstyled table) infos (seen row) k)) (content_line table.style line (row_line table infos row k))
       at k =
           Shows-joined table.style line.left line.junction line.right (row_line (unstyled table) infos (seen row) k) (row_line table infos row k) clear.left clear.junction clear.right
-          (AllZip-map Shows (λ (p : ℕ × ColumnInfo). slice_index_or (pieces_at (unstyled table) (seen row) p) k (filling p.1)) (λ (p : ℕ × ColumnInfo). slice_index_or (pieces_at table row p) k (filling p.1)) (visible_infos infos)
-          (All-every (λ (p : ℕ × ColumnInfo). Shows (slice_index_or (pieces_at (unstyled table) (seen row) p) k (filling p.1)) (slice_index_or (pieces_at table row p) k (filling p.1))) (visible_infos infos)
-          (λ p. At-or-both Shows (pieces_at (unstyled table) (seen row) p) (pieces_at table row p) k (filling p.1) (filling p.1) (pieces_show table row p mark cells) (Shows-spaces (info_width p.1)))))
+          (AllZip-map Shows (λ (p : ℕ × ColumnInfo). slice_index_or (pieces_at (unstyled table) (seen row) p) k (blank_piece p.1)) (λ (p : ℕ × ColumnInfo). slice_index_or (pieces_at table row p) k (blank_piece p.1)) (visible_infos infos)
+          (All-every (λ (p : ℕ × ColumnInfo). Shows (slice_index_or (pieces_at (unstyled table) (seen row) p) k (blank_piece p.1)) (slice_index_or (pieces_at table row p) k (blank_piece p.1))) (visible_infos infos)
+          (λ p. At-or-both Shows (pieces_at (unstyled table) (seen row) p) (pieces_at table row p) k (blank_piece p.1) (blank_piece p.1) (pieces_show table row p mark cells) (Shows-spaces (info_width p.1)))))
 
   -- ---- the drawing
 

@@ -19,8 +19,8 @@ use Rattle.comfy_table.specs.Laws.{IsPlainCell, NoConstraints, HasPlainCells}
 use Rattle.comfy_table.specs.TableLaws.{IsAtMostThreeOver, visible_contents}
 use Rattle.comfy_table.specs.Levels.{IsUnconstrained}
 use Rattle.comfy_table.specs.Lines.{cell_delimiter, cell_lines, longest_line}
-use Rattle.comfy_table.specs.TableValue.{TableValue, table_width, visible_columns, column_cells, column_content, cell_content}
-use Rattle.comfy_table.specs.Widths.{ColumnNeeds, needs_of, visible_needs, visible_count, disabled_width, capped_content, early_by_constraint, upper_boundary}
+use Rattle.comfy_table.specs.TableValue.{TableValue, table_width, visible_columns, column_cells, column_content_width, cell_content_width}
+use Rattle.comfy_table.specs.Widths.{ColumnNeeds, needs_of, visible_needs, visible_count, disabled_width, capped_content, fixed_by_constraint, upper_boundary}
 use Rattle.comfy_table.proofs.ContentLemmas.{steps_with, each_content, each_content_short}
 use Rattle.comfy_table.proofs.DrawnWidthLemmas.{unconstrained_visible}
 use Rattle.comfy_table.proofs.EveryLemmas.{every-both, every-flat_map, every-weaker}
@@ -68,24 +68,24 @@ greatest-le cap bound f (x ∷ xs) each = omega (arith, each.0, greatest-le cap 
 
 -- up to 65535, the lines of a plain cell are within its content
 cell_lines-le : (table : TableValue) (delimiter : Option ℕ) (w : ℕ) (cell : CellValue) → IsPlainCell table delimiter cell
-    → AllByRecursion (λ (line : Text). min 65535 (measure line) ≤ cell_content cell) (cell_lines w (cell_delimiter table delimiter cell) cell)
+    → AllByRecursion (λ (line : Text). min 65535 (measure line) ≤ cell_content_width cell) (cell_lines w (cell_delimiter table delimiter cell) cell)
 cell_lines-le table delimiter w cell plain =
     let d = cell_delimiter table delimiter cell in
-    every-flat_map (λ (text : Text). (is_printable_ascii text ≡ true) × (measure text ≤ greatest (map measure cell.text_lines))) (λ (line : Text). min 65535 (measure line) ≤ cell_content cell) (lines_of_text w d) cell.text_lines
-    (λ text facts. every-weaker (λ (line : Text). measure line ≤ measure text) (λ (line : Text). min 65535 (measure line) ≤ cell_content cell) (lines_of_text w d text) (λ line short. omega (arith, short, facts.1)) (lines_of_text-le w d text plain.1 facts.0))
+    every-flat_map (λ (text : Text). (is_printable_ascii text ≡ true) × (measure text ≤ greatest (map measure cell.text_lines))) (λ (line : Text). min 65535 (measure line) ≤ cell_content_width cell) (lines_of_text w d) cell.text_lines
+    (λ text facts. every-weaker (λ (line : Text). measure line ≤ measure text) (λ (line : Text). min 65535 (measure line) ≤ cell_content_width cell) (lines_of_text w d text) (λ line short. omega (arith, short, facts.1)) (lines_of_text-le w d text plain.1 facts.0))
     (every-both (λ (text : Text). is_printable_ascii text ≡ true) (λ (text : Text). measure text ≤ greatest (map measure cell.text_lines)) cell.text_lines
     (recursion_from_All (λ (text : Text). is_printable_ascii text ≡ true) cell.text_lines plain.0) (every-le-greatest measure cell.text_lines))
 
 -- up to 65535, the longest line of a column of plain cells is within its content
-longest_line-le : (table : TableValue) (i : ℕ) (delimiter : Option ℕ) (w : ℕ) → AllByRecursion (IsPlainCell table delimiter) (column_cells table i) → min 65535 (longest_line table i delimiter w) ≤ column_content table i
+longest_line-le : (table : TableValue) (i : ℕ) (delimiter : Option ℕ) (w : ℕ) → AllByRecursion (IsPlainCell table delimiter) (column_cells table i) → min 65535 (longest_line table i delimiter w) ≤ column_content_width table i
 longest_line-le table i delimiter w plain =
     let cells = column_cells table i in
-    let content = column_content table i in
+    let content = column_content_width table i in
     greatest-le 65535 content measure (flat_map (λ (cell : CellValue). cell_lines w (cell_delimiter table delimiter cell) cell) cells)
-    (every-flat_map (λ (cell : CellValue). IsPlainCell table delimiter cell × (cell_content cell ≤ content)) (λ (line : Text). min 65535 (measure line) ≤ content) (λ (cell : CellValue). cell_lines w (cell_delimiter table delimiter cell) cell) cells
-    (λ cell facts. every-weaker (λ (line : Text). min 65535 (measure line) ≤ cell_content cell) (λ (line : Text). min 65535 (measure line) ≤ content) (cell_lines w (cell_delimiter table delimiter cell) cell)
+    (every-flat_map (λ (cell : CellValue). IsPlainCell table delimiter cell × (cell_content_width cell ≤ content)) (λ (line : Text). min 65535 (measure line) ≤ content) (λ (cell : CellValue). cell_lines w (cell_delimiter table delimiter cell) cell) cells
+    (λ cell facts. every-weaker (λ (line : Text). min 65535 (measure line) ≤ cell_content_width cell) (λ (line : Text). min 65535 (measure line) ≤ content) (cell_lines w (cell_delimiter table delimiter cell) cell)
     (λ line short. le_trans short facts.1) (cell_lines-le table delimiter w cell facts.0))
-    (every-both (IsPlainCell table delimiter) (λ (cell : CellValue). cell_content cell ≤ content) cells plain (every-le-greatest cell_content cells)))
+    (every-both (IsPlainCell table delimiter) (λ (cell : CellValue). cell_content_width cell ≤ content) cells plain (every-le-greatest cell_content_width cells)))
 
 -- ---- widths over needs
 
@@ -134,8 +134,8 @@ disabled-le : (table : TableValue) (columns : List (ℕ × ColumnValue)) → All
 disabled-le table [] none = tt
 disabled-le table (p ∷ more) none = (omega (arith, is), disabled-le table more none.1)
   where
-    is : disabled_width table p ≡ max 1 (column_content table p.0)
-    is = ap (λ (o : Option ColumnConstraint). unwrap_or (early_by_constraint table (visible_count table) (column_content table p.0) (column_padding p.1) o) (capped_content (column_content table p.0) (column_padding p.1) (upper_boundary table (visible_count table) o))) none.0
+    is : disabled_width table p ≡ max 1 (column_content_width table p.0)
+    is = ap (λ (o : Option ColumnConstraint). unwrap_or (fixed_by_constraint table (visible_count table) (column_content_width table p.0) (column_padding p.1) o) (capped_content (column_content_width table p.0) (column_padding p.1) (upper_boundary table (visible_count table) o))) none.0
 
 -- the visible widths of a table of at most 65535 places
 three_places : (table : TableValue) (visible : List ℕ) → ((w : ℕ) → table_width table ≡ Some w → w ≤ 65535) → NoConstraints table → HasPlainCells table → table.arrangement ≡ Dynamic → AreVisibleWidths table visible

@@ -7,9 +7,9 @@ use Rattle.comfy_parts.specs.declared.style.table_style.ContentLineStyle.{Conten
 use Rattle.comfy_table.specs.Drawing.{drawing_of_infos, drawn_header, drawn_row, drawn_rows, visible_widths}
 use Rattle.comfy_table.specs.Frame.{content_line, optional_frame_line}
 use Rattle.comfy_table.specs.Laws.{unstyled}
-use Rattle.comfy_table.specs.Pieces.{filling, padded, piece, pieces_of_optional, plain_piece, row_cell_lines, row_cell_texts, written_piece, row_height, row_line, row_lines, visible_infos}
+use Rattle.comfy_table.specs.Pieces.{blank_piece, padded, piece, pieces_of_optional, plain_piece, row_cell_lines, row_cell_texts, written_piece, row_height, row_line, row_lines, visible_infos}
 use Rattle.comfy_table.specs.Styling.{styled}
-use Rattle.comfy_table.specs.Lines.{cell_delimiter, cell_lines, cut_at}
+use Rattle.comfy_table.specs.Lines.{cell_delimiter, cell_lines, cut_to_limit}
 use Rattle.comfy_table.specs.TableValue.{TableValue, should_style, visible_row}
 use Rattle.comfy_parts.specs.VisibleLines.{CellLine}
 use Rattle.comfy_parts.specs.VisibleText.{visible_text}
@@ -28,13 +28,13 @@ module _ (table : TableValue) (infos : List ColumnInfo) (off : should_style tabl
       by_setting custom =
           if custom
           then map (λ (line : CellLine). written_piece table cell info line.seen line.written) (row_cell_texts table row info cell)
-          else map (piece table cell info) (cut_at row.max_height info.content_width table.indicator (cell_lines info.content_width (cell_delimiter table info.delimiter cell) (record cell { text_lines = if custom then map visible_text cell.text_lines else cell.text_lines })))
+          else map (piece table cell info) (cut_to_limit row.max_height info.content_width table.indicator (cell_lines info.content_width (cell_delimiter table info.delimiter cell) (record cell { text_lines = if custom then map visible_text cell.text_lines else cell.text_lines })))
 
   same_height : (row : RowValue) → row_height (unstyled table) infos row ≡ row_height table infos row
   same_height row = λ i. greatest (map (λ (p : ℕ × ColumnInfo). length (same_pieces row p.1 (slice_get row.cells p.0) i)) (visible_infos infos))
 
   same_line : (row : RowValue) (k : ℕ) → row_line (unstyled table) infos row k ≡ row_line table infos row k
-  same_line row k = λ i. map (λ (p : ℕ × ColumnInfo). slice_index_or (same_pieces row p.1 (slice_get row.cells p.0) i) k (filling p.1)) (visible_infos infos)
+  same_line row k = λ i. map (λ (p : ℕ × ColumnInfo). slice_index_or (same_pieces row p.1 (slice_get row.cells p.0) i) k (blank_piece p.1)) (visible_infos infos)
 
   same_lines : (row : RowValue) → row_lines (unstyled table) infos row ≡ row_lines table infos row
   same_lines row = λ i. map (λ k. same_line row k i) (range_with_len 0 (same_height row i))

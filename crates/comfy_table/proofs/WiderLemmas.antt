@@ -17,20 +17,20 @@ use Rattle.comfy_table.proofs.TakenShareLemmas.{every_stands}
 use Rattle.comfy_table.proofs.TakingLemmas.{next_taken-where, every-shares_of}
 use Rattle.std.proofs.lemmas.List.{length-map}
 use Rattle.comfy_table.specs.Arrangement.{IsArranged, room_beside_borders}
-use Rattle.comfy_table.specs.Dynamic.{Placed, Share, Steps, IsArrangedBy, IsTakenAfter, lower_of_boundary, shrunk_at, settled_at, fit_at, upper_at, settled_shares, early_shares, places_of, without_shares, share_at, added, undecided, others, unsettled, even_columns, even_shares, all_shares, contents_after, room_left, content_room, room_of_unsettled, average}
+use Rattle.comfy_table.specs.Dynamic.{Placed, Share, Steps, IsArrangedBy, IsTakenAfter, lower_of_boundary, shrunk_at, settled_at, fit_at, upper_at, settled_shares, fixed_shares, places_of, without_shares, share_at, added, undecided, others, unsettled, even_columns, even_shares, all_shares, contents_after, room_left, content_room, room_of_unsettled, average}
 use Rattle.comfy_table.specs.Frame.{border_count}
 use Rattle.comfy_table.specs.Laws.{KeepsToWiderBoundInFull, line_total, least_with_steps}
 use Rattle.comfy_table.specs.TableLaws.{KeepsToWiderTotal, KeepsToWiderTotalInFull, FillsWiderTotal, visible_contents}
-use Rattle.comfy_table.specs.TableValue.{TableValue, visible_columns, column_content}
-use Rattle.comfy_table.specs.Widths.{ColumnNeeds, needs_of, visible_needs, visible_count, without_padding, even_spread, early_by_boundary, early_by_constraint, resolved_width}
+use Rattle.comfy_table.specs.TableValue.{TableValue, visible_columns, column_content_width}
+use Rattle.comfy_table.specs.Widths.{ColumnNeeds, needs_of, visible_needs, visible_count, without_padding, even_spread, fixed_by_boundary, fixed_by_constraint, resolved_width}
 
 -- a share of at least one place
 abbrev HasPlace : Share → Type 0
 HasPlace t = 1 ≤ t.1
 
--- an early width, where there is one, has a place
+-- an fixed width, where there is one, has a place
 abbrev HasEarlyPlace : ColumnNeeds → Type 0
-HasEarlyPlace column = (width : ℕ) → column.early ≡ Some width → 1 ≤ width
+HasEarlyPlace column = (width : ℕ) → column.fixed ≡ Some width → 1 ≤ width
 
 -- ---- what is offered has a place
 
@@ -73,8 +73,8 @@ settled-some (Some level) column width is = by_upper (upper_at level column colu
     by_upper (Some upper) some is = some width is
     by_upper None some is = by_test (nat_le column.content level) is
 
--- early, by a boundary that the content does not pass
-boundary-some : (content padding : ℕ) (o : Option ℕ) (width : ℕ) → early_by_boundary content padding o ≡ Some width → 1 ≤ width
+-- fixed, by a boundary that the content does not pass
+boundary-some : (content padding : ℕ) (o : Option ℕ) (width : ℕ) → fixed_by_boundary content padding o ≡ Some width → 1 ≤ width
 boundary-some content padding None width is = absurd (cc is)
 boundary-some content padding (Some l) width is = by_test (nat_le (content + padding) l) is
   where
@@ -82,26 +82,26 @@ boundary-some content padding (Some l) width is = by_test (nat_le (content + pad
     by_test true is = let same : max 1 (l - padding) ≡ width = cc is in omega (arith, same)
     by_test false is = absurd (cc is)
 
--- early, by a resolved width
+-- fixed, by a resolved width
 absolute-some : (padding : ℕ) (o : Option ℕ) (width : ℕ) → option_map (without_padding padding) o ≡ Some width → 1 ≤ width
 absolute-some padding None width is = absurd (cc is)
 absolute-some padding (Some x) width is = let same : max 1 (x - padding) ≡ width = cc is in omega (arith, same)
 
--- early, by any constraint
-early-some : (table : TableValue) (n content padding : ℕ) (c : Option ColumnConstraint) (width : ℕ) → early_by_constraint table n content padding c ≡ Some width → 1 ≤ width
-early-some table n content padding None width is = absurd (cc is)
-early-some table n content padding (Some Hidden) width is = absurd (cc is)
-early-some table n content padding (Some ContentWidth) width is = let same : max 1 content ≡ width = cc is in omega (arith, same)
-early-some table n content padding (Some (Absolute x)) width is = absolute-some padding (resolved_width table n x) width is
-early-some table n content padding (Some (LowerBoundary lower)) width is = boundary-some content padding (resolved_width table n lower) width is
-early-some table n content padding (Some (UpperBoundary upper)) width is = absurd (cc is)
-early-some table n content padding (Some (Boundaries lower upper)) width is = boundary-some content padding (resolved_width table n lower) width is
+-- fixed, by any constraint
+fixed-some : (table : TableValue) (n content padding : ℕ) (c : Option ColumnConstraint) (width : ℕ) → fixed_by_constraint table n content padding c ≡ Some width → 1 ≤ width
+fixed-some table n content padding None width is = absurd (cc is)
+fixed-some table n content padding (Some Hidden) width is = absurd (cc is)
+fixed-some table n content padding (Some ContentWidth) width is = let same : max 1 content ≡ width = cc is in omega (arith, same)
+fixed-some table n content padding (Some (Absolute x)) width is = absolute-some padding (resolved_width table n x) width is
+fixed-some table n content padding (Some (LowerBoundary lower)) width is = boundary-some content padding (resolved_width table n lower) width is
+fixed-some table n content padding (Some (UpperBoundary upper)) width is = absurd (cc is)
+fixed-some table n content padding (Some (Boundaries lower upper)) width is = boundary-some content padding (resolved_width table n lower) width is
 
--- the early widths of a table's columns have a place
+-- the fixed widths of a table's columns have a place
 every_early : (table : TableValue) (columns : List (ℕ × ColumnValue)) → AllByRecursion HasEarlyPlace (map (needs_of table) columns)
 every_early table [] = tt
 every_early table (p ∷ more) =
-    (early-some table (visible_count table) (column_content table p.0) (column_padding p.1) p.1.constraint, every_early table more)
+    (fixed-some table (visible_count table) (column_content_width table p.0) (column_padding p.1) p.1.constraint, every_early table more)
 
 -- ---- all shares have a place
 
@@ -131,16 +131,16 @@ every-map : {X Y : Type 0} (P : Y → Type 0) (f : X → Y) (xs : List X) → Al
 every-map P f [] each = tt
 every-map P f (x ∷ xs) each = (each.0, every-map P f xs each.1)
 
--- the shares of early widths
-every_early_share : (n : ℕ) (columns : List ColumnNeeds) → AllByRecursion HasEarlyPlace columns → AllByRecursion HasPlace (early_shares (enumerate_from n columns))
+-- the shares of fixed widths
+every_early_share : (n : ℕ) (columns : List ColumnNeeds) → AllByRecursion HasEarlyPlace columns → AllByRecursion HasPlace (fixed_shares (enumerate_from n columns))
 every_early_share n columns each =
-    every-shares_of (λ (p : Placed). p.1.early) (λ (p : Placed). HasEarlyPlace p.1) HasPlace (enumerate_from n columns) (λ p width fair is. fair width is) (every-places HasEarlyPlace n columns each)
+    every-shares_of (λ (p : Placed). p.1.fixed) (λ (p : Placed). HasEarlyPlace p.1) HasPlace (enumerate_from n columns) (λ p width fair is. fair width is) (every-places HasEarlyPlace n columns each)
 
 module _ (room : ℕ) (columns : List ColumnNeeds) (fair : AllByRecursion HasEarlyPlace columns) (full : Bool) (steps : Steps) (widths : List ℕ) (arranged : IsArrangedBy room columns full steps widths) where
   -- the shares of all kinds
   every_share : AllByRecursion HasPlace (all_shares room columns steps)
   every_share =
-      every-append HasPlace (early_shares (places_of columns)) _ (every_early_share 0 columns fair)
+      every-append HasPlace (fixed_shares (places_of columns)) _ (every_early_share 0 columns fair)
       (every-append HasPlace steps.lower _ (every_taken (undecided room columns) _ (λ ts p width is. lower-some (average (content_room room columns) (undecided room columns) ts) p.1.padding p.1.lower width is) 0 [] steps.lower arranged.lower_taken)
       (every-append HasPlace (settled_shares steps.level (others room columns steps.lower)) _
       (every-shares_of (λ (p : Placed). settled_at steps.level p.1) (λ (p : Placed). ⊤) HasPlace (others room columns steps.lower) (λ p width any is. settled-some steps.level p.1 width is) (every-always (λ (p : Placed). ⊤) (others room columns steps.lower) (λ p. tt)))

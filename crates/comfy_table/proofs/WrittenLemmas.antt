@@ -20,7 +20,7 @@ use Rattle.comfy_parts.specs.Wrapping.{lines_of_text}
 use Rattle.comfy_table.proofs.EscapeLemmas.{cut_line-clear, lines_of_text-clear}
 use Rattle.comfy_table.proofs.ListLemmas.{All-flat_map, At-or}
 use Rattle.comfy_table.specs.Laws.{CutLinesAreClosed, HasNoEscape, LinesAreResumedInRow, NoneIsOpenAtTheEnd}
-use Rattle.comfy_table.specs.Lines.{cell_delimiter, cut_at, cut_cell_line, cut_cell_lines_at, cut_line, uncut_count}
+use Rattle.comfy_table.specs.Lines.{cell_delimiter, cut_to_limit, cut_cell_line, cut_cell_lines_to_limit, cut_line, uncut_count}
 use Rattle.comfy_table.specs.Pieces.{row_cell_texts}
 use Rattle.comfy_table.specs.TableValue.{TableValue}
 
@@ -47,7 +47,7 @@ seen_take (suc n) [] = refl
 seen_take (suc n) (line ∷ lines) = ap (λ (xs : List Text). line.seen ∷ xs) (seen_take n lines)
 
 -- lines are cut by what is seen of them
-seen_cut : (height : Option ℕ) (w : ℕ) (indicator : Text) (lines : List CellLine) → seen_of (cut_cell_lines_at height w indicator lines) ≡ cut_at height w indicator (seen_of lines)
+seen_cut : (height : Option ℕ) (w : ℕ) (indicator : Text) (lines : List CellLine) → seen_of (cut_cell_lines_to_limit height w indicator lines) ≡ cut_to_limit height w indicator (seen_of lines)
 seen_cut None w indicator lines = refl
 seen_cut (Some h) w indicator lines =
     by_test (nat_le (length lines) h)
@@ -62,7 +62,7 @@ seen_cut (Some h) w indicator lines =
 
 -- what holds of each line and of those that are cut
 each_cut : (P : CellLine → Type 0) (height : Option ℕ) (w : ℕ) (indicator : Text) (lines : List CellLine) → AllByRecursion P lines → ((k : ℕ) → P (cut_cell_line w indicator (slice_index_or lines k no_line)))
-    → AllByRecursion P (cut_cell_lines_at height w indicator lines)
+    → AllByRecursion P (cut_cell_lines_to_limit height w indicator lines)
 each_cut P None w indicator lines each cut = each
 each_cut P (Some h) w indicator lines each cut = by_test (nat_le (length lines) h)
   where
@@ -91,10 +91,10 @@ none_is_open_at_the_end table row info cell =
 
 -- they are seen as the lines of the visible texts
 pub texts_seen : (table : TableValue) (row : RowValue) (info : ColumnInfo) (cell : CellValue)
-    → seen_of (row_cell_texts table row info cell) ≡ cut_at row.max_height info.content_width table.indicator (flat_map (lines_of_text info.content_width (cell_delimiter table info.delimiter cell)) (map visible_text cell.text_lines))
+    → seen_of (row_cell_texts table row info cell) ≡ cut_to_limit row.max_height info.content_width table.indicator (flat_map (lines_of_text info.content_width (cell_delimiter table info.delimiter cell)) (map visible_text cell.text_lines))
 texts_seen table row info cell =
     seen_cut row.max_height info.content_width table.indicator (line_texts info.content_width (cell_delimiter table info.delimiter cell) cell.text_lines)
-    ∙ ap (cut_at row.max_height info.content_width table.indicator) (seen_lines info.content_width (cell_delimiter table info.delimiter cell) cell.text_lines)
+    ∙ ap (cut_to_limit row.max_height info.content_width table.indicator) (seen_lines info.content_width (cell_delimiter table info.delimiter cell) cell.text_lines)
 
 -- what is written shows what is seen, where that has no ESC
 pub texts_show : (table : TableValue) (row : RowValue) (info : ColumnInfo) (cell : CellValue) → HasNoEscape table.indicator → All IsUtf8 (map visible_text cell.text_lines) → All HasNoEscape (map visible_text cell.text_lines)
@@ -164,7 +164,7 @@ lines_are_resumed table row info cell = by_height row.max_height
     by_test h true is = front (length lines) lines each
     by_test h false is = before (h - 1) lines (cut_cell_line w table.indicator (slice_index_or lines (h - 1) no_line)) (grind (arith, nat_tests, is)) each
 
-    by_height : (height : Option ℕ) → AllByRecursion (IsResumedLine cell.text_lines) (take (uncut_count height lines) (cut_cell_lines_at height w table.indicator lines))
+    by_height : (height : Option ℕ) → AllByRecursion (IsResumedLine cell.text_lines) (take (uncut_count height lines) (cut_cell_lines_to_limit height w table.indicator lines))
     by_height None = front (length lines) lines each
     by_height (Some h) = by_test h (nat_le (length lines) h) refl
 
@@ -195,6 +195,6 @@ cut_lines_are_closed table row info cell = by_height row.max_height
     by_test h true is = none_behind lines
     by_test h false is = behind (h - 1) lines (cut_cell_line w table.indicator (slice_index_or lines (h - 1) no_line)) (grind (arith, nat_tests, is)) refl
 
-    by_height : (height : Option ℕ) → AllByRecursion Closed (drop (uncut_count height lines) (cut_cell_lines_at height w table.indicator lines))
+    by_height : (height : Option ℕ) → AllByRecursion Closed (drop (uncut_count height lines) (cut_cell_lines_to_limit height w table.indicator lines))
     by_height None = none_behind lines
     by_height (Some h) = by_test h (nat_le (length lines) h) refl

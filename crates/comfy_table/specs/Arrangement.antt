@@ -9,7 +9,7 @@ use Rattle.comfy_parts.specs.declared.style.table.ContentArrangement.TheVariants
 use Rattle.comfy_table.specs.Drawing.{drawing, infos_of}
 use Rattle.comfy_table.specs.Dynamic.{IsDynamic}
 use Rattle.comfy_table.specs.Frame.{border_count}
-use Rattle.comfy_table.specs.TableValue.{TableValue, table_width, visible_columns, column_content}
+use Rattle.comfy_table.specs.TableValue.{TableValue, table_width, visible_columns, column_content_width}
 use Rattle.comfy_table.specs.Widths.{disabled_width, visible_needs, visible_count}
 
 -- the width that a dynamic arrangement keeps to; none under `Disabled`
@@ -43,7 +43,7 @@ AreVisibleWidths table widths =
 -- one content width for each column, in list order; a hidden column has its content's
 pub record IsArranged (table : TableValue) (widths : List ℕ) : Type 0 where
   pub one_for_each : length widths ≡ length table.columns
-  pub hidden_widths : widths_at widths (hidden_columns table) ≡ map (λ (p : ℕ × ColumnValue). max 1 (column_content table p.0)) (hidden_columns table)
+  pub hidden_widths : widths_at widths (hidden_columns table) ≡ map (λ (p : ℕ × ColumnValue). max 1 (column_content_width table p.0)) (hidden_columns table)
   pub visible_widths : AreVisibleWidths table (widths_at widths (visible_columns table))
 
 -- the columns with their widths, as they are drawn

@@ -2,7 +2,7 @@
 use Rattle.std.specs.Prelude.{ℕ, List, [], Option, Some, None, map, length, slice_get, slice_index_or}
 use Rattle.comfy_parts.specs.CellValue.{CellValue, RowValue, ColumnInfo}
 use Rattle.comfy_parts.specs.Text.{Text, greatest}
-use Rattle.comfy_table.specs.Pieces.{filling, piece, row_cell_lines}
+use Rattle.comfy_table.specs.Pieces.{blank_piece, piece, row_cell_lines}
 use Rattle.comfy_table.specs.TableValue.{TableValue}
 
 -- a visible column, its cell in a row, and that cell's lines
@@ -36,8 +36,8 @@ greatest_height cells = greatest (map height_of cells)
 
 -- the piece in line k of the row
 abbrev pub piece_of_lines : TableValue → ℕ → ColumnInfo → Option CellValue → List Text → Text
-piece_of_lines table k info None lines = filling info
-piece_of_lines table k info (Some cell) lines = slice_index_or (map (piece table cell info) lines) k (filling info)
+piece_of_lines table k info None lines = blank_piece info
+piece_of_lines table k info (Some cell) lines = slice_index_or (map (piece table cell info) lines) k (blank_piece info)
 
 -- the same of a drawn cell
 abbrev pub piece_at : TableValue → ℕ → DrawnCell → Text

@@ -13,27 +13,27 @@ border_count style n =
     (if draws_left_border style then 1 else 0) + (if draws_right_border style then 1 else 0) + (if draws_vertical_lines style then n - 1 else 0)
 
 -- the same as `count_border_columns` answers it: at most the greatest `usize`
-abbrev pub borders_stopped : TableStyle → ℕ → ℕ
-borders_stopped style n = min (2 ^ 64 - 1) (border_count style n)
+abbrev pub saturated_border_count : TableStyle → ℕ → ℕ
+saturated_border_count style n = min (2 ^ 64 - 1) (border_count style n)
 
 -- a character of a style; a missing one is a space
 abbrev pub character : Option ℕ → Text
 character c = encode_utf8 (unwrap_or c 0x20)
 
 -- pieces side by side: junctions between them where vertical lines are drawn, and the drawn side borders at the ends
-abbrev pub joined : TableStyle → Option ℕ → Option ℕ → Option ℕ → List Text → Text
-joined style left junction right pieces =
+abbrev pub between_borders : TableStyle → Option ℕ → Option ℕ → Option ℕ → List Text → Text
+between_borders style left junction right pieces =
     (if draws_left_border style then character left else [])
     ++ (join_by (λ (piece : Text). piece) (if draws_vertical_lines style then character junction else []) pieces
     ++ (if draws_right_border style then character right else []))
 
 -- a line of content
 abbrev pub content_line : TableStyle → ContentLineStyle → List Text → Text
-content_line style line pieces = joined style line.left line.junction line.right pieces
+content_line style line pieces = between_borders style line.left line.junction line.right pieces
 
 -- a line of the frame over columns of these whole widths
 abbrev pub frame_line : TableStyle → LineStyle → List ℕ → Text
-frame_line style line widths = joined style line.left line.junction line.right (map (λ (width : ℕ). repeat width (character line.fill)) widths)
+frame_line style line widths = between_borders style line.left line.junction line.right (map (λ (width : ℕ). repeat width (character line.fill)) widths)
 
 -- a line of the frame is drawn if any of its four parts is set
 abbrev pub is_drawn : LineStyle → Bool

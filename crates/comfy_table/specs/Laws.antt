@@ -3,19 +3,19 @@ use Rattle.std.specs.Prelude.{◌≡◌, ℕ, ◌+◌, ◌-◌, ◌<◌, ◌≤�
 use Rattle.std.specs.Int.{is_in_range}
 use Rattle.std.specs.List.{AllByRecursion, AllZip, list_any}
 use Rattle.comfy_parts.specs.CellValue.{CellValue, RowValue, ColumnValue, ColumnInfo, column_padding}
-use Rattle.comfy_parts.specs.Text.{Text, is_printable_ascii, IsEven}
+use Rattle.comfy_parts.specs.Text.{Text, is_printable_ascii, AddsOneColumnEach}
 use Rattle.comfy_parts.specs.Laws.{IsResumedLine}
 use Rattle.comfy_parts.specs.VisibleLines.{CellLine, line_texts}
 use Rattle.comfy_parts.specs.VisibleText.{closed, parts, open_after, visible_text}
 use Rattle.comfy_parts.specs.declared.style.table.ContentArrangement.TheVariants.{Dynamic, DynamicFullWidth}
 use Rattle.comfy_table.specs.Arrangement.{IsArranged}
 use Rattle.comfy_table.specs.Drawing.{drawing, infos_of, visible_widths}
-use Rattle.comfy_table.specs.Dynamic.{Steps, IsArrangedBy, IsDynamic, content_room, early_shares, places_of, total}
+use Rattle.comfy_table.specs.Dynamic.{Steps, IsArrangedBy, IsDynamic, content_room, fixed_shares, places_of, total}
 use Rattle.comfy_table.specs.Frame.{border_count, left_characters, right_characters, junction_characters}
 use Rattle.comfy_table.specs.Levels.{IsUnconstrained, IsLevelled, IsLevelledAt, IsFull}
 use Rattle.comfy_table.specs.Lines.{cell_lines, cell_delimiter, fitting_indicator, uncut_count}
 use Rattle.comfy_table.specs.Pieces.{visible_infos, row_cell_texts}
-use Rattle.comfy_table.specs.TableValue.{TableValue, HasTextLines, table_width, visible_columns, column_cells, seen_table, seen_rows}
+use Rattle.comfy_table.specs.TableValue.{TableValue, HasWholeTexts, table_width, visible_columns, column_cells, seen_table, seen_rows}
 use Rattle.comfy_table.specs.Widths.{ColumnNeeds, visible_count}
 
 -- ---- counts of lines
@@ -43,11 +43,11 @@ IsPlainCell table column_delimiter cell =
     All (λ line. is_printable_ascii line ≡ true) cell.text_lines × (is_in_range 0x20 0x7E (cell_delimiter table column_delimiter cell) ≡ true)
 
 -- where a row cuts the cell of this column, the indicator that is written is even
-abbrev pub IsEvenWhereWritten : TableValue → RowValue → ℕ × ColumnInfo → Type 0
-IsEvenWhereWritten table row p =
+abbrev pub AddsOneColumnEachWhereWritten : TableValue → RowValue → ℕ × ColumnInfo → Type 0
+AddsOneColumnEachWhereWritten table row p =
     (cell : CellValue) (h : ℕ) → slice_get row.cells p.0 ≡ Some cell → row.max_height ≡ Some h
     → h < length (cell_lines p.1.content_width (cell_delimiter table p.1.delimiter cell) cell)
-    → IsEven (fitting_indicator p.1.content_width table.indicator)
+    → AddsOneColumnEach (fitting_indicator p.1.content_width table.indicator)
 
 -- all known cells of the visible columns are printable ASCII
 abbrev pub HasPlainCells : TableValue → Type 0
@@ -56,7 +56,7 @@ HasPlainCells table = All (λ (p : ℕ × ColumnValue). All (IsPlainCell table p
 -- all known cells of the visible columns are printable ASCII, and the indicator is even wherever it is written
 pub record IsPlainTable (table : TableValue) (widths : List ℕ) : Type 0 where
   pub plain_cells : HasPlainCells table
-  pub even_indicator : All (λ (row : RowValue). All (IsEvenWhereWritten table row) (visible_infos (infos_of table widths))) (seen_rows table)
+  pub indicator_adds_one_column_each : All (λ (row : RowValue). All (AddsOneColumnEachWhereWritten table row) (visible_infos (infos_of table widths))) (seen_rows table)
 
 -- all lines, frame lines too, have the same count, whatever the arrangement and the constraints; an indicator that ends inside a character would swallow what follows it
 abbrev pub EqualCounts : TableValue → List ℕ → Type 0
@@ -81,11 +81,11 @@ FillsWidth table w widths =
     NoConstraints table → table.arrangement ≡ DynamicFullWidth → table_width table ≡ Some w → 0 < visible_count table → IsArranged table widths
     → line_total table widths ≡ max w (least_total table)
 
--- with constraints, the whole widths of the early and lower columns stand in the place of one place and their paddings; `room` is the width less the borders
+-- with constraints, the whole widths of the fixed and lower columns stand in the place of one place and their paddings; `room` is the width less the borders
 abbrev pub least_with_steps : List ColumnNeeds → Steps → ℕ
 least_with_steps columns steps =
-    sum_by (λ (column : ColumnNeeds). column.padding) columns + (total (early_shares (places_of columns)) + total steps.lower)
-    + (length columns - (length (early_shares (places_of columns)) + length steps.lower))
+    sum_by (λ (column : ColumnNeeds). column.padding) columns + (total (fixed_shares (places_of columns)) + total steps.lower)
+    + (length columns - (length (fixed_shares (places_of columns)) + length steps.lower))
 
 -- under every constraint, the columns and their paddings keep to the room or to this bound
 abbrev pub KeepsToWiderBound : ℕ → List ColumnNeeds → Steps → List ℕ → Type 0
@@ -155,7 +155,7 @@ pub record IsFreeOfEscapes (table : TableValue) : Type 0 where
 -- the sequences taken out of the styled lines, the unstyled lines are left; bytes that are no UTF-8 could be cut so that an ESC arises
 abbrev pub StylingTakenOut : TableValue → List ℕ → Type 0
 StylingTakenOut table widths =
-    HasTextLines table → IsFreeOfEscapes table → map visible_text (drawing table widths) ≡ drawing (unstyled table) widths
+    HasWholeTexts table → IsFreeOfEscapes table → map visible_text (drawing table widths) ≡ drawing (unstyled table) widths
 
 -- with custom styling, no sequence stands open at the end of a line's text before the cell's own styling, cut lines too
 abbrev pub NoneIsOpenAtTheEnd : TableValue → RowValue → ColumnInfo → CellValue → Type 0

@@ -6,7 +6,7 @@ use Rattle.comfy_parts.specs.Text.{Text, measure, spaces, greatest}
 use Rattle.comfy_parts.specs.declared.style.cell.CellAlignment.{CellAlignment}
 use Rattle.comfy_parts.specs.declared.style.cell.CellAlignment.TheVariants.{Left, Right, Center}
 use Rattle.comfy_parts.specs.VisibleLines.{CellLine, line_texts}
-use Rattle.comfy_table.specs.Lines.{cell_lines, cell_delimiter, cut_at, cut_cell_lines_at}
+use Rattle.comfy_table.specs.Lines.{cell_lines, cell_delimiter, cut_to_limit, cut_cell_lines_to_limit}
 use Rattle.comfy_table.specs.Styling.{styled}
 use Rattle.comfy_table.specs.TableValue.{TableValue, should_style, header_and_rows, seen_cell}
 
@@ -51,18 +51,18 @@ abbrev pub piece : TableValue → CellValue → ColumnInfo → Text → Text
 piece table cell info line = written_piece table cell info line line
 
 -- what stands where a column has no line
-abbrev pub filling : ColumnInfo → Text
-filling info = spaces (info_width info)
+abbrev pub blank_piece : ColumnInfo → Text
+blank_piece info = spaces (info_width info)
 
 -- the lines of a cell in a row as they are seen: wrapped at the column's width and cut at the row's height
 abbrev pub row_cell_lines : TableValue → RowValue → ColumnInfo → CellValue → List Text
 row_cell_lines table row info cell =
-    cut_at row.max_height info.content_width table.indicator (cell_lines info.content_width (cell_delimiter table info.delimiter cell) (seen_cell table cell))
+    cut_to_limit row.max_height info.content_width table.indicator (cell_lines info.content_width (cell_delimiter table info.delimiter cell) (seen_cell table cell))
 
 -- with custom styling, the same lines, each with the text that is written for it
 abbrev pub row_cell_texts : TableValue → RowValue → ColumnInfo → CellValue → List CellLine
 row_cell_texts table row info cell =
-    cut_cell_lines_at row.max_height info.content_width table.indicator (line_texts info.content_width (cell_delimiter table info.delimiter cell) cell.text_lines)
+    cut_cell_lines_to_limit row.max_height info.content_width table.indicator (line_texts info.content_width (cell_delimiter table info.delimiter cell) cell.text_lines)
 
 -- the pieces of a cell in one column of a row, from the top
 abbrev pub cell_pieces : TableValue → RowValue → ColumnInfo → CellValue → List Text
@@ -71,9 +71,9 @@ cell_pieces table row info cell =
     then map (λ (line : CellLine). written_piece table cell info line.seen line.written) (row_cell_texts table row info cell)
     else map (piece table cell info) (row_cell_lines table row info cell)
 
--- the pieces of the cell in one column of a row, from the top; a missing cell is one filling
+-- the pieces of the cell in one column of a row, from the top; a missing cell is one blank_piece
 abbrev pub pieces_of_optional : TableValue → RowValue → ColumnInfo → Option CellValue → List Text
-pieces_of_optional table row info None = filling info ∷ []
+pieces_of_optional table row info None = blank_piece info ∷ []
 pieces_of_optional table row info (Some cell) = cell_pieces table row info cell
 
 -- the drawn columns that are visible, each with its position
@@ -88,10 +88,10 @@ pieces_at table row p = pieces_of_optional table row p.1 (slice_get row.cells p.
 abbrev pub row_height : TableValue → List ColumnInfo → RowValue → ℕ
 row_height table infos row = greatest (map (λ (p : ℕ × ColumnInfo). length (pieces_at table row p)) (visible_infos infos))
 
--- line k of a row: the k-th piece of each visible column, or a filling
+-- line k of a row: the k-th piece of each visible column, or a blank_piece
 abbrev pub row_line : TableValue → List ColumnInfo → RowValue → ℕ → List Text
 row_line table infos row k =
-    map (λ (p : ℕ × ColumnInfo). slice_index_or (pieces_at table row p) k (filling p.1)) (visible_infos infos)
+    map (λ (p : ℕ × ColumnInfo). slice_index_or (pieces_at table row p) k (blank_piece p.1)) (visible_infos infos)
 
 -- the lines of a row, each as its pieces
 abbrev pub row_lines : TableValue → List ColumnInfo → RowValue → List (List Text)

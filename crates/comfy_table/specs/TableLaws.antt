@@ -50,7 +50,7 @@ FrameFillsWidth table w widths line =
 
 -- ---- totals under every constraint
 
--- borders, the whole widths of the early and lower columns, and the paddings and one place of each other visible column
+-- borders, the whole widths of the fixed and lower columns, and the paddings and one place of each other visible column
 abbrev pub wider_total : TableValue → Steps → ℕ
 wider_total table steps = border_count table.style (visible_count table) + least_with_steps (visible_needs table) steps
 

@@ -73,8 +73,8 @@ pub record KeepsParts (table : TableValue) : Type 0 where
   pub delimiter : IsDelimiter table.delimiter
 
 -- the text lines of all cells are UTF-8
-abbrev pub HasTextLines : TableValue → Type 0
-HasTextLines table =
+abbrev pub HasWholeTexts : TableValue → Type 0
+HasWholeTexts table =
     All (λ (row : RowValue). All (λ (cell : CellValue). All IsUtf8 cell.text_lines) row.cells) (header_and_rows table)
 
 -- the columns grow to the cells of each row
@@ -147,16 +147,16 @@ abbrev pub column_cells : TableValue → ℕ → List CellValue
 column_cells table i = filter_map (λ (row : RowValue). slice_get row.cells i) (seen_rows table)
 
 -- the greatest measure of a cell's text lines, at least 1 and at most 65535
-abbrev pub cell_content : CellValue → ℕ
-cell_content cell = max 1 (min 65535 (greatest (map measure cell.text_lines)))
+abbrev pub cell_content_width : CellValue → ℕ
+cell_content_width cell = max 1 (min 65535 (greatest (map measure cell.text_lines)))
 
 -- the content of the column at position i: the greatest of its cells, 0 where it has none
-abbrev pub column_content : TableValue → ℕ → ℕ
-column_content table i = greatest (map cell_content (column_cells table i))
+abbrev pub column_content_width : TableValue → ℕ → ℕ
+column_content_width table i = greatest (map cell_content_width (column_cells table i))
 
 -- the content of each column, in list order
 abbrev pub max_content_widths : TableValue → List ℕ
-max_content_widths table = map (column_content table) (range_with_len 0 (length table.columns))
+max_content_widths table = map (column_content_width table) (range_with_len 0 (length table.columns))
 
 -- the visible columns, each with its position
 abbrev pub visible_columns : TableValue → List (ℕ × ColumnValue)

@@ -1,4 +1,4 @@
--- The widths of columns: early ones, those without a known table width, and what the dynamic widths are asked from.
+-- The widths of columns: fixed ones, those without a known table width, and what the dynamic widths are asked from.
 use Rattle.std.specs.Prelude.{ℕ, ◌+◌, ◌-◌, ◌*◌, ◌/◌, ◌%◌, List, Option, Some, None, unwrap_or, option_map, map, length, nat_lt, nat_le, max, min, if◌then◌else◌}
 use Rattle.std.specs.List.{range_with_len}
 use Rattle.comfy_parts.specs.CellValue.{ColumnValue, column_padding}
@@ -8,7 +8,7 @@ use Rattle.comfy_parts.specs.declared.style.column.Width.{Width}
 use Rattle.comfy_parts.specs.declared.style.column.Width.TheVariants.{Fixed, Percentage}
 use Rattle.comfy_table.specs.Frame.{border_count}
 use Rattle.comfy_table.specs.Lines.{longest_line}
-use Rattle.comfy_table.specs.TableValue.{TableValue, table_width, column_content, visible_columns}
+use Rattle.comfy_table.specs.TableValue.{TableValue, table_width, column_content_width, visible_columns}
 
 -- an even spread of x over k: x / k each, and one more for each of the first x mod k
 abbrev pub even_spread : ℕ → ℕ → List ℕ
@@ -45,20 +45,20 @@ abbrev pub without_padding : ℕ → ℕ → ℕ
 without_padding padding x = max 1 (x - padding)
 
 -- a lower boundary that the content with its padding does not pass is taken at once
-abbrev pub early_by_boundary : ℕ → ℕ → Option ℕ → Option ℕ
-early_by_boundary content padding None = None
-early_by_boundary content padding (Some l) = if nat_le (content + padding) l then Some (without_padding padding l) else None
+abbrev pub fixed_by_boundary : ℕ → ℕ → Option ℕ → Option ℕ
+fixed_by_boundary content padding None = None
+fixed_by_boundary content padding (Some l) = if nat_le (content + padding) l then Some (without_padding padding l) else None
 
--- the early width of a column: its content's, its resolved absolute width, or its resolved lower boundary
-abbrev pub early_by_constraint : TableValue → ℕ → ℕ → ℕ → Option ColumnConstraint → Option ℕ
-early_by_constraint table n content padding (Some ContentWidth) = Some (max 1 content)
-early_by_constraint table n content padding (Some (Absolute x)) = option_map (without_padding padding) (resolved_width table n x)
-early_by_constraint table n content padding constraint = early_by_boundary content padding (lower_boundary table n constraint)
+-- the fixed width of a column: its content's, its resolved absolute width, or its resolved lower boundary
+abbrev pub fixed_by_constraint : TableValue → ℕ → ℕ → ℕ → Option ColumnConstraint → Option ℕ
+fixed_by_constraint table n content padding (Some ContentWidth) = Some (max 1 content)
+fixed_by_constraint table n content padding (Some (Absolute x)) = option_map (without_padding padding) (resolved_width table n x)
+fixed_by_constraint table n content padding constraint = fixed_by_boundary content padding (lower_boundary table n constraint)
 
--- the early width of a visible column, where it has one
-abbrev pub early_width : TableValue → ℕ × ColumnValue → Option ℕ
-early_width table p =
-    early_by_constraint table (visible_count table) (column_content table p.0) (column_padding p.1) p.1.constraint
+-- the fixed width of a visible column, where it has one
+abbrev pub fixed_width : TableValue → ℕ × ColumnValue → Option ℕ
+fixed_width table p =
+    fixed_by_constraint table (visible_count table) (column_content_width table p.0) (column_padding p.1) p.1.constraint
 
 -- the content, but the upper boundary less the paddings where that boundary is below the content
 abbrev pub capped_content : ℕ → ℕ → Option ℕ → ℕ
@@ -68,7 +68,7 @@ capped_content content padding (Some u) = if nat_lt u content then without_paddi
 -- the width of a visible column that is arranged by its content alone
 abbrev pub disabled_width : TableValue → ℕ × ColumnValue → ℕ
 disabled_width table p =
-    unwrap_or (early_width table p) (capped_content (column_content table p.0) (column_padding p.1) (upper_boundary table (visible_count table) p.1.constraint))
+    unwrap_or (fixed_width table p) (capped_content (column_content_width table p.0) (column_padding p.1) (upper_boundary table (visible_count table) p.1.constraint))
 
 -- what a dynamic width of a visible column depends on
 pub record ColumnNeeds : Type 0 where
@@ -76,8 +76,8 @@ pub record ColumnNeeds : Type 0 where
   pub content : ℕ
   -- left and right padding
   pub padding : ℕ
-  -- the early width, the resolved lower and the resolved upper boundary, where there are such
-  pub early : Option ℕ
+  -- the fixed width, the resolved lower and the resolved upper boundary, where there are such
+  pub fixed : Option ℕ
   pub lower : Option ℕ
   pub upper : Option ℕ
   -- the longest line of its cells at a width
@@ -86,7 +86,7 @@ pub record ColumnNeeds : Type 0 where
 -- the needs of a visible column
 abbrev pub needs_of : TableValue → ℕ × ColumnValue → ColumnNeeds
 needs_of table p =
-    record { content = column_content table p.0; padding = column_padding p.1; early = early_width table p; lower = lower_boundary table (visible_count table) p.1.constraint; upper = upper_boundary table (visible_count table) p.1.constraint; longest = longest_line table p.0 p.1.delimiter }
+    record { content = column_content_width table p.0; padding = column_padding p.1; fixed = fixed_width table p; lower = lower_boundary table (visible_count table) p.1.constraint; upper = upper_boundary table (visible_count table) p.1.constraint; longest = longest_line table p.0 p.1.delimiter }
 
 -- the needs of the visible columns, in list order
 abbrev pub visible_needs : TableValue → List ColumnNeeds

@@ -13,7 +13,7 @@ ghost use Rattle.comfy_table.specs.Widths.{ColumnNeeds};
 pub use comfy_parts::laws::{
     active_sequences_are_resumed, cut_lines_are_full, head_is_longest, lines_are_few,
     lines_are_fewest, lines_fit, lines_leave_no_sequence_open, narrow_elements_stay_whole,
-    neighbours_fill_a_line, printable_is_even, printable_measures_its_length,
+    neighbours_fill_a_line, printable_adds_one_column_each, printable_measures_its_length,
     sequences_are_taken_out_in_one_pass, sequences_count_nothing, wrapped_lines_are_one_list,
 };
 

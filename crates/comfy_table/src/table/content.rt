@@ -1,8 +1,8 @@
 //! How wide the contents of a column are.
 
 ghost use Rattle.std.specs.Prelude.{◌≡◌, IfOk};
-ghost use Rattle.comfy_table.specs.TableValue.{cell_content, column_content, max_content_widths};
-ghost use Rattle.comfy_table.specs.Contents.{row_content, rows_content};
+ghost use Rattle.comfy_table.specs.TableValue.{cell_content_width, column_content_width, max_content_widths};
+ghost use Rattle.comfy_table.specs.Contents.{row_content_width, rows_content_width};
 
 use crate::table::Table;
 use comfy_parts::content_split::measure_text_width;
@@ -10,12 +10,12 @@ use comfy_parts::{Cell, Result, Row};
 
 /// The greatest measure of a text line of the column at a position, over header and rows. Each cell counts at least 1,
 /// a measure above 65535 counts 65535, and a column without a cell gives 0.
-pub(crate) fn column_content(table: &Table, position: usize) -> u16
-    ensures { result ≡ column_content table.now position }
+pub(crate) fn column_content_width(table: &Table, position: usize) -> u16
+    ensures { result ≡ column_content_width table.now position }
 {
-    let below = rows_content(table.rows.as_slice(), position);
+    let below = rows_content_width(table.rows.as_slice(), position);
     match &table.header {
-        Some(header) => row_content(header, position).max(below),
+        Some(header) => row_content_width(header, position).max(below),
         None => below,
     }
 }
@@ -30,36 +30,36 @@ impl Table {
         let count = self.columns.len();
         let mut widths = Vec::new(*self.columns.allocator());
         for position in 0..count {
-            widths.push(column_content(self, position))?;
+            widths.push(column_content_width(self, position))?;
         }
         Ok(widths)
     }
 }
 
 // The greatest content of some rows at a position.
-fn rows_content(rows: &[Row], position: usize) -> u16
-    ensures { result ≡ rows_content rows.now position }
+fn rows_content_width(rows: &[Row], position: usize) -> u16
+    ensures { result ≡ rows_content_width rows.now position }
 {
     let mut widest = 0;
     for row in rows {
-        widest = row_content(row, position).max(widest);
+        widest = row_content_width(row, position).max(widest);
     }
     widest
 }
 
 // The content of a row's cell at a position, 0 where there is none.
-fn row_content(row: &Row, position: usize) -> u16
-    ensures { result ≡ row_content row.now position }
+fn row_content_width(row: &Row, position: usize) -> u16
+    ensures { result ≡ row_content_width row.now position }
 {
     match row.cell_iter().as_slice().get(position) {
-        Some(cell) => cell_content(cell),
+        Some(cell) => cell_content_width(cell),
         None => 0,
     }
 }
 
 // The greatest measure of a cell's text lines, at least 1 and at most 65535.
-fn cell_content(cell: &Cell) -> u16
-    ensures { result ≡ cell_content cell.now }
+fn cell_content_width(cell: &Cell) -> u16
+    ensures { result ≡ cell_content_width cell.now }
 {
     let lines = cell.text_lines();
     let mut widest = 1;

@@ -7,11 +7,11 @@ ghost use Rattle.comfy_table.specs.Widths.{visible_count};
 
 pub mod constraint;
 mod disabled;
-mod early;
+mod fixed;
 pub mod helper;
 
 use crate::table::Table;
-use crate::table::content::column_content;
+use crate::table::content::column_content_width;
 use comfy_parts::content_split::ColumnDisplayInfo;
 use comfy_parts::{Column, Result};
 use disabled::disabled_width;
@@ -36,7 +36,7 @@ fn width_by_content(table: &Table, position: usize, column: &Column, visible: us
     requires { visible ≡ visible_count table.now }
     ensures { result ≡ width_by_content table.now (position, column.now) }
 {
-    let content = column_content(table, position);
+    let content = column_content_width(table, position);
     if column.is_hidden() {
         content.max(1)
     } else {

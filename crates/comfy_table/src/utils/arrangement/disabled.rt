@@ -2,20 +2,20 @@
 
 ghost use Rattle.std.specs.Prelude.{◌≡◌, unwrap_or};
 ghost use Rattle.comfy_parts.specs.CellValue.{column_padding};
-ghost use Rattle.comfy_table.specs.Widths.{capped_content, early_by_constraint, upper_boundary};
+ghost use Rattle.comfy_table.specs.Widths.{capped_content, fixed_by_constraint, upper_boundary};
 
 use crate::table::Table;
 use crate::utils::arrangement::constraint::max;
-use crate::utils::arrangement::early::early_width;
+use crate::utils::arrangement::fixed::fixed_width;
 use crate::utils::arrangement::helper::absolute_width_with_padding;
 use comfy_parts::Column;
 
-// The content width of a visible column: its early one, else its upper boundary's where the content passes that boundary,
+// The content width of a visible column: its fixed one, else its upper boundary's where the content passes that boundary,
 // else its content's.
 pub fn disabled_width(table: &Table, column: &Column, content: u16, visible_columns: usize) -> u16
-    ensures { result ≡ unwrap_or (early_by_constraint table.now visible_columns content (column_padding column.now) column.now.constraint) (capped_content content (column_padding column.now) (upper_boundary table.now visible_columns column.now.constraint)) }
+    ensures { result ≡ unwrap_or (fixed_by_constraint table.now visible_columns content (column_padding column.now) column.now.constraint) (capped_content content (column_padding column.now) (upper_boundary table.now visible_columns column.now.constraint)) }
 {
-    if let Some(width) = early_width(table, column, content, visible_columns) {
+    if let Some(width) = fixed_width(table, column, content, visible_columns) {
         return width;
     }
     match max(table, &column.constraint().copied(), visible_columns) {

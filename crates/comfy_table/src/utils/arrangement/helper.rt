@@ -2,7 +2,7 @@
 
 ghost use Rattle.std.specs.Prelude.{◌≡◌};
 ghost use Rattle.comfy_parts.specs.CellValue.{column_padding, visible_among};
-ghost use Rattle.comfy_table.specs.Frame.{borders_stopped};
+ghost use Rattle.comfy_table.specs.Frame.{saturated_border_count};
 ghost use Rattle.comfy_table.specs.Lines.{cell_delimiter};
 ghost use Rattle.comfy_table.specs.Widths.{without_padding};
 
@@ -26,7 +26,7 @@ pub fn count_visible_columns(columns: &[Column]) -> usize
 
 /// How many border characters a line over so many visible columns has, or the greatest `usize` where there are more.
 pub fn count_border_columns(table: &Table, visible_columns: usize) -> usize
-    ensures { result ≡ borders_stopped table.now.style visible_columns }
+    ensures { result ≡ saturated_border_count table.now.style visible_columns }
 {
     let left = usize::from(table.style.draws_left_border());
     let right = usize::from(table.style.draws_right_border());

@@ -2,7 +2,7 @@
 
 ghost use Rattle.std.specs.Prelude.{◌≡◌, ◌++◌, IfOk, OnOk, map, string_bytes};
 ghost use Rattle.comfy_parts.specs.Wrapping.{lines_of_text};
-ghost use Rattle.comfy_table.specs.Lines.{cell_lines, cut_at, cut_at_height, cut_line};
+ghost use Rattle.comfy_table.specs.Lines.{cell_lines, cut_to_limit, cut_to_height, cut_line};
 
 use comfy_parts::content_split::{
     ColumnDisplayInfo, measure_text_width, split_line, split_long_word,
@@ -46,29 +46,29 @@ fn push_lines_of_text(
 }
 
 // The first `max_height` lines, the last of them cut, where there are more.
-pub fn cut_at(
+pub fn cut_to_limit(
     alloc: Global,
     lines: Vec<String>,
     max_height: Option<usize>,
     width: u16,
     indicator: &str,
 ) -> Result<Vec<String>>
-    ensures { IfOk result (λ kept. map string_bytes kept.items ≡ cut_at max_height width indicator.now (map string_bytes lines.items)) }
+    ensures { IfOk result (λ kept. map string_bytes kept.items ≡ cut_to_limit max_height width indicator.now (map string_bytes lines.items)) }
 {
     match max_height {
-        Some(height) => cut_at_height(alloc, lines, height, width, indicator),
+        Some(height) => cut_to_height(alloc, lines, height, width, indicator),
         None => Ok(lines),
     }
 }
 
-fn cut_at_height(
+fn cut_to_height(
     alloc: Global,
     lines: Vec<String>,
     height: usize,
     width: u16,
     indicator: &str,
 ) -> Result<Vec<String>>
-    ensures { IfOk result (λ kept. map string_bytes kept.items ≡ cut_at_height height width indicator.now (map string_bytes lines.items)) }
+    ensures { IfOk result (λ kept. map string_bytes kept.items ≡ cut_to_height height width indicator.now (map string_bytes lines.items)) }
 {
     let mut kept = lines;
     if kept.len() <= height {

@@ -6,8 +6,8 @@ ghost use Rattle.comfy_table.specs.Pieces.{content_lines, row_lines, visible_inf
 ghost use Rattle.comfy_table.specs.DrawnCells.{drawn_cell, greatest_height, height_of, lines_of_optional, piece_at};
 
 use crate::table::Table;
-use crate::utils::formatting::cell_lines::{cell_lines, cut_at};
-use crate::utils::formatting::piece::{filling, piece};
+use crate::utils::formatting::cell_lines::{cell_lines, cut_to_limit};
+use crate::utils::formatting::piece::{blank_piece, piece};
 use comfy_parts::content_split::ColumnDisplayInfo;
 use comfy_parts::{Cell, Result, Row};
 use std::alloc::Global;
@@ -48,7 +48,7 @@ impl<'a> DrawnCell<'a> {
     {
         match (self.cell, self.lines.get(line)) {
             (Some(cell), Some(text)) => piece(alloc, table, cell, self.info, text.as_str()),
-            _ => filling(alloc, self.info),
+            _ => blank_piece(alloc, self.info),
         }
     }
 }
@@ -158,7 +158,7 @@ fn row_cell_lines(
     // Reading a field opens the table, which tells that no call sets custom styling yet.
     let _ = &table.custom_styling;
     let lines = cell_lines(alloc, cell, info, delimiter(cell, info, table))?;
-    cut_at(
+    cut_to_limit(
         alloc,
         lines,
         row.height_limit(),

@@ -2,7 +2,7 @@
 
 ghost use Rattle.std.specs.Prelude.{◌≡◌, ◌++◌, IfOk, OnOk, string_bytes};
 ghost use Rattle.comfy_parts.specs.Text.{spaces};
-ghost use Rattle.comfy_table.specs.Pieces.{cell_alignment, filling, free_before, padded, piece};
+ghost use Rattle.comfy_table.specs.Pieces.{cell_alignment, blank_piece, free_before, padded, piece};
 
 use crate::table::Table;
 use crate::utils::formatting::sequences::styled;
@@ -55,8 +55,8 @@ fn padded(
 }
 
 // What stands where a column has no line.
-pub fn filling(alloc: Global, info: &ColumnDisplayInfo) -> Result<String>
-    ensures { IfOk result (λ text. string_bytes text ≡ filling info.now) }
+pub fn blank_piece(alloc: Global, info: &ColumnDisplayInfo) -> Result<String>
+    ensures { IfOk result (λ text. string_bytes text ≡ blank_piece info.now) }
 {
     let mut text = String::new(alloc);
     push_spaces(&mut text, info.width())?;

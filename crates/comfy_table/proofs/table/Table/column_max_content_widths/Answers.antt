@@ -1,18 +1,18 @@
 use Rattle.std.proofs.Common.{◌≡◌, ℕ, ◌+◌, List, [], ◌∷◌, ◌++◌, length, map, ap, ap₂, arith, sym, ◌∙◌}
 use Rattle.std.proofs.lemmas.List.FromFn.{map-range_with_len_more}
 use Rattle.std.specs.List.{range_with_len}
-use Rattle.comfy_table.specs.TableValue.{TableValue, column_content}
+use Rattle.comfy_table.specs.TableValue.{TableValue, column_content_width}
 use Rattle.comfy_table.proofs.table.Table.column_max_content_widths.Goals as goal
 
 pub loop-position-preserved : goal.loop-position-preserved
 loop-position-preserved c =
     let at : 0 + c.loop-position.position ≡ c.loop-position.position = omega arith in
     c.in_ok-push.ensures.items
-    ∙ ap₂ (λ (ws : List ℕ) (w : ℕ). ws ++ w ∷ []) c.loop-position.invariant c.column_content.ensures
-    ∙ sym (map-range_with_len_more (column_content c.args.self.now) 0 c.loop-position.position c.loop-position.position at)
+    ∙ ap₂ (λ (ws : List ℕ) (w : ℕ). ws ++ w ∷ []) c.loop-position.invariant c.column_content_width.ensures
+    ∙ sym (map-range_with_len_more (column_content_width c.args.self.now) 0 c.loop-position.position c.loop-position.position at)
 
 pub returns : goal.returns
 returns c =
     let all : c.loop-position.position ≡ c.len-count.result = omega arith in
     c.loop-position.invariant
-    ∙ ap (λ n. map (column_content c.args.self.now) (range_with_len 0 n)) (all ∙ c.len-count.ensures ∙ c.self.inside.columns.ok.0 ∙ ap (λ (t : TableValue). length t.columns) c.self.view_is)
+    ∙ ap (λ n. map (column_content_width c.args.self.now) (range_with_len 0 n)) (all ∙ c.len-count.ensures ∙ c.self.inside.columns.ok.0 ∙ ap (λ (t : TableValue). length t.columns) c.self.view_is)

@@ -1,7 +1,7 @@
 use Rattle.std.proofs.Common.{◌≡◌, [], ◌++◌, ◌&&◌, Bool, string_bytes, ap, ◌∙◌, nat_lt}
 use Rattle.std.specs.Prelude.{if◌then◌else◌}
 use Rattle.comfy_parts.specs.Text.{Text}
-use Rattle.comfy_table.proofs.FrameLemmas.{joined-made}
+use Rattle.comfy_table.proofs.FrameLemmas.{between_borders-made}
 use Rattle.comfy_table.proofs.JoinLemmas.{joined_all, joined_more}
 use Rattle.comfy_table.specs.TableValue.{TableValue}
 use Rattle.comfy_parts.specs.Borders.{draws_left_border, draws_right_border, draws_vertical_lines}
@@ -27,7 +27,7 @@ returns c =
     let vertical = c.draws_vertical_lines-vertical.result in
     let line = c.args.line.now in
     let inside = joined_all (λ s. string_bytes s) (if vertical then character line.junction else []) c.args.pieces.now c.loop-position.position (string_bytes c.push_border.new.text) (string_bytes c.loop-position.text) c.loop-position-test.false c.loop-position.invariant in
-    joined-made c.args.table.now.style line.left line.junction line.right (λ s. string_bytes s) c.args.pieces.now
+    between_borders-made c.args.table.now.style line.left line.junction line.right (λ s. string_bytes s) c.args.pieces.now
     c.draws_left_border.result vertical c.draws_right_border.result
     (string_bytes c.new-text.result) (string_bytes c.push_border.new.text) (string_bytes c.loop-position.text) (string_bytes c.push_border-2.new.text)
     (c.draws_left_border.ensures ∙ of_table draws_left_border) (c.draws_vertical_lines-vertical.ensures ∙ of_table draws_vertical_lines) (c.draws_right_border.ensures ∙ of_table draws_right_border)

@@ -3,7 +3,7 @@ use Rattle.std.proofs.lemmas.List.{get_or_default}
 use Rattle.std.specs.List.{repeat}
 use Rattle.std.specs.Prelude.{encode_utf8, if◌then◌else◌}
 use Rattle.comfy_parts.specs.Text.{Text}
-use Rattle.comfy_table.proofs.FrameLemmas.{joined-made}
+use Rattle.comfy_table.proofs.FrameLemmas.{between_borders-made}
 use Rattle.comfy_table.proofs.JoinLemmas.{joined_all, joined_more}
 use Rattle.comfy_table.specs.TableValue.{TableValue}
 use Rattle.comfy_parts.specs.Borders.{draws_left_border, draws_right_border, draws_vertical_lines}
@@ -32,7 +32,7 @@ returns c =
     let line = c.args.line.now in
     let fills = λ (width : ℕ). repeat width (character line.fill) in
     let inside = joined_all fills (if vertical then character line.junction else []) c.args.widths.now c.loop-position.position (string_bytes c.push_border.new.text) (string_bytes c.loop-position.text) c.loop-position-test.false c.loop-position.invariant in
-    joined-made c.args.table.now.style line.left line.junction line.right fills c.args.widths.now
+    between_borders-made c.args.table.now.style line.left line.junction line.right fills c.args.widths.now
     c.draws_left_border.result vertical c.draws_right_border.result
     (string_bytes c.new-text.result) (string_bytes c.push_border.new.text) (string_bytes c.loop-position.text) (string_bytes c.push_border-2.new.text)
     (c.draws_left_border.ensures ∙ of_table draws_left_border) (c.draws_vertical_lines-vertical.ensures ∙ of_table draws_vertical_lines) (c.draws_right_border.ensures ∙ of_table draws_right_border)

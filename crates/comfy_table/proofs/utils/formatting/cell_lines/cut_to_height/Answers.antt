@@ -1,9 +1,9 @@
 use Rattle.std.proofs.Common.{◌≡◌, ◌<◌, ◌-◌, List, [], ◌∷◌, ◌++◌, length, map, take, string_bytes, slice_index_or, vec_len, ap, ap₂, sym, ◌∙◌, arith}
 use Rattle.std.proofs.lemmas.List.{get_or-map, length-map, map-append, take-map}
 use Rattle.comfy_parts.specs.Text.{Text}
-use Rattle.comfy_table.proofs.CutLemmas.{cut_at_height-over}
+use Rattle.comfy_table.proofs.CutLemmas.{cut_to_height-over}
 use Rattle.comfy_table.specs.Lines.{cut_line}
-use Rattle.comfy_table.proofs.utils.formatting.cell_lines.cut_at_height.Goals as goal
+use Rattle.comfy_table.proofs.utils.formatting.cell_lines.cut_to_height.Goals as goal
 
 pub returns : goal.returns
 returns c =
@@ -23,4 +23,4 @@ returns c =
     ap (map string_bytes) c.in_ok-push.ensures.items
     ∙ map-append string_bytes c.truncate.new.self.items (c.in_ok-last.last ∷ [])
     ∙ ap₂ (λ (xs : List Text) (x : Text). xs ++ x ∷ []) kept cut
-    ∙ sym (cut_at_height-over c.args.height c.args.width indicator texts over)
+    ∙ sym (cut_to_height-over c.args.height c.args.width indicator texts over)

@@ -2,7 +2,7 @@
 
 ghost use Rattle.std.specs.Prelude.{◌≡◌};
 ghost use Rattle.comfy_parts.specs.CellValue.{column_padding};
-ghost use Rattle.comfy_table.specs.Widths.{early_by_constraint};
+ghost use Rattle.comfy_table.specs.Widths.{fixed_by_constraint};
 
 use crate::table::Table;
 use crate::utils::arrangement::constraint::{absolute_value_from_width, min};
@@ -12,13 +12,13 @@ use comfy_parts::style::ColumnConstraint;
 
 // The content width that a column has by its constraint alone: its content's, its absolute width's, or that of a lower
 // boundary which the content with its paddings doesn't pass.
-pub fn early_width(
+pub fn fixed_width(
     table: &Table,
     column: &Column,
     content: u16,
     visible_columns: usize,
 ) -> Option<u16>
-    ensures { result ≡ early_by_constraint table.now visible_columns content (column_padding column.now) column.now.constraint }
+    ensures { result ≡ fixed_by_constraint table.now visible_columns content (column_padding column.now) column.now.constraint }
 {
     let constraint = column.constraint().copied();
     match constraint {

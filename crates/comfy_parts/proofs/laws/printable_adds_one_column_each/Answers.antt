@@ -1,5 +1,5 @@
 use Rattle.comfy_parts.proofs.PrintableLemmas.{even-printable}
-use Rattle.comfy_parts.proofs.laws.printable_is_even.Goals as goal
+use Rattle.comfy_parts.proofs.laws.printable_adds_one_column_each.Goals as goal
 
 pub returns : goal.returns
 returns c = even-printable
