@@ -1,12 +1,13 @@
 #!/usr/bin/env python3
-"""Looks for texts whose wrapping takes more than time in proportion to their length.
+"""Looks for texts whose wrapping takes more time than in proportion to their length times their longest grapheme cluster.
 
-    tools/growth.py PROGRAM [TEXTS] [SEED]
+    tools/growth.py WRAP LONGEST [TEXTS] [SEED]
 
-PROGRAM wraps what it reads: the first line is the width (docs/PERFORMANCE.md has its source). Random texts are made of
-up to five parts, of which one or two are repeated, or all. The program's instructions are counted by valgrind at 1,500 and
-at 6,000 characters, and where they grow more than 4.45 times also at 24,000. Such texts are printed with both ratios; four
-is proportion, and the logarithm of the length adds up to three quarters.
+WRAP wraps what it reads: the first line is the width. LONGEST prints the bytes of the longest cluster of what it reads.
+docs/PERFORMANCE.md has the source of both. Random texts are made of up to five parts, of which one or two are repeated,
+or all. The instructions of WRAP are counted by valgrind at 400 and at 1,600 characters, and divided by the bytes of the
+longest cluster. Where this quotient grows more than 5 times it is also counted at 6,400. Such texts are printed with both
+growths; four is proportion, and the logarithm of the length adds up to one.
 """
 import random
 import re
@@ -19,7 +20,7 @@ CHARACTERS = (
     "\u2d7f\u0644\u0627\u05d0\u05dc\u1a10\U00016D63\U00016D67\U00016D68\ua4f8\ua4fc\U00010C03\U00010C32\u5e74\u200b"
     "\u0338\u2018"
 )
-START = 135_000  # what the program needs for an empty text
+START = 137_000  # what the program needs for an empty text
 
 
 def some(least, most):
@@ -36,7 +37,7 @@ def shape():
         return (a, u, "..", b), lambda n: a + (u * n)[:n] + b
     if kind == 2:
         return (a, u, "..", b, v, "..", c), lambda n: a + (u * n)[: n // 2] + b + (v * n)[: n // 2] + c
-    m = random.choice([20, 100, 400])
+    m = random.choice([10, 30, 100])
     return (a, u, m, v), lambda n: ((a + u * m + v) * n)[:n]
 
 
@@ -49,16 +50,25 @@ def instructions(program, width, text):
     return int(re.search(rb"Collected : (\d+)", run.stderr).group(1)) - START
 
 
+def longest_cluster(program, text):
+    return int(subprocess.run([program], input=text.encode(), capture_output=True).stdout)
+
+
+def cost(wrap, longest, width, text):
+    """The instructions for each byte of the longest cluster."""
+    return instructions(wrap, width, text) / longest_cluster(longest, text)
+
+
 def main():
-    program = sys.argv[1]
-    texts = int(sys.argv[2]) if len(sys.argv) > 2 else 100
-    random.seed(int(sys.argv[3]) if len(sys.argv) > 3 else 1)
+    wrap, longest = sys.argv[1:3]
+    texts = int(sys.argv[3]) if len(sys.argv) > 3 else 100
+    random.seed(int(sys.argv[4]) if len(sys.argv) > 4 else 1)
     for _ in range(texts):
         name, text = shape()
         width = random.choice([1, 1, 1, 2, 2, 3, 5, 10])
-        few, more = (instructions(program, width, text(n)) for n in (1_500, 6_000))
-        if more > 4.45 * few:
-            most = instructions(program, width, text(24_000))
+        few, more = (cost(wrap, longest, width, text(n)) for n in (400, 1_600))
+        if more > 5 * few:
+            most = cost(wrap, longest, width, text(6_400))
             print(width, ascii(name), f"{more / few:.2f} {most / more:.2f}", flush=True)
     print(f"{texts} texts")
 

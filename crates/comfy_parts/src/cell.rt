@@ -41,17 +41,13 @@ impl Cell {
         Cell::new_owned(alloc, content.to_string(alloc)?)
     }
 
-    /// The cell of a text: its text lines are what stands between the line feeds.
+    /// The cell of a text: its text lines are what stands between the line feeds. A text without one keeps its `String`.
     pub fn new_owned(alloc: Global, text: String) -> Result<Cell>
         ensures value { IfOk result (λ cell. cell ≡ plain_cell (string_bytes text)) }
         ensures content { IfOk result (λ cell. content_of cell ≡ string_bytes text) }
     {
-        let mut text_lines: Vec<String> = Vec::new(alloc);
-        for line in text.as_str().split('\n') {
-            text_lines.push(String::from_str(alloc, line)?)?;
-        }
         Ok(Cell {
-            text_lines,
+            text_lines: text_lines_of(alloc, text)?,
             delimiter: None,
             alignment: None,
             foreground: None,
@@ -134,4 +130,19 @@ impl Cell {
     {
         self.attributes.as_slice()
     }
+}
+
+// What stands between the line feeds of a text. A text without one is kept, and not copied.
+fn text_lines_of(alloc: Global, text: String) -> Result<Vec<String>>
+    ensures { IfOk result (λ text_lines. map string_bytes text_lines.items ≡ (plain_cell (string_bytes text)).text_lines) }
+{
+    let mut text_lines = Vec::new(alloc);
+    if !text.as_str().contains('\n') {
+        text_lines.push(text)?;
+        return Ok(text_lines);
+    }
+    for line in text.as_str().split('\n') {
+        text_lines.push(String::from_str(alloc, line)?)?;
+    }
+    Ok(text_lines)
 }

@@ -65,7 +65,7 @@ impl IntoCell for &str {
     ghost cell_of = { λ text. plain_cell text.now };
 
     fn into_cell(self, alloc: Global) -> Result<Cell> {
-        Cell::new(alloc, self)
+        Cell::new_owned(alloc, String::from_str(alloc, self)?)
     }
 }
 

@@ -1,4 +1,4 @@
--- What a call of `run` may answer, by what happened in it.
+-- What a call of `run` may return, by what happened in it.
 use Rattle.std.specs.Prelude.{◌≡◌, ℕ, ◌<◌, Bool, true, false, [], ◌++◌, Option, length, IsUtf8}
 use Rattle.comfy_parts.specs.Text.{Text}
 use Rattle.comfy_parts.specs.declared.style.table.ContentArrangement.{ContentArrangement}

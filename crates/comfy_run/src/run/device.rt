@@ -18,7 +18,7 @@ pub trait Source {
     // whether its end was read: whether a call answered 0 for a buffer that isn't empty
     ghost end_was_read: { Self → Bool };
 
-    /// Puts bytes at the front of the buffer, and answers how many; 0 for a buffer that isn't empty
+    /// Puts bytes at the front of the buffer, and returns how many; 0 for a buffer that isn't empty
     /// is the end.
     fn read(&mut self, buffer: &mut [u8]) -> Result<usize, DeviceFault>
         ensures bound { IfOk result (λ count. count ≤ length buffer.old) }
@@ -40,7 +40,7 @@ pub trait Sink {
     // whether it has failed
     ghost has_failed: { Self → Bool };
 
-    /// Takes bytes from the front of the piece, and answers how many: at least one of a piece that
+    /// Takes bytes from the front of the piece, and returns how many: at least one of a piece that
     /// isn't empty. A call that faults takes none.
     fn write(&mut self, piece: &[u8]) -> Result<usize, DeviceFault>
         ensures bound { IfOk result (λ count. count ≤ length piece.now) }

@@ -9,9 +9,9 @@ use comfy_table::{ContentArrangement, TableStyle};
 /// How the table of an input is drawn.
 #[derive(Clone, Copy, Debug)]
 pub struct Settings {
-    /// The width of the table in places; none where none is kept.
+    /// The width of the table in columns of the terminal; none where none is kept.
     pub width: Option<u16>,
-    /// How the widths of the columns are found. Each is drawn as `Disabled` so far.
+    /// How the widths of the columns are found. Each arrangement is drawn as `Disabled` so far.
     pub arrangement: ContentArrangement,
     /// The characters of the frame.
     pub style: TableStyle,

@@ -1,10 +1,10 @@
 //! What tables, columns and constraints tell.
 
 use super::support::table_of_one_cell;
+use comfy_parts::Column;
 use comfy_parts::content_split::ColumnDisplayInfo;
 use comfy_parts::style::presets::{ASCII_FULL, ASCII_NO_BORDERS, NOTHING};
 use comfy_parts::style::{CellAlignment, ColumnConstraint, LineStyle, TableStyle, Width};
-use comfy_parts::Column;
 use comfy_table::Table;
 use comfy_table::utils::arrangement::arrange_content;
 use comfy_table::utils::arrangement::constraint::{max, min};
