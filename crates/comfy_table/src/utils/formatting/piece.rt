@@ -1,6 +1,6 @@
 //! A line of a cell as it stands in its column.
 
-ghost use Rattle.std.specs.Prelude.{◌≡◌, ◌+◌, ◌-◌, ◌++◌, OnOk, string_bytes};
+ghost use Rattle.std.specs.Prelude.{◌≡◌, ◌+◌, ◌-◌, ◌≤◌, ◌++◌, OnOk, string_bytes};
 ghost use Rattle.comfy_parts.specs.Text.{spaces};
 ghost use Rattle.comfy_table.specs.Pieces.{cell_alignment, free_before, piece};
 
@@ -21,10 +21,7 @@ pub fn push_piece(
 ) -> Result<()>
     ensures { OnOk result (string_bytes text.new ≡ string_bytes text.old ++ piece table.now cell.now info.now line.now) }
 {
-    let free = usize::from(info.content_width).saturating_sub(measure_text_width(line));
-    let before = free_before(cell_alignment(cell, info), free);
-    let left = usize::from(info.padding.0) + before;
-    let right = free - before + usize::from(info.padding.1);
+    let (left, right) = spaces_beside(cell, info, measure_text_width(line));
     if !table.writes_styles() {
         return push_padded(text, left, line, right);
     }
@@ -38,6 +35,17 @@ pub fn push_piece(
     push_style_begin(text, cell)?;
     push_padded(text, left, line, right)?;
     push_style_end(text, cell)
+}
+
+// The spaces before and behind a line of this measure: those that its alignment leaves, and the paddings.
+fn spaces_beside(cell: &Cell, info: &ColumnDisplayInfo, width: usize) -> (usize, usize)
+    ensures left { result.0 ≡ info.now.padding.0 + free_before (cell_alignment cell.now info.now) (info.now.content_width - width) }
+    ensures right { result.1 ≡ info.now.content_width - width - free_before (cell_alignment cell.now info.now) (info.now.content_width - width) + info.now.padding.1 }
+{
+    let free = (info.content_width as usize).saturating_sub(width);
+    let before = free_before(cell_alignment(cell, info), free);
+    let (left, right) = info.padding;
+    (left as usize + before, free - before + right as usize)
 }
 
 // Appends a line between spaces.
@@ -84,6 +92,7 @@ fn cell_alignment(cell: &Cell, info: &ColumnDisplayInfo) -> CellAlignment
 // Of the free columns those before the line: in the centre an odd one goes before it.
 fn free_before(alignment: CellAlignment, free: usize) -> usize
     ensures value { result ≡ free_before alignment free }
+    ensures bound { result ≤ free }
 {
     match alignment {
         CellAlignment::Left => 0,

@@ -1,0 +1,91 @@
+-- Spaces that are written in runs, and the pieces that they make.
+use Rattle.std.proofs.Common.{◌≡◌, Bool, true, false, ℕ, ◌+◌, ◌-◌, ◌<◌, ◌≤◌, ◌++◌, List, length, take, ap, ap₂, sym, ◌∙◌, arith, append_assoc, slice_index_or}
+use Rattle.std.proofs.lemmas.List.{get_or-replicate, length-replicate, replicate-append-replicate, take-replicate}
+use Rattle.std.specs.Prelude.{if◌then◌else◌, Result, Ok, Err, OnOk}
+use Rattle.comfy_parts.specs.CellValue.{CellValue, ColumnInfo}
+use Rattle.comfy_parts.specs.Text.{Text, spaces}
+use Rattle.comfy_table.specs.Pieces.{cell_alignment, free_before, free_places, padded, piece}
+use Rattle.comfy_table.specs.Styling.{styled}
+use Rattle.comfy_table.specs.TableValue.{TableValue, should_style}
+
+-- two runs side by side
+pub spaces-append : (m n : ℕ) → spaces m ++ spaces n ≡ spaces (m + n)
+spaces-append m n = replicate-append-replicate m n 0x20
+
+-- a run of n, and what is left of more than n
+pub spaces-taken : (text run : Text) (n left : ℕ) → run ≡ spaces n → n < left → (text ++ run) ++ spaces (left - length run) ≡ text ++ spaces left
+spaces-taken text run n left is more =
+    let size : length run ≡ n = ap length is ∙ length-replicate n 0x20 in
+    let all : n + (left - length run) ≡ left = omega (arith, size, more) in
+    append_assoc text run (spaces (left - length run))
+    ∙ ap (λ (t : Text). text ++ (t ++ spaces (left - length run))) is
+    ∙ ap (λ (t : Text). text ++ t) (spaces-append n (left - length run) ∙ ap spaces all)
+
+-- the front of a run
+pub spaces-front : (run : Text) (n left : ℕ) → run ≡ spaces n → left ≤ length run → take left run ≡ spaces left
+spaces-front run n left is within =
+    let size : length run ≡ n = ap length is ∙ length-replicate n 0x20 in
+    ap (take left) is ∙ take-replicate left n 0x20 (omega (arith, size, within))
+
+-- each byte of a run is a space
+pub space-at : (run : Text) (n i d : ℕ) → run ≡ spaces n → i < length run → slice_index_or run i d ≡ 0x20
+space-at run n i d is below =
+    let size : length run ≡ n = ap length is ∙ length-replicate n 0x20 in
+    ap (λ (t : Text). slice_index_or t i d) is ∙ get_or-replicate n i 0x20 d (omega (arith, size, below))
+
+module _ (cell : CellValue) (info : ColumnInfo) (line : Text) (left right : ℕ)
+    (is_left : left ≡ info.padding.0 + free_before (cell_alignment cell info) (free_places info line))
+    (is_right : right ≡ free_places info line - free_before (cell_alignment cell info) (free_places info line) + info.padding.1) where
+  -- a text between the spaces that a line leaves and the paddings
+  pub padded-made : (text : Text) → spaces left ++ (text ++ spaces right) ≡ padded cell info line text
+  padded-made text =
+      let before = free_before (cell_alignment cell info) (free_places info line) in
+      ap (λ n. spaces n ++ (text ++ spaces right)) is_left
+      ∙ ap (λ n. spaces (info.padding.0 + before) ++ (text ++ spaces n)) is_right
+      ∙ ap (λ (t : Text). t ++ (text ++ spaces (free_places info line - before + info.padding.1))) (sym (spaces-append info.padding.0 before))
+      ∙ append_assoc (spaces info.padding.0) (spaces before) (text ++ spaces (free_places info line - before + info.padding.1))
+      ∙ ap (λ (t : Text). spaces info.padding.0 ++ (spaces before ++ (text ++ t))) (sym (spaces-append (free_places info line - before) info.padding.1))
+
+  -- the piece of a line without styling, with its line styled, and styled as a whole
+  pub plain-made : (table : TableValue) → should_style table ≡ false → spaces left ++ (line ++ spaces right) ≡ piece table cell info line
+  plain-made table off =
+      padded-made line
+      ∙ ap (λ (b : Bool). if b then (if table.style_text_only then padded cell info line (styled cell line) else styled cell (padded cell info line line)) else padded cell info line line) (sym off)
+
+  pub line-styled : (table : TableValue) → should_style table ≡ true → table.style_text_only ≡ true → spaces left ++ (styled cell line ++ spaces right) ≡ piece table cell info line
+  line-styled table on alone =
+      padded-made (styled cell line)
+      ∙ ap₂ (λ (b c : Bool). if b then (if c then padded cell info line (styled cell line) else styled cell (padded cell info line line)) else padded cell info line line) (sym on) (sym alone)
+
+  pub all-styled : (table : TableValue) → should_style table ≡ true → table.style_text_only ≡ false → styled cell (spaces left ++ (line ++ spaces right)) ≡ piece table cell info line
+  all-styled table on whole =
+      ap (styled cell) (padded-made line)
+      ∙ ap₂ (λ (b c : Bool). if b then (if c then padded cell info line (styled cell line) else styled cell (padded cell info line line)) else padded cell info line line) (sym on) (sym whole)
+
+-- what a call appends, said in another way
+pub pushed-as : {T E : Type 0} (r : Result T E) (new old made wanted : Text) → made ≡ wanted → OnOk r (new ≡ old ++ made) → OnOk r (new ≡ old ++ wanted)
+pushed-as (Ok x) new old made wanted same pushed = pushed ∙ ap (λ (t : Text). old ++ t) same
+pushed-as (Err e) new old made wanted same pushed = pushed
+
+-- five texts appended in turn
+pub five-pushed : (old a b c d one two three four new : Text) (e : Text)
+    → one ≡ old ++ a → two ≡ one ++ b → three ≡ two ++ c → four ≡ three ++ d → new ≡ four ++ e → new ≡ old ++ (a ++ ((b ++ (c ++ d)) ++ e))
+five-pushed old a b c d one two three four new e first second third fourth fifth =
+    fifth
+    ∙ ap (λ (t : Text). t ++ e) (fourth ∙ ap (λ (t : Text). t ++ d) (third ∙ ap (λ (t : Text). t ++ c) (second ∙ ap (λ (t : Text). t ++ b) first)))
+    ∙ ap (λ (t : Text). t ++ e) (append_assoc ((old ++ a) ++ b) c d ∙ append_assoc (old ++ a) b (c ++ d))
+    ∙ append_assoc (old ++ a) (b ++ (c ++ d)) e
+    ∙ append_assoc old a ((b ++ (c ++ d)) ++ e)
+
+-- three texts appended in turn
+pub three-pushed : (old a b one two new : Text) (c : Text) → one ≡ old ++ a → two ≡ one ++ b → new ≡ two ++ c → new ≡ old ++ (a ++ (b ++ c))
+three-pushed old a b one two new c first second third =
+    third
+    ∙ ap (λ (t : Text). t ++ c) (second ∙ ap (λ (t : Text). t ++ b) first)
+    ∙ append_assoc (old ++ a) b c
+    ∙ append_assoc old a (b ++ c)
+
+-- the last text appended on success
+pub last-pushed : {T E : Type 0} (r : Result T E) (new before c : Text) (wanted : Text) → (new ≡ before ++ c → new ≡ wanted) → OnOk r (new ≡ before ++ c) → OnOk r (new ≡ wanted)
+last-pushed (Ok x) new before c wanted gives pushed = gives pushed
+last-pushed (Err e) new before c wanted gives pushed = pushed
