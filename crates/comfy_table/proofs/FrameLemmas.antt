@@ -1,23 +1,46 @@
 -- Lines that are made of their borders and pieces one after another.
 use Rattle.std.proofs.Common.{◌≡◌, ℕ, Bool, List, [], ◌++◌, Option, map, ap, ◌∙◌, sym, append_assoc}
 use Rattle.std.specs.List.{join_by}
-use Rattle.std.specs.Prelude.{if◌then◌else◌}
+use Rattle.std.specs.Prelude.{if◌then◌else◌, Result, Ok, Err, OnOk}
 use Rattle.comfy_parts.specs.Text.{Text}
 use Rattle.comfy_parts.specs.declared.style.table_style.TableStyle.{TableStyle}
 use Rattle.comfy_table.proofs.JoinLemmas.{join_by-map}
 use Rattle.comfy_table.specs.Frame.{character, draws_left_border, draws_right_border, draws_vertical_lines, between_borders}
 
--- the left border, the pieces with what stands between them, the right border
+-- behind a text: the left border, the pieces with what stands between them, the right border
+between_borders-behind : {X : Type 0} (style : TableStyle) (left junction right : Option ℕ) (f : X → Text) (xs : List X) (l v r : Bool) (start before inside whole : Text)
+    → l ≡ draws_left_border style → v ≡ draws_vertical_lines style → r ≡ draws_right_border style
+    → before ≡ start ++ (if l then character left else [])
+    → inside ≡ before ++ join_by f (if v then character junction else []) xs
+    → whole ≡ inside ++ (if r then character right else [])
+    → whole ≡ start ++ between_borders style left junction right (map f xs)
+between_borders-behind {X} style left junction right f xs l v r start before inside whole el ev er first second third =
+    third
+    ∙ ap (λ (t : Text). t ++ (if r then character right else [])) second
+    ∙ append_assoc before (join_by f (if v then character junction else []) xs) (if r then character right else [])
+    ∙ ap (λ (t : Text). t ++ (join_by f (if v then character junction else []) xs ++ (if r then character right else []))) first
+    ∙ append_assoc start (if l then character left else []) (join_by f (if v then character junction else []) xs ++ (if r then character right else []))
+    ∙ (λ i. start ++ ((if el i then character left else []) ++ (join_by f (if ev i then character junction else []) xs ++ (if er i then character right else []))))
+    ∙ ap (λ (t : Text). start ++ ((if draws_left_border style then character left else []) ++ (t ++ (if draws_right_border style then character right else [])))) (sym (join_by-map (λ (p : Text). p) f (if draws_vertical_lines style then character junction else []) xs))
+
+-- the same of a line of its own
 pub between_borders-made : {X : Type 0} (style : TableStyle) (left junction right : Option ℕ) (f : X → Text) (xs : List X) (l v r : Bool) (start before inside whole : Text)
     → l ≡ draws_left_border style → v ≡ draws_vertical_lines style → r ≡ draws_right_border style
     → start ≡ [] → before ≡ start ++ (if l then character left else [])
     → inside ≡ before ++ join_by f (if v then character junction else []) xs
     → whole ≡ inside ++ (if r then character right else [])
     → whole ≡ between_borders style left junction right (map f xs)
-between_borders-made {X} style left junction right f xs l v r start before inside whole el ev er none first second third =
-    third
-    ∙ ap (λ (t : Text). t ++ (if r then character right else [])) second
-    ∙ append_assoc before (join_by f (if v then character junction else []) xs) (if r then character right else [])
-    ∙ ap (λ (t : Text). t ++ (join_by f (if v then character junction else []) xs ++ (if r then character right else []))) (first ∙ ap (λ (t : Text). t ++ (if l then character left else [])) none)
-    ∙ (λ i. (if el i then character left else []) ++ (join_by f (if ev i then character junction else []) xs ++ (if er i then character right else [])))
-    ∙ ap (λ (t : Text). (if draws_left_border style then character left else []) ++ (t ++ (if draws_right_border style then character right else []))) (sym (join_by-map (λ (p : Text). p) f (if draws_vertical_lines style then character junction else []) xs))
+between_borders-made style left junction right f xs l v r start before inside whole el ev er none first second third =
+    between_borders-behind style left junction right f xs l v r start before inside whole el ev er first second third
+    ∙ ap (λ (t : Text). t ++ between_borders style left junction right (map f xs)) none
+
+-- and where the right border is appended last
+pub between_borders-pushed : {T E X : Type 0} (result : Result T E) (style : TableStyle) (left junction right : Option ℕ) (f : X → Text) (xs : List X) (l v r : Bool) (start before inside whole : Text)
+    → l ≡ draws_left_border style → v ≡ draws_vertical_lines style → r ≡ draws_right_border style
+    → before ≡ start ++ (if l then character left else [])
+    → inside ≡ before ++ join_by f (if v then character junction else []) xs
+    → OnOk result (whole ≡ inside ++ (if r then character right else []))
+    → OnOk result (whole ≡ start ++ between_borders style left junction right (map f xs))
+between_borders-pushed (Ok x) style left junction right f xs l v r start before inside whole el ev er first second third =
+    between_borders-behind style left junction right f xs l v r start before inside whole el ev er first second third
+between_borders-pushed (Err e) style left junction right f xs l v r start before inside whole el ev er first second third = third

@@ -1,6 +1,7 @@
 //! The lines of a row, as pieces side by side.
 
 ghost use Rattle.std.specs.Prelude.{◌≡◌, ◌++◌, IfOk, OnOk, map, option_copied, option_to_list, string_bytes};
+ghost use Rattle.std.specs.List.{range_with_len};
 ghost use Rattle.comfy_table.specs.Lines.{cell_delimiter};
 ghost use Rattle.comfy_table.specs.Pieces.{content_lines, row_lines, visible_infos};
 ghost use Rattle.comfy_table.specs.DrawnCells.{drawn_cell, greatest_height, height_of, lines_of_optional, piece_at};
@@ -115,7 +116,8 @@ pub fn drawn_cells<'a>(
     infos: &'a [ColumnDisplayInfo],
     table: &Table,
 ) -> Result<Vec<DrawnCell<'a>>>
-    ensures { IfOk result (λ cells. cells.items ≡ map (drawn_cell table.now row.now) (visible_infos infos.now)) }
+    ensures cells { IfOk result (λ cells. cells.items ≡ map (drawn_cell table.now row.now) (visible_infos infos.now)) }
+    ensures lines { IfOk result (λ cells. map (λ k. map (piece_at table.now k) cells.items) (range_with_len 0 (greatest_height cells.items)) ≡ row_lines table.now infos.now row.now) }
 {
     let alloc = *table.columns.allocator();
     let mut cells = Vec::with_capacity(alloc, infos.len())?;

@@ -1,6 +1,7 @@
 //! The lines of a table, in their order.
 
 ghost use Rattle.std.specs.Prelude.{◌≡◌, ◌∷◌, [], nat_lt, IfOk, OnOk, map, string_bytes, option_to_list, if◌then◌else◌};
+ghost use Rattle.std.specs.List.{join_by};
 ghost use Rattle.comfy_table.specs.DrawnCells.{piece_at};
 ghost use Rattle.comfy_table.specs.Drawing.{drawing_of_infos, drawn_header, drawn_row, drawn_rows, visible_widths};
 ghost use Rattle.comfy_table.specs.Frame.{content_line, optional_frame_line};
@@ -97,10 +98,18 @@ impl<'a> Writer<'a> {
         ensures { OnOk result (self.new ≡ with_written (drawn_rows self.old.table self.old.infos self.old.table.rows) self.old) }
     {
         let table = self.table;
-        let separator = optional_frame_line(table, &table.style.row_separator, self.widths.as_slice())?;
+        let separator =
+            optional_frame_line(table, &table.style.row_separator, self.widths.as_slice())?;
+        self.write_separated_rows(&separator)
+    }
+
+    fn write_separated_rows(&mut self, separator: &Option<String>) -> Result<()>
+        ensures { OnOk result (self.new ≡ with_written (join_by (drawn_row self.old.table self.old.infos self.old.table.style.content_lines) (map string_bytes (option_to_list separator.now)) self.old.table.rows) self.old) }
+    {
+        let table = self.table;
         let rows = table.rows.as_slice();
         for (position, row) in rows.iter().enumerate() {
-            self.write_separator(&separator, position)?;
+            self.write_separator(separator, position)?;
             self.write_row(&table.style.content_lines, row)?;
         }
         Ok(())

@@ -20,11 +20,9 @@ loop-line-preserved c =
 
 pub returns : goal.returns
 returns c =
-    let off : c.args.table.now.custom_styling ≡ false = ap (λ (t : TableValue). t.custom_styling) (sym c.table.view_is) ∙ c.table.invariant.1 in
     let cells = c.as_slice-cells.result.now in
     let all : c.loop-line.line ≡ greatest_height cells = let e : c.loop-line.line ≡ c.greatest_height-line-end.result = omega arith in e ∙ c.greatest_height-line-end.ensures in
-    let drawn : cells ≡ map (drawn_cell c.args.table.now c.args.row.now) (visible_infos c.args.display_infos.now) = c.as_slice-cells.ensures.value ∙ c.in_ok-drawn.ensures in
     c.loop-line.invariant
     ∙ ap (λ n. map (λ k. map (piece_at c.args.table.now k) cells) (range_with_len 0 n)) all
-    ∙ ap (λ (ds : List DrawnCell). map (λ k. map (piece_at c.args.table.now k) ds) (range_with_len 0 (greatest_height ds))) drawn
-    ∙ drawn_lines c.args.table.now c.args.row.now off c.args.display_infos.now
+    ∙ ap (λ (ds : List DrawnCell). map (λ k. map (piece_at c.args.table.now k) ds) (range_with_len 0 (greatest_height ds))) c.as_slice-cells.ensures.value
+    ∙ c.in_ok-drawn.ensures.lines

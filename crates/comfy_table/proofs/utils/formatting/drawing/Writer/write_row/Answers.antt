@@ -1,0 +1,37 @@
+use Rattle.std.proofs.Common.{◌≡◌, ℕ, ◌+◌, List, [], ◌∷◌, ◌++◌, map, ap, subst, sym, ◌∙◌, arith}
+use Rattle.std.proofs.lemmas.List.FromFn.{map-range_with_len_more}
+use Rattle.std.specs.List.{range_with_len}
+use Rattle.comfy_parts.specs.Text.{Text}
+use Rattle.comfy_table.proofs.JoinLemmas.{map-map}
+use Rattle.comfy_table.proofs.OutputLemmas.{written-append}
+use Rattle.comfy_table.specs.DrawnCells.{DrawnCell, greatest_height, piece_at}
+use Rattle.comfy_table.specs.Frame.{content_line}
+use Rattle.comfy_table.specs.Pieces.{row_lines}
+use Rattle.comfy_table.specs.Output.{WriterValue, with_written}
+use Rattle.comfy_table.proofs.utils.formatting.drawing.Writer.write_row.Goals as goal
+
+pub loop-line-preserved : goal.loop-line-preserved
+loop-line-preserved c =
+    let start = c.args.self.now in
+    let cells = c.as_slice-cells.result.now in
+    let line : ℕ → Text = λ k. content_line start.table.style c.args.style.now (map (piece_at start.table k) cells) in
+    let done = map line (range_with_len 0 c.loop-line.line) in
+    let at : 0 + c.loop-line.line ≡ c.loop-line.line = omega arith in
+    c.in_ok-write_content_line.ensures
+    ∙ ap (λ (w : WriterValue). with_written (content_line w.table.style c.args.style.now (map (piece_at w.table c.loop-line.line) cells) ∷ []) w) c.loop-line.invariant
+    ∙ written-append done (line c.loop-line.line ∷ []) start
+    ∙ ap (λ (ls : List Text). with_written ls start) (sym (map-range_with_len_more line 0 c.loop-line.line c.loop-line.line at))
+
+pub returns : goal.returns
+returns c =
+    let start = c.args.self.now in
+    let cells = c.as_slice-cells.result.now in
+    let framed = content_line start.table.style c.args.style.now in
+    let all : c.loop-line.line ≡ greatest_height cells = let e : c.loop-line.line ≡ c.greatest_height-line-end.result = omega arith in e ∙ c.greatest_height-line-end.ensures in
+    let drawn = subst (λ (w : WriterValue). map (λ k. map (piece_at w.table k) c.in_ok-drawn.drawn.items) (range_with_len 0 (greatest_height c.in_ok-drawn.drawn.items)) ≡ row_lines w.table w.infos c.args.row.now) c.self.view_is c.in_ok-drawn.ensures.lines in
+    c.loop-line.invariant
+    ∙ ap (λ (ls : List Text). with_written ls start)
+    (ap (λ n. map (λ k. framed (map (piece_at start.table k) cells)) (range_with_len 0 n)) all
+    ∙ sym (map-map framed (λ k. map (piece_at start.table k) cells) (range_with_len 0 (greatest_height cells)))
+    ∙ ap (λ (ds : List DrawnCell). map framed (map (λ k. map (piece_at start.table k) ds) (range_with_len 0 (greatest_height ds)))) c.as_slice-cells.ensures.value
+    ∙ ap (map framed) drawn)

@@ -1,0 +1,42 @@
+use Rattle.std.proofs.Common.{◌≡◌, ℕ, List, [], ◌++◌, true, map, take, refl, ap, ap₂, string_bytes, nat_lt, ◌∙◌}
+use Rattle.std.specs.List.{join_by}
+use Rattle.std.specs.Prelude.{if◌then◌else◌, option_to_list}
+use Rattle.comfy_parts.specs.CellValue.{RowValue}
+use Rattle.comfy_parts.specs.Text.{Text}
+use Rattle.comfy_parts.specs.declared.style.table_style.ContentLineStyle.{ContentLineStyle}
+use Rattle.comfy_table.proofs.JoinLemmas.{joined_all, joined_more}
+use Rattle.comfy_table.proofs.OutputLemmas.{written-append}
+use Rattle.comfy_table.specs.Drawing.{drawn_row}
+use Rattle.comfy_table.specs.Output.{WriterValue, with_written}
+use Rattle.comfy_table.specs.TableValue.{TableValue}
+use Rattle.comfy_table.proofs.utils.formatting.drawing.Writer.write_separated_rows.Goals as goal
+
+pub loop-position-preserved : goal.loop-position-preserved
+loop-position-preserved c =
+    let start = c.args.self.now in
+    let drawn = drawn_row start.table start.infos start.table.style.content_lines in
+    let separator = map string_bytes (option_to_list c.args.separator.now) in
+    let position = c.loop-position.position in
+    let between = if nat_lt 0 position then separator else [] in
+    let rows = c.as_slice-rows.result.now in
+    let row = c.index-rows-position.result in
+    let done = join_by drawn separator (take position rows) in
+    let style : c.table.inside.style.content_lines ≡ start.table.style.content_lines = ap (λ (t : TableValue). t.style.content_lines) c.table.view_is ∙ ap (λ (w : WriterValue). w.table.style.content_lines) c.self.view_is in
+    let separated = c.in_ok-write_separator.ensures ∙ ap (with_written between) c.loop-position.invariant ∙ written-append done between start in
+    c.in_ok-write_row.ensures
+    ∙ ap₂ (λ (line : ContentLineStyle) (w : WriterValue). with_written (drawn_row w.table w.infos line row) w) style separated
+    ∙ written-append (done ++ between) (drawn row) start
+    ∙ ap (λ (lines : List Text). with_written lines start) (joined_more drawn true separator rows position row [] done c.loop-position-test.true c.index-rows-position.is refl)
+
+pub returns : goal.returns
+returns c =
+    let start = c.args.self.now in
+    let drawn = drawn_row start.table start.infos start.table.style.content_lines in
+    let separator = map string_bytes (option_to_list c.args.separator.now) in
+    let position = c.loop-position.position in
+    let rows = c.as_slice-rows.result.now in
+    let all_rows : rows ≡ start.table.rows = c.as_slice-rows.ensures.value ∙ ap (λ (t : TableValue). t.rows) c.table.view_is ∙ ap (λ (w : WriterValue). w.table.rows) c.self.view_is in
+    c.loop-position.invariant
+    ∙ ap (λ (lines : List Text). with_written lines start)
+    (joined_all drawn separator rows position [] (join_by drawn separator (take position rows)) c.loop-position-test.false refl
+    ∙ ap (λ (rs : List RowValue). join_by drawn separator rs) all_rows)
