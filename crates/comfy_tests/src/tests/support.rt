@@ -1,8 +1,7 @@
 //! What the tests share.
 
 use comfy_parts::{Cell, Result, Row};
-use comfy_table::Table;
-use std::alloc::Global;
+use std::alloc::{AllocError, Global};
 use std::process::Abort;
 
 /// The cell of a text.
@@ -10,13 +9,23 @@ pub fn cell(alloc: Global, text: &str) -> Result<Cell> {
     Cell::new_owned(alloc, String::from_str(alloc, text)?)
 }
 
-/// A table of one row of one cell.
-pub fn table_of_one_cell(alloc: Global, text: &str) -> Result<Table> {
+/// A row with a cell for each text.
+pub fn row(alloc: Global, texts: &[&str]) -> Result<Row> {
     let mut row = Row::new(alloc);
-    row.add_cell(cell(alloc, text)?)?;
-    let mut table = Table::new(alloc);
-    table.add_row(row)?;
-    Ok(table)
+    for text in texts {
+        row.add_cell(cell(alloc, text)?)?;
+    }
+    Ok(row)
+}
+
+/// The lines as one text, each followed by a line feed.
+pub fn joined(alloc: Global, lines: &[&str]) -> std::result::Result<String, AllocError> {
+    let mut text = String::new(alloc);
+    for line in lines {
+        text.push_str(line)?;
+        text.push('\n')?;
+    }
+    Ok(text)
 }
 
 /// Compares texts one by one.
