@@ -45,7 +45,7 @@ impl Tally {
     /// Prints the counts; those that couldn't be tried stand on a line of their own, and so does that
     /// there was no case at all.
     pub fn print(&self, rt: &impl Print) -> io::Result<()> {
-        if *self == Tally::default() {
+        if self.passed == 0 && self.failed == 0 && self.not_read == 0 {
             println!(rt; "no case was read")?;
         }
         let not_read = self.not_read;
