@@ -40,5 +40,5 @@ refuse() {
 }
 
 refuse ctable "$crates/ctable/stdin" 'ctable: out of memory'
-awk '/^case\tworked-height-[01]$/, /^end$/' "$crates/table_cases/stdin" > "$work/two.cases"
+awk '/^case\theight-(0-is-1-line|with-an-indicator-of-three-dots)$/, /^end$/' "$crates/table_cases/stdin" > "$work/two.cases"
 refuse table_cases "$work/two.cases" 'Error: out of memory'

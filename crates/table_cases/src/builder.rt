@@ -1,14 +1,12 @@
-//! A case's table, built step by step through the public surface. A call that is new gets its words here.
+//! A case's table, built line by line through the public surface. A call that is new gets its words here.
 
-use crate::fault::{Fault, Result};
-use crate::settings::{CellSetting, ColumnSetting};
-use crate::step::{CellWords, Kind, Part, Step};
+use crate::fault::{Fault, NO_CALL, Result};
+use crate::settings::{set_on_column, with_setting};
+use crate::styles::{read_style, set_part};
+use crate::text::{character, first_or_empty, no_words, number, only_word, text, width};
 use comfy_table::utils::arrangement::arrange_content;
-use comfy_table::{Cell, Column, ContentArrangement, Row, Table, TableStyle};
+use comfy_table::{Cell, Row, Table};
 use std::alloc::Global;
-
-// said of a word whose call isn't there yet
-const NO_CALL: Fault = Fault::NotRead("there is no call for this yet");
 
 /// A table, and the row that was begun last.
 #[derive(Drop)]
@@ -35,69 +33,89 @@ impl Builder {
         }
     }
 
-    /// Does what one line asks for.
-    pub fn apply(&mut self, step: Step) -> Result<()> {
-        match step {
-            Step::Header => self.begin(true),
-            Step::Row => self.begin(false),
-            Step::Cell(words) => self.add_cell(words),
-            Step::Height(height) => self.limit_height(height),
-            step => {
+    /// Does what a line asks for by its first word and the words behind it.
+    pub fn apply(&mut self, first: &str, words: &[&str]) -> Result<()> {
+        match first {
+            "cell" => self.add_cell(words),
+            "height" => self.limit_height(only_word(words)?),
+            _ => {
                 self.finish_row()?;
-                self.set(step)
+                self.set(first, words)
             }
         }
     }
 
-    /// What the table answers, as the lines of an expectation.
-    pub fn answer(&mut self, kind: Kind) -> Result<Vec<String>> {
+    /// What the table gives of one kind, as the lines of an expectation.
+    pub fn lines_of(&mut self, kind: &str) -> Result<Vec<String>> {
         self.finish_row()?;
         match kind {
-            Kind::Lines => self.lines(),
-            Kind::Trim => self.trimmed(),
-            Kind::MaxWidths => one_line(
+            "lines" => self.lines(),
+            "trim" => self.trimmed(),
+            "max_widths" => one_line(
                 self.alloc,
                 self.table.column_max_content_widths()?.as_slice(),
             ),
-            Kind::Widths => self.widths(),
+            "widths" => self.widths(),
+            _ => Err(Fault::NotRead("an expectation isn't known")),
         }
     }
 
-    // the words that change the table, its style or its columns
-    fn set(&mut self, step: Step) -> Result<()> {
-        match step {
-            Step::Style(style) => {
-                self.table.load_style(style);
+    // the words that begin a row, or change the table, its style or its columns
+    fn set(&mut self, first: &str, words: &[&str]) -> Result<()> {
+        match first {
+            "header" => self.begin(words, true),
+            "row" => self.begin(words, false),
+            "style" => {
+                self.table.load_style(read_style(words)?);
+                Ok(())
             }
-            Step::Part(part) => set_part(self.table.style_mut(), part),
-            Step::Width(width) => {
-                self.table.set_width(width);
-            }
-            Step::Delimiter(delimiter) => {
-                self.table.set_delimiter(delimiter);
-            }
-            Step::Indicator(indicator) => {
-                self.table.set_truncation_indicator(indicator.as_str())?;
-            }
-            Step::Column { index, settings } => return self.set_column(index, settings),
-            // a new table's arrangement, which no call changes yet
-            Step::Arrangement(ContentArrangement::Disabled) => {}
-            _ => return Err(NO_CALL),
+            "part" => set_part(self.alloc, self.table.style_mut(), words),
+            "column" => self.set_column(words),
+            "indicator" => self.set_indicator(first_or_empty(words)),
+            _ => self.set_one(first, words),
         }
+    }
+
+    // the words that have one word or none behind them
+    fn set_one(&mut self, first: &str, words: &[&str]) -> Result<()> {
+        match first {
+            "width" => {
+                self.table.set_width(width(only_word(words)?)?);
+                Ok(())
+            }
+            "delimiter" => {
+                let delimiter = character(self.alloc, only_word(words)?)?;
+                self.table.set_delimiter(delimiter);
+                Ok(())
+            }
+            // a new table's arrangement, which no call changes yet
+            "arrangement" if only_word(words)? == "disabled" => Ok(()),
+            "arrangement" | "terminal" | "late" | "discover" => Err(NO_CALL),
+            "no_tty" | "stderr" | "enforce" | "text_only" => Err(NO_CALL),
+            _ => Err(Fault::NotRead("a line isn't known")),
+        }
+    }
+
+    fn set_indicator(&mut self, word: &str) -> Result<()> {
+        let indicator = text(self.alloc, word)?;
+        self.table.set_truncation_indicator(indicator.as_str())?;
         Ok(())
     }
 
-    fn set_column(&mut self, index: usize, settings: Vec<ColumnSetting>) -> Result<()> {
-        let Some(column) = self.table.column_mut(index) else {
-            return Err(Fault::NotRead("no column has this place"));
+    fn set_column(&mut self, words: &[&str]) -> Result<()> {
+        let Some((index, settings)) = words.split_first() else {
+            return Err(Fault::NotRead("a column has a position"));
+        };
+        let Some(column) = self.table.column_mut(number(index)?) else {
+            return Err(Fault::NotRead("no column has this position"));
         };
         for setting in settings {
-            apply_to_column(column, setting);
+            set_on_column(self.alloc, column, setting)?;
         }
         Ok(())
     }
 
-    // hands the row begun last to the table
+    // gives the row begun last to the table
     fn finish_row(&mut self) -> Result<()> {
         if let Some(begun) = self.begun.take() {
             if begun.is_header {
@@ -109,8 +127,8 @@ impl Builder {
         Ok(())
     }
 
-    fn begin(&mut self, is_header: bool) -> Result<()> {
-        self.finish_row()?;
+    fn begin(&mut self, words: &[&str], is_header: bool) -> Result<()> {
+        no_words(words)?;
         self.begun = Some(Begun {
             is_header,
             row: Row::new(self.alloc),
@@ -118,7 +136,7 @@ impl Builder {
         Ok(())
     }
 
-    fn add_cell(&mut self, words: CellWords) -> Result<()> {
+    fn add_cell(&mut self, words: &[&str]) -> Result<()> {
         let cell = cell_of(self.alloc, words)?;
         match &mut self.begun {
             Some(begun) => {
@@ -129,7 +147,8 @@ impl Builder {
         }
     }
 
-    fn limit_height(&mut self, height: usize) -> Result<()> {
+    fn limit_height(&mut self, word: &str) -> Result<()> {
+        let height = number(word)?;
         match &mut self.begun {
             Some(begun) => {
                 begun.row.max_height(height);
@@ -180,47 +199,11 @@ fn one_line(alloc: Global, numbers: &[u16]) -> Result<Vec<String>> {
     Ok(lines)
 }
 
-fn set_part(style: &mut TableStyle, part: Part) {
-    match part {
-        Part::Top(line) => style.top_border = line,
-        Part::Header(line) => style.header_lines = line,
-        Part::Separator(line) => style.header_separator = line,
-        Part::Content(line) => style.content_lines = line,
-        Part::Row(line) => style.row_separator = line,
-        Part::Bottom(line) => style.bottom_border = line,
-    }
-}
-
-fn apply_to_column(column: &mut Column, setting: ColumnSetting) {
-    match setting {
-        ColumnSetting::Padding(left, right) => {
-            column.set_padding((left, right));
-        }
-        ColumnSetting::Delimiter(delimiter) => {
-            column.set_delimiter(delimiter);
-        }
-        ColumnSetting::Align(alignment) => column.set_cell_alignment(alignment),
-        ColumnSetting::Constraint(constraint) => {
-            column.set_constraint(constraint);
-        }
-    }
-}
-
 // the cell of a text, with its settings in their order
-fn cell_of(alloc: Global, words: CellWords) -> Result<Cell> {
-    let mut cell = Cell::new_owned(alloc, words.text)?;
-    for setting in words.settings {
-        cell = with_setting(cell, setting)?;
+fn cell_of(alloc: Global, words: &[&str]) -> Result<Cell> {
+    let mut cell = Cell::new_owned(alloc, text(alloc, first_or_empty(words))?)?;
+    for setting in words.iter().skip(1) {
+        cell = with_setting(alloc, cell, setting)?;
     }
     Ok(cell)
-}
-
-fn with_setting(cell: Cell, setting: CellSetting) -> Result<Cell> {
-    match setting {
-        CellSetting::Align(alignment) => Ok(cell.set_alignment(alignment)),
-        CellSetting::Delimiter(delimiter) => Ok(cell.set_delimiter(delimiter)),
-        CellSetting::Foreground(_) | CellSetting::Background(_) | CellSetting::Attribute(_) => {
-            Err(NO_CALL)
-        }
-    }
 }

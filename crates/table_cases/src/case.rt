@@ -2,7 +2,7 @@
 
 use crate::builder::Builder;
 use crate::fault::{Fault, Result};
-use crate::step::{Kind, Step};
+use crate::text::{only_word, text};
 use std::alloc::Global;
 use std::mem;
 
@@ -18,21 +18,21 @@ pub struct Case {
 }
 
 /// A line that can't be read, counted from 1, and why.
-#[derive(Clone, Copy, Debug)]
+#[derive(Clone, Copy)]
 pub struct Unread {
     pub line: u64,
     pub reason: &'static str,
 }
 
-/// The lines that one kind of answer is to have, and where they are asked for.
+/// The lines that the table has to give for one kind, and the line that asks for them, counted from 1.
 #[derive(Drop)]
 pub struct Expectation {
     pub line: u64,
-    pub kind: Kind,
+    pub kind: String,
     pub wanted: Vec<String>,
 }
 
-/// An expectation, and the answer that isn't as wanted.
+/// An expectation, and the lines that came in place of the wanted ones.
 #[derive(Drop)]
 pub struct Difference {
     pub expectation: Expectation,
@@ -66,7 +66,7 @@ impl Case {
         }
     }
 
-    /// Keeps the first line that can't be read. Only a lack of memory is handed on.
+    /// Keeps the first line that can't be read. Only running out of memory is returned as an error.
     pub fn note(&mut self, line: u64, fault: Fault) -> Result<()> {
         match fault {
             Fault::OutOfMemory => Err(fault),
@@ -79,18 +79,18 @@ impl Case {
         }
     }
 
-    /// Does what one line asks for, unless an earlier line couldn't be read.
-    pub fn take(&mut self, line: u64, step: Step) -> Result<()> {
+    /// Does what a line asks for, unless an earlier line couldn't be read.
+    pub fn take(&mut self, number: u64, line: &str) -> Result<()> {
         if self.unread.is_some() {
             return Ok(());
         }
-        match self.apply(line, step) {
+        match self.apply(number, line) {
             Ok(()) => Ok(()),
-            Err(fault) => self.note(line, fault),
+            Err(fault) => self.note(number, fault),
         }
     }
 
-    /// Compares the answers with what is wanted; `line` is that of the case's end.
+    /// Compares what the table gives with what is wanted; `line` is that of the case's end.
     pub fn judged(mut self, line: u64) -> Result<Judged> {
         if self.expectations.is_empty() {
             self.note(line, Fault::NotRead("nothing is wanted"))?;
@@ -107,23 +107,32 @@ impl Case {
         })
     }
 
-    fn apply(&mut self, line: u64, step: Step) -> Result<()> {
-        match step {
-            Step::Nothing => Ok(()),
-            Step::Expect(kind) => {
-                self.expectations.push(Expectation {
-                    line,
-                    kind,
-                    wanted: Vec::new(self.alloc),
-                })?;
-                Ok(())
-            }
-            Step::Wanted(text) => self.want(text),
-            step => self.builder.apply(step),
+    fn apply(&mut self, number: u64, line: &str) -> Result<()> {
+        if let Some(wanted) = line.strip_prefix("=") {
+            return self.want(wanted);
+        }
+        let mut words: Vec<&str> = Vec::new(self.alloc);
+        for word in line.split('\t') {
+            words.push(word)?;
+        }
+        match words.as_slice().split_first() {
+            Some((first, others)) if *first == "expect" => self.expect(number, only_word(others)?),
+            Some((first, others)) => self.builder.apply(first, others),
+            None => Ok(()),
         }
     }
 
-    fn want(&mut self, text: String) -> Result<()> {
+    fn expect(&mut self, line: u64, kind: &str) -> Result<()> {
+        self.expectations.push(Expectation {
+            line,
+            kind: String::from_str(self.alloc, kind)?,
+            wanted: Vec::new(self.alloc),
+        })?;
+        Ok(())
+    }
+
+    fn want(&mut self, word: &str) -> Result<()> {
+        let text = text(self.alloc, word)?;
         match self.expectations.last_mut() {
             Some(expectation) => {
                 expectation.wanted.push(text)?;
@@ -133,12 +142,12 @@ impl Case {
         }
     }
 
-    // the answers that aren't as wanted; one that isn't there is noted
+    // the expectations that the table doesn't meet; one that can't be tried is noted
     fn differences(&mut self) -> Result<Vec<Difference>> {
         let mut differences = Vec::new(self.alloc);
         let expectations = mem::replace(&mut self.expectations, Vec::new(self.alloc));
         for expectation in expectations {
-            match self.builder.answer(expectation.kind) {
+            match self.builder.lines_of(expectation.kind.as_str()) {
                 Ok(drawn) => {
                     if drawn.as_slice() != expectation.wanted.as_slice() {
                         differences.push(Difference { expectation, drawn })?;

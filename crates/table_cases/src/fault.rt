@@ -5,7 +5,7 @@ use std::alloc::{AllocError, AllocFailed};
 use thiserror::Error;
 
 /// Why a case can't be tried.
-#[derive(Clone, Copy, Debug, PartialEq, Eq, Error)]
+#[derive(Clone, Copy, Debug, Error)]
 pub enum Fault {
     /// There is no memory; this ends the whole run.
     #[error("out of memory")]
@@ -14,6 +14,9 @@ pub enum Fault {
     #[error("{0}")]
     NotRead(&'static str),
 }
+
+/// The fault of words whose call isn't there yet.
+pub const NO_CALL: Fault = Fault::NotRead("there is no call for this yet");
 
 impl From<AllocError> for Fault {
     fn from(_error: AllocError) -> Fault {
@@ -35,5 +38,5 @@ impl From<TableError> for Fault {
     }
 }
 
-/// The answer of a step, or why its case can't be tried.
+/// A value, or why the case can't be tried.
 pub type Result<T> = std::result::Result<T, Fault>;

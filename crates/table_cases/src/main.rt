@@ -8,7 +8,7 @@ mod fault;
 mod report;
 mod run;
 mod settings;
-mod step;
+mod styles;
 mod text;
 
 use report::Tally;

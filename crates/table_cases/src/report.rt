@@ -4,7 +4,7 @@ use crate::case::{Difference, Judged, Outcome};
 use std::io;
 
 /// How many cases came to what.
-#[derive(Clone, Copy, Debug, Default, PartialEq, Eq)]
+#[derive(Clone, Copy, Default)]
 pub struct Tally {
     pub passed: u64,
     pub failed: u64,
@@ -45,7 +45,7 @@ impl Tally {
     /// Prints the counts; those that couldn't be tried stand on a line of their own, and so does that
     /// there was no case at all.
     pub fn print(&self, rt: &impl Print) -> io::Result<()> {
-        if *self == Tally::default() {
+        if self.passed == 0 && self.failed == 0 && self.not_read == 0 {
             println!(rt; "no case was read")?;
         }
         let not_read = self.not_read;
@@ -59,7 +59,7 @@ impl Tally {
 }
 
 fn print_difference(rt: &impl Print, name: &str, difference: &Difference) -> io::Result<()> {
-    let kind = difference.expectation.kind.word();
+    let kind = difference.expectation.kind.as_str();
     println!(rt; "{name}: {kind}: expected")?;
     print_lines(rt, difference.expectation.wanted.as_slice())?;
     println!(rt; "{name}: {kind}: drawn")?;

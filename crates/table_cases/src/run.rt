@@ -2,7 +2,6 @@
 
 use crate::case::{Case, Judged};
 use crate::fault::{Fault, Result};
-use crate::step::{Step, read_step};
 use std::alloc::Global;
 
 /// A run over the lines of an input.
@@ -24,38 +23,37 @@ impl Run {
         }
     }
 
-    /// Reads one line. Where a case ends with it, what became of the case is answered.
+    /// Reads one line. Where a case ends with it, what became of the case is returned.
     pub fn read(&mut self, line: &str) -> Result<Option<Judged>> {
         self.line = self.line.saturating_add(1);
-        match read_step(self.alloc, line) {
-            Ok(Step::Nothing) => Ok(None),
-            Ok(Step::Case(name)) => self.begin(name),
-            Ok(Step::End) => self.end(),
-            Ok(step) => {
-                let mut case = self.case()?;
-                case.take(self.line, step)?;
-                self.open = Some(case);
-                Ok(None)
-            }
-            Err(fault) => {
-                self.fail(fault)?;
-                Ok(None)
-            }
+        if line.is_empty() || line.starts_with('#') {
+            return Ok(None);
         }
+        if line == "end" {
+            return self.end();
+        }
+        if let Some(name) = name_of_case(line) {
+            return self.begin(name);
+        }
+        let mut case = self.case()?;
+        case.take(self.line, line)?;
+        self.open = Some(case);
+        Ok(None)
     }
 
     /// Ends the input: a case that is still open isn't whole.
     pub fn end_of_input(&mut self) -> Result<Option<Judged>> {
-        if self.open.is_none() {
+        let Some(mut case) = self.open.take() else {
             return Ok(None);
-        }
-        self.fail(Fault::NotRead("the case has no end"))?;
-        self.end()
+        };
+        case.note(self.line, Fault::NotRead("the case has no end"))?;
+        Ok(Some(case.judged(self.line)?))
     }
 
     // begins a case; one that is still open isn't whole
-    fn begin(&mut self, name: String) -> Result<Option<Judged>> {
+    fn begin(&mut self, name: &str) -> Result<Option<Judged>> {
         let judged = self.end_of_input()?;
+        let name = String::from_str(self.alloc, name)?;
         self.open = Some(Case::new(self.alloc, name));
         Ok(judged)
     }
@@ -63,14 +61,6 @@ impl Run {
     fn end(&mut self) -> Result<Option<Judged>> {
         let case = self.case()?;
         Ok(Some(case.judged(self.line)?))
-    }
-
-    // notes in the open case why it can't be tried
-    fn fail(&mut self, fault: Fault) -> Result<()> {
-        let mut case = self.case()?;
-        case.note(self.line, fault)?;
-        self.open = Some(case);
-        Ok(())
     }
 
     // takes the open case; a line outside of any case makes one that can't be tried
@@ -81,5 +71,15 @@ impl Run {
         let mut case = Case::new(self.alloc, String::from_str(self.alloc, "(no case)")?);
         case.note(self.line, Fault::NotRead("a line stands in no case"))?;
         Ok(case)
+    }
+}
+
+// the name in the line that begins a case
+fn name_of_case<'a>(line: &'a str) -> Option<&'a str> {
+    let name = line.strip_prefix("case\t")?;
+    if name.contains('\t') {
+        None
+    } else {
+        Some(name)
     }
 }

@@ -1,63 +1,57 @@
-//! The settings of cells and columns, as words.
+//! The settings of cells and columns, as words `NAME=VALUE`.
 
-use crate::fault::{Fault, Result};
-use crate::text::{byte, character, places};
-use comfy_table::style::{Attribute, CellAlignment, Color, ColumnConstraint, Width};
+use crate::fault::{Fault, NO_CALL, Result};
+use crate::text::{character, width};
+use comfy_table::style::{CellAlignment, ColumnConstraint, Width};
+use comfy_table::{Cell, Column};
 use std::alloc::Global;
 
-/// A setting of a cell.
-#[derive(Clone, Copy, Debug)]
-pub enum CellSetting {
-    Align(CellAlignment),
-    Delimiter(char),
-    Foreground(Color),
-    Background(Color),
-    Attribute(Attribute),
-}
-
-/// A setting of a column.
-#[derive(Clone, Copy, Debug)]
-pub enum ColumnSetting {
-    Padding(u16, u16),
-    Delimiter(char),
-    Align(CellAlignment),
-    Constraint(ColumnConstraint),
-}
-
-/// Reads a setting of a cell.
-pub fn cell_setting(alloc: Global, word: &str) -> Result<CellSetting> {
-    let Some((name, value)) = word.split_once('=') else {
-        return Err(Fault::NotRead("a setting has no ="));
-    };
+/// The cell with one setting more.
+pub fn with_setting(alloc: Global, cell: Cell, word: &str) -> Result<Cell> {
+    let (name, value) = name_and_value(word)?;
     match name {
-        "align" => Ok(CellSetting::Align(alignment(value)?)),
-        "delimiter" => Ok(CellSetting::Delimiter(character(alloc, value)?)),
-        "fg" => Ok(CellSetting::Foreground(color(value)?)),
-        "bg" => Ok(CellSetting::Background(color(value)?)),
-        "attribute" => Ok(CellSetting::Attribute(attribute(value)?)),
+        "align" => {
+            let alignment = alignment(value)?;
+            Ok(cell.set_alignment(alignment))
+        }
+        "delimiter" => {
+            let delimiter = character(alloc, value)?;
+            Ok(cell.set_delimiter(delimiter))
+        }
+        "fg" | "bg" | "attribute" => Err(NO_CALL),
         _ => Err(Fault::NotRead("a setting of a cell isn't known")),
     }
 }
 
-/// Reads a setting of a column.
-pub fn column_setting(alloc: Global, word: &str) -> Result<ColumnSetting> {
-    let Some((name, value)) = word.split_once('=') else {
-        return Err(Fault::NotRead("a setting has no ="));
-    };
+/// Changes one setting of a column.
+pub fn set_on_column(alloc: Global, column: &mut Column, word: &str) -> Result<()> {
+    let (name, value) = name_and_value(word)?;
     match name {
-        "padding" => padding(value),
-        "delimiter" => Ok(ColumnSetting::Delimiter(character(alloc, value)?)),
-        "align" => Ok(ColumnSetting::Align(alignment(value)?)),
-        "constraint" => Ok(ColumnSetting::Constraint(constraint(value)?)),
-        _ => Err(Fault::NotRead("a setting of a column isn't known")),
+        "padding" => {
+            column.set_padding(padding(value)?);
+        }
+        "delimiter" => {
+            column.set_delimiter(character(alloc, value)?);
+        }
+        "align" => column.set_cell_alignment(alignment(value)?),
+        "constraint" => {
+            column.set_constraint(constraint(value)?);
+        }
+        _ => return Err(Fault::NotRead("a setting of a column isn't known")),
     }
+    Ok(())
 }
 
-fn padding(word: &str) -> Result<ColumnSetting> {
+fn name_and_value<'a>(word: &'a str) -> Result<(&'a str, &'a str)> {
+    word.split_once('=')
+        .ok_or(Fault::NotRead("a setting has no ="))
+}
+
+fn padding(word: &str) -> Result<(u16, u16)> {
     let Some((left, right)) = word.split_once(',') else {
         return Err(Fault::NotRead("a padding has no comma"));
     };
-    Ok(ColumnSetting::Padding(places(left)?, places(right)?))
+    Ok((width(left)?, width(right)?))
 }
 
 fn alignment(word: &str) -> Result<CellAlignment> {
@@ -79,9 +73,9 @@ fn constraint(word: &str) -> Result<ColumnConstraint> {
         return Err(Fault::NotRead("a constraint isn't known"));
     };
     match name {
-        "absolute" => Ok(ColumnConstraint::Absolute(width(value)?)),
-        "lower" => Ok(ColumnConstraint::LowerBoundary(width(value)?)),
-        "upper" => Ok(ColumnConstraint::UpperBoundary(width(value)?)),
+        "absolute" => Ok(ColumnConstraint::Absolute(column_width(value)?)),
+        "lower" => Ok(ColumnConstraint::LowerBoundary(column_width(value)?)),
+        "upper" => Ok(ColumnConstraint::UpperBoundary(column_width(value)?)),
         "between" => boundaries(value),
         _ => Err(Fault::NotRead("a constraint isn't known")),
     }
@@ -93,97 +87,22 @@ fn boundaries(word: &str) -> Result<ColumnConstraint> {
     let (lower_kind, rest) = word.split_once(':').ok_or(not_two)?;
     let (lower, upper) = rest.split_once(':').ok_or(not_two)?;
     Ok(ColumnConstraint::Boundaries {
-        lower: width_of(lower_kind, lower)?,
-        upper: width(upper)?,
+        lower: width_of_kind(lower_kind, lower)?,
+        upper: column_width(upper)?,
     })
 }
 
-fn width(word: &str) -> Result<Width> {
+fn column_width(word: &str) -> Result<Width> {
     let Some((kind, value)) = word.split_once(':') else {
         return Err(Fault::NotRead("a width has no number"));
     };
-    width_of(kind, value)
+    width_of_kind(kind, value)
 }
 
-fn width_of(kind: &str, value: &str) -> Result<Width> {
+fn width_of_kind(kind: &str, value: &str) -> Result<Width> {
     match kind {
-        "fixed" => Ok(Width::Fixed(places(value)?)),
-        "percent" => Ok(Width::Percentage(places(value)?)),
+        "fixed" => Ok(Width::Fixed(width(value)?)),
+        "percent" => Ok(Width::Percentage(width(value)?)),
         _ => Err(Fault::NotRead("a width is fixed or percent")),
-    }
-}
-
-fn color(word: &str) -> Result<Color> {
-    if let Some((kind, value)) = word.split_once(':') {
-        return match kind {
-            "Rgb" => rgb(value),
-            "Ansi" => Ok(Color::AnsiValue(byte(value)?)),
-            _ => Err(Fault::NotRead("a colour isn't known")),
-        };
-    }
-    match word {
-        "Reset" => Ok(Color::Reset),
-        "Black" => Ok(Color::Black),
-        "DarkGrey" => Ok(Color::DarkGrey),
-        "Red" => Ok(Color::Red),
-        "DarkRed" => Ok(Color::DarkRed),
-        "Green" => Ok(Color::Green),
-        "DarkGreen" => Ok(Color::DarkGreen),
-        "Yellow" => Ok(Color::Yellow),
-        "DarkYellow" => Ok(Color::DarkYellow),
-        "Blue" => Ok(Color::Blue),
-        "DarkBlue" => Ok(Color::DarkBlue),
-        "Magenta" => Ok(Color::Magenta),
-        "DarkMagenta" => Ok(Color::DarkMagenta),
-        "Cyan" => Ok(Color::Cyan),
-        "DarkCyan" => Ok(Color::DarkCyan),
-        "White" => Ok(Color::White),
-        "Grey" => Ok(Color::Grey),
-        _ => Err(Fault::NotRead("a colour isn't known")),
-    }
-}
-
-fn rgb(word: &str) -> Result<Color> {
-    let not_three = Fault::NotRead("a colour has three parts");
-    let (red, rest) = word.split_once(',').ok_or(not_three)?;
-    let (green, blue) = rest.split_once(',').ok_or(not_three)?;
-    Ok(Color::Rgb {
-        r: byte(red)?,
-        g: byte(green)?,
-        b: byte(blue)?,
-    })
-}
-
-fn attribute(word: &str) -> Result<Attribute> {
-    match word {
-        "Reset" => Ok(Attribute::Reset),
-        "Bold" => Ok(Attribute::Bold),
-        "Dim" => Ok(Attribute::Dim),
-        "Italic" => Ok(Attribute::Italic),
-        "Underlined" => Ok(Attribute::Underlined),
-        "DoubleUnderlined" => Ok(Attribute::DoubleUnderlined),
-        "Undercurled" => Ok(Attribute::Undercurled),
-        "Underdotted" => Ok(Attribute::Underdotted),
-        "Underdashed" => Ok(Attribute::Underdashed),
-        "SlowBlink" => Ok(Attribute::SlowBlink),
-        "RapidBlink" => Ok(Attribute::RapidBlink),
-        "Reverse" => Ok(Attribute::Reverse),
-        "Hidden" => Ok(Attribute::Hidden),
-        "CrossedOut" => Ok(Attribute::CrossedOut),
-        "Fraktur" => Ok(Attribute::Fraktur),
-        "NoBold" => Ok(Attribute::NoBold),
-        "NormalIntensity" => Ok(Attribute::NormalIntensity),
-        "NoItalic" => Ok(Attribute::NoItalic),
-        "NoUnderline" => Ok(Attribute::NoUnderline),
-        "NoBlink" => Ok(Attribute::NoBlink),
-        "NoReverse" => Ok(Attribute::NoReverse),
-        "NoHidden" => Ok(Attribute::NoHidden),
-        "NotCrossedOut" => Ok(Attribute::NotCrossedOut),
-        "Framed" => Ok(Attribute::Framed),
-        "Encircled" => Ok(Attribute::Encircled),
-        "OverLined" => Ok(Attribute::OverLined),
-        "NotFramedOrEncircled" => Ok(Attribute::NotFramedOrEncircled),
-        "NotOverLined" => Ok(Attribute::NotOverLined),
-        _ => Err(Fault::NotRead("an attribute isn't known")),
     }
 }

@@ -1,4 +1,4 @@
-//! What a word stands for: a text, a character or a number.
+//! What a word stands for: a text, a character or a number; and how many words there are.
 
 use crate::fault::{Fault, Result};
 use std::alloc::Global;
@@ -56,22 +56,33 @@ pub fn number(word: &str) -> Result<usize> {
         .map_err(|_| Fault::NotRead("a number is empty or too great"))
 }
 
-/// Likewise, of at most 65535.
-pub fn places(word: &str) -> Result<u16> {
+/// The number of columns of the terminal that some digits stand for, at most 65535.
+pub fn width(word: &str) -> Result<u16> {
     u16::try_from(number(word)?).map_err(|_| Fault::NotRead("a number is past 65535"))
 }
 
-/// Likewise, of at most 255.
-pub fn byte(word: &str) -> Result<u8> {
-    u8::try_from(number(word)?).map_err(|_| Fault::NotRead("a number is past 255"))
+/// The one word that is wanted.
+pub fn only_word<'a>(words: &[&'a str]) -> Result<&'a str> {
+    match words {
+        [word] => Ok(*word),
+        _ => Err(Fault::NotRead("one word is wanted")),
+    }
 }
 
-/// A truth value.
-pub fn truth(word: &str) -> Result<bool> {
-    match word {
-        "true" => Ok(true),
-        "false" => Ok(false),
-        _ => Err(Fault::NotRead("neither true nor false")),
+/// Refuses words where none is wanted.
+pub fn no_words(words: &[&str]) -> Result<()> {
+    if words.is_empty() {
+        Ok(())
+    } else {
+        Err(Fault::NotRead("no word is wanted"))
+    }
+}
+
+/// The first word. A text at a line's end may be missing, and is empty then.
+pub fn first_or_empty<'a>(words: &[&'a str]) -> &'a str {
+    match words {
+        [word, ..] => *word,
+        [] => "",
     }
 }
 

@@ -48,16 +48,18 @@ const ASCII_SEPARATOR: LineStyle = LineStyle {
 
 //  =======
 const ASCII_OPEN_SEPARATOR: LineStyle = LineStyle {
+    left: None,
     fill: Some('='),
     junction: Some('='),
-    ..NO_LINE
+    right: None,
 };
 
 //  -------
 const ASCII_OPEN_LINE: LineStyle = LineStyle {
+    left: None,
     fill: Some('-'),
     junction: Some('-'),
-    ..NO_LINE
+    right: None,
 };
 
 // | a | b |
@@ -69,15 +71,16 @@ const ASCII_CONTENT: ContentLineStyle = ContentLineStyle {
 
 //   a | b
 const ASCII_DIVIDED_CONTENT: ContentLineStyle = ContentLineStyle {
+    left: None,
     junction: Some('|'),
-    ..NO_CONTENT
+    right: None,
 };
 
 // | a   b |
 const ASCII_ENCLOSED_CONTENT: ContentLineStyle = ContentLineStyle {
     left: Some('|'),
+    junction: None,
     right: Some('|'),
-    ..NO_CONTENT
 };
 
 // │ a ┆ b │
@@ -89,22 +92,24 @@ const UTF8_CONTENT: ContentLineStyle = ContentLineStyle {
 
 //   a ┆ b
 const UTF8_DIVIDED_CONTENT: ContentLineStyle = ContentLineStyle {
+    left: None,
     junction: Some('┆'),
-    ..NO_CONTENT
+    right: None,
 };
 
 // │ a   b │
 const UTF8_ENCLOSED_CONTENT: ContentLineStyle = ContentLineStyle {
     left: Some('│'),
+    junction: None,
     right: Some('│'),
-    ..NO_CONTENT
 };
 
 //  ───────
 const UTF8_OPEN_LINE: LineStyle = LineStyle {
+    left: None,
     fill: Some('─'),
     junction: Some('─'),
-    ..NO_LINE
+    right: None,
 };
 
 /// All borders, of ASCII characters; the style of a new table.
@@ -143,8 +148,12 @@ pub const ASCII_FULL: TableStyle = TableStyle {
 /// +-------+-------+
 /// ```
 pub const ASCII_FULL_CONDENSED: TableStyle = TableStyle {
+    top_border: ASCII_BORDER,
+    header_lines: ASCII_CONTENT,
+    header_separator: ASCII_SEPARATOR,
+    content_lines: ASCII_CONTENT,
     row_separator: NO_LINE,
-    ..ASCII_FULL
+    bottom_border: ASCII_BORDER,
 };
 
 /// As `ASCII_FULL`, with no outer borders.
@@ -157,15 +166,17 @@ pub const ASCII_FULL_CONDENSED: TableStyle = TableStyle {
 ///  c     | d
 /// ```
 pub const ASCII_NO_BORDERS: TableStyle = TableStyle {
+    top_border: NO_LINE,
     header_lines: ASCII_DIVIDED_CONTENT,
     header_separator: ASCII_OPEN_SEPARATOR,
     content_lines: ASCII_DIVIDED_CONTENT,
     row_separator: LineStyle {
+        left: None,
         fill: Some('-'),
         junction: Some('+'),
-        ..NO_LINE
+        right: None,
     },
-    ..NOTHING
+    bottom_border: NO_LINE,
 };
 
 /// Outer borders and the header's separator, of ASCII characters; an empty line between rows.
@@ -186,8 +197,9 @@ pub const ASCII_BORDERS_ONLY: TableStyle = TableStyle {
     content_lines: ASCII_ENCLOSED_CONTENT,
     row_separator: LineStyle {
         left: Some('|'),
+        fill: None,
+        junction: None,
         right: Some('|'),
-        ..NO_LINE
     },
     bottom_border: ASCII_PLAIN_BORDER,
 };
@@ -203,8 +215,12 @@ pub const ASCII_BORDERS_ONLY: TableStyle = TableStyle {
 /// +---------------+
 /// ```
 pub const ASCII_BORDERS_ONLY_CONDENSED: TableStyle = TableStyle {
+    top_border: ASCII_PLAIN_BORDER,
+    header_lines: ASCII_ENCLOSED_CONTENT,
+    header_separator: ASCII_SEPARATOR,
+    content_lines: ASCII_ENCLOSED_CONTENT,
     row_separator: NO_LINE,
-    ..ASCII_BORDERS_ONLY
+    bottom_border: ASCII_PLAIN_BORDER,
 };
 
 /// Horizontal lines alone, of ASCII characters.
@@ -236,6 +252,7 @@ pub const ASCII_HORIZONTAL_ONLY: TableStyle = TableStyle {
 /// | c     | d     |
 /// ```
 pub const ASCII_MARKDOWN: TableStyle = TableStyle {
+    top_border: NO_LINE,
     header_lines: ASCII_CONTENT,
     header_separator: LineStyle {
         left: Some('|'),
@@ -244,7 +261,8 @@ pub const ASCII_MARKDOWN: TableStyle = TableStyle {
         right: Some('|'),
     },
     content_lines: ASCII_CONTENT,
-    ..NOTHING
+    row_separator: NO_LINE,
+    bottom_border: NO_LINE,
 };
 
 /// All borders, of box drawing characters.
@@ -298,8 +316,27 @@ pub const UTF8_FULL: TableStyle = TableStyle {
 /// └───────┴───────┘
 /// ```
 pub const UTF8_FULL_CONDENSED: TableStyle = TableStyle {
+    top_border: LineStyle {
+        left: Some('┌'),
+        fill: Some('─'),
+        junction: Some('┬'),
+        right: Some('┐'),
+    },
+    header_lines: UTF8_CONTENT,
+    header_separator: LineStyle {
+        left: Some('╞'),
+        fill: Some('═'),
+        junction: Some('╪'),
+        right: Some('╡'),
+    },
+    content_lines: UTF8_CONTENT,
     row_separator: NO_LINE,
-    ..UTF8_FULL
+    bottom_border: LineStyle {
+        left: Some('└'),
+        fill: Some('─'),
+        junction: Some('┴'),
+        right: Some('┘'),
+    },
 };
 
 /// As `UTF8_FULL`, with no outer borders.
@@ -312,19 +349,22 @@ pub const UTF8_FULL_CONDENSED: TableStyle = TableStyle {
 ///  c     ┆ d
 /// ```
 pub const UTF8_NO_BORDERS: TableStyle = TableStyle {
+    top_border: NO_LINE,
     header_lines: UTF8_DIVIDED_CONTENT,
     header_separator: LineStyle {
+        left: None,
         fill: Some('═'),
         junction: Some('╪'),
-        ..NO_LINE
+        right: None,
     },
     content_lines: UTF8_DIVIDED_CONTENT,
     row_separator: LineStyle {
+        left: None,
         fill: Some('╌'),
         junction: Some('┼'),
-        ..NO_LINE
+        right: None,
     },
-    ..NOTHING
+    bottom_border: NO_LINE,
 };
 
 /// Outer borders and the header's separator, of box drawing characters.
@@ -352,13 +392,13 @@ pub const UTF8_BORDERS_ONLY: TableStyle = TableStyle {
         right: Some('╡'),
     },
     content_lines: UTF8_ENCLOSED_CONTENT,
+    row_separator: NO_LINE,
     bottom_border: LineStyle {
         left: Some('└'),
         fill: Some('─'),
         junction: Some('─'),
         right: Some('┘'),
     },
-    ..NOTHING
 };
 
 /// Horizontal lines alone, of box drawing characters.
@@ -376,9 +416,10 @@ pub const UTF8_HORIZONTAL_ONLY: TableStyle = TableStyle {
     top_border: UTF8_OPEN_LINE,
     header_lines: NO_CONTENT,
     header_separator: LineStyle {
+        left: None,
         fill: Some('═'),
         junction: Some('═'),
-        ..NO_LINE
+        right: None,
     },
     content_lines: NO_CONTENT,
     row_separator: UTF8_OPEN_LINE,

@@ -1,13 +1,15 @@
 //! Devices that fail, and what a run leaves behind then.
 
+use super::support::joined;
 use comfy_run::run::{
     DeviceFault, FromReader, MemorySink, MemorySource, RunError, Settings, Sink, Source, ToWriter,
     run,
 };
 use comfy_table::ContentArrangement;
 use comfy_table::presets::{ASCII_FULL, ASCII_MARKDOWN};
-use std::alloc::{AllocError, Global};
+use std::alloc::{Alloc, AllocError, Global};
 use std::io::{self, Read, Write};
+use std::process::Abort;
 use std::test::Fail;
 
 const PLAIN: Settings = Settings {
@@ -18,7 +20,13 @@ const PLAIN: Settings = Settings {
 
 const INPUT: &[u8] = b"a\tb\nc\td\n";
 
-const OUTPUT: &[u8] = b"+---+---+\n| a | b |\n+=======+\n| c | d |\n+---+---+\n";
+const OUTPUT: [&str; 5] = [
+    "+---+---+",
+    "| a | b |",
+    "+=======+",
+    "| c | d |",
+    "+---+---+",
+];
 
 // An input that takes several reads.
 fn long_input(alloc: Global) -> Result<Vec<u8>, AllocError> {
@@ -29,22 +37,60 @@ fn long_input(alloc: Global) -> Result<Vec<u8>, AllocError> {
     Ok(input)
 }
 
-// Each read of an input fails in turn, and nothing is written.
+// Runs on a source of the small input, and compares what is written.
+fn assert_read<R: Source + Drop>(
+    rt: &(impl Abort + Alloc<A = Global>),
+    mut source: R,
+) -> comfy_table::Result<()> {
+    let mut sink = MemorySink::new(rt.alloc(), 200, 0)?;
+    let answer = run(rt.alloc(), &mut source, &mut sink, PLAIN);
+    assert_eq!(rt; answer, Ok(()));
+    assert_eq!(rt; sink.bytes(), joined(rt.alloc(), &OUTPUT)?.as_bytes());
+    Ok(())
+}
+
+// Runs on a source that fails at a call: nothing is written, and the source fails from then on.
+fn assert_unread<R: Source + Drop>(
+    rt: &(impl Abort + Alloc<A = Global>),
+    mut source: R,
+    call: u64,
+) -> comfy_table::Result<()> {
+    let mut sink = MemorySink::new(rt.alloc(), 200, 0)?;
+    let answer = run(rt.alloc(), &mut source, &mut sink, PLAIN);
+    assert_eq!(rt; answer, Err(RunError::Read), "at call {call}");
+    assert!(rt; sink.bytes().is_empty());
+    assert_eq!(rt; source.read(&mut [0u8; 4]), Err(DeviceFault));
+    Ok(())
+}
+
+// Runs on the small input into a sink that takes all of it.
+fn assert_written<W: Sink>(rt: &(impl Abort + Alloc<A = Global>), sink: &mut W) {
+    let mut source = MemorySource::new(INPUT, 0);
+    let answer = run(rt.alloc(), &mut source, sink, PLAIN);
+    assert_eq!(rt; answer, Ok(()));
+}
+
+// Runs on the small input into a sink that fails, and fails from then on.
+fn assert_unwritten<W: Sink>(rt: &(impl Abort + Alloc<A = Global>), sink: &mut W) {
+    let mut source = MemorySource::new(INPUT, 0);
+    let answer = run(rt.alloc(), &mut source, sink, PLAIN);
+    assert_eq!(rt; answer, Err(RunError::Write));
+    assert_eq!(rt; sink.write(b""), Err(DeviceFault));
+}
+
+// Each read of a long input fails in turn, until none is left to fail.
 #[test]
 fn each_failing_read_ends_the_run(rt: HostRuntime) -> Result<(), Fail> {
     let input = long_input(rt.alloc())?;
     let mut failures = 0u64;
-    for k in 1..100 {
-        let mut source = MemorySource::new(input.as_slice(), k);
+    for call in 1..100 {
         let mut sink = MemorySink::new(rt.alloc(), 200_000, 0)?;
-        let answer = run(rt.alloc(), &mut source, &mut sink, PLAIN);
-        if answer.is_ok() {
+        let mut source = MemorySource::new(input.as_slice(), call);
+        if run(rt.alloc(), &mut source, &mut sink, PLAIN).is_ok() {
             break;
         }
-        assert_eq!(rt; answer, Err(RunError::Read));
-        assert!(rt; sink.bytes().is_empty());
-        assert_eq!(rt; source.read(&mut [0u8; 4]), Err(DeviceFault));
-        failures = k;
+        assert_unread(&rt, MemorySource::new(input.as_slice(), call), call)?;
+        failures = call;
     }
     assert!(rt; failures > 2 && failures < 99);
     Ok(())
@@ -53,34 +99,26 @@ fn each_failing_read_ends_the_run(rt: HostRuntime) -> Result<(), Fail> {
 // The one write to a sink with ample room fails.
 #[test]
 fn the_failing_write_ends_the_run(rt: HostRuntime) -> Result<(), Fail> {
-    let mut source = MemorySource::new(INPUT, 0);
     let mut sink = MemorySink::new(rt.alloc(), 200, 1)?;
-    let answer = run(rt.alloc(), &mut source, &mut sink, PLAIN);
-    assert_eq!(rt; answer, Err(RunError::Write));
+    assert_unwritten(&rt, &mut sink);
     assert!(rt; sink.bytes().is_empty());
-    assert_eq!(rt; sink.write(b"x"), Err(DeviceFault));
     Ok(())
 }
 
 #[test]
 fn no_second_write_occurs(rt: HostRuntime) -> Result<(), Fail> {
-    let mut source = MemorySource::new(INPUT, 0);
     let mut sink = MemorySink::new(rt.alloc(), 200, 2)?;
-    let answer = run(rt.alloc(), &mut source, &mut sink, PLAIN);
-    assert_eq!(rt; answer, Ok(()));
-    assert_eq!(rt; sink.bytes(), OUTPUT);
+    assert_written(&rt, &mut sink);
+    assert_eq!(rt; sink.bytes(), joined(rt.alloc(), &OUTPUT)?.as_bytes());
     Ok(())
 }
 
-// A sink with room for ten bytes holds the first ten.
+// A sink with room for ten bytes holds the first line and its line feed.
 #[test]
 fn a_full_sink_holds_the_beginning(rt: HostRuntime) -> Result<(), Fail> {
-    let mut source = MemorySource::new(INPUT, 0);
     let mut sink = MemorySink::new(rt.alloc(), 10, 0)?;
-    let answer = run(rt.alloc(), &mut source, &mut sink, PLAIN);
-    assert_eq!(rt; answer, Err(RunError::Write));
-    assert_eq!(rt; sink.bytes(), b"+---+---+\n".as_slice());
-    assert_eq!(rt; sink.write(b""), Err(DeviceFault));
+    assert_unwritten(&rt, &mut sink);
+    assert_eq!(rt; sink.bytes(), joined(rt.alloc(), &OUTPUT[..1])?.as_bytes());
     Ok(())
 }
 
@@ -109,33 +147,25 @@ impl Read for SlowReader {
     }
 }
 
+fn slow_source(fails_at: u64) -> FromReader<SlowReader> {
+    FromReader::new(SlowReader {
+        rest: INPUT,
+        fails_at,
+    })
+}
+
 // One call for each of the eight bytes, and one that reads the end.
 #[test]
 fn a_source_keeps_that_its_reader_failed(rt: HostRuntime) -> Result<(), Fail> {
-    for k in 1..10 {
-        let mut source = FromReader::new(SlowReader {
-            rest: INPUT,
-            fails_at: k,
-        });
-        let mut sink = MemorySink::new(rt.alloc(), 200, 0)?;
-        let answer = run(rt.alloc(), &mut source, &mut sink, PLAIN);
-        assert_eq!(rt; answer, Err(RunError::Read), "at call {k}");
-        assert!(rt; sink.bytes().is_empty());
-        assert_eq!(rt; source.read(&mut [0u8; 4]), Err(DeviceFault));
+    for call in 1..10 {
+        assert_unread(&rt, slow_source(call), call)?;
     }
     Ok(())
 }
 
 #[test]
 fn a_slow_reader_is_read_to_its_end(rt: HostRuntime) -> Result<(), Fail> {
-    let mut source = FromReader::new(SlowReader {
-        rest: INPUT,
-        fails_at: 10,
-    });
-    let mut sink = MemorySink::new(rt.alloc(), 200, 0)?;
-    let answer = run(rt.alloc(), &mut source, &mut sink, PLAIN);
-    assert_eq!(rt; answer, Ok(()));
-    assert_eq!(rt; sink.bytes(), OUTPUT);
+    assert_read(&rt, slow_source(10))?;
     Ok(())
 }
 
@@ -166,33 +196,24 @@ impl Write for SlowWriter {
     }
 }
 
-// What a run leaves with the writer, and its answer. The sink answers a failure from then on.
-fn run_slowly(
-    alloc: Global,
-    fails_at: u64,
-    takes_nothing: bool,
-) -> Result<(Vec<u8>, Result<(), RunError>), AllocError> {
-    let mut writer = SlowWriter {
+fn slow_writer(alloc: Global, fails_at: u64, takes_nothing: bool) -> SlowWriter {
+    SlowWriter {
         bytes: Vec::new(alloc),
         fails_at,
         takes_nothing,
-    };
-    let mut sink = ToWriter::new(&mut writer);
-    let mut answer = run(alloc, &mut MemorySource::new(INPUT, 0), &mut sink, PLAIN);
-    if answer.is_err() && sink.write(b"") != Err(DeviceFault) {
-        answer = Ok(());
     }
-    Ok((writer.bytes, answer))
 }
 
 // 50 bytes by three are 17 calls.
 #[test]
 fn a_sink_keeps_that_its_writer_failed(rt: HostRuntime) -> Result<(), Fail> {
+    let output = joined(rt.alloc(), &OUTPUT)?;
     for takes_nothing in [false, true] {
         for calls in 0..17usize {
-            let (bytes, answer) = run_slowly(rt.alloc(), calls as u64 + 1, takes_nothing)?;
-            assert_eq!(rt; answer, Err(RunError::Write), "after {calls} calls");
-            assert_eq!(rt; Some(bytes.as_slice()), OUTPUT.get(..3 * calls));
+            let mut writer = slow_writer(rt.alloc(), calls as u64 + 1, takes_nothing);
+            assert_unwritten(&rt, &mut ToWriter::new(&mut writer));
+            let beginning = output.as_bytes().get(..3 * calls);
+            assert_eq!(rt; Some(writer.bytes.as_slice()), beginning);
         }
     }
     Ok(())
@@ -200,9 +221,12 @@ fn a_sink_keeps_that_its_writer_failed(rt: HostRuntime) -> Result<(), Fail> {
 
 #[test]
 fn a_slow_writer_takes_everything(rt: HostRuntime) -> Result<(), Fail> {
-    let (bytes, answer) = run_slowly(rt.alloc(), 18, false)?;
-    assert_eq!(rt; answer, Ok(()));
-    assert_eq!(rt; bytes.as_slice(), OUTPUT);
+    let mut writer = slow_writer(rt.alloc(), 18, false);
+    assert_written(&rt, &mut ToWriter::new(&mut writer));
+    assert_eq!(rt;
+        writer.bytes.as_slice(),
+        joined(rt.alloc(), &OUTPUT)?.as_bytes()
+    );
     Ok(())
 }
 
@@ -217,19 +241,21 @@ fn the_style_is_that_of_the_settings(rt: HostRuntime) -> Result<(), Fail> {
     };
     let answer = run(rt.alloc(), &mut source, &mut sink, settings);
     assert_eq!(rt; answer, Ok(()));
-    let drawn = b"| Hello | there |\n|-------|-------|\n| a     | b     |\n".as_slice();
-    assert_eq!(rt; sink.bytes(), drawn);
+    let drawn = [
+        "| Hello | there |", //
+        "|-------|-------|",
+        "| a     | b     |",
+    ];
+    assert_eq!(rt; sink.bytes(), joined(rt.alloc(), &drawn)?.as_bytes());
     Ok(())
 }
 
 // Readers and writers of std.
 #[test]
 fn streams_of_std_are_served(rt: HostRuntime) -> Result<(), Fail> {
-    let mut source = FromReader::new(INPUT);
+    assert_read(&rt, FromReader::new(INPUT))?;
     let mut bytes = Vec::new(rt.alloc());
-    let mut sink = ToWriter::new(&mut bytes);
-    let answer = run(rt.alloc(), &mut source, &mut sink, PLAIN);
-    assert_eq!(rt; answer, Ok(()));
-    assert_eq!(rt; bytes.as_slice(), OUTPUT);
+    assert_written(&rt, &mut ToWriter::new(&mut bytes));
+    assert_eq!(rt; bytes.as_slice(), joined(rt.alloc(), &OUTPUT)?.as_bytes());
     Ok(())
 }

@@ -1,20 +1,27 @@
-//! What the program writes, reports and answers.
+//! What the program writes and reports, and its statuses.
 
-use super::readme::DRAWN;
+use super::support::joined;
+use super::tables;
 use comfy_run::run::{MemorySink, MemorySource, RunError, program};
 use comfy_table::TableError;
 use std::alloc::{Alloc, AllocError, Global};
 use std::process::Abort;
 use std::test::Fail;
 
-const USAGE: &[u8] = b"usage: ctable [WIDTH|- [disabled|dynamic|full [STYLE]]]\n";
+const USAGE: &str = "usage: ctable [WIDTH|- [disabled|dynamic|full [STYLE]]]";
 
 const README: &[u8] = b"Header1\tHeader2\tHeader3
 This is a text\tThis is another text\tThis is the third text
 This is another text\tNow\x0badd some\x0bmulti line stuff\tThis is awesome
 ";
 
-const SMALL: &[u8] = b"+---+---+\n| a | b |\n+=======+\n| c | d |\n+---+---+\n";
+const SMALL: [&str; 5] = [
+    "+---+---+",
+    "| a | b |",
+    "+=======+",
+    "| c | d |",
+    "+---+---+",
+];
 
 // What a run of the program is given besides its words: the input, and the calls at which its devices fail.
 #[derive(Clone, Copy)]
@@ -35,12 +42,12 @@ fn sound(input: &'static [u8]) -> Given {
     }
 }
 
-// Runs the program, and compares the status, what it wrote and what it reported.
+// Runs the program, and compares its status, the lines that it wrote and those that it reported.
 fn assert_ends(
     rt: &(impl Abort + Alloc<A = Global>),
     words: &[&str],
     given: Given,
-    ended: (u8, &[u8], &[u8]),
+    ended: (u8, &[&str], &[&str]),
 ) -> comfy_table::Result<()> {
     let mut source = MemorySource::new(given.input, given.failing_read);
     let mut sink = MemorySink::new(rt.alloc(), 4096, given.failing_write)?;
@@ -48,20 +55,20 @@ fn assert_ends(
     let status = program(rt.alloc(), words, &mut source, &mut sink, &mut reports);
     let (wanted, output, messages) = ended;
     assert_eq!(rt; status, wanted);
-    assert_eq!(rt; sink.bytes(), output);
-    assert_eq!(rt; reports.bytes(), messages);
+    assert_eq!(rt; sink.bytes(), joined(rt.alloc(), output)?.as_bytes());
+    assert_eq!(rt; reports.bytes(), joined(rt.alloc(), messages)?.as_bytes());
     Ok(())
 }
 
 #[test]
 fn the_table_of_the_readme_is_drawn(rt: HostRuntime) -> Result<(), Fail> {
-    assert_ends(&rt, &[], sound(README), (0, DRAWN.as_bytes(), b""))?;
+    assert_ends(&rt, &[], sound(README), (0, &tables::README, &[]))?;
     Ok(())
 }
 
 #[test]
 fn no_input_is_an_empty_table(rt: HostRuntime) -> Result<(), Fail> {
-    assert_ends(&rt, &[], sound(b""), (0, &[43, 43, 10, 43, 43, 10], b""))?;
+    assert_ends(&rt, &[], sound(b""), (0, &["++", "++"], &[]))?;
     Ok(())
 }
 
@@ -73,30 +80,42 @@ fn lines_end_in_three_ways(rt: HostRuntime) -> Result<(), Fail> {
         b"a\tb\nc\td".as_slice(),
         b"a\tb\r\nc\td\r\n".as_slice(),
     ] {
-        assert_ends(&rt, &[], sound(input), (0, SMALL, b""))?;
+        assert_ends(&rt, &[], sound(input), (0, &SMALL, &[]))?;
     }
     Ok(())
 }
 
 #[test]
 fn a_tab_divides_two_cells(rt: HostRuntime) -> Result<(), Fail> {
-    let drawn = b"+---+---+\n|   |   |\n+=======+\n+---+---+\n";
-    assert_ends(&rt, &[], sound(b"\t\n"), (0, drawn, b""))?;
+    let drawn = [
+        "+---+---+", //
+        "|   |   |",
+        "+=======+",
+        "+---+---+",
+    ];
+    assert_ends(&rt, &[], sound(b"\t\n"), (0, &drawn, &[]))?;
     Ok(())
 }
 
 #[test]
 fn a_vertical_tab_breaks_a_line_in_a_cell(rt: HostRuntime) -> Result<(), Fail> {
-    let drawn = b"+---+---+\n| a |   |\n+=======+\n| b | d |\n| c |   |\n+---+---+\n";
-    assert_ends(&rt, &[], sound(b"a\nb\x0bc\td"), (0, drawn, b""))?;
+    let drawn = [
+        "+---+---+",
+        "| a |   |",
+        "+=======+",
+        "| b | d |",
+        "| c |   |",
+        "+---+---+",
+    ];
+    assert_ends(&rt, &[], sound(b"a\nb\x0bc\td"), (0, &drawn, &[]))?;
     Ok(())
 }
 
 #[test]
 fn bytes_that_are_no_text_are_refused(rt: HostRuntime) -> Result<(), Fail> {
-    let refused = b"ctable: the input isn't UTF-8\n";
-    assert_ends(&rt, &[], sound(b"\xff"), (1, b"", refused))?;
-    assert_ends(&rt, &[], sound(b"a\n\xe2\x9c"), (1, b"", refused))?;
+    let refused = ["ctable: the input isn't UTF-8"];
+    assert_ends(&rt, &[], sound(b"\xff"), (1, &[], &refused))?;
+    assert_ends(&rt, &[], sound(b"a\n\xe2\x9c"), (1, &[], &refused))?;
     Ok(())
 }
 
@@ -108,10 +127,10 @@ fn words_are_refused_and_nothing_is_read(rt: HostRuntime) -> Result<(), Fail> {
             failing_read: 1,
             ..sound(b"a\n")
         };
-        assert_ends(&rt, &[word], given, (2, b"", USAGE))?;
+        assert_ends(&rt, &[word], given, (2, &[], &[USAGE]))?;
     }
     let words = ["-", "disabled", "ASCII_FULL", "-"];
-    assert_ends(&rt, &words, sound(b"a\n"), (2, b"", USAGE))?;
+    assert_ends(&rt, &words, sound(b"a\n"), (2, &[], &[USAGE]))?;
     Ok(())
 }
 
@@ -121,8 +140,8 @@ fn a_failing_source_is_reported(rt: HostRuntime) -> Result<(), Fail> {
         failing_read: 1,
         ..sound(b"a\n")
     };
-    let reported = b"ctable: the input can't be read\n";
-    assert_ends(&rt, &[], given, (1, b"", reported))?;
+    let reported = ["ctable: the input can't be read"];
+    assert_ends(&rt, &[], given, (1, &[], &reported))?;
     Ok(())
 }
 
@@ -132,8 +151,8 @@ fn a_failing_sink_is_reported(rt: HostRuntime) -> Result<(), Fail> {
         failing_write: 1,
         ..sound(b"a\n")
     };
-    let reported = b"ctable: the output can't be written\n";
-    assert_ends(&rt, &[], given, (1, b"", reported))?;
+    let reported = ["ctable: the output can't be written"];
+    assert_ends(&rt, &[], given, (1, &[], &reported))?;
     Ok(())
 }
 
@@ -144,17 +163,17 @@ fn a_failing_report_changes_nothing(rt: HostRuntime) -> Result<(), Fail> {
         failing_report: 1,
         ..sound(b"a\tb\nc\td\n")
     };
-    assert_ends(&rt, &[], given, (0, SMALL, b""))?;
+    assert_ends(&rt, &[], given, (0, &SMALL, &[]))?;
     let given = Given {
         failing_report: 1,
         ..sound(b"\xff")
     };
-    assert_ends(&rt, &[], given, (1, b"", b""))?;
+    assert_ends(&rt, &[], given, (1, &[], &[]))?;
     let given = Given {
         failing_report: 1,
         ..sound(b"a\n")
     };
-    assert_ends(&rt, &["x"], given, (2, b"", b""))?;
+    assert_ends(&rt, &["x"], given, (2, &[], &[]))?;
     Ok(())
 }
 

@@ -1,14 +1,16 @@
 //! What the tests share.
 
-use comfy_table::{Result, Table};
-use std::alloc::Global;
+use std::alloc::{AllocError, Global};
 use std::process::Abort;
 
-/// A table of one row of one cell.
-pub fn table_of_one_cell(alloc: Global, text: &str) -> Result<Table> {
-    let mut table = Table::new(alloc);
-    table.add_row([text])?;
-    Ok(table)
+/// The lines as one text, each followed by a line feed.
+pub fn joined(alloc: Global, lines: &[&str]) -> std::result::Result<String, AllocError> {
+    let mut text = String::new(alloc);
+    for line in lines {
+        text.push_str(line)?;
+        text.push('\n')?;
+    }
+    Ok(text)
 }
 
 /// Compares texts one by one.

@@ -1,9 +1,7 @@
 //! Texts and the lines that they are wrapped into.
 
 use comfy_parts::Column;
-use comfy_parts::content_split::{
-    ColumnDisplayInfo, measure_text_width, split_line, split_line_by_delimiter, split_long_word,
-};
+use comfy_parts::content_split::{ColumnDisplayInfo, split_line, split_line_by_delimiter};
 use std::alloc::Global;
 use std::test::Fail;
 
@@ -59,21 +57,4 @@ fn a_line_is_divided_at_each_delimiter(rt: HostRuntime) -> Result<(), Fail> {
     assert_eq!(rt; parts[1], "");
     assert_eq!(rt; parts[2], "b");
     Ok(())
-}
-
-#[test]
-fn a_head_is_cut_before_the_first_cluster_without_room(rt: HostRuntime) {
-    let (head, rest) = split_long_word(3, "年年年");
-    assert_eq!(rt; head, "年");
-    assert_eq!(rt; rest, "年年");
-    assert_eq!(rt; measure_text_width("年年年"), 6);
-}
-
-#[test]
-fn an_info_is_as_wide_as_its_content_and_paddings(rt: HostRuntime) {
-    let mut info = ColumnDisplayInfo::new(&Column::new(0), 0);
-    assert_eq!(rt; info.content_width, 1);
-    info.padding = (65535, 65535);
-    assert_eq!(rt; info.width(), 131071);
-    assert!(rt; !info.is_hidden());
 }

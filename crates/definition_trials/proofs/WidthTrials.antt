@@ -7,7 +7,7 @@ use Rattle.comfy_parts.specs.declared.style.cell.CellAlignment.TheVariants.{Left
 use Rattle.comfy_parts.specs.declared.style.column.ColumnConstraint.TheVariants.{Hidden, Absolute, LowerBoundary, UpperBoundary}
 use Rattle.comfy_parts.specs.declared.style.column.Width.TheVariants.{Fixed, Percentage}
 use Rattle.comfy_parts.specs.declared.style.table.ContentArrangement.TheVariants.{Disabled, Dynamic, DynamicFullWidth}
-use Rattle.comfy_table.proofs.TrialTables.{table_of, rows_of, row_of, texts, with_constraints, arranged, with_heights, with_paddings, with_alignments, with_indicator, with_delimiter, aligned_cell, cells_of, rounded_utf8}
+use Rattle.definition_trials.proofs.TrialTables.{table_of, rows_of, row_of, texts, with_constraints, arranged, with_heights, with_paddings, with_alignments, with_indicator, with_delimiter, aligned_cell, cells_of, rounded_utf8}
 use Rattle.comfy_table.specs.Arrangement.{IsArranged, IsDrawingOf}
 use Rattle.comfy_table.specs.TableValue.{TableValue, max_content_widths, new_table, with_row, with_header, discovered, cells_with_header, is_tty, table_width, should_style}
 use Rattle.comfy_table.specs.Lines.{longest_line_at}

@@ -6,7 +6,7 @@ use Rattle.comfy_parts.specs.StyleModifiers.{with_solid_inner_borders}
 use Rattle.comfy_parts.specs.declared.style.cell.CellAlignment.TheVariants.{Left, Right, Center}
 use Rattle.comfy_parts.specs.declared.style.column.ColumnConstraint.TheVariants.{Hidden}
 use Rattle.comfy_parts.specs.declared.style.table_style.TableStyle.{TableStyle}
-use Rattle.comfy_table.proofs.TrialTables.{table_of, rows_of, texts, with_constraints, with_paddings, with_alignments, aligned_cell}
+use Rattle.definition_trials.proofs.TrialTables.{table_of, rows_of, texts, with_constraints, with_paddings, with_alignments, aligned_cell}
 use Rattle.comfy_table.specs.Arrangement.{IsDrawingOf}
 use Rattle.comfy_table.specs.Drawing.{drawing, trimmed_text_of, text_of}
 use Rattle.comfy_table.specs.TableValue.{TableValue, new_table, with_row}

@@ -10,7 +10,7 @@ use Rattle.comfy_parts.specs.declared.style.attribute.Attribute.{Attribute}
 use Rattle.comfy_parts.specs.declared.style.attribute.Attribute.TheVariants.{Bold, SlowBlink, Underlined}
 use Rattle.comfy_parts.specs.declared.style.color.Color.{Color}
 use Rattle.comfy_parts.specs.declared.style.color.Color.TheVariants.{Reset, Green, Black, Rgb, AnsiValue}
-use Rattle.comfy_table.proofs.TrialTables.{texts}
+use Rattle.definition_trials.proofs.TrialTables.{texts}
 use Rattle.comfy_table.specs.Pieces.{piece}
 use Rattle.comfy_table.specs.TableValue.{TableValue, new_table, with_row, max_content_widths, seen_table}
 use Rattle.comfy_parts.specs.VisibleLines.{CellLine, line_texts}

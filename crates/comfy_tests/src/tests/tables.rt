@@ -1,0 +1,158 @@
+//! Tables: their lines, their text, and the calls that `lines` makes.
+
+use super::support::assert_texts;
+use comfy_parts::content_split::ColumnDisplayInfo;
+use comfy_parts::{Column, Result};
+use comfy_table::utils::arrangement::arrange_content;
+use comfy_table::utils::build_table;
+use comfy_table::utils::formatting::content_format::{format_content, format_row};
+use comfy_table::{Cell, IntoRow, Lines, Table};
+use std::alloc::{AllocError, Global};
+use std::process::Abort;
+use std::test::Fail;
+
+/// The drawing of the README's table.
+pub const README: [&str; 9] = [
+    "+----------------------+----------------------+------------------------+",
+    "| Header1              | Header2              | Header3                |",
+    "+======================================================================+",
+    "| This is a text       | This is another text | This is the third text |",
+    "|----------------------+----------------------+------------------------|",
+    "| This is another text | Now                  | This is awesome        |",
+    "|                      | add some             |                        |",
+    "|                      | multi line stuff     |                        |",
+    "+----------------------+----------------------+------------------------+",
+];
+
+const FIRST: [&str; 3] = [
+    "This is a text",
+    "This is another text",
+    "This is the third text",
+];
+
+const SECOND: [&str; 3] = [
+    "This is another text",
+    "Now\nadd some\nmulti line stuff",
+    "This is awesome",
+];
+
+fn readme(alloc: Global) -> Result<Table> {
+    let mut table = Table::new(alloc);
+    table
+        .set_header(["Header1", "Header2", "Header3"])?
+        .add_row(FIRST)?
+        .add_row(SECOND)?;
+    Ok(table)
+}
+
+// A table of one row of two cells.
+fn pair(alloc: Global) -> Result<Table> {
+    let mut table = Table::new(alloc);
+    table.add_row(["a", "b"])?;
+    Ok(table)
+}
+
+// All lines that are left.
+fn collected(alloc: Global, lines: Lines) -> std::result::Result<Vec<String>, AllocError> {
+    let mut collected = Vec::new(alloc);
+    for line in lines {
+        collected.push(line)?;
+    }
+    Ok(collected)
+}
+
+// Compares a text with lines between which it has line feeds.
+fn assert_text(rt: &impl Abort, text: &str, lines: &[&str]) {
+    assert_eq!(rt; text.split('\n').count(), lines.len());
+    for (line, wanted) in text.split('\n').zip(lines) {
+        assert_eq!(rt; line, *wanted);
+    }
+}
+
+#[test]
+fn the_lines_of_the_readme_are_drawn(rt: HostRuntime) -> std::result::Result<(), Fail> {
+    let table = readme(rt.alloc())?;
+    let lines = collected(rt.alloc(), table.lines()?)?;
+    assert_texts(&rt, lines.as_slice(), &README, "lines");
+    Ok(())
+}
+
+#[test]
+fn the_readme_is_built(rt: HostRuntime) -> std::result::Result<(), Fail> {
+    let table = readme(rt.alloc())?;
+    let built = collected(rt.alloc(), build_table(&table)?)?;
+    assert_texts(&rt, built.as_slice(), &README, "built");
+    Ok(())
+}
+
+#[test]
+fn the_rows_of_the_readme_have_heights(rt: HostRuntime) -> std::result::Result<(), Fail> {
+    let table = readme(rt.alloc())?;
+    let infos = arrange_content(&table)?;
+    let content = format_content(&table, infos.as_slice())?;
+    let mut heights = Vec::new(rt.alloc());
+    for lines in &content {
+        heights.push(lines.len())?;
+    }
+    assert_eq!(rt; heights.as_slice(), [1usize, 1, 3].as_slice());
+    Ok(())
+}
+
+#[test]
+fn a_text_joins_its_lines(rt: HostRuntime) -> std::result::Result<(), Fail> {
+    let text = pair(rt.alloc())?.to_text()?;
+    assert_text(
+        &rt,
+        text.as_str(),
+        &[
+            "+---+---+", //
+            "| a | b |",
+            "+---+---+",
+        ],
+    );
+    Ok(())
+}
+
+#[test]
+fn columns_are_borrowed_mutably_in_order(rt: HostRuntime) -> std::result::Result<(), Fail> {
+    let mut table = pair(rt.alloc())?;
+    for (column, left) in table.column_iter_mut().zip([2, 0]) {
+        column.set_padding((left, 0));
+    }
+    let text = table.to_text()?;
+    assert_text(
+        &rt,
+        text.as_str(),
+        &[
+            "+---+-+", //
+            "|  a|b|", "+---+-+",
+        ],
+    );
+    Ok(())
+}
+
+// A cell without a column isn't drawn.
+#[test]
+fn a_row_is_borrowed_mutably(rt: HostRuntime) -> std::result::Result<(), Fail> {
+    let mut table = Table::new(rt.alloc());
+    table.add_row(["one", "two"])?;
+    let three = Cell::new(rt.alloc(), "three")?;
+    if let Some(row) = table.row_mut(0) {
+        row.add_cell(three)?;
+    }
+    let lines = collected(rt.alloc(), table.lines()?)?;
+    assert_eq!(rt; lines[1].as_str(), "| one | two |");
+    Ok(())
+}
+
+// A cell behind the last info is left out.
+#[test]
+fn a_row_is_formatted_by_its_infos(rt: HostRuntime) -> std::result::Result<(), Fail> {
+    let row = ["ab cd", "behind the last info"].into_row(rt.alloc())?;
+    let info = ColumnDisplayInfo::new(&Column::new(0), 3);
+    let lines = format_row(&row, &[info], &Table::new(rt.alloc()))?;
+    assert_eq!(rt; lines.len(), 2);
+    assert_texts(&rt, lines[0].as_slice(), &[" ab  "], "first line");
+    assert_texts(&rt, lines[1].as_slice(), &[" cd  "], "second line");
+    Ok(())
+}

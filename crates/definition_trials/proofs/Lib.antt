@@ -1,0 +1,13 @@
+mod DrawingTrials
+mod InputTrials
+mod OutcomeTrials
+mod PremiseTrials
+mod PresetTrials
+mod StyleModifierTrials
+mod StylingTrials
+mod ThreePlacesTrials
+mod TrialTables
+mod ValueTrials
+mod VisibleTextTrials
+mod WidthTrials
+mod WrappingTrials

@@ -1,0 +1,85 @@
+//! Presets and the parts of a style, as words.
+
+use crate::fault::{Fault, Result};
+use crate::text::optional_character;
+use comfy_table::style::{ContentLineStyle, LineStyle, TableStyle, presets};
+use std::alloc::Global;
+
+/// The preset of a name, with its modifiers.
+pub fn read_style(words: &[&str]) -> Result<TableStyle> {
+    let Some((name, modifiers)) = words.split_first() else {
+        return Err(Fault::NotRead("a style has a name"));
+    };
+    let mut style = preset(name)?;
+    for modifier in modifiers {
+        style = match *modifier {
+            "rounded" => style.with_rounded_corners(),
+            "solid" => style.with_solid_inner_borders(),
+            _ => return Err(Fault::NotRead("a modifier isn't known")),
+        };
+    }
+    Ok(style)
+}
+
+/// Sets one of the six parts of a style.
+pub fn set_part(alloc: Global, style: &mut TableStyle, words: &[&str]) -> Result<()> {
+    match words {
+        [name, left, fill, junction, right] => {
+            let line = LineStyle {
+                left: optional_character(alloc, left)?,
+                fill: optional_character(alloc, fill)?,
+                junction: optional_character(alloc, junction)?,
+                right: optional_character(alloc, right)?,
+            };
+            set_frame_part(style, name, line)
+        }
+        [name, left, junction, right] => {
+            let line = ContentLineStyle {
+                left: optional_character(alloc, left)?,
+                junction: optional_character(alloc, junction)?,
+                right: optional_character(alloc, right)?,
+            };
+            set_content_part(style, name, line)
+        }
+        _ => Err(Fault::NotRead("a part has three or four characters")),
+    }
+}
+
+fn set_frame_part(style: &mut TableStyle, name: &str, line: LineStyle) -> Result<()> {
+    match name {
+        "top" => style.top_border = line,
+        "separator" => style.header_separator = line,
+        "row" => style.row_separator = line,
+        "bottom" => style.bottom_border = line,
+        _ => return Err(Fault::NotRead("a part of four characters isn't known")),
+    }
+    Ok(())
+}
+
+fn set_content_part(style: &mut TableStyle, name: &str, line: ContentLineStyle) -> Result<()> {
+    match name {
+        "header" => style.header_lines = line,
+        "content" => style.content_lines = line,
+        _ => return Err(Fault::NotRead("a part of three characters isn't known")),
+    }
+    Ok(())
+}
+
+fn preset(name: &str) -> Result<TableStyle> {
+    match name {
+        "ASCII_FULL" => Ok(presets::ASCII_FULL),
+        "ASCII_FULL_CONDENSED" => Ok(presets::ASCII_FULL_CONDENSED),
+        "ASCII_NO_BORDERS" => Ok(presets::ASCII_NO_BORDERS),
+        "ASCII_BORDERS_ONLY" => Ok(presets::ASCII_BORDERS_ONLY),
+        "ASCII_BORDERS_ONLY_CONDENSED" => Ok(presets::ASCII_BORDERS_ONLY_CONDENSED),
+        "ASCII_HORIZONTAL_ONLY" => Ok(presets::ASCII_HORIZONTAL_ONLY),
+        "ASCII_MARKDOWN" => Ok(presets::ASCII_MARKDOWN),
+        "UTF8_FULL" => Ok(presets::UTF8_FULL),
+        "UTF8_FULL_CONDENSED" => Ok(presets::UTF8_FULL_CONDENSED),
+        "UTF8_NO_BORDERS" => Ok(presets::UTF8_NO_BORDERS),
+        "UTF8_BORDERS_ONLY" => Ok(presets::UTF8_BORDERS_ONLY),
+        "UTF8_HORIZONTAL_ONLY" => Ok(presets::UTF8_HORIZONTAL_ONLY),
+        "NOTHING" => Ok(presets::NOTHING),
+        _ => Err(Fault::NotRead("a style isn't known")),
+    }
+}
