@@ -1,11 +1,11 @@
 -- An end that is wider than a line and one place shows that each longer end is wider than a line.
-use Rattle.std.proofs.Common.{◌≡◌, ◌<◌, ◌≤◌, ◌++◌, ◌∙◌, ℕ, ◌+◌, ◌-◌, length, take, drop, sym, ap, ap₂, subst, arith, length-append, length-take-le, take-add, [], refl}
+use Rattle.std.proofs.Common.{◌≡◌, ◌<◌, ◌≤◌, ◌++◌, ◌∙◌, ℕ, ◌+◌, ◌-◌, length, take, drop, sym, ap, ap₂, subst, arith, length-append, take-add, [], refl}
 use Rattle.std.proofs.Math.Seq.{drop-append-add, drop-append_seam, take-append_seam}
 use Rattle.std.proofs.lemmas.List.{append_assoc, take-append-drop}
 use Rattle.std.proofs.lemmas.Str.{IsCharBoundary-from_drop, IsUtf8-append, IsUtf8-nil, IsUtf8-take}
 use Rattle.std.specs.Str.{IsCharBoundary, IsUtf8}
 use Rattle.comfy_parts.proofs.TailLemmas.{measure-tail}
-use Rattle.comfy_parts.specs.Following.{IsFirstElement, IsWideFrom}
+use Rattle.comfy_parts.specs.Following.{ArePlacesUpTo, IsFirstElement, IsWideFrom}
 use Rattle.comfy_parts.specs.Text.{Text, measure}
 
 pub wide-from : (w : ℕ) (word front end : Text) → word ≡ front ++ end → IsUtf8 end → w + 1 < measure end → IsWideFrom w (length end) word
@@ -33,13 +33,20 @@ rest-wide text first end utf8 cut inside w bytes wide =
     let front : take first text ≡ take end text ++ take (first - end) (drop end text) = ap (λ n. take n text) sum ∙ take-add end (first - end) text in
     wide-behind w bytes (take first text) (take end text) (take (first - end) (drop end text)) front (IsUtf8-take text end utf8 cut) wide
 
--- the first element of a text is its first bytes
-pub first-wide : (d : ℕ) (text first behind : Text) → IsFirstElement d text first behind → (w bytes : ℕ) → IsWideFrom w bytes first → IsWideFrom w bytes (take (length first) text)
-first-wide d text first behind is w bytes wide =
-    subst (IsWideFrom w bytes) (sym (ap (λ t. take (length first) t) (sym is.joined) ∙ take-append_seam first behind)) wide
+-- no end of a word has more bytes than the word
+pub none-wider : (w : ℕ) (word : Text) → IsWideFrom w (length word + 1) word
+none-wider w word front tail splits before behind long =
+    let lengths = ap length splits ∙ length-append front tail in
+    absurd (omega (arith, lengths, long))
 
--- a first element of that many bytes is wider than a line
-pub known-wide : (d : ℕ) (text : Text) (first : ℕ) → IsCharBoundary text first → IsFirstElement d text (take first text) (drop first text) → (w bytes : ℕ) → IsWideFrom w bytes (take first text) → bytes ≤ first → w < measure (take first text)
-known-wide d text first place is w bytes wide known =
-    let long : length (take first text) ≡ first = length-take-le first text place.0 in
-    wide [] (take first text) refl IsUtf8-nil is.whole_first (omega (arith, long, known))
+-- a word of that many bytes is wider than a line
+pub known-wide : (w bytes : ℕ) (word : Text) → IsUtf8 word → IsWideFrom w bytes word → bytes ≤ length word → w < measure word
+known-wide w bytes word utf8 wide known = wide [] word refl IsUtf8-nil utf8 known
+
+-- the first element of a text is its first bytes
+pub first-is : (d : ℕ) (text first behind : Text) → IsFirstElement d text first behind → take (length first) text ≡ first
+first-is d text first behind is = ap (λ t. take (length first) t) (sym is.joined) ∙ take-append_seam first behind
+
+-- what a word measures is exact
+pub exact-places : (w places : ℕ) (word : Text) → places ≡ measure word → ArePlacesUpTo w places word
+exact-places w places word exact = record { fits = λ _. exact; wider = λ wide. omega (arith, exact, wide) }

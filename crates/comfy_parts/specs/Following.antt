@@ -1,6 +1,7 @@
 -- An element at a text's front, what follows it, and how much of that a line takes.
-use Rattle.std.specs.Prelude.{◌≡◌, ℕ, ◌+◌, ◌-◌, ◌<◌, ◌≤◌, nat_lt, nat_le, ◌&&◌, List, [], ◌∷◌, ◌++◌, length, encode_utf8, if◌then◌else◌, IsUtf8}
-use Rattle.comfy_parts.specs.Text.{Text, measure, head, elements}
+use Rattle.std.specs.Prelude.{◌≡◌, ℕ, ◌+◌, ◌-◌, ◌<◌, ◌≤◌, nat_lt, nat_le, ◌&&◌, List, [], ◌∷◌, ◌++◌, length, take, drop, false, encode_utf8, if◌then◌else◌, IsUtf8}
+use Rattle.std.specs.Str.{IsCharBoundary}
+use Rattle.comfy_parts.specs.Text.{Text, measure, head, elements, begins_with}
 
 -- what follows an element: a delimiter and a text of these elements, or nothing where there are none
 abbrev pub Follow : ℕ → List Text → Text → Type 0
@@ -19,6 +20,21 @@ pub record IsFirstElement (d : ℕ) (text first behind : Text) : Type 0 where
 -- each end of a word that has at least so many bytes is wider than w places
 abbrev pub IsWideFrom : ℕ → ℕ → Text → Type 0
 IsWideFrom w bytes word = (front tail : Text) → word ≡ front ++ tail → IsUtf8 front → IsUtf8 tail → bytes ≤ length tail → w < measure tail
+
+-- the places of a word: exact where they are at most w, and otherwise the word is wider than w
+pub record ArePlacesUpTo (w places : ℕ) (word : Text) : Type 0 where
+  pub fits : places ≤ w → places ≡ measure word
+  pub wider : w < places → w < measure word
+
+-- a text at the first character of a line of w places: its first element has so many bytes and places, and each of its ends with at least `shown` bytes is wider than the line
+pub record IsAtLine (w d : ℕ) (text : Text) (first places shown : ℕ) : Type 0 where
+  pub narrow : w ≤ 65535
+  pub whole : IsUtf8 text
+  pub begins_otherwise : begins_with d text ≡ false
+  pub place : IsCharBoundary text first
+  pub element : IsFirstElement d text (take first text) (drop first text)
+  pub places_are : ArePlacesUpTo w places (take first text)
+  pub wide_from : IsWideFrom w shown (take first text)
 
 -- the bytes of the next element that a line of w places takes, with the delimiter before it, where not the whole element has room
 abbrev pub part_taken : ℕ → ℕ → ℕ → Text → ℕ

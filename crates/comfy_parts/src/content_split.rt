@@ -6,18 +6,18 @@ ghost use Rattle.comfy_parts.specs.Wrapping.{IsWrapped, wrapped};
 
 pub mod display_info;
 mod ends;
+mod lines;
 mod prefix;
 mod sequences;
 mod width;
 
 use crate::error::Result;
 pub use display_info::ColumnDisplayInfo;
-use ends::{first_element, line_end, line_start};
+pub use lines::{WrappedLines, wrapped_lines};
 pub use prefix::split_long_word;
 pub use sequences::visible_text;
 use std::alloc::Global;
 pub use width::measure_text_width;
-use width::wide_end;
 
 /// What stands between the delimiters of a line, in order and empty parts too.
 pub fn split_line_by_delimiter(alloc: Global, line: &str, delimiter: char) -> Result<Vec<&str>>
@@ -44,27 +44,26 @@ pub fn split_line(
     ensures lines { IfOk result (λ v. map string_bytes v.items ≡ wrapped info.now.content_width delimiter line.now) }
     ensures slices { IfOk result (λ v. IsWrapped info.now.content_width delimiter line.now (map string_bytes v.items)) }
 {
-    let width = usize::from(info.content_width);
-    let mut lines: Vec<String> = Vec::new(alloc);
-    let mut rest = line_start(line, delimiter);
-    let (word, _) = first_element(rest, delimiter);
-    let mut first = word.len();
-    let mut wide = wide_end(word, width);
-    while !rest.is_empty() {
-        let end = line_end(rest, first, wide, width, delimiter);
-        let (front, behind) = rest.split_at(end);
-        lines.push(String::from_str(alloc, front)?)?;
-        if end < first {
-            // The line ends inside a long element, and its rest comes next: its end isn't searched for again, nor
-            // measured.
-            rest = behind;
-            first -= end;
-        } else {
-            rest = line_start(behind, delimiter);
-            let (word, _) = first_element(rest, delimiter);
-            first = word.len();
-            wide = wide_end(word, width);
-        }
+    let mut lines = Vec::new(alloc);
+    for part in wrapped_lines(line, info, delimiter) {
+        lines.push(String::from_str(alloc, part)?)?;
+    }
+    Ok(lines)
+}
+
+/// The lines of `split_line`, borrowed from the text. A text that gives no line takes no memory.
+pub fn split_line_ref<'a>(
+    alloc: Global,
+    line: &'a str,
+    info: &ColumnDisplayInfo,
+    delimiter: char,
+) -> Result<Vec<&'a str>>
+    ensures lines { IfOk result (λ v. map (λ x. x.now) v.items ≡ wrapped info.now.content_width delimiter line.now) }
+    ensures slices { IfOk result (λ v. IsWrapped info.now.content_width delimiter line.now (map (λ x. x.now) v.items)) }
+{
+    let mut lines = Vec::new(alloc);
+    for part in wrapped_lines(line, info, delimiter) {
+        lines.push(part)?;
     }
     Ok(lines)
 }

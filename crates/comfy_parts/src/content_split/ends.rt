@@ -2,7 +2,7 @@
 
 ghost use Rattle.std.specs.Prelude.{◌≡◌, ℕ, ◌+◌, ◌<◌, ◌≤◌, List, length, take, drop, false};
 ghost use Rattle.std.specs.Str.{IsCharBoundary};
-ghost use Rattle.comfy_parts.specs.Following.{Follow, IsFirstElement, bytes_taken, part_taken};
+ghost use Rattle.comfy_parts.specs.Following.{ArePlacesUpTo, Follow, IsFirstElement, bytes_taken, part_taken};
 ghost use Rattle.comfy_parts.specs.Text.{Text, begins_with, measure};
 ghost use Rattle.comfy_parts.specs.Wrapping.{head_or_first, line_end, wrapped};
 
@@ -32,26 +32,22 @@ pub fn first_element(text: &str, delimiter: char) -> (&str, &str)
     }
 }
 
-/// The place where the line from the text's front ends. The text's first element has `first` bytes, and is known to be
-/// wider than a line where these are at least `wide`.
+/// The place where the line from the text's front ends. The text's first element has `first` bytes and takes `places`
+/// columns; where it is wider than a line, any number above the line's width is passed for `places`.
 pub(crate) fn line_end(
     text: &str,
     first: usize,
-    wide: usize,
+    places: usize,
     width: usize,
     delimiter: char,
 ) -> usize
     requires place { IsCharBoundary text.now first }
     requires element { IsFirstElement delimiter text.now (take first text.now) (drop first text.now) }
-    requires wide { wide ≤ first → width < measure (take first text.now) }
+    requires places { ArePlacesUpTo width places (take first text.now) }
     requires narrow { width ≤ 65535 }
     ensures { result ≡ line_end width delimiter text.now }
 {
     let (word, behind) = text.split_at(first);
-    if first >= wide {
-        return end_within(word, width);
-    }
-    let places = measure_text_width(word);
     if places > width {
         return end_within(word, width);
     }

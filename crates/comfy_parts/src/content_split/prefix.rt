@@ -3,7 +3,7 @@
 ghost use Rattle.std.specs.Prelude.{◌≡◌, ◌++◌};
 ghost use Rattle.comfy_parts.specs.Text.{head};
 
-use crate::content_split::width::measure_text_width;
+use crate::content_split::width::{is_printable, measure_text_width};
 use unicode_segmentation::UnicodeSegmentation;
 
 /// The longest front of whole grapheme clusters whose summed measures are at most `allowed_width` places, and the rest
@@ -12,6 +12,12 @@ pub fn split_long_word(allowed_width: usize, word: &str) -> (&str, &str)
     ensures head { result.0.now ≡ head allowed_width word.now }
     ensures rest { result.0.now ++ result.1.now ≡ word.now }
 {
+    // Where a character of printable ASCII stands behind another, it begins a cluster of its own. So the second byte
+    // past the head shows that nothing joins the first one.
+    let looked_at = allowed_width.saturating_add(2).min(word.len());
+    if is_printable(&word.as_bytes()[..looked_at]) {
+        return word.split_at(allowed_width.min(word.len()));
+    }
     let mut left = allowed_width;
     for (at, cluster) in word.grapheme_indices(true) {
         let width = measure_text_width(cluster);

@@ -2,7 +2,7 @@
 
 ghost use Rattle.std.specs.Prelude.{◌≡◌, ◌+◌, ◌*◌, ◌≤◌, length, nat_lt, encode_utf8};
 ghost use Rattle.comfy_parts.specs.Following.{IsWideFrom};
-ghost use Rattle.comfy_parts.specs.Text.{measure};
+ghost use Rattle.comfy_parts.specs.Text.{is_printable_ascii, measure};
 
 use unicode_width::UnicodeWidthStr;
 
@@ -14,7 +14,26 @@ pub fn measure_text_width(text: &str) -> usize
     ensures value { result ≡ measure text.now }
     ensures bound { result ≤ 2 * length text.now }
 {
+    if is_printable(text.as_bytes()) {
+        return text.len();
+    }
     text.width()
+}
+
+/// Whether these bytes are printable ASCII. Each is then a character of one column.
+pub fn is_printable(bytes: &[u8]) -> bool
+    ensures { result ≡ is_printable_ascii bytes.now }
+{
+    // Text in another script shows it at its first byte. Otherwise all bytes are looked at without a test between them,
+    // which is faster on long texts.
+    if !bytes.is_empty() && bytes[0] > 0x7e {
+        return false;
+    }
+    let mut printable = true;
+    for byte in bytes {
+        printable &= *byte >= 0x20 && *byte <= 0x7e;
+    }
+    printable
 }
 
 /// How many bytes of a word's end show that the word is wider than these places: each end of the word with at least so

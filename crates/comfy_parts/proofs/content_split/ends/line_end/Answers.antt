@@ -6,25 +6,17 @@ use Rattle.comfy_parts.specs.Wrapping.{head_or_first}
 use Rattle.comfy_parts.proofs.FollowingLemmas.{line_end-wide, line_end-narrow}
 use Rattle.comfy_parts.proofs.content_split.ends.line_end.Goals as goal
 
-pub returns-then-first-wide : goal.returns-then-first-wide
-returns-then-first-wide c =
-    let word = take c.args.first c.args.text.now in
-    let wide : nat_lt c.args.width (measure word) ≡ true = grind (arith, nat_tests, c.requires.wide c.if-first-wide.true) in
-    c.end_within.ensures ∙ ap (λ t. length (head_or_first c.args.width t)) c.split_at.ensures.front
-    ∙ sym (line_end-wide c.args.width c.args.delimiter c.args.text.now word (drop c.args.first c.args.text.now) c.requires.element wide)
-
 pub returns-then-places-width : goal.returns-then-places-width
 returns-then-places-width c =
     let word = take c.args.first c.args.text.now in
-    let places = c.measure_text_width-places.ensures.value ∙ ap measure c.split_at.ensures.front in
-    let wide : nat_lt c.args.width (measure word) ≡ true = grind (arith, nat_tests, places, c.if-places-width.true) in
-    c.end_within-then-places-width.ensures ∙ ap (λ t. length (head_or_first c.args.width t)) c.split_at.ensures.front
+    let wide : nat_lt c.args.width (measure word) ≡ true = grind (arith, nat_tests, c.requires.places.wider c.if-places-width.true) in
+    c.end_within.ensures ∙ ap (λ t. length (head_or_first c.args.width t)) c.split_at.ensures.front
     ∙ sym (line_end-wide c.args.width c.args.delimiter c.args.text.now word (drop c.args.first c.args.text.now) c.requires.element wide)
 
 pub returns : goal.returns
 returns c =
     let word = take c.args.first c.args.text.now in
-    let places = c.measure_text_width-places.ensures.value ∙ ap measure c.split_at.ensures.front in
+    let places = c.requires.places.fits c.if-places-width.false in
     let narrow : nat_lt c.args.width (measure word) ≡ false = grind (arith, nat_tests, places, c.if-places-width.false) in
     let long : length word ≡ c.args.first = ap length (sym c.split_at.ensures.front) ∙ c.split_at.ensures.front_len in
     let taken = c.taken_behind.ensures.value c.requires.element.others (rw c.split_at.ensures.back c.requires.element.follow) in

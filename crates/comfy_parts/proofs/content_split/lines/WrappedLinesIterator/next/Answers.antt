@@ -1,0 +1,43 @@
+use Rattle.std.proofs.Common.{length, ◌∙◌, sym}
+use Rattle.comfy_parts.proofs.LinesLemmas.{goes, line-place, line-then, rest-at, rest-shown}
+use Rattle.comfy_parts.proofs.StartLemmas.{not_empty, wrapped-empty}
+use Rattle.comfy_parts.proofs.content_split.lines.WrappedLinesIterator.next.Goals as goal
+
+pub returns-then-is_empty-clause-steps : goal.returns-then-is_empty-clause-steps
+returns-then-is_empty-clause-steps c =
+    let none = sym c.self.view_is ∙ wrapped-empty c.self.inside.width c.self.inside.delimiter c.self.inside.rest.now c.is_empty.result c.is_empty.ensures c.if-is_empty.true in
+    (none, none)
+
+pub split_at-requires : goal.split_at-requires
+split_at-requires c =
+    let some = not_empty (length c.self.inside.rest.now) c.is_empty.result c.is_empty.ensures c.if-is_empty.false in
+    line-place _ _ _ _ _ _ c.self.invariant some c.line_end-end.result c.line_end-end.ensures
+
+pub returns-then-end-self-clause-steps : goal.returns-then-end-self-clause-steps
+returns-then-end-self-clause-steps c =
+    let some = not_empty (length c.self.inside.rest.now) c.is_empty.result c.is_empty.ensures c.if-is_empty.false in
+    let taken = line-then _ _ _ _ _ _ c.self.invariant some _ _ _ c.line_end-end.ensures c.split_at.ensures.front c.split_at.ensures.back in
+    rw (c.self-then-end-self.view_is, c.lines_behind.ensures) (sym c.self.view_is ∙ taken)
+
+pub returns-then-end-self-clause-goes : goal.returns-then-end-self-clause-goes
+returns-then-end-self-clause-goes c = goes _ (λ _. tt) _ _ _ (returns-then-end-self-clause-steps c)
+
+pub known_wide_end-self-inside-requires : goal.known_wide_end-self-inside-requires
+known_wide_end-self-inside-requires c =
+    let some = not_empty (length c.self.inside.rest.now) c.is_empty.result c.is_empty.ensures c.if-is_empty.false in
+    let place = line-place _ _ _ _ _ _ c.self.invariant some c.line_end-end.result c.line_end-end.ensures in
+    rest-shown _ _ _ _ _ _ c.self.invariant c.line_end-end.result place c.if-end-self.false _ _ c.split_at.ensures.back c.split_at-2.ensures.front
+
+pub invariant_of-self-2 : goal.invariant_of-self-2
+invariant_of-self-2 c =
+    let some = not_empty (length c.self.inside.rest.now) c.is_empty.result c.is_empty.ensures c.if-is_empty.false in
+    let place = line-place _ _ _ _ _ _ c.self.invariant some c.line_end-end.result c.line_end-end.ensures in
+    rest-at _ _ _ _ _ _ c.self.invariant c.line_end-end.result place c.if-end-self.false _ _ c.split_at.ensures.back c.split_at-2.ensures.front _ _ c.places_up_to-self-inside.ensures c.known_wide_end-self-inside.ensures
+
+pub returns-clause-steps : goal.returns-clause-steps
+returns-clause-steps c =
+    let some = not_empty (length c.self.inside.rest.now) c.is_empty.result c.is_empty.ensures c.if-is_empty.false in
+    sym c.self.view_is ∙ line-then _ _ _ _ _ _ c.self.invariant some _ _ _ c.line_end-end.ensures c.split_at.ensures.front c.split_at.ensures.back
+
+pub returns-clause-goes : goal.returns-clause-goes
+returns-clause-goes c = goes _ (λ _. tt) _ _ _ (returns-clause-steps c)

@@ -1,0 +1,23 @@
+use Rattle.std.proofs.Common.{◌+◌, length, sym, subst}
+use Rattle.comfy_parts.specs.Following.{ArePlacesUpTo, IsWideFrom}
+use Rattle.comfy_parts.proofs.FollowingLemmas.{first-at}
+use Rattle.comfy_parts.proofs.WideEndLemmas.{exact-places, first-is, none-wider}
+use Rattle.comfy_parts.proofs.content_split.lines.lines_behind.Goals as goal
+
+pub invariant_of-result : goal.invariant_of-result
+invariant_of-result c =
+    let w = c.args.width in
+    let d = c.args.delimiter in
+    let rest = c.line_start-rest.result.now in
+    let word = c.first_element.result.0.now in
+    let at = first-at d rest word c.first_element.result.1.now c.first_element.ensures in
+    let same = sym (first-is d rest word c.first_element.result.1.now c.first_element.ensures) in
+    record {
+      narrow = c.requires.narrow;
+      whole = c.line_start-rest.utf8;
+      begins_otherwise = c.line_start-rest.ensures.begins;
+      place = at.0;
+      element = at.1;
+      places_are = subst (ArePlacesUpTo w c.measure_text_width.result) same (exact-places w c.measure_text_width.result word c.measure_text_width.ensures.value);
+      wide_from = subst (IsWideFrom w (length word + 1)) same (none-wider w word);
+    }

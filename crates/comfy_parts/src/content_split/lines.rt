@@ -1,0 +1,125 @@
+//! The lines of a wrapped text, one after another.
+
+ghost use Rattle.std.specs.Prelude.{◌≡◌, ◌≤◌, IsUtf8};
+ghost use Rattle.std.specs.Iterator.{YieldsFirstBy, item_count};
+ghost use Rattle.comfy_parts.specs.Following.{ArePlacesUpTo, IsWideFrom};
+ghost use Rattle.comfy_parts.specs.Wrapping.{IsWrapped, wrapped};
+
+use crate::content_split::display_info::ColumnDisplayInfo;
+use crate::content_split::ends::{first_element, line_end, line_start};
+use crate::content_split::width::{measure_text_width, wide_end};
+use std::marker::Model;
+
+/// The lines of a wrapped text that are still to come, in order. Each is borrowed from the text, and none takes memory.
+#[derive(Drop)]
+pub struct WrappedLines<'a> {
+    // the text from the first character of the next line on
+    rest: &'a str,
+    // the bytes of its first element
+    first: usize,
+    // the columns of that element; where it is wider than a line, any number above the line's width
+    places: usize,
+    // how many bytes of that element's end show that it is wider than a line; more than it has where this isn't known
+    wide: usize,
+    width: usize,
+    delimiter: char,
+}
+
+impl<'a> Model for WrappedLines<'a> {
+    ghost use Rattle.std.specs.Prelude.{List, ℕ};
+    ghost use Rattle.comfy_parts.specs.Following.{IsAtLine};
+    ghost use Rattle.comfy_parts.specs.Wrapping.{wrapped};
+
+    ghost Value = { List (List ℕ) };
+
+    ghost view = { λ s. wrapped s.width s.delimiter s.rest.now };
+
+    ghost invariant = { λ s. IsAtLine s.width s.delimiter s.rest.now s.first s.places s.wide };
+}
+
+/// The lines of a text that is wrapped at the column's content width, one after another. They are those of `split_line`.
+pub fn wrapped_lines<'a>(
+    line: &'a str,
+    info: &ColumnDisplayInfo,
+    delimiter: char,
+) -> WrappedLines<'a>
+    ensures lines { result ≡ wrapped info.now.content_width delimiter line.now }
+    ensures slices { IsWrapped info.now.content_width delimiter line.now result }
+{
+    lines_behind(line, usize::from(info.content_width), delimiter)
+}
+
+// The lines of a text behind the delimiters at its front.
+fn lines_behind<'a>(text: &'a str, width: usize, delimiter: char) -> WrappedLines<'a>
+    requires narrow { width ≤ 65535 }
+    ensures { result ≡ wrapped width delimiter text.now }
+{
+    let rest = line_start(text, delimiter);
+    let (word, _) = first_element(rest, delimiter);
+    WrappedLines {
+        rest,
+        first: word.len(),
+        places: measure_text_width(word),
+        wide: word.len() + 1,
+        width,
+        delimiter,
+    }
+}
+
+impl<'a> Iterator for WrappedLines<'a> {
+    type Item = &'a str;
+
+    ghost next_gives = { YieldsFirstBy (λ line. line.now) (λ lines. lines) };
+
+    ghost remaining = { item_count (λ lines. lines) };
+
+    fn next(&mut self) -> Option<&'a str> {
+        if self.rest.is_empty() {
+            return None;
+        }
+        let end = line_end(
+            self.rest,
+            self.first,
+            self.places,
+            self.width,
+            self.delimiter,
+        );
+        let (line, behind) = self.rest.split_at(end);
+        if end >= self.first {
+            *self = lines_behind(behind, self.width, self.delimiter);
+            return Some(line);
+        }
+        // The line ends inside a long element, and its rest comes next.
+        self.rest = behind;
+        self.first -= end;
+        let (word, _) = behind.split_at(self.first);
+        self.wide = known_wide_end(word, self.wide, self.width);
+        self.places = places_up_to(word, self.wide, self.width);
+        Some(line)
+    }
+}
+
+// How many bytes of a word's end show that it is wider than a line, where `wide` of them or the whole word do.
+fn known_wide_end(word: &str, wide: usize, width: usize) -> usize
+    requires { IsWideFrom width wide word.now }
+    ensures { IsWideFrom width result word.now }
+{
+    if word.len() >= wide {
+        wide
+    } else {
+        wide_end(word, width)
+    }
+}
+
+// The columns of a word, or more than a line has where the bytes of its end show that it is wider. Then it isn't measured.
+fn places_up_to(word: &str, wide: usize, width: usize) -> usize
+    requires wide { IsWideFrom width wide word.now }
+    requires narrow { width ≤ 65535 }
+    ensures { ArePlacesUpTo width result word.now }
+{
+    if word.len() >= wide {
+        width + 1
+    } else {
+        measure_text_width(word)
+    }
+}
