@@ -1,4 +1,5 @@
 pub mod Arrangement
+pub mod BorrowedLines
 pub mod Contents
 pub mod DisabledWidths
 pub mod Drawing

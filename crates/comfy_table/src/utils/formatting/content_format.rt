@@ -7,7 +7,7 @@ ghost use Rattle.comfy_table.specs.Pieces.{content_lines, row_lines, visible_inf
 ghost use Rattle.comfy_table.specs.DrawnCells.{drawn_cell, greatest_height, height_of, lines_of_optional, piece_at};
 
 use crate::table::Table;
-use crate::utils::formatting::cell_lines::{cell_lines, cut_to_limit};
+use crate::utils::formatting::cell_lines::{CellLines, cell_lines, cut_to_limit};
 use crate::utils::formatting::piece::{push_piece, push_spaces};
 use comfy_parts::content_split::ColumnDisplayInfo;
 use comfy_parts::{Cell, Result, Row};
@@ -20,16 +20,16 @@ pub struct DrawnCell<'a> {
     info: &'a ColumnDisplayInfo,
     // none where the row has no cell for the column
     cell: Option<&'a Cell>,
-    lines: Vec<String>,
+    lines: CellLines<'a>,
 }
 
 impl<'a> Model for DrawnCell<'a> {
-    ghost use Rattle.std.specs.Prelude.{map, option_copied, option_to_list, string_bytes};
+    ghost use Rattle.std.specs.Prelude.{option_copied};
     ghost use Rattle.comfy_table.specs.DrawnCells.{DrawnCell};
 
     ghost Value = { DrawnCell };
 
-    ghost view = { λ d. record { info = d.info.now; cell = option_copied d.cell; lines = map string_bytes d.lines.items } };
+    ghost view = { λ d. record { info = d.info.now; cell = option_copied d.cell; lines = d.lines } };
 }
 
 impl<'a> DrawnCell<'a> {
@@ -48,7 +48,7 @@ impl<'a> DrawnCell<'a> {
         ensures { OnOk result (string_bytes text.new ≡ string_bytes text.old ++ piece_at table.now line self.now) }
     {
         match (self.cell, self.lines.get(line)) {
-            (Some(cell), Some(drawn)) => push_piece(text, table, cell, self.info, drawn.as_str()),
+            (Some(cell), Some(drawn)) => push_piece(text, table, cell, self.info, &drawn),
             _ => push_spaces(text, self.info.width()),
         }
     }
@@ -114,7 +114,7 @@ fn header_content(
 pub fn drawn_cells<'a>(
     row: &'a Row,
     infos: &'a [ColumnDisplayInfo],
-    table: &Table,
+    table: &'a Table,
 ) -> Result<Vec<DrawnCell<'a>>>
     ensures cells { IfOk result (λ cells. cells.items ≡ map (drawn_cell table.now row.now) (visible_infos infos.now)) }
     ensures lines { IfOk result (λ cells. map (λ k. map (piece_at table.now k) cells.items) (range_with_len 0 (greatest_height cells.items)) ≡ row_lines table.now infos.now row.now) }
@@ -123,7 +123,7 @@ pub fn drawn_cells<'a>(
     let mut cells = Vec::with_capacity(alloc, infos.len())?;
     for (position, info) in infos.iter().enumerate() {
         if !info.is_hidden() {
-            cells.push(drawn_cell(alloc, row, position, info, table)?)?;
+            cells.push(drawn_cell(row, position, info, table)?)?;
         }
     }
     Ok(cells)
@@ -131,42 +131,38 @@ pub fn drawn_cells<'a>(
 
 // The cell of a row at the position of a visible column.
 fn drawn_cell<'a>(
-    alloc: Global,
     row: &'a Row,
     position: usize,
     info: &'a ColumnDisplayInfo,
-    table: &Table,
+    table: &'a Table,
 ) -> Result<DrawnCell<'a>>
     ensures { IfOk result (λ cell. cell ≡ drawn_cell table.now row.now (position, info.now)) }
 {
     let cell = row.cell_iter().as_slice().get(position);
-    let lines = row_cell_lines(alloc, row, cell, info, table)?;
+    let lines = row_cell_lines(row, cell, info, table)?;
     Ok(DrawnCell { info, cell, lines })
 }
 
-// The lines of a cell in its row: wrapped at the column's width and cut at the row's height.
-fn row_cell_lines(
-    alloc: Global,
+// The lines of a cell in its row: wrapped at the column's width and cut to the row's height.
+fn row_cell_lines<'a>(
     row: &Row,
-    cell: Option<&Cell>,
+    cell: Option<&'a Cell>,
     info: &ColumnDisplayInfo,
-    table: &Table,
-) -> Result<Vec<String>>
-    ensures { IfOk result (λ lines. map string_bytes lines.items ≡ lines_of_optional table.now row.now info.now (option_copied cell.entry)) }
+    table: &'a Table,
+) -> Result<CellLines<'a>>
+    ensures { IfOk result (λ lines. lines ≡ lines_of_optional table.now row.now info.now (option_copied cell.entry)) }
 {
+    let alloc = *table.columns.allocator();
     let Some(cell) = cell else {
-        return Ok(Vec::new(alloc));
+        return Ok(CellLines::none(alloc));
     };
-    // Reading a field opens the table, which tells that no call sets custom styling yet.
-    let _ = &table.custom_styling;
     let lines = cell_lines(alloc, cell, info, delimiter(cell, info, table))?;
-    cut_to_limit(
-        alloc,
+    Ok(cut_to_limit(
         lines,
         row.height_limit(),
         info.content_width,
         table.truncation_indicator(),
-    )
+    ))
 }
 
 /// The character at which the texts of a cell may break: its own delimiter, else its column's, else the table's, else a

@@ -5,8 +5,9 @@ ghost use Rattle.comfy_parts.specs.Text.{spaces};
 ghost use Rattle.comfy_table.specs.Pieces.{cell_alignment, free_before, piece};
 
 use crate::table::Table;
+use crate::utils::formatting::cell_lines::Line;
 use crate::utils::formatting::sequences::{push_style_begin, push_style_end};
-use comfy_parts::content_split::{ColumnDisplayInfo, measure_text_width};
+use comfy_parts::content_split::ColumnDisplayInfo;
 use comfy_parts::style::CellAlignment;
 use comfy_parts::{Cell, Result};
 
@@ -17,18 +18,18 @@ pub fn push_piece(
     table: &Table,
     cell: &Cell,
     info: &ColumnDisplayInfo,
-    line: &str,
+    line: &Line,
 ) -> Result<()>
     ensures { OnOk result (string_bytes text.new ≡ string_bytes text.old ++ piece table.now cell.now info.now line.now) }
 {
-    let (left, right) = spaces_beside(cell, info, measure_text_width(line));
+    let (left, right) = spaces_beside(cell, info, line.width(text)?);
     if !table.writes_styles() {
         return push_padded(text, left, line, right);
     }
     if table.style_text_only {
         push_spaces(text, left)?;
         push_style_begin(text, cell)?;
-        text.push_str(line)?;
+        line.push_to(text)?;
         push_style_end(text, cell)?;
         return push_spaces(text, right);
     }
@@ -49,11 +50,11 @@ fn spaces_beside(cell: &Cell, info: &ColumnDisplayInfo, width: usize) -> (usize,
 }
 
 // Appends a line between spaces.
-fn push_padded(text: &mut String, left: usize, line: &str, right: usize) -> Result<()>
+fn push_padded(text: &mut String, left: usize, line: &Line, right: usize) -> Result<()>
     ensures { OnOk result (string_bytes text.new ≡ string_bytes text.old ++ (spaces left ++ (line.now ++ spaces right))) }
 {
     push_spaces(text, left)?;
-    text.push_str(line)?;
+    line.push_to(text)?;
     push_spaces(text, right)
 }
 
