@@ -6,6 +6,7 @@ pub mod Presets
 pub mod RowLoans
 pub mod StyleModifiers
 pub mod Text
+pub mod TextLines
 pub mod VisibleLines
 pub mod VisibleText
 pub mod WrappedRow

@@ -2,17 +2,21 @@
 
 ghost use Rattle.std.specs.Prelude.{◌≡◌, string_bytes, map, IfOk, IfSome, Some};
 ghost use Rattle.comfy_parts.specs.CellValue.{IsCell, content_of, plain_cell};
+ghost use Rattle.comfy_parts.specs.Text.{measure};
+
+mod text_lines;
 
 use crate::error::Result;
 use crate::style::{Attribute, CellAlignment, Color};
 use std::alloc::Global;
 use std::fmt::Display;
 use std::marker::Model;
+use text_lines::TextLines;
 
 /// One cell of a table. It has at least one text line, and no text line holds a line feed.
 #[derive(Debug, Drop)]
 pub struct Cell {
-    text_lines: Vec<String>,
+    text_lines: TextLines,
     delimiter: Option<char>,
     alignment: Option<CellAlignment>,
     foreground: Option<Color>,
@@ -21,14 +25,13 @@ pub struct Cell {
 }
 
 impl Model for Cell {
-    ghost use Rattle.std.specs.Prelude.{map, string_bytes};
     ghost use Rattle.comfy_parts.specs.CellValue.{CellValue, HasTextLines, IsDelimiter};
 
     ghost Value = { CellValue };
 
-    ghost view = { λ c. record { text_lines = map string_bytes c.text_lines.items; delimiter = c.delimiter; alignment = c.alignment; foreground = c.foreground; background = c.background; attributes = c.attributes.items } };
+    ghost view = { λ c. record { text_lines = c.text_lines; delimiter = c.delimiter; alignment = c.alignment; foreground = c.foreground; background = c.background; attributes = c.attributes.items } };
 
-    ghost invariant = { λ c. HasTextLines (map string_bytes c.text_lines.items) × IsDelimiter c.delimiter };
+    ghost invariant = { λ c. HasTextLines (c.text_lines) × IsDelimiter c.delimiter };
 }
 
 impl Cell {
@@ -41,13 +44,14 @@ impl Cell {
         Cell::new_owned(alloc, content.to_string(alloc)?)
     }
 
-    /// The cell of a text: its text lines are what stands between the line feeds. A text without one keeps its `String`.
+    /// The cell of a text: its text lines are what stands between the line feeds. A text without one keeps its `String`,
+    /// and takes no further memory.
     pub fn new_owned(alloc: Global, text: String) -> Result<Cell>
         ensures value { IfOk result (λ cell. cell ≡ plain_cell (string_bytes text)) }
         ensures content { IfOk result (λ cell. content_of cell ≡ string_bytes text) }
     {
         Ok(Cell {
-            text_lines: text_lines_of(alloc, text)?,
+            text_lines: TextLines::new(alloc, text)?,
             delimiter: None,
             alignment: None,
             foreground: None,
@@ -60,8 +64,8 @@ impl Cell {
     pub fn content(&self) -> Result<String>
         ensures { IfOk result (λ text. string_bytes text ≡ content_of self.now) }
     {
-        let mut text = String::new(*self.text_lines.allocator());
-        let Some((first, others)) = self.text_lines.as_slice().split_first() else {
+        let mut text = String::new(*self.attributes.allocator());
+        let Some((first, others)) = self.text_lines.texts().split_first() else {
             return Ok(text);
         };
         text.push_str(first.as_str())?;
@@ -77,7 +81,14 @@ impl Cell {
         ensures value { map string_bytes result.now ≡ self.now.text_lines }
         ensures is_cell { IsCell self.now }
     {
-        self.text_lines.as_slice()
+        self.text_lines.texts()
+    }
+
+    /// The columns that each text line takes, in order. They were measured when the cell was made.
+    pub fn text_widths(&self) -> &[usize]
+        ensures { result.now ≡ map measure self.now.text_lines }
+    {
+        self.text_lines.widths()
     }
 
     /// Sets the character at which the cell's texts may break, whatever its column and its table have.
@@ -130,19 +141,4 @@ impl Cell {
     {
         self.attributes.as_slice()
     }
-}
-
-// What stands between the line feeds of a text. A text without one is kept, and not copied.
-fn text_lines_of(alloc: Global, text: String) -> Result<Vec<String>>
-    ensures { IfOk result (λ text_lines. map string_bytes text_lines.items ≡ (plain_cell (string_bytes text)).text_lines) }
-{
-    let mut text_lines = Vec::new(alloc);
-    if !text.as_str().contains('\n') {
-        text_lines.push(text)?;
-        return Ok(text_lines);
-    }
-    for line in text.as_str().split('\n') {
-        text_lines.push(String::from_str(alloc, line)?)?;
-    }
-    Ok(text_lines)
 }

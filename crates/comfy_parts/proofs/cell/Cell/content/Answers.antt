@@ -13,7 +13,7 @@ returns c =
     let first = c.in-Some.first.now in
     let others = c.in-Some.others.now in
     let start : string_bytes c.push_str.new.self ≡ string_bytes first = rw (c.in_ok-push_str.ensures.bytes, c.new-text.ensures.bytes) c.as_str.ensures.value in
-    let lines : map string_bytes (first ∷ others) ≡ c.args.self.now.text_lines = ap (map string_bytes) (sym c.in-Some.ensures.cases.0 ∙ c.as_slice.ensures.value) ∙ ap (λ x. x.text_lines) c.self.view_is in
+    let lines : map string_bytes (first ∷ others) ≡ c.args.self.now.text_lines = ap (map string_bytes) (sym c.in-Some.ensures.cases.0) ∙ c.texts.ensures ∙ ap (λ x. x.text_lines) c.self.view_is in
     let full : take c.loop-line.line-index others ≡ others = take_all _ _ c.loop-line-test.false in
     c.loop-line.invariant
     ∙ ap (λ t. t ++ flat_map (λ s. 10 ∷ string_bytes s) (take c.loop-line.line-index others)) start
