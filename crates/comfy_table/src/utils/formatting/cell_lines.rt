@@ -1,8 +1,8 @@
 //! The lines of a cell: its text lines wrapped at a width, and cut to a height.
 
-ghost use Rattle.std.specs.Prelude.{◌≡◌, ◌++◌, IfOk, OnOk, length, map, slice_get, string_bytes};
+ghost use Rattle.std.specs.Prelude.{◌≡◌, ◌++◌, [], IfOk, OnOk, length, map, slice_get, string_bytes};
 ghost use Rattle.comfy_parts.specs.Text.{measure};
-ghost use Rattle.comfy_parts.specs.Wrapping.{lines_of_text};
+ghost use Rattle.comfy_parts.specs.Wrapping.{lines_of_text, wrapped};
 ghost use Rattle.comfy_table.specs.Lines.{cell_lines, cut_line, cut_to_height, cut_to_limit};
 
 use comfy_parts::content_split::{
@@ -148,6 +148,18 @@ fn push_lines_of_text<'a>(
         lines.push(text)?;
         return Ok(());
     }
+    push_wrapped(lines, text, info, delimiter)
+}
+
+// Appends the wrapped lines of a text line.
+fn push_wrapped<'a>(
+    lines: &mut Vec<&'a str>,
+    text: &'a str,
+    info: &ColumnDisplayInfo,
+    delimiter: char,
+) -> Result<()>
+    ensures { OnOk result (map (λ x. x.now) lines.new.items ≡ map (λ x. x.now) lines.old.items ++ wrapped info.now.content_width delimiter text.now) }
+{
     for line in wrapped_lines(text, info, delimiter) {
         lines.push(line)?;
     }
@@ -161,7 +173,7 @@ pub fn cut_to_limit<'a>(
     width: u16,
     indicator: &'a str,
 ) -> CellLines<'a>
-    ensures { result ≡ cut_to_limit max_height width indicator.now (map (λ x. x.now) lines.items) }
+    ensures { result ≡ cut_to_limit max_height width indicator.now (map (λ x. x.now) lines.entry.items) }
 {
     match max_height {
         Some(height) => cut_to_height(lines, height, width, indicator),
@@ -178,7 +190,7 @@ fn cut_to_height<'a>(
     width: u16,
     indicator: &'a str,
 ) -> CellLines<'a>
-    ensures { result ≡ cut_to_height height width indicator.now (map (λ x. x.now) lines.items) }
+    ensures { result ≡ cut_to_height height width indicator.now (map (λ x. x.now) lines.entry.items) }
 {
     let mut whole = lines;
     if whole.len() <= height {

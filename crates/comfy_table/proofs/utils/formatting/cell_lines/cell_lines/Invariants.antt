@@ -5,4 +5,4 @@ use Rattle.comfy_table.proofs.utils.formatting.cell_lines.cell_lines.Given as go
 
 abbrev pub invariant-loop-text : goal.invariant-loop-text
 invariant-loop-text l =
-    map string_bytes l.lines.items ≡ flat_map (λ s. lines_of_text l.info.content_width l.delimiter (string_bytes s)) (take l.text-index l.text_lines)
+    map (λ x. x.now) l.lines.items ≡ flat_map (λ s. lines_of_text l.info.content_width l.delimiter (string_bytes s)) (take l.text-index l.text_lines)

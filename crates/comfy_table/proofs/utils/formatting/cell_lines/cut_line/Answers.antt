@@ -7,7 +7,6 @@ pub returns-then-indicator_width-places : goal.returns-then-indicator_width-plac
 returns-then-indicator_width-places c =
     let places = c.from-places.ensures in
     let wide : c.args.width < measure c.args.indicator.now = omega (arith, c.measure_text_width-indicator_width.ensures.value, places, c.if-indicator_width-places.true) in
-    c.in_ok-from_str.ensures.ok
-    ∙ c.split_long_word.ensures.head
+    c.split_long_word.ensures.head
     ∙ ap (λ n. head n c.args.line.now) places
     ∙ sym (cut_line-wide c.args.width c.args.indicator.now c.args.line.now wide)
