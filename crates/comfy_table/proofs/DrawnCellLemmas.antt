@@ -52,9 +52,15 @@ module _ (table : TableValue) (row : RowValue) (off : table.custom_styling ≡ f
       ap₂ (λ (line : ℕ → List Text) (n : ℕ). map line (range_with_len 0 n)) (λ i k. drawn_pieces k (visible_infos infos) i) (drawn_height (visible_infos infos))
 
 -- the piece of a line that was looked up
-pub piece_found : (table : TableValue) (k : ℕ) (info : ColumnInfo) (cell : CellValue) {X : Type 0} (f : X → Text) (items : List X) (x : X) → k < length items → x ≡ slice_index_or items k x
-    → piece_of_lines table k info (Some cell) (map f items) ≡ piece table cell info (f x)
-piece_found table k info cell f items x below is =
-    let within : k < length (map f items) = omega (arith, length-map items f) in
-    get_or-map (piece table cell info) (map f items) k [] (blank_piece info) within
-    ∙ ap (piece table cell info) (get_or-map f items k x [] below ∙ ap f (sym is))
+pub piece_found : (table : TableValue) (k : ℕ) (info : ColumnInfo) (cell : CellValue) (lines : List Text) (line : Text) → Some line ≡ slice_get lines k
+    → piece_of_lines table k info (Some cell) lines ≡ piece table cell info line
+piece_found table k info cell [] line found = absurd (cc found)
+piece_found table zero info cell (first ∷ lines) line found = let same : first ≡ line = cc found in ap (piece table cell info) same
+piece_found table (suc k) info cell (first ∷ lines) line found = piece_found table k info cell lines line found
+
+-- and where there is none
+pub piece_missing : (table : TableValue) (k : ℕ) (info : ColumnInfo) (cell : CellValue) (lines : List Text) → None ≡ slice_get lines k
+    → piece_of_lines table k info (Some cell) lines ≡ blank_piece info
+piece_missing table k info cell [] none = refl
+piece_missing table zero info cell (first ∷ lines) none = absurd (cc none)
+piece_missing table (suc k) info cell (first ∷ lines) none = piece_missing table k info cell lines none

@@ -89,3 +89,8 @@ three-pushed old a b one two new c first second third =
 pub last-pushed : {T E : Type 0} (r : Result T E) (new before c : Text) (wanted : Text) → (new ≡ before ++ c → new ≡ wanted) → OnOk r (new ≡ before ++ c) → OnOk r (new ≡ wanted)
 last-pushed (Ok x) new before c wanted gives pushed = gives pushed
 last-pushed (Err e) new before c wanted gives pushed = pushed
+
+-- what a call appends to the same text
+pub pushed-behind : {T E : Type 0} (r : Result T E) (new other old wanted : Text) → other ≡ old → OnOk r (new ≡ other ++ wanted) → OnOk r (new ≡ old ++ wanted)
+pushed-behind (Ok x) new other old wanted same pushed = pushed ∙ ap (λ (t : Text). t ++ wanted) same
+pushed-behind (Err e) new other old wanted same pushed = pushed

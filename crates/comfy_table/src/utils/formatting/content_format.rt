@@ -47,9 +47,12 @@ impl<'a> DrawnCell<'a> {
     pub fn push_piece_at(&self, text: &mut String, table: &Table, line: usize) -> Result<()>
         ensures { OnOk result (string_bytes text.new ≡ string_bytes text.old ++ piece_at table.now line self.now) }
     {
-        match (self.cell, self.lines.get(line)) {
-            (Some(cell), Some(drawn)) => push_piece(text, table, cell, self.info, &drawn),
-            _ => push_spaces(text, self.info.width()),
+        let Some(cell) = self.cell else {
+            return push_spaces(text, self.info.width());
+        };
+        match self.lines.get(line) {
+            Some(drawn) => push_piece(text, table, cell, self.info, &drawn),
+            None => push_spaces(text, self.info.width()),
         }
     }
 }
