@@ -1,7 +1,7 @@
 //! Reads a whole input, draws its table, and writes the drawing.
 
 ghost use Rattle.std.specs.Prelude.{◌≡◌, ◌++◌, List, ℕ, true, false, Some, OnOk, IfOk, IfErr, IsUtf8, string_bytes};
-ghost use Rattle.comfy_run.specs.Input.{written_lines, IsOutputFor};
+ghost use Rattle.comfy_run.specs.Input.{IsOutputFor};
 ghost use Rattle.comfy_run.specs.Outcome.{IsBeginningOnly};
 ghost use Rattle.comfy_run.specs.Run.{Between, IsAfter, IsByContent, IsRefusal};
 ghost use Rattle.comfy_run.specs.declared.run.error.RunError.TheVariants.{Write};
@@ -10,8 +10,8 @@ use crate::run::device::{Sink, Source};
 use crate::run::error::RunError;
 use crate::run::input::table_of;
 use crate::run::settings::Settings;
-use comfy_table::{ContentArrangement, Lines};
-use std::alloc::{AllocError, Global};
+use comfy_table::ContentArrangement;
+use std::alloc::Global;
 
 // How many bytes are asked for at a time.
 const CHUNK: usize = 4096;
@@ -82,21 +82,7 @@ fn read_all<R: Source>(alloc: Global, source: &mut R) -> Result<Vec<u8>, RunErro
 fn drawing_of(alloc: Global, text: &str, settings: Settings) -> comfy_table::Result<String>
     ensures { IfOk result (λ output. IsOutputFor settings.width ContentArrangement.Disabled settings.style text.now (string_bytes output)) }
 {
-    let lines = table_of(alloc, text, settings)?.lines()?;
-    let output = joined(alloc, lines)?;
-    Ok(output)
-}
-
-// The lines in one text, each followed by a line feed.
-fn joined(alloc: Global, lines: Lines) -> Result<String, AllocError>
-    ensures { IfOk result (λ text. string_bytes text ≡ written_lines lines) }
-{
-    let mut text = String::new(alloc);
-    for line in lines {
-        text.push_str(line.as_str())?;
-        text.push('\n')?;
-    }
-    Ok(text)
+    table_of(alloc, text, settings)?.to_terminated_text()
 }
 
 // Writes the whole piece. Where the sink fails, a beginning of the piece was written, not all of it.
