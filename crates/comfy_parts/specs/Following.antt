@@ -1,5 +1,5 @@
 -- An element at a text's front, what follows it, and how much of that a line takes.
-use Rattle.std.specs.Prelude.{◌≡◌, ℕ, ◌+◌, ◌-◌, ◌<◌, ◌≤◌, nat_lt, nat_le, ◌&&◌, List, [], ◌∷◌, ◌++◌, length, take, drop, false, encode_utf8, if◌then◌else◌, IsUtf8}
+use Rattle.std.specs.Prelude.{◌≡◌, ◌⊎◌, ℕ, ◌+◌, ◌-◌, ◌<◌, ◌≤◌, nat_lt, nat_le, ◌&&◌, List, [], ◌∷◌, ◌++◌, length, take, drop, false, encode_utf8, if◌then◌else◌, IsUtf8}
 use Rattle.std.specs.Str.{IsCharBoundary}
 use Rattle.comfy_parts.specs.Text.{Text, measure, head, elements, begins_with}
 
@@ -7,6 +7,10 @@ use Rattle.comfy_parts.specs.Text.{Text, measure, head, elements, begins_with}
 abbrev pub Follow : ℕ → List Text → Text → Type 0
 Follow d [] rest = rest ≡ []
 Follow d (e ∷ es) rest = (more : Text) × (rest ≡ encode_utf8 d ++ more) × (elements d more ≡ e ∷ es)
+
+-- nothing stands behind an element, or a delimiter
+abbrev pub EndsElement : ℕ → Text → Type 0
+EndsElement d behind = (behind ≡ []) ⊎ ((more : Text) × (behind ≡ encode_utf8 d ++ more))
 
 -- the first element of a text, and what follows it, both in whole characters
 pub record IsFirstElement (d : ℕ) (text first behind : Text) : Type 0 where

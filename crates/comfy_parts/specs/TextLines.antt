@@ -7,12 +7,12 @@ use Rattle.comfy_parts.specs.declared.cell.text_lines.Lines.TheVariants.{One, Se
 -- the texts
 abbrev pub texts_of : Lines → List Text
 texts_of (One text width) = string_bytes text ∷ []
-texts_of (Several texts widths) = map string_bytes texts.items
+texts_of (Several lines) = map string_bytes lines.value.texts.items
 
 -- the kept widths
 abbrev pub widths_of : Lines → List ℕ
 widths_of (One text width) = width ∷ []
-widths_of (Several texts widths) = widths.items
+widths_of (Several lines) = lines.value.widths.items
 
 -- each text has its measure beside it
 abbrev pub AreMeasured : Lines → Type 0

@@ -19,14 +19,15 @@ pub(crate) struct TextLines {
 // Text lines, and the columns that each takes, in the same order.
 #[derive(Debug, Drop)]
 enum Lines {
-    One {
-        text: String,
-        width: usize,
-    },
-    Several {
-        texts: Vec<String>,
-        widths: Vec<usize>,
-    },
+    One { text: String, width: usize },
+    // behind a box, so that a cell of one text line stays small
+    Several(Box<SeveralLines>),
+}
+
+#[derive(Debug, Drop)]
+struct SeveralLines {
+    texts: Vec<String>,
+    widths: Vec<usize>,
 }
 
 impl Model for TextLines {
@@ -59,7 +60,7 @@ impl TextLines {
             widths.push(measure_text_width(line))?;
         }
         Ok(TextLines {
-            lines: Lines::Several { texts, widths },
+            lines: Lines::Several(Box::new(alloc, SeveralLines { texts, widths })?),
         })
     }
 
@@ -68,7 +69,7 @@ impl TextLines {
     {
         match &self.lines {
             Lines::One { text, .. } => slice::from_ref(text),
-            Lines::Several { texts, .. } => texts.as_slice(),
+            Lines::Several(several) => several.texts.as_slice(),
         }
     }
 
@@ -78,7 +79,7 @@ impl TextLines {
     {
         match &self.lines {
             Lines::One { width, .. } => slice::from_ref(width),
-            Lines::Several { widths, .. } => widths.as_slice(),
+            Lines::Several(several) => several.widths.as_slice(),
         }
     }
 }

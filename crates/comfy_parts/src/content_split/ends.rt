@@ -1,9 +1,10 @@
 //! Where the lines of a wrapped text begin and end. A place is a number of bytes from a text's front.
 
-ghost use Rattle.std.specs.Prelude.{◌≡◌, ℕ, ◌+◌, ◌<◌, ◌≤◌, List, length, take, drop, false};
+ghost use Rattle.std.specs.Prelude.{◌≡◌, ℕ, ◌+◌, ◌*◌, ◌==◌, ◌<◌, ◌≤◌, List, length, take, drop, true, false};
+ghost use Rattle.std.specs.List.{list_any};
 ghost use Rattle.std.specs.Str.{IsCharBoundary};
-ghost use Rattle.comfy_parts.specs.Following.{ArePlacesUpTo, Follow, IsFirstElement, bytes_taken, part_taken};
-ghost use Rattle.comfy_parts.specs.Text.{Text, begins_with, measure};
+ghost use Rattle.comfy_parts.specs.Following.{ArePlacesUpTo, EndsElement, Follow, IsFirstElement, bytes_taken, part_taken};
+ghost use Rattle.comfy_parts.specs.Text.{Text, begins_with, is_printable_ascii, measure};
 ghost use Rattle.comfy_parts.specs.Wrapping.{head_or_first, line_end, wrapped};
 
 use crate::content_split::prefix::split_long_word;
@@ -22,14 +23,56 @@ pub fn line_start(text: &str, delimiter: char) -> &str
     rest
 }
 
-/// The text before the first delimiter, and the text from there on.
-pub fn first_element(text: &str, delimiter: char) -> (&str, &str)
+// The text before the first delimiter, and the text from there on.
+fn first_element(text: &str, delimiter: char) -> (&str, &str)
     ensures { IsFirstElement delimiter text.now result.0.now result.1.now }
 {
     match text.find(delimiter) {
         Some(at) => text.split_at(at),
         None => (text, ""),
     }
+}
+
+/// The first element of a text, what follows it, and the columns that it takes.
+pub fn measured_element(text: &str, delimiter: char) -> (&str, &str, usize)
+    ensures element { IsFirstElement delimiter text.now result.0.now result.1.now }
+    ensures places { result.2 ≡ measure result.0.now }
+    ensures bound { result.2 ≤ 2 * length result.0.now }
+{
+    // Where printable ASCII goes on to a delimiter or to the end, one walk over its bytes serves for both.
+    let (word, behind) = text.split_at(printable_run(text.as_bytes(), delimiter));
+    if ends_element(behind, delimiter) {
+        return (word, behind, word.len());
+    }
+    let (word, behind) = first_element(text, delimiter);
+    (word, behind, measure_text_width(word))
+}
+
+// Whether nothing stands behind an element, or a delimiter.
+fn ends_element(behind: &str, delimiter: char) -> bool
+    ensures { result ≡ true → EndsElement delimiter behind.now }
+{
+    if behind.is_empty() {
+        return true;
+    }
+    behind.starts_with(delimiter)
+}
+
+// The bytes of printable ASCII at a text's front, before the first delimiter.
+fn printable_run(bytes: &[u8], delimiter: char) -> usize
+    ensures bound { result ≤ length bytes.now }
+    ensures printable { is_printable_ascii (take result bytes.now) ≡ true }
+    ensures no_delimiter { list_any (λ b. b == delimiter) (take result bytes.now) ≡ false }
+{
+    let mut run = 0;
+    while run < bytes.len()
+        && bytes[run] >= 0x20
+        && bytes[run] <= 0x7e
+        && u32::from(bytes[run]) != u32::from(delimiter)
+    {
+        run += 1;
+    }
+    run
 }
 
 /// The place where the line from the text's front ends. The text's first element has `first` bytes and takes `places`
@@ -80,8 +123,7 @@ fn taken_behind(first: usize, behind: &str, width: usize, delimiter: char) -> us
         let Some(others) = rest.strip_prefix(delimiter) else {
             break;
         };
-        let (next, following) = first_element(others, delimiter);
-        let places = measure_text_width(next);
+        let (next, following, places) = measured_element(others, delimiter);
         if places >= width.saturating_sub(filled) {
             return behind.len() - rest.len() + part_of_next(next, places, filled, width, delimiter);
         }

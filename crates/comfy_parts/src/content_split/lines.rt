@@ -6,7 +6,7 @@ ghost use Rattle.comfy_parts.specs.Following.{ArePlacesUpTo, IsWideFrom};
 ghost use Rattle.comfy_parts.specs.Wrapping.{IsWrapped, wrapped};
 
 use crate::content_split::display_info::ColumnDisplayInfo;
-use crate::content_split::ends::{first_element, line_end, line_start};
+use crate::content_split::ends::{line_end, line_start, measured_element};
 use crate::content_split::width::{measure_text_width, wide_end};
 use std::marker::Model;
 
@@ -55,11 +55,11 @@ fn lines_behind<'a>(text: &'a str, width: usize, delimiter: char) -> WrappedLine
     ensures { result ≡ wrapped width delimiter text.now }
 {
     let rest = line_start(text, delimiter);
-    let (word, _) = first_element(rest, delimiter);
+    let (word, _, places) = measured_element(rest, delimiter);
     WrappedLines {
         rest,
         first: word.len(),
-        places: measure_text_width(word),
+        places,
         wide: word.len() + 1,
         width,
         delimiter,

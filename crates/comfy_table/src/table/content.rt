@@ -5,7 +5,6 @@ ghost use Rattle.comfy_table.specs.TableValue.{cell_content_width, column_conten
 ghost use Rattle.comfy_table.specs.Contents.{row_content_width, rows_content_width};
 
 use crate::table::Table;
-use comfy_parts::content_split::measure_text_width;
 use comfy_parts::{Cell, Result, Row};
 
 /// The greatest measure of a text line of the column at a position, over header and rows. Each cell counts at least 1,
@@ -61,11 +60,10 @@ fn row_content_width(row: &Row, position: usize) -> u16
 fn cell_content_width(cell: &Cell) -> u16
     ensures { result ≡ cell_content_width cell.now }
 {
-    let lines = cell.text_lines();
+    let widths = cell.text_widths();
     let mut widest = 1;
-    for line in lines {
-        let width = measure_text_width(line.as_str()).min(65535) as u16;
-        widest = width.max(widest);
+    for width in widths {
+        widest = widest.max((*width).min(65535) as u16);
     }
     widest
 }

@@ -9,15 +9,15 @@ invariant_of-result c =
     let w = c.args.width in
     let d = c.args.delimiter in
     let rest = c.line_start-rest.result.now in
-    let word = c.first_element.result.0.now in
-    let at = first-at d rest word c.first_element.result.1.now c.first_element.ensures in
-    let same = sym (first-is d rest word c.first_element.result.1.now c.first_element.ensures) in
+    let word = c.measured_element-places.result.0.now in
+    let at = first-at d rest word c.measured_element-places.result.1.now c.measured_element-places.ensures.element in
+    let same = sym (first-is d rest word c.measured_element-places.result.1.now c.measured_element-places.ensures.element) in
     record {
       narrow = c.requires.narrow;
       whole = c.line_start-rest.utf8;
       begins_otherwise = c.line_start-rest.ensures.begins;
       place = at.0;
       element = at.1;
-      places_are = subst (ArePlacesUpTo w c.measure_text_width.result) same (exact-places w c.measure_text_width.result word c.measure_text_width.ensures.value);
+      places_are = subst (ArePlacesUpTo w c.measured_element-places.result.2) same (exact-places w c.measured_element-places.result.2 word c.measured_element-places.ensures.places);
       wide_from = subst (IsWideFrom w (length word + 1)) same (none-wider w word);
     }

@@ -20,4 +20,4 @@ returns c =
     let cut = YieldsList-from_str_split 10 _ (lit< tt) (ap split_text same ∙ split.text ∙ c.as_str-2.ensures.value) (ap split_has_more same ∙ split.has_more) (ap split_pattern same ∙ split.pattern) in
     let all = YieldsList-end cut c.loop-line.yielded _ c.loop-line.yielded_by _ _ c.in-None.is c.next.ensures.steps in
     let texts = c.loop-line.invariant.texts ∙ all.0 in
-    record { value = texts; text_lines = has_text_lines (string_bytes c.args.text) c.loop-line.texts.items texts }
+    rw c.in_ok-new.ensures.ok (record { value = texts; text_lines = has_text_lines (string_bytes c.args.text) c.loop-line.texts.items texts })
