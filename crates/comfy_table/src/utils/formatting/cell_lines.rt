@@ -1,6 +1,7 @@
 //! The lines of a cell: its text lines wrapped at a width, and cut to a height.
 
-ghost use Rattle.std.specs.Prelude.{◌≡◌, ◌++◌, [], IfOk, OnOk, length, map, slice_get, string_bytes};
+ghost use Rattle.std.specs.Prelude.{◌≡◌, ◌++◌, [], IfOk, OnOk, flat_map, length, map, nat_le, option_copied, slice_get, string_bytes};
+ghost use Rattle.std.specs.List.{list_all};
 ghost use Rattle.comfy_parts.specs.Text.{measure};
 ghost use Rattle.comfy_parts.specs.Wrapping.{lines_of_text, wrapped};
 ghost use Rattle.comfy_table.specs.Lines.{cell_lines, cut_line, cut_to_height, cut_to_limit};
@@ -17,14 +18,18 @@ use std::marker::Model;
 pub struct Line<'a> {
     text: &'a str,
     indicator: Option<&'a str>,
+    // the columns of the whole line, where they are known
+    width: Option<usize>,
 }
 
 impl<'a> Model for Line<'a> {
     ghost use Rattle.std.specs.Prelude.{option_copied};
     ghost use Rattle.comfy_parts.specs.Text.{Text};
-    ghost use Rattle.comfy_table.specs.BorrowedLines.{line_text};
+    ghost use Rattle.comfy_table.specs.BorrowedLines.{IsKnownWidth, line_text};
 
     ghost Value = { Text };
+
+    ghost invariant = { λ l. IsKnownWidth l.width (line_text l.text.now (option_copied l.indicator)) };
 
     ghost view = { λ l. line_text l.text.now (option_copied l.indicator) };
 }
@@ -47,8 +52,8 @@ impl<'a> Line<'a> {
         ensures value { IfOk result (λ columns. columns ≡ measure self.now) }
         ensures stays { OnOk result (string_bytes text.new ≡ string_bytes text.old) }
     {
-        if self.indicator.is_none() {
-            return Ok(measure_text_width(self.text));
+        if let Some(width) = self.width {
+            return Ok(width);
         }
         let start = text.len();
         self.push_to(text)?;
@@ -59,22 +64,105 @@ impl<'a> Line<'a> {
     }
 }
 
+/// The lines of a cell in a column, before its row's height cuts them.
+#[derive(Drop)]
+pub struct WholeLines<'a> {
+    // the text lines and their columns; they are the lines where each fits
+    texts: &'a [String],
+    widths: &'a [usize],
+    // the lines where a text line is wrapped
+    wrapped: Vec<&'a str>,
+    is_wrapped: bool,
+}
+
+impl<'a> Model for WholeLines<'a> {
+    ghost use Rattle.std.specs.Prelude.{◌≡◌, List, map, string_bytes};
+    ghost use Rattle.comfy_parts.specs.Text.{Text, measure};
+    ghost use Rattle.comfy_table.specs.BorrowedLines.{lines_by_text};
+
+    ghost Value = { List Text };
+
+    ghost invariant = { λ l. l.widths.now ≡ map measure (map string_bytes l.texts.now) };
+
+    ghost view = { λ l. lines_by_text l.is_wrapped (map string_bytes l.texts.now) (map (λ x. x.now) l.wrapped.items) };
+}
+
+impl<'a> WholeLines<'a> {
+    fn len(&self) -> usize
+        ensures { result ≡ length self.now }
+    {
+        if self.is_wrapped {
+            self.wrapped.len()
+        } else {
+            self.texts.len()
+        }
+    }
+
+    fn text(&self, place: usize) -> Option<&'a str>
+        ensures { option_copied result ≡ slice_get self.now place }
+    {
+        if self.is_wrapped {
+            return self.wrapped.get(place).copied();
+        }
+        let Some(text) = text_at(self.texts, place) else {
+            return None;
+        };
+        Some(text.as_str())
+    }
+
+    fn get(&self, place: usize) -> Option<Line<'a>>
+        ensures { result ≡ slice_get self.now place }
+    {
+        if self.is_wrapped {
+            let text = self.wrapped.get(place)?;
+            return Some(Line {
+                text,
+                indicator: None,
+                width: Some(measure_text_width(text)),
+            });
+        }
+        let Some(text) = text_at(self.texts, place) else {
+            return None;
+        };
+        Some(Line {
+            text: text.as_str(),
+            indicator: None,
+            width: width_at(self.widths, place),
+        })
+    }
+}
+
+fn text_at<'a>(texts: &'a [String], place: usize) -> Option<&'a String>
+    ensures { option_copied result ≡ slice_get texts.now place }
+{
+    texts.get(place)
+}
+
+fn width_at(widths: &[usize], place: usize) -> Option<usize>
+    ensures { result ≡ slice_get widths.now place }
+{
+    widths.get(place).copied()
+}
+
 /// The lines of a cell in its row, from the top.
 #[derive(Drop)]
 pub struct CellLines<'a> {
-    whole: Vec<&'a str>,
-    // the line behind them that the row's height cuts
+    whole: WholeLines<'a>,
+    // where the row's height cuts the cell: how many lines stand as they are, and the line behind them
+    kept: usize,
     cut: Option<Line<'a>>,
 }
 
 impl<'a> Model for CellLines<'a> {
-    ghost use Rattle.std.specs.Prelude.{List, map};
+    ghost use Rattle.std.specs.Prelude.{List, length};
     ghost use Rattle.comfy_parts.specs.Text.{Text};
-    ghost use Rattle.comfy_table.specs.BorrowedLines.{lines_shown};
+    ghost use Rattle.comfy_table.specs.BorrowedLines.{IsWithin, lines_shown};
 
     ghost Value = { List Text };
 
-    ghost view = { λ l. lines_shown (map (λ x. x.now) l.whole.items) l.cut };
+    ghost invariant = { λ l. IsWithin l.cut l.kept (length l.whole) };
+
+    ghost view = { λ l. lines_shown l.cut l.kept l.whole };
 }
 
 impl<'a> CellLines<'a> {
@@ -83,7 +171,13 @@ impl<'a> CellLines<'a> {
         ensures { result ≡ [] }
     {
         CellLines {
-            whole: Vec::new(alloc),
+            whole: WholeLines {
+                texts: &[],
+                widths: &[],
+                wrapped: Vec::new(alloc),
+                is_wrapped: false,
+            },
+            kept: 0,
             cut: None,
         }
     }
@@ -92,9 +186,11 @@ impl<'a> CellLines<'a> {
     pub fn len(&self) -> usize
         ensures { result ≡ length self.now }
     {
-        match self.cut {
-            Some(_) => self.whole.len() + 1,
-            None => self.whole.len(),
+        let count = self.whole.len();
+        if self.cut.is_some() {
+            self.kept + 1
+        } else {
+            count
         }
     }
 
@@ -102,49 +198,88 @@ impl<'a> CellLines<'a> {
     pub fn get(&self, place: usize) -> Option<Line<'a>>
         ensures { result ≡ slice_get self.now place }
     {
-        if let Some(text) = self.whole.get(place) {
-            return Some(Line {
-                text,
-                indicator: None,
-            });
+        let Some(cut) = &self.cut else {
+            return self.whole.get(place);
+        };
+        if place < self.kept {
+            return self.whole.get(place);
         }
-        match &self.cut {
-            Some(cut) if place == self.whole.len() => Some(Line {
-                text: cut.text,
-                indicator: cut.indicator,
-            }),
-            _ => None,
+        if place > self.kept {
+            return None;
         }
+        Some(Line {
+            text: cut.text,
+            indicator: cut.indicator,
+            width: cut.width,
+        })
     }
 }
 
-/// The lines of a cell in a column: each text line as it is where it fits, else wrapped.
+/// The lines of a cell in a column: each text line as it is where it fits, else wrapped. Where all fit, this takes no
+/// memory.
 pub fn cell_lines<'a>(
     alloc: Global,
     cell: &'a Cell,
     info: &ColumnDisplayInfo,
     delimiter: char,
-) -> Result<Vec<&'a str>>
-    ensures { IfOk result (λ lines. map (λ x. x.now) lines.items ≡ cell_lines info.now.content_width delimiter cell.now) }
+) -> Result<WholeLines<'a>>
+    ensures { IfOk result (λ lines. lines ≡ cell_lines info.now.content_width delimiter cell.now) }
 {
-    let mut lines = Vec::new(alloc);
-    let text_lines = cell.text_lines();
-    for text in text_lines {
-        push_lines_of_text(&mut lines, text.as_str(), info, delimiter)?;
+    let texts = cell.text_lines();
+    let widths = cell.text_widths();
+    let mut wrapped = Vec::new(alloc);
+    if all_fit(widths, usize::from(info.content_width)) {
+        return Ok(WholeLines {
+            texts,
+            widths,
+            wrapped,
+            is_wrapped: false,
+        });
     }
-    Ok(lines)
+    push_lines(&mut wrapped, texts, widths, info, delimiter)?;
+    Ok(WholeLines {
+        texts,
+        widths,
+        wrapped,
+        is_wrapped: true,
+    })
 }
 
-// Appends the lines of a text line.
-fn push_lines_of_text<'a>(
+fn all_fit(widths: &[usize], places: usize) -> bool
+    ensures { result ≡ list_all (λ width. nat_le width places) widths.now }
+{
+    widths.iter().all(|width| *width <= places)
+}
+
+// Appends the lines of text lines that measure these columns.
+fn push_lines<'a>(
     lines: &mut Vec<&'a str>,
-    text: &'a str,
+    texts: &'a [String],
+    widths: &[usize],
     info: &ColumnDisplayInfo,
     delimiter: char,
 ) -> Result<()>
+    requires { widths.now ≡ map measure (map string_bytes texts.now) }
+    ensures { OnOk result (map (λ x. x.now) lines.new.items ≡ map (λ x. x.now) lines.old.items ++ flat_map (λ s. lines_of_text info.now.content_width delimiter (string_bytes s)) texts.now) }
+{
+    for (place, text) in texts.iter().enumerate() {
+        push_lines_of_text(lines, text.as_str(), widths[place], info, delimiter)?;
+    }
+    Ok(())
+}
+
+// Appends the lines of a text line of so many columns.
+fn push_lines_of_text<'a>(
+    lines: &mut Vec<&'a str>,
+    text: &'a str,
+    width: usize,
+    info: &ColumnDisplayInfo,
+    delimiter: char,
+) -> Result<()>
+    requires { width ≡ measure text.now }
     ensures { OnOk result (map (λ x. x.now) lines.new.items ≡ map (λ x. x.now) lines.old.items ++ lines_of_text info.now.content_width delimiter text.now) }
 {
-    if measure_text_width(text) <= usize::from(info.content_width) {
+    if width <= usize::from(info.content_width) {
         lines.push(text)?;
         return Ok(());
     }
@@ -168,40 +303,45 @@ fn push_wrapped<'a>(
 
 /// The first `max_height` lines, the last of them cut, where there are more.
 pub fn cut_to_limit<'a>(
-    lines: Vec<&'a str>,
+    lines: WholeLines<'a>,
     max_height: Option<usize>,
     width: u16,
     indicator: &'a str,
 ) -> CellLines<'a>
-    ensures { result ≡ cut_to_limit max_height width indicator.now (map (λ x. x.now) lines.entry.items) }
+    ensures { result ≡ cut_to_limit max_height width indicator.now lines.entry }
 {
     match max_height {
         Some(height) => cut_to_height(lines, height, width, indicator),
         None => CellLines {
             whole: lines,
+            kept: 0,
             cut: None,
         },
     }
 }
 
 fn cut_to_height<'a>(
-    lines: Vec<&'a str>,
+    lines: WholeLines<'a>,
     height: usize,
     width: u16,
     indicator: &'a str,
 ) -> CellLines<'a>
-    ensures { result ≡ cut_to_height height width indicator.now (map (λ x. x.now) lines.entry.items) }
+    ensures { result ≡ cut_to_height height width indicator.now lines.entry }
 {
-    let mut whole = lines;
-    if whole.len() <= height {
-        return CellLines { whole, cut: None };
-    }
     let kept = height.saturating_sub(1);
-    let last = cut_line(whole[kept], width, indicator);
-    whole.truncate(kept);
+    if lines.len() > height
+        && let Some(last) = lines.text(kept)
+    {
+        return CellLines {
+            whole: lines,
+            kept,
+            cut: Some(cut_line(last, width, indicator)),
+        };
+    }
     CellLines {
-        whole,
-        cut: Some(last),
+        whole: lines,
+        kept: 0,
+        cut: None,
     }
 }
 
@@ -216,11 +356,13 @@ fn cut_line<'a>(line: &'a str, width: u16, indicator: &'a str) -> Line<'a>
         return Line {
             text,
             indicator: None,
+            width: None,
         };
     }
     let (text, _) = split_long_word(places - indicator_width, line);
     Line {
         text,
         indicator: Some(indicator),
+        width: None,
     }
 }

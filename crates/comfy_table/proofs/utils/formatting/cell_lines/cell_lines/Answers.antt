@@ -1,15 +1,26 @@
-use Rattle.std.proofs.Common.{string_bytes, ap, sym, ◌∙◌}
-use Rattle.std.proofs.lemmas.List.{take_all}
+use Rattle.std.proofs.Common.{◌≡◌, ◌++◌, ℕ, true, List, map, ap, ap₂, sym, ◌∙◌, nat_le, string_bytes}
 use Rattle.std.proofs.lemmas.List.Folds.{flat_map-map}
-use Rattle.std.specs.List.{flat_map}
+use Rattle.std.specs.List.{flat_map, list_all}
+use Rattle.comfy_parts.specs.CellValue.{ColumnInfo}
+use Rattle.comfy_parts.specs.Text.{Text, measure}
 use Rattle.comfy_parts.specs.Wrapping.{lines_of_text}
+use Rattle.comfy_table.proofs.BorrowedLemmas.{all_fit}
 use Rattle.comfy_table.proofs.utils.formatting.cell_lines.cell_lines.Goals as goal
+
+pub returns-then-all_fit : goal.returns-then-all_fit
+returns-then-all_fit c =
+    let w = c.args.info.now.content_width in
+    let texts = c.args.cell.now.text_lines in
+    let places : c.from.result ≡ w = c.from.ensures ∙ ap (λ (i : ColumnInfo). i.content_width) c.info.view_is in
+    let fit : list_all (λ width. nat_le width w) (map measure texts) ≡ true =
+    ap₂ (λ n (ws : List ℕ). list_all (λ width. nat_le width n) ws) (sym places) (sym c.text_widths-widths.ensures) ∙ sym c.all_fit.ensures ∙ c.if-all_fit.true in
+    c.text_lines-texts.ensures.value ∙ sym (all_fit w c.args.delimiter texts fit)
 
 pub returns : goal.returns
 returns c =
     let lines_of = lines_of_text c.args.info.now.content_width c.args.delimiter in
-    let items = c.text_lines-text_lines.result.now in
-    c.loop-text.invariant
-    ∙ ap (flat_map (λ s. lines_of (string_bytes s))) (take_all c.loop-text.text-index items c.loop-text-test.false)
+    let items = c.text_lines-texts.result.now in
+    c.in_ok-push_lines.ensures
+    ∙ ap (λ vs. map (λ x. x.now) vs ++ flat_map (λ s. lines_of (string_bytes s)) items) c.new-wrapped.ensures.items
     ∙ sym (flat_map-map lines_of string_bytes items)
-    ∙ ap (flat_map lines_of) c.text_lines-text_lines.ensures.value
+    ∙ ap (flat_map lines_of) c.text_lines-texts.ensures.value
