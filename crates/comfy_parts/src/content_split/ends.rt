@@ -24,7 +24,7 @@ pub fn line_start(text: &str, delimiter: char) -> &str
 }
 
 // The text before the first delimiter, and the text from there on.
-fn first_element(text: &str, delimiter: char) -> (&str, &str)
+pub fn first_element(text: &str, delimiter: char) -> (&str, &str)
     ensures { IsFirstElement delimiter text.now result.0.now result.1.now }
 {
     match text.find(delimiter) {

@@ -6,9 +6,12 @@ ghost use Rattle.comfy_parts.specs.Following.{ArePlacesUpTo, IsWideFrom};
 ghost use Rattle.comfy_parts.specs.Wrapping.{IsWrapped, wrapped};
 
 use crate::content_split::display_info::ColumnDisplayInfo;
-use crate::content_split::ends::{line_end, line_start, measured_element};
+use crate::content_split::ends::{first_element, line_end, line_start, measured_element};
 use crate::content_split::width::{measure_text_width, wide_end};
 use std::marker::Model;
+
+// A text of so many bytes for each column of a line may begin with a word that isn't worth measuring whole.
+const FAR: usize = 32;
 
 /// The lines of a wrapped text that are still to come, in order. Each is borrowed from the text, and none takes memory.
 #[derive(Drop)]
@@ -55,6 +58,18 @@ fn lines_behind<'a>(text: &'a str, width: usize, delimiter: char) -> WrappedLine
     ensures { result ≡ wrapped width delimiter text.now }
 {
     let rest = line_start(text, delimiter);
+    if rest.len() / FAR > width {
+        let (word, _) = first_element(rest, delimiter);
+        let wide = wide_end(word, width);
+        return WrappedLines {
+            rest,
+            first: word.len(),
+            places: places_up_to(word, wide, width),
+            wide,
+            width,
+            delimiter,
+        };
+    }
     let (word, _, places) = measured_element(rest, delimiter);
     WrappedLines {
         rest,

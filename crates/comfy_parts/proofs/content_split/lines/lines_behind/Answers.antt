@@ -9,6 +9,24 @@ invariant_of-result c =
     let w = c.args.width in
     let d = c.args.delimiter in
     let rest = c.line_start-rest.result.now in
+    let word = c.first_element.result.0.now in
+    let at = first-at d rest word c.first_element.result.1.now c.first_element.ensures in
+    let same = sym (first-is d rest word c.first_element.result.1.now c.first_element.ensures) in
+    record {
+      narrow = c.requires.narrow;
+      whole = c.line_start-rest.utf8;
+      begins_otherwise = c.line_start-rest.ensures.begins;
+      place = at.0;
+      element = at.1;
+      places_are = subst (ArePlacesUpTo w c.places_up_to.result) same c.places_up_to.ensures;
+      wide_from = subst (IsWideFrom w c.wide_end-wide.result) same c.wide_end-wide.ensures;
+    }
+
+pub invariant_of-result-2 : goal.invariant_of-result-2
+invariant_of-result-2 c =
+    let w = c.args.width in
+    let d = c.args.delimiter in
+    let rest = c.line_start-rest.result.now in
     let word = c.measured_element-places.result.0.now in
     let at = first-at d rest word c.measured_element-places.result.1.now c.measured_element-places.ensures.element in
     let same = sym (first-is d rest word c.measured_element-places.result.1.now c.measured_element-places.ensures.element) in
