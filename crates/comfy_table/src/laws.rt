@@ -17,7 +17,7 @@ pub use comfy_parts::laws::{
     sequences_are_taken_out_in_one_pass, sequences_count_nothing, wrapped_lines_are_one_list,
 };
 
-/// Where columns are appended for a row of n cells, there are then as many columns as before or n, whichever is more.
+/// After columns were appended for a row of n cells, there are as many columns as before or n, whichever is more.
 pub fn columns_only_grow()
     ensures { (n : ℕ) (columns : List ColumnValue) → NoFewerColumns n columns }
 {}
@@ -35,14 +35,17 @@ pub fn frame_lines_keep_to_the_width()
     ensures full { (table : TableValue) (w : ℕ) (widths : List ℕ) (line : LineStyle) → FrameFillsWidth table w widths line }
 {}
 
-/// Borders and whole widths together keep to the same bounds.
+/// Where no visible column has a constraint, borders and whole widths together keep to the set width, or to borders,
+/// paddings and one terminal column for each visible column, whichever is more. Under `DynamicFullWidth` they are
+/// exactly that wide.
 pub fn widths_keep_to_the_width()
     ensures dynamic { (table : TableValue) (w : ℕ) (widths : List ℕ) → KeepsToWidth table w widths }
     ensures full { (table : TableValue) (w : ℕ) (widths : List ℕ) → FillsWidth table w widths }
 {}
 
-/// Under every constraint they keep to the set width, or to borders, the whole widths of the columns that a constraint
-/// decides first, and paddings and one character for each other column.
+/// Under every constraint borders and whole widths together keep to the set width or to a least total, whichever is more.
+/// The total is borders, the whole widths of the columns that a constraint decides first, and paddings and one terminal
+/// column for each other column. Under `DynamicFullWidth` they are exactly that wide.
 pub fn widths_keep_to_the_wider_total()
     ensures dynamic { (table : TableValue) (w : ℕ) (widths : List ℕ) → KeepsToWiderTotal table w widths }
     ensures full_at_most { (table : TableValue) (w : ℕ) (widths : List ℕ) → KeepsToWiderTotalInFull table w widths }
@@ -71,7 +74,8 @@ pub fn contents_that_fit_are_kept()
     ensures { (table : TableValue) (w : ℕ) (widths : List ℕ) → TableKeepsContents table w widths }
 {}
 
-/// In printable ASCII and without constraints, `Dynamic` makes no column more than three characters wider than its content.
+/// In printable ASCII and without constraints, `Dynamic` makes no column more than three terminal columns wider than its
+/// content.
 pub fn columns_are_at_most_three_wider()
     ensures { (table : TableValue) (w : ℕ) (widths : List ℕ) → IsAtMostThreeOver table w widths }
 {}

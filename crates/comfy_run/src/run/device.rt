@@ -15,7 +15,7 @@ pub trait Source {
     // whether it has failed
     ghost has_failed: { Self → Bool };
 
-    // whether its end was read: whether a call answered 0 for a buffer that isn't empty
+    // whether its end was read: whether a call returned 0 for a buffer that isn't empty
     ghost end_was_read: { Self → Bool };
 
     /// Puts bytes at the front of the buffer, and returns how many; 0 for a buffer that isn't empty
