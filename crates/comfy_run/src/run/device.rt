@@ -3,7 +3,7 @@
 ghost use Rattle.std.specs.Prelude.{◌≡◌, ◌<◌, ◌≤◌, ◌++◌, ◌||◌, List, ℕ, Bool, true, length, take, drop, is_err, IfOk, OnErr, Option, Some, []};
 ghost use Rattle.comfy_run.specs.Device.{is_end};
 
-/// A device that refused. It comes exactly where the device has failed, and then at every later call.
+/// A call of a device failed. It is returned exactly where the device has failed, and then by every later call.
 #[derive(Clone, Copy, Debug, PartialEq, Eq)]
 pub struct DeviceFault;
 
