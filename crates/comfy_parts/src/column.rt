@@ -7,9 +7,18 @@ use crate::style::{CellAlignment, ColumnConstraint};
 use std::marker::Model;
 
 /// The settings of one column. None of its calls takes memory.
+///
+/// ```
+/// if let Some(column) = table.column_mut(0) {
+///     column
+///         .set_padding((0, 2))
+///         .set_constraint(ColumnConstraint::UpperBoundary(Width::Fixed(30)))
+///         .set_cell_alignment(CellAlignment::Right);
+/// }
+/// ```
 #[derive(Clone, Debug, Drop)]
 pub struct Column {
-    /// A label. The place in the table's list of columns decides everywhere, and nothing looks at this.
+    /// A label, which nothing reads. Only the position in the table's list of columns counts.
     pub index: usize,
     padding: (u16, u16),
     delimiter: Option<char>,
@@ -30,7 +39,7 @@ impl Model for Column {
 }
 
 impl Column {
-    /// A column with one place of padding on each side, and no other setting.
+    /// A column with a padding of one terminal column on each side, and no other setting.
     pub fn new(index: usize) -> Column
         ensures { result ≡ new_column index }
     {
@@ -43,7 +52,7 @@ impl Column {
         }
     }
 
-    /// The places left free to the left and to the right of the contents, in this order.
+    /// The terminal columns left free to the left and to the right of the contents, in this order.
     pub fn padding(&self) -> (u16, u16)
         ensures { result ≡ self.now.padding }
     {
@@ -65,7 +74,7 @@ impl Column {
         self.alignment
     }
 
-    /// What the column's width is held to; none where it is free.
+    /// The constraint on the column's width; none where its content alone decides.
     pub fn constraint(&self) -> Option<&ColumnConstraint>
         ensures { option_copied result ≡ self.now.constraint }
     {
@@ -79,7 +88,7 @@ impl Column {
         matches!(self.constraint, Some(ColumnConstraint::Hidden))
     }
 
-    /// Sets the places left free to the left and to the right of the contents, in this order.
+    /// Sets the terminal columns left free to the left and to the right of the contents, in this order.
     pub fn set_padding(&mut self, padding: (u16, u16)) -> &mut Self
         ensures same_reference { result.ghost_name ≡ self.entry.ghost_name }
         ensures value { result.now ≡ record self.old { padding = padding } }
@@ -88,7 +97,7 @@ impl Column {
         self
     }
 
-    /// The places of both paddings together, 65535 where there are more.
+    /// Both paddings together in terminal columns, 65535 where there are more.
     pub fn padding_width(&self) -> u16
         ensures { result ≡ saturated_padding self.now }
     {
@@ -105,7 +114,7 @@ impl Column {
         self
     }
 
-    /// Sets what the column's width is held to.
+    /// Sets the constraint on the column's width, in place of an earlier one.
     pub fn set_constraint(&mut self, constraint: ColumnConstraint) -> &mut Self
         ensures same_reference { result.ghost_name ≡ self.entry.ghost_name }
         ensures value { result.now ≡ record self.old { constraint = Some constraint } }
@@ -114,7 +123,7 @@ impl Column {
         self
     }
 
-    /// Leaves the column's width free.
+    /// Removes the constraint on the column's width, and with it whether the column is hidden.
     pub fn remove_constraint(&mut self) -> &mut Self
         ensures same_reference { result.ghost_name ≡ self.entry.ghost_name }
         ensures value { result.now ≡ record self.old { constraint = None } }

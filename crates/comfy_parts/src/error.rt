@@ -1,4 +1,4 @@
-//! What a call that takes memory can answer.
+//! The error of calls that take memory.
 
 ghost use Rattle.std.specs.Prelude.{◌≡◌};
 ghost use Rattle.comfy_parts.specs.declared.error.TableError.TheVariants.{OutOfMemory};
@@ -6,10 +6,10 @@ ghost use Rattle.comfy_parts.specs.declared.error.TableError.TheVariants.{OutOfM
 use std::alloc::{AllocError, AllocFailed};
 use thiserror::Error;
 
-/// A growth was refused.
+/// Why a cell, a row, a table or a drawing couldn't be made.
 #[derive(Clone, Copy, Debug, PartialEq, Eq, Error)]
 pub enum TableError {
-    /// There is no memory for what the call would hold.
+    /// A request for memory was refused. `Cell::new` also returns this for an error of its value's own `Display`.
     #[error("out of memory")]
     OutOfMemory,
 }
@@ -30,5 +30,5 @@ impl<T: Drop> From<AllocFailed<T>> for TableError {
     }
 }
 
-/// The answer of a call that takes memory.
+/// The result of a call that takes memory.
 pub type Result<T> = std::result::Result<T, TableError>;

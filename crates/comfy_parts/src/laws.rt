@@ -1,6 +1,6 @@
 //! What wrapping promises beyond its definition. Each function does nothing: its clauses are the law.
-//! `split_line` gives the lines of which they speak, for every text, width `w` and delimiter `d`. "In printable ASCII"
-//! means that text and delimiter are, and that the width is at least one place.
+//! The lines of which they speak are those that `split_line` returns, for every text, width `w` in terminal columns and
+//! delimiter `d`. "In printable ASCII" means that text and delimiter are, and that the width is at least 1.
 
 ghost use Rattle.std.specs.Prelude.{ℕ, List, []};
 ghost use Rattle.std.specs.Char.{IsScalar};
@@ -29,7 +29,7 @@ pub fn neighbours_fill_a_line()
     ensures { (w d : ℕ) (text : Text) (lines : List Text) → IsWrapped w d text lines → NeighboursFillALine w d text lines }
 {}
 
-/// In printable ASCII a text of so many characters has at most one line more than twice that number of whole widths.
+/// In printable ASCII a text of n characters gives at most 2 q + 1 lines, where q is n / w, rounded down.
 pub fn lines_are_few()
     ensures { (w d : ℕ) (text : Text) (lines : List Text) → IsWrapped w d text lines → LinesAreFew w d text lines }
 {}
@@ -45,7 +45,7 @@ pub fn lines_are_fewest()
     ensures { (w d : ℕ) (text : Text) (lines : List Text) → IsWrapped w d text lines → LinesAreFewest w d text lines }
 {}
 
-/// The head that `split_long_word` gives is the longest front of whole clusters within the places.
+/// The head that `split_long_word` returns is the longest front of whole grapheme clusters within its terminal columns.
 pub fn head_is_longest()
     ensures { (k : ℕ) (text : Text) → HeadIsLongest k text }
 {}
@@ -56,7 +56,7 @@ pub fn printable_measures_its_length()
     ensures clusters { (text : Text) → PrintableClustersAreCharacters text }
 {}
 
-/// A printable ASCII indicator is even: behind printable ASCII it adds as many places as it has characters.
+/// Behind any printable ASCII text, a printable ASCII indicator adds one terminal column for each of its characters.
 pub fn printable_adds_one_column_each()
     ensures { (indicator : Text) → PrintableAddsOneColumnEach indicator }
 {}

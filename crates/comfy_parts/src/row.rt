@@ -1,4 +1,4 @@
-//! A row: its cells, and the greatest height of its cells.
+//! A row: its cells, and how many lines of each are drawn at the most.
 
 ghost use Rattle.std.specs.Prelude.{◌≡◌, ◌≤◌, IfOk, IfSome, OnOk, OnErr, length, []};
 ghost use Rattle.std.specs.Borrow.{sem};
@@ -16,7 +16,14 @@ use std::alloc::Global;
 use std::marker::Model;
 use std::slice;
 
-/// The cells of one row, and how many lines of each are drawn at the most.
+/// One row of a table: its cells, and how many lines of each are drawn at the most.
+///
+/// ```
+/// let mut row = Row::new(alloc);
+/// row.add_cell(Cell::new(alloc, "dock 3")?)?
+///     .add_cell(Cell::new(alloc, 17)?)?
+///     .max_height(2);
+/// ```
 #[derive(Debug, Drop)]
 pub struct Row {
     cells: Vec<Cell>,
@@ -53,7 +60,8 @@ impl Row {
         }
     }
 
-    /// Appends a cell. After running out of memory the row is unchanged, and the cell is dropped.
+    /// Appends a cell, and returns the row for further calls. After `OutOfMemory` the row is unchanged and the cell is
+    /// dropped; a caller's own proof can use that of `try_add_cell` only.
     pub fn add_cell(&mut self, cell: Cell) -> Result<&mut Self>
         ensures* err { sem 𝓛 (RowStaysIfErr self.entry result) }
         ensures same_reference { IfOk result (λ row. row.ghost_name ≡ self.entry.ghost_name) }
@@ -72,8 +80,8 @@ impl Row {
         Ok(WrappedRow { row: self })
     }
 
-    /// `add_cell` for callers that go on with the row after running out of memory: the row is then unchanged, and the
-    /// cell is dropped.
+    /// Appends a cell, for callers that go on with the row after `OutOfMemory`: then it is unchanged and the cell is
+    /// dropped, and the caller's own proof can use that.
     pub fn try_add_cell(&mut self, cell: Cell) -> Result<()>
         ensures ok { OnOk result (self.new ≡ with_cell cell self.old) }
         ensures err { OnErr result (self.new ≡ self.old) }
@@ -94,7 +102,7 @@ impl Row {
         self
     }
 
-    /// How many cells the row has.
+    /// The number of cells.
     pub fn cell_count(&self) -> usize
         ensures value { result ≡ length self.now.cells }
         ensures is_row { IsRow self.now }
@@ -119,7 +127,7 @@ impl Row {
     }
 }
 
-// Looks at each cell, which tells what every cell keeps.
+// Looks at each cell, which shows what every cell keeps.
 fn look_at(cells: &[Cell])
     ensures { All IsCell cells.now }
 {

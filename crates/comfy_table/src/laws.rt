@@ -1,6 +1,6 @@
 //! What tables promise beyond the clauses of their calls. Each function does nothing: its clauses are the law, so that a
-//! proof of yours can cite it. `IsArranged table widths` says which widths the columns of a table have. The laws of
-//! wrapping are re-exported here too.
+//! proof of yours can cite it. `IsArranged table widths` says which widths the columns of a table have. No call draws by
+//! a dynamic arrangement yet. The laws of wrapping are re-exported here too.
 
 ghost use Rattle.std.specs.Prelude.{ℕ, Bool, List};
 ghost use Rattle.comfy_parts.specs.CellValue.{ColumnValue, NoFewerColumns};
@@ -17,7 +17,7 @@ pub use comfy_parts::laws::{
     sequences_are_taken_out_in_one_pass, sequences_count_nothing, wrapped_lines_are_one_list,
 };
 
-/// Where columns are appended for a row of n cells, there are then as many columns as before or n, whichever is more.
+/// After columns were appended for a row of n cells, there are as many columns as before or n, whichever is more.
 pub fn columns_only_grow()
     ensures { (n : ℕ) (columns : List ColumnValue) → NoFewerColumns n columns }
 {}
@@ -29,20 +29,24 @@ pub fn frame_lines_have_one_count()
 {}
 
 /// Where no visible column has a constraint, a frame line has at most as many characters as the set width, or as borders,
-/// paddings and one character for each visible column under `Dynamic`; exactly that under `DynamicFullWidth`.
+/// paddings and one character for each visible column, under `Dynamic`. Under `DynamicFullWidth` it has exactly so many,
+/// where a column is visible.
 pub fn frame_lines_keep_to_the_width()
     ensures dynamic { (table : TableValue) (w : ℕ) (widths : List ℕ) (line : LineStyle) → FrameKeepsToWidth table w widths line }
     ensures full { (table : TableValue) (w : ℕ) (widths : List ℕ) (line : LineStyle) → FrameFillsWidth table w widths line }
 {}
 
-/// Borders and whole widths together keep to the same bounds.
+/// Where no visible column has a constraint, borders and whole widths together keep to the set width, or to borders,
+/// paddings and one terminal column for each visible column, whichever is more. Under `DynamicFullWidth` they are
+/// exactly that wide, where a column is visible.
 pub fn widths_keep_to_the_width()
     ensures dynamic { (table : TableValue) (w : ℕ) (widths : List ℕ) → KeepsToWidth table w widths }
     ensures full { (table : TableValue) (w : ℕ) (widths : List ℕ) → FillsWidth table w widths }
 {}
 
-/// Under every constraint they keep to the set width, or to borders, the whole widths of the columns that a constraint
-/// decides first, and paddings and one character for each other column.
+/// Under every constraint borders and whole widths together keep to the set width or to a least total, whichever is more.
+/// The total is borders, the whole widths of the columns that a constraint decides first, and paddings and one terminal
+/// column for each other column. Under `DynamicFullWidth` they are exactly that wide, where a column is visible.
 pub fn widths_keep_to_the_wider_total()
     ensures dynamic { (table : TableValue) (w : ℕ) (widths : List ℕ) → KeepsToWiderTotal table w widths }
     ensures full_at_most { (table : TableValue) (w : ℕ) (widths : List ℕ) → KeepsToWiderTotalInFull table w widths }
@@ -71,7 +75,8 @@ pub fn contents_that_fit_are_kept()
     ensures { (table : TableValue) (w : ℕ) (widths : List ℕ) → TableKeepsContents table w widths }
 {}
 
-/// In printable ASCII and without constraints, `Dynamic` makes no column more than three characters wider than its content.
+/// In printable ASCII and without constraints, `Dynamic` makes no column more than three terminal columns wider than its
+/// content.
 pub fn columns_are_at_most_three_wider()
     ensures { (table : TableValue) (w : ℕ) (widths : List ℕ) → IsAtMostThreeOver table w widths }
 {}

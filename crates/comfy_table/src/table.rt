@@ -21,7 +21,15 @@ use std::alloc::Global;
 use std::marker::Model;
 use terminal::Terminal;
 
-/// A table. It is built row by row, and drawn by `lines`.
+/// A table. It is built row by row, and drawn by `lines`, `to_text` or `trim_fmt`.
+///
+/// ```
+/// let mut table = Table::new(alloc);
+/// table
+///     .set_header(["Bike", "Where it stands"])?
+///     .add_row(["17", "dock 3"])?;
+/// let text = table.to_text()?;
+/// ```
 #[derive(Debug, Drop)]
 pub struct Table {
     pub(crate) columns: Vec<Column>,
@@ -56,7 +64,7 @@ impl Model for Table {
 }
 
 impl Table {
-    /// A table with nothing in it. It takes no memory.
+    /// A table without header, rows and columns, in the style `ASCII_FULL`. It takes no memory.
     pub fn new(alloc: Global) -> Table
         ensures { result ≡ new_table ascii_full }
     {
@@ -78,8 +86,9 @@ impl Table {
         }
     }
 
-    /// Replaces the header, and appends default columns until there are as many as its cells. After `OutOfMemory` the table
-    /// is unchanged and the new header is dropped.
+    /// Replaces the header, and appends default columns until there are as many as its cells. Returns the table for
+    /// further calls. After `OutOfMemory` the table is unchanged and the new header is dropped; a caller's own proof can
+    /// use that of `try_set_header` only.
     pub fn set_header<T: IntoRow>(&mut self, row: T) -> Result<&mut Self>
         ensures* err { sem 𝓛 (TableStaysIfErr self.entry result) }
         ensures same_reference { IfOk result (λ table. table.ghost_name ≡ self.entry.ghost_name) }
@@ -88,8 +97,9 @@ impl Table {
         into_reference(self.with_header_set(row))
     }
 
-    /// Appends a row, and default columns until there are as many as its cells. After `OutOfMemory` the table is unchanged
-    /// and the row is dropped.
+    /// Appends a row, and default columns until there are as many as its cells. Returns the table for further calls. After
+    /// `OutOfMemory` the table is unchanged and the row is dropped; a caller's own proof can use that of `try_add_row`
+    /// only.
     pub fn add_row<T: IntoRow>(&mut self, row: T) -> Result<&mut Self>
         ensures* err { sem 𝓛 (TableStaysIfErr self.entry result) }
         ensures same_reference { IfOk result (λ table. table.ghost_name ≡ self.entry.ghost_name) }
@@ -98,8 +108,9 @@ impl Table {
         into_reference(self.with_row_added(row))
     }
 
-    /// `set_header` for callers that go on with the table after `OutOfMemory`: then it is unchanged and the new header is
-    /// dropped, and the caller's own proof can use that.
+    /// Replaces the header, and appends default columns until there are as many as its cells. This is for callers that go
+    /// on with the table after `OutOfMemory`: then it is unchanged and the new header is dropped, and the caller's own
+    /// proof can use that.
     pub fn try_set_header<T: IntoRow>(&mut self, row: T) -> Result<()>
         ensures ok { OnOk result (self.new ≡ with_header (T.row_of row) self.old) }
         ensures err { OnErr result (self.new ≡ self.old) }
@@ -110,8 +121,8 @@ impl Table {
         Ok(())
     }
 
-    /// `add_row` for callers that go on with the table after `OutOfMemory`: then it is unchanged and the row is dropped,
-    /// and the caller's own proof can use that.
+    /// Appends a row, and default columns until there are as many as its cells. This is for callers that go on with the
+    /// table after `OutOfMemory`: then it is unchanged and the row is dropped, and the caller's own proof can use that.
     pub fn try_add_row<T: IntoRow>(&mut self, row: T) -> Result<()>
         ensures ok { OnOk result (self.new ≡ with_row (T.row_of row) self.old) }
         ensures err { OnErr result (self.new ≡ self.old) }

@@ -1,20 +1,20 @@
-//! What the width of a column is held to.
+//! Widths of columns, and constraints on them.
 
-/// A whole width of a column, its paddings among it.
+/// The whole width of a column, its paddings included.
 #[derive(Copy, Clone, Debug, PartialEq, Eq)]
 pub enum Width {
-    /// That many places.
+    /// That many terminal columns.
     Fixed(u16),
     /// That many percent, at most 100, of the table's width without its borders. It needs a table whose width is known.
     Percentage(u16),
 }
 
-/// What the width of a column is held to.
+/// A constraint on the width of a column.
 #[derive(Copy, Clone, Debug, PartialEq, Eq)]
 pub enum ColumnConstraint {
     /// The column isn't drawn.
     Hidden,
-    /// The column is as wide as its content.
+    /// The column is exactly as wide as its content and its paddings.
     ContentWidth,
     /// The column has this width.
     Absolute(Width),
@@ -22,6 +22,6 @@ pub enum ColumnConstraint {
     LowerBoundary(Width),
     /// The column is at most this wide, where the arrangement allows it.
     UpperBoundary(Width),
-    /// Both boundaries.
+    /// The column is at least as wide as `lower` and at most as wide as `upper`, where the arrangement allows it.
     Boundaries { lower: Width, upper: Width },
 }

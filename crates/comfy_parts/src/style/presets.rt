@@ -1,4 +1,8 @@
-//! Styles that are ready to be used.
+//! Styles that are ready to be used, each with a picture.
+//!
+//! ```
+//! table.load_style(UTF8_FULL.with_rounded_corners());
+//! ```
 
 ghost use Rattle.std.specs.Prelude.{◌≡◌};
 ghost use Rattle.comfy_parts.specs.Presets.{ascii_full, ascii_full_condensed, ascii_no_borders, ascii_borders_only, ascii_borders_only_condensed, ascii_horizontal_only, ascii_markdown, utf8_full, utf8_full_condensed, utf8_no_borders, utf8_borders_only, utf8_horizontal_only, nothing};
@@ -137,7 +141,7 @@ pub const ASCII_FULL: TableStyle = TableStyle {
     bottom_border: ASCII_BORDER,
 };
 
-/// As `ASCII_FULL`, with no lines between rows.
+/// Outer borders, lines between columns and the header's separator, of ASCII characters; no lines between rows.
 ///
 /// ```text
 /// +-------+-------+
@@ -156,7 +160,7 @@ pub const ASCII_FULL_CONDENSED: TableStyle = TableStyle {
     bottom_border: ASCII_BORDER,
 };
 
-/// As `ASCII_FULL`, with no outer borders.
+/// Lines between columns and between rows, of ASCII characters; no outer borders.
 ///
 /// ```text
 ///  Hello | there
@@ -204,7 +208,7 @@ pub const ASCII_BORDERS_ONLY: TableStyle = TableStyle {
     bottom_border: ASCII_PLAIN_BORDER,
 };
 
-/// As `ASCII_BORDERS_ONLY`, with no line between rows.
+/// Outer borders and the header's separator, of ASCII characters; no line between rows.
 ///
 /// ```text
 /// +---------------+
@@ -305,7 +309,7 @@ pub const UTF8_FULL: TableStyle = TableStyle {
     },
 };
 
-/// As `UTF8_FULL`, with no lines between rows.
+/// Outer borders, lines between columns and the header's separator, of box drawing characters; no lines between rows.
 ///
 /// ```text
 /// ┌───────┬───────┐
@@ -339,7 +343,7 @@ pub const UTF8_FULL_CONDENSED: TableStyle = TableStyle {
     },
 };
 
-/// As `UTF8_FULL`, with no outer borders.
+/// Lines between columns and between rows, of box drawing characters; no outer borders.
 ///
 /// ```text
 ///  Hello ┆ there
@@ -442,7 +446,7 @@ pub const NOTHING: TableStyle = TableStyle {
     bottom_border: NO_LINE,
 };
 
-/// Each preset has the characters that its definition tells.
+/// Each preset has the characters of its definition in `specs/Presets`. The function does nothing: its clauses say so.
 pub fn presets_are_as_tabled()
     ensures of_ascii_full { ASCII_FULL ≡ ascii_full }
     ensures of_ascii_full_condensed { ASCII_FULL_CONDENSED ≡ ascii_full_condensed }

@@ -12,6 +12,11 @@ ghost use Rattle.comfy_parts.specs.StyleModifiers.{with_rounded_corners, with_so
 /// ^    ^   ^        ^
 /// left fill junction right
 /// ```
+///
+/// ```
+/// let separator = LineStyle::new('├', '╌', '┼', '┤');
+/// let underline = LineStyle::none().fill('=');
+/// ```
 #[derive(Copy, Clone, Debug, Default, PartialEq, Eq)]
 pub struct LineStyle {
     /// The left border's character.
@@ -161,6 +166,12 @@ impl ContentLineStyle {
 /// ├╌╌╌┼╌╌╌┤ row_separator
 /// │ e ┆ f │ content_lines
 /// └───┴───┘ bottom_border
+/// ```
+///
+/// ```
+/// let style = TableStyle::new()
+///     .header_separator(LineStyle::none().fill('='))
+///     .content_lines(ContentLineStyle::none().junction('|'));
 /// ```
 #[derive(Copy, Clone, Debug, Default, PartialEq, Eq)]
 pub struct TableStyle {

@@ -65,7 +65,7 @@ fn line_for(error: RunError) -> &'static str
     }
 }
 
-// Writes a line. Where that fails there is nobody left to tell.
+// Writes a line. Where that fails there is nowhere left to report it.
 fn report<F: Sink>(messages: &mut F, line: &str)
     ensures { Reports line.now (F.taken messages.old) (F.taken messages.new) (F.has_failed messages.new) }
 {

@@ -3,7 +3,7 @@
 ghost use Rattle.std.specs.Prelude.{◌≡◌, ◌<◌, ◌≤◌, ◌++◌, ◌||◌, List, ℕ, Bool, true, length, take, drop, is_err, IfOk, OnErr, Option, Some, []};
 ghost use Rattle.comfy_run.specs.Device.{is_end};
 
-/// A device that refused. It comes exactly where the device has failed, and then at every later call.
+/// A call of a device failed. It is returned exactly where the device has failed, and then by every later call.
 #[derive(Clone, Copy, Debug, PartialEq, Eq)]
 pub struct DeviceFault;
 
@@ -15,7 +15,7 @@ pub trait Source {
     // whether it has failed
     ghost has_failed: { Self → Bool };
 
-    // whether its end was read: whether a call answered 0 for a buffer that isn't empty
+    // whether its end was read: whether a call returned 0 for a buffer that isn't empty
     ghost end_was_read: { Self → Bool };
 
     /// Puts bytes at the front of the buffer, and returns how many; 0 for a buffer that isn't empty

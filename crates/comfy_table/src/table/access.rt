@@ -1,4 +1,4 @@
-//! The rows and columns of a table, read and lent.
+//! The rows and columns of a table, read and borrowed mutably.
 
 ghost use Rattle.std.specs.Prelude.{◌≡◌, ◌<◌, ◌==◌, ◌↔◌, IfSome, IsSome, length, option_copied, slice_get, slice_index_or};
 ghost use Rattle.std.specs.Borrow.{sem};
@@ -12,7 +12,7 @@ use comfy_parts::{Column, Row};
 use std::slice;
 
 impl Table {
-    /// How many rows there are, the header not among them.
+    /// The number of rows, not counting the header.
     pub fn row_count(&self) -> usize
         ensures { result ≡ length self.now.rows }
     {
@@ -51,7 +51,8 @@ impl Table {
         self.columns.iter()
     }
 
-    /// The columns in order, to be changed.
+    /// The columns in order, to be changed. What is written through them changes these columns, and nothing else of the
+    /// table.
     pub fn column_iter_mut(&mut self) -> slice::IterMut<'_, Column>
         ensures* lent { sem 𝓛 (LendsColumns self.entry result) }
         ensures rest { iter_mut_rest result ≡ self.old.columns }
@@ -60,7 +61,8 @@ impl Table {
         self.columns.iter_mut()
     }
 
-    /// The row at a position, to be changed.
+    /// The row at a position, counted from 0 and without the header, to be changed; none past the last. What is written
+    /// through it changes that row, and nothing else of the table: a cell past the last column isn't drawn.
     pub fn row_mut(&mut self, index: usize) -> Option<&mut Row>
         ensures* lent { sem 𝓛 (LendsRow self.entry index result) }
         ensures found { IsSome result ↔ (index < length self.old.rows) }

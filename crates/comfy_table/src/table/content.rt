@@ -7,7 +7,7 @@ ghost use Rattle.comfy_table.specs.Contents.{row_content_width, rows_content_wid
 use crate::table::Table;
 use comfy_parts::{Cell, Result, Row};
 
-/// The greatest measure of a text line of the column at a position, over header and rows. Each cell counts at least 1,
+/// The greatest measure, in terminal columns, of a text line of the column at a position, over header and rows. Each cell counts at least 1,
 /// a measure above 65535 counts 65535, and a column without a cell gives 0.
 pub(crate) fn column_content_width(table: &Table, position: usize) -> u16
     ensures { result ≡ column_content_width table.now position }
@@ -20,9 +20,9 @@ pub(crate) fn column_content_width(table: &Table, position: usize) -> u16
 }
 
 impl Table {
-    /// For each column, in list order, the greatest measure of a text line over header and rows. Each cell counts at least
-    /// 1, a measure above 65535 counts 65535, a column without a cell gives 0, and cells past the last column are left
-    /// out.
+    /// For each column, in list order, the greatest measure of a text line over header and rows, in terminal columns. Each
+    /// cell counts at least 1, a measure above 65535 counts 65535, and a column without a cell gives 0. Cells past the
+    /// last column are left out.
     pub fn column_max_content_widths(&self) -> Result<Vec<u16>>
         ensures { IfOk result (λ widths. widths.items ≡ max_content_widths self.now) }
     {

@@ -45,7 +45,9 @@ impl Table {
         self
     }
 
-    /// Sets the text that stands behind a line which `Row::max_height` cuts. After `OutOfMemory` the table is unchanged.
+    /// Sets the text that stands behind a line which `Row::max_height` cuts; a new table has `…`. Returns the table for
+    /// further calls. After `OutOfMemory` the table is unchanged; a caller's own proof can use that of
+    /// `try_set_truncation_indicator` only.
     pub fn set_truncation_indicator(&mut self, indicator: &str) -> Result<&mut Self>
         ensures* err { sem 𝓛 (TableStaysIfErr self.entry result) }
         ensures same_reference { IfOk result (λ table. table.ghost_name ≡ self.entry.ghost_name) }
@@ -54,8 +56,8 @@ impl Table {
         into_reference(self.with_indicator_set(indicator))
     }
 
-    /// `set_truncation_indicator` for callers that go on with the table after `OutOfMemory`: then it is unchanged, and the
-    /// caller's own proof can use that.
+    /// Sets the text that stands behind a line which `Row::max_height` cuts. This is for callers that go on with the table
+    /// after `OutOfMemory`: then it is unchanged, and the caller's own proof can use that.
     pub fn try_set_truncation_indicator(&mut self, indicator: &str) -> Result<()>
         ensures ok { OnOk result (self.new ≡ record self.old { indicator = indicator.now }) }
         ensures err { OnErr result (self.new ≡ self.old) }
@@ -75,7 +77,7 @@ impl Table {
         Ok(TableReference { table: self })
     }
 
-    /// Sets the width of the table in places. Percentages of constraints are taken of it.
+    /// Sets the width of the table in terminal columns. So far it only serves the percentages of constraints.
     pub fn set_width(&mut self, width: u16) -> &mut Self
         ensures same_reference { result.ghost_name ≡ self.entry.ghost_name }
         ensures value { result.now ≡ record self.old { set_width = Some width } }

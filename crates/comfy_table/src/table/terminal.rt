@@ -5,14 +5,14 @@ ghost use Rattle.comfy_table.specs.TableValue.{is_tty, should_style, table_width
 
 use crate::table::Table;
 
-/// Facts about a terminal, as the caller found them.
+/// Facts about a terminal, as the caller found them. No call passes them to a table yet.
 #[derive(Copy, Clone, Debug)]
 pub struct Terminal {
     /// Whether standard output is a terminal.
     pub stdout_is_tty: bool,
     /// Whether standard error is a terminal.
     pub stderr_is_tty: bool,
-    /// How many places a line of it has; none where that isn't known.
+    /// How many terminal columns a line of it has; none where that isn't known.
     pub width: Option<u16>,
 }
 
@@ -26,7 +26,7 @@ impl Terminal {
 }
 
 impl Table {
-    /// The width in places: the one that was set, else the terminal's where the output is one.
+    /// The width in terminal columns: the one that was set, else the terminal's where the output is one; none otherwise.
     pub fn width(&self) -> Option<u16>
         ensures { result ≡ table_width self.now }
     {
@@ -40,7 +40,7 @@ impl Table {
         }
     }
 
-    // Whether the output is a terminal, by the facts that were handed in.
+    // Whether the output is a terminal, by the facts that were passed in.
     pub(crate) fn writes_to_tty(&self) -> bool
         ensures { result ≡ is_tty self.now }
     {

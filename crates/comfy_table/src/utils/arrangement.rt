@@ -31,7 +31,7 @@ pub fn arrange_content(table: &Table) -> Result<Vec<ColumnDisplayInfo>>
     Ok(infos)
 }
 
-// The content width of the column at a position where no table width is kept: a hidden column has its content's.
+// The content width of the column at a position under `Disabled`: a hidden column has its content's.
 fn width_by_content(table: &Table, position: usize, column: &Column, visible: usize) -> u16
     requires { visible ≡ visible_count table.now }
     ensures { result ≡ width_by_content table.now (position, column.now) }

@@ -1,4 +1,4 @@
-//! The widths and boundaries of constraints, as numbers of places.
+//! The widths and boundaries of constraints, as numbers of terminal columns.
 
 ghost use Rattle.std.specs.Prelude.{◌≡◌};
 ghost use Rattle.comfy_table.specs.Widths.{lower_boundary, resolved_width, upper_boundary};
@@ -7,8 +7,8 @@ use crate::table::Table;
 use crate::utils::arrangement::helper::count_border_columns;
 use comfy_parts::style::{ColumnConstraint, Width};
 
-/// The lower boundary of a constraint, in places of a whole column; none for a constraint without one, and for a
-/// percentage where the table's width isn't known.
+/// The lower boundary of a constraint on a column's whole width, in terminal columns. None for a constraint without one,
+/// and for a percentage where the table's width isn't known.
 pub fn min(
     table: &Table,
     constraint: &Option<ColumnConstraint>,
@@ -25,7 +25,8 @@ pub fn min(
     }
 }
 
-/// The upper boundary of a constraint, likewise.
+/// The upper boundary of a constraint on a column's whole width, in terminal columns. None for a constraint without one,
+/// and for a percentage where the table's width isn't known.
 pub fn max(
     table: &Table,
     constraint: &Option<ColumnConstraint>,
@@ -42,8 +43,8 @@ pub fn max(
     }
 }
 
-/// The places of a width: a fixed one is itself; a percentage, at most 100, is of the table's width less its borders,
-/// rounded down, and is none where that width isn't known.
+/// A width in terminal columns. A fixed one is itself. A percentage, at most 100, is of the table's width less its
+/// borders, rounded down, and is none where that width isn't known.
 pub fn absolute_value_from_width(
     table: &Table,
     width: &Width,

@@ -1,4 +1,4 @@
-//! Widths where no table width is kept.
+//! Widths under `Disabled`.
 
 ghost use Rattle.std.specs.Prelude.{◌≡◌, unwrap_or};
 ghost use Rattle.comfy_parts.specs.CellValue.{column_padding};

@@ -9,7 +9,8 @@ ghost use Rattle.comfy_table.specs.Widths.{without_padding};
 use crate::table::Table;
 use comfy_parts::{Cell, Column};
 
-/// The content of a column whose whole width is this: the width less its paddings, at least 1.
+/// The content width, in terminal columns, of a column whose whole width is this: the width less its paddings, at least
+/// 1.
 pub fn absolute_width_with_padding(column: &Column, width: u16) -> u16
     ensures { result ≡ without_padding (column_padding column.now) width }
 {
@@ -17,14 +18,14 @@ pub fn absolute_width_with_padding(column: &Column, width: u16) -> u16
     width.saturating_sub(left).saturating_sub(right).max(1)
 }
 
-/// How many of the columns are drawn.
+/// The number of columns that aren't hidden.
 pub fn count_visible_columns(columns: &[Column]) -> usize
     ensures { result ≡ visible_among columns.now }
 {
     columns.iter().filter(|column| !column.is_hidden()).count()
 }
 
-/// How many border characters a line over so many visible columns has, or the greatest `usize` where there are more.
+/// The number of border characters of a line over so many visible columns, or the greatest `usize` where there are more.
 pub fn count_border_columns(table: &Table, visible_columns: usize) -> usize
     ensures { result ≡ saturated_border_count table.now.style visible_columns }
 {
