@@ -10,6 +10,7 @@ pub mod Headline
 pub mod Laws
 pub mod Levels
 pub mod Lines
+pub mod LongestLine
 pub mod Output
 pub mod Pieces
 pub mod Styling

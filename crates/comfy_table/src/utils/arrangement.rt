@@ -9,6 +9,7 @@ pub mod constraint;
 mod disabled;
 mod fixed;
 pub mod helper;
+mod longest;
 
 use crate::table::Table;
 use crate::table::content::column_content_width;
@@ -16,6 +17,7 @@ use comfy_parts::content_split::ColumnDisplayInfo;
 use comfy_parts::{Column, Result};
 use disabled::disabled_width;
 use helper::count_visible_columns;
+pub use longest::longest_line;
 
 /// What each column is drawn by, in list order, hidden columns too.
 pub fn arrange_content(table: &Table) -> Result<Vec<ColumnDisplayInfo>>

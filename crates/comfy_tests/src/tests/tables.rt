@@ -3,7 +3,7 @@
 use super::support::assert_texts;
 use comfy_parts::content_split::ColumnDisplayInfo;
 use comfy_parts::{Column, Result};
-use comfy_table::utils::arrangement::arrange_content;
+use comfy_table::utils::arrangement::{arrange_content, longest_line};
 use comfy_table::utils::build_table;
 use comfy_table::utils::formatting::content_format::{format_content, format_row};
 use comfy_table::{Cell, IntoRow, Lines, Table};
@@ -154,5 +154,18 @@ fn a_row_is_formatted_by_its_infos(rt: HostRuntime) -> std::result::Result<(), F
     assert_eq!(rt; lines.len(), 2);
     assert_texts(&rt, lines[0].as_slice(), &[" ab  "], "first line");
     assert_texts(&rt, lines[1].as_slice(), &[" cd  "], "second line");
+    Ok(())
+}
+
+// The second delimiter begins no line.
+#[test]
+fn the_longest_line_depends_on_the_width(rt: HostRuntime) -> std::result::Result<(), Fail> {
+    let mut table = Table::new(rt.alloc());
+    table.add_row(["abcd  efghi"])?;
+    let cases = [(0, 10, 5), (0, 5, 5), (0, 11, 11), (1, 10, 0)];
+    for (position, width, expected) in cases {
+        let longest = longest_line(&table, position, width)?;
+        assert_eq!(rt; longest, expected, "column {position} at {width}");
+    }
     Ok(())
 }

@@ -1,0 +1,64 @@
+-- The longest line of a column is the greatest of its rows' cells.
+use Rattle.std.proofs.Common.{◌≡◌, ℕ, Bool, false, List, [], ◌∷◌, ◌++◌, Option, Some, None, map, flat_map, max, arith, refl, ap, ◌∙◌}
+use Rattle.std.specs.List.{cons_option, filter_map, slice_get}
+use Rattle.std.specs.Prelude.{if◌then◌else◌, option_map, option_to_list}
+use Rattle.std.proofs.lemmas.List.{map-append}
+use Rattle.comfy_parts.specs.CellValue.{CellValue, ColumnInfo, RowValue}
+use Rattle.comfy_parts.specs.Text.{greatest, measure}
+use Rattle.comfy_parts.specs.Wrapping.{lines_of_text}
+use Rattle.comfy_table.specs.Lines.{cell_delimiter, cell_lines, longest_line}
+use Rattle.comfy_table.specs.LongestLine.{cell_longest_line, optional_longest_line, row_longest_line, rows_longest_line}
+use Rattle.comfy_table.specs.TableValue.{TableValue, visible_row}
+
+-- of two lists behind each other
+greatest-append : (xs ys : List ℕ) → greatest (xs ++ ys) ≡ max (greatest xs) (greatest ys)
+greatest-append [] ys = omega arith
+greatest-append (x ∷ xs) ys = let rest = greatest-append xs ys in omega (arith, rest)
+
+-- of all that some elements give
+greatest-flat_map : {X Y : Type 0} (f : Y → ℕ) (g : X → List Y) (xs : List X) → greatest (map f (flat_map g xs)) ≡ greatest (map (λ x. greatest (map f (g x))) xs)
+greatest-flat_map f g [] = refl
+greatest-flat_map f g (x ∷ xs) =
+    ap greatest (map-append f (g x) (flat_map g xs)) ∙ greatest-append (map f (g x)) (map f (flat_map g xs)) ∙ ap (max (greatest (map f (g x)))) (greatest-flat_map f g xs)
+
+module _ (table : TableValue) (info : ColumnInfo) where
+  -- the lines of a cell in the column
+  abbrev lines : CellValue → List (List ℕ)
+  lines cell = cell_lines info.content_width (cell_delimiter table info.delimiter cell) cell
+
+  -- of some cells and perhaps one more
+  greatest-cons_option : (cell : Option CellValue) (cells : List CellValue) → greatest (map (cell_longest_line table info) (cons_option cell cells)) ≡ max (optional_longest_line table info cell) (greatest (map (cell_longest_line table info) cells))
+  greatest-cons_option None cells = omega arith
+  greatest-cons_option (Some cell) cells = refl
+
+  -- of the cells at a position, row by row
+  row_by_row : (rows : List RowValue) (i : ℕ) → greatest (map (cell_longest_line table info) (filter_map (λ (row : RowValue). slice_get row.cells i) rows)) ≡ rows_longest_line table info i rows
+  row_by_row [] i = refl
+  row_by_row (row ∷ rows) i =
+      greatest-cons_option (slice_get row.cells i) (filter_map (λ (r : RowValue). slice_get r.cells i) rows) ∙ ap (max (row_longest_line table info i row)) (row_by_row rows i)
+
+  -- of the lines of all cells
+  cell_by_cell : (cells : List CellValue) → greatest (map measure (flat_map lines cells)) ≡ greatest (map (cell_longest_line table info) cells)
+  cell_by_cell cells =
+      greatest-flat_map measure lines cells
+      ∙ (λ j. greatest (map (λ (cell : CellValue). greatest-flat_map measure (lines_of_text info.content_width (cell_delimiter table info.delimiter cell)) cell.text_lines j) cells))
+
+  -- of the lines of all cells of some rows
+  rows_longest_line-is : (rows : List RowValue) (i : ℕ) → greatest (map measure (flat_map lines (filter_map (λ (row : RowValue). slice_get row.cells i) rows))) ≡ rows_longest_line table info i rows
+  rows_longest_line-is rows i = cell_by_cell (filter_map (λ (row : RowValue). slice_get row.cells i) rows) ∙ row_by_row rows i
+
+  -- the longest line by the setting
+  abbrev longest_by : Bool → Option RowValue → List RowValue → ℕ → ℕ
+  longest_by custom header rows i =
+      greatest (map measure (flat_map lines (filter_map (λ (row : RowValue). slice_get row.cells i) (option_to_list (if custom then option_map visible_row header else header) ++ (if custom then map visible_row rows else rows)))))
+
+  -- of a table without custom styling and without a header
+  pub longest_line-none : (i : ℕ) → table.custom_styling ≡ false → table.header ≡ None → longest_line table i info.delimiter info.content_width ≡ rows_longest_line table info i table.rows
+  longest_line-none i off none =
+      ap (λ (custom : Bool). longest_by custom table.header table.rows i) off ∙ ap (λ (header : Option RowValue). longest_by false header table.rows i) none ∙ rows_longest_line-is table.rows i
+
+  -- of one with a header
+  pub longest_line-some : (i : ℕ) (header : RowValue) → table.custom_styling ≡ false → table.header ≡ Some header
+      → longest_line table i info.delimiter info.content_width ≡ max (row_longest_line table info i header) (rows_longest_line table info i table.rows)
+  longest_line-some i header off some =
+      ap (λ (custom : Bool). longest_by custom table.header table.rows i) off ∙ ap (λ (header : Option RowValue). longest_by false header table.rows i) some ∙ rows_longest_line-is (header ∷ table.rows) i
