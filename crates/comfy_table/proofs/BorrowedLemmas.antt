@@ -1,13 +1,11 @@
 -- Lines of a cell that are borrowed from its text.
-use Rattle.std.proofs.Common.{◌≡◌, ◌<◌, ◌≤◌, ℕ, ◌+◌, ◌-◌, zero, suc, Bool, true, false, ◌&&◌, List, [], ◌∷◌, ◌++◌, Option, Some, None, length, map, take, refl, ap, ap₂, sym, subst, ◌∙◌, arith, string_bytes, String, slice_index_or, nat_le, nat_lt}
-use Rattle.std.proofs.lemmas.Bool.Decides.{nat_tests}
-use Rattle.std.proofs.lemmas.List.{length-append, length-map}
+use Rattle.std.proofs.Common.{◌≡◌, ◌<◌, ℕ, ◌+◌, zero, suc, Bool, true, false, ◌&&◌, List, [], ◌∷◌, ◌++◌, Option, Some, None, length, map, take, refl, ap, ap₂, sym, subst, ◌∙◌, arith, nat_le}
 use Rattle.std.proofs.lemmas.Option.{slice_get-map}
 use Rattle.std.specs.List.{flat_map, list_all, slice_get}
-use Rattle.std.specs.Prelude.{if◌then◌else◌, IfSome, option_map}
+use Rattle.std.specs.Prelude.{if◌then◌else◌, option_map}
 use Rattle.comfy_parts.specs.Text.{Text, measure}
 use Rattle.comfy_parts.specs.Wrapping.{lines_of_text, wrapped}
-use Rattle.comfy_table.specs.BorrowedLines.{IsKnownWidth, IsWithin, lines_shown}
+use Rattle.comfy_table.specs.BorrowedLines.{IsKnownWidth}
 
 -- ---- widths that were kept
 

@@ -1,9 +1,9 @@
 -- Without custom styling, the lines of a row are made of the cells that its visible columns draw.
 use Rattle.std.specs.Prelude.{if◌then◌else◌}
 use Rattle.comfy_parts.specs.VisibleLines.{CellLine}
-use Rattle.std.proofs.Common.{◌≡◌, Bool, false, ◌<◌, ℕ, List, [], ◌∷◌, Option, Some, None, length, map, max, refl, ap, ap₂, ◌∙◌, sym, slice_index_or, zero, suc, arith}
+use Rattle.std.proofs.Common.{◌≡◌, Bool, false, ℕ, List, [], ◌∷◌, Option, Some, None, length, map, max, refl, ap, ap₂, ◌∙◌, sym, slice_index_or, zero, suc}
 use Rattle.std.specs.List.{range_with_len, slice_get}
-use Rattle.std.proofs.lemmas.List.{get_or-map, length-map}
+use Rattle.std.proofs.lemmas.List.{length-map}
 use Rattle.comfy_parts.specs.CellValue.{CellValue, RowValue, ColumnInfo}
 use Rattle.comfy_parts.specs.Text.{Text, greatest}
 use Rattle.comfy_table.specs.DrawnCells.{drawn_cell, greatest_height, height_of_lines, lines_of_optional, piece_at, piece_of_lines}

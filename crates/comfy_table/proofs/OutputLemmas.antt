@@ -1,5 +1,5 @@
 -- Outputs that lines were written to, one after another.
-use Rattle.std.proofs.Common.{◌≡◌, ◌<◌, ◌≤◌, ◌-◌, ℕ, arith, length, subst, take, List, [], ◌∷◌, ◌++◌, map, refl, ap, ap₂, sym, ◌∙◌, append_assoc, append-nil}
+use Rattle.std.proofs.Common.{◌≡◌, ◌<◌, ◌≤◌, ◌-◌, ℕ, arith, length, take, List, [], ◌∷◌, ◌++◌, map, refl, ap, ap₂, sym, ◌∙◌, append_assoc, append-nil}
 use Rattle.std.proofs.Math.Seq.{get_or-append_seam, take-append_seam}
 use Rattle.std.proofs.lemmas.List.Folds.{flat_map-map}
 use Rattle.std.specs.List.{slice_index}
@@ -8,7 +8,7 @@ use Rattle.std.specs.Str.{trim_end}
 use Rattle.std.proofs.lemmas.List.{length-append}
 use Rattle.std.proofs.lemmas.List.Concat.{flat_map-append}
 use Rattle.comfy_parts.specs.Text.{Text}
-use Rattle.comfy_table.specs.Drawing.{terminated_text_of, text_of, trimmed_text_of}
+use Rattle.comfy_table.specs.Drawing.{terminated_text_of, text_of}
 use Rattle.comfy_table.specs.Output.{OutputValue, WriterValue, line_in_text, own_lines, with_lines, with_written}
 use Rattle.comfy_table.specs.declared.utils.formatting.output.OutputForm.{OutputForm}
 use Rattle.comfy_table.specs.declared.utils.formatting.output.OutputForm.TheVariants.{Lines, Joined, Trimmed}

@@ -1,6 +1,6 @@
 -- The frame of a table: which borders are drawn, and what its lines look like.
 use Rattle.std.specs.Prelude.{ℕ, ◌+◌, ◌-◌, ◌^◌, min, Bool, ◌||◌, List, [], ◌∷◌, ◌++◌, Option, is_some, unwrap_or, map, encode_utf8, if◌then◌else◌}
-use Rattle.std.specs.List.{repeat, join_by, list_any}
+use Rattle.std.specs.List.{repeat, join_by}
 pub use Rattle.comfy_parts.specs.Borders.{draws_left_border, draws_right_border, draws_vertical_lines, junction_characters, left_characters, right_characters}
 use Rattle.comfy_parts.specs.Text.{Text}
 use Rattle.comfy_parts.specs.declared.style.table_style.ContentLineStyle.{ContentLineStyle}

@@ -54,11 +54,7 @@ impl<'a> Model for Writer<'a> {
 }
 
 impl<'a> Writer<'a> {
-    fn new(
-        table: &'a Table,
-        infos: &'a [ColumnDisplayInfo],
-        form: OutputForm,
-    ) -> Result<Writer<'a>>
+    fn new(table: &'a Table, infos: &'a [ColumnDisplayInfo], form: OutputForm) -> Result<Writer<'a>>
         ensures { IfOk result (λ writer. writer ≡ record { table = table.now; infos = infos.now; output = new_output form }) }
     {
         let alloc = *table.columns.allocator();
@@ -98,8 +94,11 @@ impl<'a> Writer<'a> {
         ensures { OnOk result (self.new ≡ with_written (drawn_rows self.old.table self.old.infos self.old.table.rows) self.old) }
     {
         let table = self.table;
-        let separator =
-            optional_frame_line(table, &table.style.row_separator, self.widths.as_slice())?;
+        let separator = optional_frame_line(
+            table,
+            &table.style.row_separator,
+            self.widths.as_slice(),
+        )?;
         self.write_separated_rows(&separator)
     }
 

@@ -2,7 +2,7 @@ use Rattle.std.proofs.Common.{◌≡◌, ◌++◌, ℕ, true, List, map, ap, ap�
 use Rattle.std.proofs.lemmas.List.Folds.{flat_map-map}
 use Rattle.std.specs.List.{flat_map, list_all}
 use Rattle.comfy_parts.specs.CellValue.{ColumnInfo}
-use Rattle.comfy_parts.specs.Text.{Text, measure}
+use Rattle.comfy_parts.specs.Text.{measure}
 use Rattle.comfy_parts.specs.Wrapping.{lines_of_text}
 use Rattle.comfy_table.proofs.BorrowedLemmas.{all_fit}
 use Rattle.comfy_table.proofs.utils.formatting.cell_lines.cell_lines.Goals as goal

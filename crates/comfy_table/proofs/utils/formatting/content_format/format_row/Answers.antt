@@ -1,12 +1,9 @@
-use Rattle.comfy_table.specs.TableValue.{TableValue}
-use Rattle.std.proofs.Common.{◌≡◌, false, ℕ, ◌+◌, List, [], ◌∷◌, ◌++◌, map, string_bytes, ap, ap₂, sym, ◌∙◌, arith}
+use Rattle.std.proofs.Common.{◌≡◌, ℕ, ◌+◌, List, [], ◌∷◌, ◌++◌, map, string_bytes, ap, ap₂, sym, ◌∙◌, arith}
 use Rattle.std.proofs.lemmas.List.{map-append}
 use Rattle.std.proofs.lemmas.List.FromFn.{map-range_with_len_more}
 use Rattle.std.specs.List.{range_with_len}
 use Rattle.comfy_parts.specs.Text.{Text}
-use Rattle.comfy_table.proofs.DrawnCellLemmas.{drawn_lines}
-use Rattle.comfy_table.specs.DrawnCells.{DrawnCell, drawn_cell, greatest_height, piece_at}
-use Rattle.comfy_table.specs.Pieces.{visible_infos}
+use Rattle.comfy_table.specs.DrawnCells.{DrawnCell, greatest_height, piece_at}
 use Rattle.comfy_table.proofs.utils.formatting.content_format.format_row.Goals as goal
 
 pub loop-line-preserved : goal.loop-line-preserved

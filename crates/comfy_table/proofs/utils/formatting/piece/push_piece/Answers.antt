@@ -1,4 +1,4 @@
-use Rattle.std.proofs.Common.{rules, ◌≡◌, ◌++◌, Bool, true, false, ap, sym, ◌∙◌, append_assoc, string_bytes}
+use Rattle.std.proofs.Common.{rules, ◌≡◌, ◌++◌, true, false, ap, sym, ◌∙◌, string_bytes}
 use Rattle.comfy_parts.specs.Text.{Text, spaces}
 use Rattle.comfy_table.proofs.SpaceLemmas.{all-styled, five-pushed, last-pushed, line-styled, plain-made, pushed-as, pushed-behind, three-pushed}
 use Rattle.comfy_table.specs.Styling.{style_begin, style_end}

@@ -1,4 +1,4 @@
-use Rattle.std.proofs.Common.{◌≡◌, ◌<◌, ◌≤◌, ◌-◌, ◌++◌, length, ap, sym, ◌∙◌, arith, string_bytes}
+use Rattle.std.proofs.Common.{◌<◌, ◌-◌, ◌++◌, length, ap, ◌∙◌, arith, string_bytes}
 use Rattle.comfy_parts.specs.Text.{Text, spaces}
 use Rattle.comfy_table.proofs.SpaceLemmas.{space-at, spaces-front, spaces-taken}
 use Rattle.comfy_table.proofs.utils.formatting.piece.push_spaces.Goals as goal

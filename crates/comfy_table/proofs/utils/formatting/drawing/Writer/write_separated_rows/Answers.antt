@@ -1,4 +1,4 @@
-use Rattle.std.proofs.Common.{◌≡◌, ℕ, List, [], ◌++◌, true, map, take, refl, ap, ap₂, string_bytes, nat_lt, ◌∙◌}
+use Rattle.std.proofs.Common.{◌≡◌, List, [], ◌++◌, true, map, take, refl, ap, ap₂, string_bytes, nat_lt, ◌∙◌}
 use Rattle.std.specs.List.{join_by}
 use Rattle.std.specs.Prelude.{if◌then◌else◌, option_to_list}
 use Rattle.comfy_parts.specs.CellValue.{RowValue}
