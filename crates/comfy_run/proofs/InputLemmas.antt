@@ -1,10 +1,11 @@
 -- How a line's cells and an input's rows come together.
-use Rattle.std.proofs.Common.{◌≡◌, ◌==◌, ◌<◌, ℕ, Bool, true, false, List, [], ◌∷◌, ◌++◌, map, length, refl, ap, sym, ◌∙◌, append_assoc, arith, rules, cond, length-append}
+use Rattle.std.proofs.Common.{◌≡◌, ◌==◌, ◌<◌, ℕ, suc, Bool, true, false, List, [], ◌∷◌, ◌++◌, map, length, slice_index_or, refl, ap, ap₂, sym, ◌∙◌, append_assoc, arith, rules, cond, length-append, eqb-true}
 use borrow.Author.Tests.{tests}
 use Rattle.std.proofs.lemmas.Bool.Decides.{nat_tests}
 use Rattle.std.proofs.lemmas.List.{map-append, length-map}
 use Rattle.std.specs.List.{join_with_byte, slice_split, onto_first}
 use Rattle.std.proofs.lemmas.List.Splits.{length-slice_split}
+use Rattle.comfy_parts.proofs.SequenceLemmas.{true_is_false}
 use Rattle.comfy_run.specs.Input.{break_of}
 
 -- one more piece at the end of some
@@ -53,6 +54,16 @@ module _ {P : Type 0} (now : P → List ℕ) (pieces : List P) (piece : P) (text
   joined-more some is =
       let are : 0 < length (map now pieces) = rw length-map (search (rules, tests)) in
       append_assoc text (0x0A ∷ []) (now piece) ∙ ap (λ t. t ++ 0x0A ∷ now piece) is ∙ sym (join-push (map now pieces) (now piece) are) ∙ ap (join_with_byte 0x0A) (sym (map-append now pieces (piece ∷ [])))
+
+-- a text stays as it is where a search for a break found none
+pub kept-breaks : (text : List ℕ) (found : Bool) → found ≡ false → ((k : ℕ) → k < length text → slice_index_or text k 0 ≡ 0x0B → found ≡ true) → map break_of text ≡ text
+kept-breaks [] found none finds = refl
+kept-breaks (b ∷ text) found none finds =
+    ap₂ (λ (x : ℕ) (xs : List ℕ). x ∷ xs) (by_test (b == 0x0B) refl) (kept-breaks text found none (λ k within. finds (suc k) (omega (arith, within))))
+  where
+    by_test : (v : Bool) → (b == 0x0B) ≡ v → cond v 0x0A b ≡ b
+    by_test true same = let contrary : false ≡ true = sym none ∙ finds 0 (omega arith) (eqb-true b 0x0B same) in absurd (true_is_false (sym contrary))
+    by_test false other = refl
 
 -- one item at the end makes a list that isn't empty
 pub pushed-some : {P : Type 0} (pieces : List P) (piece : P) → false ≡ (length (pieces ++ piece ∷ []) == 0)

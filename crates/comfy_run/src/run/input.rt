@@ -56,6 +56,18 @@ fn row_of(alloc: Global, line: &str) -> Result<Row>
 fn cell_of(alloc: Global, part: &str) -> Result<Cell>
     ensures { IfOk result (λ cell. cell ≡ plain_cell (map break_of part.now)) }
 {
+    let text = if part.contains(BREAK) {
+        with_line_feeds(alloc, part)?
+    } else {
+        String::from_str(alloc, part)?
+    };
+    Cell::new_owned(alloc, text)
+}
+
+// What stands between TABs, with its breaks as line feeds.
+fn with_line_feeds(alloc: Global, part: &str) -> Result<String>
+    ensures { IfOk result (λ text. string_bytes text ≡ map break_of part.now) }
+{
     let mut text = String::new(alloc);
     let mut is_first = true;
     for piece in part.split(BREAK) {
@@ -65,5 +77,5 @@ fn cell_of(alloc: Global, part: &str) -> Result<Cell>
         text.push_str(piece)?;
         is_first = false;
     }
-    Cell::new_owned(alloc, text)
+    Ok(text)
 }

@@ -1,6 +1,6 @@
 use Rattle.std.proofs.Common.{◌≡◌, ◌==◌, map, string_bytes, length}
 use Rattle.std.specs.List.{join_with_byte}
-use Rattle.comfy_run.proofs.run.input.cell_of.Given as goal
+use Rattle.comfy_run.proofs.run.input.with_line_feeds.Given as goal
 
 abbrev pub invariant-loop-piece : goal.invariant-loop-piece
 invariant-loop-piece l =
