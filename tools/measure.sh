@@ -1,23 +1,38 @@
 #!/bin/sh
-# Measures the built ctable: the number of instructions and the five dearest functions on 10,000 rows of 6 short
-# cells, and time and memory on 100,000 rows of 4. It needs GNU time and valgrind.
+# Measures the built ctable, and programs beside it: instructions and the five dearest functions on each input below,
+# and time and memory on the one of 100,000 rows. It needs GNU time and valgrind, and takes about two minutes.
 #
-# usage: tools/measure.sh [PROGRAM]..
-# Each PROGRAM, which reads and writes as ctable does, is measured beside it, and has to write the same.
+# usage: tools/measure.sh [PROGRAM].. [--wrapped PROGRAM..]
+# A PROGRAM before --wrapped reads and writes as ctable does. One after it is called with a width, and draws each
+# column in that width, paddings included. All programs on an input have to write the same. A ratio is the first
+# program's instructions divided by those of the program that it stands at.
 set -eu
-for program in "$@"; do
-  [ -x "$program" ] || { echo "$0: $program isn't a program" >&2; exit 2; }
-done
+IFS='
+'
 here=$PWD
 cd "$(dirname "$0")/../crates/ctable"
 rt run > /dev/null
-ctable=$PWD/out/ctable
+unwrapped=$PWD/out/ctable
+wrapped=
 cd "$here"
+is_wrapped=
+for word in "$@"; do
+  if [ "$word" = --wrapped ]; then
+    is_wrapped=yes
+  elif ! [ -x "$word" ]; then
+    echo "$0: $word isn't a program" >&2
+    exit 2
+  elif [ "$is_wrapped" ]; then
+    wrapped=$wrapped$IFS$word
+  else
+    unwrapped=$unwrapped$IFS$word
+  fi
+done
 work=$(mktemp -d)
 trap 'rm -rf "$work"' EXIT
 
 # A header and so many rows of so many cells, each a word and a number below 1,000.
-rows() {
+short_cells() {
   awk -v rows="$1" -v cells="$2" -v word="$3" 'BEGIN {
     for (row = -1; row < rows; row++) {
       line = ""
@@ -30,16 +45,63 @@ rows() {
   }'
 }
 
-rows 10000 6 cell > "$work/wide"
-rows 100000 4 "" > "$work/long"
-for program in "$ctable" "$@"; do
-  echo "$program"
-  valgrind --tool=callgrind --callgrind-out-file="$work/counts" "$program" < "$work/wide" > "$work/drawn" 2> "$work/said"
-  sed -n 's/.*Collected : /10,000 rows of 6 cells, instructions: /p' "$work/said"
-  callgrind_annotate "$work/counts" | grep '%) .*:' | head -n 5
-  /usr/bin/time -f '100,000 rows of 4 cells: %e s, %M KiB' "$program" < "$work/long" > "$work/drawn.long"
-  for drawn in drawn drawn.long; do
-    [ -e "$work/first.$drawn" ] || cp "$work/$drawn" "$work/first.$drawn"
-    cmp "$work/$drawn" "$work/first.$drawn"
+# A header and 2,000 rows of 6 sentences: so many words, each of 2 letters up to so many, out of these letters.
+sentences() {
+  awk -v words="$1" -v longest="$2" -v alphabet="$3" '
+    function drawn(count) { state = state * 16807 % 2147483647; return state % count }
+    BEGIN {
+      state = 1
+      letters = split(alphabet, letter, " ")
+      for (row = 0; row <= 2000; row++) {
+        for (word = 0; word < 6 * words; word++) {
+          if (word > 0) printf (word % words ? " " : "\t")
+          for (left = 2 + drawn(longest - 1); left > 0; left--) printf letter[1 + drawn(letters)]
+        }
+        print ""
+      }
+    }'
+}
+
+# Counts the instructions of each program on an input, and compares what they write.
+count() {
+  input=$1
+  programs=$2
+  width=${3-}
+  echo "$input${width:+, columns of $width}"
+  first=
+  for program in $programs; do
+    valgrind --tool=callgrind --callgrind-out-file="$work/counts" "$program" $width < "$work/$input" > "$work/drawn" 2> "$work/said"
+    count=$(sed -n 's/.*Collected : //p' "$work/said")
+    [ "$first" ] || cp "$work/drawn" "$work/first"
+    first=${first:-$count}
+    cmp "$work/drawn" "$work/first"
+    awk -v count="$count" -v first="$first" -v program="$program" 'BEGIN {
+      printf "  %.1f million instructions, ratio %.3f: %s\n", count / 1e6, first / count, program
+    }'
+    callgrind_annotate "$work/counts" | grep '%) .*:' | head -n 5
   done
+}
+
+short_cells 1000 6 cell > "$work/1,000 rows of 6 short cells"
+short_cells 10000 6 cell > "$work/10,000 rows of 6 short cells"
+short_cells 1000 60 cell > "$work/1,000 rows of 60 short cells"
+short_cells 100000 4 "" > "$work/100,000 rows of 4 short cells"
+sentences 11 9 'a b c d e f g h i j k l m n o p q r s t u v w x y z' > "$work/2,000 rows of 6 sentences"
+sentences 6 6 '年 快 乐 新 春 节 日 本 語 漢 字 仮 名 交 文 表 計 算 機 時 間 東 京 大' > "$work/2,000 rows of 6 wide sentences"
+awk 'BEGIN { while (letters++ < 100000) printf "x" }' > "$work/one word of 100,000 letters"
+
+for rows in '1,000 rows of 6' '10,000 rows of 6' '1,000 rows of 60' '100,000 rows of 4'; do
+  count "$rows short cells" "$unwrapped"
 done
+for program in $unwrapped; do
+  /usr/bin/time -f "  %e s, %M KiB at most: $program" "$program" < "$work/100,000 rows of 4 short cells" 2>&1 > /dev/null
+done
+count '2,000 rows of 6 sentences' "$unwrapped"
+count '2,000 rows of 6 wide sentences' "$unwrapped"
+if [ "$wrapped" ]; then
+  for width in 12 20 40; do
+    count '2,000 rows of 6 sentences' "$wrapped" "$width"
+    count '2,000 rows of 6 wide sentences' "$wrapped" "$width"
+  done
+  count 'one word of 100,000 letters' "$wrapped" 12
+fi
