@@ -74,7 +74,11 @@ fn texts_are_wrapped(rt: HostRuntime) -> Result<(), Fail> {
         let lines = wrapped(rt.alloc(), text, width, delimiter)?;
         assert_eq!(rt; lines.as_str(), expected, "`{text}` at {width}");
         let borrowed = wrapped_ref(rt.alloc(), text, width, delimiter)?;
-        assert_eq!(rt; borrowed.as_str(), expected, "`{text}` at {width}, borrowed");
+        assert_eq!(rt;
+            borrowed.as_str(),
+            expected,
+            "`{text}` at {width}, borrowed"
+        );
     }
     Ok(())
 }
