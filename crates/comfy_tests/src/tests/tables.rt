@@ -141,6 +141,7 @@ fn a_row_is_borrowed_mutably(rt: HostRuntime) -> std::result::Result<(), Fail> {
         row.add_cell(three)?;
     }
     let lines = collected(rt.alloc(), table.lines()?)?;
+    assert_eq!(rt; lines.len(), 3);
     assert_eq!(rt; lines[1].as_str(), "| one | two |");
     Ok(())
 }
