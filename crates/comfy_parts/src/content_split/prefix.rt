@@ -3,8 +3,9 @@
 ghost use Rattle.std.specs.Prelude.{◌≡◌, ◌++◌};
 ghost use Rattle.comfy_parts.specs.Text.{head};
 
-use crate::content_split::width::{is_printable, measure_text_width};
+use crate::content_split::width::is_printable;
 use unicode_segmentation::UnicodeSegmentation;
+use unicode_width::UnicodeWidthStr;
 
 /// The longest front of whole grapheme clusters whose summed measures are at most `allowed_width` places, and the rest
 /// of the word. It takes no memory.
@@ -19,8 +20,9 @@ pub fn split_long_word(allowed_width: usize, word: &str) -> (&str, &str)
         return word.split_at(allowed_width.min(word.len()));
     }
     let mut left = allowed_width;
+    // Most clusters of such a word aren't ASCII, so they are measured without a look at their bytes.
     for (at, cluster) in word.grapheme_indices(true) {
-        let width = measure_text_width(cluster);
+        let width = cluster.width();
         if width > left {
             return word.split_at(at);
         }

@@ -193,7 +193,7 @@ fn row_line(alloc: Global, cells: &[DrawnCell], table: &Table, line: usize) -> R
 {
     let mut pieces = Vec::new(alloc);
     for cell in cells {
-        let mut piece = String::new(alloc);
+        let mut piece = String::with_capacity(alloc, cell.info.width())?;
         cell.push_piece_at(&mut piece, table, line)?;
         pieces.push(piece)?;
     }

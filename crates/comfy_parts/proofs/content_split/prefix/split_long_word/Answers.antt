@@ -28,7 +28,7 @@ returns-then-width-left-clause-head c =
     let done = map shown c.loop-at.yielded in
     let sums = sum_by-shown c.loop-at.yielded in
     rw c.split_at-then-width-left.ensures.front
-    (head-cut c.args.allowed_width c.args.word.now done (c.in-Some.at, c.in-Some.cluster.now) _ c.utf8.word (ap (λ t. done ++ t) (sym c.in-Some.ensures.steps) ∙ c.loop-at.invariant.rest) (omega arith) (omega (arith, c.measure_text_width-width.ensures)))
+    (head-cut c.args.allowed_width c.args.word.now done (c.in-Some.at, c.in-Some.cluster.now) _ c.utf8.word (ap (λ t. done ++ t) (sym c.in-Some.ensures.steps) ∙ c.loop-at.invariant.rest) (omega arith) (omega (arith, c.width-width.ensures)))
 
 pub returns-clause-head : goal.returns-clause-head
 returns-clause-head c =
