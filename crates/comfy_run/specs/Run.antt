@@ -34,7 +34,7 @@ pub record Devices : Type 0 where
   pub taken : Option Text
   pub write_failed : Bool
 
--- what happened between two times, where both told their bytes at the first and hadn't failed
+-- what happened between two times, where both said their bytes at the first and hadn't failed
 abbrev pub Between : Devices → Devices → (RunFacts → Type 0) → Type 0
 Between old new Says =
     (input had : Text) → old.remaining ≡ Some input → old.taken ≡ Some had → old.read_failed ≡ false → old.write_failed ≡ false →

@@ -28,7 +28,7 @@ use Rattle.comfy_table.specs.Widths.{ColumnNeeds, needs_of, visible_needs, visib
 abbrev HasPlace : Share → Type 0
 HasPlace t = 1 ≤ t.1
 
--- an fixed width, where there is one, has a place
+-- a fixed width, where there is one, has a place
 abbrev HasEarlyPlace : ColumnNeeds → Type 0
 HasEarlyPlace column = (width : ℕ) → column.fixed ≡ Some width → 1 ≤ width
 
