@@ -4,7 +4,7 @@ use Rattle.std.specs.Str.{IsUtf8}
 use Rattle.comfy_parts.specs.Text.{Text}
 use Rattle.comfy_run.specs.Input.{IsOutputFor}
 use Rattle.comfy_run.specs.Outcome.{IsBeginningOnly, NoDeviceFailed, RunFacts}
-use Rattle.comfy_run.specs.Run.{IsAfter, IsByContent, IsRefusal}
+use Rattle.comfy_run.specs.Run.{IsAfter, IsRefusal}
 use Rattle.comfy_run.specs.declared.run.error.RunError.{RunError}
 use Rattle.comfy_run.specs.declared.run.error.RunError.TheVariants.{Read, Write, NotUtf8, Table}
 use Rattle.comfy_run.specs.declared.run.settings.Settings.{Settings}
@@ -27,20 +27,20 @@ none_failed facts read write = record { no_read_failed = read; no_write_failed =
 
 module _ {T : Type 0} (settings : Settings) (input had output : Text) (old new : Option Text) (write_failed : Bool) where
   -- the output was written, or a beginning of it
-  pub after_writing : (r : Result T RunError) → old ≡ Some had → IsUtf8 input × (IsByContent settings → IsOutputFor settings.width settings.arrangement settings.style input output)
+  pub after_writing : (r : Result T RunError) → old ≡ Some had → IsUtf8 input × IsOutputFor settings.width settings.arrangement settings.style input output
       → OnOk r (write_failed ≡ false) → OnOk r ((had : Text) → old ≡ Some had → new ≡ Some (had ++ output)) → IfErr r (λ e. (e ≡ Write) × (write_failed ≡ true))
       → IfErr r (λ _. (had : Text) → old ≡ Some had → (part : Text) × (new ≡ Some (had ++ part)) × IsBeginningOnly part output)
       → (written : Text) × (new ≡ Some (had ++ written)) × IsAfter settings r (record { input = input; end_was_read = true; written = written; read_failed = false; write_failed = write_failed })
   after_writing (Ok x) known drawn sound all error part = (
     output,
     all had known,
-    (none_failed _ refl sound, record { whole = refl; is_text = drawn.0 }, λ plain. record { no_device_failed = none_failed _ refl sound; has_text = record { whole = refl; is_text = drawn.0 }; output = drawn.1 plain }),
+    record { no_device_failed = none_failed _ refl sound; has_text = record { whole = refl; is_text = drawn.0 }; output = drawn.1 },
   )
   after_writing (Err Write) known drawn sound all error part =
       let beginning = part had known in (
         beginning.0,
         beginning.1,
-        (error.1, refl, record { whole = refl; is_text = drawn.0 }, λ plain. record { failed = error.1; no_read_failed = refl; has_text = record { whole = refl; is_text = drawn.0 }; output = output; is_output = drawn.1 plain; beginning = beginning.2 }),
+        record { failed = error.1; no_read_failed = refl; has_text = record { whole = refl; is_text = drawn.0 }; output = output; is_output = drawn.1; beginning = beginning.2 },
       )
   after_writing (Err Read) known drawn sound all error part = absurd (cc error.0)
   after_writing (Err NotUtf8) known drawn sound all error part = absurd (cc error.0)

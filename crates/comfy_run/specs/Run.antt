@@ -3,7 +3,7 @@ use Rattle.std.specs.Prelude.{◌≡◌, Bool, true, false, ◌++◌, Option, So
 use Rattle.comfy_parts.specs.Presets.{ascii_full}
 use Rattle.comfy_parts.specs.Text.{Text}
 use Rattle.comfy_parts.specs.declared.style.table.ContentArrangement.TheVariants.{Disabled}
-use Rattle.comfy_run.specs.Outcome.{RunFacts, HasText, NoDeviceFailed, IsAfterOk, IsAfterRead, IsAfterWrite, IsAfterNotUtf8, IsAfterTable}
+use Rattle.comfy_run.specs.Outcome.{RunFacts, IsAfterOk, IsAfterRead, IsAfterWrite, IsAfterNotUtf8, IsAfterTable}
 use Rattle.comfy_run.specs.declared.run.error.RunError.{RunError}
 use Rattle.comfy_run.specs.declared.run.error.RunError.TheVariants.{Read, Write, NotUtf8, Table}
 use Rattle.comfy_run.specs.declared.run.settings.Settings.{Settings}
@@ -12,17 +12,11 @@ use Rattle.comfy_run.specs.declared.run.settings.Settings.{Settings}
 abbrev pub plain_settings : Settings
 plain_settings = record { width = None; arrangement = Disabled; style = ascii_full }
 
--- contents alone decide the widths: the arrangement that a drawing is promised for so far
-abbrev pub IsByContent : Settings → Type 0
-IsByContent settings = settings.arrangement ≡ Disabled
-
 -- what the facts of a call are, by its answer
 abbrev pub IsAfter : {T : Type 0} → Settings → Result T RunError → RunFacts → Type 0
-IsAfter settings (Ok _) facts =
-    NoDeviceFailed facts × HasText settings.width settings.arrangement settings.style facts × (IsByContent settings → IsAfterOk settings.width settings.arrangement settings.style facts)
+IsAfter settings (Ok _) facts = IsAfterOk settings.width settings.arrangement settings.style facts
 IsAfter settings (Err Read) facts = IsAfterRead settings.width settings.arrangement settings.style facts
-IsAfter settings (Err Write) facts =
-    (facts.write_failed ≡ true) × (facts.read_failed ≡ false) × HasText settings.width settings.arrangement settings.style facts × (IsByContent settings → IsAfterWrite settings.width settings.arrangement settings.style facts)
+IsAfter settings (Err Write) facts = IsAfterWrite settings.width settings.arrangement settings.style facts
 IsAfter settings (Err NotUtf8) facts = IsAfterNotUtf8 settings.width settings.arrangement settings.style facts
 IsAfter settings (Err (Table _)) facts = IsAfterTable settings.width settings.arrangement settings.style facts
 

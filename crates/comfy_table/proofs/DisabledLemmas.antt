@@ -1,14 +1,13 @@
 -- The widths by content are those of an arrangement that keeps no width.
-use Rattle.std.proofs.Common.{◌≡◌, ℕ, suc, ◌+◌, Bool, true, false, not, cond, List, [], ◌∷◌, length, map, max, arith, refl, sym, ap, ap₂, ◌∙◌, slice_index}
+use Rattle.std.proofs.Common.{◌≡◌, ℕ, suc, ◌+◌, Bool, true, false, not, cond, List, [], ◌∷◌, length, map, max, Option, None, arith, refl, sym, ap, ap₂, ◌∙◌, subst, slice_index}
 use Rattle.std.specs.List.{enumerate_from, filter}
 use Rattle.std.specs.Prelude.{if◌then◌else◌, zip}
 use Rattle.std.proofs.lemmas.List.{length-map}
 use Rattle.std.proofs.lemmas.List.FromFn.{length-enumerate_from}
 use Rattle.comfy_parts.specs.CellValue.{ColumnInfo, ColumnValue, info_of, is_hidden_column, visible_among}
 use Rattle.std.specs.Prelude.{MatchOption}
-use Rattle.comfy_parts.specs.declared.style.table.ContentArrangement.{ContentArrangement}
-use Rattle.comfy_parts.specs.declared.style.table.ContentArrangement.TheVariants.{Disabled, Dynamic, DynamicFullWidth}
-use Rattle.comfy_table.specs.Arrangement.{AreInfosOf, IsArranged, is_full_width, room_beside_borders, widths_at, width_kept}
+use Rattle.comfy_table.specs.Arrangement.{IsArranged, is_full_width, room_beside_borders, widths_at, width_kept}
+use Rattle.comfy_table.specs.Drawing.{infos_of}
 use Rattle.comfy_table.specs.Dynamic.{IsDynamic}
 use Rattle.comfy_table.specs.DisabledWidths.{width_by_content, widths_by_content}
 use Rattle.comfy_table.specs.TableValue.{TableValue, column_content_width, table_width, visible_columns}
@@ -73,20 +72,18 @@ visible_width table p is =
     by_test false h = refl
 
 -- where no width is kept, the widths by content are the table's
-pub arranged_by_content : (table : TableValue) → table.arrangement ≡ Disabled → IsArranged table (widths_by_content table)
-arranged_by_content table disabled =
+pub arranged_by_content : (table : TableValue) → width_kept table.arrangement (table_width table) ≡ None → IsArranged table (widths_by_content table)
+arranged_by_content table none =
     record {
       one_for_each = length-map (enumerate_from 0 table.columns) (width_by_content table) ∙ length-enumerate_from 0 table.columns;
       hidden_widths = picked_by_content table (λ p. max 1 (column_content_width table p.0)) is_hidden_column (hidden_width table);
-      visible_widths = visible table.arrangement disabled;
+      visible_widths =
+          subst (λ (o : Option ℕ). MatchOption o (shown ≡ map (disabled_width table) (visible_columns table)) (λ w. IsDynamic (room_beside_borders table w) (visible_needs table) (is_full_width table.arrangement) shown)) (sym none)
+          (picked_by_content table (disabled_width table) (λ (c : ColumnValue). not (is_hidden_column c)) (visible_width table));
     }
   where
-    visible : (arrangement : ContentArrangement) → arrangement ≡ Disabled
-        → MatchOption (width_kept arrangement (table_width table)) (widths_at (widths_by_content table) (visible_columns table) ≡ map (disabled_width table) (visible_columns table))
-        (λ w. IsDynamic (room_beside_borders table w) (visible_needs table) (is_full_width arrangement) (widths_at (widths_by_content table) (visible_columns table)))
-    visible Disabled is = picked_by_content table (disabled_width table) (λ (c : ColumnValue). not (is_hidden_column c)) (visible_width table)
-    visible Dynamic is = absurd (cc is)
-    visible DynamicFullWidth is = absurd (cc is)
+    shown : List ℕ
+    shown = widths_at (widths_by_content table) (visible_columns table)
 
 -- ---- what the columns are drawn by
 
@@ -100,7 +97,6 @@ zip-map : (f : ℕ × ColumnValue → ℕ) (n : ℕ) (columns : List ColumnValue
 zip-map f n [] = refl
 zip-map f n (column ∷ columns) = ap (λ (infos : List ColumnInfo). info_of column (f (n, column)) ∷ infos) (zip-map f (n + 1) columns)
 
--- where no width is kept, the columns are drawn by content
-pub infos_by_content : (table : TableValue) → table.arrangement ≡ Disabled → AreInfosOf table (map (info_by_content table) (enumerate_from 0 table.columns))
-infos_by_content table disabled =
-    (widths_by_content table, arranged_by_content table disabled, sym (zip-map (width_by_content table) 0 table.columns))
+-- so the columns are drawn by the widths by content
+pub infos-by_content : (table : TableValue) → map (info_by_content table) (enumerate_from 0 table.columns) ≡ infos_of table (widths_by_content table)
+infos-by_content table = sym (zip-map (width_by_content table) 0 table.columns)

@@ -1,5 +1,5 @@
 -- What a drawing over the table's infos promises.
-use Rattle.std.proofs.Common.{◌≡◌, ◌⊎◌, inl, inr, ℕ, ◌+◌, Bool, true, false, if◌then◌else◌, nat_le, not, List, [], ◌∷◌, ◌++◌, Option, Some, None, option_to_list, map, zip, unwrap_or, String, refl, ap, sym, ◌∙◌}
+use Rattle.std.proofs.Common.{◌≡◌, ◌≤◌, ◌⊎◌, inl, inr, ℕ, ◌+◌, Bool, true, false, if◌then◌else◌, nat_le, not, List, [], ◌∷◌, ◌++◌, Option, Some, None, option_to_list, map, zip, unwrap_or, max, String, refl, ap, sym, subst, ◌∙◌}
 use Rattle.std.proofs.lemmas.List.Elements.{All-cons, All-filter, All-head, All-nil, All-tail, All-weaker}
 use Rattle.std.proofs.lemmas.Str.{IsUtf8-string_bytes}
 use Rattle.std.specs.Char.{IsScalar}
@@ -13,17 +13,22 @@ use Rattle.comfy_table.proofs.SeenLemmas.{IsSeenCell, IsSeenRow, IsWholeRow, see
 use Rattle.comfy_parts.specs.CellValue.{ColumnInfo, ColumnValue, IsCell, IsColumn, IsDelimiter, IsRow, RowValue, info_of}
 use Rattle.comfy_parts.specs.Text.{Text, measure}
 use Rattle.comfy_parts.specs.Wrapping.{IsWrapped, wrapped}
+use Rattle.comfy_table.proofs.DrawnWidthLemmas.{fills_width, keeps_to_width}
 use Rattle.comfy_table.proofs.EqualCountLemmas.{equal_counts}
 use Rattle.comfy_table.proofs.ListLemmas.{All-at, All-every}
-use Rattle.comfy_table.specs.Arrangement.{AreInfosOf, IsDrawingOf}
+use Rattle.comfy_table.specs.Arrangement.{AreInfosOf, IsArranged, IsDrawingOf}
 use Rattle.comfy_table.proofs.StylingTakenOutLemmas.{styling_taken_out}
+use Rattle.comfy_table.proofs.TableLemmas.{frame_counts}
+use Rattle.comfy_table.proofs.WiderLemmas.{fills_wider_total, keeps_to_wider_total, keeps_to_wider_total_in_full}
 use Rattle.comfy_table.proofs.WrittenLemmas.{cut_lines_are_closed, lines_are_resumed, none_is_open_at_the_end}
 use Rattle.comfy_parts.specs.VisibleText.{visible_text}
 use Rattle.comfy_table.proofs.UnstyledLemmas.{unstyled_drawing}
-use Rattle.comfy_table.specs.Drawing.{drawing_of_infos, infos_of}
-use Rattle.comfy_table.specs.Headline.{IsClosedInRow, IsCutClosedInRow, IsResumedInRow, IsCutIntoSlices, IsTableDrawing, IsTextOrSlices}
+use Rattle.comfy_table.specs.Drawing.{drawing, drawing_of_infos, infos_of}
+use Rattle.comfy_table.specs.Headline.{EachLineCounts, IsClosedInRow, IsCutClosedInRow, IsResumedInRow, IsCutIntoSlices, IsTableDrawing, IsTextOrSlices}
+use Rattle.comfy_table.specs.Laws.{count, least_total, line_total, unstyled}
 use Rattle.comfy_table.specs.Lines.{cell_delimiter}
 use Rattle.comfy_table.specs.Pieces.{visible_infos}
+use Rattle.comfy_table.specs.TableLaws.{wider_total}
 use Rattle.comfy_table.specs.TableValue.{HasWholeTexts, KeepsParts, TableValue, ellipsis, header_and_rows, indicator_of, seen_rows}
 
 -- lines that are drawn over the table's infos are its drawing
@@ -72,6 +77,14 @@ info_delimiters n (column ∷ columns) (width ∷ widths) kept =
     All-cons (λ (p : ℕ × ColumnInfo). IsDelimiter p.1.delimiter) (n, info_of column width) _ (All-head IsColumn column columns kept)
     (info_delimiters (n + 1) columns widths (All-tail IsColumn column columns kept))
 
+-- what a line's total meets, each line's count does
+each_line_counts : (P : ℕ → Type 0) (table : TableValue) (widths : List ℕ) → IsUtf8 table.indicator → IsArranged table widths → P (line_total table widths) → EachLineCounts P table widths
+each_line_counts P table widths utf8 arranged meets =
+    record {
+      frame_lines = λ line. subst P (sym (frame_counts table widths line arranged.one_for_each)) meets;
+      plain_lines = λ plain. All-weaker (λ line. count line ≡ line_total table widths) (λ line. P (count line)) (λ line is. subst P (sym is) meets) (drawing (unstyled table) widths) (equal_counts table widths utf8 plain arranged);
+    }
+
 -- and promise what every drawing does
 pub table_drawing : (table : TableValue) (infos : List ColumnInfo) (lines : List Text) → IsUtf8 table.indicator → KeepsParts table → AreInfosOf table infos → lines ≡ drawing_of_infos table infos → IsTableDrawing table lines
 table_drawing table infos lines utf8 kept (widths, arranged, is) drawn =
@@ -95,6 +108,18 @@ table_drawing table infos lines utf8 kept (widths, arranged, is) drawn =
           (λ row. All-every (IsResumedInRow table row) (visible_infos (infos_of table widths)) (λ p cell is. lines_are_resumed table row p.1 cell));
       cut_closed = λ _. All-every (λ (row : RowValue). All (IsCutClosedInRow table row) (visible_infos (infos_of table widths))) (header_and_rows table)
           (λ row. All-every (IsCutClosedInRow table row) (visible_infos (infos_of table widths)) (λ p cell is. cut_lines_are_closed table row p.1 cell));
+      frame_counts = λ line. frame_counts table widths line arranged.one_for_each;
+      keeps_to_width = λ w none dynamic known. each_line_counts (λ n. n ≤ max w (least_total table)) table widths utf8 arranged (keeps_to_width table w widths none dynamic known arranged);
+      fills_width = λ w none full known some. each_line_counts (λ n. n ≡ max w (least_total table)) table widths utf8 arranged (fills_width table w widths none full known some arranged);
+      keeps_to_wider_total = λ w dynamic known.
+          let found = keeps_to_wider_total table w widths dynamic known arranged in
+          (found.0, found.1, each_line_counts (λ n. n ≤ max w (wider_total table found.0)) table widths utf8 arranged found.2);
+      keeps_to_wider_total_in_full = λ w full known.
+          let found = keeps_to_wider_total_in_full table w widths full known arranged in
+          (found.0, found.1, each_line_counts (λ n. n ≤ max w (wider_total table found.0)) table widths utf8 arranged found.2);
+      fills_wider_total = λ w full known some.
+          let found = fills_wider_total table w widths full known some arranged in
+          (found.0, found.1, each_line_counts (λ n. n ≡ max w (wider_total table found.0)) table widths utf8 arranged found.2);
     }
 
 -- the indicator of a new table is a character

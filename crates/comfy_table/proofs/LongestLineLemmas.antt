@@ -52,13 +52,11 @@ module _ (table : TableValue) (info : ColumnInfo) where
   longest_by custom header rows i =
       greatest (map measure (flat_map lines (filter_map (λ (row : RowValue). slice_get row.cells i) (option_to_list (if custom then option_map visible_row header else header) ++ (if custom then map visible_row rows else rows)))))
 
-  -- of a table without custom styling and without a header
-  pub longest_line-none : (i : ℕ) → table.custom_styling ≡ false → table.header ≡ None → longest_line table i info.delimiter info.content_width ≡ rows_longest_line table info i table.rows
-  longest_line-none i off none =
-      ap (λ (custom : Bool). longest_by custom table.header table.rows i) off ∙ ap (λ (header : Option RowValue). longest_by false header table.rows i) none ∙ rows_longest_line-is table.rows i
-
-  -- of one with a header
-  pub longest_line-some : (i : ℕ) (header : RowValue) → table.custom_styling ≡ false → table.header ≡ Some header
-      → longest_line table i info.delimiter info.content_width ≡ max (row_longest_line table info i header) (rows_longest_line table info i table.rows)
-  longest_line-some i header off some =
-      ap (λ (custom : Bool). longest_by custom table.header table.rows i) off ∙ ap (λ (header : Option RowValue). longest_by false header table.rows i) some ∙ rows_longest_line-is (header ∷ table.rows) i
+  -- of a table without custom styling: the longer of the header's and the rows'
+  pub longest_line-is : (i : ℕ) → table.custom_styling ≡ false
+      → longest_line table i info.delimiter info.content_width ≡ max (rows_longest_line table info i (option_to_list table.header)) (rows_longest_line table info i table.rows)
+  longest_line-is i off =
+      ap (λ (custom : Bool). longest_by custom table.header table.rows i) off
+      ∙ rows_longest_line-is (option_to_list table.header ++ table.rows) i
+      ∙ ap greatest (map-append (row_longest_line table info i) (option_to_list table.header) table.rows)
+      ∙ greatest-append (map (row_longest_line table info i) (option_to_list table.header)) (map (row_longest_line table info i) table.rows)

@@ -1,15 +1,21 @@
 -- What every drawing of a table promises.
-use Rattle.std.specs.Prelude.{◌≡◌, ◌⊎◌, ℕ, true, false, List, [], ◌∷◌, Some, map, slice_get, All}
+use Rattle.std.specs.Prelude.{◌≡◌, ◌⊎◌, ℕ, ◌<◌, ◌≤◌, Bool, true, false, List, [], ◌∷◌, Some, map, max, slice_get, All}
 use Rattle.comfy_parts.specs.CellValue.{CellValue, ColumnInfo, RowValue}
 use Rattle.comfy_parts.specs.Wrapping.{IsWrapped, lines_of_text}
 use Rattle.comfy_parts.specs.Text.{Text}
 use Rattle.comfy_parts.specs.VisibleText.{visible_text}
-use Rattle.comfy_table.specs.Arrangement.{IsArranged}
-use Rattle.comfy_table.specs.Drawing.{drawing, infos_of, terminated_text_of, text_of, trimmed_text_of}
-use Rattle.comfy_table.specs.Laws.{CutLinesAreClosed, IsFreeOfEscapes, IsPlainTable, LinesAreResumedInRow, NoneIsOpenAtTheEnd, count, line_total, unstyled}
+use Rattle.comfy_parts.specs.declared.style.table.ContentArrangement.TheVariants.{Dynamic, DynamicFullWidth}
+use Rattle.comfy_parts.specs.declared.style.table_style.LineStyle.{LineStyle}
+use Rattle.comfy_table.specs.Arrangement.{IsArranged, room_beside_borders}
+use Rattle.comfy_table.specs.Drawing.{drawing, infos_of, terminated_text_of, text_of, trimmed_text_of, visible_widths}
+use Rattle.comfy_table.specs.Dynamic.{Steps, IsArrangedBy}
+use Rattle.comfy_table.specs.Frame.{frame_line}
+use Rattle.comfy_table.specs.Laws.{CutLinesAreClosed, IsFreeOfEscapes, IsPlainTable, LinesAreResumedInRow, NoConstraints, NoneIsOpenAtTheEnd, count, least_total, line_total, unstyled}
 use Rattle.comfy_table.specs.Lines.{cell_delimiter}
 use Rattle.comfy_table.specs.Pieces.{visible_infos}
-use Rattle.comfy_table.specs.TableValue.{TableValue, header_and_rows, seen_rows, should_style}
+use Rattle.comfy_table.specs.TableLaws.{visible_contents, wider_total}
+use Rattle.comfy_table.specs.TableValue.{TableValue, header_and_rows, seen_rows, should_style, table_width}
+use Rattle.comfy_table.specs.Widths.{visible_count, visible_needs}
 
 -- the lines of a text line in a column of w places: the text as it is, or slices of it that lose only the delimiter d
 abbrev pub IsTextOrSlices : ℕ → ℕ → Text → Type 0
@@ -36,18 +42,46 @@ abbrev pub IsCutClosedInRow : TableValue → RowValue → ℕ × ColumnInfo → 
 IsCutClosedInRow table row p =
     (cell : CellValue) → slice_get row.cells p.0 ≡ Some cell → CutLinesAreClosed table row p.1 cell
 
--- the lines are the drawing of the table over its widths; the lines of its visible cells, as they are seen, are texts or slices of them; without styling and custom styling the lines are the unstyled ones, and those have for printable ASCII the same count of characters; without their sequences the lines are the unstyled ones where nothing else holds ESC; with custom styling no line of a cell leaves a sequence open
+-- the number of characters of a line meets P: that of each frame line, whatever the style and the texts; that of every line as it is seen, where the table is printable ASCII
+pub record EachLineCounts (P : ℕ → Type 0) (table : TableValue) (widths : List ℕ) : Type 0 where
+  pub frame_lines : (line : LineStyle) → P (count (frame_line table.style line (visible_widths (infos_of table widths))))
+  pub plain_lines : IsPlainTable table widths → All (λ line. P (count line)) (drawing (unstyled table) widths)
+
+-- these steps lead to the contents of the visible columns, in the room that the table's width w leaves beside the borders
+abbrev pub LeadToWidths : TableValue → ℕ → Bool → List ℕ → Steps → Type 0
+LeadToWidths table w full widths steps = IsArrangedBy (room_beside_borders table w) (visible_needs table) full steps (visible_contents table widths)
+
+-- what every drawing of a table promises
 pub record IsTableDrawing (table : TableValue) (lines : List Text) : Type 0 where
+  -- the lines are the drawing of the table over its widths
   pub widths : List ℕ
   pub arranged : IsArranged table widths
   pub drawn : lines ≡ drawing table widths
+  -- the lines of its visible cells, as they are seen, are texts or slices of them
   pub slices : All (λ (row : RowValue). All (IsCutIntoSlices table row) (visible_infos (infos_of table widths))) (seen_rows table)
+  -- without styling and custom styling the lines are the unstyled ones
   pub unstyled_lines : should_style table ≡ false → table.custom_styling ≡ false → lines ≡ drawing (unstyled table) widths
+  -- for printable ASCII the unstyled lines have the same count of characters
   pub equal_counts : IsPlainTable table widths → All (λ line. count line ≡ line_total table widths) (drawing (unstyled table) widths)
+  -- without their sequences the lines are the unstyled ones, where nothing else holds ESC
   pub without_sequences : IsFreeOfEscapes table → map visible_text lines ≡ drawing (unstyled table) widths
+  -- with custom styling no line of a cell leaves a sequence open, lines that aren't cut resume those that are active, and cut lines are closed
   pub closed : table.custom_styling ≡ true → All (λ (row : RowValue). All (IsClosedInRow table row) (visible_infos (infos_of table widths))) (header_and_rows table)
   pub resumed : table.custom_styling ≡ true → All (λ (row : RowValue). All (IsResumedInRow table row) (visible_infos (infos_of table widths))) (header_and_rows table)
   pub cut_closed : table.custom_styling ≡ true → All (λ (row : RowValue). All (IsCutClosedInRow table row) (visible_infos (infos_of table widths))) (header_and_rows table)
+  -- each frame line has the line's total, whatever the texts
+  pub frame_counts : (line : LineStyle) → count (frame_line table.style line (visible_widths (infos_of table widths))) ≡ line_total table widths
+  -- a known width w holds where no visible column has a constraint: under `Dynamic` a line has at most that count, or that of borders, paddings and one place for each visible column
+  pub keeps_to_width : (w : ℕ) → NoConstraints table → table.arrangement ≡ Dynamic → table_width table ≡ Some w → EachLineCounts (λ n. n ≤ max w (least_total table)) table widths
+  -- under `DynamicFullWidth` it has exactly that count, where a column is visible
+  pub fills_width : (w : ℕ) → NoConstraints table → table.arrangement ≡ DynamicFullWidth → table_width table ≡ Some w → 0 < visible_count table → EachLineCounts (λ n. n ≡ max w (least_total table)) table widths
+  -- under every constraint the same holds with the wider total of the steps that lead to the widths
+  pub keeps_to_wider_total : (w : ℕ) → table.arrangement ≡ Dynamic → table_width table ≡ Some w
+      → (steps : Steps) × LeadToWidths table w false widths steps × EachLineCounts (λ n. n ≤ max w (wider_total table steps)) table widths
+  pub keeps_to_wider_total_in_full : (w : ℕ) → table.arrangement ≡ DynamicFullWidth → table_width table ≡ Some w
+      → (steps : Steps) × LeadToWidths table w true widths steps × EachLineCounts (λ n. n ≤ max w (wider_total table steps)) table widths
+  pub fills_wider_total : (w : ℕ) → table.arrangement ≡ DynamicFullWidth → table_width table ≡ Some w → 0 < visible_count table
+      → (steps : Steps) × LeadToWidths table w true widths steps × EachLineCounts (λ n. n ≡ max w (wider_total table steps)) table widths
 
 -- the text is that of such a drawing: its lines, joined by line feeds
 abbrev pub IsTextOf : TableValue → Text → Type 0

@@ -1,6 +1,8 @@
+pub mod AllWidths
 pub mod Arrangement
 pub mod BorrowedLines
 pub mod Contents
+pub mod Deciding
 pub mod DisabledWidths
 pub mod Drawing
 pub mod DrawnCells

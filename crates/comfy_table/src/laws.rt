@@ -1,6 +1,6 @@
 //! What tables promise beyond the clauses of their calls. Each function does nothing: its clauses are the law, so that a
-//! proof of yours can cite it. `IsArranged table widths` says which widths the columns of a table have. No call draws by
-//! a dynamic arrangement yet. The laws of wrapping are re-exported here too.
+//! proof of yours can cite it. `IsArranged table widths` says which widths the columns of a table have;
+//! `arrange_content` gives them. The laws of wrapping are re-exported here too.
 
 ghost use Rattle.std.specs.Prelude.{ℕ, Bool, List};
 ghost use Rattle.comfy_parts.specs.CellValue.{ColumnValue, NoFewerColumns};

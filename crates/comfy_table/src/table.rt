@@ -52,13 +52,12 @@ pub struct Table {
 impl Model for Table {
     ghost use Rattle.std.specs.Prelude.{◌≡◌, false};
     ghost use Rattle.comfy_parts.specs.CellValue.{IsDelimiter};
-    ghost use Rattle.comfy_parts.specs.declared.style.table.ContentArrangement.TheVariants.{Disabled};
     ghost use Rattle.comfy_table.specs.TableValue.{TableValue, indicator_of};
 
     ghost Value = { TableValue };
 
-    // a delimiter is a character; no call sets another arrangement yet, or custom styling
-    ghost invariant = { λ t. (t.arrangement ≡ Disabled) × (t.custom_styling ≡ false) × IsDelimiter t.delimiter };
+    // a delimiter is a character; no call sets custom styling yet
+    ghost invariant = { λ t. (t.custom_styling ≡ false) × IsDelimiter t.delimiter };
 
     ghost view = { λ t. record { columns = t.columns.items; header = t.header; rows = t.rows.items; style = t.style; arrangement = t.arrangement; delimiter = t.delimiter; indicator = indicator_of t.indicator; set_width = t.set_width; terminal = t.terminal; no_tty = t.no_tty; use_stderr = t.use_stderr; enforce_styling = t.enforce_styling; style_text_only = t.style_text_only; custom_styling = t.custom_styling } };
 }

@@ -1,7 +1,7 @@
 //! A case's table, built line by line through the public surface. A call that is new gets its words here.
 
 use crate::fault::{Fault, NO_CALL, Result};
-use crate::settings::{set_on_column, with_setting};
+use crate::settings::{arrangement, set_on_column, with_setting};
 use crate::styles::{read_style, set_part};
 use crate::text::{character, first_or_empty, no_words, number, only_word, text, width};
 use comfy_table::utils::arrangement::arrange_content;
@@ -88,9 +88,12 @@ impl Builder {
                 self.table.set_delimiter(delimiter);
                 Ok(())
             }
-            // a new table's arrangement, which no call changes yet
-            "arrangement" if only_word(words)? == "disabled" => Ok(()),
-            "arrangement" | "terminal" | "late" | "discover" => Err(NO_CALL),
+            "arrangement" => {
+                let chosen = arrangement(only_word(words)?)?;
+                self.table.set_content_arrangement(chosen);
+                Ok(())
+            }
+            "terminal" | "late" | "discover" => Err(NO_CALL),
             "no_tty" | "stderr" | "enforce" | "text_only" => Err(NO_CALL),
             _ => Err(Fault::NotRead("a line isn't known")),
         }

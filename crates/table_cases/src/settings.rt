@@ -3,7 +3,7 @@
 use crate::fault::{Fault, NO_CALL, Result};
 use crate::text::{character, width};
 use comfy_table::style::{CellAlignment, ColumnConstraint, Width};
-use comfy_table::{Cell, Column};
+use comfy_table::{Cell, Column, ContentArrangement};
 use std::alloc::Global;
 
 /// The cell with one setting more.
@@ -40,6 +40,16 @@ pub fn set_on_column(alloc: Global, column: &mut Column, word: &str) -> Result<(
         _ => return Err(Fault::NotRead("a setting of a column isn't known")),
     }
     Ok(())
+}
+
+/// An arrangement by its name.
+pub fn arrangement(word: &str) -> Result<ContentArrangement> {
+    match word {
+        "disabled" => Ok(ContentArrangement::Disabled),
+        "dynamic" => Ok(ContentArrangement::Dynamic),
+        "full" => Ok(ContentArrangement::DynamicFullWidth),
+        _ => Err(Fault::NotRead("an arrangement isn't known")),
+    }
 }
 
 fn name_and_value<'a>(word: &'a str) -> Result<(&'a str, &'a str)> {

@@ -1,6 +1,6 @@
 //! How the widths of a table's columns are found.
 
-/// How the widths of a table's columns are found. Every table is drawn under `Disabled` so far.
+/// How the widths of a table's columns are found.
 #[derive(Copy, Clone, Debug, PartialEq, Eq)]
 pub enum ContentArrangement {
     /// Each column is as wide as its content, unless its constraint says otherwise.

@@ -6,16 +6,16 @@ ghost use Rattle.comfy_run.specs.Input.{input_table, row_of_line, break_of};
 ghost use Rattle.comfy_table.specs.TableValue.{new_table};
 
 use crate::run::settings::Settings;
-use comfy_table::{Cell, ContentArrangement, Result, Row, Table};
+use comfy_table::{Cell, Result, Row, Table};
 use std::alloc::Global;
 
 // What stands for a line feed inside a cell.
 const BREAK: char = '\u{b}';
 
-/// The table of a text, with the width and the style that are wanted. A carriage return before a line
+/// The table of a text, with the settings that are wanted. A carriage return before a line
 /// feed is no part of a line, and an empty last piece is no line.
 pub fn table_of(alloc: Global, text: &str, settings: Settings) -> Result<Table>
-    ensures { IfOk result (λ table. table ≡ input_table settings.width ContentArrangement.Disabled settings.style text.now) }
+    ensures { IfOk result (λ table. table ≡ input_table settings.width settings.arrangement settings.style text.now) }
 {
     let mut table = empty_table(alloc, settings);
     let mut lines = text.lines();
@@ -29,12 +29,14 @@ pub fn table_of(alloc: Global, text: &str, settings: Settings) -> Result<Table>
     Ok(table)
 }
 
-// A table without rows that has the width and the style of the settings.
+// A table without rows that has the settings.
 fn empty_table(alloc: Global, settings: Settings) -> Table
-    ensures { result ≡ record (new_table settings.style) { set_width = settings.width } }
+    ensures { result ≡ record (new_table settings.style) { set_width = settings.width; arrangement = settings.arrangement } }
 {
     let mut table = Table::new(alloc);
-    table.load_style(settings.style);
+    table
+        .load_style(settings.style)
+        .set_content_arrangement(settings.arrangement);
     if let Some(width) = settings.width {
         table.set_width(width);
     }

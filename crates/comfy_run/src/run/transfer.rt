@@ -3,14 +3,13 @@
 ghost use Rattle.std.specs.Prelude.{◌≡◌, ◌++◌, List, ℕ, true, false, Some, OnOk, IfOk, IfErr, IsUtf8, string_bytes};
 ghost use Rattle.comfy_run.specs.Input.{IsOutputFor};
 ghost use Rattle.comfy_run.specs.Outcome.{IsBeginningOnly};
-ghost use Rattle.comfy_run.specs.Run.{Between, IsAfter, IsByContent, IsRefusal};
+ghost use Rattle.comfy_run.specs.Run.{Between, IsAfter, IsRefusal};
 ghost use Rattle.comfy_run.specs.declared.run.error.RunError.TheVariants.{Write};
 
 use crate::run::device::{Sink, Source};
 use crate::run::error::RunError;
 use crate::run::input::table_of;
 use crate::run::settings::Settings;
-use comfy_table::ContentArrangement;
 use std::alloc::Global;
 
 // How many bytes are asked for at a time.
@@ -47,7 +46,7 @@ fn output_for<R: Source>(
 ) -> Result<String, RunError>
     ensures ended { OnOk result (R.end_was_read source.new ≡ true) }
     ensures no_fault { OnOk result (R.has_failed source.new ≡ false) }
-    ensures output { IfOk result (λ output. (input : List ℕ) → R.remaining source.old ≡ Some input → IsUtf8 input × (IsByContent settings → IsOutputFor settings.width settings.arrangement settings.style input (string_bytes output))) }
+    ensures output { IfOk result (λ output. (input : List ℕ) → R.remaining source.old ≡ Some input → IsUtf8 input × IsOutputFor settings.width settings.arrangement settings.style input (string_bytes output)) }
     ensures refused { IfErr result (λ e. (input : List ℕ) → R.remaining source.old ≡ Some input → IsRefusal e input (R.end_was_read source.new) (R.has_failed source.new)) }
 {
     let input = read_all(alloc, source)?;
@@ -80,7 +79,7 @@ fn read_all<R: Source>(alloc: Global, source: &mut R) -> Result<Vec<u8>, RunErro
 
 // The drawing of a text's table, each line followed by a line feed.
 fn drawing_of(alloc: Global, text: &str, settings: Settings) -> comfy_table::Result<String>
-    ensures { IfOk result (λ output. IsOutputFor settings.width ContentArrangement.Disabled settings.style text.now (string_bytes output)) }
+    ensures { IfOk result (λ output. IsOutputFor settings.width settings.arrangement settings.style text.now (string_bytes output)) }
 {
     table_of(alloc, text, settings)?.to_terminated_text()
 }

@@ -54,6 +54,13 @@ impl Table {
     ///
     /// Where memory is found, these are frame lines and rows of padded pieces, in the order of the drawing; for printable
     /// ASCII all of them have the same number of characters.
+    ///
+    /// Where the table's width is known, a frame line keeps to it, whatever the texts: under
+    /// `ContentArrangement::Dynamic` it has at most so many characters, and under `DynamicFullWidth` exactly so many, if a
+    /// column is visible. Where the borders, the paddings and one character for each visible column need more than this
+    /// width, what they need stands in its place. A column with a constraint may need more than the one character: where
+    /// its width is fixed or its lower boundary is taken, it needs that width. For printable ASCII this holds for every
+    /// line, without its styles.
     pub fn lines(&self) -> Result<Lines>
         ensures drawing { IfOk result (λ lines. IsDrawingOf self.now lines) }
         ensures headline { IfOk result (λ lines. IsTableDrawing self.now lines) }

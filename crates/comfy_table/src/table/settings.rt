@@ -7,7 +7,7 @@ ghost use Rattle.comfy_table.specs.Lines.{cell_delimiter};
 ghost use Rattle.comfy_table.specs.TableLoans.{LendsStyle, TableStaysIfErr};
 
 use crate::table::{Table, TableReference, into_reference};
-use comfy_parts::style::TableStyle;
+use comfy_parts::style::{ContentArrangement, TableStyle};
 use comfy_parts::{Cell, Result};
 
 impl Table {
@@ -77,7 +77,25 @@ impl Table {
         Ok(TableReference { table: self })
     }
 
-    /// Sets the width of the table in terminal columns. So far it only serves the percentages of constraints.
+    /// Sets how the widths of the columns are found. A new table has `Disabled`. The dynamic arrangements keep to the
+    /// table's width, and are as `Disabled` where none is known.
+    pub fn set_content_arrangement(&mut self, arrangement: ContentArrangement) -> &mut Self
+        ensures same_reference { result.ghost_name ≡ self.entry.ghost_name }
+        ensures value { result.now ≡ record self.old { arrangement = arrangement } }
+    {
+        self.arrangement = arrangement;
+        self
+    }
+
+    /// How the widths of the columns are found.
+    pub fn content_arrangement(&self) -> ContentArrangement
+        ensures { result ≡ self.now.arrangement }
+    {
+        self.arrangement
+    }
+
+    /// Sets the width of the table in terminal columns. The dynamic arrangements keep to it, and the percentages of
+    /// constraints are taken of it.
     pub fn set_width(&mut self, width: u16) -> &mut Self
         ensures same_reference { result.ghost_name ≡ self.entry.ghost_name }
         ensures value { result.now ≡ record self.old { set_width = Some width } }

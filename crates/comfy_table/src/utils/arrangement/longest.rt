@@ -1,12 +1,15 @@
 //! How wide the lines of a column are, once its cells are wrapped.
 
-ghost use Rattle.std.specs.Prelude.{◌≡◌, IfOk, IsOk, map};
+ghost use Rattle.std.specs.Prelude.{◌≡◌, ◌≤◌, IfOk, IsOk, map, option_to_list};
 ghost use Rattle.comfy_parts.specs.Text.{greatest, measure};
 ghost use Rattle.comfy_parts.specs.Wrapping.{wrapped};
+ghost use Rattle.comfy_table.specs.Deciding.{needs_in};
+ghost use Rattle.comfy_table.specs.Dynamic.{shrunk_at};
 ghost use Rattle.comfy_table.specs.Lines.{longest_line, longest_line_at};
 ghost use Rattle.comfy_table.specs.LongestLine.{cell_longest_line, row_longest_line, rows_longest_line, text_longest_line};
 
 use crate::table::Table;
+use crate::utils::arrangement::dynamic::visible::VisibleColumn;
 use comfy_parts::content_split::{ColumnDisplayInfo, measure_text_width, wrapped_lines};
 use comfy_parts::{Cell, Result, Row};
 
@@ -20,35 +23,58 @@ pub fn longest_line(table: &Table, position: usize, content_width: u16) -> Resul
     match table.columns.get(position) {
         Some(column) => {
             let info = ColumnDisplayInfo::new(column, content_width);
-            Ok(column_longest_line(table, position, &info))
+            Ok(column_longest_line(table, position, &info, usize::MAX))
         }
         None => Ok(0),
     }
 }
 
-// The longest line of all cells at a position, in a column with this delimiter and content width.
-fn column_longest_line(table: &Table, position: usize, info: &ColumnDisplayInfo) -> usize
-    ensures { result ≡ longest_line table.now position info.now.delimiter info.now.content_width }
+// The longest line of all cells at a position, in a column with this delimiter and content width. The cells are looked
+// at until a row passes the limit; an answer above it may be less than the longest line.
+fn column_longest_line(
+    table: &Table,
+    position: usize,
+    info: &ColumnDisplayInfo,
+    limit: usize,
+) -> usize
+    ensures at_most { result ≤ longest_line table.now position info.now.delimiter info.now.content_width }
+    ensures exact { result ≤ limit → result ≡ longest_line table.now position info.now.delimiter info.now.content_width }
 {
-    let below = rows_longest_line(table, table.rows.as_slice(), position, info);
+    let rows = table.rows.as_slice();
+    let of_header = header_longest_line(table, position, info);
+    if of_header > limit {
+        return of_header;
+    }
+    rows_longest_line(table, rows, position, info, limit).max(of_header)
+}
+
+// The longest line of the header's cell at a position, 0 where there is none.
+fn header_longest_line(table: &Table, position: usize, info: &ColumnDisplayInfo) -> usize
+    ensures { result ≡ rows_longest_line table.now info.now position (option_to_list table.now.header) }
+{
     match &table.header {
-        Some(header) => row_longest_line(table, header, position, info).max(below),
-        None => below,
+        Some(header) => row_longest_line(table, header, position, info),
+        None => 0,
     }
 }
 
-// The longest line of the cells of some rows at a position.
+// The longest line of the cells of some rows at a position, looked at until a row passes the limit.
 fn rows_longest_line(
     table: &Table,
     rows: &[Row],
     position: usize,
     info: &ColumnDisplayInfo,
+    limit: usize,
 ) -> usize
-    ensures { result ≡ rows_longest_line table.now info.now position rows.now }
+    ensures at_most { result ≤ rows_longest_line table.now info.now position rows.now }
+    ensures exact { result ≤ limit → result ≡ rows_longest_line table.now info.now position rows.now }
 {
     let mut longest = 0;
     for row in rows {
         longest = row_longest_line(table, row, position, info).max(longest);
+        if longest > limit {
+            return longest;
+        }
     }
     longest
 }
@@ -98,4 +124,23 @@ fn wrapped_longest_line(text: &str, info: &ColumnDisplayInfo, delimiter: char) -
         longest = measure_text_width(line).max(longest);
     }
     longest
+}
+
+// What a column shrinks to where it has this average room: its longest line there, if that leaves three or more terminal
+// columns free.
+pub fn shrunk_width(table: &Table, column: &VisibleColumn<'_>, average: usize) -> Option<u16>
+    requires { average ≤ 65535 }
+    ensures { result ≡ shrunk_at average (needs_in table.now column.now) }
+{
+    if average < 3 {
+        return None;
+    }
+    let info = ColumnDisplayInfo::new(column.column, average as u16);
+    let limit = average - 3;
+    let longest = column_longest_line(table, column.position, &info, limit);
+    if longest <= limit {
+        Some((longest as u16).max(1))
+    } else {
+        None
+    }
 }

@@ -1,36 +1,25 @@
-use Rattle.std.proofs.Common.{◌≡◌, List, [], ◌∷◌, ◌++◌, map, ap, ap₂, sym, ◌∙◌}
-use Rattle.std.specs.List.{enumerate_from}
-use Rattle.comfy_parts.specs.CellValue.{ColumnInfo, info_of, visible_among}
-use Rattle.comfy_parts.specs.declared.style.table.ContentArrangement.TheVariants.{Disabled}
-use Rattle.comfy_table.proofs.DisabledLemmas.{info_by_content, infos_by_content, visible_count-among}
-use Rattle.comfy_table.proofs.LoopLemmas.{enumerated_all, enumerated_more}
-use Rattle.comfy_table.specs.TableValue.{TableValue}
+use Rattle.std.proofs.Common.{◌≡◌, ℕ, List, Some, None, sym, subst, ◌∙◌}
+use Rattle.std.proofs.lemmas.Result.{IfOk-weaker}
+use Rattle.comfy_table.specs.AllWidths.{all_widths}
+use Rattle.comfy_table.specs.Arrangement.{is_full_width, room_beside_borders, width_kept}
+use Rattle.comfy_table.specs.DisabledWidths.{widths_by_content}
+use Rattle.comfy_table.specs.Dynamic.{IsDynamic}
+use Rattle.comfy_table.specs.TableValue.{table_width}
+use Rattle.comfy_table.specs.Widths.{visible_needs}
+use Rattle.comfy_table.proofs.AllWidthsLemmas.{arranged_by_widths}
+use Rattle.comfy_table.proofs.DisabledLemmas.{arranged_by_content}
 use Rattle.comfy_table.proofs.utils.arrangement.arrange_content.Goals as goal
 
-pub width_by_content-width-requires : goal.width_by_content-width-requires
-width_by_content-width-requires c =
-    let columns : c.as_slice-columns.result.now ≡ c.args.table.now.columns = c.as_slice-columns.ensures.value ∙ ap (λ (t : TableValue). t.columns) c.table.view_is in
-    c.count_visible_columns-visible.ensures ∙ ap visible_among columns ∙ sym (visible_count-among c.args.table.now)
+pub returns-in_ok-widths-in-Some : goal.returns-in_ok-widths-in-Some
+returns-in_ok-widths-in-Some c =
+    let table = c.args.table.now in
+    let w = c.in-Some.width in
+    let kept : width_kept table.arrangement (table_width table) ≡ Some w = sym c.kept_width.ensures ∙ c.in-Some.is in
+    let dynamic = subst (λ (ws : List ℕ). IsDynamic (room_beside_borders table w) (visible_needs table) (is_full_width table.arrangement) ws) (sym c.as_slice.ensures.value) c.in_ok-widths-in-Some.ensures in
+    IfOk-weaker c.infos_with.result _ _ (λ infos same. (all_widths table c.as_slice.result.now, arranged_by_widths table w c.as_slice.result.now kept dynamic, same)) c.infos_with.ensures
 
-pub loop-position-preserved : goal.loop-position-preserved
-loop-position-preserved c =
-    let f = info_by_content c.args.table.now in
-    let column = c.index-columns-position.result in
-    let item : c.new.result ≡ f (c.loop-position.position, column) = c.new.ensures ∙ ap (info_of column) c.width_by_content-width.ensures in
-    c.in_ok-push.ensures.items
-    ∙ ap₂ (λ (infos : List ColumnInfo) (info : ColumnInfo). infos ++ info ∷ []) c.loop-position.invariant item
-    ∙ sym (enumerated_more f c.as_slice-columns.result.now c.loop-position.position column c.loop-position-test.true c.index-columns-position.is)
-
-pub returns : goal.returns
-returns c =
-    let f = info_by_content c.args.table.now in
-    let columns : c.as_slice-columns.result.now ≡ c.args.table.now.columns = c.as_slice-columns.ensures.value ∙ ap (λ (t : TableValue). t.columns) c.table.view_is in
-    let disabled : c.args.table.now.arrangement ≡ Disabled = ap (λ (t : TableValue). t.arrangement) (sym c.table.view_is) ∙ c.table.invariant.0 in
-    let arranged = infos_by_content c.args.table.now disabled in (
-      arranged.0,
-      arranged.1,
-      c.loop-position.invariant
-          ∙ enumerated_all f c.as_slice-columns.result.now c.loop-position.position c.loop-position-test.false
-          ∙ ap (λ columns. map f (enumerate_from 0 columns)) columns
-          ∙ arranged.2,
-    )
+pub returns-in-None : goal.returns-in-None
+returns-in-None c =
+    let table = c.args.table.now in
+    let none : width_kept table.arrangement (table_width table) ≡ None = sym c.kept_width.ensures ∙ c.in-None.is in
+    IfOk-weaker c.infos_by_content.result _ _ (λ infos same. (widths_by_content table, arranged_by_content table none, same)) c.infos_by_content.ensures

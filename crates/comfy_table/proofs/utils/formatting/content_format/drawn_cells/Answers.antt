@@ -38,7 +38,7 @@ pub returns-clause-lines : goal.returns-clause-lines
 returns-clause-lines c =
     let table = c.args.table.now in
     let f = drawn_cell table c.args.row.now in
-    let off : table.custom_styling ≡ false = ap (λ (t : TableValue). t.custom_styling) (sym c.table.view_is) ∙ c.table.invariant.1 in
+    let off : table.custom_styling ≡ false = ap (λ (t : TableValue). t.custom_styling) (sym c.table.view_is) ∙ c.table.invariant.0 in
     let drawn = c.loop-position.invariant ∙ filtered_all f (λ (p : ℕ × ColumnInfo). not p.1.is_hidden) c.args.infos.now c.loop-position.position c.loop-position-test.false in
     ap (λ (ds : List DrawnCell). map (λ k. map (piece_at table k) ds) (range_with_len 0 (greatest_height ds))) drawn
     ∙ drawn_lines table c.args.row.now off c.args.infos.now

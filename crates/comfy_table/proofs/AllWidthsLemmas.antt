@@ -1,0 +1,198 @@
+-- The widths of all columns, where the dynamic widths of the visible ones are given.
+use Rattle.std.proofs.Common.{◌≡◌, ℕ, suc, ◌+◌, ◌<◌, ◌≤◌, Bool, true, false, not, cond, List, [], ◌∷◌, ◌++◌, drop, length, map, max, arith, refl, sym, ap, ap₂, ◌∙◌, subst, slice_index, slice_index_or, append-nil, Option, Some}
+use Rattle.std.specs.List.{enumerate_from, filter}
+use Rattle.std.specs.Prelude.{if◌then◌else◌, zip, MatchOption, ◌&&◌, ◌==◌}
+use Rattle.std.proofs.lemmas.List.{append_assoc, drop-drop, drop_all, drop_more, get_or-drop, length-map}
+use Rattle.std.proofs.lemmas.List.FromFn.{length-enumerate_from}
+use Rattle.comfy_parts.specs.CellValue.{ColumnInfo, ColumnValue, info_of, is_hidden_column}
+use Rattle.comfy_table.specs.AllWidths.{all_widths, given_in_order}
+use Rattle.comfy_table.specs.Arrangement.{IsArranged, is_full_width, room_beside_borders, widths_at, width_kept}
+use Rattle.comfy_table.specs.Dynamic.{IsDynamic, added, contents_after, even_columns, room_left}
+use Rattle.comfy_table.specs.TableValue.{TableValue, column_content_width, table_width, visible_columns}
+use Rattle.comfy_table.specs.Widths.{ColumnNeeds, disabled_width, even_spread, needs_of, visible_count, visible_needs}
+use Rattle.comfy_table.proofs.BudgetLemmas.{length-contents_after}
+use Rattle.comfy_table.proofs.SpreadLemmas.{length-even_spread}
+
+-- ---- the dynamic widths are as many as the visible columns
+
+-- numbers added place by place are as many as the first ones
+length-added : (xs ys : List ℕ) → length xs ≡ length ys → length (added xs ys) ≡ length xs
+length-added [] ys same = refl
+length-added (x ∷ xs) [] same = absurd (omega arith)
+length-added (x ∷ xs) (y ∷ ys) same = ap suc (length-added xs ys (omega arith))
+
+-- one dynamic width for each column
+pub length-dynamic : (room : ℕ) (columns : List ColumnNeeds) (full : Bool) (widths : List ℕ) → IsDynamic room columns full widths → length widths ≡ length columns
+length-dynamic room columns full widths dynamic =
+    ap length dynamic.1.widths_are ∙ by_test (full && (length (even_columns room columns dynamic.0) == 0))
+  where
+    contents : List ℕ
+    contents = contents_after room columns dynamic.0
+
+    spread : List ℕ
+    spread = even_spread (room_left room columns dynamic.0) (length columns)
+
+    by_test : (b : Bool) → length (if b then added contents spread else contents) ≡ length columns
+    by_test true =
+        length-added contents spread (length-contents_after room columns dynamic.0 ∙ sym (length-even_spread (room_left room columns dynamic.0) (length columns)))
+        ∙ length-contents_after room columns dynamic.0
+    by_test false = length-contents_after room columns dynamic.0
+
+-- ---- the given widths
+
+-- one width for each column
+length-given_in_order : (table : TableValue) (widths : List ℕ) (columns : List (ℕ × ColumnValue)) → length (given_in_order table widths columns) ≡ length columns
+length-given_in_order table widths [] = refl
+length-given_in_order table widths (p ∷ columns) =
+    by_test (is_hidden_column p.1) (length-given_in_order table widths columns) (length-given_in_order table (drop 1 widths) columns)
+  where
+    by_test : (b : Bool) → length (given_in_order table widths columns) ≡ length columns → length (given_in_order table (drop 1 widths) columns) ≡ length columns
+        → length (cond b (max 1 (column_content_width table p.0) ∷ given_in_order table widths columns) (slice_index_or widths 0 1 ∷ given_in_order table (drop 1 widths) columns)) ≡ suc (length columns)
+    by_test true hidden visible = ap suc hidden
+    by_test false hidden visible = ap suc visible
+
+-- the columns from a position on that pass a test
+abbrev passing : (ColumnValue → Bool) → ℕ → List ColumnValue → List (ℕ × ColumnValue)
+passing test at columns = filter (λ (p : ℕ × ColumnValue). test p.1) (enumerate_from at columns)
+
+-- from a position on, numbers are these
+abbrev AreFrom : List ℕ → ℕ → List ℕ → Type 0
+AreFrom all at numbers = (i : ℕ) → slice_index all (at + i) ≡ slice_index numbers i
+
+-- the first of them
+first_from : (all : List ℕ) (at x : ℕ) (numbers : List ℕ) → AreFrom all at (x ∷ numbers) → slice_index all at ≡ x
+first_from all at x numbers each = let moved : at ≡ at + 0 = omega arith in ap (slice_index all) moved ∙ each 0
+
+-- and those behind it
+behind_first : (all : List ℕ) (at x : ℕ) (numbers : List ℕ) → AreFrom all at (x ∷ numbers) → AreFrom all (at + 1) numbers
+behind_first all at x numbers each i = let moved : at + 1 + i ≡ at + suc i = omega arith in ap (slice_index all) moved ∙ each (suc i)
+
+-- the hidden columns have their contents' widths
+hidden_given : (table : TableValue) (all widths : List ℕ) (at : ℕ) (columns : List ColumnValue) → AreFrom all at (given_in_order table widths (enumerate_from at columns))
+    → widths_at all (passing is_hidden_column at columns) ≡ map (λ (p : ℕ × ColumnValue). max 1 (column_content_width table p.0)) (passing is_hidden_column at columns)
+hidden_given table all widths at [] each = refl
+hidden_given table all widths at (column ∷ columns) each =
+    by_test (is_hidden_column column) (hidden_given table all widths (at + 1) columns) (hidden_given table all (drop 1 widths) (at + 1) columns) each
+  where
+    later : List (ℕ × ColumnValue)
+    later = passing is_hidden_column (at + 1) columns
+
+    own : ℕ × ColumnValue → ℕ
+    own p = max 1 (column_content_width table p.0)
+
+    same : (ws : List ℕ) → Type 0
+    same ws = AreFrom all (at + 1) (given_in_order table ws (enumerate_from (at + 1) columns)) → widths_at all later ≡ map own later
+
+    by_test : (b : Bool) → same widths → same (drop 1 widths)
+        → AreFrom all at (cond b (own (at, column) ∷ given_in_order table widths (enumerate_from (at + 1) columns)) (slice_index_or widths 0 1 ∷ given_in_order table (drop 1 widths) (enumerate_from (at + 1) columns)))
+        → widths_at all (cond b ((at, column) ∷ later) later) ≡ map own (cond b ((at, column) ∷ later) later)
+    by_test true hidden visible these =
+        ap₂ (λ (x : ℕ) (xs : List ℕ). x ∷ xs) (first_from all at _ _ these) (hidden (behind_first all at _ _ these))
+    by_test false hidden visible these = visible (behind_first all at _ _ these)
+
+-- the visible columns have the given widths, where there is one for each
+visible_given : (table : TableValue) (all widths : List ℕ) (at : ℕ) (columns : List ColumnValue) → AreFrom all at (given_in_order table widths (enumerate_from at columns))
+    → length widths ≡ length (passing (λ (c : ColumnValue). not (is_hidden_column c)) at columns)
+    → widths_at all (passing (λ (c : ColumnValue). not (is_hidden_column c)) at columns) ≡ widths
+visible_given table all [] at [] each enough = refl
+visible_given table all (w ∷ widths) at [] each enough = absurd (omega arith)
+visible_given table all widths at (column ∷ columns) each enough =
+    by_test (is_hidden_column column) widths (λ ws. visible_given table all ws (at + 1) columns) each enough
+  where
+    later : List (ℕ × ColumnValue)
+    later = passing (λ (c : ColumnValue). not (is_hidden_column c)) (at + 1) columns
+
+    from_here : Bool → List ℕ → List ℕ
+    from_here b ws = cond b (max 1 (column_content_width table at) ∷ given_in_order table ws (enumerate_from (at + 1) columns)) (slice_index_or ws 0 1 ∷ given_in_order table (drop 1 ws) (enumerate_from (at + 1) columns))
+
+    by_test : (b : Bool) (ws : List ℕ)
+        → ((vs : List ℕ) → AreFrom all (at + 1) (given_in_order table vs (enumerate_from (at + 1) columns)) → length vs ≡ length later → widths_at all later ≡ vs)
+        → AreFrom all at (from_here b ws) → length ws ≡ length (cond (not b) ((at, column) ∷ later) later)
+        → widths_at all (cond (not b) ((at, column) ∷ later) later) ≡ ws
+    by_test true ws rest these some = rest ws (behind_first all at _ _ these) some
+    by_test false [] rest these some = absurd (omega arith)
+    by_test false (w ∷ ws) rest these some =
+        ap₂ (λ (x : ℕ) (xs : List ℕ). x ∷ xs) (first_from all at _ _ these) (rest ws (behind_first all at _ _ these) (omega arith))
+
+-- ---- a dynamic arrangement
+
+-- from the first position on a list is itself
+from_start : (all : List ℕ) → AreFrom all 0 all
+from_start all i = let moved : 0 + i ≡ i = omega arith in ap (slice_index all) moved
+
+-- where a width is kept, the dynamic widths are the table's
+pub arranged_by_widths : (table : TableValue) (w : ℕ) (widths : List ℕ) → width_kept table.arrangement (table_width table) ≡ Some w
+    → IsDynamic (room_beside_borders table w) (visible_needs table) (is_full_width table.arrangement) widths → IsArranged table (all_widths table widths)
+arranged_by_widths table w widths kept dynamic = record {
+  one_for_each = length-given_in_order table widths (enumerate_from 0 table.columns) ∙ length-enumerate_from 0 table.columns;
+  hidden_widths = hidden_given table (all_widths table widths) widths 0 table.columns (from_start (all_widths table widths));
+  visible_widths =
+      subst (λ (o : Option ℕ). MatchOption o (shown ≡ map (disabled_width table) (visible_columns table)) (λ v. IsDynamic (room_beside_borders table v) (visible_needs table) (is_full_width table.arrangement) shown)) (sym kept)
+      (subst (λ (ws : List ℕ). IsDynamic (room_beside_borders table w) (visible_needs table) (is_full_width table.arrangement) ws) (sym shown_is) dynamic);
+}
+  where
+    shown : List ℕ
+    shown = widths_at (all_widths table widths) (visible_columns table)
+
+    enough : length widths ≡ visible_count table
+    enough =
+        length-dynamic (room_beside_borders table w) (visible_needs table) (is_full_width table.arrangement) widths dynamic
+        ∙ length-map (visible_columns table) (needs_of table)
+
+    shown_is : shown ≡ widths
+    shown_is = visible_given table (all_widths table widths) widths 0 table.columns (from_start (all_widths table widths)) enough
+
+-- ---- what the columns are drawn by
+
+-- the columns from a position on, drawn by these widths
+abbrev pub infos_from : TableValue → List ℕ → ℕ → List ColumnValue → List ColumnInfo
+infos_from table widths at columns = map (λ (p : ColumnValue × ℕ). info_of p.0 p.1) (zip columns (given_in_order table widths (enumerate_from at columns)))
+
+-- the same of a column and those behind it, by whether it is hidden
+abbrev info_behind : TableValue → List ℕ → ℕ → ColumnValue → List ColumnValue → Bool → List ColumnInfo
+info_behind table widths at column columns hidden =
+    map (λ (p : ColumnValue × ℕ). info_of p.0 p.1)
+    (zip (column ∷ columns)
+    (if hidden
+    then max 1 (column_content_width table at) ∷ given_in_order table widths (enumerate_from (at + 1) columns)
+    else slice_index_or widths 0 1 ∷ given_in_order table (drop 1 widths) (enumerate_from (at + 1) columns)))
+
+-- the columns from one on
+from_column : (table : TableValue) (widths : List ℕ) (columns : List ColumnValue) (i : ℕ) (column : ColumnValue) → i < length columns → column ≡ slice_index_or columns i column
+    → infos_from table widths i (drop i columns) ≡ info_behind table widths i column (drop (i + 1) columns) (is_hidden_column column)
+from_column table widths columns i column below is =
+    ap (infos_from table widths i) (drop_more columns i column below ∙ ap (λ (c : ColumnValue). c ∷ drop (i + 1) columns) (sym is))
+
+-- past the last column there is none
+pub infos_past : (table : TableValue) (widths : List ℕ) (columns : List ColumnValue) (i : ℕ) (done whole : List ColumnInfo) → length columns ≤ i → done ++ infos_from table widths i (drop i columns) ≡ whole → done ≡ whole
+infos_past table widths columns i done whole past so_far =
+    sym (append-nil done) ∙ ap (λ (left : List ColumnValue). done ++ infos_from table widths i left) (sym (drop_all i columns past)) ∙ so_far
+
+module _ (table : TableValue) (widths : List ℕ) (columns : List ColumnValue) (i shown : ℕ) (column : ColumnValue) (below : i < length columns) (is : column ≡ slice_index_or columns i column) where
+  -- a hidden column is drawn by its content's width
+  pub infos_hidden : is_hidden_column column ≡ true → (done whole : List ColumnInfo) → done ++ infos_from table (drop shown widths) i (drop i columns) ≡ whole
+      → (done ++ info_of column (max 1 (column_content_width table i)) ∷ []) ++ infos_from table (drop shown widths) (i + 1) (drop (i + 1) columns) ≡ whole
+  infos_hidden hidden done whole so_far =
+      append_assoc done (info_of column (max 1 (column_content_width table i)) ∷ []) (infos_from table (drop shown widths) (i + 1) (drop (i + 1) columns))
+      ∙ ap (λ (infos : List ColumnInfo). done ++ infos) (sym here)
+      ∙ so_far
+    where
+      here : infos_from table (drop shown widths) i (drop i columns) ≡ info_of column (max 1 (column_content_width table i)) ∷ infos_from table (drop shown widths) (i + 1) (drop (i + 1) columns)
+      here = from_column table (drop shown widths) columns i column below is ∙ ap (info_behind table (drop shown widths) i column (drop (i + 1) columns)) hidden
+
+  -- a visible one by the next given width
+  pub infos_visible : is_hidden_column column ≡ false → (done whole : List ColumnInfo) → done ++ infos_from table (drop shown widths) i (drop i columns) ≡ whole
+      → (done ++ info_of column (slice_index_or widths shown 1) ∷ []) ++ infos_from table (drop (shown + 1) widths) (i + 1) (drop (i + 1) columns) ≡ whole
+  infos_visible visible done whole so_far =
+      append_assoc done (info_of column (slice_index_or widths shown 1) ∷ []) (infos_from table (drop (shown + 1) widths) (i + 1) (drop (i + 1) columns))
+      ∙ ap (λ (infos : List ColumnInfo). done ++ infos) (sym here)
+      ∙ so_far
+    where
+      first : slice_index_or (drop shown widths) 0 1 ≡ slice_index_or widths shown 1
+      first = let moved : shown + 0 ≡ shown = omega arith in get_or-drop shown widths 0 1 ∙ ap (λ (j : ℕ). slice_index_or widths j 1) moved
+
+      here : infos_from table (drop shown widths) i (drop i columns) ≡ info_of column (slice_index_or widths shown 1) ∷ infos_from table (drop (shown + 1) widths) (i + 1) (drop (i + 1) columns)
+      here =
+          from_column table (drop shown widths) columns i column below is
+          ∙ ap (info_behind table (drop shown widths) i column (drop (i + 1) columns)) visible
+          ∙ ap₂ (λ (w : ℕ) (ws : List ℕ). info_of column w ∷ infos_from table ws (i + 1) (drop (i + 1) columns)) first (drop-drop 1 shown widths)

@@ -1,0 +1,187 @@
+-- The steps by which the widths are decided lead to a dynamic arrangement, and its room and widths are small.
+use Rattle.std.proofs.Common.{◌≡◌, ◌<◌, ◌≤◌, ℕ, ◌+◌, ◌-◌, Bool, true, false, ◌==◌, ◌&&◌, List, [], ◌++◌, length, map, max, Option, sum_by, unwrap_or, refl, sym, ap, ◌∙◌, subst, arith}
+use Rattle.std.specs.Prelude.{if◌then◌else◌}
+use Rattle.std.specs.List.{All}
+use Rattle.std.proofs.lemmas.Bool.{eqb-true}
+use Rattle.std.proofs.lemmas.List.{append_assoc, length-map}
+use Rattle.std.proofs.lemmas.List.Elements.{All-map, All-weaker}
+use Rattle.std.proofs.lemmas.List.FromFn.{length-enumerate_from}
+use Rattle.std.proofs.lemmas.List.Sums.{sum_by-append}
+use Rattle.comfy_table.specs.Deciding.{HasRoomToSpread, HasSettled, HasTaken, HasTakenInTurn, decided, filled, final_widths, offer_by_rule, shared_evenly, undecided_count, widened}
+use Rattle.comfy_table.specs.Dynamic.{IsDynamic, IsLevel, IsTakenInOrder, Placed, Share, Steps, added, all_shares, content_room, contents_after, even_columns, even_shares, fixed_shares, others, places_of, room_left, room_of_others, room_of_unsettled, settled_at, settled_shares, share_at, total, undecided, unsettled, widened as widened_by_steps}
+use Rattle.comfy_table.specs.Widths.{ColumnNeeds, even_spread}
+use Rattle.comfy_table.specs.declared.utils.arrangement.dynamic.budget.Budget.{Budget}
+use Rattle.comfy_table.specs.declared.utils.arrangement.dynamic.taking.Rule.TheVariants.{Lower, Shrunk}
+use Rattle.comfy_table.proofs.ListLemmas.{All-every}
+use Rattle.comfy_table.proofs.FilledWidthLemmas.{filled-decided, filled-widths_of, fixed-widths_of, undecided-fixed}
+use Rattle.comfy_table.proofs.PlacedWidthLemmas.{width_at, widths_of}
+use Rattle.comfy_table.proofs.StepLemmas.{one_each-places, total-fixed}
+use Rattle.comfy_table.proofs.TakenShareLemmas.{taken_among}
+use Rattle.comfy_table.proofs.TakingLemmas.{count_at-shares_of}
+use Rattle.comfy_table.proofs.GivenLemmas.{IsGiven, undecided_left, undecided_count_left, one_left, given_more, taken_by_rule, share_at-le_total}
+
+module _ (room : ℕ) (needs : List ColumnNeeds) (start lower settled shrunk : Budget) (widths_are : start.widths.items ≡ map (λ (c : ColumnNeeds). c.fixed) needs) (room_is : start.room ≡ content_room room needs)
+    (by_lower : HasTakenInTurn Lower needs start lower) (by_level : HasSettled needs lower settled) (by_lines : HasTakenInTurn Shrunk needs settled shrunk) where
+  -- the steps
+  abbrev steps : Steps
+  steps = record { lower = by_lower.0; level = by_level.0; shrunk = by_lines.0 }
+
+  -- the fixed shares
+  abbrev fixed_ones : List Share
+  fixed_ones = fixed_shares (places_of needs)
+
+  -- the shares that the level settles
+  abbrev settled_ones : List Share
+  settled_ones = settled_shares steps.level (others room needs steps.lower)
+
+  -- all shares but the even ones
+  abbrev decided_ones : List Share
+  decided_ones = ((fixed_ones ++ steps.lower) ++ settled_ones) ++ steps.shrunk
+
+  -- ---- the fixed widths
+
+  -- at first the fixed widths are given
+  given_at_first : IsGiven needs fixed_ones (undecided room needs) start
+  given_at_first = record {
+    widths = widths_are ∙ fixed-widths_of needs;
+    one = λ i. omega (arith, count_at-shares_of (λ (p : Placed). p.1.fixed) i (places_of needs), one_each-places 0 needs i);
+    left_is = undecided-fixed room needs;
+  }
+
+  -- ---- the lower boundaries
+
+  -- lower boundaries are taken as the arrangement wants it
+  lower_taken : IsTakenInOrder (undecided room needs) (offer_by_rule Lower (content_room room needs) (undecided room needs)) steps.lower
+  lower_taken = taken_by_rule Lower (content_room room needs) needs fixed_ones (undecided room needs) start lower given_at_first room_is by_lower
+
+  -- then their shares are given too
+  given_by_lower : IsGiven needs (fixed_ones ++ steps.lower) (others room needs steps.lower) lower
+  given_by_lower =
+      given_more needs fixed_ones steps.lower (undecided room needs) start lower given_at_first
+      (taken_among (undecided room needs) (one_left needs fixed_ones (undecided room needs) start given_at_first) (offer_by_rule Lower (content_room room needs) (undecided room needs)) 0 [] steps.lower (λ i. omega arith) lower_taken) by_lower.2
+
+  -- and this room is left
+  room_by_lower : lower.room ≡ room_of_others room needs steps.lower
+  room_by_lower = by_lower.2.room ∙ ap (λ (r : ℕ). r - total steps.lower) room_is
+
+  -- ---- the level
+
+  -- the level is as the arrangement wants it
+  level_found : IsLevel (room_of_others room needs steps.lower) (others room needs steps.lower) steps.level
+  level_found =
+      subst (λ (r : ℕ). IsLevel r (others room needs steps.lower) steps.level) room_by_lower
+      (subst (λ (ps : List Placed). IsLevel lower.room ps steps.level) (undecided_left needs (fixed_ones ++ steps.lower) (others room needs steps.lower) lower given_by_lower) by_level.1)
+
+  -- what it settles is taken
+  settled_taken : HasTaken settled_ones lower settled
+  settled_taken =
+      subst (λ (ps : List Placed). HasTaken (settled_shares steps.level ps) lower settled) (undecided_left needs (fixed_ones ++ steps.lower) (others room needs steps.lower) lower given_by_lower) by_level.2
+
+  -- then these shares are given too
+  given_by_level : IsGiven needs ((fixed_ones ++ steps.lower) ++ settled_ones) (unsettled room needs steps) settled
+  given_by_level =
+      given_more needs (fixed_ones ++ steps.lower) settled_ones (others room needs steps.lower) lower settled given_by_lower (λ i. count_at-shares_of (λ (p : Placed). settled_at steps.level p.1) i (others room needs steps.lower)) settled_taken
+
+  -- and this room is left
+  room_by_level : settled.room ≡ room_of_unsettled room needs steps
+  room_by_level = settled_taken.room ∙ ap (λ (r : ℕ). r - total settled_ones) room_by_lower
+
+  -- ---- the longest lines
+
+  -- columns shrink as the arrangement wants it
+  shrunk_taken : IsTakenInOrder (unsettled room needs steps) (offer_by_rule Shrunk (room_of_unsettled room needs steps) (unsettled room needs steps)) steps.shrunk
+  shrunk_taken = taken_by_rule Shrunk (room_of_unsettled room needs steps) needs ((fixed_ones ++ steps.lower) ++ settled_ones) (unsettled room needs steps) settled shrunk given_by_level room_by_level by_lines
+
+  -- then their shares are given too
+  given_by_lines : IsGiven needs decided_ones (even_columns room needs steps) shrunk
+  given_by_lines =
+      given_more needs ((fixed_ones ++ steps.lower) ++ settled_ones) steps.shrunk (unsettled room needs steps) settled shrunk given_by_level
+      (taken_among (unsettled room needs steps) (one_left needs ((fixed_ones ++ steps.lower) ++ settled_ones) (unsettled room needs steps) settled given_by_level)
+      (offer_by_rule Shrunk (room_of_unsettled room needs steps) (unsettled room needs steps)) 0 [] steps.shrunk (λ i. omega arith) shrunk_taken) by_lines.2
+
+  -- and this room is left
+  room_by_lines : shrunk.room ≡ room_left room needs steps
+  room_by_lines = by_lines.2.room ∙ ap (λ (r : ℕ). r - total steps.shrunk) room_by_level
+
+  -- ---- the widths at the end
+
+  -- as many are undecided as share evenly
+  count_left : undecided_count shrunk.widths.items ≡ length (even_columns room needs steps)
+  count_left = undecided_count_left needs decided_ones (even_columns room needs steps) shrunk given_by_lines
+
+  -- the shares of all columns, joined in another order
+  regrouped : decided_ones ++ even_shares room needs steps ≡ all_shares room needs steps
+  regrouped =
+      append_assoc ((fixed_ones ++ steps.lower) ++ settled_ones) steps.shrunk (even_shares room needs steps)
+      ∙ append_assoc (fixed_ones ++ steps.lower) settled_ones (steps.shrunk ++ even_shares room needs steps)
+      ∙ append_assoc fixed_ones steps.lower (settled_ones ++ (steps.shrunk ++ even_shares room needs steps))
+
+  -- the widths where the undecided columns share the room evenly
+  shared_is : shared_evenly shrunk ≡ contents_after room needs steps
+  shared_is =
+      let spread : even_spread (max shrunk.room (undecided_count shrunk.widths.items)) (undecided_count shrunk.widths.items)
+      ≡ even_spread (max (room_left room needs steps) (length (even_columns room needs steps))) (length (even_columns room needs steps)) = λ k. even_spread (max (room_by_lines k) (count_left k)) (count_left k) in
+      (λ k. filled (given_by_lines.widths k) (spread k))
+      ∙ filled-widths_of needs decided_ones (even_columns room needs steps)
+      (even_spread (max (room_left room needs steps) (length (even_columns room needs steps))) (length (even_columns room needs steps))) given_by_lines.left_is
+      ∙ ap (λ (shares : List Share). map (λ (p : Placed). share_at shares p.0) (places_of needs)) regrouped
+
+  -- as many widths as columns
+  length_widths : length shrunk.widths.items ≡ length needs
+  length_widths = ap length given_by_lines.widths ∙ length-map (places_of needs) (λ (p : Placed). width_at decided_ones p.0) ∙ length-enumerate_from 0 needs
+
+  -- the widths with the room spread over them, where no column is undecided
+  widened_is : undecided_count shrunk.widths.items ≡ 0 → widened shrunk ≡ added (contents_after room needs steps) (even_spread (room_left room needs steps) (length needs))
+  widened_is none =
+      let same : decided shrunk.widths.items ≡ contents_after room needs steps =
+      sym (filled-decided shrunk.widths.items (even_spread (max shrunk.room (undecided_count shrunk.widths.items)) (undecided_count shrunk.widths.items)) none) ∙ shared_is in
+      λ k. added (same k) (even_spread (room_by_lines k) (length_widths k))
+
+  -- the widths at the end
+  final_is : (full : Bool) → final_widths full shrunk ≡ widened_by_steps room needs full steps
+  final_is full =
+      by_test (undecided_count shrunk.widths.items == 0) refl full
+      ∙ ap (λ (n : ℕ). if full && (n == 0) then added (contents_after room needs steps) (even_spread (room_left room needs steps) (length needs)) else contents_after room needs steps) count_left
+    where
+      by_test : (b : Bool) → (undecided_count shrunk.widths.items == 0) ≡ b → (f : Bool) → (if f && b then widened shrunk else shared_evenly shrunk)
+          ≡ (if f && b then added (contents_after room needs steps) (even_spread (room_left room needs steps) (length needs)) else contents_after room needs steps)
+      by_test true none true = widened_is (eqb-true (undecided_count shrunk.widths.items) 0 none)
+      by_test true none false = shared_is
+      by_test false some true = shared_is
+      by_test false some false = shared_is
+
+  -- the steps lead to a dynamic arrangement
+  pub decided_is_dynamic : (full : Bool) → IsDynamic room needs full (final_widths full shrunk)
+  decided_is_dynamic full = (steps, record { lower_taken = lower_taken; level_found = level_found; shrunk_taken = shrunk_taken; widths_are = final_is full })
+
+  -- ---- sizes
+
+  -- no more room is left than there was
+  pub room_within : shrunk.room ≤ room
+  room_within = omega (arith, room_by_lines)
+
+  -- where room is left, it is what the shares and the paddings leave
+  pub room_adds_up : 0 < shrunk.room → total decided_ones + sum_by (λ (column : ColumnNeeds). column.padding) needs + shrunk.room ≡ room
+  room_adds_up some =
+      let appends = sum_by-append (λ (t : Share). t.1) fixed_ones steps.lower in
+      let appends_settled = sum_by-append (λ (t : Share). t.1) (fixed_ones ++ steps.lower) settled_ones in
+      let appends_shrunk = sum_by-append (λ (t : Share). t.1) ((fixed_ones ++ steps.lower) ++ settled_ones) steps.shrunk in
+      omega (arith, some, room_by_lines, total-fixed 0 needs, appends, appends_settled, appends_shrunk)
+
+  -- then each width keeps to the room together with it
+  pub widths_within : All (λ (w : ℕ). 0 < shrunk.room → w + shrunk.room ≤ room) (decided shrunk.widths.items)
+  widths_within =
+      subst (λ (ws : List (Option ℕ)). All IsWithin (decided ws)) (sym given_by_lines.widths)
+      (All-map IsWithin (λ (w : Option ℕ). unwrap_or w 0) (widths_of needs decided_ones)
+      (All-map (λ (w : Option ℕ). IsWithin (unwrap_or w 0)) (λ (p : Placed). width_at decided_ones p.0) (places_of needs)
+      (All-every (λ (p : Placed). IsWithin (share_at decided_ones p.0)) (places_of needs) (λ p some. omega (arith, some, room_adds_up some, share_at-le_total p.0 decided_ones)))))
+    where
+      IsWithin : ℕ → Type 0
+      IsWithin w = 0 < shrunk.room → w + shrunk.room ≤ room
+
+  -- in a room of sixteen bits they are numbers of sixteen bits
+  pub has_room_to_spread : room ≤ 65535 → HasRoomToSpread shrunk
+  has_room_to_spread small = record {
+    room = omega (arith, small, room_within);
+    each = All-weaker (λ (w : ℕ). 0 < shrunk.room → w + shrunk.room ≤ room) (λ (w : ℕ). 0 < shrunk.room → w + shrunk.room ≤ 65535) (λ w within some. omega (arith, small, within some)) (decided shrunk.widths.items) widths_within;
+  }

@@ -1,0 +1,101 @@
+-- The undecided columns: how they are counted, and that a width that is taken takes its column from them.
+use Rattle.std.proofs.Common.{◌≡◌, ℕ, zero, suc, ◌+◌, Bool, true, false, cond, not, ◌==◌, List, [], ◌∷◌, ◌++◌, length, Option, Some, filter, is_none, slice_index_or, refl, sym, ap, ◌∙◌, arith, length-append}
+use Rattle.std.specs.Prelude.{◌&&◌, ◌||◌, slice_set}
+use Rattle.std.specs.List.{enumerate_from}
+use Rattle.std.proofs.lemmas.Bool.Decides.{nat_tests}
+use Rattle.std.proofs.lemmas.List.{append_assoc, length-set}
+use Rattle.comfy_table.specs.Deciding.{is_undecided, undecided_among, undecided_count, with_shares}
+use Rattle.comfy_table.specs.Dynamic.{Placed, Share, places_of, without_shares}
+use Rattle.comfy_table.specs.Widths.{ColumnNeeds}
+use Rattle.comfy_table.proofs.PlacedWidthLemmas.{without_shares-append}
+use Rattle.comfy_table.proofs.ShareLemmas.{without_shares-nil}
+
+-- ---- a width is taken
+
+-- beside a test that passes a test decides alone
+and_true : (b c : Bool) → c ≡ true → b ≡ (b && c)
+and_true true c passes = sym passes
+and_true false c passes = refl
+
+-- beside a test that fails both fail
+and_false : (b c : Bool) → c ≡ false → false ≡ (b && c)
+and_false true c fails = sym fails
+and_false false c fails = refl
+
+-- once the width at a place is set, the column there is decided, and no other
+pub is_undecided-set : (widths : List (Option ℕ)) (i j width : ℕ) → is_undecided (slice_set widths i (Some width)) j ≡ (is_undecided widths j && not (i == j))
+is_undecided-set [] i j width = refl
+is_undecided-set (w ∷ widths) zero zero width = and_false (is_none w) (not (zero == zero)) refl
+is_undecided-set (w ∷ widths) zero (suc j) width = and_true (is_undecided widths j) (not (zero == suc j)) (grind (arith, nat_tests))
+is_undecided-set (w ∷ widths) (suc i) zero width = and_true (is_none w) (not (suc i == zero)) (grind (arith, nat_tests))
+is_undecided-set (w ∷ widths) (suc i) (suc j) width =
+    let same : (i == j) ≡ (suc i == suc j) = grind (arith, nat_tests) in is_undecided-set widths i j width ∙ ap (λ (b : Bool). is_undecided widths j && not b) same
+
+-- of any columns, those without a width then are those without one before, but for the one at that place
+undecided_set : (widths : List (Option ℕ)) (t : Share) (columns : List Placed) → filter (λ (p : Placed). is_undecided (slice_set widths t.0 (Some t.1)) p.0) columns ≡ without_shares (t ∷ []) (filter (λ (p : Placed). is_undecided widths p.0) columns)
+undecided_set widths t [] = refl
+undecided_set widths t (p ∷ more) =
+    ap (λ (b : Bool). cond b (p ∷ filter (λ (q : Placed). is_undecided (slice_set widths t.0 (Some t.1)) q.0) more) (filter (λ (q : Placed). is_undecided (slice_set widths t.0 (Some t.1)) q.0) more)) (is_undecided-set widths t.0 p.0 t.1)
+    ∙ by_tests (is_undecided widths p.0) (t.0 == p.0) refl (undecided_set widths t more)
+  where
+    by_tests : (b c : Bool) → (t.0 == p.0) ≡ c → filter (λ (q : Placed). is_undecided (slice_set widths t.0 (Some t.1)) q.0) more ≡ without_shares (t ∷ []) (filter (λ (q : Placed). is_undecided widths q.0) more)
+        → cond (b && not c) (p ∷ filter (λ (q : Placed). is_undecided (slice_set widths t.0 (Some t.1)) q.0) more) (filter (λ (q : Placed). is_undecided (slice_set widths t.0 (Some t.1)) q.0) more)
+        ≡ without_shares (t ∷ []) (cond b (p ∷ filter (λ (q : Placed). is_undecided widths q.0) more) (filter (λ (q : Placed). is_undecided widths q.0) more))
+    by_tests false c same rest = rest
+    by_tests true true same rest =
+        rest ∙ sym (ap (λ (b : Bool). cond (not (b || false)) (p ∷ without_shares (t ∷ []) (filter (λ (q : Placed). is_undecided widths q.0) more)) (without_shares (t ∷ []) (filter (λ (q : Placed). is_undecided widths q.0) more))) same)
+    by_tests true false same rest =
+        ap (λ (ps : List Placed). p ∷ ps) rest
+        ∙ sym (ap (λ (b : Bool). cond (not (b || false)) (p ∷ without_shares (t ∷ []) (filter (λ (q : Placed). is_undecided widths q.0) more)) (without_shares (t ∷ []) (filter (λ (q : Placed). is_undecided widths q.0) more))) same)
+
+-- the same of all columns
+pub undecided_among-set : (needs : List ColumnNeeds) (widths : List (Option ℕ)) (t : Share) → undecided_among needs (slice_set widths t.0 (Some t.1)) ≡ without_shares (t ∷ []) (undecided_among needs widths)
+undecided_among-set needs widths t = undecided_set widths t (places_of needs)
+
+-- columns take shares
+pub undecided_among-with_shares : (needs : List ColumnNeeds) (order : List Share) (widths : List (Option ℕ)) → undecided_among needs (with_shares order widths) ≡ without_shares order (undecided_among needs widths)
+undecided_among-with_shares needs [] widths = sym (without_shares-nil (undecided_among needs widths))
+undecided_among-with_shares needs (t ∷ more) widths =
+    undecided_among-with_shares needs more (slice_set widths t.0 (Some t.1))
+    ∙ ap (without_shares more) (undecided_among-set needs widths t)
+    ∙ sym (without_shares-append (t ∷ []) more (undecided_among needs widths))
+
+-- there are as many widths as before
+pub length-with_shares : (order : List Share) (widths : List (Option ℕ)) → length (with_shares order widths) ≡ length widths
+length-with_shares [] widths = refl
+length-with_shares (t ∷ more) widths = length-with_shares more (slice_set widths t.0 (Some t.1)) ∙ length-set widths t.0 (Some t.1)
+
+-- ---- their number
+
+-- an element after others
+index-append : (front widths : List (Option ℕ)) (w default : Option ℕ) → slice_index_or (front ++ w ∷ widths) (length front) default ≡ w
+index-append [] widths w default = refl
+index-append (x ∷ front) widths w default = index-append front widths w default
+
+-- as many columns are undecided as widths are missing, after others
+length-undecided_from : (front widths : List (Option ℕ)) (n : ℕ) (needs : List ColumnNeeds) → length widths ≡ length needs → n ≡ length front
+    → length (filter (λ (p : Placed). is_undecided (front ++ widths) p.0) (enumerate_from n needs)) ≡ undecided_count widths
+length-undecided_from front [] n [] same from = refl
+length-undecided_from front [] n (column ∷ more) same from = absurd (omega arith)
+length-undecided_from front (w ∷ widths) n [] same from = absurd (omega arith)
+length-undecided_from front (w ∷ widths) n (column ∷ more) same from =
+    ap (λ (b : Bool). length (cond b ((n, column) ∷ later (front ++ w ∷ widths)) (later (front ++ w ∷ widths)))) here
+    ∙ by_test (is_none w) (ap (λ (ws : List (Option ℕ)). length (later ws)) (sym grouped) ∙ length-undecided_from (front ++ w ∷ []) widths (n + 1) more (omega arith) (omega (arith, length-append front (w ∷ []))))
+  where
+    later : List (Option ℕ) → List Placed
+    later ws = filter (λ (p : Placed). is_undecided ws p.0) (enumerate_from (n + 1) more)
+
+    grouped : (front ++ w ∷ []) ++ widths ≡ front ++ w ∷ widths
+    grouped = append_assoc front (w ∷ []) widths
+
+    here : is_undecided (front ++ w ∷ widths) n ≡ is_none w
+    here = ap (is_undecided (front ++ w ∷ widths)) from ∙ ap is_none (index-append front widths w (Some 0))
+
+    by_test : (b : Bool) → length (later (front ++ w ∷ widths)) ≡ undecided_count widths
+        → length (cond b ((n, column) ∷ later (front ++ w ∷ widths)) (later (front ++ w ∷ widths))) ≡ length (cond b (w ∷ filter is_none widths) (filter is_none widths))
+    by_test true rest = omega arith
+    by_test false rest = rest
+
+-- as many columns are undecided as widths are missing
+pub length-undecided_among : (needs : List ColumnNeeds) (widths : List (Option ℕ)) → length widths ≡ length needs → length (undecided_among needs widths) ≡ undecided_count widths
+length-undecided_among needs widths same = length-undecided_from [] widths 0 needs same refl

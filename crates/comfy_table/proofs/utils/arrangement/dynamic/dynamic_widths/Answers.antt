@@ -1,0 +1,62 @@
+use Rattle.std.proofs.Common.{◌≡◌, Bool, List, length, ap, sym, subst, ◌∙◌, arith}
+use Rattle.std.proofs.lemmas.List.{length-map}
+use Rattle.std.proofs.lemmas.Result.{IfOk-weaker}
+use Rattle.comfy_table.specs.Arrangement.{is_full_width, room_beside_borders}
+use Rattle.comfy_table.specs.Deciding.{all_needs, final_widths, needs_in, undecided_among}
+use Rattle.comfy_table.specs.Dynamic.{IsDynamic, settled_shares}
+use Rattle.comfy_table.specs.Widths.{ColumnNeeds, visible_needs}
+use Rattle.comfy_table.proofs.DecidedLemmas.{decided_is_dynamic, has_room_to_spread}
+use Rattle.comfy_table.proofs.UndecidedLemmas.{length-with_shares}
+use Rattle.comfy_table.proofs.utils.arrangement.dynamic.dynamic_widths.Goals as goal
+
+pub settle-requires : goal.settle-requires
+settle-requires c =
+    let taken = c.take_in_turn.ensures in
+    let columns = c.as_slice-columns.result.now in
+    ap length taken.2.widths
+    ∙ length-with_shares taken.0 c.in_ok-budget.budget.widths.items
+    ∙ ap length c.in_ok-budget.ensures.widths
+    ∙ length-map (all_needs c.args.table.now columns) (λ (n : ColumnNeeds). n.fixed)
+    ∙ length-map columns (needs_in c.args.table.now)
+
+pub take_in_turn-requires-2-clause-widths : goal.take_in_turn-requires-2-clause-widths
+take_in_turn-requires-2-clause-widths c =
+    let settled = c.settle.ensures c.args.table.now in
+    let taken = c.take_in_turn.ensures in
+    let lower = c.take_in_turn.new.budget.widths.items in
+    let columns = c.as_slice-columns.result.now in
+    let needs = all_needs c.args.table.now columns in
+    ap length settled.2.widths
+    ∙ length-with_shares (settled_shares settled.0 (undecided_among needs lower)) lower
+    ∙ ap length taken.2.widths
+    ∙ length-with_shares taken.0 c.in_ok-budget.budget.widths.items
+    ∙ ap length c.in_ok-budget.ensures.widths
+    ∙ length-map needs (λ (n : ColumnNeeds). n.fixed)
+    ∙ length-map columns (needs_in c.args.table.now)
+
+pub take_in_turn-requires-2-clause-room : goal.take_in_turn-requires-2-clause-room
+take_in_turn-requires-2-clause-room c =
+    let lower = c.take_in_turn.ensures in
+    let settled = c.settle.ensures c.args.table.now in
+    omega (arith, settled.2.room, lower.2.room, c.in_ok-budget.ensures.room, c.ranges.width.fits)
+
+pub final_widths-requires : goal.final_widths-requires
+final_widths-requires c =
+    let table = c.args.table.now in
+    let columns = c.as_slice-columns.result.now in
+    has_room_to_spread (room_beside_borders table c.args.width) (all_needs table columns) c.in_ok-budget.budget c.take_in_turn.new.budget c.settle.new.budget c.take_in_turn-2.new.budget
+    c.in_ok-budget.ensures.widths c.in_ok-budget.ensures.room c.take_in_turn.ensures (c.settle.ensures table) c.take_in_turn-2.ensures (omega (arith, c.ranges.width.fits))
+
+pub returns : goal.returns
+returns c =
+    let table = c.args.table.now in
+    let columns = c.as_slice-columns.result.now in
+    let needs : all_needs table columns ≡ visible_needs table = ap (all_needs table) c.as_slice-columns.ensures.value ∙ c.in_ok-visible.ensures in
+    IfOk-weaker c.final_widths.result _ _
+    (λ widths is.
+    let all = decided_is_dynamic (room_beside_borders table c.args.width) (all_needs table columns) c.in_ok-budget.budget c.take_in_turn.new.budget c.settle.new.budget c.take_in_turn-2.new.budget
+    c.in_ok-budget.ensures.widths c.in_ok-budget.ensures.room c.take_in_turn.ensures (c.settle.ensures table) c.take_in_turn-2.ensures (is_full_width table.arrangement) in
+    let as_final : widths.items ≡ final_widths (is_full_width table.arrangement) c.take_in_turn-2.new.budget = is ∙ ap (λ (full : Bool). final_widths full c.take_in_turn-2.new.budget) c.fills_width.ensures in
+    subst (λ (ns : List ColumnNeeds). IsDynamic (room_beside_borders table c.args.width) ns (is_full_width table.arrangement) widths.items) needs
+    (subst (IsDynamic (room_beside_borders table c.args.width) (all_needs table columns) (is_full_width table.arrangement)) (sym as_final) all))
+    c.final_widths.ensures

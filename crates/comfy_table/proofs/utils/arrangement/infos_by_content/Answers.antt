@@ -1,0 +1,30 @@
+use Rattle.std.proofs.Common.{◌≡◌, List, [], ◌∷◌, ◌++◌, map, ap, ap₂, sym, ◌∙◌}
+use Rattle.std.specs.List.{enumerate_from}
+use Rattle.comfy_parts.specs.CellValue.{ColumnInfo, info_of, visible_among}
+use Rattle.comfy_table.proofs.DisabledLemmas.{info_by_content, infos-by_content, visible_count-among}
+use Rattle.comfy_table.proofs.LoopLemmas.{enumerated_all, enumerated_more}
+use Rattle.comfy_table.specs.TableValue.{TableValue}
+use Rattle.comfy_table.proofs.utils.arrangement.infos_by_content.Goals as goal
+
+pub width_by_content-width-requires : goal.width_by_content-width-requires
+width_by_content-width-requires c =
+    let columns : c.as_slice-columns.result.now ≡ c.args.table.now.columns = c.as_slice-columns.ensures.value ∙ ap (λ (t : TableValue). t.columns) c.table.view_is in
+    c.count_visible_columns-visible.ensures ∙ ap visible_among columns ∙ sym (visible_count-among c.args.table.now)
+
+pub loop-position-preserved : goal.loop-position-preserved
+loop-position-preserved c =
+    let f = info_by_content c.args.table.now in
+    let column = c.index-columns-position.result in
+    let item : c.new.result ≡ f (c.loop-position.position, column) = c.new.ensures ∙ ap (info_of column) c.width_by_content-width.ensures in
+    c.in_ok-push.ensures.items
+    ∙ ap₂ (λ (infos : List ColumnInfo) (info : ColumnInfo). infos ++ info ∷ []) c.loop-position.invariant item
+    ∙ sym (enumerated_more f c.as_slice-columns.result.now c.loop-position.position column c.loop-position-test.true c.index-columns-position.is)
+
+pub returns : goal.returns
+returns c =
+    let f = info_by_content c.args.table.now in
+    let columns : c.as_slice-columns.result.now ≡ c.args.table.now.columns = c.as_slice-columns.ensures.value ∙ ap (λ (t : TableValue). t.columns) c.table.view_is in
+    c.loop-position.invariant
+    ∙ enumerated_all f c.as_slice-columns.result.now c.loop-position.position c.loop-position-test.false
+    ∙ ap (λ columns. map f (enumerate_from 0 columns)) columns
+    ∙ infos-by_content c.args.table.now

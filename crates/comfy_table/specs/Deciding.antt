@@ -1,0 +1,108 @@
+-- The dynamic widths while they are decided, one column after another.
+use Rattle.std.specs.Prelude.{◌≡◌, ℕ, ◌+◌, ◌-◌, ◌/◌, ◌%◌, ◌<◌, ◌≤◌, ◌==◌, ◌&&◌, All, Bool, List, [], ◌∷◌, Option, Some, None, drop, fold, filter, is_none, length, map, max, nat_lt, option_and_then, slice_get, slice_index_or, slice_set, unwrap_or, if◌then◌else◌}
+use Rattle.comfy_parts.specs.CellValue.{column_padding}
+use Rattle.comfy_table.specs.Dynamic.{IsLevel, IsTakenInOrder, Placed, Share, added, lower_of_boundary, places_of, settled_shares, shrunk_at, total, without_shares}
+use Rattle.comfy_table.specs.Lines.{longest_line}
+use Rattle.comfy_table.specs.TableValue.{TableValue}
+use Rattle.comfy_table.specs.Widths.{ColumnNeeds, even_spread}
+use Rattle.comfy_table.specs.declared.utils.arrangement.dynamic.budget.Budget.{Budget}
+use Rattle.comfy_table.specs.declared.utils.arrangement.dynamic.taking.Rule.{Rule}
+use Rattle.comfy_table.specs.declared.utils.arrangement.dynamic.taking.Rule.TheVariants.{Lower, Shrunk}
+use Rattle.comfy_table.specs.declared.utils.arrangement.dynamic.visible.VisibleColumn.{VisibleColumn}
+
+-- what the width of a visible column depends on, as it is kept beside the column
+abbrev pub needs_in : TableValue → VisibleColumn → ColumnNeeds
+needs_in table v =
+    record { content = v.content; padding = column_padding v.column.now; fixed = v.fixed; lower = v.lower; upper = v.upper; longest = longest_line table v.position v.column.now.delimiter }
+
+-- the same of all of them, in list order
+abbrev pub all_needs : TableValue → List VisibleColumn → List ColumnNeeds
+all_needs table columns = map (needs_in table) columns
+
+-- whether the column at a place has no width yet; past the last column there is none
+abbrev pub is_undecided : List (Option ℕ) → ℕ → Bool
+is_undecided widths place = is_none (slice_index_or widths place (Some 0))
+
+-- the columns without a width, each at its place
+abbrev pub undecided_among : List ColumnNeeds → List (Option ℕ) → List Placed
+undecided_among needs widths = filter (λ (p : Placed). is_undecided widths p.0) (places_of needs)
+
+-- how many they are
+abbrev pub undecided_count : List (Option ℕ) → ℕ
+undecided_count widths = length (filter is_none widths)
+
+-- the room that each of them has on average; 0 where there is none
+abbrev pub average_room : Budget → ℕ
+average_room budget = budget.room / undecided_count budget.widths.items
+
+-- the widths once these shares are taken
+abbrev pub with_shares : List Share → List (Option ℕ) → List (Option ℕ)
+with_shares shares widths = fold (λ (ws : List (Option ℕ)) (t : Share). slice_set ws t.0 (Some t.1)) widths shares
+
+-- these shares are taken, and no others
+pub record HasTaken (shares : List Share) (old new : Budget) : Type 0 where
+  pub widths : new.widths.items ≡ with_shares shares old.widths.items
+  pub room : new.room ≡ old.room - total shares
+
+-- what a column takes by a rule where the undecided ones have this average room
+abbrev pub width_by_rule : Rule → ℕ → ColumnNeeds → Option ℕ
+width_by_rule Lower average column = lower_of_boundary average column.padding column.lower
+width_by_rule Shrunk average column = shrunk_at average column
+
+-- the same of the column at a place, where it is undecided
+abbrev pub width_at : Rule → ℕ → List ColumnNeeds → List (Option ℕ) → ℕ → Option ℕ
+width_at rule average needs widths place =
+    if is_undecided widths place then option_and_then (width_by_rule rule average) (slice_get needs place) else None
+
+-- the place behind one of n places, going round
+abbrev pub place_behind : ℕ → ℕ → ℕ
+place_behind n place = if nat_lt (place + 1) n then place + 1 else 0
+
+-- the same of a column at its place, once some are taken
+abbrev pub offer_by_rule : Rule → ℕ → List Placed → List Share → Placed → Option ℕ
+offer_by_rule rule room candidates taken p = width_by_rule rule ((room - total taken) / length (without_shares taken candidates)) p.1
+
+-- columns have taken their widths by a rule, in turn, until none took one
+abbrev pub HasTakenInTurn : Rule → List ColumnNeeds → Budget → Budget → Type 0
+HasTakenInTurn rule needs old new =
+    (order : List Share) × IsTakenInOrder (undecided_among needs old.widths.items) (offer_by_rule rule old.room (undecided_among needs old.widths.items)) order
+    × HasTaken order old new
+
+-- the columns that a level settles have their widths
+abbrev pub HasSettled : List ColumnNeeds → Budget → Budget → Type 0
+HasSettled needs old new =
+    (level : Option ℕ) × IsLevel old.room (undecided_among needs old.widths.items) level
+    × HasTaken (settled_shares level (undecided_among needs old.widths.items)) old new
+
+-- the widths that are decided
+abbrev pub decided : List (Option ℕ) → List ℕ
+decided widths = map (λ (w : Option ℕ). unwrap_or w 0) widths
+
+-- these widths go to the undecided columns, in list order
+abbrev pub filled : List (Option ℕ) → List ℕ → List ℕ
+filled [] parts = []
+filled (Some w ∷ widths) parts = w ∷ filled widths parts
+filled (None ∷ widths) parts = slice_index_or parts 0 0 ∷ filled widths (drop 1 parts)
+
+-- the undecided columns share the room evenly, at least one terminal column each
+abbrev pub shared_evenly : Budget → List ℕ
+shared_evenly budget =
+    filled budget.widths.items (even_spread (max budget.room (undecided_count budget.widths.items)) (undecided_count budget.widths.items))
+
+-- all widths, with the room spread over them
+abbrev pub widened : Budget → List ℕ
+widened budget = added (decided budget.widths.items) (even_spread budget.room (length budget.widths.items))
+
+-- the part at an index of an even spread
+abbrev pub part_of : ℕ → ℕ → ℕ → ℕ
+part_of x k j = x / k + (if nat_lt j (x % k) then 1 else 0)
+
+-- the content widths at the end: the undecided columns share the room; with full width and no such column all do
+abbrev pub final_widths : Bool → Budget → List ℕ
+final_widths full budget =
+    if full && (undecided_count budget.widths.items == 0) then widened budget else shared_evenly budget
+
+-- the widths and the room are numbers of at most sixteen bits, also where the room is added to a width
+pub record HasRoomToSpread (budget : Budget) : Type 0 where
+  pub room : budget.room ≤ 65535
+  pub each : All (λ w. 0 < budget.room → w + budget.room ≤ 65535) (decided budget.widths.items)

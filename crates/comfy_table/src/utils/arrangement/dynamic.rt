@@ -1,0 +1,56 @@
+//! Widths under `Dynamic` and `DynamicFullWidth`, where the table's width is known.
+//!
+//! Each step decides some of the columns that are still undecided, and takes their widths from the room that is left. The
+//! average is that room over the number of undecided columns. First come the columns with a fixed width, then lower
+//! boundaries above the average, then upper boundaries and contents that fit, then columns whose lines need less than the
+//! average. The others share what is left.
+
+ghost use Rattle.std.specs.Prelude.{◌≡◌, IfOk};
+ghost use Rattle.comfy_table.specs.Arrangement.{is_full_width, room_beside_borders};
+ghost use Rattle.comfy_table.specs.Dynamic.{IsDynamic};
+ghost use Rattle.comfy_table.specs.Widths.{visible_needs};
+
+mod budget;
+mod level;
+mod spread;
+mod taking;
+pub mod visible;
+
+use crate::table::Table;
+use budget::Budget;
+use comfy_parts::Result;
+use comfy_parts::style::ContentArrangement;
+use level::settle;
+use spread::final_widths;
+use taking::{Rule, Takers};
+use visible::visible_columns;
+
+// The content widths of the visible columns of a table of this width, in list order.
+pub fn dynamic_widths(table: &Table, width: u16) -> Result<Vec<u16>>
+    ensures { IfOk result (λ widths. IsDynamic (room_beside_borders table.now width) (visible_needs table.now) (is_full_width table.now.arrangement) widths.items) }
+{
+    let visible = visible_columns(table)?;
+    let columns = visible.as_slice();
+    let mut budget = Budget::new(table, columns, width)?;
+    let lower = Takers {
+        table,
+        columns,
+        rule: Rule::Lower,
+    };
+    lower.take_in_turn(&mut budget);
+    settle(columns, &mut budget);
+    let shrunk = Takers {
+        table,
+        columns,
+        rule: Rule::Shrunk,
+    };
+    shrunk.take_in_turn(&mut budget);
+    final_widths(&budget, fills_width(table), *table.columns.allocator())
+}
+
+// Whether what is left over is spread over all columns.
+fn fills_width(table: &Table) -> bool
+    ensures { result ≡ is_full_width table.now.arrangement }
+{
+    matches!(table.arrangement, ContentArrangement::DynamicFullWidth)
+}

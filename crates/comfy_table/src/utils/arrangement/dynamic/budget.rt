@@ -1,0 +1,73 @@
+//! What is decided of the widths, and the room that is left.
+
+ghost use Rattle.std.specs.Prelude.{◌≡◌, ◌-◌, IfOk, Some, length, map, slice_set};
+ghost use Rattle.comfy_table.specs.Arrangement.{room_beside_borders};
+ghost use Rattle.comfy_table.specs.Deciding.{all_needs, average_room, is_undecided, undecided_count};
+ghost use Rattle.comfy_table.specs.Dynamic.{content_room};
+ghost use Rattle.comfy_table.specs.Widths.{ColumnNeeds, visible_count};
+
+use super::visible::VisibleColumn;
+use crate::table::Table;
+use crate::utils::arrangement::helper::count_border_columns;
+use comfy_parts::Result;
+
+// The content widths of the visible columns while they are decided.
+#[derive(Drop)]
+pub struct Budget {
+    // in list order; none while a column is undecided
+    pub widths: Vec<Option<u16>>,
+    // the terminal columns that are left for the contents of the undecided columns
+    pub room: usize,
+}
+
+impl Budget {
+    // The fixed widths alone, and the room that they, the borders and all paddings leave of the table's width.
+    pub fn new(table: &Table, columns: &[VisibleColumn<'_>], width: u16) -> Result<Budget>
+        requires { length columns.now ≡ visible_count table.now }
+        ensures widths { IfOk result (λ budget. budget.widths.items ≡ map (λ (c : ColumnNeeds). c.fixed) (all_needs table.now columns.now)) }
+        ensures room { IfOk result (λ budget. budget.room ≡ content_room (room_beside_borders table.now width) (all_needs table.now columns.now)) }
+    {
+        let borders = count_border_columns(table, columns.len());
+        let mut room = usize::from(width).saturating_sub(borders);
+        let mut widths = Vec::new(*table.columns.allocator());
+        for column in columns {
+            room = room
+                .saturating_sub(usize::from(column.fixed.unwrap_or(0)))
+                .saturating_sub(column.padding());
+            widths.push(column.fixed)?;
+        }
+        Ok(Budget { widths, room })
+    }
+
+    // Whether the column at a place is undecided.
+    pub fn is_undecided(&self, place: usize) -> bool
+        ensures { result ≡ is_undecided self.now.widths.items place }
+    {
+        matches!(self.widths.get(place), Some(None))
+    }
+
+    // How many columns are undecided.
+    pub fn undecided(&self) -> usize
+        ensures { result ≡ undecided_count self.now.widths.items }
+    {
+        self.widths.iter().filter(|width| width.is_none()).count()
+    }
+
+    // The room that an undecided column has on average, rounded down; 0 where none is undecided.
+    pub fn average(&self) -> usize
+        ensures { result ≡ average_room self.now }
+    {
+        self.room.checked_div(self.undecided()).unwrap_or(0)
+    }
+
+    // Decides the width of the column at a place, and takes it from the room, which never falls below 0.
+    pub fn claim(&mut self, place: usize, width: u16)
+        ensures widths { self.new.widths.items ≡ slice_set self.old.widths.items place (Some width) }
+        ensures room { self.new.room ≡ self.old.room - width }
+    {
+        if let Some(claimed) = self.widths.get_mut(place) {
+            *claimed = Some(width);
+        }
+        self.room = self.room.saturating_sub(usize::from(width));
+    }
+}

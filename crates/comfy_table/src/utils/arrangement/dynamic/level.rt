@@ -1,0 +1,88 @@
+//! Columns whose upper boundary or content the average allows.
+
+ghost use Rattle.std.specs.Prelude.{◌≡◌, ◌≤◌, ◌<◌, Some, length};
+ghost use Rattle.comfy_table.specs.Deciding.{HasSettled, HasTaken, all_needs, average_room, needs_in, undecided_among};
+ghost use Rattle.comfy_table.specs.Dynamic.{IsLevel, average, settled_at, settled_shares};
+ghost use Rattle.comfy_table.specs.TableValue.{TableValue};
+
+use super::budget::Budget;
+use super::visible::VisibleColumn;
+use crate::utils::arrangement::helper::absolute_width_with_padding;
+
+// Settles each undecided column whose upper boundary or content is within the level: the average room of the columns that
+// the level leaves. With an average of 0 none is settled.
+pub fn settle(columns: &[VisibleColumn<'_>], budget: &mut Budget)
+    requires { length budget.old.widths.items ≡ length columns.now }
+    ensures { (table : TableValue) → HasSettled (all_needs table columns.now) budget.old budget.new }
+{
+    let average = budget.average();
+    if 0 < average {
+        let level = level_from(columns, budget, average);
+        settle_at(columns, budget, level);
+    }
+}
+
+// The level: from the average up, until what it settles leaves no more room on average than it is.
+fn level_from(columns: &[VisibleColumn<'_>], budget: &Budget, average: usize) -> usize
+    requires widths { length budget.now.widths.items ≡ length columns.now }
+    requires average { average ≡ average_room budget.now }
+    requires some { 0 < average }
+    ensures { (table : TableValue) → IsLevel budget.now.room (undecided_among (all_needs table columns.now) budget.now.widths.items) (Some result) }
+{
+    let mut level = average;
+    let mut raised = average_beside(columns, budget, level);
+    while level < raised {
+        level = raised;
+        raised = average_beside(columns, budget, level);
+    }
+    level
+}
+
+// The average room of the undecided columns that a level leaves; 0 where it leaves none.
+fn average_beside(columns: &[VisibleColumn<'_>], budget: &Budget, level: usize) -> usize
+    ensures at_most { result ≤ budget.now.room }
+    ensures average { (table : TableValue) → result ≡ average budget.now.room (undecided_among (all_needs table columns.now) budget.now.widths.items) (settled_shares (Some level) (undecided_among (all_needs table columns.now) budget.now.widths.items)) }
+{
+    let mut room = budget.room;
+    let mut left = 0usize;
+    for (place, column) in columns.iter().enumerate() {
+        if budget.is_undecided(place) {
+            match settled_width(column, level) {
+                Some(width) => room = room.saturating_sub(usize::from(width)),
+                None => left += 1,
+            }
+        }
+    }
+    room.checked_div(left).unwrap_or(0)
+}
+
+// Settles the undecided columns at a level.
+fn settle_at(columns: &[VisibleColumn<'_>], budget: &mut Budget, level: usize)
+    ensures { (table : TableValue) → HasTaken (settled_shares (Some level) (undecided_among (all_needs table columns.now) budget.old.widths.items)) budget.old budget.new }
+{
+    for (place, column) in columns.iter().enumerate() {
+        if budget.is_undecided(place)
+            && let Some(width) = settled_width(column, level)
+        {
+            budget.claim(place, width);
+        }
+    }
+}
+
+// What an undecided column gets at a level: its upper boundary, where the level allows it and the content reaches it, else
+// a content that is at most the level.
+fn settled_width(column: &VisibleColumn<'_>, level: usize) -> Option<u16>
+    ensures { (table : TableValue) → result ≡ settled_at (Some level) (needs_in table column.now) }
+{
+    let most = level.min(usize::from(column.content));
+    if let Some(upper) = column.upper
+        && usize::from(upper).saturating_sub(column.padding()) <= most
+    {
+        return Some(absolute_width_with_padding(column.column, upper));
+    }
+    if usize::from(column.content) <= level {
+        Some(column.content.max(1))
+    } else {
+        None
+    }
+}

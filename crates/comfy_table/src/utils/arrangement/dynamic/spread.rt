@@ -1,0 +1,67 @@
+//! Room that is spread evenly over columns.
+
+ghost use Rattle.std.specs.Prelude.{◌≡◌, ◌≤◌, ◌<◌, IfOk, max};
+ghost use Rattle.comfy_table.specs.Deciding.{HasRoomToSpread, final_widths, part_of, shared_evenly, undecided_count, widened};
+
+use super::budget::Budget;
+use comfy_parts::Result;
+use std::alloc::Global;
+
+// The widths at the end. The undecided columns share the room, and have at least one terminal column each. Where none is
+// undecided, full width spreads the room over all columns.
+pub fn final_widths(budget: &Budget, full: bool, alloc: Global) -> Result<Vec<u16>>
+    requires { HasRoomToSpread budget.now }
+    ensures { IfOk result (λ widths. widths.items ≡ final_widths full budget.now) }
+{
+    let undecided = budget.undecided();
+    if full && undecided == 0 {
+        widened(budget, alloc)
+    } else {
+        shared_evenly(budget, undecided, alloc)
+    }
+}
+
+// The widths with the undecided columns sharing the room.
+fn shared_evenly(budget: &Budget, undecided: usize, alloc: Global) -> Result<Vec<u16>>
+    requires room { budget.now.room ≤ 65535 }
+    requires count { undecided ≡ undecided_count budget.now.widths.items }
+    ensures { IfOk result (λ widths. widths.items ≡ shared_evenly budget.now) }
+{
+    let room = budget.room.max(undecided);
+    let mut widths = Vec::new(alloc);
+    let mut index = 0usize;
+    for width in budget.widths.as_slice() {
+        match width {
+            Some(width) => widths.push(*width)?,
+            None => {
+                widths.push(even_part(room, undecided, index))?;
+                index += 1;
+            }
+        }
+    }
+    Ok(widths)
+}
+
+// The widths with the room spread over all of them.
+fn widened(budget: &Budget, alloc: Global) -> Result<Vec<u16>>
+    requires { HasRoomToSpread budget.now }
+    ensures { IfOk result (λ widths. widths.items ≡ widened budget.now) }
+{
+    let count = budget.widths.len();
+    let mut widths = Vec::new(alloc);
+    for (place, width) in budget.widths.iter().enumerate() {
+        widths.push(width.unwrap_or(0) + even_part(budget.room, count, place))?;
+    }
+    Ok(widths)
+}
+
+// The part at an index of so many that share a room evenly: the first parts have one more each, until all is shared.
+fn even_part(room: usize, count: usize, index: usize) -> u16
+    requires some { 0 < count }
+    requires fits { room ≤ max 65535 count }
+    ensures part { result ≡ part_of room count index }
+    ensures at_most { result ≤ room }
+{
+    let more = usize::from(index < room % count);
+    (room / count + more) as u16
+}

@@ -1,0 +1,94 @@
+//! Columns that take a width one after another, going round the list until none takes one.
+
+ghost use Rattle.std.specs.Prelude.{◌≡◌, ◌<◌, ◌≤◌, length};
+ghost use Rattle.comfy_parts.specs.CellValue.{column_padding};
+ghost use Rattle.comfy_table.specs.Deciding.{HasTakenInTurn, all_needs, place_behind, width_at};
+ghost use Rattle.comfy_table.specs.Dynamic.{lower_of_boundary};
+
+use super::budget::Budget;
+use super::visible::VisibleColumn;
+use crate::table::Table;
+use crate::utils::arrangement::helper::absolute_width_with_padding;
+use crate::utils::arrangement::longest::shrunk_width;
+
+// By what an undecided column takes its width.
+#[derive(Copy, Clone)]
+pub enum Rule {
+    // by a lower boundary above the average
+    Lower,
+    // by lines that leave three or more terminal columns of the average free
+    Shrunk,
+}
+
+// The columns that a rule is tried on.
+#[derive(Drop)]
+pub struct Takers<'a> {
+    pub table: &'a Table,
+    pub columns: &'a [VisibleColumn<'a>],
+    pub rule: Rule,
+}
+
+impl<'a> Takers<'a> {
+    // Lets the columns take their widths in turn. A width that is taken may change the average; so may the lines of the
+    // columns before. Each column is tried at most once at each average.
+    pub fn take_in_turn(&self, budget: &mut Budget)
+        requires widths { length budget.old.widths.items ≡ length self.now.columns.now }
+        requires room { budget.old.room ≤ 65535 }
+        ensures { HasTakenInTurn self.now.rule (all_needs self.now.table.now self.now.columns.now) budget.old budget.new }
+    {
+        let mut place = 0;
+        // how many columns before the place, going round, take nothing at the average
+        let mut passed = 0;
+        let mut average = budget.average();
+        while passed < self.columns.len() {
+            passed += 1;
+            if let Some(width) = self.width_at(budget, place, average) {
+                budget.claim(place, width);
+                if budget.average() != average {
+                    average = budget.average();
+                    passed = 1;
+                }
+            }
+            place = self.place_behind(place);
+        }
+    }
+
+    // The place behind this one, going round.
+    fn place_behind(&self, place: usize) -> usize
+        requires { place < length self.now.columns.now }
+        ensures { result ≡ place_behind (length self.now.columns.now) place }
+    {
+        if place + 1 < self.columns.len() {
+            place + 1
+        } else {
+            0
+        }
+    }
+
+    // The width that the column at a place takes at this average, where it is undecided and takes one.
+    fn width_at(&self, budget: &Budget, place: usize, average: usize) -> Option<u16>
+        requires { average ≤ 65535 }
+        ensures { result ≡ width_at self.now.rule average (all_needs self.now.table.now self.now.columns.now) budget.now.widths.items place }
+    {
+        if !budget.is_undecided(place) {
+            return None;
+        }
+        let column = self.columns.get(place)?;
+        match self.rule {
+            Rule::Lower => lower_width(column, average),
+            Rule::Shrunk => shrunk_width(self.table, column, average),
+        }
+    }
+}
+
+// What a column takes by its lower boundary, where that is above the average.
+fn lower_width(column: &VisibleColumn<'_>, average: usize) -> Option<u16>
+    ensures { result ≡ lower_of_boundary average (column_padding column.now.column.now) column.now.lower }
+{
+    match column.lower {
+        Some(lower) if average < usize::from(lower) => {
+            Some(absolute_width_with_padding(column.column, lower))
+        }
+        _ => None,
+    }
+}
