@@ -54,13 +54,13 @@ abbrev pub width_at : Rule → ℕ → List ColumnNeeds → List (Option ℕ) �
 width_at rule average needs widths place =
     if is_undecided widths place then option_and_then (width_by_rule rule average) (slice_get needs place) else None
 
+-- what a column at its place takes by a rule, once some are taken
+abbrev pub offer_by_rule : Rule → ℕ → List Placed → List Share → Placed → Option ℕ
+offer_by_rule rule room candidates taken p = width_by_rule rule ((room - total taken) / length (without_shares taken candidates)) p.1
+
 -- the place behind one of n places, going round
 abbrev pub place_behind : ℕ → ℕ → ℕ
 place_behind n place = if nat_lt (place + 1) n then place + 1 else 0
-
--- the same of a column at its place, once some are taken
-abbrev pub offer_by_rule : Rule → ℕ → List Placed → List Share → Placed → Option ℕ
-offer_by_rule rule room candidates taken p = width_by_rule rule ((room - total taken) / length (without_shares taken candidates)) p.1
 
 -- columns have taken their widths by a rule, in turn, until none took one
 abbrev pub HasTakenInTurn : Rule → List ColumnNeeds → Budget → Budget → Type 0

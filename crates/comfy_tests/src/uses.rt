@@ -1,11 +1,14 @@
 //! Short functions as a caller writes them, each with a claim of its own that the contracts below carry.
 
-ghost use Rattle.std.specs.Prelude.{◌≡◌, [], ◌∷◌, IfOk, None, OnErr, OnOk, if◌then◌else◌, string_bytes};
+ghost use Rattle.std.specs.Prelude.{◌≡◌, ◌<◌, [], ◌∷◌, IfOk, None, OnErr, OnOk, Some, false, if◌then◌else◌, max, string_bytes};
 ghost use Rattle.comfy_parts.specs.CellValue.{number_cell, plain_cell, plain_row, with_cell};
 ghost use Rattle.comfy_parts.specs.Presets.{ascii_full};
 ghost use Rattle.comfy_run.specs.Input.{IsOutputFor};
 ghost use Rattle.comfy_table.specs.Arrangement.{IsDrawingOf};
-ghost use Rattle.comfy_table.specs.TableValue.{new_table, with_header, with_row};
+ghost use Rattle.comfy_table.specs.Laws.{NoConstraints, least_total};
+ghost use Rattle.comfy_table.specs.TableValue.{new_table, should_style, with_header, with_row};
+ghost use Rattle.comfy_table.specs.Widths.{visible_count};
+ghost use Rattle.comfy_tests.specs.Uses.{HasFrameOf, IsPlainDrawing};
 
 use comfy_run::run::{MemorySink, MemorySource, RunError, Settings, run};
 use comfy_table::presets::ASCII_FULL;
@@ -53,6 +56,27 @@ pub fn drawn(alloc: Global, header: Row, row: Row) -> comfy_table::Result<Lines>
 {
     let mut table = Table::new(alloc);
     table.set_header(header)?.add_row(row)?;
+    table.lines()
+}
+
+/// Draws a table over a whole width. Where a column is visible and none of the visible ones has a constraint, each frame
+/// line has as many characters as the width, or as borders, paddings and one character for each visible column, whichever
+/// is more.
+pub fn drawn_over_width(table: &mut Table, width: u16) -> comfy_table::Result<Lines>
+    ensures set { table.new ≡ record table.old { set_width = Some width; arrangement = ContentArrangement.DynamicFullWidth } }
+    ensures frame { IfOk result (λ lines. 0 < visible_count table.old → NoConstraints table.old → HasFrameOf (max width (least_total table.old)) table.new lines) }
+{
+    table
+        .set_width(width)
+        .set_content_arrangement(ContentArrangement::DynamicFullWidth);
+    table.lines()
+}
+
+/// The drawing of a table. Where neither colours and attributes are written nor sequences inside cells are looked for, it
+/// is the drawing without them.
+pub fn drawn_plainly(table: &Table) -> comfy_table::Result<Lines>
+    ensures { IfOk result (λ lines. should_style table.now ≡ false → table.now.custom_styling ≡ false → IsPlainDrawing table.now lines) }
+{
     table.lines()
 }
 

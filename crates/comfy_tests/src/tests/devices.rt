@@ -230,23 +230,53 @@ fn a_slow_writer_takes_everything(rt: HostRuntime) -> Result<(), Fail> {
     Ok(())
 }
 
-#[test]
-fn the_style_is_that_of_the_settings(rt: HostRuntime) -> Result<(), Fail> {
+// Runs on a header and a row of two cells, and compares what is written.
+fn assert_drawn(
+    rt: &(impl Abort + Alloc<A = Global>),
+    settings: Settings,
+    lines: &[&str],
+) -> comfy_table::Result<()> {
     let mut source = MemorySource::new(b"Hello\tthere\na\tb\n", 0);
     let mut sink = MemorySink::new(rt.alloc(), 200, 0)?;
+    let answer = run(rt.alloc(), &mut source, &mut sink, settings);
+    assert_eq!(rt; answer, Ok(()));
+    assert_eq!(rt; sink.bytes(), joined(rt.alloc(), lines)?.as_bytes());
+    Ok(())
+}
+
+#[test]
+fn the_style_is_that_of_the_settings(rt: HostRuntime) -> Result<(), Fail> {
     let settings = Settings {
         width: Some(5),
         style: ASCII_MARKDOWN,
         ..PLAIN
     };
-    let answer = run(rt.alloc(), &mut source, &mut sink, settings);
-    assert_eq!(rt; answer, Ok(()));
     let drawn = [
         "| Hello | there |", //
         "|-------|-------|",
         "| a     | b     |",
     ];
-    assert_eq!(rt; sink.bytes(), joined(rt.alloc(), &drawn)?.as_bytes());
+    assert_drawn(&rt, settings, &drawn)?;
+    Ok(())
+}
+
+// Borders and paddings take 7 of the 30 columns, and the longest texts 10 of the other 23. Of the 13 that are left the
+// first column gets 7 and the second 6.
+#[test]
+fn the_settings_widen_the_drawing(rt: HostRuntime) -> Result<(), Fail> {
+    let settings = Settings {
+        width: Some(30),
+        arrangement: ContentArrangement::DynamicFullWidth,
+        ..PLAIN
+    };
+    let drawn = [
+        "+--------------+-------------+",
+        "| Hello        | there       |",
+        "+============================+",
+        "| a            | b           |",
+        "+--------------+-------------+",
+    ];
+    assert_drawn(&rt, settings, &drawn)?;
     Ok(())
 }
 

@@ -1,4 +1,4 @@
-use Rattle.std.proofs.Common.{[], Option, Some, ap, refl, List, ℕ}
+use Rattle.std.proofs.Common.{[], Option, Some, ap, List, ℕ}
 use Rattle.std.specs.Prelude.{unwrap_or}
 use Rattle.comfy_run.specs.Device.{MemorySinkValue, MemorySourceValue, left_in}
 use Rattle.comfy_tests.proofs.uses.output_for.Goals as goal
@@ -9,4 +9,4 @@ returns c =
     let empty = c.in_ok-sink.ensures in
     let happened = c.in_ok-run.ensures c.args.input.now [] (ap (λ (s : MemorySourceValue). Some (left_in s)) fresh) (ap (λ (s : MemorySinkValue). Some s.bytes) empty)
     (ap (λ (s : MemorySourceValue). s.failed) fresh) (ap (λ (s : MemorySinkValue). s.failed) empty) in
-    rw (ap (λ (taken : Option (List ℕ)). unwrap_or taken []) happened.1) (happened.2.2 refl).output
+    rw (ap (λ (taken : Option (List ℕ)). unwrap_or taken []) happened.1) happened.2.output

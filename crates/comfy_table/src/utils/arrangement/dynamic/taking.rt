@@ -29,8 +29,8 @@ pub struct Takers<'a> {
 }
 
 impl<'a> Takers<'a> {
-    // Lets the columns take their widths in turn. A width that is taken may change the average; so may the lines of the
-    // columns before. Each column is tried at most once at each average.
+    // Lets the columns take their widths in turn, until none takes one. A width that is taken changes the room, and with it
+    // the average. No column is tried twice at one average.
     pub fn take_in_turn(&self, budget: &mut Budget)
         requires widths { length budget.old.widths.items ≡ length self.now.columns.now }
         requires room { budget.old.room ≤ 65535 }
@@ -44,8 +44,9 @@ impl<'a> Takers<'a> {
             passed += 1;
             if let Some(width) = self.width_at(budget, place, average) {
                 budget.claim(place, width);
-                if budget.average() != average {
-                    average = budget.average();
+                let average_now = budget.average();
+                if average_now != average {
+                    average = average_now;
                     passed = 1;
                 }
             }

@@ -3,7 +3,7 @@ use Rattle.std.proofs.lemmas.List.{length-map}
 use Rattle.comfy_table.specs.Deciding.{all_needs, average_room, needs_in, place_behind, undecided_count}
 use Rattle.comfy_table.specs.declared.utils.arrangement.dynamic.budget.Budget.{Budget}
 use Rattle.comfy_table.proofs.TakingInTurnLemmas.{IsTurn, count-set, fewer_undecided, turn_ends, turn_passes, turn_takes, width_at-some}
-use Rattle.comfy_table.proofs.utils.arrangement.dynamic.taking.Takers.take_in_turn.Goals.{in-Some+then-average, in-Some+else-average, in_default}
+use Rattle.comfy_table.proofs.utils.arrangement.dynamic.taking.Takers.take_in_turn.Goals.{in-Some+then-average_now-average, in-Some+else-average_now-average, in_default}
 use Rattle.comfy_table.proofs.utils.arrangement.dynamic.taking.Takers.take_in_turn.Goals as goal
 
 pub loop-passed-smaller : goal.loop-passed-smaller
@@ -19,8 +19,8 @@ loop-passed-smaller c =
     ∙ count-set widths place width (width_at-some rule c.loop-passed.average needs widths place width (sym c.width_at.ensures ∙ some)).left)
     c.loop-passed-test.true in
     elim c.match-width_at.branch [
-      | in-Some+then-average w ↦ takes w.in-Some.width w.in-Some.is w.claim.new.self w.claim.ensures.widths w.budget-is
-      | in-Some+else-average w ↦ takes w.in-Some.width w.in-Some.is w.claim.new.self w.claim.ensures.widths w.budget-is
+      | in-Some+then-average_now-average w ↦ takes w.in-Some.width w.in-Some.is w.claim.new.self w.claim.ensures.widths w.budget-is
+      | in-Some+else-average_now-average w ↦ takes w.in-Some.width w.in-Some.is w.claim.new.self w.claim.ensures.widths w.budget-is
       | in_default w ↦
           let same : undecided_count c.match-width_at.budget.widths.items * (n + 1) ≡ undecided_count widths * (n + 1) = ap (λ (b : Budget). undecided_count b.widths.items * (n + 1)) w.budget-is in
           omega (arith, same, w.passed-is, c.loop-passed-test.true)
@@ -38,14 +38,14 @@ loop-passed-preserved c =
     let now = c.match-width_at.budget in
     subst (λ (p : ℕ). IsTurn rule needs old now p c.match-width_at.passed c.match-width_at.average) place
     (elim c.match-width_at.branch [
-      | in-Some+then-average w ↦
+      | in-Some+then-average_now-average w ↦
           turn_takes rule needs old same_length c.loop-passed.budget c.loop-passed.place c.loop-passed.passed c.loop-passed.average c.loop-passed.invariant w.in-Some.width fewer (sym c.width_at.ensures ∙ w.in-Some.is) now
           c.match-width_at.passed c.match-width_at.average (ap (λ (b : Budget). b.widths.items) w.budget-is ∙ w.claim.ensures.widths) (ap (λ (b : Budget). b.room) w.budget-is ∙ w.claim.ensures.room)
-          (w.average-is ∙ w.average-average-then-average.ensures ∙ sym (ap average_room w.budget-is)) (inl w.passed-is)
-      | in-Some+else-average w ↦
+          (w.average-is ∙ w.average-average_now.ensures ∙ sym (ap average_room w.budget-is)) (inl w.passed-is)
+      | in-Some+else-average_now-average w ↦
           turn_takes rule needs old same_length c.loop-passed.budget c.loop-passed.place c.loop-passed.passed c.loop-passed.average c.loop-passed.invariant w.in-Some.width fewer (sym c.width_at.ensures ∙ w.in-Some.is) now
           c.match-width_at.passed c.match-width_at.average (ap (λ (b : Budget). b.widths.items) w.budget-is ∙ w.claim.ensures.widths) (ap (λ (b : Budget). b.room) w.budget-is ∙ w.claim.ensures.room)
-          (w.average-is ∙ sym w.if-average.false ∙ w.average.ensures ∙ sym (ap average_room w.budget-is)) (inr (w.average-is, w.passed-is))
+          (w.average-is ∙ sym w.if-average_now-average.false ∙ w.average-average_now.ensures ∙ sym (ap average_room w.budget-is)) (inr (w.average-is, w.passed-is))
       | in_default w ↦
           let next = place_behind (length needs) c.loop-passed.place in
           let passes = turn_passes rule needs old same_length c.loop-passed.budget c.loop-passed.place c.loop-passed.passed c.loop-passed.average c.loop-passed.invariant fewer (sym c.width_at.ensures ∙ w.in_default.is) in
