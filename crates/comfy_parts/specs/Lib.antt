@@ -1,5 +1,7 @@
 pub mod Borders
+pub mod CellEquality
 pub mod CellValue
+pub mod Comparisons
 pub mod Following
 pub mod Laws
 pub mod Presets

@@ -1,6 +1,8 @@
 //! A cell: its text lines and its settings.
 
-ghost use Rattle.std.specs.Prelude.{◌≡◌, string_bytes, map, IfOk, IfSome, Some};
+ghost use Rattle.std.specs.Prelude.{◌≡◌, ◌∷◌, ◌++◌, [], string_bytes, map, IfOk, IfSome, Some};
+ghost use Rattle.std.specs.Cmp.{partial_equiv_from_equiv};
+ghost use Rattle.comfy_parts.specs.CellEquality.{cell_eq, cell_eq_equiv, cell_hash, cell_hash_respects_eq};
 ghost use Rattle.comfy_parts.specs.CellValue.{IsCell, content_of, plain_cell};
 ghost use Rattle.comfy_parts.specs.Text.{measure};
 
@@ -10,6 +12,7 @@ use crate::error::Result;
 use crate::style::{Attribute, CellAlignment, Color};
 use std::alloc::Global;
 use std::fmt::Display;
+use std::hash::{Hash, Hasher};
 use std::marker::Model;
 use text_lines::TextLines;
 
@@ -107,6 +110,39 @@ impl Cell {
         self
     }
 
+    /// Sets the colour of the text.
+    pub fn fg(mut self, color: Color) -> Cell
+        ensures { result ≡ record self { foreground = Some color } }
+    {
+        self.foreground = Some(color);
+        self
+    }
+
+    /// Sets the colour behind the text.
+    pub fn bg(mut self, color: Color) -> Cell
+        ensures { result ≡ record self { background = Some color } }
+    {
+        self.background = Some(color);
+        self
+    }
+
+    /// Adds an attribute behind those that the cell has. Attributes are written once each, in a fixed order, however
+    /// often they were added. After running out of memory the cell is dropped.
+    pub fn add_attribute(mut self, attribute: Attribute) -> Result<Cell>
+        ensures { IfOk result (λ cell. cell ≡ record self { attributes = self.attributes ++ attribute ∷ [] }) }
+    {
+        self.attributes.push(attribute)?;
+        Ok(self)
+    }
+
+    /// Adds attributes in their order, as `add_attribute` adds one. After running out of memory the cell is dropped.
+    pub fn add_attributes(mut self, attributes: Vec<Attribute>) -> Result<Cell>
+        ensures { IfOk result (λ cell. cell ≡ record self { attributes = self.attributes ++ attributes.items }) }
+    {
+        self.attributes.extend_from_slice(attributes.as_slice())?;
+        Ok(self)
+    }
+
     /// The character at which the cell's texts may break; none where its column's or its table's is taken.
     pub fn cell_delimiter(&self) -> Option<char>
         ensures { result ≡ self.now.delimiter }
@@ -140,5 +176,40 @@ impl Cell {
         ensures { result.now ≡ self.now.attributes }
     {
         self.attributes.as_slice()
+    }
+}
+
+// Two cells are equal where their values are. The widths that are kept beside the text lines follow from these.
+impl PartialEq for Cell {
+    ghost eq = { cell_eq };
+
+    ghost laws = { partial_equiv_from_equiv cell_eq_equiv };
+
+    fn eq(&self, other: &Cell) -> bool {
+        self.text_lines() == other.text_lines()
+            && self.delimiter == other.delimiter
+            && self.alignment == other.alignment
+            && self.foreground == other.foreground
+            && self.background == other.background
+            && self.attributes == other.attributes
+    }
+}
+
+impl Eq for Cell {
+    ghost laws = { cell_eq_equiv };
+}
+
+impl Hash for Cell {
+    ghost hash_input = { cell_hash };
+
+    ghost respects_eq = { cell_hash_respects_eq };
+
+    fn hash<H: Hasher>(&self, state: &mut H) {
+        self.text_lines().hash(state);
+        self.delimiter.hash(state);
+        self.alignment.hash(state);
+        self.foreground.hash(state);
+        self.background.hash(state);
+        self.attributes.hash(state);
     }
 }

@@ -1,9 +1,13 @@
-//! What wrapping promises beyond its definition. Each function does nothing: its clauses are the law.
+//! What wrapping promises beyond its definition, and what comparisons do. Each function does nothing: its clauses are
+//! the law.
 //! The lines of which they speak are those that `split_line` returns, for every text, width `w` in terminal columns and
 //! delimiter `d`. "In printable ASCII" means that text and delimiter are, and that the width is at least 1.
 
 ghost use Rattle.std.specs.Prelude.{ℕ, List, []};
 ghost use Rattle.std.specs.Char.{IsScalar};
+ghost use Rattle.std.specs.Cmp.{IsTotalOrder};
+ghost use Rattle.comfy_parts.specs.CellEquality.{cell_eq, cell_hash};
+ghost use Rattle.comfy_parts.specs.Comparisons.{attribute_cmp, attribute_eq, attribute_hash, color_cmp, color_eq, color_hash, EqHashesAlike, EqIsSame, EqualIsSame};
 ghost use Rattle.comfy_parts.specs.Laws.{ActiveIsResumed, ClosedTextsLeaveNone, CutLinesAreFull, HeadIsLongest, IsCutOutsideNarrow, LinesAreFew, LinesAreFewest, LinesAreResumed, LinesAreSeen, LinesFit, NeighboursFillALine, NoneIsLeftOpen, OtherBytesAreVisible, PrintableClustersAreCharacters, PrintableAddsOneColumnEach, PrintableMeasuresItsLength, SequencesAreTakenOut, SequencesLeaveTheLines, WrappedIsOne, WrappedIsWrapped};
 ghost use Rattle.comfy_parts.specs.Text.{Text};
 ghost use Rattle.comfy_parts.specs.Wrapping.{IsWrapped};
@@ -84,4 +88,26 @@ pub fn lines_leave_no_sequence_open()
 pub fn active_sequences_are_resumed()
     ensures text { (earlier : List Text) (text : Text) (start len k : ℕ) → ActiveIsResumed earlier text start len k }
     ensures lines { (w d : ℕ) (text_lines : List Text) → LinesAreResumed w d text_lines }
+{}
+
+/// Two cells are equal where their values are the same, and there alone. Equal cells hash alike.
+pub fn cells_are_equal_by_their_values()
+    ensures eq { EqIsSame cell_eq }
+    ensures hash { EqHashesAlike cell_eq cell_hash }
+{}
+
+/// `==` tells attributes apart, and so does their order, which is total and transitive. Equal attributes hash alike.
+pub fn attributes_are_ordered()
+    ensures eq { EqIsSame attribute_eq }
+    ensures equal { EqualIsSame attribute_cmp }
+    ensures order { IsTotalOrder attribute_cmp }
+    ensures hash { EqHashesAlike attribute_eq attribute_hash }
+{}
+
+/// `==` tells colours apart, and so does their order, which is total and transitive. Equal colours hash alike.
+pub fn colors_are_ordered()
+    ensures eq { EqIsSame color_eq }
+    ensures equal { EqualIsSame color_cmp }
+    ensures order { IsTotalOrder color_cmp }
+    ensures hash { EqHashesAlike color_eq color_hash }
 {}

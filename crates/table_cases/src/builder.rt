@@ -1,7 +1,7 @@
 //! A case's table, built line by line through the public surface. A call that is new gets its words here.
 
 use crate::fault::{Fault, NO_CALL, Result};
-use crate::settings::{arrangement, set_on_column, with_setting};
+use crate::settings::{arrangement, set_on_column, terminal, with_setting};
 use crate::styles::{read_style, set_part};
 use crate::text::{character, first_or_empty, no_words, number, only_word, text, width};
 use comfy_table::utils::arrangement::arrange_content;
@@ -93,10 +93,30 @@ impl Builder {
                 self.table.set_content_arrangement(chosen);
                 Ok(())
             }
-            "terminal" | "late" | "discover" => Err(NO_CALL),
-            "no_tty" | "stderr" | "enforce" | "text_only" => Err(NO_CALL),
-            _ => Err(Fault::NotRead("a line isn't known")),
+            "late" | "discover" => Err(NO_CALL),
+            _ => self.set_terminal_facts(first, words),
         }
+    }
+
+    // the words on the terminal and on what is written to one
+    fn set_terminal_facts(&mut self, first: &str, words: &[&str]) -> Result<()> {
+        match (first, words) {
+            ("terminal", [stdout, stderr, width]) => {
+                self.table.set_terminal(terminal(stdout, stderr, width)?);
+            }
+            ("no_tty", []) => {
+                self.table.force_no_tty();
+            }
+            ("stderr", []) => {
+                self.table.use_stderr();
+            }
+            ("enforce", []) => {
+                self.table.enforce_styling();
+            }
+            ("text_only", []) => self.table.style_text_only(),
+            _ => return Err(Fault::NotRead("a line isn't known")),
+        }
+        Ok(())
     }
 
     fn set_indicator(&mut self, word: &str) -> Result<()> {

@@ -5,6 +5,7 @@
 mod builder;
 mod case;
 mod fault;
+mod looks;
 mod report;
 mod run;
 mod settings;

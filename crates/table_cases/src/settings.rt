@@ -1,9 +1,10 @@
 //! The settings of cells and columns, as words `NAME=VALUE`.
 
-use crate::fault::{Fault, NO_CALL, Result};
+use crate::fault::{Fault, Result};
+use crate::looks::{attribute, color};
 use crate::text::{character, width};
 use comfy_table::style::{CellAlignment, ColumnConstraint, Width};
-use comfy_table::{Cell, Column, ContentArrangement};
+use comfy_table::{Cell, Column, ContentArrangement, Terminal};
 use std::alloc::Global;
 
 /// The cell with one setting more.
@@ -18,7 +19,9 @@ pub fn with_setting(alloc: Global, cell: Cell, word: &str) -> Result<Cell> {
             let delimiter = character(alloc, value)?;
             Ok(cell.set_delimiter(delimiter))
         }
-        "fg" | "bg" | "attribute" => Err(NO_CALL),
+        "fg" => Ok(cell.fg(color(value)?)),
+        "bg" => Ok(cell.bg(color(value)?)),
+        "attribute" => Ok(cell.add_attribute(attribute(value)?)?),
         _ => Err(Fault::NotRead("a setting of a cell isn't known")),
     }
 }
@@ -40,6 +43,28 @@ pub fn set_on_column(alloc: Global, column: &mut Column, word: &str) -> Result<(
         _ => return Err(Fault::NotRead("a setting of a column isn't known")),
     }
     Ok(())
+}
+
+/// The facts of a terminal: whether each output is one, and a width, or `-` for none.
+pub fn terminal(stdout: &str, stderr: &str, columns: &str) -> Result<Terminal> {
+    let known = if columns == "-" {
+        None
+    } else {
+        Some(width(columns)?)
+    };
+    Ok(Terminal {
+        stdout_is_tty: truth(stdout)?,
+        stderr_is_tty: truth(stderr)?,
+        width: known,
+    })
+}
+
+fn truth(word: &str) -> Result<bool> {
+    match word {
+        "true" => Ok(true),
+        "false" => Ok(false),
+        _ => Err(Fault::NotRead("a truth value isn't known")),
+    }
 }
 
 /// An arrangement by its name.

@@ -1,11 +1,11 @@
 //! What is known of the terminal that a table is printed on, and what a table draws from that.
 
-ghost use Rattle.std.specs.Prelude.{◌≡◌};
+ghost use Rattle.std.specs.Prelude.{◌≡◌, true};
 ghost use Rattle.comfy_table.specs.TableValue.{is_tty, should_style, table_width};
 
 use crate::table::Table;
 
-/// Facts about a terminal, as the caller found them. No call passes them to a table yet.
+/// Facts about a terminal, as the caller found them. `Table::set_terminal` passes them in.
 #[derive(Copy, Clone, Debug)]
 pub struct Terminal {
     /// Whether standard output is a terminal.
@@ -26,6 +26,52 @@ impl Terminal {
 }
 
 impl Table {
+    /// Passes in what is known of the terminal; a new table knows of none. No call asks the terminal itself, so the caller
+    /// looks up these facts.
+    pub fn set_terminal(&mut self, terminal: Terminal) -> &mut Self
+        ensures same_reference { result.ghost_name ≡ self.entry.ghost_name }
+        ensures value { result.now ≡ record self.old { terminal = terminal } }
+    {
+        self.terminal = terminal;
+        self
+    }
+
+    /// Has the table drawn as where the output is no terminal, whatever is known of it: the terminal's width isn't taken,
+    /// and without `enforce_styling` no colours and attributes are written.
+    pub fn force_no_tty(&mut self) -> &mut Self
+        ensures same_reference { result.ghost_name ≡ self.entry.ghost_name }
+        ensures value { result.now ≡ record self.old { no_tty = true } }
+    {
+        self.no_tty = true;
+        self
+    }
+
+    /// Takes standard error for the output. Without this call it is standard output.
+    pub fn use_stderr(&mut self) -> &mut Self
+        ensures same_reference { result.ghost_name ≡ self.entry.ghost_name }
+        ensures value { result.now ≡ record self.old { use_stderr = true } }
+    {
+        self.use_stderr = true;
+        self
+    }
+
+    /// Has colours and attributes written, also where the output is no terminal.
+    pub fn enforce_styling(&mut self) -> &mut Self
+        ensures same_reference { result.ghost_name ≡ self.entry.ghost_name }
+        ensures value { result.now ≡ record self.old { enforce_styling = true } }
+    {
+        self.enforce_styling = true;
+        self
+    }
+
+    /// Has colours and attributes written round the text of a cell alone, and not round its paddings and the spaces beside
+    /// it.
+    pub fn style_text_only(&mut self)
+        ensures { self.new ≡ record self.old { style_text_only = true } }
+    {
+        self.style_text_only = true;
+    }
+
     /// The width in terminal columns: the one that was set, else the terminal's where the output is one; none otherwise.
     pub fn width(&self) -> Option<u16>
         ensures { result ≡ table_width self.now }
@@ -33,15 +79,15 @@ impl Table {
         if self.set_width.is_some() {
             return self.set_width;
         }
-        if self.writes_to_tty() {
+        if self.is_tty() {
             self.terminal.width
         } else {
             None
         }
     }
 
-    // Whether the output is a terminal, by the facts that were passed in.
-    pub(crate) fn writes_to_tty(&self) -> bool
+    /// Whether the output is a terminal, by the facts that were passed in. It is looked up anew at each call.
+    pub fn is_tty(&self) -> bool
         ensures { result ≡ is_tty self.now }
     {
         if self.no_tty {
@@ -54,10 +100,10 @@ impl Table {
         }
     }
 
-    // Whether colours and attributes are written.
-    pub(crate) fn writes_styles(&self) -> bool
+    /// Whether colours and attributes are written: after `enforce_styling`, or where the output is a terminal.
+    pub fn should_style(&self) -> bool
         ensures { result ≡ should_style self.now }
     {
-        self.enforce_styling || self.writes_to_tty()
+        self.enforce_styling || self.is_tty()
     }
 }

@@ -1,6 +1,7 @@
 //! Cells, rows and the error.
 
 use super::support::assert_texts;
+use comfy_parts::style::Attribute;
 use comfy_parts::{Cell, IntoRow, Row, TableError};
 use std::test::Fail;
 
@@ -24,6 +25,19 @@ fn a_cell_is_cut_at_its_line_feeds(rt: HostRuntime) -> Result<(), Fail> {
         let content = cell.content()?;
         assert_eq!(rt; content.as_str(), text);
     }
+    Ok(())
+}
+
+#[test]
+fn a_cell_keeps_its_attributes_in_their_order(rt: HostRuntime) -> Result<(), Fail> {
+    let mut later = Vec::new(rt.alloc());
+    later.push(Attribute::Dim)?;
+    later.push(Attribute::Bold)?;
+    let cell = Cell::new(rt.alloc(), "x")?
+        .add_attribute(Attribute::Underlined)?
+        .add_attributes(later)?;
+    let wanted = [Attribute::Underlined, Attribute::Dim, Attribute::Bold];
+    assert_eq!(rt; cell.attributes(), wanted.as_slice());
     Ok(())
 }
 

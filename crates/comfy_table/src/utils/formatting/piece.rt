@@ -23,7 +23,7 @@ pub fn push_piece(
     ensures { OnOk result (string_bytes text.new ≡ string_bytes text.old ++ piece table.now cell.now info.now line.now) }
 {
     let (left, right) = spaces_beside(cell, info, line.width(text)?);
-    if !table.writes_styles() {
+    if !table.should_style() {
         return push_padded(text, left, line, right);
     }
     if table.style_text_only {

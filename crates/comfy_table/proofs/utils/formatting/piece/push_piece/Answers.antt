@@ -5,8 +5,8 @@ use Rattle.comfy_table.specs.Styling.{style_begin, style_end}
 use Rattle.comfy_table.specs.TableValue.{TableValue, should_style}
 use Rattle.comfy_table.proofs.utils.formatting.piece.push_piece.Goals as goal
 
-pub returns-then-not-writes_styles : goal.returns-then-not-writes_styles
-returns-then-not-writes_styles c =
+pub returns-then-not-should_style : goal.returns-then-not-should_style
+returns-then-not-should_style c =
     let off : should_style c.args.table.now ≡ false = search rules in
     let left = rw c.in_ok-width.ensures.value at c.spaces_beside-left.ensures.left in
     let right = rw c.in_ok-width.ensures.value at c.spaces_beside-left.ensures.right in

@@ -1,0 +1,98 @@
+//! Colours and attributes by their names.
+
+use crate::fault::{Fault, Result};
+use comfy_table::{Attribute, Color};
+
+/// A colour: one of the names, `Rgb:R,G,B` or `Ansi:N`.
+pub fn color(word: &str) -> Result<Color> {
+    match word.split_once(':') {
+        Some(("Rgb", parts)) => rgb(parts),
+        Some(("Ansi", number)) => Ok(Color::AnsiValue(byte(number)?)),
+        Some(_) => Err(Fault::NotRead("a colour isn't known")),
+        None => named_color(word),
+    }
+}
+
+fn rgb(word: &str) -> Result<Color> {
+    let not_three = Fault::NotRead("a colour has three parts");
+    let (red, rest) = word.split_once(',').ok_or(not_three)?;
+    let (green, blue) = rest.split_once(',').ok_or(not_three)?;
+    Ok(Color::Rgb {
+        r: byte(red)?,
+        g: byte(green)?,
+        b: byte(blue)?,
+    })
+}
+
+fn byte(word: &str) -> Result<u8> {
+    word.parse::<u8>()
+        .map_err(|_| Fault::NotRead("a number isn't of 0 to 255"))
+}
+
+fn named_color(word: &str) -> Result<Color> {
+    let color = match word {
+        "Reset" => Color::Reset,
+        "Black" => Color::Black,
+        "DarkGrey" => Color::DarkGrey,
+        "Red" => Color::Red,
+        "DarkRed" => Color::DarkRed,
+        "Green" => Color::Green,
+        "DarkGreen" => Color::DarkGreen,
+        "Yellow" => Color::Yellow,
+        "DarkYellow" => Color::DarkYellow,
+        "Blue" => Color::Blue,
+        "DarkBlue" => Color::DarkBlue,
+        "Magenta" => Color::Magenta,
+        "DarkMagenta" => Color::DarkMagenta,
+        "Cyan" => Color::Cyan,
+        "DarkCyan" => Color::DarkCyan,
+        "White" => Color::White,
+        "Grey" => Color::Grey,
+        _ => return Err(Fault::NotRead("a colour isn't known")),
+    };
+    Ok(color)
+}
+
+/// An attribute by its name.
+pub fn attribute(word: &str) -> Result<Attribute> {
+    let attribute = match word {
+        "Reset" => Attribute::Reset,
+        "Bold" => Attribute::Bold,
+        "Dim" => Attribute::Dim,
+        "Italic" => Attribute::Italic,
+        "Underlined" => Attribute::Underlined,
+        "DoubleUnderlined" => Attribute::DoubleUnderlined,
+        "Undercurled" => Attribute::Undercurled,
+        "Underdotted" => Attribute::Underdotted,
+        "Underdashed" => Attribute::Underdashed,
+        "SlowBlink" => Attribute::SlowBlink,
+        "RapidBlink" => Attribute::RapidBlink,
+        "Reverse" => Attribute::Reverse,
+        "Hidden" => Attribute::Hidden,
+        "CrossedOut" => Attribute::CrossedOut,
+        _ => return ending(word),
+    };
+    Ok(attribute)
+}
+
+// an attribute of the second half of the enumeration
+fn ending(word: &str) -> Result<Attribute> {
+    let attribute = match word {
+        "Fraktur" => Attribute::Fraktur,
+        "NoBold" => Attribute::NoBold,
+        "NormalIntensity" => Attribute::NormalIntensity,
+        "NoItalic" => Attribute::NoItalic,
+        "NoUnderline" => Attribute::NoUnderline,
+        "NoBlink" => Attribute::NoBlink,
+        "NoReverse" => Attribute::NoReverse,
+        "NoHidden" => Attribute::NoHidden,
+        "NotCrossedOut" => Attribute::NotCrossedOut,
+        "Framed" => Attribute::Framed,
+        "Encircled" => Attribute::Encircled,
+        "OverLined" => Attribute::OverLined,
+        "NotFramedOrEncircled" => Attribute::NotFramedOrEncircled,
+        "NotOverLined" => Attribute::NotOverLined,
+        _ => return Err(Fault::NotRead("an attribute isn't known")),
+    };
+    Ok(attribute)
+}
