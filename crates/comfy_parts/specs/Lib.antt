@@ -3,6 +3,8 @@ pub mod CellEquality
 pub mod CellValue
 pub mod Comparisons
 pub mod Following
+pub mod Items
+pub mod ItemsGiven
 pub mod Laws
 pub mod Presets
 pub mod RowLoans

@@ -10,7 +10,7 @@ mod text_lines;
 
 use crate::error::Result;
 use crate::style::{Attribute, CellAlignment, Color};
-use std::alloc::Global;
+use std::alloc::{AllocError, Global};
 use std::fmt::Display;
 use std::hash::{Hash, Hasher};
 use std::marker::Model;
@@ -176,6 +176,22 @@ impl Cell {
         ensures { result.now ≡ self.now.attributes }
     {
         self.attributes.as_slice()
+    }
+}
+
+// A copy has the same value, in memory of its own.
+impl Clone for Cell {
+    ghost is_clone = { λ source copy. copy ≡ source };
+
+    fn clone(&self) -> std::result::Result<Cell, AllocError> {
+        Ok(Cell {
+            text_lines: self.text_lines.clone()?,
+            delimiter: self.delimiter,
+            alignment: self.alignment,
+            foreground: self.foreground,
+            background: self.background,
+            attributes: self.attributes.clone()?,
+        })
     }
 }
 

@@ -3,11 +3,13 @@
 ghost use Rattle.std.specs.Prelude.{◌≡◌, IfOk, List, map, string_bytes};
 ghost use Rattle.comfy_parts.specs.CellValue.{CellValue, RowValue, bool_cell, char_cell, plain_cell, plain_row};
 
+mod items;
 mod numbers;
 
 use crate::cell::Cell;
 use crate::error::Result;
 use crate::row::Row;
+pub use items::Items;
 use std::alloc::Global;
 
 /// A value that a cell can be made of: a text, a whole number, a truth value, a character, or a cell.

@@ -15,6 +15,6 @@ pub mod style;
 
 pub use cell::Cell;
 pub use column::Column;
-pub use convert::{Cells, IntoCell, IntoCells, IntoRow};
+pub use convert::{Cells, IntoCell, IntoCells, IntoRow, Items};
 pub use error::{Result, TableError};
 pub use row::Row;

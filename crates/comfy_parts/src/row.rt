@@ -12,7 +12,7 @@ ghost use Rattle.comfy_parts.specs.RowLoans.{RowStaysIfErr};
 use crate::cell::Cell;
 use crate::convert::Cells;
 use crate::error::Result;
-use std::alloc::Global;
+use std::alloc::{AllocError, Global};
 use std::marker::Model;
 use std::slice;
 
@@ -124,6 +124,18 @@ impl Row {
         ensures runs { IterYieldsInOrder CellValue }
     {
         self.cells.iter()
+    }
+}
+
+// A copy has the same value, in memory of its own.
+impl Clone for Row {
+    ghost is_clone = { λ source copy. copy ≡ source };
+
+    fn clone(&self) -> std::result::Result<Row, AllocError> {
+        Ok(Row {
+            cells: self.cells.clone()?,
+            max_height: self.max_height,
+        })
     }
 }
 

@@ -15,6 +15,7 @@ pub mod Lines
 pub mod LongestLine
 pub mod Output
 pub mod Pieces
+pub mod Predicate
 pub mod Styling
 pub mod TableLaws
 pub mod TableLoans

@@ -32,3 +32,8 @@ LendsColumns t it =
 -- the row at i is the last one written, and nothing else changes
 abbrev pub LendsRow : MutBor TableValue → ℕ → Option (MutBor RowValue) → Fml
 LendsRow t i r = LendsIf table.the_row row.the_row t r (λ c. record t.now { rows = slice_set t.now.rows i c }) t.now
+
+-- the rows are the last ones written, and nothing else changes
+abbrev pub LendsRows : MutBor TableValue → IterMut RowValue → Fml
+LendsRows t it =
+    follows table.the_row (Array row.the_row 0) t.ghost_name (iter_mut_name it) (λ (rs : List RowValue). record t.now { rows = refill (length t.now.rows) t.now.rows rs })

@@ -77,18 +77,17 @@ abbrev pub HasWholeTexts : TableValue → Type 0
 HasWholeTexts table =
     All (λ (row : RowValue). All (λ (cell : CellValue). All IsUtf8 cell.text_lines) row.cells) (header_and_rows table)
 
+-- the greatest number of cells that a row has
+abbrev pub greatest_cell_count : List RowValue → ℕ
+greatest_cell_count rows = greatest (map (λ (row : RowValue). length row.cells) rows)
+
 -- the columns grow to the cells of each row
 abbrev pub discovered : TableValue → TableValue
-discovered table =
-    record table { columns = columns_grown_to (greatest (map (λ (row : RowValue). length row.cells) table.rows)) table.columns }
+discovered table = record table { columns = columns_grown_to (greatest_cell_count table.rows) table.columns }
 
--- how many columns there are, once the columns grew to the cells of each row
-abbrev pub discovered_count : TableValue → ℕ
-discovered_count table = length (discovered table).columns
-
--- then each cell of a row has a column
+-- each cell of a row has a column
 abbrev pub AllCellsHaveColumns : TableValue → Type 0
-AllCellsHaveColumns table = All (λ (row : RowValue). length row.cells ≤ discovered_count table) table.rows
+AllCellsHaveColumns table = All (λ (row : RowValue). length row.cells ≤ length table.columns) table.rows
 
 -- the i-th constraint goes to the i-th column: superfluous ones are ignored, and further columns keep theirs
 abbrev pub constrained : List ColumnConstraint → List ColumnValue → List ColumnValue
@@ -96,9 +95,13 @@ constrained [] columns = columns
 constrained (constraint ∷ more) [] = []
 constrained (constraint ∷ more) (column ∷ columns) = record column { constraint = Some constraint } ∷ constrained more columns
 
--- the cell at position i of each row, where there is one
+-- the cell at position i of each of these rows, where there is one
+abbrev pub cells_at : List RowValue → ℕ → List (Option CellValue)
+cells_at rows i = map (λ (row : RowValue). slice_get row.cells i) rows
+
+-- that of each row of a table
 abbrev pub cells_by_row : TableValue → ℕ → List (Option CellValue)
-cells_by_row table i = map (λ (row : RowValue). slice_get row.cells i) table.rows
+cells_by_row table i = cells_at table.rows i
 
 -- the same behind that of the header, none where there is no header
 abbrev pub cells_with_header : TableValue → ℕ → List (Option CellValue)

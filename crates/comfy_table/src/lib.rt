@@ -13,8 +13,10 @@ pub use comfy_parts::style::{
     LineStyle, TableStyle, Width, presets,
 };
 pub use comfy_parts::{
-    Cell, Cells, Column, IntoCell, IntoCells, IntoRow, Result, Row, TableError, column, style,
+    Cell, Cells, Column, IntoCell, IntoCells, IntoRow, Items, Result, Row, TableError, column,
+    style,
 };
 pub use table::Table;
+pub use table::column_cells::ColumnCellIter;
 pub use table::output::Lines;
 pub use table::terminal::Terminal;

@@ -1,6 +1,6 @@
 //! A table: its header, its rows, its columns and its settings.
 
-ghost use Rattle.std.specs.Prelude.{◌≡◌, IfOk, OnOk, OnErr};
+ghost use Rattle.std.specs.Prelude.{◌≡◌, ◌≤◌, IfOk, IsOk, OnOk, OnErr, length};
 ghost use Rattle.std.specs.Borrow.{sem};
 ghost use Rattle.comfy_parts.specs.CellValue.{columns_grown_to};
 ghost use Rattle.comfy_parts.specs.Presets.{ascii_full};
@@ -9,15 +9,18 @@ ghost use Rattle.comfy_table.specs.TableLoans.{TableStaysIfErr};
 ghost use Rattle.comfy_table.specs.TableValue.{new_table, with_header, with_row};
 
 mod access;
+pub mod column_cells;
+mod columns;
 pub(crate) mod content;
 pub mod output;
+mod rows;
 mod settings;
 pub mod terminal;
 
 use comfy_parts::style::presets::ASCII_FULL;
 use comfy_parts::style::{ContentArrangement, TableStyle};
 use comfy_parts::{Column, IntoRow, Result, Row, TableError};
-use std::alloc::Global;
+use std::alloc::{AllocError, Global};
 use std::marker::Model;
 use terminal::Terminal;
 
@@ -157,6 +160,30 @@ impl Table {
     }
 }
 
+// A copy has the same value, in memory of its own.
+impl Clone for Table {
+    ghost is_clone = { λ source copy. copy ≡ source };
+
+    fn clone(&self) -> std::result::Result<Table, AllocError> {
+        Ok(Table {
+            columns: self.columns.clone()?,
+            header: self.header.clone()?,
+            rows: self.rows.clone()?,
+            style: self.style,
+            arrangement: self.arrangement,
+            delimiter: self.delimiter,
+            indicator: self.indicator.clone()?,
+            set_width: self.set_width,
+            terminal: self.terminal,
+            no_tty: self.no_tty,
+            use_stderr: self.use_stderr,
+            enforce_styling: self.enforce_styling,
+            style_text_only: self.style_text_only,
+            custom_styling: self.custom_styling,
+        })
+    }
+}
+
 // A mutable reference to a table, in a struct of its own.
 struct TableReference<'a> {
     table: &'a mut Table,
@@ -179,6 +206,7 @@ fn into_reference<'a>(changed: Result<TableReference<'a>>) -> Result<&'a mut Tab
 fn grow_columns(columns: &mut Vec<Column>, count: usize) -> Result<()>
     ensures ok { OnOk result (columns.new.items ≡ columns_grown_to count columns.old.items) }
     ensures err { OnErr result (columns.new.items ≡ columns.old.items) }
+    ensures succeeds { count ≤ length columns.old.items → IsOk result }
 {
     let have = columns.len();
     let missing = count.saturating_sub(have);

@@ -6,7 +6,7 @@ ghost use Rattle.comfy_parts.specs.Text.{measure};
 
 use crate::content_split::measure_text_width;
 use crate::error::Result;
-use std::alloc::Global;
+use std::alloc::{AllocError, Global};
 use std::marker::Model;
 use std::slice;
 
@@ -81,5 +81,32 @@ impl TextLines {
             Lines::One { width, .. } => slice::from_ref(width),
             Lines::Several(several) => several.widths.as_slice(),
         }
+    }
+}
+
+// A copy has the same lines, in memory of its own.
+impl Clone for TextLines {
+    ghost is_clone = { λ source copy. copy ≡ source };
+
+    fn clone(&self) -> std::result::Result<TextLines, AllocError> {
+        let lines = match &self.lines {
+            Lines::One { text, width } => Lines::One {
+                text: text.clone()?,
+                width: *width,
+            },
+            Lines::Several(several) => Lines::Several(several.clone()?),
+        };
+        Ok(TextLines { lines })
+    }
+}
+
+impl Clone for SeveralLines {
+    ghost is_clone = { λ source copy. (map string_bytes copy.texts.items ≡ map string_bytes source.texts.items) × (copy.widths.items ≡ source.widths.items) };
+
+    fn clone(&self) -> std::result::Result<SeveralLines, AllocError> {
+        Ok(SeveralLines {
+            texts: self.texts.clone()?,
+            widths: self.widths.clone()?,
+        })
     }
 }

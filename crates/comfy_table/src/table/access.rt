@@ -4,8 +4,8 @@ ghost use Rattle.std.specs.Prelude.{◌≡◌, ◌<◌, ◌==◌, ◌↔◌, IfS
 ghost use Rattle.std.specs.Borrow.{sem};
 ghost use Rattle.std.specs.Iterator.Adapters.{IterMutYieldsInOrder, IterYieldsInOrder};
 ghost use Rattle.std.specs.Slice.Iter.{iter_mut_rest, iter_rest};
-ghost use Rattle.comfy_parts.specs.CellValue.{ColumnValue};
-ghost use Rattle.comfy_table.specs.TableLoans.{LendsColumn, LendsColumns, LendsRow};
+ghost use Rattle.comfy_parts.specs.CellValue.{ColumnValue, RowValue};
+ghost use Rattle.comfy_table.specs.TableLoans.{LendsColumn, LendsColumns, LendsRow, LendsRows};
 
 use crate::table::Table;
 use comfy_parts::{Column, Row};
@@ -24,6 +24,13 @@ impl Table {
         ensures { result ≡ (length self.now.rows == 0) }
     {
         self.rows.is_empty()
+    }
+
+    /// The header, where one is set.
+    pub fn header(&self) -> Option<&Row>
+        ensures { option_copied result ≡ self.now.header }
+    {
+        self.header.as_ref()
     }
 
     /// The column at a position, counted from 0; none past the last.
@@ -61,6 +68,13 @@ impl Table {
         self.columns.iter_mut()
     }
 
+    /// The row at a position, counted from 0 and without the header; none past the last.
+    pub fn row(&self, index: usize) -> Option<&Row>
+        ensures { option_copied result ≡ slice_get self.now.rows index }
+    {
+        self.rows.get(index)
+    }
+
     /// The row at a position, counted from 0 and without the header, to be changed; none past the last. What is written
     /// through it changes that row, and nothing else of the table: a cell past the last column isn't drawn.
     pub fn row_mut(&mut self, index: usize) -> Option<&mut Row>
@@ -69,5 +83,23 @@ impl Table {
         ensures value { IfSome result (λ row. row.now ≡ slice_index_or self.old.rows index row.now) }
     {
         self.rows.get_mut(index)
+    }
+
+    /// The rows in order, without the header.
+    pub fn row_iter(&self) -> slice::Iter<'_, Row>
+        ensures rest { iter_rest result ≡ self.now.rows }
+        ensures runs { IterYieldsInOrder RowValue }
+    {
+        self.rows.iter()
+    }
+
+    /// The rows in order and without the header, to be changed. What is written through them changes these rows, and
+    /// nothing else of the table: a cell past the last column isn't drawn.
+    pub fn row_iter_mut(&mut self) -> slice::IterMut<'_, Row>
+        ensures* lent { sem 𝓛 (LendsRows self.entry result) }
+        ensures rest { iter_mut_rest result ≡ self.old.rows }
+        ensures runs { IterMutYieldsInOrder RowValue }
+    {
+        self.rows.iter_mut()
     }
 }

@@ -1,0 +1,112 @@
+//! Several rows added at once, and rows added on a condition.
+
+ghost use Rattle.std.specs.Prelude.{◌≡◌, Bool, true, IfOk, OnOk, OnErr, if◌then◌else◌, length, map};
+ghost use Rattle.comfy_table.specs.Predicate.{Answers};
+ghost use Rattle.comfy_table.specs.TableValue.{IsWithRowsBeforeOne, with_row, with_rows};
+
+use crate::table::Table;
+use comfy_parts::{IntoRow, Items, Result};
+
+impl Table {
+    /// Appends rows in their order, each as `add_row` does. Returns the table for further calls. After `OutOfMemory` it
+    /// has the rows before the refused one, which is dropped with those behind it; a caller's own proof can use that of
+    /// `try_add_rows` only.
+    pub fn add_rows<I>(&mut self, rows: I) -> Result<&mut Self>
+    where
+        I: Items,
+        I::Item: IntoRow,
+        I::IntoIter: Drop,
+        ensures same_reference { IfOk result (λ table. table.ghost_name ≡ self.entry.ghost_name) }
+        ensures added { IfOk result (λ table. table.now ≡ with_rows (map I.Item.row_of (I.items_of rows)) self.old) }
+    {
+        self.try_add_rows(rows)?;
+        Ok(self)
+    }
+
+    /// Asks the predicate once, with the number of rows and the row. On yes it appends the row as `add_row` does; on no it
+    /// changes nothing and takes no memory, and the row is dropped. Returns the table for further calls. After
+    /// `OutOfMemory` the table is unchanged; a caller's own proof can use that of `try_add_row_if` only.
+    pub fn add_row_if<P, T>(&mut self, predicate: P, row: T) -> Result<&mut Self>
+    where
+        P: Fn(usize, &T) -> bool + Drop,
+        T: IntoRow,
+        requires { P.IsAlwaysCallable predicate }
+        ensures same_reference { IfOk result (λ table. table.ghost_name ≡ self.entry.ghost_name) }
+        ensures asked { IfOk result (λ table. (yes : Bool) × Answers P.Fn predicate (length self.old.rows) row yes × (table.now ≡ (if yes then with_row (T.row_of row) self.old else self.old))) }
+        ensures refused_on_yes { OnErr result (Answers P.Fn predicate (length self.old.rows) row true) }
+    {
+        self.try_add_row_if(predicate, row)?;
+        Ok(self)
+    }
+
+    /// Asks the predicate once, with the number of rows and the new rows. On yes it appends them as `add_rows` does; on no
+    /// it changes nothing and takes no memory, and they are dropped. Returns the table for further calls. After
+    /// `OutOfMemory` it has the rows before the refused one; a caller's own proof can use that of `try_add_rows_if` only.
+    pub fn add_rows_if<P, I>(&mut self, predicate: P, rows: I) -> Result<&mut Self>
+    where
+        P: Fn(usize, &I) -> bool + Drop,
+        I: Items + Drop,
+        I::Item: IntoRow,
+        I::IntoIter: Drop,
+        requires { P.IsAlwaysCallable predicate }
+        ensures same_reference { IfOk result (λ table. table.ghost_name ≡ self.entry.ghost_name) }
+        ensures asked { IfOk result (λ table. (yes : Bool) × Answers P.Fn predicate (length self.old.rows) rows yes × (table.now ≡ (if yes then with_rows (map I.Item.row_of (I.items_of rows)) self.old else self.old))) }
+        ensures refused_on_yes { OnErr result (Answers P.Fn predicate (length self.old.rows) rows true) }
+    {
+        self.try_add_rows_if(predicate, rows)?;
+        Ok(self)
+    }
+
+    /// Appends rows in their order, each as `add_row` does. This is for callers that go on with the table after
+    /// `OutOfMemory`: then it has the rows before the refused one, with the columns that these made, and no other, and the
+    /// caller's own proof can use that.
+    pub fn try_add_rows<I>(&mut self, rows: I) -> Result<()>
+    where
+        I: Items,
+        I::Item: IntoRow,
+        I::IntoIter: Drop,
+        ensures ok { OnOk result (self.new ≡ with_rows (map I.Item.row_of (I.items_of rows)) self.old) }
+        ensures err { OnErr result (IsWithRowsBeforeOne (map I.Item.row_of (I.items_of rows)) self.old self.new) }
+    {
+        for row in rows {
+            self.try_add_row(row)?;
+        }
+        Ok(())
+    }
+
+    /// Asks the predicate once, with the number of rows and the row, and appends the row on yes. This is for callers that
+    /// go on with the table after `OutOfMemory`, which comes on yes alone: then the table is unchanged, and the caller's
+    /// own proof can use that.
+    pub fn try_add_row_if<P, T>(&mut self, predicate: P, row: T) -> Result<()>
+    where
+        P: Fn(usize, &T) -> bool + Drop,
+        T: IntoRow,
+        requires { P.IsAlwaysCallable predicate }
+        ensures ok { OnOk result ((yes : Bool) × Answers P.Fn predicate (length self.old.rows) row yes × (self.new ≡ (if yes then with_row (T.row_of row) self.old else self.old))) }
+        ensures err { OnErr result (Answers P.Fn predicate (length self.old.rows) row true × (self.new ≡ self.old)) }
+    {
+        if !predicate(self.row_count(), &row) {
+            return Ok(());
+        }
+        self.try_add_row(row)
+    }
+
+    /// Asks the predicate once, with the number of rows and the new rows, and appends them on yes. This is for callers that
+    /// go on with the table after `OutOfMemory`, which comes on yes alone: then it has the rows before the refused one, and
+    /// no other, and the caller's own proof can use that.
+    pub fn try_add_rows_if<P, I>(&mut self, predicate: P, rows: I) -> Result<()>
+    where
+        P: Fn(usize, &I) -> bool + Drop,
+        I: Items + Drop,
+        I::Item: IntoRow,
+        I::IntoIter: Drop,
+        requires { P.IsAlwaysCallable predicate }
+        ensures ok { OnOk result ((yes : Bool) × Answers P.Fn predicate (length self.old.rows) rows yes × (self.new ≡ (if yes then with_rows (map I.Item.row_of (I.items_of rows)) self.old else self.old))) }
+        ensures err { OnErr result (Answers P.Fn predicate (length self.old.rows) rows true × IsWithRowsBeforeOne (map I.Item.row_of (I.items_of rows)) self.old self.new) }
+    {
+        if !predicate(self.row_count(), &rows) {
+            return Ok(());
+        }
+        self.try_add_rows(rows)
+    }
+}
