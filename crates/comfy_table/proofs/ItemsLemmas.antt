@@ -1,5 +1,5 @@
 -- What was taken from an iterator that gives some items.
-use Rattle.std.specs.Prelude.{◌≡◌, ◌<◌, ◌++◌, ◌∷◌, [], ℕ, List, Option, Some, None, length, map, take}
+use Rattle.std.specs.Prelude.{◌≡◌, ◌<◌, ◌++◌, ◌∷◌, [], ℕ, List, Option, Some, length, take}
 use Rattle.std.specs.Iterator.{AlwaysYields, Count, Drains, Yields}
 use Rattle.std.proofs.Common.{◌∙◌, ap, sym, arith}
 use Rattle.std.proofs.Math.Seq.{take-append_seam}

@@ -71,6 +71,7 @@ impl Builder {
             }
             "part" => set_part(self.alloc, self.table.style_mut(), words),
             "column" => self.set_column(words),
+            "late" => self.add_late_cell(words),
             "indicator" => self.set_indicator(first_or_empty(words)),
             _ => self.set_one(first, words),
         }
@@ -93,7 +94,8 @@ impl Builder {
                 self.table.set_content_arrangement(chosen);
                 Ok(())
             }
-            "late" | "discover" => Err(NO_CALL),
+            "discover" => Ok(self.table.discover_columns()?),
+            "custom_styling" => Err(NO_CALL),
             _ => self.set_terminal_facts(first, words),
         }
     }
@@ -136,6 +138,19 @@ impl Builder {
             set_on_column(self.alloc, column, setting)?;
         }
         Ok(())
+    }
+
+    // adds a cell to the last row where it lies in the table
+    fn add_late_cell(&mut self, words: &[&str]) -> Result<()> {
+        let cell = cell_of(self.alloc, words)?;
+        let last = self.table.row_count().saturating_sub(1);
+        match self.table.row_mut(last) {
+            Some(row) => {
+                row.add_cell(cell)?;
+                Ok(())
+            }
+            None => Err(Fault::NotRead("a late cell has no row")),
+        }
     }
 
     // gives the row begun last to the table

@@ -1,4 +1,4 @@
-use Rattle.std.proofs.Common.{rules, ◌≡◌, ◌<◌, map, take, length, ap, ◌∙◌, arith, sym}
+use Rattle.std.proofs.Common.{rules, map, ap, ◌∙◌, arith, sym}
 use Rattle.std.proofs.lemmas.List.{length-map, take-map}
 use Rattle.comfy_table.proofs.ItemsLemmas.{all_given, not_all_given}
 use Rattle.comfy_table.specs.TableValue.{IsWithRowsBeforeOne, with_rows}
