@@ -93,6 +93,10 @@ pub(crate) fn push_style_end(line: &mut String, cell: &Cell) -> Result<()>
 fn push_attributes(line: &mut String, given: &[Attribute]) -> Result<()>
     ensures { OnOk result (string_bytes line.new ≡ string_bytes line.old ++ attribute_sequences given.now) }
 {
+    // most cells have none
+    if given.is_empty() {
+        return Ok(());
+    }
     push_given(line, &ALL_ATTRIBUTES, given)
 }
 
@@ -108,11 +112,10 @@ fn push_given(line: &mut String, attributes: &[Attribute], given: &[Attribute]) 
     Ok(())
 }
 
-// Attributes are told apart by their codes, since no two share one
 fn has_attribute(given: &[Attribute], attribute: Attribute) -> bool
     ensures { result ≡ has_attribute given.now attribute }
 {
-    given.iter().any(|other| attribute_code(attribute) == attribute_code(*other))
+    given.iter().any(|other| attribute == *other)
 }
 
 fn push_sequence(line: &mut String, code: &str) -> Result<()>
