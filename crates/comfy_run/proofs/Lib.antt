@@ -1,3 +1,4 @@
+pub mod ArgumentLemmas
 pub mod DeviceLemmas
 pub mod InputLemmas
 pub mod ProgramLemmas

@@ -1,3 +1,4 @@
+pub mod Arguments
 pub mod Device
 pub mod DeviceLaws
 pub mod Input

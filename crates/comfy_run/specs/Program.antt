@@ -1,16 +1,9 @@
 -- What the program answers and reports, by the answer of its run.
-use Rattle.std.specs.Prelude.{◌≡◌, ℕ, Bool, false, List, [], ◌++◌, Option, Some, None, Result, Ok, Err, codes}
+use Rattle.std.specs.Prelude.{◌≡◌, ℕ, Bool, false, [], ◌++◌, Option, Some, Result, Ok, Err, codes}
 use Rattle.comfy_parts.specs.Text.{Text}
 use Rattle.comfy_parts.specs.declared.error.TableError.TheVariants.{OutOfMemory}
-use Rattle.comfy_run.specs.Run.{plain_settings}
 use Rattle.comfy_run.specs.declared.run.error.RunError.{RunError}
 use Rattle.comfy_run.specs.declared.run.error.RunError.TheVariants.{Read, Write, NotUtf8, Table}
-use Rattle.comfy_run.specs.declared.run.settings.Settings.{Settings}
-
--- the settings that these words ask for: without words the plain ones, and no others yet
-abbrev pub settings_for : {A : Type 0} → List A → Option Settings
-settings_for [] = Some plain_settings
-settings_for _ = None
 
 -- the line on other words
 abbrev pub usage_line : Text

@@ -8,7 +8,7 @@ use Rattle.comfy_run.specs.declared.run.error.RunError.{RunError}
 use Rattle.comfy_run.specs.declared.run.error.RunError.TheVariants.{Read, Write, NotUtf8, Table}
 use Rattle.comfy_run.specs.declared.run.settings.Settings.{Settings}
 
--- the settings that the program asks for: no width, contents alone decide, and the first preset
+-- the settings of the program without arguments: no width, contents alone decide, and the first preset
 abbrev pub plain_settings : Settings
 plain_settings = record { width = None; arrangement = Disabled; style = ascii_full }
 

@@ -1,5 +1,6 @@
 //! Reads a table from a source, and writes its drawing to a sink.
 
+mod arguments;
 mod command;
 mod device;
 mod error;

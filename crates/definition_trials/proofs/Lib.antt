@@ -1,3 +1,4 @@
+mod ArgumentTrials
 mod DrawingTrials
 mod InputTrials
 mod OutcomeTrials

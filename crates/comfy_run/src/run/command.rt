@@ -1,13 +1,14 @@
 //! The program: what it does for the words after its name, and what it says.
 
 ghost use Rattle.std.specs.Prelude.{◌≡◌, List, None, Some, Result};
-ghost use Rattle.comfy_run.specs.Program.{usage_line, error_line, settings_for, status_of, report_of, Reports};
+ghost use Rattle.comfy_run.specs.Arguments.{settings_for};
+ghost use Rattle.comfy_run.specs.Program.{usage_line, error_line, status_of, report_of, Reports};
 ghost use Rattle.comfy_run.specs.Run.{Between, IsAfter};
 ghost use Rattle.comfy_run.specs.declared.run.settings.Settings.{Settings};
 
+use crate::run::arguments::settings_of;
 use crate::run::device::{Sink, Source};
 use crate::run::error::RunError;
-use crate::run::settings::settings_of;
 use crate::run::transfer::{run, write_all};
 use comfy_table::TableError;
 use std::alloc::Global;
@@ -21,6 +22,9 @@ const MISUSED: u8 = 2;
 
 /// Draws the table of the source, as the words after the program's name ask for, and returns the
 /// status that the program ends with.
+///
+/// The words are `[WIDTH|- [disabled|dynamic|full [STYLE]]]`: the table's width, or a hyphen for none,
+/// the arrangement of its columns, and the name of a preset.
 ///
 /// The status is 0 where all was written; then `messages` is left as it was. It is 1 after an error,
 /// and 2 where the words ask for nothing that is known; the source isn't read then. A line written to

@@ -1,9 +1,5 @@
-//! How the table of an input is drawn, and the words that say so.
+//! How the table of an input is drawn.
 
-ghost use Rattle.std.specs.Prelude.{◌≡◌};
-ghost use Rattle.comfy_run.specs.Program.{settings_for};
-
-use comfy_table::presets::ASCII_FULL;
 use comfy_table::{ContentArrangement, TableStyle};
 
 /// How the table of an input is drawn.
@@ -16,19 +12,4 @@ pub struct Settings {
     pub arrangement: ContentArrangement,
     /// The characters of the frame.
     pub style: TableStyle,
-}
-
-/// The settings that the words after the program's name ask for, or none where a word isn't known.
-/// No word is known yet, and without words they are the plain ones.
-pub fn settings_of(args: &[&str]) -> Option<Settings>
-    ensures { result ≡ settings_for args.now }
-{
-    if !args.is_empty() {
-        return None;
-    }
-    Some(Settings {
-        width: None,
-        arrangement: ContentArrangement::Disabled,
-        style: ASCII_FULL,
-    })
 }

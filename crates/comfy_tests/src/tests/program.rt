@@ -119,18 +119,72 @@ fn bytes_that_are_no_text_are_refused(rt: HostRuntime) -> Result<(), Fail> {
     Ok(())
 }
 
-// A source that fails at once shows that it isn't read.
+// Both words write the number 0, so each column has one terminal column for its content.
 #[test]
-fn words_are_refused_and_nothing_is_read(rt: HostRuntime) -> Result<(), Fail> {
-    for word in ["-", "", "20", "65536", "+5", "--help", "\u{fffd}"] {
-        let given = Given {
-            failing_read: 1,
-            ..sound(b"a\n")
-        };
-        assert_ends(&rt, &[word], given, (2, &[], &[USAGE]))?;
+fn a_table_keeps_to_a_width(rt: HostRuntime) -> Result<(), Fail> {
+    let drawn = [
+        "+---+---+",
+        "| a | c |",
+        "| b | d |",
+        "+=======+",
+        "+---+---+",
+    ];
+    for width in ["0", "000"] {
+        let words = [width, "dynamic"];
+        assert_ends(&rt, &words, sound(b"ab\tcd\n"), (0, &drawn, &[]))?;
     }
-    let words = ["-", "disabled", "ASCII_FULL", "-"];
-    assert_ends(&rt, &words, sound(b"a\n"), (2, &[], &[USAGE]))?;
+    assert_ends(&rt, &["000"], sound(b"a\tb\nc\td\n"), (0, &SMALL, &[]))?;
+    Ok(())
+}
+
+#[test]
+fn a_table_fills_a_width(rt: HostRuntime) -> Result<(), Fail> {
+    let drawn = ["+----+----+", "| a  | b  |", "+=========+", "+----+----+"];
+    assert_ends(&rt, &["11", "full"], sound(b"a\tb\n"), (0, &drawn, &[]))?;
+    Ok(())
+}
+
+#[test]
+fn a_style_is_named(rt: HostRuntime) -> Result<(), Fail> {
+    let drawn = [
+        "| Hello | there |", //
+        "|-------|-------|",
+        "| a     | b     |",
+    ];
+    let words = ["-", "disabled", "ASCII_MARKDOWN"];
+    assert_ends(
+        &rt,
+        &words,
+        sound(b"Hello\tthere\na\tb\n"),
+        (0, &drawn, &[]),
+    )?;
+    Ok(())
+}
+
+// Compares the usage line and the status. A source that fails at once shows that it isn't read.
+fn assert_refused(
+    rt: &(impl Abort + Alloc<A = Global>),
+    words: &[&str],
+) -> comfy_table::Result<()> {
+    let given = Given {
+        failing_read: 1,
+        ..sound(b"a\n")
+    };
+    assert_ends(rt, words, given, (2, &[], &[USAGE]))
+}
+
+#[test]
+fn other_widths_are_refused(rt: HostRuntime) -> Result<(), Fail> {
+    for word in ["", "65536", "000000", "+5", "--help", "\u{fffd}"] {
+        assert_refused(&rt, &[word])?;
+    }
+    Ok(())
+}
+
+#[test]
+fn other_words_are_refused(rt: HostRuntime) -> Result<(), Fail> {
+    assert_refused(&rt, &["20", "full", "FANCY"])?;
+    assert_refused(&rt, &["-", "disabled", "ASCII_FULL", "-"])?;
     Ok(())
 }
 
