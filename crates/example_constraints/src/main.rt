@@ -1,0 +1,35 @@
+//! Draws one table twice at a width of 44: as its columns share the room, and by constraints, one of which hides a column.
+#![tactic(auto)]
+
+use comfy_table::{ColumnConstraint, ContentArrangement, Table, Width};
+
+fn main(rt: HostRuntime) -> anyhow::Result<()> {
+    let mut books = Table::new(rt.alloc());
+    books
+        .set_content_arrangement(ContentArrangement::Dynamic)
+        .set_width(44);
+    books
+        .set_header(["Shelf", "Title", "Pages", "About"])?
+        .add_row(["A", "Emma", "474", "a matchmaker who errs"])?
+        .add_row(["B", "Walden", "352", "two years in the woods"])?;
+    println!(rt; "{}", books.to_text()?)?;
+
+    let constraints = [
+        ColumnConstraint::Hidden,
+        ColumnConstraint::LowerBoundary(Width::Fixed(12)),
+        ColumnConstraint::ContentWidth,
+        ColumnConstraint::Absolute(Width::Percentage(40)),
+    ];
+    set_constraints(&mut books, constraints);
+    println!(rt; "{}", books.to_text()?)?;
+    Ok(())
+}
+
+// gives each column the constraint at its position
+fn set_constraints(table: &mut Table, constraints: [ColumnConstraint; 4]) {
+    for (index, constraint) in constraints.into_iter().enumerate() {
+        if let Some(column) = table.column_mut(index) {
+            column.set_constraint(constraint);
+        }
+    }
+}

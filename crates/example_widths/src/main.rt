@@ -1,0 +1,31 @@
+//! Draws one table at the widths 20, 40 and 80: no line gets longer than the width, and texts are wrapped.
+#![tactic(auto)]
+
+use comfy_table::presets::UTF8_FULL;
+use comfy_table::{ContentArrangement, Result, Table};
+use std::alloc::Global;
+
+fn main(rt: HostRuntime) -> anyhow::Result<()> {
+    let mut forecast = forecast(rt.alloc())?;
+    forecast
+        .load_style(UTF8_FULL)
+        .set_content_arrangement(ContentArrangement::Dynamic);
+    for width in [20, 40, 80] {
+        forecast.set_width(width);
+        println!(rt; "{}", forecast.to_text()?)?;
+    }
+    Ok(())
+}
+
+fn forecast(alloc: Global) -> Result<Table> {
+    let days = [
+        ["Monday", "rain until noon, then sun and a light wind"],
+        ["Tuesday", "fog"],
+    ];
+    let mut table = Table::new(alloc);
+    table.set_header(["Day", "Weather"])?;
+    for day in days {
+        table.add_row(day)?;
+    }
+    Ok(table)
+}
