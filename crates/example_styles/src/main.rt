@@ -6,30 +6,35 @@ use comfy_table::{Cell, Result, Row, Table, TableStyle};
 use std::alloc::Global;
 
 fn main(rt: HostRuntime) -> anyhow::Result<()> {
-    let gallery = gallery(rt.alloc())?;
-    println!(rt; "{}", gallery.trim_fmt()?)?;
+    println!(rt; "{}", presets(rt.alloc())?)?;
+    println!(rt; "{}", changes(rt.alloc())?)?;
     Ok(())
 }
 
-fn gallery(alloc: Global) -> Result<Table> {
-    let solid = UTF8_FULL.with_solid_inner_borders();
-    let rows = [
-        (
-            ["ASCII_FULL", "ASCII_MARKDOWN", "UTF8_HORIZONTAL_ONLY"],
-            [ASCII_FULL, ASCII_MARKDOWN, UTF8_HORIZONTAL_ONLY],
-        ),
-        (
-            ["UTF8_FULL", "rounded corners", "solid inner borders"],
-            [UTF8_FULL, UTF8_FULL.with_rounded_corners(), solid],
-        ),
+fn presets(alloc: Global) -> Result<String> {
+    let names = ["ASCII_FULL", "ASCII_MARKDOWN", "UTF8_HORIZONTAL_ONLY"];
+    let styles = [ASCII_FULL, ASCII_MARKDOWN, UTF8_HORIZONTAL_ONLY];
+    gallery(alloc, names, styles)
+}
+
+fn changes(alloc: Global) -> Result<String> {
+    let names = ["UTF8_FULL", "rounded corners", "solid inner borders"];
+    let styles = [
+        UTF8_FULL,
+        UTF8_FULL.with_rounded_corners(),
+        UTF8_FULL.with_solid_inner_borders(),
     ];
+    gallery(alloc, names, styles)
+}
+
+// the small table in each style, drawn inside a table without lines
+fn gallery(alloc: Global, names: [&str; 3], styles: [TableStyle; 3]) -> Result<String> {
     let mut table = Table::new(alloc);
-    table.load_style(NOTHING);
-    for (names, styles) in rows {
-        table.add_row(names)?;
-        table.add_row(drawings(alloc, styles)?)?;
-    }
-    Ok(table)
+    table
+        .load_style(NOTHING)
+        .set_header(names)?
+        .add_row(drawings(alloc, styles)?)?;
+    table.trim_fmt()
 }
 
 // a cell for each style, with the small table in it
