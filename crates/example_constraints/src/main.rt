@@ -14,22 +14,12 @@ fn main(rt: HostRuntime) -> anyhow::Result<()> {
         .add_row(["B", "Walden", "352", "two years in the woods"])?;
     println!(rt; "{}", books.to_text()?)?;
 
-    let constraints = [
+    books.set_constraints([
         ColumnConstraint::Hidden,
         ColumnConstraint::LowerBoundary(Width::Fixed(12)),
         ColumnConstraint::ContentWidth,
         ColumnConstraint::Absolute(Width::Percentage(40)),
-    ];
-    set_constraints(&mut books, constraints);
+    ]);
     println!(rt; "{}", books.to_text()?)?;
     Ok(())
-}
-
-// gives each column the constraint at its position
-fn set_constraints(table: &mut Table, constraints: [ColumnConstraint; 4]) {
-    for (index, constraint) in constraints.into_iter().enumerate() {
-        if let Some(column) = table.column_mut(index) {
-            column.set_constraint(constraint);
-        }
-    }
 }

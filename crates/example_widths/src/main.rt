@@ -23,9 +23,6 @@ fn forecast(alloc: Global) -> Result<Table> {
         ["Tuesday", "fog"],
     ];
     let mut table = Table::new(alloc);
-    table.set_header(["Day", "Weather"])?;
-    for day in days {
-        table.add_row(day)?;
-    }
+    table.set_header(["Day", "Weather"])?.add_rows(days)?;
     Ok(table)
 }
