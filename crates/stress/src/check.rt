@@ -1,0 +1,164 @@
+//! What can be said of a drawing from outside.
+
+use crate::drawing::{Drawing, piece_at};
+use crate::sample::Sample;
+use comfy_table::{Cell, Column, ContentArrangement, Result, Row, Table};
+use std::alloc::Global;
+
+const INDICATOR: char = '…';
+
+/// What is wrong with the drawing of a sample, if anything is.
+pub fn fault_of(alloc: Global, sample: &Sample) -> Result<Option<&'static str>> {
+    let drawing = Drawing::of(alloc, &sample.table)?;
+    if !are_alike(drawing.frame_counts.as_slice()) {
+        return Ok(Some("frame lines have unlike counts"));
+    }
+    let frame = drawing.frame_counts.first().copied().unwrap_or(0);
+    if !keeps_to_width(&sample.table, frame) {
+        return Ok(Some("the width doesn't hold"));
+    }
+    if sample.is_plain
+        && !is_cut(&drawing)
+        && drawing.row_counts.iter().any(|count| *count != frame)
+    {
+        return Ok(Some("lines have unlike counts"));
+    }
+    if !keeps_texts(alloc, sample, &drawing)? {
+        return Ok(Some("a text is lost or changed"));
+    }
+    Ok(None)
+}
+
+fn are_alike(counts: &[usize]) -> bool {
+    match counts.first() {
+        Some(first) => counts.iter().all(|count| count == first),
+        None => true,
+    }
+}
+
+// whether a line was cut by a height limit
+fn is_cut(drawing: &Drawing) -> bool {
+    drawing.rows.iter().any(|row| row.iter().any(|line| line.as_str().contains(INDICATOR)))
+}
+
+// whether a frame line of so many characters keeps to the set width, where no constraint says otherwise
+fn keeps_to_width(table: &Table, count: usize) -> bool {
+    let is_free = table.column_iter().all(|column| column.is_hidden()
+        || column.constraint().is_none());
+    let Some(width) = table.width() else {
+        return true;
+    };
+    let (visible, least) = least_total(table);
+    let bound = least.max(usize::from(width));
+    match table.content_arrangement() {
+        ContentArrangement::Disabled => true,
+        _ if !is_free => true,
+        ContentArrangement::Dynamic => count <= bound,
+        ContentArrangement::DynamicFullWidth => visible == 0 || count == bound,
+    }
+}
+
+// how many columns are visible, and their borders, paddings and one character for each
+fn least_total(table: &Table) -> (usize, usize) {
+    let mut visible: usize = 0;
+    let mut total: usize = 1;
+    for column in table.column_iter() {
+        if !column.is_hidden() {
+            visible = visible.saturating_add(1);
+            total = total
+                .saturating_add(2)
+                .saturating_add(usize::from(column.padding_width()));
+        }
+    }
+    (visible, total.max(2))
+}
+
+// whether the cells of each row have the characters of their texts, in order and but for spaces and delimiters
+fn keeps_texts(alloc: Global, sample: &Sample, drawing: &Drawing) -> Result<bool> {
+    // the first frame line ends no row
+    let mut drawn = drawing.rows.iter().skip(1);
+    if let Some(header) = sample.table.header() {
+        let lines = drawn.next().map_or(&[] as &[String], |row| row.as_slice());
+        if !keeps_row(alloc, sample, header, lines)? {
+            return Ok(false);
+        }
+    }
+    for row in sample.table.row_iter() {
+        let lines = drawn.next().map_or(&[] as &[String], |row| row.as_slice());
+        if !keeps_row(alloc, sample, row, lines)? {
+            return Ok(false);
+        }
+    }
+    Ok(true)
+}
+
+fn keeps_row(alloc: Global, sample: &Sample, row: &Row, lines: &[String]) -> Result<bool> {
+    let mut cells = row.cell_iter();
+    let visible = sample.table.column_iter();
+    let mut place: usize = 0;
+    for column in visible {
+        let cell = cells.next();
+        if column.is_hidden() {
+            continue;
+        }
+        if let Some(cell) = cell {
+            let delimiter = delimiter_of(sample, column, cell);
+            let wanted = characters(alloc, delimiter, cell.content()?.as_str())?;
+            let found = characters_of_pieces(alloc, delimiter, lines, place)?;
+            if !is_as_wanted(
+                wanted.as_str(),
+                found.as_str(),
+                row.height_limit().is_some(),
+            ) {
+                return Ok(false);
+            }
+        }
+        place = place.saturating_add(1);
+    }
+    Ok(true)
+}
+
+// all of it, or a beginning where the row's height is limited
+fn is_as_wanted(wanted: &str, found: &str, is_limited: bool) -> bool {
+    if is_limited {
+        wanted.starts_with(found)
+    } else {
+        wanted == found
+    }
+}
+
+fn delimiter_of(sample: &Sample, column: &Column, cell: &Cell) -> char {
+    cell.cell_delimiter()
+        .or(column.column_delimiter())
+        .unwrap_or(sample.delimiter)
+}
+
+// the characters of the pieces of the visible column at a place
+fn characters_of_pieces(
+    alloc: Global,
+    delimiter: char,
+    lines: &[String],
+    place: usize,
+) -> Result<String> {
+    let mut found = String::new(alloc);
+    for line in lines {
+        let piece = characters(alloc, delimiter, piece_at(line.as_str(), place))?;
+        found.push_str(piece.as_str())?;
+    }
+    Ok(found)
+}
+
+// the characters of a text but for spaces, line feeds, delimiters, and the indicator of a cut
+fn characters(alloc: Global, delimiter: char, text: &str) -> Result<String> {
+    let mut kept = String::new(alloc);
+    for character in text.chars() {
+        let is_kept = character != ' '
+            && character != '\n'
+            && character != delimiter
+            && character != INDICATOR;
+        if is_kept {
+            kept.push(character)?;
+        }
+    }
+    Ok(kept)
+}

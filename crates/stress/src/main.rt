@@ -1,0 +1,46 @@
+//! Draws random tables of awkward texts, and looks at each drawing from outside. Standard input holds `SEED COUNT`: the
+//! same seed gives the same tables. Each fault is printed with the number of its table. Status 1 where there is one.
+#![tactic(auto)]
+
+mod check;
+mod drawing;
+mod sample;
+mod texts;
+
+use anyhow::Context;
+use rand_core::SeedableRng;
+use rand_pcg::Pcg32;
+use sample::Sample;
+use std::process::ExitCode;
+
+fn main(rt: HostRuntime) -> anyhow::Result<ExitCode> {
+    let (seed, count) = asked_for(&rt)?;
+    let mut rng = Pcg32::seed_from_u64(seed);
+    let mut faults: u64 = 0;
+    for number in 0..count {
+        let sample = Sample::new(rt.alloc(), &mut rng)?;
+        if let Some(fault) = check::fault_of(rt.alloc(), &sample)? {
+            println!(rt; "table {number}: {fault}")?;
+            faults = faults.saturating_add(1);
+        }
+    }
+    println!(rt; "{count} tables, {faults} faults")?;
+    if faults == 0 {
+        Ok(ExitCode::SUCCESS)
+    } else {
+        Ok(ExitCode::FAILURE)
+    }
+}
+
+// the seed, and how many tables
+fn asked_for(rt: &HostRuntime) -> anyhow::Result<(u64, u64)> {
+    for line in rt.lines(rt.alloc()) {
+        let line = line?;
+        let (seed, count) = line
+            .as_str()
+            .split_once(' ')
+            .context("SEED COUNT is wanted")?;
+        return Ok((seed.parse::<u64>()?, count.parse::<u64>()?));
+    }
+    Err(anyhow::anyhow!("SEED COUNT is wanted"))
+}

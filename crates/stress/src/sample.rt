@@ -1,0 +1,167 @@
+//! Random tables, built through the public surface.
+
+use crate::texts::{delimiter, once_in, text};
+use comfy_table::presets::UTF8_FULL;
+use comfy_table::{
+    Cell, CellAlignment, Column, ColumnConstraint, ContentArrangement, Result, Row, Table, Width,
+};
+use rand::RngExt;
+use rand::seq::IndexedRandom;
+use rand_core::Rng;
+use std::alloc::Global;
+use std::mem;
+
+const WIDTHS: [u16; 9] = [0, 1, 2, 3, 7, 12, 20, 35, 65535];
+
+const ARRANGEMENTS: [ContentArrangement; 3] = [
+    ContentArrangement::Disabled,
+    ContentArrangement::Dynamic,
+    ContentArrangement::DynamicFullWidth,
+];
+
+const ALIGNMENTS: [CellAlignment; 3] = [
+    CellAlignment::Left,
+    CellAlignment::Right,
+    CellAlignment::Center,
+];
+
+const PADDINGS: [(u16, u16); 4] = [(1, 1), (0, 0), (2, 0), (0, 3)];
+
+const CONSTRAINTS: [ColumnConstraint; 6] = [
+    ColumnConstraint::Hidden,
+    ColumnConstraint::ContentWidth,
+    ColumnConstraint::Absolute(Width::Fixed(5)),
+    ColumnConstraint::LowerBoundary(Width::Percentage(40)),
+    ColumnConstraint::UpperBoundary(Width::Fixed(4)),
+    ColumnConstraint::Boundaries {
+        lower: Width::Fixed(3),
+        upper: Width::Fixed(9),
+    },
+];
+
+/// A table, and what a reader of it can't ask for.
+#[derive(Drop)]
+pub struct Sample {
+    /// In the style `UTF8_FULL`, which no text and no delimiter has a character of.
+    pub table: Table,
+    /// The table's delimiter.
+    pub delimiter: char,
+    /// Whether texts and delimiters are printable ASCII.
+    pub is_plain: bool,
+}
+
+impl Sample {
+    /// A table of up to five rows and four columns.
+    pub fn new<R: Rng>(alloc: Global, rng: &mut R) -> Result<Sample> {
+        let is_plain = once_in(rng, 3);
+        let delimiter = delimiter(rng, is_plain);
+        let mut table = Table::new(alloc);
+        table.load_style(UTF8_FULL).set_delimiter(delimiter);
+        set_arrangement(rng, &mut table);
+        if !once_in(rng, 3) {
+            table.set_header(row(alloc, rng, is_plain)?)?;
+        }
+        for _ in 0..rng.random_range(0u32..6) {
+            table.add_row(row(alloc, rng, is_plain)?)?;
+        }
+        set_columns(rng, &mut table, is_plain);
+        if once_in(rng, 8) {
+            exchange_columns(&mut table);
+        }
+        if once_in(rng, 8) {
+            add_late_cell(alloc, rng, &mut table, is_plain)?;
+        }
+        Ok(Sample {
+            table,
+            delimiter,
+            is_plain,
+        })
+    }
+}
+
+fn set_arrangement<R: Rng>(rng: &mut R, table: &mut Table) {
+    if let Some(arrangement) = ARRANGEMENTS.choose(rng) {
+        table.set_content_arrangement(*arrangement);
+    }
+    if let Some(width) = WIDTHS.choose(rng) {
+        table.set_width(*width);
+    }
+}
+
+fn row<R: Rng>(alloc: Global, rng: &mut R, is_plain: bool) -> Result<Row> {
+    let mut row = Row::new(alloc);
+    for _ in 0..rng.random_range(0u32..5) {
+        row.add_cell(cell(alloc, rng, is_plain)?)?;
+    }
+    if once_in(rng, 6) {
+        row.max_height(rng.random_range(0usize..4));
+    }
+    Ok(row)
+}
+
+fn cell<R: Rng>(alloc: Global, rng: &mut R, is_plain: bool) -> Result<Cell> {
+    let mut cell = Cell::new_owned(alloc, text(alloc, rng, is_plain)?)?;
+    if once_in(rng, 6) {
+        cell = cell.set_delimiter(delimiter(rng, is_plain));
+    }
+    if let Some(alignment) = ALIGNMENTS.choose(rng) {
+        cell = cell.set_alignment(*alignment);
+    }
+    Ok(cell)
+}
+
+// most columns stay as they are, and in three tables of four none has a constraint but that it is hidden
+fn set_columns<R: Rng>(rng: &mut R, table: &mut Table, is_plain: bool) {
+    let is_free = !once_in(rng, 4);
+    for column in table.column_iter_mut() {
+        if let Some(padding) = PADDINGS.choose(rng) {
+            column.set_padding(*padding);
+        }
+        if once_in(rng, 5) {
+            column.set_delimiter(delimiter(rng, is_plain));
+        }
+        if once_in(rng, 5) {
+            let constraint = if is_free {
+                CONSTRAINTS.first()
+            } else {
+                CONSTRAINTS.choose(rng)
+            };
+            if let Some(constraint) = constraint {
+                column.set_constraint(*constraint);
+            }
+        }
+    }
+}
+
+// the first two columns in each other's place, with labels that say nothing
+fn exchange_columns(table: &mut Table) {
+    let Some(first) = table.column_mut(0) else {
+        return;
+    };
+    let first = mem::replace(first, Column::new(7));
+    let Some(second) = table.column_mut(1) else {
+        return;
+    };
+    let second = mem::replace(second, first);
+    if let Some(first) = table.column_mut(0) {
+        *first = second;
+    }
+    for column in table.column_iter_mut() {
+        column.index = 7;
+    }
+}
+
+// a cell in the last row that no column knows, or that a column of the other rows knows
+fn add_late_cell<R: Rng>(
+    alloc: Global,
+    rng: &mut R,
+    table: &mut Table,
+    is_plain: bool,
+) -> Result<()> {
+    let cell = cell(alloc, rng, is_plain)?;
+    let last = table.row_count().saturating_sub(1);
+    if let Some(row) = table.row_mut(last) {
+        row.add_cell(cell)?;
+    }
+    Ok(())
+}
