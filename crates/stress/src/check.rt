@@ -94,9 +94,8 @@ fn keeps_texts(alloc: Global, sample: &Sample, drawing: &Drawing) -> Result<bool
 
 fn keeps_row(alloc: Global, sample: &Sample, row: &Row, lines: &[String]) -> Result<bool> {
     let mut cells = row.cell_iter();
-    let visible = sample.table.column_iter();
     let mut place: usize = 0;
-    for column in visible {
+    for column in sample.table.column_iter() {
         let cell = cells.next();
         if column.is_hidden() {
             continue;
