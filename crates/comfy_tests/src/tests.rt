@@ -4,6 +4,7 @@ mod cells;
 mod conversions;
 mod counted;
 mod devices;
+mod extremes;
 mod program;
 mod support;
 mod tables;
