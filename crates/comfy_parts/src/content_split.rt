@@ -1,6 +1,6 @@
 //! The cutting of texts: what they measure, their heads, and the lines that they are wrapped into.
 
-ghost use Rattle.std.specs.Prelude.{◌≡◌, map, IfOk, string_bytes};
+ghost use Rattle.std.specs.Prelude.{◌≡◌, [], map, IfOk, IsOk, string_bytes};
 ghost use Rattle.comfy_parts.specs.Text.{elements};
 ghost use Rattle.comfy_parts.specs.Wrapping.{IsWrapped, wrapped};
 
@@ -60,6 +60,7 @@ pub fn split_line_ref<'a>(
 ) -> Result<Vec<&'a str>>
     ensures lines { IfOk result (λ v. map (λ x. x.now) v.items ≡ wrapped info.now.content_width delimiter line.now) }
     ensures slices { IfOk result (λ v. IsWrapped info.now.content_width delimiter line.now (map (λ x. x.now) v.items)) }
+    ensures succeeds { wrapped info.now.content_width delimiter line.now ≡ [] → IsOk result }
 {
     let mut lines = Vec::new(alloc);
     for part in wrapped_lines(line, info, delimiter) {
