@@ -1,0 +1,54 @@
+//! The calls of a cell.
+
+use crate::outcome::Outcome;
+use comfy_table::{Attribute, Cell, Color, Result};
+use std::alloc::Global;
+
+const TEXT: &str = "Now\nadd some\nmulti line stuff";
+
+/// What came of the call of this name.
+pub fn outcome_of(alloc: Global, call: &str) -> Result<Outcome> {
+    match call {
+        "new" => Ok(Outcome::of(Cell::new(alloc, TEXT).is_ok())),
+        "new_owned" => new_owned(alloc),
+        "add_attribute" => add_attribute(alloc),
+        "add_attributes" => add_attributes(alloc),
+        "content" | "clone" => borrowing(alloc, call),
+        _ => Ok(Outcome::Unknown),
+    }
+}
+
+fn new_owned(alloc: Global) -> Result<Outcome> {
+    let text = String::from_str(alloc, TEXT)?;
+    Ok(Outcome::of(Cell::new_owned(alloc, text).is_ok()))
+}
+
+fn add_attribute(alloc: Global) -> Result<Outcome> {
+    let cell = Cell::new(alloc, TEXT)?;
+    Ok(Outcome::of(cell.add_attribute(Attribute::Bold).is_ok()))
+}
+
+fn add_attributes(alloc: Global) -> Result<Outcome> {
+    let cell = Cell::new(alloc, TEXT)?;
+    let attributes = vec![in alloc; Attribute::Bold, Attribute::SlowBlink]?;
+    Ok(Outcome::of(cell.add_attributes(attributes).is_ok()))
+}
+
+// The calls that only read the cell: it stays as it is.
+fn borrowing(alloc: Global, call: &str) -> Result<Outcome> {
+    let cell = Cell::new(alloc, TEXT)?
+        .fg(Color::Green)
+        .set_delimiter('-')
+        .add_attribute(Attribute::Bold)?;
+    let copy = cell.clone()?;
+    let succeeded = if call == "clone" {
+        cell.clone().is_ok()
+    } else {
+        cell.content().is_ok()
+    };
+    if succeeded {
+        return Ok(Outcome::Succeeded);
+    }
+    let differs = cell != copy;
+    Ok(Outcome::refused(differs.then_some("the cell")))
+}

@@ -1,0 +1,69 @@
+//! What differs between two tables.
+
+use comfy_table::{Column, Result, Row, Table};
+
+/// The first part in which two tables differ, the drawing last; none where they are the same.
+pub fn difference(table: &Table, other: &Table) -> Result<Option<&'static str>> {
+    let difference = if !is_same_header(table, other) {
+        Some("the header")
+    } else if !are_same_rows(table, other) {
+        Some("the rows")
+    } else if !are_same_columns(table, other) {
+        Some("the columns")
+    } else if !are_same_settings(table, other) {
+        Some("the settings")
+    } else if table.to_text()? != other.to_text()? {
+        Some("the drawing")
+    } else {
+        None
+    };
+    Ok(difference)
+}
+
+/// Whether two rows have the same cells and the same greatest height.
+pub fn is_same_row(row: &Row, other: &Row) -> bool {
+    row.cell_iter().as_slice() == other.cell_iter().as_slice()
+        && row.height_limit() == other.height_limit()
+}
+
+fn is_same_header(table: &Table, other: &Table) -> bool {
+    match (table.header(), other.header()) {
+        (Some(header), Some(wanted)) => is_same_row(header, wanted),
+        (None, None) => true,
+        _ => false,
+    }
+}
+
+fn are_same_rows(table: &Table, other: &Table) -> bool {
+    for (row, wanted) in table.row_iter().zip(other.row_iter()) {
+        if !is_same_row(row, wanted) {
+            return false;
+        }
+    }
+    table.row_count() == other.row_count()
+}
+
+fn are_same_columns(table: &Table, other: &Table) -> bool {
+    for (column, wanted) in table.column_iter().zip(other.column_iter()) {
+        if !is_same_column(column, wanted) {
+            return false;
+        }
+    }
+    table.column_iter().len() == other.column_iter().len()
+}
+
+fn is_same_column(column: &Column, other: &Column) -> bool {
+    column.index == other.index
+        && column.padding() == other.padding()
+        && column.column_delimiter() == other.column_delimiter()
+        && column.column_alignment() == other.column_alignment()
+        && column.constraint() == other.constraint()
+}
+
+fn are_same_settings(table: &Table, other: &Table) -> bool {
+    table.style() == other.style()
+        && table.content_arrangement() == other.content_arrangement()
+        && table.width() == other.width()
+        && table.is_tty() == other.is_tty()
+        && table.should_style() == other.should_style()
+}

@@ -1,0 +1,78 @@
+//! Makes each call that standard input names, one a line, and prints what came of it. Where the call was refused its
+//! memory, it looks at what stands then.
+//!
+//! Status 1 where something is not as promised, or no call has a name. Status 3, with nothing printed, where memory was
+//! refused outside of the calls: then this run says nothing of them.
+#![tactic(auto)]
+
+mod borrowing;
+mod cells;
+mod changes;
+mod comparison;
+mod conversions;
+mod fixtures;
+mod outcome;
+mod rows;
+mod runs;
+mod several_rows;
+
+use comfy_table::Result;
+use outcome::Outcome;
+use std::alloc::Global;
+use std::io;
+use std::process::ExitCode;
+
+const NOT_TRIED: u8 = 3;
+
+fn main(rt: HostRuntime) -> io::Result<ExitCode> {
+    let Ok(names) = names(&rt) else {
+        return Ok(ExitCode::from(NOT_TRIED));
+    };
+    let mut status = ExitCode::SUCCESS;
+    for name in &names {
+        let name = name.as_str();
+        let Ok(outcome) = outcome_of(rt.alloc(), name) else {
+            return Ok(ExitCode::from(NOT_TRIED));
+        };
+        println!(rt; "{name}: {outcome}")?;
+        if !outcome.is_good() {
+            status = ExitCode::FAILURE;
+        }
+    }
+    Ok(status)
+}
+
+// The names on standard input. All of it is read before the first call, so that no call stands behind it.
+fn names(rt: &HostRuntime) -> io::Result<Vec<String>> {
+    let mut names = Vec::new(rt.alloc());
+    for line in rt.lines(rt.alloc()) {
+        names.push(line?)?;
+    }
+    Ok(names)
+}
+
+// What came of the call of a name. An error says that memory was refused outside of the call.
+fn outcome_of(alloc: Global, name: &str) -> Result<Outcome> {
+    match name.split_once("::") {
+        Some(("Cell", call)) => cells::outcome_of(alloc, call),
+        Some(("Row", call)) => rows::outcome_of(alloc, call),
+        Some(("Table", call)) => outcome_on_table(alloc, call),
+        Some(_) => conversions::outcome_of(alloc, name),
+        None => runs::outcome_of(alloc, name),
+    }
+}
+
+fn outcome_on_table(alloc: Global, call: &str) -> Result<Outcome> {
+    match call {
+        "add_rows" | "try_add_rows" | "add_rows_if" | "try_add_rows_if" => {
+            several_rows::outcome_of(alloc, call)
+        }
+        "clone"
+        | "column_max_content_widths"
+        | "lines"
+        | "to_text"
+        | "trim_fmt"
+        | "to_terminated_text" => borrowing::outcome_of(alloc, call),
+        _ => changes::outcome_of(alloc, call),
+    }
+}

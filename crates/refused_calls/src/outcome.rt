@@ -1,0 +1,51 @@
+//! What came of a call.
+
+use std::fmt::{self, Formatter, Write};
+
+/// What came of a call.
+#[derive(Clone, Copy, Debug)]
+pub enum Outcome {
+    /// It succeeded.
+    Succeeded,
+    /// It was refused its memory, and what stands then is as promised.
+    AsPromised,
+    /// It was refused its memory, and this is not as promised.
+    Broken(&'static str),
+    /// No call has this name.
+    Unknown,
+}
+
+impl Outcome {
+    /// What came of a call that promises nothing after a refusal, but that it says so.
+    pub fn of(succeeded: bool) -> Outcome {
+        if succeeded {
+            Outcome::Succeeded
+        } else {
+            Outcome::AsPromised
+        }
+    }
+
+    /// What came of a call that was refused, by what differs from the promise, if anything does.
+    pub fn refused(difference: Option<&'static str>) -> Outcome {
+        match difference {
+            Some(part) => Outcome::Broken(part),
+            None => Outcome::AsPromised,
+        }
+    }
+
+    /// Whether nothing is wrong.
+    pub fn is_good(self) -> bool {
+        matches!(self, Outcome::Succeeded | Outcome::AsPromised)
+    }
+}
+
+impl fmt::Display for Outcome {
+    fn fmt<W: Write>(&self, f: &mut Formatter<W>) -> fmt::Result {
+        match self {
+            Outcome::Succeeded => write!(f, "succeeded"),
+            Outcome::AsPromised => write!(f, "refused, as promised"),
+            Outcome::Broken(part) => write!(f, "refused, BROKEN: {part}"),
+            Outcome::Unknown => write!(f, "there is no such call"),
+        }
+    }
+}

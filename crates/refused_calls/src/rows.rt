@@ -1,0 +1,26 @@
+//! The calls of a row.
+
+use crate::comparison::is_same_row;
+use crate::outcome::Outcome;
+use comfy_table::{Cell, IntoRow, Result};
+use std::alloc::Global;
+
+/// What came of the call of this name: after a refusal the row is as it was.
+pub fn outcome_of(alloc: Global, call: &str) -> Result<Outcome> {
+    let mut source = ["17", "on the road,\nback at noon"].into_row(alloc)?;
+    source.max_height(2);
+    // A copy has no room to spare, so that one more cell takes memory.
+    let mut row = source.clone()?;
+    let cell = Cell::new(alloc, "dock 3")?;
+    let succeeded = match call {
+        "add_cell" => row.add_cell(cell).is_ok(),
+        "try_add_cell" => row.try_add_cell(cell).is_ok(),
+        "clone" => row.clone().is_ok(),
+        _ => return Ok(Outcome::Unknown),
+    };
+    if succeeded {
+        return Ok(Outcome::Succeeded);
+    }
+    let differs = !is_same_row(&row, &source);
+    Ok(Outcome::refused(differs.then_some("the row")))
+}
