@@ -1,12 +1,14 @@
 #!/bin/sh
-# Refuses each request for memory of two built programs, one after another: those of ctable on its stored input, and
-# those of table_cases on two of its cases. Each such run must end with status 1, print nothing, and say that there
-# is no memory.
+# Refuses each request for memory of three built programs, one after another: those of ctable on its stored input, those
+# of table_cases on two of its cases, and those of refused_calls on each call by itself. Each such run of the first two
+# must end with status 1, print nothing, and say that there is no memory. One of refused_calls must say that the call was
+# refused as promised, or end with status 3 and print nothing, where the request wasn't the call's.
 #
 # usage: tools/refused_requests.sh RUNNER
 # RUNNER is called as `RUNNER INPUT PROGRAM`. It runs PROGRAM on INPUT with its first request refused,
 # then with its second, and so on until PROGRAM makes no more. Wherever a run ends otherwise than the one
-# before it prints `request N: status S, B bytes, ERRORS`, and at the end `refused in turn: N; ..`.
+# before it prints `request N: status S, B bytes, ERRORS`, and at the end `refused in turn: N;` and behind it, with a
+# semicolon after each, how many runs ended in which way: ` C status S, B bytes, ERRORS`.
 set -u
 if [ $# -ne 1 ]; then
   echo "usage: $0 RUNNER" >&2
@@ -21,12 +23,21 @@ crates=$(cd "$(dirname "$0")/../crates" && pwd) || exit 2
 work=$(mktemp -d) || exit 2
 trap 'rm -rf "$work"' EXIT
 
+# Builds a program. With ample memory it must print what is stored.
+build() {
+  (cd "$crates/$1" && rt run < stdin > "$work/printed") || exit 2
+  if ! cmp "$work/printed" "$crates/$1/stdout"; then
+    echo "$0: $1 prints something else with ample memory" >&2
+    exit 1
+  fi
+}
+
 # Each refused request of a program on an input must end with what is said.
 refuse() {
   name=$1
   input=$2
   words=$3
-  (cd "$crates/$name" && rt run < stdin > /dev/null) || exit 2
+  build "$name"
   said=$("$runner" "$input" "$crates/$name/out/$name") || exit 2
   printf '%s\n' "$said" | sed "s/^/$name: /"
   if ! printf '%s\n' "$said" | grep -q '^refused in turn: [1-9]'; then
@@ -39,6 +50,29 @@ refuse() {
   fi
 }
 
+# Each refused request of a call must be answered as promised. A run with status 3 refused one outside of the call.
+refuse_call() {
+  call=$1
+  printf '%s\n' "$call" > "$work/call"
+  said=$("$runner" "$work/call" "$crates/refused_calls/out/refused_calls" < /dev/null) || exit 2
+  bytes=$(($(printf '%s: refused, as promised\n' "$call" | wc -c)))
+  if printf '%s\n' "$said" | grep '^request ' \
+    | grep -v -e ": status 0, $bytes bytes, *\$" -e ': status 3, 0 bytes, *$'; then
+    echo "$0: a refused request of $call ended otherwise" >&2
+    exit 1
+  fi
+  own=$(printf '%s\n' "$said" | sed -n "s/^refused in turn:.* \([1-9][0-9]*\) status 0, $bytes bytes,.*/\1/p")
+  if [ -z "$own" ]; then
+    echo "$0: no request of $call was refused" >&2
+    exit 1
+  fi
+  echo "refused_calls: $call: refused in turn: $own, as promised"
+}
+
 refuse ctable "$crates/ctable/stdin" 'ctable: out of memory'
 awk '/^case\theight-(0-is-1-line|with-an-indicator-of-three-dots)$/, /^end$/' "$crates/table_cases/stdin" > "$work/two.cases"
 refuse table_cases "$work/two.cases" 'Error: out of memory'
+build refused_calls
+while IFS= read -r call; do
+  refuse_call "$call"
+done < "$crates/refused_calls/stdin"

@@ -1,0 +1,74 @@
+#!/bin/sh
+# Runs a built ctable where its memory, its input or its output ends, and compares its status and what it says on
+# standard error. In each of these runs nothing may stand on standard output. It prints a line for each, and ends with
+# status 1 where one is otherwise than written here.
+#
+# usage: tools/edges.sh PROGRAM, as tools/edges.sh crates/ctable/out/ctable
+set -u
+if [ $# -ne 1 ] || [ ! -x "$1" ]; then
+  echo "usage: $0 PROGRAM" >&2
+  exit 2
+fi
+program=$1
+work=$(mktemp -d) || exit 2
+trap 'rm -rf "$work"' EXIT
+ended=0
+
+line='one text\tanother text\ta third text'
+printf "$line\n" > "$work/small"
+yes "$(printf "$line")" | head -c 1000000 > "$work/large"
+yes "$(printf "$line")" | head -c 50000000 > "$work/huge"
+
+# Compares a run: its name, its status, the status that is wanted, and the line that is wanted on standard error, if any.
+compare() {
+  if [ "$2" -eq "$3" ] && [ "$(cat "$work/err")" = "$4" ] && [ ! -s "$work/out" ]; then
+    echo "$1: status $2, ${4:-nothing is said}"
+  else
+    echo "$1: BROKEN: status $2, $(wc -c < "$work/out") bytes on standard output, and on standard error:"
+    cat "$work/err"
+    ended=1
+  fi
+}
+
+# Runs the program with so many kilobytes of memory at the most.
+run_limited() {
+  (ulimit -v "$1" && exec "$program" < "$2" > "$work/out" 2> "$work/err")
+}
+
+# A small input shows that the program starts within a limit.
+for limit in 5000 20000 50000 75000 100000 200000 400000; do
+  if run_limited $limit "$work/small"; then
+    run_limited $limit "$work/huge"
+    compare "50 MB within a limit of $limit kB" $? 1 'ctable: out of memory'
+  else
+    echo "a limit of $limit kB: BROKEN: the program doesn't start"
+    ended=1
+  fi
+done
+: > "$work/out"
+
+# The status stands in a file: a pipe has that of its last command.
+{
+  "$program" < "$work/large" 2> "$work/err"
+  echo $? > "$work/status"
+} | head -c 10 > "$work/begun"
+compare 'a reader that ends after 10 bytes' "$(cat "$work/status")" 1 "ctable: the output can't be written"
+
+"$program" < "$work/small" > /dev/full 2> "$work/err"
+compare 'a full disk' $? 1 "ctable: the output can't be written"
+
+"$program" < "$work/small" >&- 2> "$work/err"
+compare 'a closed standard output' $? 1 "ctable: the output can't be written"
+
+"$program" <&- > "$work/out" 2> "$work/err"
+compare 'a closed standard input' $? 1 "ctable: the input can't be read"
+
+"$program" < "$work" > "$work/out" 2> "$work/err"
+compare 'a folder as input' $? 1 "ctable: the input can't be read"
+
+"$program" < "$work" > "$work/out" 2>&-
+status=$?
+: > "$work/err"
+compare 'a folder as input, and a closed standard error' $status 1 ''
+
+exit $ended
