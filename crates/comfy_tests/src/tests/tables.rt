@@ -1,8 +1,9 @@
 //! Tables: their lines, their text, and the calls that `lines` makes.
 
-use super::support::assert_texts;
+use super::support::{assert_drawn, assert_text, assert_texts};
 use comfy_parts::content_split::ColumnDisplayInfo;
 use comfy_parts::{Column, Result};
+use comfy_table::presets::NOTHING;
 use comfy_table::utils::arrangement::{arrange_content, longest_line};
 use comfy_table::utils::build_table;
 use comfy_table::utils::formatting::content_format::{format_content, format_row};
@@ -61,14 +62,6 @@ fn collected(alloc: Global, lines: Lines) -> std::result::Result<Vec<String>, Al
     Ok(collected)
 }
 
-// Compares a text with lines between which it has line feeds.
-fn assert_text(rt: &impl Abort, text: &str, lines: &[&str]) {
-    assert_eq!(rt; text.split('\n').count(), lines.len());
-    for (line, wanted) in text.split('\n').zip(lines) {
-        assert_eq!(rt; line, *wanted);
-    }
-}
-
 #[test]
 fn the_lines_of_the_readme_are_drawn(rt: HostRuntime) -> std::result::Result<(), Fail> {
     let table = readme(rt.alloc())?;
@@ -113,6 +106,29 @@ fn a_text_joins_its_lines(rt: HostRuntime) -> std::result::Result<(), Fail> {
     Ok(())
 }
 
+// Without borders and lines the pieces stand beside each other.
+#[test]
+fn a_text_is_trimmed_or_ends_in_a_line_feed(rt: HostRuntime) -> std::result::Result<(), Fail> {
+    let mut table = pair(rt.alloc())?;
+    table.load_style(NOTHING);
+    assert_eq!(rt; table.to_text()?.as_str(), " a  b ");
+    assert_eq!(rt; table.trim_fmt()?.as_str(), " a  b");
+    assert_eq!(rt; table.to_terminated_text()?.as_str(), " a  b \n");
+    Ok(())
+}
+
+#[test]
+fn contents_have_their_greatest_widths(rt: HostRuntime) -> std::result::Result<(), Fail> {
+    let mut table = Table::new(rt.alloc());
+    table.set_header(["thr", "four", "fivef"])?;
+    let widths = table.column_max_content_widths()?;
+    assert_eq!(rt; widths.as_slice(), [3u16, 4, 5].as_slice());
+    table.add_row(["four", "fivef", "very long text with 23"])?;
+    let widths = table.column_max_content_widths()?;
+    assert_eq!(rt; widths.as_slice(), [4u16, 5, 22].as_slice());
+    Ok(())
+}
+
 #[test]
 fn columns_are_borrowed_mutably_in_order(rt: HostRuntime) -> std::result::Result<(), Fail> {
     let mut table = pair(rt.alloc())?;
@@ -131,7 +147,7 @@ fn columns_are_borrowed_mutably_in_order(rt: HostRuntime) -> std::result::Result
     Ok(())
 }
 
-// A cell without a column isn't drawn.
+// A cell without a column isn't drawn, until the columns are discovered.
 #[test]
 fn a_row_is_borrowed_mutably(rt: HostRuntime) -> std::result::Result<(), Fail> {
     let mut table = Table::new(rt.alloc());
@@ -143,6 +159,24 @@ fn a_row_is_borrowed_mutably(rt: HostRuntime) -> std::result::Result<(), Fail> {
     let lines = collected(rt.alloc(), table.lines()?)?;
     assert_eq!(rt; lines.len(), 3);
     assert_eq!(rt; lines[1].as_str(), "| one | two |");
+    table.discover_columns()?;
+    let lines = collected(rt.alloc(), table.lines()?)?;
+    assert_eq!(rt; lines.len(), 3);
+    assert_eq!(rt; lines[1].as_str(), "| one | two | three |");
+    Ok(())
+}
+
+#[test]
+fn rows_and_columns_are_borrowed_mutably(rt: HostRuntime) -> std::result::Result<(), Fail> {
+    let mut table = Table::new(rt.alloc());
+    table.add_row(["a\nb", "cd"])?;
+    for row in table.row_iter_mut() {
+        row.max_height(1);
+    }
+    for column in table.column_iter_mut() {
+        column.set_padding((0, 0));
+    }
+    assert_drawn(&rt, &table, &["+-+--+", "|…|cd|", "+-+--+"])?;
     Ok(())
 }
 

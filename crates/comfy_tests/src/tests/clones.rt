@@ -1,0 +1,72 @@
+//! Copies: they are equal, and stay as they are when what they were made of is changed.
+
+use super::support::assert_drawn;
+use comfy_table::{Attribute, Cell, IntoRow, Result, Row, Table};
+use std::alloc::{Alloc, Global};
+use std::process::Abort;
+use std::test::Fail;
+
+// A copy of a bold cell of this text equals it, and has the text and the attribute still when the cell was changed.
+fn assert_cell_copied(
+    rt: &(impl Abort + Alloc<A = Global>),
+    text: &str,
+) -> std::result::Result<(), Fail> {
+    let cell = Cell::new(rt.alloc(), text)?.add_attribute(Attribute::Bold)?;
+    let copy = cell.clone()?;
+    assert!(rt; copy == cell);
+    let changed = cell.add_attribute(Attribute::Dim)?;
+    assert!(rt; copy != changed);
+    assert_eq!(rt; copy.content()?.as_str(), text);
+    assert_eq!(rt; copy.attributes(), [Attribute::Bold].as_slice());
+    Ok(())
+}
+
+#[test]
+fn a_cell_of_one_text_line_is_copied(rt: HostRuntime) -> std::result::Result<(), Fail> {
+    assert_cell_copied(&rt, "dock 3")
+}
+
+#[test]
+fn a_cell_of_several_text_lines_is_copied(rt: HostRuntime) -> std::result::Result<(), Fail> {
+    assert_cell_copied(&rt, "Now\nadd some\nmulti line stuff")
+}
+
+// Whether two rows have equal cells and the same height limit.
+fn are_equal(first: &Row, second: &Row) -> bool {
+    first.cell_iter().as_slice() == second.cell_iter().as_slice()
+        && first.height_limit() == second.height_limit()
+}
+
+#[test]
+fn a_row_is_copied(rt: HostRuntime) -> std::result::Result<(), Fail> {
+    let mut row = ["17", "dock 3"].into_row(rt.alloc())?;
+    row.max_height(2);
+    let copy = row.clone()?;
+    assert!(rt; are_equal(&copy, &row));
+    row.add_cell(Cell::new(rt.alloc(), true)?)?.max_height(5);
+    assert!(rt; !are_equal(&copy, &row));
+    assert_eq!(rt; (copy.cell_count(), copy.height_limit()), (2, Some(2)));
+    Ok(())
+}
+
+const DRAWN: [&str; 5] = [
+    "+----+--------+",
+    "| id | where  |",
+    "+=============+",
+    "| 17 | dock 3 |",
+    "+----+--------+",
+];
+
+#[test]
+fn a_table_is_copied(rt: HostRuntime) -> std::result::Result<(), Fail> {
+    let mut table = Table::new(rt.alloc());
+    table
+        .set_header(["id", "where"])?
+        .add_row(["17", "dock 3"])?;
+    let copy = table.clone()?;
+    assert_drawn(&rt, &copy, &DRAWN)?;
+    table.set_header(["bike"])?.add_row(["18", "dock 4"])?;
+    table.set_truncation_indicator("~")?;
+    assert_drawn(&rt, &copy, &DRAWN)?;
+    Ok(())
+}

@@ -1,0 +1,242 @@
+//! Several rows at once, rows on a condition, and columns: that the calls succeed, and what they mean.
+
+use super::support::{assert_cell, assert_drawn};
+use comfy_table::{ColumnCellIter, ColumnConstraint, IntoRow, Items, Result, Row, Table, Width};
+use std::alloc::{Alloc, Global};
+use std::cell::Cell;
+use std::process::Abort;
+
+const TWO_ROWS: [&str; 5] = [
+    "+---+---+",
+    "| a | b |",
+    "|---+---|",
+    "| c | d |",
+    "+---+---+",
+];
+
+const THREE_ROWS: [&str; 7] = [
+    "+---+---+",
+    "| a | b |",
+    "|---+---|",
+    "| c | d |",
+    "|---+---|",
+    "| e | f |",
+    "+---+---+",
+];
+
+// The rows that `TWO_ROWS` draws.
+fn two_rows(alloc: Global) -> Result<Vec<Row>> {
+    let mut rows = Vec::new(alloc);
+    rows.push(["a", "b"].into_row(alloc)?)?;
+    rows.push(["c", "d"].into_row(alloc)?)?;
+    Ok(rows)
+}
+
+// A table of two rows.
+fn two_row_table(alloc: Global) -> Result<Table> {
+    let mut table = Table::new(alloc);
+    table.add_rows(two_rows(alloc)?)?;
+    Ok(table)
+}
+
+// A new table that these rows are added to has two rows.
+fn assert_added<I>(rt: &(impl Abort + Alloc<A = Global>), rows: I) -> Result<()>
+where
+    I: Items,
+    I::Item: IntoRow,
+    I::IntoIter: Drop,
+{
+    let mut table = Table::new(rt.alloc());
+    table.add_rows(rows)?;
+    assert_drawn(rt, &table, &TWO_ROWS)
+}
+
+#[test]
+fn a_list_of_rows_is_added(rt: HostRuntime) -> Result<()> {
+    assert_added(&rt, two_rows(rt.alloc())?)
+}
+
+#[test]
+fn an_array_of_arrays_is_added(rt: HostRuntime) -> Result<()> {
+    assert_added(&rt, [["a", "b"], ["c", "d"]])
+}
+
+#[test]
+fn the_rows_of_an_iterator_are_added(rt: HostRuntime) -> Result<()> {
+    assert_added(&rt, two_rows(rt.alloc())?.into_iter())
+}
+
+// A third row, offered to a table of two, is added on yes alone. The predicate is asked once, with 2.
+fn assert_row_asked(
+    rt: &(impl Abort + Alloc<A = Global>),
+    yes: bool,
+    wanted: &[&str],
+) -> Result<()> {
+    let asked = Cell::new(0u64);
+    let counted = Cell::new(0usize);
+    let mut table = two_row_table(rt.alloc())?;
+    table.add_row_if(
+        |count, _row| {
+            asked.set(asked.get().saturating_add(1));
+            counted.set(count);
+            yes
+        },
+        ["e", "f"],
+    )?;
+    assert_eq!(rt; (asked.get(), counted.get()), (1, 2));
+    assert_drawn(rt, &table, wanted)
+}
+
+#[test]
+fn a_row_is_added_on_yes(rt: HostRuntime) -> Result<()> {
+    assert_row_asked(&rt, true, &THREE_ROWS)
+}
+
+#[test]
+fn a_row_is_not_added_on_no(rt: HostRuntime) -> Result<()> {
+    assert_row_asked(&rt, false, &TWO_ROWS)
+}
+
+// Two rows, offered to a new table, are added on yes alone. The predicate is asked once, with 0.
+fn assert_rows_asked(
+    rt: &(impl Abort + Alloc<A = Global>),
+    yes: bool,
+    wanted: &[&str],
+) -> Result<()> {
+    let asked = Cell::new(0u64);
+    let counted = Cell::new(9usize);
+    let mut table = Table::new(rt.alloc());
+    table.add_rows_if(
+        |count, _rows| {
+            asked.set(asked.get().saturating_add(1));
+            counted.set(count);
+            yes
+        },
+        two_rows(rt.alloc())?,
+    )?;
+    assert_eq!(rt; (asked.get(), counted.get()), (1, 0));
+    assert_drawn(rt, &table, wanted)
+}
+
+#[test]
+fn rows_are_added_on_yes(rt: HostRuntime) -> Result<()> {
+    assert_rows_asked(&rt, true, &TWO_ROWS)
+}
+
+#[test]
+fn rows_are_not_added_on_no(rt: HostRuntime) -> Result<()> {
+    assert_rows_asked(&rt, false, &["++", "++"])
+}
+
+const CUT: [&str; 5] = [
+    "+---+----+",
+    "| h | i  |",
+    "+========+",
+    "| ~ | cd |",
+    "+---+----+",
+];
+
+#[test]
+fn a_row_is_made_by_calls_that_leave_it_known(rt: HostRuntime) -> Result<()> {
+    let mut row = ["a\nb"].into_row(rt.alloc())?;
+    row.try_add_cell(comfy_table::Cell::new(rt.alloc(), "cd")?)?;
+    row.max_height(1);
+    let mut table = Table::new(rt.alloc());
+    table.try_set_truncation_indicator("~")?;
+    table.try_set_header(["h", "i"])?;
+    table.try_add_row(row)?;
+    assert_drawn(&rt, &table, &CUT)
+}
+
+#[test]
+fn rows_are_added_by_calls_that_leave_the_table_known(rt: HostRuntime) -> Result<()> {
+    let mut table = Table::new(rt.alloc());
+    table.try_add_rows([["a", "b"]])?;
+    table.try_add_row_if(|count, _row| count == 1, ["c", "d"])?;
+    table.try_add_rows_if(|count, _rows| count == 2, [["e", "f"]])?;
+    assert_drawn(&rt, &table, &THREE_ROWS)
+}
+
+#[test]
+fn columns_are_counted_and_only_grow(rt: HostRuntime) -> Result<()> {
+    let mut table = Table::new(rt.alloc());
+    table.set_header(["a", "b", "c"])?;
+    assert_eq!(rt; table.column_count()?, 3);
+    table.set_header(["a", "b", "c", "d"])?;
+    assert_eq!(rt; table.column_count()?, 4);
+    table.set_header(["a", "b"])?;
+    assert_eq!(rt; table.column_count()?, 4);
+    Ok(())
+}
+
+// Sets the constraints of a table of two columns, and compares those that they have then.
+fn assert_constraints(
+    rt: &(impl Abort + Alloc<A = Global>),
+    constraints: Vec<ColumnConstraint>,
+    wanted: &[Option<ColumnConstraint>],
+) -> Result<()> {
+    let mut table = two_row_table(rt.alloc())?;
+    table.set_constraints(constraints);
+    assert_eq!(rt; table.column_iter().count(), wanted.len());
+    for (column, constraint) in table.column_iter().zip(wanted) {
+        assert_eq!(rt; column.constraint(), constraint.as_ref());
+    }
+    Ok(())
+}
+
+const HIDDEN: ColumnConstraint = ColumnConstraint::Hidden;
+
+const FIVE: ColumnConstraint = ColumnConstraint::Absolute(Width::Fixed(5));
+
+#[test]
+fn columns_past_the_last_constraint_keep_theirs(rt: HostRuntime) -> Result<()> {
+    let constraints = Vec::from_array(rt.alloc(), [HIDDEN])?;
+    assert_constraints(&rt, constraints, &[Some(HIDDEN), None])
+}
+
+#[test]
+fn constraints_past_the_last_column_are_ignored(rt: HostRuntime) -> Result<()> {
+    let constraints = Vec::from_array(rt.alloc(), [FIVE, HIDDEN, FIVE])?;
+    assert_constraints(&rt, constraints, &[Some(FIVE), Some(HIDDEN)])
+}
+
+// Rows of two, one and two cells.
+fn rows_of_two_and_one(alloc: Global) -> Result<Table> {
+    let mut table = Table::new(alloc);
+    table
+        .add_row(["First", "Second"])?
+        .add_row(["Third"])?
+        .add_row(["Fourth", "Fifth"])?;
+    Ok(table)
+}
+
+// The cells have these contents, and then there is none.
+fn assert_cells(rt: &impl Abort, mut cells: ColumnCellIter, wanted: &[Option<&str>]) -> Result<()> {
+    for text in wanted {
+        assert_cell(rt, cells.next().flatten(), *text)?;
+    }
+    assert!(rt; cells.next().is_none());
+    Ok(())
+}
+
+#[test]
+fn a_column_has_a_cell_or_none_for_each_row(rt: HostRuntime) -> Result<()> {
+    let table = rows_of_two_and_one(rt.alloc())?;
+    let wanted = [Some("Second"), None, Some("Fifth")];
+    assert_cells(&rt, table.column_cells_iter(1), &wanted)
+}
+
+#[test]
+fn a_column_begins_with_the_cell_of_its_header(rt: HostRuntime) -> Result<()> {
+    let mut table = rows_of_two_and_one(rt.alloc())?;
+    table.set_header(["A", "B"])?;
+    let wanted = [Some("B"), Some("Second"), None, Some("Fifth")];
+    assert_cells(&rt, table.column_cells_with_header_iter(1), &wanted)
+}
+
+#[test]
+fn a_column_without_a_header_begins_with_none(rt: HostRuntime) -> Result<()> {
+    let table = rows_of_two_and_one(rt.alloc())?;
+    let wanted = [None, Some("Second"), None, Some("Fifth")];
+    assert_cells(&rt, table.column_cells_with_header_iter(1), &wanted)
+}
