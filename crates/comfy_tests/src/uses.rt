@@ -10,6 +10,15 @@ ghost use Rattle.comfy_table.specs.TableValue.{new_table, should_style, with_hea
 ghost use Rattle.comfy_table.specs.Widths.{visible_count};
 ghost use Rattle.comfy_tests.specs.Uses.{HasFrameOf, IsPlainDrawing};
 
+pub mod cells;
+pub mod columns;
+pub mod drawing;
+pub mod laws;
+pub mod rows;
+pub mod running;
+pub mod settings;
+pub mod texts;
+
 use comfy_run::run::{MemorySink, MemorySource, RunError, Settings, run};
 use comfy_table::presets::ASCII_FULL;
 use comfy_table::{Cell, ContentArrangement, IntoRow, Lines, Row, Table};

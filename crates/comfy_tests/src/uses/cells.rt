@@ -1,0 +1,81 @@
+//! Callers that make, copy and compare cells.
+
+ghost use Rattle.std.specs.Prelude.{◌≡◌, ◌++◌, ◌∷◌, [], IfOk, IfSome, Some, length, string_bytes, true, unwrap_or};
+ghost use Rattle.comfy_parts.specs.CellValue.{plain_cell};
+ghost use Rattle.comfy_parts.specs.declared.style.attribute.Attribute.TheVariants.{Bold};
+ghost use Rattle.comfy_parts.specs.declared.style.cell.CellAlignment.TheVariants.{Center};
+ghost use Rattle.comfy_parts.specs.declared.style.color.Color.TheVariants.{Red, White};
+
+use comfy_parts::laws::cells_are_equal_by_their_values;
+use comfy_table::{Attribute, Cell, CellAlignment, Color, Result};
+use std::alloc::Global;
+
+/// A warning: bold red on white, in the middle of its column, and broken at hyphens.
+pub fn warning(alloc: Global, text: &str) -> Result<Cell>
+    ensures { IfOk result (λ cell. cell ≡ record (plain_cell text.now) { delimiter = Some 45; alignment = Some Center; foreground = Some Red; background = Some White; attributes = Bold ∷ [] }) }
+{
+    Cell::new(alloc, text)?
+        .set_delimiter('-')
+        .set_alignment(CellAlignment::Center)
+        .fg(Color::Red)
+        .bg(Color::White)
+        .add_attribute(Attribute::Bold)
+}
+
+/// A text, put into a cell and read from it again.
+pub fn there_and_back(alloc: Global, text: String) -> Result<String>
+    ensures { IfOk result (λ back. string_bytes back ≡ string_bytes text) }
+{
+    Cell::new_owned(alloc, text)?.content()
+}
+
+/// Sets an alignment where the cell has none.
+pub fn aligned(cell: Cell, alignment: CellAlignment) -> Cell
+    ensures { result ≡ record cell { alignment = Some (unwrap_or cell.alignment alignment) } }
+{
+    let own = cell.cell_alignment().unwrap_or(alignment);
+    cell.set_alignment(own)
+}
+
+/// Sets a delimiter where the cell has none.
+pub fn delimited(cell: Cell, delimiter: char) -> Cell
+    ensures { result ≡ record cell { delimiter = Some (unwrap_or cell.delimiter delimiter) } }
+{
+    let own = cell.cell_delimiter().unwrap_or(delimiter);
+    cell.set_delimiter(own)
+}
+
+/// Swaps the colours of a cell that has both.
+pub fn swapped(cell: Cell) -> Cell
+    ensures { IfSome cell.foreground (λ text. IfSome cell.background (λ behind. result ≡ record cell { foreground = Some behind; background = Some text })) }
+{
+    match (cell.foreground(), cell.background()) {
+        (Some(text), Some(behind)) => cell.fg(behind).bg(text),
+        _ => cell,
+    }
+}
+
+/// Adds the attributes of another cell behind those of a cell.
+pub fn with_attributes_of(alloc: Global, cell: Cell, other: &Cell) -> Result<Cell>
+    ensures { IfOk result (λ both. both ≡ record cell { attributes = cell.attributes ++ other.now.attributes }) }
+{
+    let mut attributes = Vec::new(alloc);
+    attributes.extend_from_slice(other.attributes())?;
+    cell.add_attributes(attributes)
+}
+
+/// How many text lines a cell has, and for how many of them it knows the width.
+pub fn line_counts(cell: &Cell) -> (usize, usize)
+    ensures { result ≡ (length cell.now.text_lines, length cell.now.text_lines) }
+{
+    (cell.text_lines().len(), cell.text_widths().len())
+}
+
+/// Whether a cell equals its copy: it does.
+pub fn equals_its_copy(cell: &Cell) -> Result<bool>
+    ensures { IfOk result (λ equal. equal ≡ true) }
+{
+    let copy = cell.clone()?;
+    cells_are_equal_by_their_values();
+    Ok(copy == *cell)
+}

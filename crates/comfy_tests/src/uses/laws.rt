@@ -1,0 +1,77 @@
+//! Callers whose claims the laws carry, beside the clauses of the calls.
+
+ghost use Rattle.std.specs.Prelude.{◌≡◌, ◌↔◌, [], IfOk, List, map, string_bytes, true};
+ghost use Rattle.comfy_parts.specs.Laws.{CutLinesAreFull, IsCutOutsideNarrow, LinesAreFew, LinesAreFewest, LinesFit, NeighboursFillALine};
+ghost use Rattle.comfy_parts.specs.Text.{Text};
+ghost use Rattle.comfy_parts.specs.VisibleText.{visible_text};
+ghost use Rattle.comfy_parts.specs.Wrapping.{IsWrapped};
+
+use comfy_parts::laws::{
+    attributes_are_ordered, cells_are_equal_by_their_values, colors_are_ordered,
+};
+use comfy_table::laws::{
+    cut_lines_are_full, lines_are_few, lines_are_fewest, lines_fit, narrow_elements_stay_whole,
+    neighbours_fill_a_line, sequences_are_taken_out_in_one_pass, wrapped_lines_are_one_list,
+};
+use comfy_table::utils::formatting::content_split::{ColumnDisplayInfo, split_line};
+use comfy_table::{Attribute, Cell, Color, Result};
+use std::alloc::Global;
+
+/// Whether two cells are the same.
+pub fn are_same_cells(first: &Cell, second: &Cell) -> bool
+    ensures { (result ≡ true) ↔ (first.now ≡ second.now) }
+{
+    cells_are_equal_by_their_values();
+    first == second
+}
+
+/// Whether two attributes are the same.
+pub fn are_same_attributes(first: Attribute, second: Attribute) -> bool
+    ensures { (result ≡ true) ↔ (first ≡ second) }
+{
+    attributes_are_ordered();
+    first == second
+}
+
+/// Whether two colours are the same.
+pub fn are_same_colors(first: Color, second: Color) -> bool
+    ensures { (result ≡ true) ↔ (first ≡ second) }
+{
+    colors_are_ordered();
+    first == second
+}
+
+/// The lines of a text, with all that is promised of them in printable ASCII.
+pub fn promised_lines(
+    alloc: Global,
+    text: &str,
+    info: &ColumnDisplayInfo,
+    delimiter: char,
+) -> Result<Vec<String>>
+    ensures fit { IfOk result (λ lines. LinesFit info.now.content_width delimiter text.now (map string_bytes lines.items)) }
+    ensures few { IfOk result (λ lines. LinesAreFew info.now.content_width delimiter text.now (map string_bytes lines.items)) }
+    ensures fewest { IfOk result (λ lines. LinesAreFewest info.now.content_width delimiter text.now (map string_bytes lines.items)) }
+    ensures full { IfOk result (λ lines. CutLinesAreFull info.now.content_width delimiter text.now (map string_bytes lines.items)) }
+    ensures filled { IfOk result (λ lines. NeighboursFillALine info.now.content_width delimiter text.now (map string_bytes lines.items)) }
+    ensures whole { IfOk result (λ lines. IsCutOutsideNarrow info.now.content_width delimiter [] text.now (map string_bytes lines.items)) }
+    ensures one { IfOk result (λ lines. (others : List Text) → IsWrapped info.now.content_width delimiter text.now others → others ≡ map string_bytes lines.items) }
+{
+    lines_fit();
+    lines_are_few();
+    lines_are_fewest();
+    cut_lines_are_full();
+    neighbours_fill_a_line();
+    narrow_elements_stay_whole();
+    wrapped_lines_are_one_list();
+    split_line(alloc, text, info, delimiter)
+}
+
+/// A text behind the sequence that makes it bold. What is visible of it is what is visible of the text.
+pub fn bold(alloc: Global, text: &str) -> Result<String>
+    ensures { IfOk result (λ bold. visible_text (string_bytes bold) ≡ visible_text text.now) }
+{
+    sequences_are_taken_out_in_one_pass();
+    let mut bold = String::from_str(alloc, "\u{1b}[1m")?;
+    bold.push_str(text)?;
+    Ok(bold)
+}

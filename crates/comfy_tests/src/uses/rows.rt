@@ -1,0 +1,142 @@
+//! Callers that add, copy and read rows.
+
+ghost use Rattle.std.specs.Prelude.{◌≡◌, ◌==◌, IfOk, IfSome, OnErr, OnOk, Some, if◌then◌else◌, length, max, nat_lt, option_map, slice_get, true};
+ghost use Rattle.comfy_parts.specs.CellValue.{RowValue, with_cell, with_max_height};
+ghost use Rattle.comfy_parts.specs.Presets.{ascii_full};
+ghost use Rattle.comfy_table.specs.TableValue.{IsWithRowsBeforeOne, new_table, with_header, with_row, with_rows};
+
+use comfy_table::{Cell, Result, Row, Table};
+use std::alloc::Global;
+
+/// A table of these rows.
+pub fn table_of(alloc: Global, rows: Vec<Row>) -> Result<Table>
+    ensures { IfOk result (λ table. table ≡ with_rows rows.items (new_table ascii_full)) }
+{
+    let mut table = Table::new(alloc);
+    table.add_rows(rows)?;
+    Ok(table)
+}
+
+/// Appends rows.
+pub fn append(table: &mut Table, rows: Vec<Row>) -> Result<()>
+    ensures { OnOk result (table.new ≡ with_rows rows.items table.old) }
+{
+    table.try_add_rows(rows)
+}
+
+/// Appends a row to a table of at most two.
+pub fn append_to_few(table: &mut Table, row: Row) -> Result<()>
+    ensures { OnOk result (table.new ≡ (if nat_lt (length table.old.rows) 3 then with_row row table.old else table.old)) }
+{
+    table.add_row_if(|count, _row| count < 3, row)?;
+    Ok(())
+}
+
+/// Appends a row that has cells. After `OutOfMemory` the table is unchanged.
+pub fn append_unless_empty(table: &mut Table, row: Row) -> Result<()>
+    ensures ok { OnOk result (table.new ≡ (if nat_lt 0 (length row.cells) then with_row row table.old else table.old)) }
+    ensures err { OnErr result (table.new ≡ table.old) }
+{
+    table.try_add_row_if(|_count, row| row.cell_count() > 0, row)
+}
+
+/// Gives rows to a table without any.
+pub fn fill(table: &mut Table, rows: Vec<Row>) -> Result<()>
+    ensures { OnOk result (table.new ≡ (if length table.old.rows == 0 then with_rows rows.items table.old else table.old)) }
+{
+    table.add_rows_if(|count, _rows| count == 0, rows)?;
+    Ok(())
+}
+
+/// Gives rows to a table without any. After `OutOfMemory` it has those before the refused one.
+pub fn fill_as_far_as_possible(table: &mut Table, rows: Vec<Row>) -> Result<()>
+    ensures ok { OnOk result (table.new ≡ (if length table.old.rows == 0 then with_rows rows.items table.old else table.old)) }
+    ensures err { OnErr result (IsWithRowsBeforeOne rows.items table.old table.new) }
+{
+    table.try_add_rows_if(|count, _rows| count == 0, rows)
+}
+
+/// Replaces the header. After `OutOfMemory` the table is unchanged.
+pub fn rename(table: &mut Table, header: Row) -> Result<()>
+    ensures ok { OnOk result (table.new ≡ with_header header table.old) }
+    ensures err { OnErr result (table.new ≡ table.old) }
+{
+    table.try_set_header(header)
+}
+
+/// A copy of a table with one more row.
+pub fn copied_with(table: &Table, row: Row) -> Result<Table>
+    ensures { IfOk result (λ copy. copy ≡ with_row row table.now) }
+{
+    let mut copy = table.clone()?;
+    copy.add_row(row)?;
+    Ok(copy)
+}
+
+/// A copy of a row with one more cell.
+pub fn lengthened(row: &Row, cell: Cell) -> Result<Row>
+    ensures { IfOk result (λ copy. copy ≡ with_cell cell row.now) }
+{
+    let mut copy = row.clone()?;
+    copy.add_cell(cell)?;
+    Ok(copy)
+}
+
+/// Sets how high a row may be, and returns what it is limited to.
+pub fn limit(row: &mut Row, lines: usize) -> Option<usize>
+    ensures set { row.new ≡ with_max_height lines row.old }
+    ensures limited { result ≡ Some (max 1 lines) }
+{
+    row.max_height(lines).height_limit()
+}
+
+/// How many cells a row has.
+pub fn cells_in(row: &Row) -> usize
+    ensures { result ≡ length row.now.cells }
+{
+    row.cell_iter().count()
+}
+
+/// Whether the iterator gives as many rows as there are, and none where there are none.
+pub fn counts_agree(table: &Table) -> bool
+    ensures { result ≡ true }
+{
+    let count = table.row_iter().count();
+    count == table.row_count() && table.is_empty() == (count == 0)
+}
+
+/// How many cells the row at a position has; none past the last row.
+pub fn cells_in_row(table: &Table, position: usize) -> Option<usize>
+    ensures { result ≡ option_map (λ (row : RowValue). length row.cells) (slice_get table.now.rows position) }
+{
+    let row = table.row(position)?;
+    Some(row.cell_count())
+}
+
+/// How many cells the header has, 0 where there is none.
+pub fn cells_in_header(table: &Table) -> usize
+    ensures { IfSome table.now.header (λ header. result ≡ length header.cells) }
+{
+    match table.header() {
+        Some(header) => header.cell_count(),
+        None => 0,
+    }
+}
+
+/// Appends a cell to the first row. The columns stay as they are, and so does everything where there is no row.
+pub fn append_to_first(table: &mut Table, cell: Cell) -> Result<()>
+    ensures columns { table.new.columns ≡ table.old.columns }
+    ensures none { length table.old.rows ≡ 0 → table.new ≡ table.old }
+{
+    if let Some(row) = table.row_mut(0) {
+        row.try_add_cell(cell)?;
+    }
+    Ok(())
+}
+
+/// How many rows can be changed.
+pub fn changeable_rows(table: &mut Table) -> usize
+    ensures { result ≡ length table.old.rows }
+{
+    table.row_iter_mut().count()
+}

@@ -1,0 +1,35 @@
+//! Callers that run the program, and make its devices.
+
+ghost use Rattle.std.specs.Prelude.{◌≡◌, false, length};
+
+use comfy_run::run::{FromReader, MemorySink, Sink, Source, ToWriter, program};
+use std::alloc::Global;
+use std::io::{Read, Write};
+
+/// Asks the program for a width that is no number. It answers 2, reads nothing and draws nothing.
+pub fn asks_for_no_number<R: Source, W: Sink, F: Sink>(
+    alloc: Global,
+    source: &mut R,
+    sink: &mut W,
+    messages: &mut F,
+) -> u8
+    ensures status { result ≡ 2 }
+    ensures unread { source.new ≡ source.old }
+    ensures undrawn { sink.new ≡ sink.old }
+{
+    program(alloc, &["wide"], source, sink, messages)
+}
+
+/// The devices over a reader and a writer. Neither has failed, and the reader's end wasn't read yet.
+pub fn devices_over<R: Read, W: Write>(reader: R, writer: W) -> (FromReader<R>, ToWriter<W>)
+    ensures { result ≡ (record { reader = reader; failed = false; ended = false }, record { writer = writer; failed = false }) }
+{
+    (FromReader::new(reader), ToWriter::new(writer))
+}
+
+/// How many bytes a sink in memory has taken.
+pub fn taken(sink: &MemorySink) -> usize
+    ensures { result ≡ length sink.now.bytes }
+{
+    sink.bytes().len()
+}
