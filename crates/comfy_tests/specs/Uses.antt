@@ -4,7 +4,8 @@ use Rattle.comfy_parts.specs.Text.{Text}
 use Rattle.comfy_parts.specs.declared.style.table_style.LineStyle.{LineStyle}
 use Rattle.comfy_table.specs.Drawing.{drawing, infos_of, visible_widths}
 use Rattle.comfy_table.specs.Frame.{frame_line}
-use Rattle.comfy_table.specs.Laws.{count, unstyled}
+use Rattle.comfy_table.specs.Laws.{FillsWidth, KeepsToWidth, count, unstyled}
+use Rattle.comfy_table.specs.TableLaws.{FillsWiderTotal, FrameCounts, FrameFillsWidth, FrameKeepsToWidth, IsAtMostThreeOver, KeepsToWiderTotal, KeepsToWiderTotalInFull, TableIsFull, TableIsLevelled, TableKeepsContents, TableLevelIsBest}
 use Rattle.comfy_table.specs.TableValue.{TableValue}
 
 -- the lines are a drawing of the table in which each frame line has n characters
@@ -16,3 +17,19 @@ HasFrameOf n table lines =
 -- the lines are a drawing of the table without colours and attributes
 abbrev pub IsPlainDrawing : TableValue → List Text → Type 0
 IsPlainDrawing table lines = (widths : List ℕ) × (lines ≡ drawing (unstyled table) widths)
+
+-- what the laws say of the content widths of a table's columns, where w is the table's width
+pub record KeepsTheLaws (table : TableValue) (w : ℕ) (widths : List ℕ) : Type 0 where
+  pub frame_counts : (line : LineStyle) → FrameCounts table widths line
+  pub frame_keeps : (line : LineStyle) → FrameKeepsToWidth table w widths line
+  pub frame_fills : (line : LineStyle) → FrameFillsWidth table w widths line
+  pub keeps_width : KeepsToWidth table w widths
+  pub fills_width : FillsWidth table w widths
+  pub keeps_total : KeepsToWiderTotal table w widths
+  pub keeps_total_in_full : KeepsToWiderTotalInFull table w widths
+  pub fills_total : FillsWiderTotal table w widths
+  pub levelled : TableIsLevelled table w widths
+  pub full : TableIsFull table w widths
+  pub best : (level : ℕ) → TableLevelIsBest table w level widths
+  pub kept : TableKeepsContents table w widths
+  pub few_over : IsAtMostThreeOver table w widths

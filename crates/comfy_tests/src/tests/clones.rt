@@ -1,12 +1,12 @@
 //! Copies: they are equal, and stay as they are when what they were made of is changed.
 
 use super::support::assert_drawn;
-use comfy_table::{Attribute, Cell, IntoRow, Result, Row, Table};
+use comfy_table::{Attribute, Cell, Color, IntoRow, Result, Row, Table};
 use std::alloc::{Alloc, Global};
 use std::process::Abort;
 use std::test::Fail;
 
-// A copy of a bold cell of this text equals it, and has the text and the attribute still when the cell was changed.
+// A copy of a bold cell of this text equals it, and still has its text and its attribute when the cell was changed.
 fn assert_cell_copied(
     rt: &(impl Abort + Alloc<A = Global>),
     text: &str,
@@ -14,7 +14,7 @@ fn assert_cell_copied(
     let cell = Cell::new(rt.alloc(), text)?.add_attribute(Attribute::Bold)?;
     let copy = cell.clone()?;
     assert!(rt; copy == cell);
-    let changed = cell.add_attribute(Attribute::Dim)?;
+    let changed = cell.fg(Color::Red);
     assert!(rt; copy != changed);
     assert_eq!(rt; copy.content()?.as_str(), text);
     assert_eq!(rt; copy.attributes(), [Attribute::Bold].as_slice());
@@ -57,16 +57,28 @@ const DRAWN: [&str; 5] = [
     "+----+--------+",
 ];
 
-#[test]
-fn a_table_is_copied(rt: HostRuntime) -> std::result::Result<(), Fail> {
-    let mut table = Table::new(rt.alloc());
+fn bikes(alloc: Global) -> Result<Table> {
+    let mut table = Table::new(alloc);
     table
         .set_header(["id", "where"])?
         .add_row(["17", "dock 3"])?;
+    Ok(table)
+}
+
+fn change(table: &mut Table) -> Result<()> {
+    table
+        .set_header(["bike"])?
+        .add_row(["18", "dock 4"])?
+        .set_truncation_indicator("~")?;
+    Ok(())
+}
+
+#[test]
+fn a_table_is_copied(rt: HostRuntime) -> std::result::Result<(), Fail> {
+    let mut table = bikes(rt.alloc())?;
     let copy = table.clone()?;
     assert_drawn(&rt, &copy, &DRAWN)?;
-    table.set_header(["bike"])?.add_row(["18", "dock 4"])?;
-    table.set_truncation_indicator("~")?;
+    change(&mut table)?;
     assert_drawn(&rt, &copy, &DRAWN)?;
     Ok(())
 }

@@ -72,18 +72,16 @@ fn assert_row_asked(
     yes: bool,
     wanted: &[&str],
 ) -> Result<()> {
-    let asked = Cell::new(0u64);
-    let counted = Cell::new(0usize);
+    let asked = Cell::new((0u64, 0usize));
     let mut table = two_row_table(rt.alloc())?;
     table.add_row_if(
         |count, _row| {
-            asked.set(asked.get().saturating_add(1));
-            counted.set(count);
+            asked.set((asked.get().0.saturating_add(1), count));
             yes
         },
         ["e", "f"],
     )?;
-    assert_eq!(rt; (asked.get(), counted.get()), (1, 2));
+    assert_eq!(rt; asked.get(), (1, 2));
     assert_drawn(rt, &table, wanted)
 }
 
@@ -103,18 +101,16 @@ fn assert_rows_asked(
     yes: bool,
     wanted: &[&str],
 ) -> Result<()> {
-    let asked = Cell::new(0u64);
-    let counted = Cell::new(9usize);
+    let asked = Cell::new((0u64, 9usize));
     let mut table = Table::new(rt.alloc());
     table.add_rows_if(
         |count, _rows| {
-            asked.set(asked.get().saturating_add(1));
-            counted.set(count);
+            asked.set((asked.get().0.saturating_add(1), count));
             yes
         },
         two_rows(rt.alloc())?,
     )?;
-    assert_eq!(rt; (asked.get(), counted.get()), (1, 0));
+    assert_eq!(rt; asked.get(), (1, 0));
     assert_drawn(rt, &table, wanted)
 }
 
@@ -136,15 +132,20 @@ const CUT: [&str; 5] = [
     "+---+----+",
 ];
 
-#[test]
-fn a_row_is_made_by_calls_that_leave_it_known(rt: HostRuntime) -> Result<()> {
-    let mut row = ["a\nb"].into_row(rt.alloc())?;
-    row.try_add_cell(comfy_table::Cell::new(rt.alloc(), "cd")?)?;
+// A row of two cells, cut to one line.
+fn cut_row(alloc: Global) -> Result<Row> {
+    let mut row = ["a\nb"].into_row(alloc)?;
+    row.try_add_cell(comfy_table::Cell::new(alloc, "cd")?)?;
     row.max_height(1);
+    Ok(row)
+}
+
+#[test]
+fn a_table_is_built_by_calls_that_leave_it_known(rt: HostRuntime) -> Result<()> {
     let mut table = Table::new(rt.alloc());
     table.try_set_truncation_indicator("~")?;
     table.try_set_header(["h", "i"])?;
-    table.try_add_row(row)?;
+    table.try_add_row(cut_row(rt.alloc())?)?;
     assert_drawn(&rt, &table, &CUT)
 }
 
@@ -157,16 +158,24 @@ fn rows_are_added_by_calls_that_leave_the_table_known(rt: HostRuntime) -> Result
     assert_drawn(&rt, &table, &THREE_ROWS)
 }
 
+// After this header there are so many columns.
+fn assert_count<T: IntoRow>(
+    rt: &impl Abort,
+    table: &mut Table,
+    header: T,
+    wanted: usize,
+) -> Result<()> {
+    table.set_header(header)?;
+    assert_eq!(rt; table.column_count()?, wanted);
+    Ok(())
+}
+
 #[test]
 fn columns_are_counted_and_only_grow(rt: HostRuntime) -> Result<()> {
     let mut table = Table::new(rt.alloc());
-    table.set_header(["a", "b", "c"])?;
-    assert_eq!(rt; table.column_count()?, 3);
-    table.set_header(["a", "b", "c", "d"])?;
-    assert_eq!(rt; table.column_count()?, 4);
-    table.set_header(["a", "b"])?;
-    assert_eq!(rt; table.column_count()?, 4);
-    Ok(())
+    assert_count(&rt, &mut table, ["a", "b", "c"], 3)?;
+    assert_count(&rt, &mut table, ["a", "b", "c", "d"], 4)?;
+    assert_count(&rt, &mut table, ["a", "b"], 4)
 }
 
 // Sets the constraints of a table of two columns, and compares those that they have then.

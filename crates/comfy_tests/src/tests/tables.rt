@@ -118,11 +118,8 @@ fn a_text_is_trimmed_or_ends_in_a_line_feed(rt: HostRuntime) -> std::result::Res
 }
 
 #[test]
-fn contents_have_their_greatest_widths(rt: HostRuntime) -> std::result::Result<(), Fail> {
+fn contents_have_their_widths(rt: HostRuntime) -> std::result::Result<(), Fail> {
     let mut table = Table::new(rt.alloc());
-    table.set_header(["thr", "four", "fivef"])?;
-    let widths = table.column_max_content_widths()?;
-    assert_eq!(rt; widths.as_slice(), [3u16, 4, 5].as_slice());
     table.add_row(["four", "fivef", "very long text with 23"])?;
     let widths = table.column_max_content_widths()?;
     assert_eq!(rt; widths.as_slice(), [4u16, 5, 22].as_slice());

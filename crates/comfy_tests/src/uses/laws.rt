@@ -1,20 +1,28 @@
 //! Callers whose claims the laws carry, beside the clauses of the calls.
 
-ghost use Rattle.std.specs.Prelude.{◌≡◌, ◌↔◌, [], IfOk, List, map, string_bytes, true};
-ghost use Rattle.comfy_parts.specs.Laws.{CutLinesAreFull, IsCutOutsideNarrow, LinesAreFew, LinesAreFewest, LinesFit, NeighboursFillALine};
+ghost use Rattle.std.specs.Prelude.{◌≡◌, ◌↔◌, [], IfOk, List, map, string_bytes, true, ℕ};
+ghost use Rattle.comfy_parts.specs.Laws.{CutLinesAreFull, IsCutOutsideNarrow, IsLongestHead, LinesAreFew, LinesAreFewest, LinesFit, NeighboursFillALine};
 ghost use Rattle.comfy_parts.specs.Text.{Text};
 ghost use Rattle.comfy_parts.specs.VisibleText.{visible_text};
 ghost use Rattle.comfy_parts.specs.Wrapping.{IsWrapped};
+ghost use Rattle.comfy_table.specs.Drawing.{infos_of};
+ghost use Rattle.comfy_tests.specs.Uses.{KeepsTheLaws};
 
 use comfy_parts::laws::{
     attributes_are_ordered, cells_are_equal_by_their_values, colors_are_ordered,
 };
 use comfy_table::laws::{
-    cut_lines_are_full, lines_are_few, lines_are_fewest, lines_fit, narrow_elements_stay_whole,
-    neighbours_fill_a_line, sequences_are_taken_out_in_one_pass, wrapped_lines_are_one_list,
+    columns_are_at_most_three_wider, contents_that_fit_are_kept, cut_lines_are_full,
+    dynamic_widths_are_levelled, frame_lines_have_one_count, frame_lines_keep_to_the_width,
+    head_is_longest, lines_are_few, lines_are_fewest, lines_fit, narrow_elements_stay_whole,
+    neighbours_fill_a_line, sequences_are_taken_out_in_one_pass, the_level_is_the_best,
+    widths_keep_to_the_wider_total, widths_keep_to_the_width, wrapped_lines_are_one_list,
 };
-use comfy_table::utils::formatting::content_split::{ColumnDisplayInfo, split_line};
-use comfy_table::{Attribute, Cell, Color, Result};
+use comfy_table::utils::arrangement::arrange_content;
+use comfy_table::utils::formatting::content_split::{
+    ColumnDisplayInfo, split_line, split_long_word,
+};
+use comfy_table::{Attribute, Cell, Color, Result, Table};
 use std::alloc::Global;
 
 /// Whether two cells are the same.
@@ -64,6 +72,30 @@ pub fn promised_lines(
     narrow_elements_stay_whole();
     wrapped_lines_are_one_list();
     split_line(alloc, text, info, delimiter)
+}
+
+/// The front of a text for so many terminal columns. No longer front of whole grapheme clusters fits them.
+pub fn longest_front(text: &str, columns: usize) -> &str
+    ensures { IsLongestHead columns text.now result.now }
+{
+    head_is_longest();
+    let (front, _rest) = split_long_word(columns, text);
+    front
+}
+
+/// The columns of a table as they are drawn, with what the laws say of their widths.
+pub fn lawful_columns(table: &Table) -> Result<Vec<ColumnDisplayInfo>>
+    ensures { IfOk result (λ infos. (widths : List ℕ) × (infos.items ≡ infos_of table.now widths) × ((w : ℕ) → KeepsTheLaws table.now w widths)) }
+{
+    frame_lines_have_one_count();
+    frame_lines_keep_to_the_width();
+    widths_keep_to_the_width();
+    widths_keep_to_the_wider_total();
+    dynamic_widths_are_levelled();
+    the_level_is_the_best();
+    contents_that_fit_are_kept();
+    columns_are_at_most_three_wider();
+    arrange_content(table)
 }
 
 /// A text behind the sequence that makes it bold. What is visible of it is what is visible of the text.
