@@ -1,13 +1,13 @@
 //! Callers that make, copy and compare cells.
 
 ghost use Rattle.std.specs.Prelude.{◌≡◌, ◌++◌, ◌∷◌, [], IfOk, IfSome, Some, length, string_bytes, true, unwrap_or};
-ghost use Rattle.comfy_parts.specs.CellValue.{plain_cell};
+ghost use Rattle.comfy_parts.specs.CellValue.{number_cell, plain_cell};
 ghost use Rattle.comfy_parts.specs.declared.style.attribute.Attribute.TheVariants.{Bold};
 ghost use Rattle.comfy_parts.specs.declared.style.cell.CellAlignment.TheVariants.{Center};
 ghost use Rattle.comfy_parts.specs.declared.style.color.Color.TheVariants.{Red, White};
 
 use comfy_parts::laws::cells_are_equal_by_their_values;
-use comfy_table::{Attribute, Cell, CellAlignment, Color, Result};
+use comfy_table::{Attribute, Cell, CellAlignment, Cells, Color, IntoCell, IntoCells, Result};
 use std::alloc::Global;
 
 /// A warning: bold red on white, in the middle of its column, and broken at hyphens.
@@ -78,4 +78,18 @@ pub fn equals_its_copy(cell: &Cell) -> Result<bool>
     let copy = cell.clone()?;
     cells_are_equal_by_their_values();
     Ok(copy == *cell)
+}
+
+/// The cell of a whole number.
+pub fn numbered(alloc: Global, number: u32) -> Result<Cell>
+    ensures { IfOk result (λ cell. cell ≡ number_cell number) }
+{
+    number.into_cell(alloc)
+}
+
+/// The cells of two texts.
+pub fn both(alloc: Global, first: &str, second: &str) -> Result<Cells>
+    ensures { IfOk result (λ cells. cells.0.items ≡ plain_cell first.now ∷ plain_cell second.now ∷ []) }
+{
+    [first, second].into_cells(alloc)
 }

@@ -10,8 +10,9 @@ ghost use Rattle.comfy_table.specs.TableValue.{header_and_rows, max_content_widt
 
 use comfy_table::utils::arrangement::{arrange_content, longest_line};
 use comfy_table::utils::build_table;
-use comfy_table::utils::formatting::content_format::{format_content, format_row};
-use comfy_table::{Result, Row, Table};
+use comfy_table::utils::formatting::content_format::{delimiter, format_content, format_row};
+use comfy_table::utils::formatting::content_split::ColumnDisplayInfo;
+use comfy_table::{Cell, Result, Row, Table};
 use std::alloc::Global;
 
 /// The first line of a drawing; none where nothing is drawn.
@@ -76,4 +77,11 @@ pub fn finds_the_longest_line(table: &Table, position: usize, width: u16) -> boo
     ensures { result ≡ true }
 {
     longest_line(table, position, width).is_ok()
+}
+
+/// The delimiter of a cell that has one, whatever its drawn column and its table have.
+pub fn own_delimiter_as_drawn(table: &Table, info: &ColumnDisplayInfo, cell: Cell) -> char
+    ensures { result ≡ 44 }
+{
+    delimiter(&cell.set_delimiter(','), info, table)
 }

@@ -1,21 +1,28 @@
 //! Callers whose claims the laws carry, beside the clauses of the calls.
 
-ghost use Rattle.std.specs.Prelude.{◌≡◌, ◌↔◌, [], IfOk, List, map, string_bytes, true, ℕ};
-ghost use Rattle.comfy_parts.specs.Laws.{CutLinesAreFull, IsCutOutsideNarrow, IsLongestHead, LinesAreFew, LinesAreFewest, LinesFit, NeighboursFillALine};
+ghost use Rattle.std.specs.Prelude.{◌≡◌, ◌↔◌, [], Bool, IfOk, List, map, string_bytes, true, ℕ};
+ghost use Rattle.comfy_parts.specs.Laws.{ActiveIsResumed, ClosedTextsLeaveNone, CutLinesAreFull, IsCutOutsideNarrow, IsLongestHead, LinesAreFew, LinesAreFewest, LinesAreSeen, LinesFit, NeighboursFillALine, PrintableAddsOneColumnEach};
 ghost use Rattle.comfy_parts.specs.Text.{Text};
 ghost use Rattle.comfy_parts.specs.VisibleText.{visible_text};
 ghost use Rattle.comfy_parts.specs.Wrapping.{IsWrapped};
 ghost use Rattle.comfy_table.specs.Drawing.{infos_of};
+ghost use Rattle.comfy_parts.specs.CellValue.{ColumnValue};
+ghost use Rattle.comfy_table.specs.Laws.{DynamicIsOne};
+ghost use Rattle.comfy_table.specs.TableLaws.{ShrinkingKeepsCells};
+ghost use Rattle.comfy_table.specs.TableValue.{TableValue};
+ghost use Rattle.comfy_table.specs.Widths.{ColumnNeeds};
 ghost use Rattle.comfy_tests.specs.Uses.{KeepsTheLaws};
 
 use comfy_parts::laws::{
     attributes_are_ordered, cells_are_equal_by_their_values, colors_are_ordered,
 };
 use comfy_table::laws::{
-    columns_are_at_most_three_wider, contents_that_fit_are_kept, cut_lines_are_full,
-    dynamic_widths_are_levelled, frame_lines_have_one_count, frame_lines_keep_to_the_width,
-    head_is_longest, lines_are_few, lines_are_fewest, lines_fit, narrow_elements_stay_whole,
-    neighbours_fill_a_line, sequences_are_taken_out_in_one_pass, the_level_is_the_best,
+    active_sequences_are_resumed, columns_are_at_most_three_wider, contents_that_fit_are_kept,
+    cut_lines_are_full, dynamic_widths_are_levelled, dynamic_widths_are_one_list,
+    frame_lines_have_one_count, frame_lines_keep_to_the_width, head_is_longest, lines_are_few,
+    lines_are_fewest, lines_fit, lines_leave_no_sequence_open, narrow_elements_stay_whole,
+    neighbours_fill_a_line, printable_adds_one_column_each, sequences_are_taken_out_in_one_pass,
+    sequences_count_nothing, shrinking_keeps_the_lines, the_level_is_the_best,
     widths_keep_to_the_wider_total, widths_keep_to_the_width, wrapped_lines_are_one_list,
 };
 use comfy_table::utils::arrangement::arrange_content;
@@ -106,4 +113,27 @@ pub fn bold(alloc: Global, text: &str) -> Result<String>
     let mut bold = String::from_str(alloc, "\u{1b}[1m")?;
     bold.push_str(text)?;
     Ok(bold)
+}
+
+/// What the laws say of sequences inside a cell: they count nothing, are closed, and are resumed.
+pub fn sequences_are_kept_apart()
+    ensures lines { (w d : ℕ) (text_lines : List Text) → LinesAreSeen w d text_lines }
+    ensures closed { (text : Text) → ClosedTextsLeaveNone text }
+    ensures resumed { (earlier : List Text) (text : Text) (start len k : ℕ) → ActiveIsResumed earlier text start len k }
+{
+    sequences_count_nothing();
+    lines_leave_no_sequence_open();
+    active_sequences_are_resumed();
+}
+
+/// What the laws say of any widths: there is one list of them, and a column that shrinks keeps its lines. An indicator of
+/// printable ASCII adds one terminal column for each of its characters.
+pub fn widths_are_one_list()
+    ensures one { (room : ℕ) (columns : List ColumnNeeds) (full : Bool) (widths others : List ℕ) → DynamicIsOne room columns full widths others }
+    ensures kept { (table : TableValue) (p : ℕ × ColumnValue) (b : ℕ) → ShrinkingKeepsCells table p b }
+    ensures indicator { (indicator : Text) → PrintableAddsOneColumnEach indicator }
+{
+    dynamic_widths_are_one_list();
+    shrinking_keeps_the_lines();
+    printable_adds_one_column_each();
 }

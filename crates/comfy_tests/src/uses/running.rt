@@ -1,8 +1,8 @@
 //! Callers that run the program, and make its devices.
 
-ghost use Rattle.std.specs.Prelude.{◌≡◌, false, length};
+ghost use Rattle.std.specs.Prelude.{◌≡◌, ◌≤◌, ◌++◌, IfOk, List, Some, false, length, take, ℕ};
 
-use comfy_run::run::{FromReader, MemorySink, Sink, Source, ToWriter, program};
+use comfy_run::run::{DeviceFault, FromReader, MemorySink, Sink, Source, ToWriter, program};
 use std::alloc::Global;
 use std::io::{Read, Write};
 
@@ -32,4 +32,18 @@ pub fn taken(sink: &MemorySink) -> usize
     ensures { result ≡ length sink.now.bytes }
 {
     sink.bytes().len()
+}
+
+/// Reads once. No more comes than the buffer holds.
+pub fn read_once<R: Source>(source: &mut R, buffer: &mut [u8]) -> Result<usize, DeviceFault>
+    ensures { IfOk result (λ count. count ≤ length buffer.old) }
+{
+    source.read(buffer)
+}
+
+/// Writes once. Of a sink that says its bytes, it has the front of the piece behind those that it had.
+pub fn write_once<W: Sink>(sink: &mut W, piece: &[u8]) -> Result<usize, DeviceFault>
+    ensures { IfOk result (λ count. (had : List ℕ) → W.taken sink.old ≡ Some had → W.taken sink.new ≡ Some (had ++ take count piece.now)) }
+{
+    sink.write(piece)
 }

@@ -125,3 +125,10 @@ pub fn agrees_with_its_style(table: &Table) -> bool
         && should_draw_right_border(table) == style.draws_right_border()
         && should_draw_vertical_lines(table) == style.draws_vertical_lines()
 }
+
+/// A line of a row with bars at both sides and between the columns.
+pub fn barred() -> ContentLineStyle
+    ensures { result ≡ record { left = Some 124; junction = Some 124; right = Some 124 } }
+{
+    ContentLineStyle::new('|', '|', '|')
+}
