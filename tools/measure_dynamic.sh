@@ -6,25 +6,9 @@
 # All programs have to write the same. A ratio is the first program's instructions divided by those of the program that
 # it stands at. Instructions are in millions.
 set -eu
+. "$(dirname "$0")/sentences.sh"
 work=$(mktemp -d)
 trap 'rm -rf "$work"' EXIT
-
-# A header and 2,000 rows of 6 sentences: so many words, each of 2 letters up to so many, out of these letters.
-sentences() {
-  awk -v words="$1" -v longest="$2" -v alphabet="$3" '
-    function drawn(count) { state = state * 16807 % 2147483647; return state % count }
-    BEGIN {
-      state = 1
-      letters = split(alphabet, letter, " ")
-      for (row = 0; row <= 2000; row++) {
-        for (word = 0; word < 6 * words; word++) {
-          if (word > 0) printf (word % words ? " " : "\t")
-          for (left = 2 + drawn(longest - 1); left > 0; left--) printf letter[1 + drawn(letters)]
-        }
-        print ""
-      }
-    }'
-}
 
 # A header and so many rows of so many cells of five words. All words of a column have one length: the average room at
 # the column's turn, less 3. So each column shrinks. The first average is 20: the table is 23 * columns + 1 wide.

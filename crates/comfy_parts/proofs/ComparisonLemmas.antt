@@ -72,7 +72,7 @@ rgb_same a b e =
 ansi_same : (a b : ℕ × Unit {0}) → (a.0 == b.0) ≡ true → a ≡ b
 ansi_same a b e = let number = (unsigned_Decides a.0 b.0).0 e in λ i. (number i, tt)
 
--- colours are told apart by their variants, and by the numbers in these
+-- colours differ by their variants, and by the numbers in these
 pub color_eq_is_same : EqIsSame color_eq
 color_eq_is_same a b = (values, λ e. subst (λ (other : Color). color_eq a other ≡ true) e (color_equiv.laws-law.refl a))
   where

@@ -46,7 +46,7 @@ pub fn mark_cuts(table: &mut Table, indicator: &str) -> Result<()>
     table.try_set_truncation_indicator(indicator)
 }
 
-/// The width of a terminal, which a new table takes where it is told of one. It writes colours then.
+/// The width of a terminal, which a new table takes once its facts are passed in. It writes colours then.
 pub fn width_of_terminal(alloc: Global, width: u16) -> (Option<u16>, bool)
     ensures { result ≡ (Some width, true) }
 {
