@@ -6,10 +6,11 @@ use Rattle.std.proofs.lemmas.Bool.{or_parts, or_from}
 use Rattle.std.proofs.lemmas.Bool.Decides.{nat_tests}
 use Rattle.std.proofs.lemmas.Grind.{flat_map-append}
 use Rattle.std.proofs.lemmas.List.{length-drop}
+use Rattle.comfy_parts.specs.Cursor.{sequence_part}
 use Rattle.comfy_parts.specs.Text.{Text}
 use Rattle.comfy_parts.specs.VisibleText.{Part, parts, visible_bytes, visible_text, sequences_in, reset, open_after, parts_before, parts_from, parts_up_to, active, closing, closed, line_text}
 use Rattle.comfy_parts.proofs.OpenLemmas.{after_last-push, after_last-again, every-after_last, sequences_in-append, sequences_in-sequences}
-use Rattle.comfy_parts.proofs.ScanLemmas.{AreScanned, bytes_of, sequence_part, parts-scanned, scanned-parts, scanned-stops, scan}
+use Rattle.comfy_parts.proofs.ScanLemmas.{AreScanned, bytes_of, parts-scanned, scanned-parts, scanned-stops, scan}
 use Rattle.comfy_parts.proofs.SequenceLemmas.{IsSequence, Stops-nil, Stops-escape}
 use Rattle.comfy_parts.proofs.ShownLemmas.{Shows, Shows-nil, Shows-append, Shows-byte, Shows-sequence}
 
@@ -30,7 +31,7 @@ before_nil zero = refl
 before_nil (suc n) = refl
 
 -- the parts before a visible byte, and those from it on
-before_from : (n : ℕ) (ps : List Part) → parts_before n ps ++ parts_from n ps ≡ ps
+pub before_from : (n : ℕ) (ps : List Part) → parts_before n ps ++ parts_from n ps ≡ ps
 before_from zero [] = refl
 before_from (suc n) [] = refl
 before_from zero (p ∷ ps) = by_test p.is_sequence (before_from zero ps)
@@ -71,7 +72,7 @@ before_zero k (p ∷ ps) = by_test p.is_sequence refl (before_zero k ps)
     by_test false is more = refl
 
 -- and with those before each earlier one
-before_further : (n k m : ℕ) (ps : List Part) → m ≡ n + k → parts_before m ps ≡ parts_before n ps ++ parts_before k (parts_from n ps)
+pub before_further : (n k m : ℕ) (ps : List Part) → m ≡ n + k → parts_before m ps ≡ parts_before n ps ++ parts_before k (parts_from n ps)
 before_further zero k m ps is =
     let same : m ≡ k = omega (arith, is) in
     ap (λ j. parts_before j ps) same ∙ before_zero k ps
@@ -252,7 +253,7 @@ module _ (earlier : List Text) (text : Text) (start len : ℕ) where
       scanned-stops taken (bytes_of rest.0 ++ []) [] Stops-nil (scanned-parts taken rest.0 [] (subst (λ ps. AreScanned ps []) rest.1 from_scanned)).0
 
   -- what is written has these parts
-  parts-written : parts written ≡ map sequence_part resumed ++ taken
+  pub parts-written : parts written ≡ map sequence_part resumed ++ taken
   parts-written =
       ap (λ xs. parts (xs ++ bytes_of taken)) (sym (bytes_of-sequences resumed))
       ∙ parts-scanned (map sequence_part resumed) (bytes_of taken) (sequences_scanned resumed (bytes_of taken) every_resumed)

@@ -1,11 +1,13 @@
 -- Which sequences are open: what stands after the last reset, one sequence after another.
-use Rattle.std.proofs.Common.{◌≡◌, ◌≤◌, ℕ, zero, suc, ◌+◌, ◌-◌, Bool, true, false, cond, not, List, [], ◌∷◌, ◌++◌, length, map, drop, subst, refl, sym, ap, ◌∙◌, arith, append_assoc, append-nil, length-append}
+use Rattle.std.proofs.Common.{◌≡◌, ◌≤◌, ℕ, zero, suc, ◌+◌, ◌-◌, Bool, true, false, cond, not, ◌&&◌, ◌==◌, List, [], ◌∷◌, ◌++◌, length, map, drop, subst, refl, sym, ap, ap₂, ◌∙◌, arith, append_assoc, append-nil, length-append}
 use Rattle.std.specs.List.{filter, prefix_len, suffix_len, after_last, AllByRecursion}
-use Rattle.std.specs.Prelude.{if◌then◌else◌}
+use Rattle.std.specs.Cmp.{nat_eq_equiv}
+use Rattle.std.specs.Prelude.{if◌then◌else◌, bytes_eq, encode_utf8}
+use Rattle.std.proofs.lemmas.Bool.Decides.{nat_tests}
 use Rattle.std.proofs.lemmas.List.{reverse-append}
+use Rattle.comfy_parts.specs.Cursor.{character_parts, opened, opened_by, sequence_part, visible_part}
 use Rattle.comfy_parts.specs.Text.{Text}
-use Rattle.comfy_parts.specs.VisibleText.{Part, sequences_in}
-use Rattle.comfy_parts.proofs.ScanLemmas.{sequence_part}
+use Rattle.comfy_parts.specs.VisibleText.{Part, open_after, reset, sequences_in}
 use Rattle.std.proofs.lemmas.List.Sums.{suffix_len-le-length}
 
 -- one more element of which it holds
@@ -111,3 +113,52 @@ sequences_in-append (p ∷ ps) qs = by_test p.is_sequence (sequences_in-append p
 pub sequences_in-sequences : (ss : List Text) → sequences_in (map sequence_part ss) ≡ ss
 sequences_in-sequences [] = refl
 sequences_in-sequences (s ∷ ss) = ap (λ xs. s ∷ xs) (sequences_in-sequences ss)
+
+-- ---- the sequences that are open behind parts
+
+-- both ways round
+bytes_eq-comm : (xs ys : Text) → bytes_eq xs ys ≡ bytes_eq ys xs
+bytes_eq-comm [] [] = refl
+bytes_eq-comm [] (y ∷ ys) = refl
+bytes_eq-comm (x ∷ xs) [] = refl
+bytes_eq-comm (x ∷ xs) (y ∷ ys) = ap₂ (λ a b. a && b) (nat_eq_equiv.symm x y) (bytes_eq-comm xs ys)
+
+-- one part more
+open_after-push : (before : List Part) (p : Part) → open_after (before ++ p ∷ []) ≡ opened_by (open_after before) p
+open_after-push before p =
+    ap (after_last (bytes_eq reset)) (sequences_in-append before (p ∷ [])) ∙ by_test p.is_sequence
+  where
+    by_test : (b : Bool) → after_last (bytes_eq reset) (sequences_in before ++ map (λ (p : Part). p.bytes) (if b then p ∷ [] else []))
+        ≡ (if b then (if bytes_eq reset p.bytes then [] else open_after before ++ p.bytes ∷ []) else open_after before)
+    by_test true = after_last-push (bytes_eq reset) (sequences_in before) p.bytes
+    by_test false = ap (after_last (bytes_eq reset)) (append-nil (sequences_in before))
+
+-- some parts more
+pub open_after-opened : (before ps : List Part) → open_after (before ++ ps) ≡ opened (open_after before) ps
+open_after-opened before [] = ap open_after (append-nil before)
+open_after-opened before (p ∷ ps) =
+    ap open_after (sym (append_assoc before (p ∷ []) ps)) ∙ open_after-opened (before ++ p ∷ []) ps ∙ ap (λ ss. opened ss ps) (open_after-push before p)
+
+-- parts after parts
+pub opened-append : (ss : List Text) (ps qs : List Part) → opened ss (ps ++ qs) ≡ opened (opened ss ps) qs
+opened-append ss [] qs = refl
+opened-append ss (p ∷ ps) qs = opened-append (opened_by ss p) ps qs
+
+-- visible bytes open nothing
+opened-visible : (ss : List Text) (bs : Text) (ps : List Part) → opened ss (map visible_part bs ++ ps) ≡ opened ss ps
+opened-visible ss [] ps = refl
+opened-visible ss (b ∷ bs) ps = opened-visible ss bs ps
+
+pub opened-character : (ss : List Text) (c : ℕ) (ps : List Part) → opened ss (character_parts c ++ ps) ≡ opened ss ps
+opened-character ss c ps = opened-visible ss (encode_utf8 c) ps
+
+-- a sequence leaves one open where it isn't the reset
+pub is_open-sequence : (ss : List Text) (s : Text) (b : Bool) → b ≡ not (bytes_eq s reset) → b ≡ not (length (opened_by ss (sequence_part s)) == 0)
+is_open-sequence ss s b is = is ∙ ap not (bytes_eq-comm s reset) ∙ by_test (bytes_eq reset s)
+  where
+    by_test : (t : Bool) → not t ≡ not (length (if t then [] else ss ++ s ∷ []) == 0)
+    by_test true = refl
+    by_test false =
+        let len = length-append ss (s ∷ []) in
+        let some : (length (ss ++ s ∷ []) == 0) ≡ false = grind (arith, nat_tests, len) in
+        sym (ap not some)

@@ -2,6 +2,7 @@
 use Rattle.std.proofs.Common.{◌≡◌, ◌⊎◌, inl, inr, ◌≤◌, ℕ, zero, suc, true, false, List, [], ◌∷◌, ◌++◌, length, refl, sym, ap, ap₂, ◌∙◌, subst, arith, append_assoc, append-nil, length-append}
 use Rattle.std.specs.List.{list_all, flat_map}
 use Rattle.std.proofs.lemmas.Grind.{flat_map-append}
+use Rattle.comfy_parts.specs.Cursor.{sequence_part, visible_part}
 use Rattle.comfy_parts.specs.Text.{Text}
 use Rattle.comfy_parts.specs.VisibleText.{Part, is_parameter, parts}
 use Rattle.comfy_parts.proofs.SequenceLemmas.{IsSequence, BeginsWithSequence, Stops, begins_with_sequence, front_of, visible-stops, parts-sequence, parts-visible}
@@ -11,14 +12,6 @@ use Rattle.comfy_parts.proofs.SequenceLemmas.{IsSequence, BeginsWithSequence, St
 -- the bytes of some parts
 abbrev pub bytes_of : List Part → Text
 bytes_of ps = flat_map (λ (p : Part). p.bytes) ps
-
--- a sequence as a part
-abbrev pub sequence_part : Text → Part
-sequence_part s = record { is_sequence = true; bytes = s }
-
--- a visible byte as a part
-abbrev pub visible_part : ℕ → Part
-visible_part b = record { is_sequence = false; bytes = b ∷ [] }
 
 -- a part that is a visible byte where this follows it
 pub record IsVisibleBefore (rest : Text) (p : Part) : Type 0 where

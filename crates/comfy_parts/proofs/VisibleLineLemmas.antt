@@ -51,7 +51,7 @@ seconds-one false at line starts lines more = ap (λ xs. line ∷ xs) more
 -- ---- where lines stand
 
 -- the line stands at its place in the text
-abbrev StandsIn : Text → ℕ × Text → Type 0
+abbrev pub StandsIn : Text → ℕ × Text → Type 0
 StandsIn whole p = take (length p.1) (drop p.0 whole) ≡ p.1
 
 -- so do the lines of what follows the skipped bytes
@@ -77,7 +77,7 @@ as_many w d at zero (b ∷ rest) =
     (as_many w d (at + 1) (part_end w d (b ∷ rest) - 1) rest)
 
 -- the lines of a text stand at their places
-text_lines_stand : (w d : ℕ) (text : Text) → AllByRecursion (StandsIn text) (zip (starts_of_text w d text) (lines_of_text w d text))
+pub text_lines_stand : (w d : ℕ) (text : Text) → AllByRecursion (StandsIn text) (zip (starts_of_text w d text) (lines_of_text w d text))
 text_lines_stand w d text = by_test (nat_le (measure text) w)
   where
     by_test : (b : Bool) → AllByRecursion (StandsIn text) (zip (if b then 0 ∷ [] else starts_past w d 0 0 text) (if b then text ∷ [] else wrapped w d text))
@@ -95,7 +95,7 @@ as_many_lines w d text = by_test (nat_le (measure text) w)
 -- ---- lines that are written
 
 -- what a function gives of each
-every-map : {X Y : Type 0} (P : X → Type 0) (Q : Y → Type 0) (f : X → Y) (xs : List X) → ((x : X) → P x → Q (f x)) → AllByRecursion P xs → AllByRecursion Q (map f xs)
+pub every-map : {X Y : Type 0} (P : X → Type 0) (Q : Y → Type 0) (f : X → Y) (xs : List X) → ((x : X) → P x → Q (f x)) → AllByRecursion P xs → AllByRecursion Q (map f xs)
 every-map P Q f [] gives each = tt
 every-map P Q f (x ∷ xs) gives each = (gives x each.0, every-map P Q f xs gives each.1)
 
@@ -105,7 +105,7 @@ map-both g f [] = refl
 map-both {X} {Y} {Z} g f (x ∷ xs) = ap (λ (zs : List Z). g (f x) ∷ zs) (map-both g f xs)
 
 -- both lists
-every-append : {X : Type 0} (P : X → Type 0) (xs ys : List X) → AllByRecursion P xs → AllByRecursion P ys → AllByRecursion P (xs ++ ys)
+pub every-append : {X : Type 0} (P : X → Type 0) (xs ys : List X) → AllByRecursion P xs → AllByRecursion P ys → AllByRecursion P (xs ++ ys)
 every-append P [] ys each others = others
 every-append P (x ∷ xs) ys each others = (each.0, every-append P xs ys each.1 others)
 

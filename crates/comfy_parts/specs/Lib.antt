@@ -2,6 +2,7 @@ pub mod Borders
 pub mod CellEquality
 pub mod CellValue
 pub mod Comparisons
+pub mod Cursor
 pub mod Following
 pub mod Items
 pub mod ItemsGiven
@@ -15,3 +16,4 @@ pub mod VisibleLines
 pub mod VisibleText
 pub mod WrappedRow
 pub mod Wrapping
+pub mod Written

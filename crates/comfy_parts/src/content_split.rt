@@ -4,20 +4,24 @@ ghost use Rattle.std.specs.Prelude.{◌≡◌, [], map, IfOk, IsOk, string_bytes
 ghost use Rattle.comfy_parts.specs.Text.{elements};
 ghost use Rattle.comfy_parts.specs.Wrapping.{IsWrapped, wrapped};
 
+mod cursor;
 pub mod display_info;
 mod ends;
 mod lines;
 mod prefix;
 mod sequences;
 mod width;
+mod written;
 
 use crate::error::Result;
 pub use display_info::ColumnDisplayInfo;
 pub use lines::{WrappedLines, wrapped_lines};
 pub use prefix::split_long_word;
-pub use sequences::visible_text;
+pub(crate) use sequences::has_escape;
+pub use sequences::{leaves_sequence_open, visible_text};
 use std::alloc::Global;
 pub use width::measure_text_width;
+pub(crate) use written::written_lines;
 
 /// What stands between the delimiters of a line, in order and empty parts too.
 pub fn split_line_by_delimiter(alloc: Global, line: &str, delimiter: char) -> Result<Vec<&str>>

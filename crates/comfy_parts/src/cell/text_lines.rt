@@ -1,10 +1,12 @@
 //! The text lines of a cell, each with its measure.
 
-ghost use Rattle.std.specs.Prelude.{◌≡◌, IfOk, map, string_bytes};
+ghost use Rattle.std.specs.Prelude.{◌≡◌, ◌==◌, IfOk, map, string_bytes};
+ghost use Rattle.std.specs.List.{list_any, slice_split};
 ghost use Rattle.comfy_parts.specs.CellValue.{HasTextLines, plain_cell};
 ghost use Rattle.comfy_parts.specs.Text.{measure};
+ghost use Rattle.comfy_parts.specs.VisibleText.{has_escape, visible_text};
 
-use crate::content_split::measure_text_width;
+use crate::content_split::{has_escape, measure_text_width, visible_text};
 use crate::error::Result;
 use std::alloc::{AllocError, Global};
 use std::marker::Model;
@@ -22,12 +24,22 @@ enum Lines {
     One { text: String, width: usize },
     // behind a box, so that a cell of one text line stays small
     Several(Box<SeveralLines>),
+    // where ESC stands in one of them
+    Escaped(Box<EscapedLines>),
 }
 
 #[derive(Debug, Drop)]
 struct SeveralLines {
     texts: Vec<String>,
     widths: Vec<usize>,
+}
+
+// Text lines, and what is visible of each. A table asks for the visible ones again and again, and each time without
+// memory, so they are kept.
+#[derive(Debug, Drop)]
+struct EscapedLines {
+    whole: SeveralLines,
+    visible: SeveralLines,
 }
 
 impl Model for TextLines {
@@ -47,20 +59,21 @@ impl TextLines {
         ensures value { IfOk result (λ lines. lines ≡ (plain_cell (string_bytes text)).text_lines) }
         ensures text_lines { IfOk result HasTextLines }
     {
-        if !text.as_str().contains('\n') {
+        if !text.as_str().contains('\n') && !has_escape(text.as_str()) {
             let width = measure_text_width(text.as_str());
             return Ok(TextLines {
                 lines: Lines::One { text, width },
             });
         }
-        let mut texts = Vec::new(alloc);
-        let mut widths = Vec::new(alloc);
-        for line in text.as_str().split('\n') {
-            texts.push(String::from_str(alloc, line)?)?;
-            widths.push(measure_text_width(line))?;
+        let whole = SeveralLines::of_text(alloc, text.as_str())?;
+        if !whole.has_escape() {
+            return Ok(TextLines {
+                lines: Lines::Several(Box::new(alloc, whole)?),
+            });
         }
+        let visible = whole.visible(alloc)?;
         Ok(TextLines {
-            lines: Lines::Several(Box::new(alloc, SeveralLines { texts, widths })?),
+            lines: Lines::Escaped(Box::new(alloc, EscapedLines { whole, visible })?),
         })
     }
 
@@ -70,6 +83,7 @@ impl TextLines {
         match &self.lines {
             Lines::One { text, .. } => slice::from_ref(text),
             Lines::Several(several) => several.texts.as_slice(),
+            Lines::Escaped(escaped) => escaped.whole.texts.as_slice(),
         }
     }
 
@@ -80,7 +94,81 @@ impl TextLines {
         match &self.lines {
             Lines::One { width, .. } => slice::from_ref(width),
             Lines::Several(several) => several.widths.as_slice(),
+            Lines::Escaped(escaped) => escaped.whole.widths.as_slice(),
         }
+    }
+
+    // What is visible of each text line.
+    pub(crate) fn visible(&self) -> &[String]
+        ensures { map string_bytes result.now ≡ map visible_text self.now }
+    {
+        match &self.lines {
+            Lines::One { text, .. } => slice::from_ref(text),
+            Lines::Several(several) => several.texts.as_slice(),
+            Lines::Escaped(escaped) => escaped.visible.texts.as_slice(),
+        }
+    }
+
+    // The columns that each of these takes.
+    pub(crate) fn visible_widths(&self) -> &[usize]
+        ensures { result.now ≡ map measure (map visible_text self.now) }
+    {
+        match &self.lines {
+            Lines::One { width, .. } => slice::from_ref(width),
+            Lines::Several(several) => several.widths.as_slice(),
+            Lines::Escaped(escaped) => escaped.visible.widths.as_slice(),
+        }
+    }
+
+    // Whether ESC stands in a text line.
+    pub(crate) fn has_escape(&self) -> bool
+        ensures { result ≡ list_any has_escape self.now }
+    {
+        match &self.lines {
+            Lines::One { .. } | Lines::Several(_) => false,
+            Lines::Escaped(_) => true,
+        }
+    }
+}
+
+impl SeveralLines {
+    // What stands between the line feeds of a text.
+    fn of_text(alloc: Global, text: &str) -> Result<SeveralLines>
+        ensures texts { IfOk result (λ lines. map string_bytes lines.texts.items ≡ slice_split (λ b. b == 0x0A) text.now) }
+        ensures widths { IfOk result (λ lines. lines.widths.items ≡ map measure (map string_bytes lines.texts.items)) }
+    {
+        let mut texts = Vec::new(alloc);
+        let mut widths = Vec::new(alloc);
+        for line in text.split('\n') {
+            texts.push(String::from_str(alloc, line)?)?;
+            widths.push(measure_text_width(line))?;
+        }
+        Ok(SeveralLines { texts, widths })
+    }
+
+    fn has_escape(&self) -> bool
+        ensures { result ≡ list_any has_escape (map string_bytes self.now.texts.items) }
+    {
+        let mut found = false;
+        for text in self.texts.as_slice() {
+            found |= has_escape(text.as_str());
+        }
+        found
+    }
+
+    // What is visible of each text line.
+    fn visible(&self, alloc: Global) -> Result<SeveralLines>
+        ensures texts { IfOk result (λ lines. map string_bytes lines.texts.items ≡ map visible_text (map string_bytes self.now.texts.items)) }
+        ensures widths { IfOk result (λ lines. lines.widths.items ≡ map measure (map string_bytes lines.texts.items)) }
+    {
+        let mut texts = Vec::new(alloc);
+        let mut widths = Vec::new(alloc);
+        for text in self.texts.as_slice() {
+            let visible = visible_text(alloc, text.as_str())?;
+            widths.push(measure_text_width(visible.as_str()))?;
+            texts.push(visible)?;
+        }
+        Ok(SeveralLines { texts, widths })
     }
 }
 
@@ -95,6 +183,7 @@ impl Clone for TextLines {
                 width: *width,
             },
             Lines::Several(several) => Lines::Several(several.clone()?),
+            Lines::Escaped(escaped) => Lines::Escaped(escaped.clone()?),
         };
         Ok(TextLines { lines })
     }
@@ -107,6 +196,17 @@ impl Clone for SeveralLines {
         Ok(SeveralLines {
             texts: self.texts.clone()?,
             widths: self.widths.clone()?,
+        })
+    }
+}
+
+impl Clone for EscapedLines {
+    ghost is_clone = { λ source copy. (map string_bytes copy.whole.texts.items ≡ map string_bytes source.whole.texts.items) × (copy.whole.widths.items ≡ source.whole.widths.items) × (map string_bytes copy.visible.texts.items ≡ map string_bytes source.visible.texts.items) × (copy.visible.widths.items ≡ source.visible.widths.items) };
+
+    fn clone(&self) -> std::result::Result<EscapedLines, AllocError> {
+        Ok(EscapedLines {
+            whole: self.whole.clone()?,
+            visible: self.visible.clone()?,
         })
     }
 }

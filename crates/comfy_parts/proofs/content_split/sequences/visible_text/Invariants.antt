@@ -1,7 +1,7 @@
 use Rattle.std.proofs.Common.{◌≡◌, ◌++◌, string_bytes, length}
 use denote.Text.{Utf8}
 use denote.Shadow.{shadow}
-use Rattle.comfy_parts.specs.VisibleText.{visible_text}
+use Rattle.comfy_parts.specs.VisibleText.{parts, visible_text}
 use Rattle.comfy_parts.proofs.content_split.sequences.visible_text.Given as goal
 
 abbrev pub invariant-parts : goal.invariant-parts
@@ -12,4 +12,4 @@ invariant-parts l =
     }
 
 abbrev pub decreases-parts : goal.decreases-parts
-decreases-parts l = length l.rest
+decreases-parts l = length (parts l.rest)

@@ -1,23 +1,40 @@
-use Rattle.std.proofs.Common.{◌==◌, List, [], ◌∷◌, ℕ, ap, sym, subst, ◌∙◌, lit<, string_bytes}
-use Rattle.std.specs.Str.Iter.{split_text, split_has_more, split_pattern}
-use Rattle.std.proofs.lemmas.Iterator.Consumers.{YieldsList-end}
-use Rattle.std.proofs.lemmas.Iterator.Splits.{YieldsList-from_str_split}
+use Rattle.std.proofs.Common.{◌≡◌, ◌==◌, refl, false, List, [], ◌∷◌, ℕ, ap, sym, subst, ◌∙◌, map, string_bytes}
+use Rattle.std.specs.List.{list_any, slice_split}
 use Rattle.std.specs.Str.{NoCharPasses}
+use Rattle.comfy_parts.proofs.EscapedLemmas.{clear_lines}
 use Rattle.comfy_parts.proofs.ValueLemmas.{has_text_lines, one_text_line}
+use Rattle.comfy_parts.specs.Text.{measure}
+use Rattle.comfy_parts.specs.VisibleText.{has_escape}
 use Rattle.comfy_parts.proofs.cell.text_lines.TextLines.new.Goals as goal
 
--- the text has no line feed
-pub returns-then-not-contains : goal.returns-then-not-contains
-returns-then-not-contains c =
-    let none = subst (λ (text : List ℕ). NoCharPasses (λ d. d == 10) text) c.as_str.ensures.value c.if-not-contains.ensures.cases in
-    let one = sym (one_text_line (string_bytes c.args.text) none) in
-    record { value = one; text_lines = has_text_lines (string_bytes c.args.text) (c.args.text ∷ []) one }
+-- one text line without ESC
+pub invariant_of-result : goal.invariant_of-result
+invariant_of-result c =
+    let text = string_bytes c.args.text in
+    let clear : has_escape text ≡ false = ap has_escape (sym c.as_str-then-not-contains.ensures.value) ∙ sym c.has_escape.ensures ∙ c.if-not-has_escape.true in
+    let none : list_any has_escape (text ∷ []) ≡ false = rw clear refl in
+    let width = ap (λ n. n ∷ []) (c.measure_text_width-width.ensures.value ∙ ap measure c.as_str-then-not-has_escape.ensures.value) in
+    record { widths = width; visible = clear_lines (text ∷ []) none; visible_widths = width; escaped = sym none }
 
-pub returns : goal.returns
-returns c =
-    let same = c.into_iter-line-iterator.ensures.into_iter_gives in
-    let split = c.split-line-items.ensures in
-    let cut = YieldsList-from_str_split 10 _ (lit< tt) (ap split_text same ∙ split.text ∙ c.as_str-2.ensures.value) (ap split_has_more same ∙ split.has_more) (ap split_pattern same ∙ split.pattern) in
-    let all = YieldsList-end cut c.loop-line.yielded _ c.loop-line.yielded_by _ _ c.in-None.is c.next.ensures.steps in
-    let texts = c.loop-line.invariant.texts ∙ all.0 in
-    rw c.in_ok-new.ensures.ok (record { value = texts; text_lines = has_text_lines (string_bytes c.args.text) c.loop-line.texts.items texts })
+pub returns-then-not-has_escape-clause-value : goal.returns-then-not-has_escape-clause-value
+returns-then-not-has_escape-clause-value c =
+    sym (one_text_line (string_bytes c.args.text) (subst (λ (text : List ℕ). NoCharPasses (λ d. d == 10) text) c.as_str.ensures.value c.if-not-contains.ensures.cases))
+
+pub returns-then-not-has_escape-clause-text_lines : goal.returns-then-not-has_escape-clause-text_lines
+returns-then-not-has_escape-clause-text_lines c =
+    has_text_lines (string_bytes c.args.text) (c.args.text ∷ []) (returns-then-not-has_escape-clause-value c)
+
+-- several without ESC
+pub invariant_of-result-then-not-has_escape-2 : goal.invariant_of-result-then-not-has_escape-2
+invariant_of-result-then-not-has_escape-2 c =
+    let texts = map string_bytes c.in_ok-whole.whole.texts.items in
+    let none : list_any has_escape texts ≡ false = sym c.has_escape-2.ensures ∙ c.if-not-has_escape-2.true in
+    rw c.in_ok-new.ensures.ok record { widths = c.in_ok-whole.ensures.widths; visible = clear_lines texts none; visible_widths = c.in_ok-whole.ensures.widths; escaped = sym none }
+
+pub returns-then-not-has_escape-2-clause-text_lines : goal.returns-then-not-has_escape-2-clause-text_lines
+returns-then-not-has_escape-2-clause-text_lines c =
+    rw c.in_ok-new.ensures.ok (has_text_lines (string_bytes c.args.text) c.in_ok-whole.whole.texts.items (c.in_ok-whole.ensures.texts ∙ ap (slice_split (λ b. b == 0x0A)) c.as_str-2.ensures.value))
+
+pub returns-clause-text_lines : goal.returns-clause-text_lines
+returns-clause-text_lines c =
+    rw c.in_ok-new-2.ensures.ok (has_text_lines (string_bytes c.args.text) c.in_ok-whole.whole.texts.items (c.in_ok-whole.ensures.texts ∙ ap (slice_split (λ b. b == 0x0A)) c.as_str-2.ensures.value))

@@ -1,0 +1,333 @@
+-- A cursor over the parts of a text line: what it passes, and where it stands then.
+use Rattle.std.proofs.Common.{◌≡◌, inl, inr, ◌<◌, ◌≤◌, ℕ, zero, suc, ◌+◌, ◌-◌, Bool, true, false, List, [], ◌∷◌, ◌++◌, length, map, take, drop, replicate, refl, sym, ap, ap₂, ◌∙◌, subst, arith, append_assoc, append-nil, length-append}
+use Rattle.std.specs.List.{concat, flat_map}
+use Rattle.std.specs.Char.{IsScalar}
+use Rattle.std.specs.Prelude.{if◌then◌else◌, chars, encode_utf8, encode_utf8_all, IsUtf8}
+use Rattle.std.specs.Str.{all_scalars}
+use Rattle.std.proofs.Math.Utf8.{scalar as scalar_of}
+use Rattle.std.proofs.lemmas.Bool.{and_parts}
+use Rattle.std.proofs.lemmas.Grind.{flat_map-append}
+use Rattle.std.proofs.Math.Seq.{take-append-add, drop-append-add}
+use Rattle.std.proofs.lemmas.List.{append_cancel_left, length-take, take-append-drop, take_all}
+use Rattle.std.proofs.lemmas.Str.{chars-append}
+use Rattle.unicode_segmentation.proofs.TextLemmas.{encode_utf8_nonempty}
+use Rattle.comfy_parts.specs.Cursor.{CursorValue, StandsAt, at_byte, begins_with_sequence, behind_bytes, bytes_up_to, character_parts, open_at_end, opened, parts_behind, visible_part}
+use Rattle.comfy_parts.specs.Text.{Text, IsOnly, begins_with}
+use Rattle.comfy_parts.specs.VisibleText.{Part, parts, parts_before, parts_from, parts_up_to, sequence_len, visible_bytes, visible_text}
+use Rattle.comfy_parts.proofs.FrontLemmas.{parts-behind_sequence}
+use Rattle.comfy_parts.proofs.LineTextLemmas.{before_from, before_further}
+use Rattle.comfy_parts.proofs.OpenLemmas.{opened-append}
+use Rattle.comfy_parts.proofs.ScanLemmas.{AreScanned, bytes_of, scan}
+use Rattle.comfy_parts.proofs.SequenceLemmas.{begins_with_sequence as begins, true_is_false}
+use Rattle.comfy_parts.proofs.VisibleWholeLemmas.{none_at_front, visible_character, visible_text-whole}
+use Rattle.comfy_parts.proofs.WrappingLemmas.{begins_with-append, one_character}
+
+-- a cursor of these sequences and parts
+abbrev pub at : List Text → List Part → CursorValue
+at ss ps = record { sequences = ss; ahead = ps }
+
+-- ---- parts
+
+-- a sequence in front is not among the parts from a visible byte on
+from_sequence : (k : ℕ) (p : Part) (ps : List Part) → p.is_sequence ≡ true → parts_from k (p ∷ ps) ≡ parts_from k ps
+from_sequence zero p ps is = ap (λ b. if b then parts_from zero ps else p ∷ ps) is
+from_sequence (suc k) p ps is = ap (λ b. parts_from (if b then suc k else k) ps) is
+
+-- nor are those before the next visible byte
+from_zero : (k : ℕ) (ps : List Part) → parts_from k (parts_from zero ps) ≡ parts_from k ps
+from_zero k [] = refl
+from_zero k (p ∷ ps) = by_test p.is_sequence refl (from_zero k ps)
+  where
+    by_test : (b : Bool) → p.is_sequence ≡ b → parts_from k (parts_from zero ps) ≡ parts_from k ps → parts_from k (if b then parts_from zero ps else p ∷ ps) ≡ parts_from k (p ∷ ps)
+    by_test true is more = more ∙ sym (from_sequence k p ps is)
+    by_test false is more = refl
+
+from_nil : (n : ℕ) → parts_from n [] ≡ []
+from_nil zero = refl
+from_nil (suc n) = refl
+
+-- the parts from a later visible byte on
+from_further : (n k m : ℕ) (ps : List Part) → m ≡ n + k → parts_from k (parts_from n ps) ≡ parts_from m ps
+from_further zero k m ps is =
+    let same : k ≡ m = omega (arith, is) in
+    from_zero k ps ∙ ap (λ j. parts_from j ps) same
+from_further (suc n) k m [] is = from_nil k ∙ sym (from_nil m)
+from_further (suc n) k zero (p ∷ ps) is = absurd (omega (arith, is))
+from_further (suc n) k (suc m) (p ∷ ps) is = from_further (if p.is_sequence then suc n else n) k (if p.is_sequence then suc m else m) ps (by_test p.is_sequence)
+  where
+    by_test : (b : Bool) → (if b then suc m else m) ≡ (if b then suc n else n) + k
+    by_test true = is
+    by_test false = omega (arith, is)
+
+-- the parts up to a visible byte, and those behind it
+pub up_to_behind : (n : ℕ) (ps : List Part) → parts_up_to n ps ++ parts_behind n ps ≡ ps
+up_to_behind zero ps = refl
+up_to_behind (suc n) [] = refl
+up_to_behind (suc n) (p ∷ ps) = ap (λ qs. p ∷ qs) (up_to_behind (if p.is_sequence then suc n else n) ps)
+
+-- with the sequences there, those before the next visible byte
+up_to_before : (n : ℕ) (ps : List Part) → parts_up_to n ps ++ parts_before zero (parts_behind n ps) ≡ parts_before n ps
+up_to_before zero ps = refl
+up_to_before (suc n) [] = refl
+up_to_before (suc n) (p ∷ ps) = ap (λ qs. p ∷ qs) (up_to_before (if p.is_sequence then suc n else n) ps)
+
+behind_from : (n : ℕ) (ps : List Part) → parts_from zero (parts_behind n ps) ≡ parts_from n ps
+behind_from zero ps = refl
+behind_from (suc n) [] = refl
+behind_from (suc n) (p ∷ ps) = behind_from (if p.is_sequence then suc n else n) ps
+
+-- ---- where a cursor stands
+
+-- at a later visible byte
+pub at_further : (n k : ℕ) (c : CursorValue) → at_byte k (at_byte n c) ≡ at_byte (n + k) c
+at_further n k c =
+    ap₂ at
+    (sym (opened-append c.sequences (parts_before n c.ahead) (parts_before k (parts_from n c.ahead))) ∙ ap (opened c.sequences) (sym (before_further n k (n + k) c.ahead refl)))
+    (from_further n k (n + k) c.ahead refl)
+
+-- behind the sequences that come next
+pub stands-itself : (c : CursorValue) → StandsAt (at_byte 0 c) 0 c
+stands-itself c = at_further 0 0 c
+
+-- behind a cursor that stands further on
+pub stands-more : (n k : ℕ) (old mid new : CursorValue) → StandsAt mid n old → StandsAt new k mid → StandsAt new (n + k) old
+stands-more n k old mid new first next =
+    let plain : 0 + k ≡ k = omega arith in
+    next ∙ ap (λ j. at_byte j mid) (sym plain) ∙ sym (at_further 0 k mid) ∙ ap (at_byte k) first ∙ at_further n k old
+
+-- behind a visible byte
+pub stands-behind : (n : ℕ) (c : CursorValue) → StandsAt (behind_bytes n c) n c
+stands-behind n c =
+    ap₂ at
+    (sym (opened-append c.sequences (parts_up_to n c.ahead) (parts_before zero (parts_behind n c.ahead))) ∙ ap (opened c.sequences) (up_to_before n c.ahead))
+    (behind_from n c.ahead)
+
+-- the sequences at the text line's end stay
+pub end-at : (n : ℕ) (c : CursorValue) → open_at_end (at_byte n c) ≡ open_at_end c
+end-at n c =
+    sym (opened-append c.sequences (parts_before n c.ahead) (parts_from n c.ahead)) ∙ ap (opened c.sequences) (before_from n c.ahead)
+
+-- also where a cursor only stands there but for sequences
+pub end-stands : (n : ℕ) (new old : CursorValue) → StandsAt new n old → open_at_end new ≡ open_at_end old
+end-stands n new old stands = sym (end-at 0 new) ∙ ap open_at_end stands ∙ end-at n old
+
+-- ---- behind sequences
+
+-- behind the sequences none comes next
+pub front-free : (ps : List Part) → begins_with_sequence (parts_from zero ps) ≡ false
+front-free [] = refl
+front-free (p ∷ ps) = by_test p.is_sequence refl (front-free ps)
+  where
+    by_test : (b : Bool) → p.is_sequence ≡ b → begins_with_sequence (parts_from zero ps) ≡ false → begins_with_sequence (if b then parts_from zero ps else p ∷ ps) ≡ false
+    by_test true is more = more
+    by_test false is more = is
+
+-- no more parts are left there
+pub from-fewer : (ps : List Part) → length (parts_from zero ps) ≤ length ps
+from-fewer [] = omega arith
+from-fewer (p ∷ ps) = by_test p.is_sequence (from-fewer ps)
+  where
+    by_test : (b : Bool) → length (parts_from zero ps) ≤ length ps → length (if b then parts_from zero ps else p ∷ ps) ≤ suc (length ps)
+    by_test true fewer = omega (arith, fewer)
+    by_test false fewer = omega arith
+
+-- sequences aren't seen
+pub seen-front : (ps : List Part) → flat_map visible_bytes (parts_from zero ps) ≡ flat_map visible_bytes ps
+seen-front [] = refl
+seen-front (p ∷ ps) = by_test p.is_sequence refl (seen-front ps)
+  where
+    by_test : (b : Bool) → p.is_sequence ≡ b → flat_map visible_bytes (parts_from zero ps) ≡ flat_map visible_bytes ps
+        → flat_map visible_bytes (if b then parts_from zero ps else p ∷ ps) ≡ flat_map visible_bytes (p ∷ ps)
+    by_test true is more = more ∙ ap (λ t. (if t then [] else p.bytes) ++ flat_map visible_bytes ps) (sym is)
+    by_test false is more = refl
+
+-- ---- a character is passed
+
+-- fewer visible bytes are left to pass
+visible-behind : (n : ℕ) (ss : List Text) (bs : Text) (ps : List Part) → length bs ≤ n → behind_bytes n (at ss (map visible_part bs ++ ps)) ≡ behind_bytes (n - length bs) (at ss ps)
+visible-behind n ss [] ps few =
+    let same : n ≡ n - 0 = omega arith in
+    ap (λ k. behind_bytes k (at ss ps)) same
+visible-behind zero ss (b ∷ bs) ps few = absurd (omega (arith, few))
+visible-behind (suc n) ss (b ∷ bs) ps few =
+    let same : n - length bs ≡ suc n - suc (length bs) = omega arith in
+    visible-behind n ss bs ps (omega (arith, few)) ∙ ap (λ k. behind_bytes k (at ss ps)) same
+
+pub character-behind : (n : ℕ) (c : ℕ) (ss : List Text) (ps : List Part) → length (encode_utf8 c) ≤ n → behind_bytes n (at ss (character_parts c ++ ps)) ≡ behind_bytes (n - length (encode_utf8 c)) (at ss ps)
+character-behind n c ss ps few = visible-behind n ss (encode_utf8 c) ps few
+
+-- a cursor behind a character stands as many bytes on
+visible-stands : (ss : List Text) (bs : Text) (ps : List Part) → StandsAt (at ss ps) (length bs) (at ss (map visible_part bs ++ ps))
+visible-stands ss [] ps = refl
+visible-stands ss (b ∷ bs) ps = visible-stands ss bs ps
+
+pub character-stands : (ss : List Text) (c : ℕ) (ps : List Part) → StandsAt (at ss ps) (length (encode_utf8 c)) (at ss (character_parts c ++ ps))
+character-stands ss c ps = visible-stands ss (encode_utf8 c) ps
+
+-- ---- at a text's front
+
+-- where no sequence comes next, the text has none at its front
+pub none_ahead : (text : Text) → begins_with_sequence (parts text) ≡ false → begins text ≡ false
+none_ahead text none = none_at_front text (by_len (sequence_len text) refl)
+  where
+    by_len : (n : ℕ) → sequence_len text ≡ n → sequence_len text ≡ 0
+    by_len zero is = is
+    by_len (suc n) is =
+        let some : 0 < sequence_len text = omega (arith, is) in
+        absurd (true_is_false (sym (ap begins_with_sequence (parts-behind_sequence text some)) ∙ none))
+
+-- what is visible of it begins as the text does
+pub begins_visible : (d : ℕ) (text : Text) → IsUtf8 text → begins text ≡ false → begins_with d text ≡ false → begins_with d (visible_text text) ≡ false
+begins_visible d text ([], (scalars, is)) free otherwise = subst (λ t. begins_with d (visible_text t) ≡ false) is (ap (begins_with d) is ∙ otherwise)
+begins_visible d text (c ∷ cs, (scalars, is)) free otherwise =
+    let more = encode_utf8_all cs in
+    let one = one_character c (and_parts (scalar_of c) (all_scalars cs) scalars).0 in
+    ap (λ t. begins_with d (visible_text t)) (sym is)
+    ∙ ap (begins_with d) (visible_character c more (ap begins is ∙ free))
+    ∙ begins_with-append d c (encode_utf8 c) (visible_text more) [] one.0 one.1
+    ∙ sym (begins_with-append d c (encode_utf8 c) more [] one.0 one.1)
+    ∙ ap (begins_with d) is
+    ∙ otherwise
+
+-- ---- whole characters
+
+-- what is taken of a text that begins with a character has that character whole
+pub record TakesFirst (n c : ℕ) (rest : Text) : Type 0 where
+  pub fits : length (encode_utf8 c) ≤ n
+  pub whole : IsUtf8 (take (n - length (encode_utf8 c)) rest)
+
+-- so it is of whole characters
+pub takes_first : (n c : ℕ) (rest : Text) → IsScalar c → IsUtf8 (take n (encode_utf8 c ++ rest)) → 0 < n → TakesFirst n c rest
+takes_first n c rest scalar ([], (scalars, is)) some =
+    let none : 0 ≡ length (take n (encode_utf8 c ++ rest)) = ap length is in
+    let taken = length-take n (encode_utf8 c ++ rest) in
+    let both = length-append (encode_utf8 c) rest in
+    let bytes = encode_utf8_nonempty c in
+    absurd (omega (arith, none, taken, both, bytes, some))
+takes_first n c rest scalar (c' ∷ cs, (scalars, is)) some =
+    record { fits = fits; whole = (cs, ((and_parts (scalar_of c') (all_scalars cs) scalars).1, append_cancel_left (encode_utf8 c) (encode_utf8_all cs) (take (n - length (encode_utf8 c)) rest) (first ∙ is ∙ cut))) }
+  where
+    text : Text
+    text = encode_utf8 c ++ rest
+
+    one : IsUtf8 (encode_utf8 c') × (chars (encode_utf8 c') ≡ c' ∷ [])
+    one = one_character c' (and_parts (scalar_of c') (all_scalars cs) scalars).0
+
+    joined : encode_utf8 c' ++ (encode_utf8_all cs ++ drop n text) ≡ text
+    joined = sym (append_assoc (encode_utf8 c') (encode_utf8_all cs) (drop n text)) ∙ ap (λ (t : Text). t ++ drop n text) is ∙ take-append-drop n text
+
+    same : c ≡ c'
+    same =
+        cons-first (sym (characters c rest (one_character c scalar)) ∙ ap chars (sym joined) ∙ characters c' (encode_utf8_all cs ++ drop n text) one)
+      where
+        characters : (x : ℕ) (more : Text) → IsUtf8 (encode_utf8 x) × (chars (encode_utf8 x) ≡ x ∷ []) → chars (encode_utf8 x ++ more) ≡ x ∷ chars more
+        characters x more known = chars-append (encode_utf8 x) more known.0 ∙ ap (λ xs. xs ++ chars more) known.1
+
+        cons-first : {x y : ℕ} {xs ys : List ℕ} → x ∷ xs ≡ y ∷ ys → x ≡ y
+        cons-first e = cc e
+
+    first : encode_utf8 c ++ encode_utf8_all cs ≡ encode_utf8 c' ++ encode_utf8_all cs
+    first = ap (λ x. encode_utf8 x ++ encode_utf8_all cs) same
+
+    fits : length (encode_utf8 c) ≤ n
+    fits =
+        let bytes = length-append (encode_utf8 c) (encode_utf8_all cs) in
+        let long = ap length (first ∙ is) in
+        let taken = length-take n text in
+        omega (arith, bytes, long, taken)
+
+    cut : take n text ≡ encode_utf8 c ++ take (n - length (encode_utf8 c)) rest
+    cut =
+        let place : n ≡ length (encode_utf8 c) + (n - length (encode_utf8 c)) = omega (arith, fits) in
+        ap (λ k. take k text) place ∙ take-append-add (encode_utf8 c) rest (n - length (encode_utf8 c))
+
+-- what is left of it is the same
+pub drops_first : (n c : ℕ) (rest : Text) → length (encode_utf8 c) ≤ n → drop n (encode_utf8 c ++ rest) ≡ drop (n - length (encode_utf8 c)) rest
+drops_first n c rest fits =
+    let place : n ≡ length (encode_utf8 c) + (n - length (encode_utf8 c)) = omega (arith, fits) in
+    ap (λ k. drop k (encode_utf8 c ++ rest)) place ∙ drop-append-add (encode_utf8 c) rest (n - length (encode_utf8 c))
+
+-- ---- delimiters
+
+-- one delimiter more
+pub only-push : (d : ℕ) (gap : Text) → IsOnly d gap → IsOnly d (gap ++ encode_utf8 d)
+only-push d gap (n, only) = (suc n, ap (λ g. g ++ encode_utf8 d) only ∙ turned n)
+  where
+    turned : (n : ℕ) → encode_utf8_all (replicate n d) ++ encode_utf8 d ≡ encode_utf8 d ++ encode_utf8_all (replicate n d)
+    turned zero = sym (append-nil (encode_utf8 d))
+    turned (suc n) =
+        append_assoc (encode_utf8 d) (encode_utf8_all (replicate n d)) (encode_utf8 d) ∙ ap (λ t. encode_utf8 d ++ t) (turned n)
+
+-- ---- what is taken
+
+-- the bytes that are passed stand before those that come next
+pub record IsTaken (taken text rest : Text) : Type 0 where
+  pub joined : text ≡ taken ++ rest
+  pub fits : length rest ≤ length text
+  pub place : length text - length rest ≡ length taken
+
+-- so it is where a cursor passed them
+pub is_taken : (n : ℕ) (old : CursorValue) (text rest : Text) → old.ahead ≡ parts text → parts_behind n old.ahead ≡ parts rest → IsTaken (bytes_up_to n old) text rest
+is_taken n old text rest before after =
+    let bytes = ap length joined ∙ length-append (bytes_up_to n old) rest in
+    record { joined = joined; fits = omega (arith, bytes); place = omega (arith, bytes) }
+  where
+    joined : text ≡ bytes_up_to n old ++ rest
+    joined =
+        sym (scan text).bytes
+        ∙ ap bytes_of (sym before ∙ sym (up_to_behind n old.ahead))
+        ∙ flat_map-append (λ (p : Part). p.bytes) (parts_up_to n old.ahead) (parts_behind n old.ahead)
+        ∙ ap (λ t. bytes_up_to n old ++ t) (ap bytes_of after ∙ (scan rest).bytes)
+
+-- ---- the whole of a text line
+
+-- no more bytes are visible than there are
+fewer_seen : (ps : List Part) → length (flat_map visible_bytes ps) ≤ length (bytes_of ps)
+fewer_seen [] = omega arith
+fewer_seen (p ∷ ps) =
+    let both = length-append p.bytes (bytes_of ps) in
+    by_test p.is_sequence (fewer_seen ps) both
+  where
+    by_test : (b : Bool) → length (flat_map visible_bytes ps) ≤ length (bytes_of ps) → length (p.bytes ++ bytes_of ps) ≡ length p.bytes + length (bytes_of ps)
+        → length ((if b then [] else p.bytes) ++ flat_map visible_bytes ps) ≤ length (p.bytes ++ bytes_of ps)
+    by_test true fewer both = omega (arith, fewer, both)
+    by_test false fewer both =
+        let seen = length-append p.bytes (flat_map visible_bytes ps) in
+        omega (arith, fewer, both, seen)
+
+-- as many visible bytes as a text has bytes are taken whole
+pub whole_seen : (text : Text) → IsUtf8 text → IsUtf8 (take (length text) (visible_text text))
+whole_seen text utf8 =
+    subst IsUtf8 (sym (take_all (length text) (visible_text text) (subst (λ t. length (visible_text text) ≤ length t) (scan text).bytes (fewer_seen (parts text))))) (visible_text-whole text utf8)
+
+-- and with them all parts
+up_to_all : (n : ℕ) (ps : List Part) (rest : Text) → AreScanned ps rest → length (bytes_of ps) ≤ n → parts_up_to n ps ≡ ps
+up_to_all zero [] rest scanned few = refl
+up_to_all (suc n) [] rest scanned few = refl
+up_to_all zero (p ∷ ps) rest (inl part, more) few =
+    let bytes = ap length part.sequence.is in
+    let both = length-append p.bytes (bytes_of ps) in
+    absurd (omega (arith, few, bytes, both))
+up_to_all zero (p ∷ ps) rest (inr part, more) few =
+    let bytes = ap (λ (x : Part). length x.bytes) part.is in
+    let both = length-append p.bytes (bytes_of ps) in
+    absurd (omega (arith, few, bytes, both))
+up_to_all (suc n) (p ∷ ps) rest (inl part, more) few =
+    let bytes = ap length part.sequence.is in
+    let both = length-append p.bytes (bytes_of ps) in
+    ap (λ (x : Part). p ∷ parts_up_to (if x.is_sequence then suc n else n) ps) part.is ∙ ap (λ qs. p ∷ qs) (up_to_all (suc n) ps rest more (omega (arith, few, bytes, both)))
+up_to_all (suc n) (p ∷ ps) rest (inr part, more) few =
+    let bytes = ap (λ (x : Part). length x.bytes) part.is in
+    let both = length-append p.bytes (bytes_of ps) in
+    ap (λ (x : Part). p ∷ parts_up_to (if x.is_sequence then suc n else n) ps) part.is ∙ ap (λ qs. p ∷ qs) (up_to_all n ps rest more (omega (arith, few, bytes, both)))
+
+-- so as many visible bytes as a text has bytes pass all of it
+pub whole_passed : (text : Text) → parts_up_to (length text) (parts text) ≡ parts text
+whole_passed text =
+    let bytes = ap length (scan text).bytes in
+    up_to_all (length text) (parts text) [] (scan text).scanned (omega (arith, bytes))
+
+-- texts side by side
+pub concat-map : {X : Type 0} (f : X → Text) (xs : List X) → flat_map f xs ≡ concat (map f xs)
+concat-map f [] = refl
+concat-map f (x ∷ xs) = ap (λ t. f x ++ t) (concat-map f xs)

@@ -1,0 +1,319 @@
+-- The lines that a cursor writes: where they begin in a wrapped text, and that they are the texts of the lines of a cell.
+use Rattle.std.proofs.Common.{◌≡◌, ◌<◌, ◌≤◌, ℕ, zero, suc, ◌+◌, ◌-◌, Bool, true, false, ◌==◌, List, [], ◌∷◌, ◌++◌, length, map, take, drop, zip, replicate, refl, sym, ap, ap₂, ◌∙◌, subst, arith, append_assoc, append-nil, length-append, slice_index_or}
+use Rattle.std.specs.Char.{IsScalar}
+use Rattle.std.specs.List.{after_last, concat, flat_map}
+use Rattle.std.specs.Prelude.{if◌then◌else◌, bytes_eq, encode_utf8, encode_utf8_all, IsUtf8}
+use Rattle.std.proofs.lemmas.Grind.{flat_map-append}
+use Rattle.std.proofs.lemmas.List.{drop_more, get_or-map, length-map, length-take, map-append, take-append-drop}
+use Rattle.std.proofs.lemmas.Str.{IsUtf8-past_char, IsUtf8-take}
+use Rattle.unicode_segmentation.proofs.TextLemmas.{encode_utf8_nonempty}
+use Rattle.comfy_parts.specs.Cursor.{CursorValue, IsBehindGap, StandsAt, at_byte, open_at_end, opened, seen_ahead, sequence_part}
+use Rattle.comfy_parts.specs.Text.{Text, IsOnly, begins_with, measure}
+use Rattle.comfy_parts.specs.VisibleLines.{CellLine, line_texts, line_texts_of_text, line_texts_past, starts_of_text, starts_past}
+use Rattle.comfy_parts.specs.VisibleText.{Part, active, closed, closing, line_text, open_after, parts, parts_before, parts_from, parts_up_to, reset, sequences_in, text_between, visible_text}
+use Rattle.comfy_parts.specs.Wrapping.{line_end, lines_of_text, lines_past, part_end, wrapped}
+use Rattle.comfy_parts.specs.Written.{wrapped_places, written, written_at, written_of_text, written_past}
+use Rattle.comfy_parts.proofs.CursorLemmas.{at, at_further}
+use Rattle.comfy_parts.proofs.LineTextLemmas.{parts-written}
+use Rattle.comfy_parts.proofs.OpenLemmas.{after_last-again, open_after-opened, sequences_in-append, sequences_in-sequences}
+use Rattle.comfy_parts.proofs.StartLemmas.{IsLineCut, line-cut}
+use Rattle.comfy_parts.proofs.WrappingLemmas.{begins_with-delimiter, lines_past-delimiter, lines_past-gap, lines_past-line}
+
+-- ---- places of lines
+
+-- a place so many bytes further on
+abbrev pub further : ℕ → ℕ × ℕ → ℕ × ℕ
+further n p = (n + p.0, p.1)
+
+further-none : (places : List (ℕ × ℕ)) → map (further 0) places ≡ places
+further-none [] = refl
+further-none (p ∷ ps) =
+    let plain : 0 + p.0 ≡ p.0 = omega arith in
+    ap₂ (λ n (qs : List (ℕ × ℕ)). (n, p.1) ∷ qs) plain (further-none ps)
+
+further-twice : (n k : ℕ) (places : List (ℕ × ℕ)) → map (further n) (map (further k) places) ≡ map (further (n + k)) places
+further-twice n k [] = refl
+further-twice n k (p ∷ ps) =
+    let sum : n + (k + p.0) ≡ n + k + p.0 = omega arith in
+    ap₂ (λ m (qs : List (ℕ × ℕ)). (m, p.1) ∷ qs) sum (further-twice n k ps)
+
+-- lines that begin further on
+zip-further : (n : ℕ) (starts lens : List ℕ) → zip (map (λ s. n + s) starts) lens ≡ map (further n) (zip starts lens)
+zip-further n [] lens = refl
+zip-further n (s ∷ ss) [] = refl
+zip-further n (s ∷ ss) (l ∷ ls) = ap (λ (ps : List (ℕ × ℕ)). (n + s, l) ∷ ps) (zip-further n ss ls)
+
+-- without lines there are no places
+pub zip-none : (starts : List ℕ) → zip starts (map (λ (line : Text). length line) []) ≡ []
+zip-none [] = refl
+zip-none (s ∷ ss) = refl
+
+module _ (w d : ℕ) where
+  starts-further : (n place skip : ℕ) (text : Text) → starts_past w d (n + place) skip text ≡ map (λ s. n + s) (starts_past w d place skip text)
+  starts-further n place zero [] = refl
+  starts-further n place (suc skip) [] = refl
+  starts-further n place (suc skip) (b ∷ rest) =
+      let sum : n + place + 1 ≡ n + (place + 1) = omega arith in
+      ap (λ m. starts_past w d m skip rest) sum ∙ starts-further n (place + 1) skip rest
+  starts-further n place zero (b ∷ rest) =
+      let sum : n + place + 1 ≡ n + (place + 1) = omega arith in
+      let skip = part_end w d (b ∷ rest) - 1 in
+      by_test _ _ (begins_with d (b ∷ rest)) (ap (λ m. starts_past w d m skip rest) sum ∙ starts-further n (place + 1) skip rest)
+    where
+      by_test : (more others : List ℕ) (t : Bool) → more ≡ map (λ s. n + s) others → (if t then [] else (n + place) ∷ []) ++ more ≡ map (λ s. n + s) ((if t then [] else place ∷ []) ++ others)
+      by_test more others true same = same
+      by_test more others false same = ap (λ (xs : List ℕ). (n + place) ∷ xs) same
+
+  -- what is skipped begins no line
+  starts-skip : (place : ℕ) (xs ys : Text) → starts_past w d place (length xs) (xs ++ ys) ≡ starts_past w d (length xs + place) 0 ys
+  starts-skip place [] ys =
+      let plain : place ≡ 0 + place = omega arith in
+      ap (λ m. starts_past w d m 0 ys) plain
+  starts-skip place (x ∷ xs) ys =
+      let sum : length xs + (place + 1) ≡ suc (length xs) + place = omega arith in
+      starts-skip (place + 1) xs ys ∙ ap (λ m. starts_past w d m 0 ys) sum
+
+  -- a part at the front is passed at once
+  starts-part : (part rest : Text) (t : Bool) → 0 < length part → part_end w d (part ++ rest) ≡ length part → begins_with d (part ++ rest) ≡ t
+      → starts_past w d 0 0 (part ++ rest) ≡ (if t then [] else 0 ∷ []) ++ map (λ s. length part + s) (starts_past w d 0 0 rest)
+  starts-part [] rest t some ends begins = absurd (omega (arith, some))
+  starts-part (b ∷ bs) rest t some ends begins =
+      let back : part_end w d (b ∷ (bs ++ rest)) - 1 ≡ length bs = omega (arith, ends) in
+      let sum : length bs + (0 + 1) ≡ suc (length bs) + 0 = omega arith in
+      ap₂ (λ t n. (if t then [] else 0 ∷ []) ++ starts_past w d (0 + 1) n (bs ++ rest)) begins back
+      ∙ ap (λ xs. (if t then [] else 0 ∷ []) ++ xs) (starts-skip (0 + 1) bs rest ∙ ap (λ m. starts_past w d m 0 rest) sum ∙ starts-further (suc (length bs)) 0 0 rest)
+
+  -- behind a delimiter the lines begin further on
+  places-delimiter : (rest : Text) → IsScalar d → wrapped_places w d (encode_utf8 d ++ rest) ≡ map (further (length (encode_utf8 d))) (wrapped_places w d rest)
+  places-delimiter rest scalar =
+      let some = encode_utf8_nonempty d in
+      let begins = begins_with-delimiter d rest scalar in
+      let ends : part_end w d (encode_utf8 d ++ rest) ≡ length (encode_utf8 d) = ap (λ t. if t then length (encode_utf8 d) else line_end w d (encode_utf8 d ++ rest)) begins in
+      ap₂ (λ starts (lines : List Text). zip starts (map length lines)) (starts-part (encode_utf8 d) rest true some ends begins) (lines_past-delimiter w d rest some begins)
+      ∙ zip-further (length (encode_utf8 d)) (starts_past w d 0 0 rest) (map length (wrapped w d rest))
+
+  -- and so they do behind a gap
+  places-gap : (gap rest : Text) → IsScalar d → IsOnly d gap → wrapped_places w d (gap ++ rest) ≡ map (further (length gap)) (wrapped_places w d rest)
+  places-gap gap rest scalar (n, only) = subst (λ g. wrapped_places w d (g ++ rest) ≡ map (further (length g)) (wrapped_places w d rest)) (sym only) (delimiters n)
+    where
+      delimiters : (n : ℕ) → wrapped_places w d (encode_utf8_all (replicate n d) ++ rest) ≡ map (further (length (encode_utf8_all (replicate n d)))) (wrapped_places w d rest)
+      delimiters zero = sym (further-none (wrapped_places w d rest))
+      delimiters (suc n) =
+          let more = encode_utf8_all (replicate n d) in
+          ap (wrapped_places w d) (append_assoc (encode_utf8 d) more rest)
+          ∙ places-delimiter (more ++ rest) scalar
+          ∙ ap (map (further (length (encode_utf8 d)))) (delimiters n)
+          ∙ further-twice (length (encode_utf8 d)) (length more) (wrapped_places w d rest)
+          ∙ ap (λ m. map (further m) (wrapped_places w d rest)) (sym (length-append (encode_utf8 d) more))
+
+  -- a line at the front begins there
+  places-line : (line tail : Text) → 0 < length line → begins_with d (line ++ tail) ≡ false → length line ≡ line_end w d (line ++ tail)
+      → wrapped_places w d (line ++ tail) ≡ (0, length line) ∷ map (further (length line)) (wrapped_places w d tail)
+  places-line line tail some begins ends =
+      let part : part_end w d (line ++ tail) ≡ length line = ap (λ t. if t then length (encode_utf8 d) else line_end w d (line ++ tail)) begins ∙ sym ends in
+      ap₂ (λ starts (lines : List Text). zip starts (map length lines)) (starts-part line tail false some part begins) (lines_past-line w d line tail some begins ends)
+      ∙ ap (λ (ps : List (ℕ × ℕ)). (0, length line) ∷ ps) (zip-further (length line) (starts_past w d 0 0 tail) (map length (wrapped w d tail)))
+
+-- ---- what is written at them
+
+-- from a cursor that stands further on
+written-further : (n : ℕ) (old new : CursorValue) (places : List (ℕ × ℕ)) → StandsAt new n old → written_at old (map (further n) places) ≡ written_at new places
+written-further n old new [] stands = refl
+written-further n old new (p ∷ ps) stands =
+    let plain : 0 + p.0 ≡ p.0 = omega arith in
+    let same : at_byte (n + p.0) old ≡ at_byte p.0 new = sym (at_further n p.0 old) ∙ ap (at_byte p.0) (sym stands) ∙ at_further 0 p.0 new ∙ ap (λ k. at_byte k new) plain in
+    ap₂ (λ c (ts : List Text). written p.1 c ∷ ts) same (written-further n old new ps stands)
+
+-- behind delimiters a text is whole
+whole_behind : (d n : ℕ) (rest : Text) → IsUtf8 (encode_utf8_all (replicate n d) ++ rest) → IsUtf8 rest
+whole_behind d zero rest utf8 = utf8
+whole_behind d (suc n) rest utf8 =
+    let more = encode_utf8_all (replicate n d) ++ rest in
+    whole_behind d n rest (IsUtf8-past_char (encode_utf8_all (replicate (suc n) d) ++ rest) more d utf8 (append_assoc (encode_utf8 d) (encode_utf8_all (replicate n d)) rest))
+
+-- a text with a line has bytes
+some_bytes : (w d : ℕ) (line : Text) (behind : List Text) (text : Text) → line ∷ behind ≡ wrapped w d text → 0 < length text
+unfolding lines_past
+some_bytes w d line behind [] is = absurd (let len = ap length is in omega (arith, len))
+some_bytes w d line behind (b ∷ bs) is = omega arith
+
+-- the first line of a wrapped text, with those behind it, where a cursor stands before its gap and another behind that
+pub record IsNextLine (w d : ℕ) (old mid : CursorValue) (line : Text) (behind : List Text) : Type 0 where
+  pub whole : IsUtf8 (take (length line) (seen_ahead mid))
+  pub rest_whole : IsUtf8 (drop (length line) (seen_ahead mid))
+  pub lines : behind ≡ wrapped w d (drop (length line) (seen_ahead mid))
+  pub written_is : (new : CursorValue) → StandsAt new (length line) mid → seen_ahead new ≡ drop (length line) (seen_ahead mid)
+      → written_at old (wrapped_places w d (seen_ahead old)) ≡ written (length line) (at_byte 0 mid) ∷ written_at new (wrapped_places w d (seen_ahead new))
+
+pub next_line : (w d : ℕ) (old mid : CursorValue) (line : Text) (behind : List Text) → IsScalar d → IsUtf8 (seen_ahead old) → IsBehindGap d old mid → line ∷ behind ≡ wrapped w d (seen_ahead old)
+    → IsNextLine w d old mid line behind
+next_line w d old mid line behind scalar utf8 gap lines =
+    record {
+      whole = subst (λ n. IsUtf8 (take n seen)) (sym long) (IsUtf8-take seen end whole cut.place);
+      rest_whole = subst (λ n. IsUtf8 (drop n seen)) (sym long) cut.whole_rest;
+      lines = second ∙ ap (λ n. wrapped w d (drop n seen)) (sym long);
+      written_is = λ new stands left.
+          ap (λ t. written_at old (wrapped_places w d t)) gap.seen
+          ∙ ap (written_at old) (places-gap w d gap.gap seen scalar gap.only)
+          ∙ written-further (length gap.gap) old mid (wrapped_places w d seen) gap.stands
+          ∙ ap (λ t. written_at mid (wrapped_places w d t)) (sym halves)
+          ∙ ap (written_at mid) (places-line w d line (drop end seen) (omega (arith, long, cut.some)) (ap (begins_with d) halves ∙ gap.begins_otherwise) (long ∙ ap (line_end w d) (sym halves)))
+          ∙ ap (λ (ts : List Text). written (length line) (at_byte 0 mid) ∷ ts)
+          (written-further (length line) mid new (wrapped_places w d (drop end seen)) stands ∙ ap (λ t. written_at new (wrapped_places w d t)) (ap (λ n. drop n seen) (sym long) ∙ sym left));
+    }
+  where
+    seen : Text
+    seen = seen_ahead mid
+
+    whole : IsUtf8 seen
+    whole = whole_behind d gap.only.0 seen (subst IsUtf8 (gap.seen ∙ ap (λ g. g ++ seen) gap.only.1) utf8)
+
+    same : line ∷ behind ≡ wrapped w d seen
+    same =
+        lines ∙ ap (wrapped w d) (gap.seen ∙ ap (λ g. g ++ seen) gap.only.1) ∙ lines_past-gap w d gap.only.0 seen scalar
+
+    cut : IsLineCut w d seen
+    cut = line-cut w d seen whole (some_bytes w d line behind seen same) gap.begins_otherwise
+
+    end : ℕ
+    end = line_end w d seen
+
+    both : line ∷ behind ≡ take end seen ∷ wrapped w d (drop end seen)
+    both = same ∙ cut.lines
+
+    first : line ≡ take end seen
+    first = cc both
+
+    second : behind ≡ wrapped w d (drop end seen)
+    second = cc both
+
+    long : length line ≡ end
+    long =
+        let taken = ap length first ∙ length-take end seen in
+        let within : end ≤ length seen = cut.place.0 in
+        omega (arith, taken, within)
+
+    halves : line ++ drop end seen ≡ seen
+    halves = ap (λ t. t ++ drop end seen) first ∙ take-append-drop end seen
+
+-- behind the last line nothing is written
+pub written-none : (w d : ℕ) (c : CursorValue) (text : Text) → [] ≡ wrapped w d text → written_at c (wrapped_places w d text) ≡ []
+written-none w d c text none =
+    ap (λ (lines : List Text). written_at c (zip (starts_past w d 0 0 text) (map length lines))) (sym none) ∙ ap (written_at c) (zip-none (starts_past w d 0 0 text))
+
+-- ---- the texts of the lines of a cell
+
+-- the sequences that are open behind what a line takes
+open-taken : (earlier : List Text) (text : Text) (start len : ℕ)
+    → open_after (parts (concat (active earlier text start) ++ text_between text start len)) ≡ opened (active earlier text start) (parts_up_to len (parts_from start (parts text)))
+open-taken earlier text start len =
+    ap open_after (parts-written earlier text start len)
+    ∙ ap (after_last (bytes_eq reset)) (sequences_in-append (map sequence_part (active earlier text start)) taken ∙ ap (λ ss. ss ++ sequences_in taken) (sequences_in-sequences (active earlier text start)))
+    ∙ after_last-again (bytes_eq reset) (sequences_in before) (sequences_in taken)
+    ∙ ap (after_last (bytes_eq reset)) (sym (sequences_in-append before taken))
+    ∙ open_after-opened before taken
+  where
+    before : List Part
+    before = flat_map parts earlier ++ parts_before start (parts text)
+
+    taken : List Part
+    taken = parts_up_to len (parts_from start (parts text))
+
+-- the text of a line is what a cursor writes that comes from its text line's front
+line_text-written : (earlier : List Text) (text : Text) (start len : ℕ) → written len (at_byte start (at (open_after (flat_map parts earlier)) (parts text))) ≡ line_text earlier text start len
+line_text-written earlier text start len = by_test (len == 0)
+  where
+    resumed : List Text
+    resumed = opened (open_after (flat_map parts earlier)) (parts_before start (parts text))
+
+    taken : List Part
+    taken = parts_up_to len (parts_from start (parts text))
+
+    between : Text
+    between = text_between text start len
+
+    same : resumed ≡ active earlier text start
+    same = sym (open_after-opened (flat_map parts earlier) (parts_before start (parts text)))
+
+    by_test : (b : Bool) → (if b then [] else concat resumed ++ (between ++ closing (opened resumed taken))) ≡ (if b then [] else closed (concat (active earlier text start) ++ between))
+    by_test true = refl
+    by_test false =
+        ap (λ ss. concat ss ++ (between ++ closing (opened ss taken))) same
+        ∙ sym (append_assoc (concat (active earlier text start)) between (closing (opened (active earlier text start) taken)))
+        ∙ ap (λ ss. (concat (active earlier text start) ++ between) ++ closing ss) (sym (open-taken earlier text start len))
+
+-- so it is with all lines of a text line
+text_lines-written : (w d : ℕ) (earlier : List Text) (text : Text)
+    → written_of_text w d (at (open_after (flat_map parts earlier)) (parts text)) ≡ map (λ (line : CellLine). line.written) (line_texts_of_text w d earlier text)
+text_lines-written w d earlier text = each (starts_of_text w d (visible_text text)) (lines_of_text w d (visible_text text))
+  where
+    each : (starts : List ℕ) (lines : List Text) → written_at (at (open_after (flat_map parts earlier)) (parts text)) (zip starts (map length lines))
+        ≡ map (λ (line : CellLine). line.written) (map (λ (p : ℕ × Text). record { seen = p.1; written = line_text earlier text p.0 (length p.1) }) (zip starts lines))
+    each [] lines = refl
+    each (s ∷ ss) [] = refl
+    each (s ∷ ss) (line ∷ lines) = ap₂ (λ (t : Text) ts. t ∷ ts) (line_text-written earlier text s (length line)) (each ss lines)
+
+past-written : (w d : ℕ) (earlier texts : List Text) → written_past w d (open_after (flat_map parts earlier)) texts ≡ map (λ (line : CellLine). line.written) (line_texts_past w d earlier texts)
+past-written w d earlier [] = refl
+past-written w d earlier (text ∷ more) =
+    ap₂ (λ (xs ys : List Text). xs ++ ys) (text_lines-written w d earlier text) (ap (λ ss. written_past w d ss more) next ∙ past-written w d (earlier ++ text ∷ []) more)
+    ∙ sym (map-append (λ (line : CellLine). line.written) (line_texts_of_text w d earlier text) (line_texts_past w d (earlier ++ text ∷ []) more))
+  where
+    next : opened (open_after (flat_map parts earlier)) (parts text) ≡ open_after (flat_map parts (earlier ++ text ∷ []))
+    next =
+        sym (open_after-opened (flat_map parts earlier) (parts text))
+        ∙ ap (λ ps. open_after (flat_map parts earlier ++ ps)) (sym (append-nil (parts text)))
+        ∙ ap open_after (sym (flat_map-append parts earlier (text ∷ [])))
+
+-- what is written for the text lines of a cell is the text of each line
+pub cell-written : (w d : ℕ) (texts : List Text) → written_past w d [] texts ≡ map (λ (line : CellLine). line.written) (line_texts w d texts)
+cell-written w d texts = past-written w d [] texts
+
+-- ---- text line by text line
+
+-- the text at a place of a list
+pub text_at : {X : Type 0} (f : X → Text) (xs : List X) (place : ℕ) (x : X) → place < length xs → x ≡ slice_index_or xs place x → slice_index_or (map f xs) place [] ≡ f x
+text_at f xs place x below is = get_or-map f xs place x [] below ∙ ap f (sym is)
+
+-- what is visible of a text line is the text at the same place of those
+pub seen_at : {X : Type 0} (f : X → Text) (texts seens : List X) (place : ℕ) (text seen : X) → map f seens ≡ map visible_text (map f texts) → place < length texts
+    → text ≡ slice_index_or texts place text → seen ≡ slice_index_or seens place seen → f seen ≡ visible_text (f text)
+seen_at f texts seens place text seen same below is is' =
+    sym (text_at f seens place seen (omega (arith, as_many, below)) is')
+    ∙ ap (λ (ts : List Text). slice_index_or ts place []) same
+    ∙ get_or-map visible_text (map f texts) place [] [] (omega (arith, length-map texts f, below))
+    ∙ ap visible_text (text_at f texts place text below is)
+  where
+    as_many : length seens ≡ length texts
+    as_many = sym (length-map seens f) ∙ ap length same ∙ length-map (map f texts) visible_text ∙ length-map texts f
+
+-- and its measure is kept there
+pub width_at : {X : Type 0} (f : X → Text) (texts seens : List X) (widths : List ℕ) (place : ℕ) (seen : X) → map f seens ≡ map visible_text (map f texts) → widths ≡ map measure (map f seens)
+    → place < length texts → seen ≡ slice_index_or seens place seen → slice_index_or widths place 0 ≡ measure (f seen)
+width_at f texts seens widths place seen same measured below is =
+    ap (λ ws. slice_index_or ws place 0) measured
+    ∙ get_or-map measure (map f seens) place [] 0 (omega (arith, length-map seens f, as_many, below))
+    ∙ ap measure (text_at f seens place seen (omega (arith, as_many, below)) is)
+  where
+    as_many : length seens ≡ length texts
+    as_many = sym (length-map seens f) ∙ ap length same ∙ length-map (map f texts) visible_text ∙ length-map texts f
+
+-- a text line more is written
+pub next_text : (w d : ℕ) (texts done more : List Text) (place : ℕ) (text : Text) (old mid new : CursorValue) → place < length texts → slice_index_or texts place [] ≡ text
+    → mid ≡ at (open_at_end old) (parts text) → more ≡ done ++ written_of_text w d mid → open_at_end new ≡ open_at_end mid
+    → more ++ written_past w d (open_at_end new) (drop (place + 1) texts) ≡ done ++ written_past w d (open_at_end old) (drop place texts)
+next_text w d texts done more place text old mid new below is begins writes stays =
+    ap₂ (λ (ts : List Text) ss. ts ++ written_past w d ss (drop (place + 1) texts)) writes stays
+    ∙ ap (λ c. (done ++ written_of_text w d c) ++ written_past w d (open_at_end c) (drop (place + 1) texts)) begins
+    ∙ append_assoc done (written_of_text w d (at (open_at_end old) (parts text))) (written_past w d (opened (open_at_end old) (parts text)) (drop (place + 1) texts))
+    ∙ ap (λ (ts : List Text). done ++ written_past w d (open_at_end old) ts) (ap (λ (t : Text). t ∷ drop (place + 1) texts) (sym is) ∙ sym (drop_more texts place [] below))
+
+-- behind the last one nothing is
+pub texts_written : (w d : ℕ) (texts done : List Text) (place : ℕ) (ss : List Text) → length texts ≤ place → done ++ written_past w d ss (drop place texts) ≡ done
+texts_written w d texts done place ss past = ap (λ (ts : List Text). done ++ written_past w d ss ts) (drop_past place texts past) ∙ append-nil done
+  where
+    drop_past : (n : ℕ) (xs : List Text) → length xs ≤ n → drop n xs ≡ []
+    drop_past zero [] few = refl
+    drop_past (suc n) [] few = refl
+    drop_past zero (x ∷ xs) few = absurd (omega (arith, few))
+    drop_past (suc n) (x ∷ xs) few = drop_past n xs (omega (arith, few))

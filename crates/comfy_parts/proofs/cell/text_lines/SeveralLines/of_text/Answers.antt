@@ -1,0 +1,13 @@
+use Rattle.std.proofs.Common.{ap, ◌∙◌, lit<}
+use Rattle.std.specs.Str.Iter.{split_text, split_has_more, split_pattern}
+use Rattle.std.proofs.lemmas.Iterator.Consumers.{YieldsList-end}
+use Rattle.std.proofs.lemmas.Iterator.Splits.{YieldsList-from_str_split}
+use Rattle.comfy_parts.proofs.cell.text_lines.SeveralLines.of_text.Goals as goal
+
+pub returns : goal.returns
+returns c =
+    let same = c.into_iter-line-iterator.ensures.into_iter_gives in
+    let split = c.split-line-items.ensures in
+    let cut = YieldsList-from_str_split 10 _ (lit< tt) (ap split_text same ∙ split.text) (ap split_has_more same ∙ split.has_more) (ap split_pattern same ∙ split.pattern) in
+    let all = YieldsList-end cut c.loop-line.yielded _ c.loop-line.yielded_by _ _ c.in-None.is c.next.ensures.steps in
+    record { texts = c.loop-line.invariant.texts ∙ all.0; widths = c.loop-line.invariant.widths }

@@ -1,0 +1,42 @@
+use Rattle.std.proofs.Common.{[], refl, length, ap, ◌∙◌, arith}
+use Rattle.comfy_parts.specs.VisibleText.{parts}
+use Rattle.comfy_parts.specs.Cursor.{opened, opened_by, sequence_part}
+use Rattle.comfy_parts.proofs.FrontLemmas.{character_parts-some}
+use Rattle.comfy_parts.proofs.OpenLemmas.{is_open-sequence, open_after-opened, opened-character}
+use Rattle.comfy_parts.proofs.content_split.sequences.leaves_sequence_open.Goals as goal
+
+pub parts-smaller-in-Some : goal.parts-smaller-in-Some
+parts-smaller-in-Some c = let len = ap length c.in-Some.ensures.some in omega (arith, len)
+
+pub parts-preserved-in-Some : goal.parts-preserved-in-Some
+parts-preserved-in-Some c =
+    let left = c.parts.invariant.left in
+    record {
+      utf8 = c.in-Some.ensures.whole;
+      left = (
+        opened_by left.0 (sequence_part c.in-Some.sequence.now),
+        left.1 ∙ ap (opened left.0) c.in-Some.ensures.some,
+        is_open-sequence left.0 c.in-Some.sequence.now c.ne-is_open.result c.ne-is_open.ensures,
+      );
+    }
+
+pub parts-smaller-in-Some-split_character : goal.parts-smaller-in-Some-split_character
+parts-smaller-in-Some-split_character c =
+    let len = ap length c.in-Some-split_character.ensures.some in
+    let some = character_parts-some c.in-Some-split_character.field-0-0 (parts c.in-Some-split_character.behind.now) in
+    omega (arith, len, some)
+
+pub parts-preserved-in-Some-split_character : goal.parts-preserved-in-Some-split_character
+parts-preserved-in-Some-split_character c =
+    let left = c.parts.invariant.left in
+    record {
+      utf8 = c.in-Some-split_character.ensures.whole;
+      left = (
+        left.0,
+        left.1 ∙ ap (opened left.0) c.in-Some-split_character.ensures.some ∙ opened-character left.0 c.in-Some-split_character.field-0-0 (parts c.in-Some-split_character.behind.now),
+        left.2,
+      );
+    }
+
+pub parts-init : goal.parts-init
+parts-init c = record { utf8 = c.utf8.text; left = ([], open_after-opened [] (parts c.args.text.now), refl) }

@@ -1,0 +1,86 @@
+-- A cursor over the parts of a cell's text lines: what it passes, and the sequences that are open where it stands.
+use Rattle.std.specs.Prelude.{◌≡◌, ℕ, zero, suc, Bool, true, false, List, [], ◌∷◌, ◌++◌, map, length, flat_map, encode_utf8, bytes_eq, if◌then◌else◌}
+use Rattle.comfy_parts.specs.Text.{Text, IsOnly, begins_with}
+use Rattle.comfy_parts.specs.VisibleText.{Part, parts_before, parts_from, parts_up_to, reset, visible_bytes}
+
+-- ---- parts
+
+-- a sequence as a part
+abbrev pub sequence_part : Text → Part
+sequence_part s = record { is_sequence = true; bytes = s }
+
+-- a visible byte as a part
+abbrev pub visible_part : ℕ → Part
+visible_part b = record { is_sequence = false; bytes = b ∷ [] }
+
+-- the bytes of a character as parts
+abbrev pub character_parts : ℕ → List Part
+character_parts c = map visible_part (encode_utf8 c)
+
+-- the first part is a sequence
+abbrev pub begins_with_sequence : List Part → Bool
+begins_with_sequence [] = false
+begins_with_sequence (p ∷ ps) = p.is_sequence
+
+-- what follows the n-th visible byte
+abbrev pub parts_behind : ℕ → List Part → List Part
+parts_behind zero ps = ps
+parts_behind (suc n) [] = []
+parts_behind (suc n) (p ∷ ps) = parts_behind (if p.is_sequence then suc n else n) ps
+
+-- the sequences that are open behind a part, where these are before it
+abbrev pub opened_by : List Text → Part → List Text
+opened_by ss p = if p.is_sequence then (if bytes_eq reset p.bytes then [] else ss ++ p.bytes ∷ []) else ss
+
+-- the same behind some parts
+abbrev pub opened : List Text → List Part → List Text
+opened ss [] = ss
+opened ss (p ∷ ps) = opened (opened_by ss p) ps
+
+-- ---- a cursor
+
+-- a place in a text line of a cell: the sequences that are open there, and the parts that come next
+pub record CursorValue : Type 0 where
+  pub sequences : List Text
+  pub ahead : List Part
+
+-- what is visible of the parts that come next
+abbrev pub seen_ahead : CursorValue → Text
+seen_ahead c = flat_map visible_bytes c.ahead
+
+-- the cursor behind the first of these parts, which come next
+abbrev pub stepped : CursorValue → List Part → CursorValue
+stepped c [] = c
+stepped c (p ∷ ps) = record { sequences = opened_by c.sequences p; ahead = ps }
+
+-- the cursor behind the next part where that is a sequence
+abbrev pub past_sequence : CursorValue → CursorValue
+past_sequence c = if begins_with_sequence c.ahead then stepped c c.ahead else c
+
+-- before the visible byte at n of what comes, behind the sequences there
+abbrev pub at_byte : ℕ → CursorValue → CursorValue
+at_byte n c = record { sequences = opened c.sequences (parts_before n c.ahead); ahead = parts_from n c.ahead }
+
+-- behind the n-th visible byte, before the sequences there
+abbrev pub behind_bytes : ℕ → CursorValue → CursorValue
+behind_bytes n c = record { sequences = opened c.sequences (parts_up_to n c.ahead); ahead = parts_behind n c.ahead }
+
+-- the bytes up to there
+abbrev pub bytes_up_to : ℕ → CursorValue → Text
+bytes_up_to n c = flat_map (λ (p : Part). p.bytes) (parts_up_to n c.ahead)
+
+-- the sequences that are open at the text line's end
+abbrev pub open_at_end : CursorValue → List Text
+open_at_end c = opened c.sequences c.ahead
+
+-- the first cursor stands at the visible byte at n of what comes after the second, apart from sequences there
+abbrev pub StandsAt : CursorValue → ℕ → CursorValue → Type 0
+StandsAt new n old = at_byte 0 new ≡ at_byte n old
+
+-- only delimiters are visible between two cursors, and something else, or nothing, behind the second
+pub record IsBehindGap (d : ℕ) (old new : CursorValue) : Type 0 where
+  pub gap : Text
+  pub only : IsOnly d gap
+  pub seen : seen_ahead old ≡ gap ++ seen_ahead new
+  pub stands : StandsAt new (length gap) old
+  pub begins_otherwise : begins_with d (seen_ahead new) ≡ false

@@ -1,0 +1,182 @@
+//! A cursor that passes the text lines of a cell once, and knows the SGR sequences that are open where it stands.
+
+ghost use Rattle.std.specs.Prelude.{◌≡◌, ◌++◌, [], true, false, take, drop, IfNone, IfOk, IfSome, IsUtf8, OnOk, string_bytes};
+ghost use Rattle.std.specs.Char.{IsScalar};
+ghost use Rattle.std.specs.List.{concat};
+ghost use Rattle.comfy_parts.specs.Cursor.{IsBehindGap, StandsAt, at_byte, begins_with_sequence, behind_bytes, bytes_up_to, character_parts, open_at_end, past_sequence, seen_ahead};
+ghost use Rattle.comfy_parts.specs.Text.{begins_with};
+ghost use Rattle.comfy_parts.specs.VisibleText.{parts};
+ghost use Rattle.comfy_parts.specs.Written.{written};
+
+use crate::content_split::sequences::{RESET, split_character, split_sequence};
+use crate::error::Result;
+use std::alloc::Global;
+use std::marker::Model;
+
+/// A place in a text line of a cell, and the sequences that are open there.
+#[derive(Drop)]
+pub(crate) struct Cursor<'a> {
+    rest: &'a str,
+    sequences: Vec<&'a str>,
+}
+
+impl<'a> Model for Cursor<'a> {
+    ghost use Rattle.std.specs.Prelude.{IsUtf8, map};
+    ghost use Rattle.comfy_parts.specs.VisibleText.{parts};
+    ghost use Rattle.comfy_parts.specs.Cursor.{CursorValue};
+
+    ghost Value = { CursorValue };
+
+    ghost invariant = { λ c. IsUtf8 c.rest.now };
+
+    ghost view = { λ c. record { sequences = map (λ s. s.now) c.sequences.items; ahead = parts c.rest.now } };
+}
+
+impl<'a> Cursor<'a> {
+    /// Before a cell.
+    pub(crate) fn new(alloc: Global) -> Cursor<'a>
+        ensures { result ≡ record { sequences = []; ahead = [] } }
+    {
+        Cursor {
+            rest: "",
+            sequences: Vec::new(alloc),
+        }
+    }
+
+    /// Goes on to the front of the next text line. The sequences stay open that are so at this one's end.
+    pub(crate) fn begin(&mut self, text: &'a str) -> Result<()>
+        ensures { OnOk result (self.new ≡ record { sequences = open_at_end self.old; ahead = parts text.now }) }
+    {
+        // No text has more visible bytes than bytes, so this passes all that is left.
+        let rest = self.rest.len();
+        self.pass_visible(rest)?;
+        self.rest = text;
+        Ok(())
+    }
+
+    /// Passes the sequences and the delimiters before the next line.
+    pub(crate) fn pass_gap(&mut self, delimiter: char) -> Result<()>
+        ensures { OnOk result (IsBehindGap delimiter self.old self.new) }
+    {
+        self.pass_sequences()?;
+        'gap: while self.pass_delimiter(delimiter) {
+            self.pass_sequences()?;
+        }
+        Ok(())
+    }
+
+    /// The text that is written for a line of so many visible bytes, which are passed.
+    pub(crate) fn take_line(&mut self, bytes: usize) -> Result<String>
+        requires { IsUtf8 (take bytes (seen_ahead self.old)) }
+        ensures written { IfOk result (λ line. string_bytes line ≡ written bytes (at_byte 0 self.old)) }
+        ensures stands { OnOk result (StandsAt self.new bytes self.old) }
+        ensures seen { OnOk result (seen_ahead self.new ≡ drop bytes (seen_ahead self.old)) }
+    {
+        if bytes == 0 {
+            return Ok(String::new(*self.sequences.allocator()));
+        }
+        self.pass_sequences()?;
+        let mut line = self.resumed()?;
+        line.push_str(self.take_visible(bytes)?)?;
+        if !self.sequences.is_empty() {
+            line.push_str(RESET)?;
+        }
+        Ok(line)
+    }
+
+    // The sequences that are open, one after another.
+    fn resumed(&self) -> Result<String>
+        ensures { IfOk result (λ text. string_bytes text ≡ concat self.now.sequences) }
+    {
+        let mut text = String::new(*self.sequences.allocator());
+        let sequences = self.sequences.as_slice();
+        for sequence in sequences {
+            text.push_str(sequence)?;
+        }
+        Ok(text)
+    }
+
+    // Passes so many visible bytes and the sequences before each of them, and gives the text that it passed.
+    fn take_visible(&mut self, bytes: usize) -> Result<&'a str>
+        requires { IsUtf8 (take bytes (seen_ahead self.old)) }
+        ensures taken { IfOk result (λ taken. taken.now ≡ bytes_up_to bytes self.old) }
+        ensures passed { OnOk result (self.new ≡ behind_bytes bytes self.old) }
+        ensures seen { OnOk result (seen_ahead self.new ≡ drop bytes (seen_ahead self.old)) }
+    {
+        let text = self.rest;
+        self.pass_visible(bytes)?;
+        let (taken, _) = text.split_at(text.len() - self.rest.len());
+        Ok(taken)
+    }
+
+    // Passes so many visible bytes and the sequences before each of them, or all of a text that has fewer.
+    fn pass_visible(&mut self, bytes: usize) -> Result<()>
+        requires { IsUtf8 (take bytes (seen_ahead self.old)) }
+        ensures passed { OnOk result (self.new ≡ behind_bytes bytes self.old) }
+        ensures seen { OnOk result (seen_ahead self.new ≡ drop bytes (seen_ahead self.old)) }
+    {
+        let mut left = bytes;
+        'bytes: while left > 0 {
+            if self.pass_sequence()? {
+                continue;
+            }
+            let Some(character) = self.pass_character() else {
+                return Ok(());
+            };
+            left = left.saturating_sub(character.len_utf8());
+        }
+        Ok(())
+    }
+
+    // Passes the sequences that come next.
+    fn pass_sequences(&mut self) -> Result<()>
+        ensures { OnOk result (self.new ≡ at_byte 0 self.old) }
+    {
+        'sequences: while self.pass_sequence()? {}
+        Ok(())
+    }
+
+    // Passes the sequence that comes next, and says whether there was one.
+    fn pass_sequence(&mut self) -> Result<bool>
+        ensures passed { IfOk result (λ passed. passed ≡ begins_with_sequence self.old.ahead) }
+        ensures after { OnOk result (self.new ≡ past_sequence self.old) }
+    {
+        let Some((sequence, behind)) = split_sequence(self.rest) else {
+            return Ok(false);
+        };
+        if sequence == RESET {
+            self.sequences.clear();
+        } else {
+            self.sequences.push(sequence)?;
+        }
+        self.rest = behind;
+        Ok(true)
+    }
+
+    // Passes the character that comes next.
+    fn pass_character(&mut self) -> Option<char>
+        requires { begins_with_sequence self.old.ahead ≡ false }
+        ensures scalar { IfSome result IsScalar }
+        ensures some { IfSome result (λ c. self.old ≡ record self.new { ahead = character_parts c ++ self.new.ahead }) }
+        ensures none { IfNone result (self.old.ahead ≡ []) }
+        ensures stays { IfNone result (self.new ≡ self.old) }
+    {
+        let (character, behind) = split_character(self.rest)?;
+        self.rest = behind;
+        Some(character)
+    }
+
+    // Passes the delimiter, where it comes next.
+    fn pass_delimiter(&mut self, delimiter: char) -> bool
+        requires { begins_with_sequence self.old.ahead ≡ false }
+        ensures passed { result ≡ true → self.old ≡ record self.new { ahead = character_parts delimiter ++ self.new.ahead } }
+        ensures stays { result ≡ false → self.new ≡ self.old }
+        ensures other { result ≡ false → begins_with delimiter (seen_ahead self.old) ≡ false }
+    {
+        let Some(behind) = self.rest.strip_prefix(delimiter) else {
+            return false;
+        };
+        self.rest = behind;
+        true
+    }
+}
