@@ -1,13 +1,13 @@
--- Without custom styling, the lines of a row are made of the cells that its visible columns draw.
+-- The lines of a row are made of the cells that its visible columns draw.
 use Rattle.std.specs.Prelude.{if◌then◌else◌}
 use Rattle.comfy_parts.specs.VisibleLines.{CellLine}
-use Rattle.std.proofs.Common.{◌≡◌, Bool, false, ℕ, List, [], ◌∷◌, Option, Some, None, length, map, max, refl, ap, ap₂, ◌∙◌, sym, slice_index_or, zero, suc}
+use Rattle.std.proofs.Common.{◌≡◌, Bool, true, false, ℕ, List, [], ◌∷◌, Option, Some, None, length, map, max, refl, ap, ap₂, ◌∙◌, sym, slice_index_or, zero, suc}
 use Rattle.std.specs.List.{range_with_len, slice_get}
 use Rattle.std.proofs.lemmas.List.{length-map}
 use Rattle.comfy_parts.specs.CellValue.{CellValue, RowValue, ColumnInfo}
 use Rattle.comfy_parts.specs.Text.{Text, greatest}
-use Rattle.comfy_table.specs.DrawnCells.{drawn_cell, greatest_height, height_of_lines, lines_of_optional, piece_at, piece_of_lines}
-use Rattle.comfy_table.specs.Pieces.{cell_pieces, blank_piece, piece, row_cell_texts, written_piece, pieces_at, pieces_of_optional, row_cell_lines, row_lines, visible_infos}
+use Rattle.comfy_table.specs.DrawnCells.{as_seen, drawn_cell, greatest_height, height_of_lines, lines_of_cell, lines_of_optional, piece_at, piece_of_line, piece_of_lines}
+use Rattle.comfy_table.specs.Pieces.{cell_pieces, blank_piece, piece, row_cell_texts, pieces_at, pieces_of_optional, row_cell_lines, row_lines, visible_infos}
 use Rattle.comfy_table.specs.TableValue.{TableValue}
 
 -- a blank_piece, whatever the line
@@ -15,11 +15,20 @@ one_filling : (info : ColumnInfo) (k : ℕ) → blank_piece info ≡ slice_index
 one_filling info zero = refl
 one_filling info (suc k) = refl
 
-module _ (table : TableValue) (row : RowValue) (off : table.custom_styling ≡ false) where
+module _ (table : TableValue) (row : RowValue) where
+  -- lines that are written as they are seen
+  pieces_as_seen : (info : ColumnInfo) (cell : CellValue) (lines : List Text) → map (piece_of_line table cell info) (map as_seen lines) ≡ map (piece table cell info) lines
+  pieces_as_seen info cell [] = refl
+  pieces_as_seen info cell (line ∷ lines) = ap (λ (ps : List Text). piece table cell info line ∷ ps) (pieces_as_seen info cell lines)
+
   -- the pieces of a cell
-  pieces_of_cell : (info : ColumnInfo) (cell : CellValue) → map (piece table cell info) (row_cell_lines table row info cell) ≡ cell_pieces table row info cell
-  pieces_of_cell info cell =
-      sym (ap (λ (custom : Bool). if custom then map (λ (line : CellLine). written_piece table cell info line.seen line.written) (row_cell_texts table row info cell) else map (piece table cell info) (row_cell_lines table row info cell)) off)
+  pieces_of_cell : (info : ColumnInfo) (cell : CellValue) → map (piece_of_line table cell info) (lines_of_cell table row info cell) ≡ cell_pieces table row info cell
+  pieces_of_cell info cell = by_setting table.custom_styling
+    where
+      by_setting : (custom : Bool) → map (piece_of_line table cell info) (if custom then row_cell_texts table row info cell else map as_seen (row_cell_lines table row info cell))
+          ≡ (if custom then map (piece_of_line table cell info) (row_cell_texts table row info cell) else map (piece table cell info) (row_cell_lines table row info cell))
+      by_setting true = refl
+      by_setting false = pieces_as_seen info cell (row_cell_lines table row info cell)
 
   -- the piece of an optional cell
   piece_of_optional : (info : ColumnInfo) (cell : Option CellValue) (k : ℕ)
@@ -32,7 +41,7 @@ module _ (table : TableValue) (row : RowValue) (off : table.custom_styling ≡ f
       → height_of_lines cell (lines_of_optional table row info cell) ≡ length (pieces_of_optional table row info cell)
   height_of_optional info None = refl
   height_of_optional info (Some cell) =
-      sym (length-map (row_cell_lines table row info cell) (piece table cell info)) ∙ ap length (pieces_of_cell info cell)
+      sym (length-map (lines_of_cell table row info cell) (piece_of_line table cell info)) ∙ ap length (pieces_of_cell info cell)
 
   -- line by line
   pub drawn_pieces : (k : ℕ) (ps : List (ℕ × ColumnInfo))
@@ -52,14 +61,14 @@ module _ (table : TableValue) (row : RowValue) (off : table.custom_styling ≡ f
       ap₂ (λ (line : ℕ → List Text) (n : ℕ). map line (range_with_len 0 n)) (λ i k. drawn_pieces k (visible_infos infos) i) (drawn_height (visible_infos infos))
 
 -- the piece of a line that was looked up
-pub piece_found : (table : TableValue) (k : ℕ) (info : ColumnInfo) (cell : CellValue) (lines : List Text) (line : Text) → Some line ≡ slice_get lines k
-    → piece_of_lines table k info (Some cell) lines ≡ piece table cell info line
+pub piece_found : (table : TableValue) (k : ℕ) (info : ColumnInfo) (cell : CellValue) (lines : List CellLine) (line : CellLine) → Some line ≡ slice_get lines k
+    → piece_of_lines table k info (Some cell) lines ≡ piece_of_line table cell info line
 piece_found table k info cell [] line found = absurd (cc found)
-piece_found table zero info cell (first ∷ lines) line found = let same : first ≡ line = cc found in ap (piece table cell info) same
+piece_found table zero info cell (first ∷ lines) line found = let same : first ≡ line = cc found in ap (piece_of_line table cell info) same
 piece_found table (suc k) info cell (first ∷ lines) line found = piece_found table k info cell lines line found
 
 -- and where there is none
-pub piece_missing : (table : TableValue) (k : ℕ) (info : ColumnInfo) (cell : CellValue) (lines : List Text) → None ≡ slice_get lines k
+pub piece_missing : (table : TableValue) (k : ℕ) (info : ColumnInfo) (cell : CellValue) (lines : List CellLine) → None ≡ slice_get lines k
     → piece_of_lines table k info (Some cell) lines ≡ blank_piece info
 piece_missing table k info cell [] none = refl
 piece_missing table zero info cell (first ∷ lines) none = absurd (cc none)

@@ -1,14 +1,15 @@
 -- The longest line of a column is the greatest of its rows' cells.
-use Rattle.std.proofs.Common.{◌≡◌, ℕ, Bool, false, List, [], ◌∷◌, ◌++◌, Option, Some, None, map, flat_map, max, arith, refl, ap, ◌∙◌}
+use Rattle.std.proofs.Common.{◌≡◌, ℕ, List, [], ◌∷◌, ◌++◌, Option, Some, None, map, flat_map, max, arith, refl, ap, ◌∙◌}
 use Rattle.std.specs.List.{cons_option, filter_map, slice_get}
-use Rattle.std.specs.Prelude.{if◌then◌else◌, option_map, option_to_list}
+use Rattle.std.specs.Prelude.{option_map, option_to_list}
 use Rattle.std.proofs.lemmas.List.{map-append}
 use Rattle.comfy_parts.specs.CellValue.{CellValue, ColumnInfo, RowValue}
 use Rattle.comfy_parts.specs.Text.{greatest, measure}
 use Rattle.comfy_parts.specs.Wrapping.{lines_of_text}
 use Rattle.comfy_table.specs.Lines.{cell_delimiter, cell_lines, longest_line}
 use Rattle.comfy_table.specs.LongestLine.{cell_longest_line, optional_longest_line, row_longest_line, rows_longest_line}
-use Rattle.comfy_table.specs.TableValue.{TableValue, visible_row}
+use Rattle.comfy_table.proofs.SeenLemmas.{cell_seen, get_seen, row_seen, seen_rows-is}
+use Rattle.comfy_table.specs.TableValue.{TableValue, header_and_rows}
 
 -- of two lists behind each other
 greatest-append : (xs ys : List ℕ) → greatest (xs ++ ys) ≡ max (greatest xs) (greatest ys)
@@ -26,16 +27,24 @@ module _ (table : TableValue) (info : ColumnInfo) where
   abbrev lines : CellValue → List (List ℕ)
   lines cell = cell_lines info.content_width (cell_delimiter table info.delimiter cell) cell
 
-  -- of some cells and perhaps one more
-  greatest-cons_option : (cell : Option CellValue) (cells : List CellValue) → greatest (map (cell_longest_line table info) (cons_option cell cells)) ≡ max (optional_longest_line table info cell) (greatest (map (cell_longest_line table info) cells))
+  -- of some cells and perhaps one more, as they are seen
+  greatest-cons_option : (cell : Option CellValue) (cells : List CellValue)
+      → greatest (map (cell_longest_line table info) (cons_option (option_map (cell_seen table.custom_styling) cell) cells)) ≡ max (optional_longest_line table info cell) (greatest (map (cell_longest_line table info) cells))
   greatest-cons_option None cells = omega arith
   greatest-cons_option (Some cell) cells = refl
 
-  -- of the cells at a position, row by row
-  row_by_row : (rows : List RowValue) (i : ℕ) → greatest (map (cell_longest_line table info) (filter_map (λ (row : RowValue). slice_get row.cells i) rows)) ≡ rows_longest_line table info i rows
+  -- the cells at a position
+  abbrev cells_of : ℕ → List RowValue → List CellValue
+  cells_of i rows = filter_map (λ (row : RowValue). slice_get row.cells i) rows
+
+  -- of the cells at a position as they are seen, row by row
+  row_by_row : (rows : List RowValue) (i : ℕ) → greatest (map (cell_longest_line table info) (cells_of i (map (row_seen table.custom_styling) rows))) ≡ rows_longest_line table info i rows
   row_by_row [] i = refl
   row_by_row (row ∷ rows) i =
-      greatest-cons_option (slice_get row.cells i) (filter_map (λ (r : RowValue). slice_get r.cells i) rows) ∙ ap (max (row_longest_line table info i row)) (row_by_row rows i)
+      let others = cells_of i (map (row_seen table.custom_styling) rows) in
+      ap (λ (cell : Option CellValue). greatest (map (cell_longest_line table info) (cons_option cell others))) (get_seen table.custom_styling row.cells i)
+      ∙ greatest-cons_option (slice_get row.cells i) others
+      ∙ ap (max (row_longest_line table info i row)) (row_by_row rows i)
 
   -- of the lines of all cells
   cell_by_cell : (cells : List CellValue) → greatest (map measure (flat_map lines cells)) ≡ greatest (map (cell_longest_line table info) cells)
@@ -43,20 +52,12 @@ module _ (table : TableValue) (info : ColumnInfo) where
       greatest-flat_map measure lines cells
       ∙ (λ j. greatest (map (λ (cell : CellValue). greatest-flat_map measure (lines_of_text info.content_width (cell_delimiter table info.delimiter cell)) cell.text_lines j) cells))
 
-  -- of the lines of all cells of some rows
-  rows_longest_line-is : (rows : List RowValue) (i : ℕ) → greatest (map measure (flat_map lines (filter_map (λ (row : RowValue). slice_get row.cells i) rows))) ≡ rows_longest_line table info i rows
-  rows_longest_line-is rows i = cell_by_cell (filter_map (λ (row : RowValue). slice_get row.cells i) rows) ∙ row_by_row rows i
-
-  -- the longest line by the setting
-  abbrev longest_by : Bool → Option RowValue → List RowValue → ℕ → ℕ
-  longest_by custom header rows i =
-      greatest (map measure (flat_map lines (filter_map (λ (row : RowValue). slice_get row.cells i) (option_to_list (if custom then option_map visible_row header else header) ++ (if custom then map visible_row rows else rows)))))
-
-  -- of a table without custom styling: the longer of the header's and the rows'
-  pub longest_line-is : (i : ℕ) → table.custom_styling ≡ false
+  -- so that of a column: the longer of the header's and the rows'
+  pub longest_line-is : (i : ℕ)
       → longest_line table i info.delimiter info.content_width ≡ max (rows_longest_line table info i (option_to_list table.header)) (rows_longest_line table info i table.rows)
-  longest_line-is i off =
-      ap (λ (custom : Bool). longest_by custom table.header table.rows i) off
-      ∙ rows_longest_line-is (option_to_list table.header ++ table.rows) i
+  longest_line-is i =
+      ap (λ (rows : List RowValue). greatest (map measure (flat_map lines (cells_of i rows)))) (seen_rows-is table)
+      ∙ cell_by_cell (cells_of i (map (row_seen table.custom_styling) (header_and_rows table)))
+      ∙ row_by_row (header_and_rows table) i
       ∙ ap greatest (map-append (row_longest_line table info i) (option_to_list table.header) table.rows)
       ∙ greatest-append (map (row_longest_line table info i) (option_to_list table.header)) (map (row_longest_line table info i) table.rows)

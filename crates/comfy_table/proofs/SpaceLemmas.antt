@@ -4,7 +4,7 @@ use Rattle.std.proofs.lemmas.List.{get_or-replicate, length-replicate, replicate
 use Rattle.std.specs.Prelude.{if◌then◌else◌, Result, Ok, Err, OnOk}
 use Rattle.comfy_parts.specs.CellValue.{CellValue, ColumnInfo}
 use Rattle.comfy_parts.specs.Text.{Text, spaces}
-use Rattle.comfy_table.specs.Pieces.{cell_alignment, free_before, free_places, padded, piece}
+use Rattle.comfy_table.specs.Pieces.{cell_alignment, free_before, free_places, padded, written_piece}
 use Rattle.comfy_table.specs.Styling.{styled}
 use Rattle.comfy_table.specs.TableValue.{TableValue, should_style}
 
@@ -46,21 +46,21 @@ module _ (cell : CellValue) (info : ColumnInfo) (line : Text) (left right : ℕ)
       ∙ append_assoc (spaces info.padding.0) (spaces before) (text ++ spaces (free_places info line - before + info.padding.1))
       ∙ ap (λ (t : Text). spaces info.padding.0 ++ (spaces before ++ (text ++ t))) (sym (spaces-append (free_places info line - before) info.padding.1))
 
-  -- the piece of a line without styling, with its line styled, and styled as a whole
-  pub plain-made : (table : TableValue) → should_style table ≡ false → spaces left ++ (line ++ spaces right) ≡ piece table cell info line
-  plain-made table off =
-      padded-made line
-      ∙ ap (λ (b : Bool). if b then (if table.style_text_only then padded cell info line (styled cell line) else styled cell (padded cell info line line)) else padded cell info line line) (sym off)
+  -- the piece of a line with its text without styling, with its text styled, and styled as a whole
+  pub plain-made : (table : TableValue) (text : Text) → should_style table ≡ false → spaces left ++ (text ++ spaces right) ≡ written_piece table cell info line text
+  plain-made table text off =
+      padded-made text
+      ∙ ap (λ (b : Bool). if b then (if table.style_text_only then padded cell info line (styled cell text) else styled cell (padded cell info line text)) else padded cell info line text) (sym off)
 
-  pub line-styled : (table : TableValue) → should_style table ≡ true → table.style_text_only ≡ true → spaces left ++ (styled cell line ++ spaces right) ≡ piece table cell info line
-  line-styled table on alone =
-      padded-made (styled cell line)
-      ∙ ap₂ (λ (b c : Bool). if b then (if c then padded cell info line (styled cell line) else styled cell (padded cell info line line)) else padded cell info line line) (sym on) (sym alone)
+  pub line-styled : (table : TableValue) (text : Text) → should_style table ≡ true → table.style_text_only ≡ true → spaces left ++ (styled cell text ++ spaces right) ≡ written_piece table cell info line text
+  line-styled table text on alone =
+      padded-made (styled cell text)
+      ∙ ap₂ (λ (b c : Bool). if b then (if c then padded cell info line (styled cell text) else styled cell (padded cell info line text)) else padded cell info line text) (sym on) (sym alone)
 
-  pub all-styled : (table : TableValue) → should_style table ≡ true → table.style_text_only ≡ false → styled cell (spaces left ++ (line ++ spaces right)) ≡ piece table cell info line
-  all-styled table on whole =
-      ap (styled cell) (padded-made line)
-      ∙ ap₂ (λ (b c : Bool). if b then (if c then padded cell info line (styled cell line) else styled cell (padded cell info line line)) else padded cell info line line) (sym on) (sym whole)
+  pub all-styled : (table : TableValue) (text : Text) → should_style table ≡ true → table.style_text_only ≡ false → styled cell (spaces left ++ (text ++ spaces right)) ≡ written_piece table cell info line text
+  all-styled table text on whole =
+      ap (styled cell) (padded-made text)
+      ∙ ap₂ (λ (b c : Bool). if b then (if c then padded cell info line (styled cell text) else styled cell (padded cell info line text)) else padded cell info line text) (sym on) (sym whole)
 
 -- what a call appends, said in another way
 pub pushed-as : {T E : Type 0} (r : Result T E) (new old made wanted : Text) → made ≡ wanted → OnOk r (new ≡ old ++ made) → OnOk r (new ≡ old ++ wanted)

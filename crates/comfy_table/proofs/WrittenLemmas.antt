@@ -25,7 +25,7 @@ use Rattle.comfy_table.specs.Pieces.{row_cell_texts}
 use Rattle.comfy_table.specs.TableValue.{TableValue}
 
 -- no line
-abbrev no_line : CellLine
+abbrev pub no_line : CellLine
 no_line = record { seen = []; written = [] }
 
 -- what is seen of some lines
@@ -61,7 +61,7 @@ seen_cut (Some h) w indicator lines =
         ∙ ap₂ (λ (xs : List Text) (x : Text). xs ++ x ∷ []) (seen_take (h - 1) lines) (ap (cut_line w indicator) (seen_at lines (h - 1)))
 
 -- what holds of each line and of those that are cut
-each_cut : (P : CellLine → Type 0) (height : Option ℕ) (w : ℕ) (indicator : Text) (lines : List CellLine) → AllByRecursion P lines → ((k : ℕ) → P (cut_cell_line w indicator (slice_index_or lines k no_line)))
+pub each_cut : (P : CellLine → Type 0) (height : Option ℕ) (w : ℕ) (indicator : Text) (lines : List CellLine) → AllByRecursion P lines → ((k : ℕ) → P (cut_cell_line w indicator (slice_index_or lines k no_line)))
     → AllByRecursion P (cut_cell_lines_to_limit height w indicator lines)
 each_cut P None w indicator lines each cut = each
 each_cut P (Some h) w indicator lines each cut = by_test (nat_le (length lines) h)

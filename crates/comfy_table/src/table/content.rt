@@ -1,25 +1,48 @@
 //! How wide the contents of a column are.
 
-ghost use Rattle.std.specs.Prelude.{◌≡◌, IfOk};
-ghost use Rattle.comfy_table.specs.TableValue.{cell_content_width, column_content_width, max_content_widths};
+ghost use Rattle.std.specs.Prelude.{◌≡◌, IfOk, map, string_bytes};
+ghost use Rattle.comfy_parts.specs.Text.{measure};
+ghost use Rattle.comfy_table.specs.TableValue.{cell_content_width, column_content_width, max_content_widths, seen_cell};
 ghost use Rattle.comfy_table.specs.Contents.{row_content_width, rows_content_width};
 
 use crate::table::Table;
 use comfy_parts::{Cell, Result, Row};
 
-/// The greatest measure, in terminal columns, of a text line of the column at a position, over header and rows. Each cell counts at least 1,
-/// a measure above 65535 counts 65535, and a column without a cell gives 0.
+/// The greatest measure, in terminal columns, of a text line of the column at a position, over header and rows. Each
+/// cell counts at least 1, a measure above 65535 counts 65535, and a column without a cell gives 0.
 pub(crate) fn column_content_width(table: &Table, position: usize) -> u16
     ensures { result ≡ column_content_width table.now position }
 {
-    let below = rows_content_width(table.rows.as_slice(), position);
+    let below = rows_content_width(table, table.rows.as_slice(), position);
     match &table.header {
-        Some(header) => row_content_width(header, position).max(below),
+        Some(header) => row_content_width(table, header, position).max(below),
         None => below,
     }
 }
 
 impl Table {
+    // The text lines of a cell as widths, line ends and cuts see them: with custom styling without their sequences.
+    pub(crate) fn seen_lines<'a>(&self, cell: &'a Cell) -> &'a [String]
+        ensures { map string_bytes result.now ≡ (seen_cell self.now cell.now).text_lines }
+    {
+        if self.custom_styling {
+            cell.visible_lines()
+        } else {
+            cell.text_lines()
+        }
+    }
+
+    // The columns that each of these takes.
+    pub(crate) fn seen_widths<'a>(&self, cell: &'a Cell) -> &'a [usize]
+        ensures { result.now ≡ map measure (seen_cell self.now cell.now).text_lines }
+    {
+        if self.custom_styling {
+            cell.visible_widths()
+        } else {
+            cell.text_widths()
+        }
+    }
+
     /// For each column, in list order, the greatest measure of a text line over header and rows, in terminal columns. Each
     /// cell counts at least 1, a measure above 65535 counts 65535, and a column without a cell gives 0. Cells past the
     /// last column are left out.
@@ -36,31 +59,31 @@ impl Table {
 }
 
 // The greatest content of some rows at a position.
-fn rows_content_width(rows: &[Row], position: usize) -> u16
-    ensures { result ≡ rows_content_width rows.now position }
+fn rows_content_width(table: &Table, rows: &[Row], position: usize) -> u16
+    ensures { result ≡ rows_content_width table.now position rows.now }
 {
     let mut widest = 0;
     for row in rows {
-        widest = row_content_width(row, position).max(widest);
+        widest = row_content_width(table, row, position).max(widest);
     }
     widest
 }
 
 // The content of a row's cell at a position, 0 where there is none.
-fn row_content_width(row: &Row, position: usize) -> u16
-    ensures { result ≡ row_content_width row.now position }
+fn row_content_width(table: &Table, row: &Row, position: usize) -> u16
+    ensures { result ≡ row_content_width table.now position row.now }
 {
     match row.cell_iter().as_slice().get(position) {
-        Some(cell) => cell_content_width(cell),
+        Some(cell) => cell_content_width(table, cell),
         None => 0,
     }
 }
 
-// The greatest measure of a cell's text lines, at least 1 and at most 65535.
-fn cell_content_width(cell: &Cell) -> u16
-    ensures { result ≡ cell_content_width cell.now }
+// The greatest measure of a cell's text lines as they are seen, at least 1 and at most 65535.
+fn cell_content_width(table: &Table, cell: &Cell) -> u16
+    ensures { result ≡ cell_content_width (seen_cell table.now cell.now) }
 {
-    let widths = cell.text_widths();
+    let widths = table.seen_widths(cell);
     let mut widest = 1;
     for width in widths {
         widest = widest.max((*width).min(65535) as u16);

@@ -1,6 +1,6 @@
 //! The settings of a table. Only the indicator takes memory.
 
-ghost use Rattle.std.specs.Prelude.{◌≡◌, Some, IfOk, OnOk, OnErr};
+ghost use Rattle.std.specs.Prelude.{◌≡◌, Some, true, IfOk, OnOk, OnErr};
 ghost use Rattle.std.specs.Borrow.{sem};
 ghost use Rattle.comfy_table.specs.TableReference.{reference_of};
 ghost use Rattle.comfy_table.specs.Lines.{cell_delimiter};
@@ -102,6 +102,33 @@ impl Table {
     {
         self.set_width = Some(width);
         self
+    }
+
+    /// Has SGR sequences in cells (ESC, `[`, digits, `;` and `:`, then `m`) count nothing. Widths, line ends and cuts are
+    /// then those of the table without them. Each line resumes the sequences that are active where it begins, and ends
+    /// with `ESC[0m` where one is still open. No call turns this off, and a new table has it off.
+    ///
+    /// ```
+    /// table.custom_styling().set_width(7).set_content_arrangement(ContentArrangement::Dynamic);
+    /// table.add_row(["\u{1b}[1mabcdef\u{1b}[0m"])?;
+    /// // +-----+
+    /// // | abc |   `abc` between `ESC[1m` and `ESC[0m`
+    /// // | def |   `def` likewise
+    /// // +-----+
+    /// ```
+    pub fn custom_styling(&mut self) -> &mut Self
+        ensures same_reference { result.ghost_name ≡ self.entry.ghost_name }
+        ensures value { result.now ≡ record self.old { custom_styling = true } }
+    {
+        self.custom_styling = true;
+        self
+    }
+
+    /// Whether SGR sequences in cells count nothing, as after `custom_styling`.
+    pub fn has_custom_styling(&self) -> bool
+        ensures { result ≡ self.now.custom_styling }
+    {
+        self.custom_styling
     }
 
     // What stands behind a line that is cut.

@@ -7,6 +7,7 @@ mod drawing;
 mod output;
 mod piece;
 mod sequences;
+mod written_line;
 
 pub use comfy_parts::content_split;
 pub(crate) use drawing::draw;

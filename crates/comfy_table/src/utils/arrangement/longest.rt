@@ -7,6 +7,7 @@ ghost use Rattle.comfy_table.specs.Deciding.{needs_in};
 ghost use Rattle.comfy_table.specs.Dynamic.{shrunk_at};
 ghost use Rattle.comfy_table.specs.Lines.{longest_line, longest_line_at};
 ghost use Rattle.comfy_table.specs.LongestLine.{cell_longest_line, row_longest_line, rows_longest_line, text_longest_line};
+ghost use Rattle.comfy_table.specs.TableValue.{seen_cell};
 
 use crate::table::Table;
 use crate::utils::arrangement::dynamic::visible::VisibleColumn;
@@ -89,13 +90,13 @@ fn row_longest_line(table: &Table, row: &Row, position: usize, info: &ColumnDisp
     }
 }
 
-// The longest line of a cell.
+// The longest line of a cell as it is seen.
 fn cell_longest_line(table: &Table, cell: &Cell, info: &ColumnDisplayInfo) -> usize
-    ensures { result ≡ cell_longest_line table.now info.now cell.now }
+    ensures { result ≡ cell_longest_line table.now info.now (seen_cell table.now cell.now) }
 {
     let delimiter = table.delimiter_of(cell, info.delimiter);
-    let texts = cell.text_lines();
-    let widths = cell.text_widths();
+    let texts = table.seen_lines(cell);
+    let widths = table.seen_widths(cell);
     let mut longest = 0;
     for (line, text) in texts.iter().enumerate() {
         let of_text = text_longest_line(text.as_str(), widths[line], info, delimiter);

@@ -4,8 +4,10 @@ ghost use Rattle.std.specs.Prelude.{◌≡◌, ◌++◌, [], IfOk, OnOk, flat_ma
 ghost use Rattle.std.specs.List.{list_all};
 ghost use Rattle.comfy_parts.specs.Text.{measure};
 ghost use Rattle.comfy_parts.specs.Wrapping.{lines_of_text, wrapped};
-ghost use Rattle.comfy_table.specs.Lines.{cell_lines, cut_line, cut_to_height, cut_to_limit};
+ghost use Rattle.comfy_table.specs.Lines.{cell_delimiter, cell_lines, cut_line, cut_to_height, cut_to_limit};
+ghost use Rattle.comfy_table.specs.TableValue.{seen_cell};
 
+use crate::table::Table;
 use comfy_parts::content_split::{
     ColumnDisplayInfo, measure_text_width, split_long_word, wrapped_lines,
 };
@@ -215,19 +217,18 @@ impl<'a> CellLines<'a> {
     }
 }
 
-/// The lines of a cell in a column: each text line as it is where it fits, else wrapped. Where all fit, this takes no
-/// memory.
+/// The lines of a cell in a column as they are seen: each text line as it is where it fits, else wrapped. Where all fit,
+/// this takes no memory.
 pub fn cell_lines<'a>(
-    alloc: Global,
+    table: &Table,
     cell: &'a Cell,
     info: &ColumnDisplayInfo,
-    delimiter: char,
 ) -> Result<WholeLines<'a>>
-    ensures { IfOk result (λ lines. lines ≡ cell_lines info.now.content_width delimiter cell.now) }
+    ensures { IfOk result (λ lines. lines ≡ cell_lines info.now.content_width (cell_delimiter table.now info.now.delimiter cell.now) (seen_cell table.now cell.now)) }
 {
-    let texts = cell.text_lines();
-    let widths = cell.text_widths();
-    let mut wrapped = Vec::new(alloc);
+    let texts = table.seen_lines(cell);
+    let widths = table.seen_widths(cell);
+    let mut wrapped = Vec::new(*table.columns.allocator());
     if all_fit(widths, usize::from(info.content_width)) {
         return Ok(WholeLines {
             texts,
@@ -236,6 +237,7 @@ pub fn cell_lines<'a>(
             is_wrapped: false,
         });
     }
+    let delimiter = table.delimiter_of(cell, info.delimiter);
     push_lines(&mut wrapped, texts, widths, info, delimiter)?;
     Ok(WholeLines {
         texts,

@@ -1,14 +1,15 @@
 //! The lines of a row, as pieces side by side.
 
-ghost use Rattle.std.specs.Prelude.{◌≡◌, ◌++◌, IfOk, OnOk, map, option_copied, option_to_list, string_bytes};
+ghost use Rattle.std.specs.Prelude.{◌≡◌, ◌++◌, IfOk, OnOk, map, option_copied, option_to_list, slice_get, string_bytes};
 ghost use Rattle.std.specs.List.{range_with_len};
 ghost use Rattle.comfy_table.specs.Lines.{cell_delimiter};
 ghost use Rattle.comfy_table.specs.Pieces.{content_lines, row_lines, visible_infos};
-ghost use Rattle.comfy_table.specs.DrawnCells.{drawn_cell, greatest_height, height_of, lines_of_optional, piece_at};
+ghost use Rattle.comfy_table.specs.DrawnCells.{drawn_cell, greatest_height, height_of, piece_at, seen_of_optional, texts_of_optional, uncut_texts};
 
 use crate::table::Table;
 use crate::utils::formatting::cell_lines::{CellLines, cell_lines, cut_to_limit};
 use crate::utils::formatting::piece::{push_piece, push_spaces};
+use crate::utils::formatting::written_line::WrittenLine;
 use comfy_parts::content_split::ColumnDisplayInfo;
 use comfy_parts::{Cell, Result, Row};
 use std::alloc::Global;
@@ -16,20 +17,25 @@ use std::marker::Model;
 
 // A cell of a row as a visible column draws it.
 #[derive(Drop)]
-pub struct DrawnCell<'a> {
+pub(crate) struct DrawnCell<'a> {
     info: &'a ColumnDisplayInfo,
     // none where the row has no cell for the column
     cell: Option<&'a Cell>,
+    // the lines as they are seen
     lines: CellLines<'a>,
+    // the texts of the first of them, where sequences stand in the cell
+    texts: Vec<String>,
+    // whether sequences count nothing, and each line closes its own
+    custom_styling: bool,
 }
 
 impl<'a> Model for DrawnCell<'a> {
-    ghost use Rattle.std.specs.Prelude.{option_copied};
-    ghost use Rattle.comfy_table.specs.DrawnCells.{DrawnCell};
+    ghost use Rattle.std.specs.Prelude.{map, option_copied, string_bytes};
+    ghost use Rattle.comfy_table.specs.DrawnCells.{DrawnCell, lines_with_texts};
 
     ghost Value = { DrawnCell };
 
-    ghost view = { λ d. record { info = d.info.now; cell = option_copied d.cell; lines = d.lines } };
+    ghost view = { λ d. record { info = d.info.now; cell = option_copied d.cell; lines = lines_with_texts d.custom_styling (map string_bytes d.texts.items) d.lines } };
 }
 
 impl<'a> DrawnCell<'a> {
@@ -50,10 +56,30 @@ impl<'a> DrawnCell<'a> {
         let Some(cell) = self.cell else {
             return push_spaces(text, self.info.width());
         };
-        match self.lines.get(line) {
+        match self.line(line) {
             Some(drawn) => push_piece(text, table, cell, self.info, &drawn),
             None => push_spaces(text, self.info.width()),
         }
+    }
+
+    // A line by its place, counted from 0.
+    fn line(&self, place: usize) -> Option<WrittenLine<'_>>
+        ensures { result ≡ slice_get self.now.lines place }
+    {
+        let Some(line) = self.lines.get(place) else {
+            return None;
+        };
+        let text = text_at(self.texts.as_slice(), place);
+        Some(WrittenLine::new(line, text, self.custom_styling))
+    }
+}
+
+fn text_at(texts: &[String], place: usize) -> Option<&str>
+    ensures { option_copied result ≡ slice_get (map string_bytes texts.now) place }
+{
+    match texts.get(place) {
+        Some(text) => Some(text.as_str()),
+        None => None,
     }
 }
 
@@ -114,7 +140,7 @@ fn header_content(
 }
 
 // The cells of a row in the visible columns, each the one at its column's own position.
-pub fn drawn_cells<'a>(
+pub(crate) fn drawn_cells<'a>(
     row: &'a Row,
     infos: &'a [ColumnDisplayInfo],
     table: &'a Table,
@@ -141,31 +167,74 @@ fn drawn_cell<'a>(
 ) -> Result<DrawnCell<'a>>
     ensures { IfOk result (λ cell. cell ≡ drawn_cell table.now row.now (position, info.now)) }
 {
-    let cell = row.cell_iter().as_slice().get(position);
-    let lines = row_cell_lines(row, cell, info, table)?;
-    Ok(DrawnCell { info, cell, lines })
+    let cell = cell_at(row, position);
+    Ok(DrawnCell {
+        info,
+        cell,
+        lines: row_cell_lines(row, cell, info, table)?,
+        texts: row_cell_texts(row, cell, info, table)?,
+        custom_styling: table.custom_styling,
+    })
 }
 
-// The lines of a cell in its row: wrapped at the column's width and cut to the row's height.
+fn cell_at(row: &Row, position: usize) -> Option<&Cell>
+    ensures { option_copied result ≡ slice_get row.now.cells position }
+{
+    row.cell_iter().as_slice().get(position)
+}
+
+// The lines of a cell in its row as they are seen: wrapped at the column's width and cut to the row's height.
 fn row_cell_lines<'a>(
     row: &Row,
     cell: Option<&'a Cell>,
     info: &ColumnDisplayInfo,
     table: &'a Table,
 ) -> Result<CellLines<'a>>
-    ensures { IfOk result (λ lines. lines ≡ lines_of_optional table.now row.now info.now (option_copied cell.entry)) }
+    ensures { IfOk result (λ lines. lines ≡ seen_of_optional table.now row.now info.now (option_copied cell.entry)) }
 {
     let alloc = *table.columns.allocator();
     let Some(cell) = cell else {
         return Ok(CellLines::none(alloc));
     };
-    let lines = cell_lines(alloc, cell, info, delimiter(cell, info, table))?;
+    let lines = cell_lines(table, cell, info)?;
     Ok(cut_to_limit(
         lines,
         row.height_limit(),
         info.content_width,
         table.truncation_indicator(),
     ))
+}
+
+// The texts that are written for the lines of a cell with sequences, without a line that is cut.
+fn row_cell_texts(
+    row: &Row,
+    cell: Option<&Cell>,
+    info: &ColumnDisplayInfo,
+    table: &Table,
+) -> Result<Vec<String>>
+    ensures { IfOk result (λ texts. map string_bytes texts.items ≡ texts_of_optional table.now row.now info.now (option_copied cell.entry)) }
+{
+    let none = Vec::new(*table.columns.allocator());
+    let Some(cell) = cell else {
+        return Ok(none);
+    };
+    if !table.custom_styling || !cell.has_escape() {
+        return Ok(none);
+    }
+    let texts = cell.written_lines(info, delimiter(cell, info, table))?;
+    Ok(uncut_texts(texts, row.height_limit()))
+}
+
+// The texts of the lines that a row's height doesn't cut.
+fn uncut_texts(mut texts: Vec<String>, max_height: Option<usize>) -> Vec<String>
+    ensures { map string_bytes result.items ≡ uncut_texts max_height (map string_bytes texts.items) }
+{
+    if let Some(height) = max_height
+        && texts.len() > height
+    {
+        texts.truncate(height.saturating_sub(1));
+    }
+    texts
 }
 
 /// The character at which the texts of a cell may break: its own delimiter, else its column's, else the table's, else a
@@ -177,7 +246,7 @@ pub fn delimiter(cell: &Cell, info: &ColumnDisplayInfo, table: &Table) -> char
 }
 
 // The height of a row: that of its highest visible cell.
-pub fn greatest_height(cells: &[DrawnCell]) -> usize
+pub(crate) fn greatest_height(cells: &[DrawnCell]) -> usize
     ensures { result ≡ greatest_height cells.now }
 {
     let mut height = 0;

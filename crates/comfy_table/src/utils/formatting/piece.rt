@@ -2,11 +2,11 @@
 
 ghost use Rattle.std.specs.Prelude.{◌≡◌, ◌+◌, ◌-◌, ◌≤◌, ◌++◌, OnOk, string_bytes};
 ghost use Rattle.comfy_parts.specs.Text.{spaces};
-ghost use Rattle.comfy_table.specs.Pieces.{cell_alignment, free_before, piece};
+ghost use Rattle.comfy_table.specs.Pieces.{cell_alignment, free_before, written_piece};
 
 use crate::table::Table;
-use crate::utils::formatting::cell_lines::Line;
 use crate::utils::formatting::sequences::{push_style_begin, push_style_end};
+use crate::utils::formatting::written_line::WrittenLine;
 use comfy_parts::content_split::ColumnDisplayInfo;
 use comfy_parts::style::CellAlignment;
 use comfy_parts::{Cell, Result};
@@ -18,9 +18,9 @@ pub fn push_piece(
     table: &Table,
     cell: &Cell,
     info: &ColumnDisplayInfo,
-    line: &Line,
+    line: &WrittenLine,
 ) -> Result<()>
-    ensures { OnOk result (string_bytes text.new ≡ string_bytes text.old ++ piece table.now cell.now info.now line.now) }
+    ensures { OnOk result (string_bytes text.new ≡ string_bytes text.old ++ written_piece table.now cell.now info.now line.now.seen line.now.written) }
 {
     let (left, right) = spaces_beside(cell, info, line.width(text)?);
     if !table.should_style() {
@@ -50,8 +50,8 @@ fn spaces_beside(cell: &Cell, info: &ColumnDisplayInfo, width: usize) -> (usize,
 }
 
 // Appends a line between spaces.
-fn push_padded(text: &mut String, left: usize, line: &Line, right: usize) -> Result<()>
-    ensures { OnOk result (string_bytes text.new ≡ string_bytes text.old ++ (spaces left ++ (line.now ++ spaces right))) }
+fn push_padded(text: &mut String, left: usize, line: &WrittenLine, right: usize) -> Result<()>
+    ensures { OnOk result (string_bytes text.new ≡ string_bytes text.old ++ (spaces left ++ (line.now.written ++ spaces right))) }
 {
     push_spaces(text, left)?;
     line.push_to(text)?;

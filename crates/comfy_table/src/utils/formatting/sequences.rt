@@ -1,6 +1,7 @@
 //! Colours and attributes as the sequences that a terminal takes them in: ESC, `[`, a code, `m`. No other file writes ESC.
 
 ghost use Rattle.std.specs.Prelude.{◌≡◌, ◌++◌, OnOk, filter, flat_map, string_bytes};
+ghost use Rattle.comfy_parts.specs.VisibleText.{reset};
 ghost use Rattle.comfy_table.specs.Styling.{sequence, color_code, foreground_code, background_code, attribute_code, has_attribute, attribute_sequences, optional_sequence, style_begin, style_end};
 
 use comfy_parts::style::{Attribute, Color};
@@ -46,6 +47,14 @@ pub(crate) fn push_style_begin(line: &mut String, cell: &Cell) -> Result<()>
     push_background(line, cell.background())?;
     push_foreground(line, cell.foreground())?;
     push_attributes(line, cell.attributes())?;
+    Ok(())
+}
+
+/// Appends the sequence that closes all others.
+pub(crate) fn push_reset(line: &mut String) -> Result<()>
+    ensures { OnOk result (string_bytes line.new ≡ string_bytes line.old ++ reset) }
+{
+    line.push_str("\u{1b}[0m")?;
     Ok(())
 }
 

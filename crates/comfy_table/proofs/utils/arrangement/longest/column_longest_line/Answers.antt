@@ -1,4 +1,4 @@
-use Rattle.std.proofs.Common.{◌≡◌, false, ap, sym, ◌∙◌, arith}
+use Rattle.std.proofs.Common.{◌≡◌, ap, ◌∙◌, arith}
 use Rattle.comfy_table.proofs.LongestLineLemmas.{longest_line-is}
 use Rattle.comfy_table.specs.LongestLine.{rows_longest_line}
 use Rattle.comfy_table.specs.TableValue.{TableValue}
@@ -7,14 +7,12 @@ use Rattle.comfy_table.proofs.utils.arrangement.longest.column_longest_line.Goal
 pub returns-then-of_header-limit-clause-at_most : goal.returns-then-of_header-limit-clause-at_most
 returns-then-of_header-limit-clause-at_most c =
     let table = c.args.table.now in
-    let off : table.custom_styling ≡ false = ap (λ (t : TableValue). t.custom_styling) (sym c.table.view_is) ∙ c.table.invariant.0 in
-    omega (arith, longest_line-is table c.args.info.now c.args.position off, c.header_longest_line-of_header.ensures)
+    omega (arith, longest_line-is table c.args.info.now c.args.position, c.header_longest_line-of_header.ensures)
 
 pub returns : goal.returns
 returns c =
     let table = c.args.table.now in
     let rows : c.as_slice-rows.result.now ≡ table.rows = c.as_slice-rows.ensures.value ∙ ap (λ (t : TableValue). t.rows) c.table.view_is in
-    let off : table.custom_styling ≡ false = ap (λ (t : TableValue). t.custom_styling) (sym c.table.view_is) ∙ c.table.invariant.0 in
-    let whole = longest_line-is table c.args.info.now c.args.position off in
+    let whole = longest_line-is table c.args.info.now c.args.position in
     let below = ap (rows_longest_line table c.args.info.now c.args.position) rows in
     record { at_most = omega (arith, whole, below); exact = λ within. omega (arith, whole, below) }

@@ -4,7 +4,6 @@ use Rattle.comfy_table.proofs.LoopLemmas.{filtered_all, filtered_more}
 use Rattle.std.specs.List.{range_with_len}
 use Rattle.comfy_table.proofs.DrawnCellLemmas.{drawn_lines}
 use Rattle.comfy_table.specs.DrawnCells.{DrawnCell, drawn_cell, greatest_height, piece_at}
-use Rattle.comfy_table.specs.TableValue.{TableValue}
 use Rattle.comfy_table.proofs.utils.formatting.content_format.drawn_cells.Goals.{then-not-is_hidden+in_ok-drawn_cell+in_ok-push, else-not-is_hidden}
 use Rattle.comfy_table.proofs.utils.formatting.content_format.drawn_cells.Goals as goal
 
@@ -38,7 +37,6 @@ pub returns-clause-lines : goal.returns-clause-lines
 returns-clause-lines c =
     let table = c.args.table.now in
     let f = drawn_cell table c.args.row.now in
-    let off : table.custom_styling ≡ false = ap (λ (t : TableValue). t.custom_styling) (sym c.table.view_is) ∙ c.table.invariant.0 in
     let drawn = c.loop-position.invariant ∙ filtered_all f (λ (p : ℕ × ColumnInfo). not p.1.is_hidden) c.args.infos.now c.loop-position.position c.loop-position-test.false in
     ap (λ (ds : List DrawnCell). map (λ k. map (piece_at table k) ds) (range_with_len 0 (greatest_height ds))) drawn
-    ∙ drawn_lines table c.args.row.now off c.args.infos.now
+    ∙ drawn_lines table c.args.row.now c.args.infos.now

@@ -10,7 +10,7 @@ returns-then-not-should_style c =
     let off : should_style c.args.table.now ≡ false = search rules in
     let left = rw c.in_ok-width.ensures.value at c.spaces_beside-left.ensures.left in
     let right = rw c.in_ok-width.ensures.value at c.spaces_beside-left.ensures.right in
-    pushed-behind c.push_padded.result _ (string_bytes c.width.new.text) _ _ c.in_ok-width.ensures.stays (pushed-as c.push_padded.result _ _ _ _ (plain-made c.args.cell.now c.args.info.now c.args.line.now _ _ left right c.args.table.now off) c.push_padded.ensures)
+    pushed-behind c.push_padded.result _ (string_bytes c.width.new.text) _ _ c.in_ok-width.ensures.stays (pushed-as c.push_padded.result _ _ _ _ (plain-made c.args.cell.now c.args.info.now c.args.line.now.seen _ _ left right c.args.table.now c.args.line.now.written off) c.push_padded.ensures)
 
 pub returns-then-table : goal.returns-then-table
 returns-then-table c =
@@ -19,11 +19,11 @@ returns-then-table c =
     let left = rw c.in_ok-width.ensures.value at c.spaces_beside-left.ensures.left in
     let right = rw c.in_ok-width.ensures.value at c.spaces_beside-left.ensures.right in
     let cell = c.args.cell.now in
-    let made = line-styled cell c.args.info.now c.args.line.now _ _ left right c.args.table.now on alone in
+    let made = line-styled cell c.args.info.now c.args.line.now.seen _ _ left right c.args.table.now c.args.line.now.written on alone in
     let old = string_bytes c.width.new.text in
     pushed-behind c.push_spaces-then-table.result _ old _ _ c.in_ok-width.ensures.stays
     (last-pushed c.push_spaces-then-table.result _ (string_bytes c.push_style_end.new.line) (spaces c.spaces_beside-left.result.1) _
-    (λ pushed. five-pushed old (spaces c.spaces_beside-left.result.0) (style_begin cell) c.args.line.now (style_end cell) _ _ _ _ _ (spaces c.spaces_beside-left.result.1)
+    (λ pushed. five-pushed old (spaces c.spaces_beside-left.result.0) (style_begin cell) c.args.line.now.written (style_end cell) _ _ _ _ _ (spaces c.spaces_beside-left.result.1)
     c.in_ok-push_spaces.ensures c.in_ok-push_style_begin.ensures c.in_ok-push_to.ensures c.in_ok-push_style_end.ensures pushed ∙ ap (λ (t : Text). old ++ t) made)
     c.push_spaces-then-table.ensures)
 
@@ -34,10 +34,10 @@ returns c =
     let left = rw c.in_ok-width.ensures.value at c.spaces_beside-left.ensures.left in
     let right = rw c.in_ok-width.ensures.value at c.spaces_beside-left.ensures.right in
     let cell = c.args.cell.now in
-    let made = all-styled cell c.args.info.now c.args.line.now _ _ left right c.args.table.now on whole in
+    let made = all-styled cell c.args.info.now c.args.line.now.seen _ _ left right c.args.table.now c.args.line.now.written on whole in
     let old = string_bytes c.width.new.text in
     pushed-behind c.push_style_end-2.result _ old _ _ c.in_ok-width.ensures.stays
     (last-pushed c.push_style_end-2.result _ (string_bytes c.push_padded-2.new.text) (style_end cell) _
-    (λ pushed. three-pushed old (style_begin cell) (spaces c.spaces_beside-left.result.0 ++ (c.args.line.now ++ spaces c.spaces_beside-left.result.1)) _ _ _ (style_end cell)
+    (λ pushed. three-pushed old (style_begin cell) (spaces c.spaces_beside-left.result.0 ++ (c.args.line.now.written ++ spaces c.spaces_beside-left.result.1)) _ _ _ (style_end cell)
     c.in_ok-push_style_begin-2.ensures c.in_ok-push_padded.ensures pushed ∙ ap (λ (t : Text). old ++ t) made)
     c.push_style_end-2.ensures)
