@@ -2,7 +2,8 @@
 # Refuses each request for memory of three built programs, one after another: those of ctable on its stored input, those
 # of table_cases on two of its cases, and those of refused_calls on each call by itself. Each such run of the first two
 # must end with status 1, print nothing, and say that there is no memory. One of refused_calls must say that the call was
-# refused as promised, or end with status 3 and print nothing, where the request wasn't the call's.
+# refused as promised, or end with status 3 and print nothing, where the request wasn't the call's. Of a call that adds
+# three rows it must also say how many are kept: 0 at first, then 1, then 2, as later requests are refused.
 #
 # usage: tools/refused_requests.sh RUNNER
 # RUNNER is called as `RUNNER INPUT PROGRAM`. It runs PROGRAM on INPUT with its first request refused,
@@ -56,13 +57,23 @@ refuse_call() {
   printf '%s\n' "$call" > "$work/call"
   said=$("$runner" "$work/call" "$crates/refused_calls/out/refused_calls" < /dev/null) || exit 2
   bytes=$(($(printf '%s: refused, as promised\n' "$call" | wc -c)))
+  case $call in
+    Table::*add_rows*) words='rows kept: [0-9]*' ;;
+    *) words= ;;
+  esac
   if printf '%s\n' "$said" | grep '^request ' \
-    | grep -v -e ": status 0, $bytes bytes, *\$" -e ': status 3, 0 bytes, *$'; then
+    | grep -v -e ": status 0, $bytes bytes, $words *\$" -e ': status 3, 0 bytes, *$'; then
     echo "$0: a refused request of $call ended otherwise" >&2
     exit 1
   fi
-  own=$(printf '%s\n' "$said" | sed -n "s/^refused in turn:.* \([1-9][0-9]*\) status 0, $bytes bytes,.*/\1/p")
-  if [ -z "$own" ]; then
+  kept=$(printf '%s\n' "$said" | sed -n 's/^request .* rows kept: \([0-9]*\) *$/\1/p' | uniq | tr '\n' ' ')
+  if [ -n "$words" ] && [ "$kept" != '0 1 2 ' ]; then
+    echo "$0: of the rows of $call these were kept, request by request: $kept" >&2
+    exit 1
+  fi
+  own=$(printf '%s\n' "$said" | sed -n 's/^refused in turn://p' | tr ';' '\n' \
+    | awk -v bytes="$bytes" '$2 == "status" && $3 == "0," && $4 == bytes { own += $1 } END { print own + 0 }')
+  if [ "$own" -eq 0 ]; then
     echo "$0: no request of $call was refused" >&2
     exit 1
   fi

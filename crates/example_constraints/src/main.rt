@@ -1,25 +1,37 @@
 //! Draws one table twice at a width of 44: as its columns share the room, and by constraints, one of which hides a column.
 #![tactic(auto)]
 
-use comfy_table::{ColumnConstraint, ContentArrangement, Table, Width};
+use comfy_table::{ColumnConstraint, ContentArrangement, Result, Table, Width};
+use std::alloc::Global;
 
 fn main(rt: HostRuntime) -> anyhow::Result<()> {
-    let mut books = Table::new(rt.alloc());
+    let mut books = books(rt.alloc())?;
+    print(&rt, &books)?;
+    constrain(&mut books);
+    print(&rt, &books)
+}
+
+fn print(rt: &HostRuntime, table: &Table) -> anyhow::Result<()> {
+    println!(rt; "{}", table.to_text()?)?;
+    Ok(())
+}
+
+fn books(alloc: Global) -> Result<Table> {
+    let mut books = Table::new(alloc);
     books
         .set_content_arrangement(ContentArrangement::Dynamic)
-        .set_width(44);
-    books
+        .set_width(44)
         .set_header(["Shelf", "Title", "Pages", "About"])?
         .add_row(["A", "Emma", "474", "a matchmaker who errs"])?
         .add_row(["B", "Walden", "352", "two years in the woods"])?;
-    println!(rt; "{}", books.to_text()?)?;
+    Ok(books)
+}
 
+fn constrain(books: &mut Table) {
     books.set_constraints([
         ColumnConstraint::Hidden,
         ColumnConstraint::LowerBoundary(Width::Fixed(12)),
         ColumnConstraint::ContentWidth,
         ColumnConstraint::Absolute(Width::Percentage(40)),
     ]);
-    println!(rt; "{}", books.to_text()?)?;
-    Ok(())
 }

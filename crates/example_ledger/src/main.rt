@@ -2,7 +2,7 @@
 #![tactic(auto)]
 
 use anyhow::Context;
-use comfy_table::{CellAlignment, ContentArrangement, IntoRow, Row, Table};
+use comfy_table::{CellAlignment, ContentArrangement, IntoRow, Result, Table};
 use std::alloc::Global;
 
 // the day, what was paid for, and how many cents it took
@@ -13,39 +13,41 @@ const ENTRIES: [(&str, &str, u32); 3] = [
 ];
 
 fn main(rt: HostRuntime) -> anyhow::Result<()> {
-    let mut ledger = Table::new(rt.alloc());
+    let sum = sum()?;
+    println!(rt; "{}", ledger(rt.alloc(), sum)?.to_text()?)?;
+    Ok(())
+}
+
+fn sum() -> anyhow::Result<u32> {
+    let mut sum: u32 = 0;
+    for (_, _, cents) in ENTRIES {
+        sum = sum.checked_add(cents).context("the sum is too large")?;
+    }
+    Ok(sum)
+}
+
+fn ledger(alloc: Global, sum: u32) -> Result<Table> {
+    let mut ledger = Table::new(alloc);
     ledger
         .set_content_arrangement(ContentArrangement::Dynamic)
-        .set_width(36);
-    ledger.set_truncation_indicator("..")?;
-    add_entries(rt.alloc(), &mut ledger)?;
+        .set_width(36)
+        .set_truncation_indicator("..")?
+        .set_header(["Day", "Purpose", "Euros"])?;
+    for (day, purpose, cents) in ENTRIES {
+        add_entry(alloc, &mut ledger, [day, purpose], cents)?;
+    }
+    add_entry(alloc, &mut ledger, ["", "Sum"], sum)?;
     if let Some(amounts) = ledger.column_mut(2) {
         amounts.set_cell_alignment(CellAlignment::Right);
     }
-    println!(rt; "{}", ledger.to_text()?)?;
-    Ok(())
+    Ok(ledger)
 }
 
-fn add_entries(alloc: Global, ledger: &mut Table) -> anyhow::Result<()> {
-    let mut sum: u32 = 0;
-    ledger.set_header(["Day", "Purpose", "Euros"])?;
-    for (day, purpose, cents) in ENTRIES {
-        sum = sum.checked_add(cents).context("the sum is too large")?;
-        ledger.add_row(row(alloc, day, purpose, cents)?)?;
-    }
-    let sum = euros(alloc, sum)?;
-    ledger.add_row(["", "Sum", sum.as_str()])?;
-    Ok(())
-}
-
-// a row of at most two lines
-fn row(alloc: Global, day: &str, purpose: &str, cents: u32) -> anyhow::Result<Row> {
-    let amount = euros(alloc, cents)?;
-    let mut row = [day, purpose, amount.as_str()].into_row(alloc)?;
+// adds a row of at most two lines
+fn add_entry(alloc: Global, ledger: &mut Table, words: [&str; 2], cents: u32) -> Result<()> {
+    let euros = format!(in alloc; "{}.{:02}", cents / 100, cents % 100)?;
+    let mut row = [words[0], words[1], euros.as_str()].into_row(alloc)?;
     row.max_height(2);
-    Ok(row)
-}
-
-fn euros(alloc: Global, cents: u32) -> anyhow::Result<String> {
-    Ok(format!(in alloc; "{}.{:02}", cents / 100, cents % 100)?)
+    ledger.add_row(row)?;
+    Ok(())
 }

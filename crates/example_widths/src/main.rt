@@ -7,22 +7,19 @@ use std::alloc::Global;
 
 fn main(rt: HostRuntime) -> anyhow::Result<()> {
     let mut forecast = forecast(rt.alloc())?;
-    forecast
-        .load_style(UTF8_FULL)
-        .set_content_arrangement(ContentArrangement::Dynamic);
     for width in [20, 40, 80] {
-        forecast.set_width(width);
-        println!(rt; "{}", forecast.to_text()?)?;
+        println!(rt; "{}", forecast.set_width(width).to_text()?)?;
     }
     Ok(())
 }
 
 fn forecast(alloc: Global) -> Result<Table> {
-    let days = [
-        ["Monday", "rain until noon, then sun and a light wind"],
-        ["Tuesday", "fog"],
-    ];
     let mut table = Table::new(alloc);
-    table.set_header(["Day", "Weather"])?.add_rows(days)?;
+    table
+        .load_style(UTF8_FULL)
+        .set_content_arrangement(ContentArrangement::Dynamic)
+        .set_header(["Day", "Weather"])?
+        .add_row(["Monday", "rain until noon, then sun and a light wind"])?
+        .add_row(["Tuesday", "fog"])?;
     Ok(table)
 }

@@ -10,6 +10,15 @@ use std::alloc::Global;
 pub fn outcome_of(alloc: Global, call: &str) -> Result<Outcome> {
     let table = worked_table(alloc)?;
     let copy = table.clone()?;
+    match read(&table, call) {
+        Some(true) => Ok(Outcome::Succeeded),
+        Some(false) => Ok(Outcome::refused(difference_after(&table, &copy)?)),
+        None => Ok(Outcome::Unknown),
+    }
+}
+
+// Whether the call of this name succeeds; none where there is no such call.
+fn read(table: &Table, call: &str) -> Option<bool> {
     let succeeded = match call {
         "clone" => table.clone().is_ok(),
         "column_max_content_widths" => table.column_max_content_widths().is_ok(),
@@ -17,15 +26,17 @@ pub fn outcome_of(alloc: Global, call: &str) -> Result<Outcome> {
         "to_text" => table.to_text().is_ok(),
         "trim_fmt" => table.trim_fmt().is_ok(),
         "to_terminated_text" => table.to_terminated_text().is_ok(),
-        _ => return Ok(Outcome::Unknown),
+        _ => return None,
     };
-    if succeeded {
-        return Ok(Outcome::Succeeded);
+    Some(succeeded)
+}
+
+fn difference_after(table: &Table, copy: &Table) -> Result<Option<&'static str>> {
+    if draws(table, &WORKED)? {
+        difference(table, copy)
+    } else {
+        Ok(Some("the next lines"))
     }
-    if !draws(&table, &WORKED)? {
-        return Ok(Outcome::Broken("the next lines"));
-    }
-    Ok(Outcome::refused(difference(&table, &copy)?))
 }
 
 // Whether these are the lines of a table.

@@ -36,19 +36,28 @@ fn add_attributes(alloc: Global) -> Result<Outcome> {
 
 // The calls that only read the cell: it stays as it is.
 fn borrowing(alloc: Global, call: &str) -> Result<Outcome> {
-    let cell = Cell::new(alloc, TEXT)?
-        .fg(Color::Green)
-        .set_delimiter('-')
-        .add_attribute(Attribute::Bold)?;
+    let cell = set_cell(alloc)?;
     let copy = cell.clone()?;
-    let succeeded = if call == "clone" {
-        cell.clone().is_ok()
-    } else {
-        cell.content().is_ok()
-    };
-    if succeeded {
+    if read(&cell, call) {
         return Ok(Outcome::Succeeded);
     }
     let differs = cell != copy;
     Ok(Outcome::refused(differs.then_some("the cell")))
+}
+
+// Whether the call of this name succeeds.
+fn read(cell: &Cell, call: &str) -> bool {
+    if call == "clone" {
+        cell.clone().is_ok()
+    } else {
+        cell.content().is_ok()
+    }
+}
+
+// A cell in which more is set.
+fn set_cell(alloc: Global) -> Result<Cell> {
+    let cell = Cell::new(alloc, TEXT)?;
+    cell.fg(Color::Green)
+        .set_delimiter('-')
+        .add_attribute(Attribute::Bold)
 }

@@ -40,13 +40,10 @@ const SECOND: [&str; 3] = [
 /// A table whose cells are wrapped, and cut by height.
 pub fn worked_table(alloc: Global) -> Result<Table> {
     let mut table = Table::new(alloc);
-    table.set_content_arrangement(ContentArrangement::Dynamic);
-    table.set_width(35);
     table.try_set_header(["Header1", "Header2", "Head"])?;
-    table.try_add_row(cut_row(alloc, FIRST)?)?;
-    table.try_add_row(cut_row(alloc, SECOND)?)?;
-    constrain(&mut table, 1, 8);
-    constrain(&mut table, 2, 7);
+    add_cut_row(alloc, &mut table, FIRST)?;
+    add_cut_row(alloc, &mut table, SECOND)?;
+    set_widths(&mut table);
     Ok(table)
 }
 
@@ -55,11 +52,8 @@ pub fn full_table(alloc: Global) -> Result<Table> {
     let mut table = worked_table(alloc)?;
     set_more(&mut table);
     table.try_set_truncation_indicator("...")?;
-    let late = Cell::new(alloc, "late")?
-        .fg(Color::Green)
-        .add_attribute(Attribute::Bold)?;
     if let Some(row) = table.row_mut(0) {
-        row.try_add_cell(late)?;
+        add_late_cell(alloc, row)?;
     }
     if let Some(column) = table.column_mut(0) {
         set_column(column);
@@ -67,10 +61,22 @@ pub fn full_table(alloc: Global) -> Result<Table> {
     Ok(table)
 }
 
-fn cut_row(alloc: Global, texts: [&'static str; 3]) -> Result<Row> {
+fn add_cut_row(alloc: Global, table: &mut Table, texts: [&'static str; 3]) -> Result<()> {
     let mut row = texts.into_row(alloc)?;
     row.max_height(4);
-    Ok(row)
+    table.try_add_row(row)
+}
+
+fn add_late_cell(alloc: Global, row: &mut Row) -> Result<()> {
+    let late = Cell::new(alloc, "late")?.fg(Color::Green);
+    row.try_add_cell(late.add_attribute(Attribute::Bold)?)
+}
+
+fn set_widths(table: &mut Table) {
+    table.set_content_arrangement(ContentArrangement::Dynamic);
+    table.set_width(35);
+    constrain(table, 1, 8);
+    constrain(table, 2, 7);
 }
 
 fn constrain(table: &mut Table, index: usize, width: u16) {

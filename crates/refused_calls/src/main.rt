@@ -1,5 +1,5 @@
 //! Makes each call that standard input names, one a line, and prints what came of it. Where the call was refused its
-//! memory, it looks at what stands then.
+//! memory, it looks at what stands then. Of a call that adds several rows it says on standard error how many are kept.
 //!
 //! Status 1 where something is not as promised, or no call has a name. Status 3, with nothing printed, where memory was
 //! refused outside of the calls: then this run says nothing of them.
@@ -34,12 +34,19 @@ fn main(rt: HostRuntime) -> io::Result<ExitCode> {
         let Ok(outcome) = outcome_of(rt.alloc(), name) else {
             return Ok(ExitCode::from(NOT_TRIED));
         };
-        println!(rt; "{name}: {outcome}")?;
+        print(&rt, name, outcome)?;
         if !outcome.is_good() {
             status = ExitCode::FAILURE;
         }
     }
     Ok(status)
+}
+
+fn print(rt: &HostRuntime, name: &str, outcome: Outcome) -> io::Result<()> {
+    if let Some(rows) = outcome.kept() {
+        eprintln!(rt; "rows kept: {rows}")?;
+    }
+    println!(rt; "{name}: {outcome}")
 }
 
 // The names on standard input. All of it is read before the first call, so that no call stands behind it.

@@ -3,12 +3,14 @@
 use std::fmt::{self, Formatter, Write};
 
 /// What came of a call.
-#[derive(Clone, Copy, Debug)]
+#[derive(Clone, Copy)]
 pub enum Outcome {
     /// It succeeded.
     Succeeded,
     /// It was refused its memory, and what stands then is as promised.
     AsPromised,
+    /// It was refused its memory, and this many of the rows that it adds are kept, as promised.
+    Kept(usize),
     /// It was refused its memory, and this is not as promised.
     Broken(&'static str),
     /// No call has this name.
@@ -33,9 +35,20 @@ impl Outcome {
         }
     }
 
+    /// How many rows are kept, where this is told.
+    pub fn kept(self) -> Option<usize> {
+        match self {
+            Outcome::Kept(rows) => Some(rows),
+            _ => None,
+        }
+    }
+
     /// Whether nothing is wrong.
     pub fn is_good(self) -> bool {
-        matches!(self, Outcome::Succeeded | Outcome::AsPromised)
+        matches!(
+            self,
+            Outcome::Succeeded | Outcome::AsPromised | Outcome::Kept(_)
+        )
     }
 }
 
@@ -43,7 +56,7 @@ impl fmt::Display for Outcome {
     fn fmt<W: Write>(&self, f: &mut Formatter<W>) -> fmt::Result {
         match self {
             Outcome::Succeeded => write!(f, "succeeded"),
-            Outcome::AsPromised => write!(f, "refused, as promised"),
+            Outcome::AsPromised | Outcome::Kept(_) => write!(f, "refused, as promised"),
             Outcome::Broken(part) => write!(f, "refused, BROKEN: {part}"),
             Outcome::Unknown => write!(f, "there is no such call"),
         }

@@ -2,25 +2,37 @@
 
 use crate::comparison::is_same_row;
 use crate::outcome::Outcome;
-use comfy_table::{Cell, IntoRow, Result};
+use comfy_table::{Cell, IntoRow, Result, Row};
 use std::alloc::Global;
 
 /// What came of the call of this name: after a refusal the row is as it was.
 pub fn outcome_of(alloc: Global, call: &str) -> Result<Outcome> {
-    let mut source = ["17", "on the road,\nback at noon"].into_row(alloc)?;
-    source.max_height(2);
+    let source = cut_row(alloc)?;
     // A copy has no room to spare, so that one more cell takes memory.
     let mut row = source.clone()?;
-    let cell = Cell::new(alloc, "dock 3")?;
-    let succeeded = match call {
-        "add_cell" => row.add_cell(cell).is_ok(),
-        "try_add_cell" => row.try_add_cell(cell).is_ok(),
-        "clone" => row.clone().is_ok(),
-        _ => return Ok(Outcome::Unknown),
-    };
-    if succeeded {
-        return Ok(Outcome::Succeeded);
+    match change(&mut row, call, Cell::new(alloc, "dock 3")?) {
+        Some(true) => Ok(Outcome::Succeeded),
+        Some(false) => Ok(Outcome::refused(difference(&row, &source))),
+        None => Ok(Outcome::Unknown),
     }
-    let differs = !is_same_row(&row, &source);
-    Ok(Outcome::refused(differs.then_some("the row")))
+}
+
+// Whether the call of this name succeeds; none where there is no such call.
+fn change(row: &mut Row, call: &str, cell: Cell) -> Option<bool> {
+    match call {
+        "add_cell" => Some(row.add_cell(cell).is_ok()),
+        "try_add_cell" => Some(row.try_add_cell(cell).is_ok()),
+        "clone" => Some(row.clone().is_ok()),
+        _ => None,
+    }
+}
+
+fn difference(row: &Row, source: &Row) -> Option<&'static str> {
+    (!is_same_row(row, source)).then_some("the row")
+}
+
+fn cut_row(alloc: Global) -> Result<Row> {
+    let mut row = ["17", "on the road,\nback at noon"].into_row(alloc)?;
+    row.max_height(2);
+    Ok(row)
 }

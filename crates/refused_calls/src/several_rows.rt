@@ -8,6 +8,9 @@ use std::alloc::Global;
 
 type Texts = Vec<&'static str>;
 
+// How many rows are added.
+const ROWS: usize = 3;
+
 /// What came of the call of this name.
 pub fn outcome_of(alloc: Global, call: &str) -> Result<Outcome> {
     let source = full_table(alloc)?;
@@ -15,7 +18,7 @@ pub fn outcome_of(alloc: Global, call: &str) -> Result<Outcome> {
     let mut table = source.clone()?;
     match add(&mut table, call, longer_rows(alloc)?) {
         Some(true) => Ok(Outcome::Succeeded),
-        Some(false) => Ok(Outcome::refused(difference_after(alloc, &table, source)?)),
+        Some(false) => outcome_after(alloc, &table, source),
         None => Ok(Outcome::Unknown),
     }
 }
@@ -34,25 +37,33 @@ fn add(table: &mut Table, call: &str, rows: Vec<Texts>) -> Option<bool> {
 
 // Three rows, each of which needs one more column.
 fn longer_rows(alloc: Global) -> Result<Vec<Texts>> {
-    let four = vec![in alloc; "one", "two", "three", "four"]?;
-    let five = vec![in alloc; "one", "two", "three", "four", "five"]?;
-    let six = vec![in alloc; "one", "two", "three", "four", "five", "six"]?;
-    Ok(vec![in alloc; four, five, six]?)
+    let mut rows = Vec::new(alloc);
+    for position in 0..ROWS {
+        rows.push(longer_row(alloc, position)?)?;
+    }
+    Ok(rows)
 }
 
-// What differs from the table with the first of the rows, as many as were added, but not with all of them.
-fn difference_after(
-    alloc: Global,
-    table: &Table,
-    mut wanted: Table,
-) -> Result<Option<&'static str>> {
-    let added = table.row_count().saturating_sub(wanted.row_count());
-    let rows = longer_rows(alloc)?;
-    if added >= rows.len() {
-        return Ok(Some("the number of rows"));
+fn longer_row(alloc: Global, position: usize) -> Result<Texts> {
+    let row = match position {
+        0 => vec![in alloc; "one", "two", "three", "four"]?,
+        1 => vec![in alloc; "one", "two", "three", "four", "five"]?,
+        _ => vec![in alloc; "one", "two", "three", "four", "five", "six"]?,
+    };
+    Ok(row)
+}
+
+// What came of the call by the table that it was made on, which was as `source`.
+fn outcome_after(alloc: Global, table: &Table, mut source: Table) -> Result<Outcome> {
+    let kept = table.row_count().saturating_sub(source.row_count());
+    if kept >= ROWS {
+        return Ok(Outcome::Broken("the number of rows"));
     }
-    for row in rows.into_iter().take(added) {
-        wanted.try_add_row(row)?;
+    for position in 0..kept {
+        source.try_add_row(longer_row(alloc, position)?)?;
     }
-    difference(table, &wanted)
+    match difference(table, &source)? {
+        Some(part) => Ok(Outcome::Broken(part)),
+        None => Ok(Outcome::Kept(kept)),
+    }
 }
