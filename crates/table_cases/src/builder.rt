@@ -1,6 +1,6 @@
 //! A case's table, built line by line through the public surface. A call that is new gets its words here.
 
-use crate::fault::{Fault, NO_CALL, Result};
+use crate::fault::{Fault, Result};
 use crate::settings::{arrangement, set_on_column, terminal, with_setting};
 use crate::styles::{read_style, set_part};
 use crate::text::{character, first_or_empty, no_words, number, only_word, text, width};
@@ -95,7 +95,10 @@ impl Builder {
                 Ok(())
             }
             "discover" => Ok(self.table.discover_columns()?),
-            "custom_styling" => Err(NO_CALL),
+            "custom_styling" => {
+                self.table.custom_styling();
+                Ok(())
+            }
             _ => self.set_terminal_facts(first, words),
         }
     }

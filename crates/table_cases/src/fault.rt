@@ -10,13 +10,10 @@ pub enum Fault {
     /// There is no memory; this ends the whole run.
     #[error("out of memory")]
     OutOfMemory,
-    /// A line can't be read, or asks for a call that isn't there: the reason.
+    /// A line can't be read: the reason.
     #[error("{0}")]
     NotRead(&'static str),
 }
-
-/// The fault of words whose call isn't there yet.
-pub const NO_CALL: Fault = Fault::NotRead("there is no call for this yet");
 
 impl From<AllocError> for Fault {
     fn from(_error: AllocError) -> Fault {
