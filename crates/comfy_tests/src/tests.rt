@@ -7,6 +7,7 @@ mod counted;
 mod devices;
 mod extremes;
 mod program;
+mod sequences;
 mod support;
 mod surface;
 mod tables;

@@ -16,6 +16,7 @@ pub mod drawing;
 pub mod laws;
 pub mod rows;
 pub mod running;
+pub mod sequences;
 pub mod settings;
 pub mod texts;
 

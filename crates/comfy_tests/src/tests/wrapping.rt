@@ -3,7 +3,7 @@
 use comfy_parts::Column;
 use comfy_parts::content_split::{
     ColumnDisplayInfo, measure_text_width, split_line, split_line_by_delimiter, split_line_ref,
-    split_long_word, visible_text,
+    split_long_word,
 };
 use std::alloc::Global;
 use std::test::Fail;
@@ -90,12 +90,5 @@ fn a_line_is_divided_at_each_delimiter(rt: HostRuntime) -> Result<(), Fail> {
     assert_eq!(rt; parts[0], "a");
     assert_eq!(rt; parts[1], "");
     assert_eq!(rt; parts[2], "b");
-    Ok(())
-}
-
-#[test]
-fn sequences_are_not_visible(rt: HostRuntime) -> Result<(), Fail> {
-    let seen = visible_text(rt.alloc(), "\u{1b}[1mone\u{1b}[0m two")?;
-    assert_eq!(rt; seen.as_str(), "one two");
     Ok(())
 }

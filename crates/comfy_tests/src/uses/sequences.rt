@@ -1,0 +1,92 @@
+//! Callers that draw and look at cells whose texts hold sequences.
+
+ghost use Rattle.std.specs.Prelude.{◌≡◌, IfOk, length, map, not, option_map, slice_get, string_bytes, true};
+ghost use Rattle.std.specs.List.{list_any};
+ghost use Rattle.comfy_parts.specs.Text.{measure};
+ghost use Rattle.comfy_parts.specs.VisibleLines.{line_texts};
+ghost use Rattle.comfy_parts.specs.VisibleText.{closed, has_escape, visible_text};
+ghost use Rattle.comfy_table.specs.Laws.{IsFreeOfEscapes};
+ghost use Rattle.comfy_tests.specs.Uses.{ClosesCutLines, IsDrawnWithCells, IsPlainDrawing, LeavesNoneOpen, ResumesItsSequences};
+
+use comfy_table::utils::formatting::content_split::{
+    ColumnDisplayInfo, leaves_sequence_open, visible_text,
+};
+use comfy_table::{Cell, Lines, Result, Table};
+use std::alloc::Global;
+
+/// Draws a table with the sequences inside its cells. No text that is written for a line of a cell leaves one open. The
+/// lines that aren't cut resume those of the cell, and the others are closed. Where nothing else holds ESC, the drawing
+/// without its sequences is that without styling.
+pub fn drawn_with_sequences(table: &mut Table) -> Result<Lines>
+    ensures set { table.new ≡ record table.old { custom_styling = true } }
+    ensures closed { IfOk result (IsDrawnWithCells (LeavesNoneOpen table.new) table.new) }
+    ensures resumed { IfOk result (IsDrawnWithCells (ResumesItsSequences table.new) table.new) }
+    ensures cut { IfOk result (IsDrawnWithCells (ClosesCutLines table.new) table.new) }
+    ensures seen { IfOk result (λ lines. IsFreeOfEscapes table.new → IsPlainDrawing table.new (map visible_text lines)) }
+{
+    table.custom_styling();
+    table.lines()
+}
+
+/// Has the sequences inside the cells of a table count nothing, and says whether they did already.
+pub fn turned_on(table: &mut Table) -> bool
+    ensures was { result ≡ table.old.custom_styling }
+    ensures on { table.new ≡ record table.old { custom_styling = true } }
+{
+    let was = table.has_custom_styling();
+    table.custom_styling();
+    was
+}
+
+/// Whether a new table has the setting: first not, then so.
+pub fn before_and_after(alloc: Global) -> (bool, bool)
+    ensures { result ≡ (false, true) }
+{
+    let mut table = Table::new(alloc);
+    let before = table.has_custom_styling();
+    (before, table.custom_styling().has_custom_styling())
+}
+
+/// A text, and a reset behind it where it leaves a sequence open.
+pub fn closed_text(alloc: Global, text: &str) -> Result<String>
+    ensures { IfOk result (λ whole. string_bytes whole ≡ closed text.now) }
+{
+    let mut whole = String::from_str(alloc, text)?;
+    if leaves_sequence_open(text) {
+        whole.push_str("\u{1b}[0m")?;
+    }
+    Ok(whole)
+}
+
+/// What is visible of a text is found by the text alone, and in the same way for the first text line of a cell.
+pub fn sees_the_first_line(alloc: Global, cell: &Cell, text: &str) -> Result<bool>
+    ensures { IfOk result (λ same. slice_get cell.now.text_lines 0 ≡ Some text.now → same ≡ true) }
+{
+    let seen = visible_text(alloc, text)?;
+    Ok(
+        cell.visible_lines()
+            .first()
+            .is_some_and(|line| line.as_str() == seen.as_str()),
+    )
+}
+
+/// The terminal columns that are seen of the first text line of a cell.
+pub fn first_seen_width(cell: &Cell) -> Option<usize>
+    ensures { result ≡ option_map (λ text. measure (visible_text text)) (slice_get cell.now.text_lines 0) }
+{
+    cell.visible_widths().first().copied()
+}
+
+/// Whether no ESC stands in a cell, so that it is written as it is.
+pub fn is_written_as_it_is(cell: &Cell) -> bool
+    ensures { result ≡ not (list_any has_escape cell.now.text_lines) }
+{
+    !cell.has_escape()
+}
+
+/// How many lines are written for a cell in a column of its own delimiter.
+pub fn written_height(cell: &Cell, info: &ColumnDisplayInfo) -> Result<usize>
+    ensures { IfOk result (λ height. height ≡ length (line_texts info.now.content_width 44 cell.now.text_lines)) }
+{
+    Ok(cell.written_lines(info, ',')?.len())
+}
