@@ -6,13 +6,17 @@ use crate::outcome::Outcome;
 use comfy_table::{Result, Table};
 use std::alloc::Global;
 
-/// What came of the call of this name: after a refusal the table is as it was, and is drawn as ever.
+/// What came of the call of this name on `worked_table`.
 pub fn outcome_of(alloc: Global, call: &str) -> Result<Outcome> {
-    let table = worked_table(alloc)?;
+    outcome_on(&worked_table(alloc)?, &WORKED, call)
+}
+
+/// What came of the call of this name: after a refusal the table is as it was, and these lines are drawn as ever.
+pub fn outcome_on(table: &Table, wanted: &[&str], call: &str) -> Result<Outcome> {
     let copy = table.clone()?;
-    match read(&table, call) {
+    match read(table, call) {
         Some(true) => Ok(Outcome::Succeeded),
-        Some(false) => Ok(Outcome::refused(difference_after(&table, &copy)?)),
+        Some(false) => Ok(Outcome::refused(difference_after(table, &copy, wanted)?)),
         None => Ok(Outcome::Unknown),
     }
 }
@@ -31,8 +35,12 @@ fn read(table: &Table, call: &str) -> Option<bool> {
     Some(succeeded)
 }
 
-fn difference_after(table: &Table, copy: &Table) -> Result<Option<&'static str>> {
-    if draws(table, &WORKED)? {
+fn difference_after(
+    table: &Table,
+    copy: &Table,
+    wanted: &[&str],
+) -> Result<Option<&'static str>> {
+    if draws(table, wanted)? {
         difference(table, copy)
     } else {
         Ok(Some("the next lines"))

@@ -66,4 +66,5 @@ fn are_same_settings(table: &Table, other: &Table) -> bool {
         && table.width() == other.width()
         && table.is_tty() == other.is_tty()
         && table.should_style() == other.should_style()
+        && table.has_custom_styling() == other.has_custom_styling()
 }

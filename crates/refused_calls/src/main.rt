@@ -14,6 +14,7 @@ mod fixtures;
 mod outcome;
 mod rows;
 mod runs;
+mod sequences;
 mod several_rows;
 
 use comfy_table::Result;
@@ -64,6 +65,7 @@ fn outcome_of(alloc: Global, name: &str) -> Result<Outcome> {
         Some(("Cell", call)) => cells::outcome_of(alloc, call),
         Some(("Row", call)) => rows::outcome_of(alloc, call),
         Some(("Table", call)) => outcome_on_table(alloc, call),
+        Some(("sequences", call)) => sequences::outcome_of(alloc, call),
         Some(_) => conversions::outcome_of(alloc, name),
         None => runs::outcome_of(alloc, name),
     }

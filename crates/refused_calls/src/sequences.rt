@@ -1,0 +1,45 @@
+//! The calls that take memory where SGR sequences stand in a cell, and count nothing.
+
+use crate::borrowing::outcome_on;
+use crate::outcome::Outcome;
+use comfy_table::utils::ColumnDisplayInfo;
+use comfy_table::utils::formatting::content_split::visible_text;
+use comfy_table::{Cell, Column, ContentArrangement, Result, Table};
+use std::alloc::Global;
+
+const TEXT: &str = "\u{1b}[1mabcdef\u{1b}[0m";
+
+// The drawing of `bold_table`.
+const BOLD: [&str; 4] = [
+    "+-----+",
+    "| \u{1b}[1mabc\u{1b}[0m |",
+    "| \u{1b}[1mdef\u{1b}[0m |",
+    "+-----+",
+];
+
+/// What came of the call of this name.
+pub fn outcome_of(alloc: Global, name: &str) -> Result<Outcome> {
+    match name.split_once("::") {
+        Some(("Table", call)) => outcome_on(&bold_table(alloc)?, &BOLD, call),
+        Some(("Cell", "new")) => Ok(Outcome::of(Cell::new(alloc, TEXT).is_ok())),
+        Some(("Cell", "written_lines")) => written_lines(alloc),
+        None => Ok(Outcome::of(visible_text(alloc, TEXT).is_ok())),
+        _ => Ok(Outcome::Unknown),
+    }
+}
+
+fn written_lines(alloc: Global) -> Result<Outcome> {
+    let cell = Cell::new(alloc, TEXT)?;
+    let info = ColumnDisplayInfo::new(&Column::new(0), 3);
+    Ok(Outcome::of(cell.written_lines(&info, ' ').is_ok()))
+}
+
+// A table of one bold cell, in a width that takes three of its characters.
+fn bold_table(alloc: Global) -> Result<Table> {
+    let mut table = Table::new(alloc);
+    table.custom_styling();
+    table.set_content_arrangement(ContentArrangement::Dynamic);
+    table.set_width(7);
+    table.try_add_row([TEXT])?;
+    Ok(table)
+}
