@@ -1,4 +1,4 @@
-//! Colours and attributes as the sequences that a terminal takes them in: ESC, `[`, a code, `m`. No other file writes ESC.
+//! Colours and attributes as the sequences that a terminal takes them in: ESC, `[`, a code, `m`.
 
 ghost use Rattle.std.specs.Prelude.{◌≡◌, ◌++◌, OnOk, filter, flat_map, string_bytes};
 ghost use Rattle.comfy_parts.specs.VisibleText.{reset};
