@@ -33,14 +33,19 @@ fn ledger(alloc: Global, sum: u32) -> Result<Table> {
         .set_width(36)
         .set_truncation_indicator("..")?
         .set_header(["Day", "Purpose", "Euros"])?;
-    for (day, purpose, cents) in ENTRIES {
-        add_entry(alloc, &mut ledger, [day, purpose], cents)?;
-    }
+    add_entries(alloc, &mut ledger)?;
     add_entry(alloc, &mut ledger, ["", "Sum"], sum)?;
     if let Some(amounts) = ledger.column_mut(2) {
         amounts.set_cell_alignment(CellAlignment::Right);
     }
     Ok(ledger)
+}
+
+fn add_entries(alloc: Global, ledger: &mut Table) -> Result<()> {
+    for (day, purpose, cents) in ENTRIES {
+        add_entry(alloc, ledger, [day, purpose], cents)?;
+    }
+    Ok(())
 }
 
 // adds a row of at most two lines

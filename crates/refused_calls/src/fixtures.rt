@@ -3,7 +3,7 @@
 use comfy_table::presets::UTF8_FULL;
 use comfy_table::{
     Attribute, Cell, CellAlignment, Color, Column, ColumnConstraint, ContentArrangement, IntoRow,
-    Result, Row, Table, Terminal, Width,
+    Result, Table, Terminal, Width,
 };
 use std::alloc::Global;
 
@@ -40,9 +40,7 @@ const SECOND: [&str; 3] = [
 /// A table whose cells are wrapped, and cut by height.
 pub fn worked_table(alloc: Global) -> Result<Table> {
     let mut table = Table::new(alloc);
-    table.try_set_header(["Header1", "Header2", "Head"])?;
-    add_cut_row(alloc, &mut table, FIRST)?;
-    add_cut_row(alloc, &mut table, SECOND)?;
+    fill(alloc, &mut table)?;
     set_widths(&mut table);
     Ok(table)
 }
@@ -50,15 +48,16 @@ pub fn worked_table(alloc: Global) -> Result<Table> {
 /// A table like `worked_table` in which more is set, with a cell that no column has yet.
 pub fn full_table(alloc: Global) -> Result<Table> {
     let mut table = worked_table(alloc)?;
-    set_more(&mut table);
+    add_late_cell(alloc, &mut table)?;
     table.try_set_truncation_indicator("...")?;
-    if let Some(row) = table.row_mut(0) {
-        add_late_cell(alloc, row)?;
-    }
-    if let Some(column) = table.column_mut(0) {
-        set_column(column);
-    }
+    set_more(&mut table);
     Ok(table)
+}
+
+fn fill(alloc: Global, table: &mut Table) -> Result<()> {
+    table.try_set_header(["Header1", "Header2", "Head"])?;
+    add_cut_row(alloc, table, FIRST)?;
+    add_cut_row(alloc, table, SECOND)
 }
 
 fn add_cut_row(alloc: Global, table: &mut Table, texts: [&'static str; 3]) -> Result<()> {
@@ -67,9 +66,13 @@ fn add_cut_row(alloc: Global, table: &mut Table, texts: [&'static str; 3]) -> Re
     table.try_add_row(row)
 }
 
-fn add_late_cell(alloc: Global, row: &mut Row) -> Result<()> {
+fn add_late_cell(alloc: Global, table: &mut Table) -> Result<()> {
     let late = Cell::new(alloc, "late")?.fg(Color::Green);
-    row.try_add_cell(late.add_attribute(Attribute::Bold)?)
+    let late = late.add_attribute(Attribute::Bold)?;
+    match table.row_mut(0) {
+        Some(row) => row.try_add_cell(late),
+        None => Ok(()),
+    }
 }
 
 fn set_widths(table: &mut Table) {
@@ -95,6 +98,9 @@ fn set_more(table: &mut Table) {
         width: Some(60),
     });
     table.use_stderr();
+    if let Some(column) = table.column_mut(0) {
+        set_column(column);
+    }
 }
 
 fn set_column(column: &mut Column) {

@@ -10,7 +10,7 @@ pub fn outcome_of(alloc: Global, call: &str) -> Result<Outcome> {
     let source = cut_row(alloc)?;
     // A copy has no room to spare, so that one more cell takes memory.
     let mut row = source.clone()?;
-    match change(&mut row, call, Cell::new(alloc, "dock 3")?) {
+    match change(alloc, &mut row, call)? {
         Some(true) => Ok(Outcome::Succeeded),
         Some(false) => Ok(Outcome::refused(difference(&row, &source))),
         None => Ok(Outcome::Unknown),
@@ -18,13 +18,15 @@ pub fn outcome_of(alloc: Global, call: &str) -> Result<Outcome> {
 }
 
 // Whether the call of this name succeeds; none where there is no such call.
-fn change(row: &mut Row, call: &str, cell: Cell) -> Option<bool> {
-    match call {
-        "add_cell" => Some(row.add_cell(cell).is_ok()),
-        "try_add_cell" => Some(row.try_add_cell(cell).is_ok()),
-        "clone" => Some(row.clone().is_ok()),
-        _ => None,
-    }
+fn change(alloc: Global, row: &mut Row, call: &str) -> Result<Option<bool>> {
+    let cell = Cell::new(alloc, "dock 3")?;
+    let succeeded = match call {
+        "add_cell" => row.add_cell(cell).is_ok(),
+        "try_add_cell" => row.try_add_cell(cell).is_ok(),
+        "clone" => row.clone().is_ok(),
+        _ => return Ok(None),
+    };
+    Ok(Some(succeeded))
 }
 
 fn difference(row: &Row, source: &Row) -> Option<&'static str> {

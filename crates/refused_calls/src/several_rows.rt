@@ -53,15 +53,21 @@ fn longer_row(alloc: Global, position: usize) -> Result<Texts> {
     Ok(row)
 }
 
+// Adds the first of the three rows, one by one.
+fn add_longer_rows(alloc: Global, table: &mut Table, count: usize) -> Result<()> {
+    for position in 0..count {
+        table.try_add_row(longer_row(alloc, position)?)?;
+    }
+    Ok(())
+}
+
 // What came of the call by the table that it was made on, which was as `source`.
 fn outcome_after(alloc: Global, table: &Table, mut source: Table) -> Result<Outcome> {
     let kept = table.row_count().saturating_sub(source.row_count());
     if kept >= ROWS {
         return Ok(Outcome::Broken("the number of rows"));
     }
-    for position in 0..kept {
-        source.try_add_row(longer_row(alloc, position)?)?;
-    }
+    add_longer_rows(alloc, &mut source, kept)?;
     match difference(table, &source)? {
         Some(part) => Ok(Outcome::Broken(part)),
         None => Ok(Outcome::Kept(kept)),
