@@ -1,9 +1,13 @@
--- Text lines without ESC are visible as they are.
-use Rattle.std.proofs.Common.{◌≡◌, false, List, [], ◌∷◌, map, refl, sym, ap₂}
-use Rattle.std.specs.List.{list_any}
-use Rattle.std.proofs.lemmas.Bool.{or_parts}
+-- Text lines without ESC are visible as they are. Printable ASCII is such a text line.
+use Rattle.std.proofs.Common.{◌≡◌, ◌<◌, ◌||◌, ◌==◌, ℕ, true, false, List, [], ◌∷◌, map, refl, sym, ap, ap₂, ◌∙◌, arith}
+use Rattle.std.specs.Int.{is_in_range}
+use Rattle.std.specs.List.{All, list_all, list_any, slice_split}
+use Rattle.std.proofs.lemmas.Bool.{and_parts, or_parts}
+use Rattle.std.proofs.lemmas.Bool.Decides.{nat_tests}
+use Rattle.std.proofs.lemmas.List.Elements.{All-cons, All-nil}
+use Rattle.std.proofs.lemmas.List.Splits.{slice_split_none}
 use Rattle.comfy_parts.proofs.ShownLemmas.{Shows-clear, visible_text-is}
-use Rattle.comfy_parts.specs.Text.{Text}
+use Rattle.comfy_parts.specs.Text.{Text, is_printable_ascii}
 use Rattle.comfy_parts.specs.VisibleText.{has_escape, visible_text}
 
 -- a text without ESC
@@ -16,3 +20,21 @@ clear_lines [] clear = refl
 clear_lines (text ∷ texts) clear =
     let parts = or_parts (has_escape text) (list_any has_escape texts) clear in
     ap₂ (λ t ts. t ∷ ts) (sym (clear_text text parts.0)) (clear_lines texts parts.1)
+
+-- printable ASCII has no byte below the space
+pub none_below : (c : ℕ) → c < 0x20 → (text : Text) → is_printable_ascii text ≡ true → list_any (λ b. b == c) text ≡ false
+none_below c low [] printable = refl
+none_below c low (b ∷ bs) printable =
+    let both = and_parts (is_in_range 0x20 0x7E b) (list_all (is_in_range 0x20 0x7E) bs) printable in
+    let other : (b == c) ≡ false = grind (arith, nat_tests, low, both.0) in
+    ap (λ t. t || list_any (λ x. x == c) bs) other ∙ none_below c low bs both.1
+
+-- what has no line feed is one text line
+pub unbroken_line : (text : Text) → list_any (λ b. b == 0x0A) text ≡ false → slice_split (λ b. b == 0x0A) text ≡ text ∷ []
+unbroken_line text none = slice_split_none (λ b. b == 0x0A) text (each text none)
+  where
+    each : (bs : Text) → list_any (λ b. b == 0x0A) bs ≡ false → All (λ b. (b == 0x0A) ≡ false) bs
+    each [] none = All-nil (λ b. (b == 0x0A) ≡ false)
+    each (b ∷ bs) none =
+        let both = or_parts (b == 0x0A) (list_any (λ x. x == 0x0A) bs) none in
+        All-cons (λ x. (x == 0x0A) ≡ false) b bs both.0 (each bs both.1)

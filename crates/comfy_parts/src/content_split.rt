@@ -20,6 +20,7 @@ pub use prefix::split_long_word;
 pub(crate) use sequences::has_escape;
 pub use sequences::{leaves_sequence_open, visible_text};
 use std::alloc::Global;
+pub(crate) use width::is_printable;
 pub use width::measure_text_width;
 pub(crate) use written::written_lines;
 

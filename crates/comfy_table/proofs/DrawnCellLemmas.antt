@@ -6,7 +6,8 @@ use Rattle.std.specs.List.{range_with_len, slice_get}
 use Rattle.std.proofs.lemmas.List.{length-map}
 use Rattle.comfy_parts.specs.CellValue.{CellValue, RowValue, ColumnInfo}
 use Rattle.comfy_parts.specs.Text.{Text, greatest}
-use Rattle.comfy_table.specs.DrawnCells.{as_seen, drawn_cell, greatest_height, height_of_lines, lines_of_cell, lines_of_optional, piece_at, piece_of_line, piece_of_lines}
+use Rattle.comfy_table.proofs.DrawnTextLemmas.{length-with_texts, lines_are_drawn}
+use Rattle.comfy_table.specs.DrawnCells.{as_seen, drawn_cell, greatest_height, height_of_lines, lines_of_cell, lines_of_optional, piece_at, piece_of_line, piece_of_lines, seen_of_optional, texts_of_optional}
 use Rattle.comfy_table.specs.Pieces.{cell_pieces, blank_piece, piece, row_cell_texts, pieces_at, pieces_of_optional, row_cell_lines, row_lines, visible_infos}
 use Rattle.comfy_table.specs.TableValue.{TableValue}
 
@@ -38,16 +39,19 @@ module _ (table : TableValue) (row : RowValue) where
 
   -- the lines that it takes
   height_of_optional : (info : ColumnInfo) (cell : Option CellValue)
-      → height_of_lines cell (lines_of_optional table row info cell) ≡ length (pieces_of_optional table row info cell)
+      → height_of_lines cell (seen_of_optional table row info cell) ≡ length (pieces_of_optional table row info cell)
   height_of_optional info None = refl
   height_of_optional info (Some cell) =
-      sym (length-map (lines_of_cell table row info cell) (piece_of_line table cell info)) ∙ ap length (pieces_of_cell info cell)
+      sym (length-with_texts table.custom_styling (texts_of_optional table row info (Some cell)) (row_cell_lines table row info cell))
+      ∙ ap length (lines_are_drawn table row info (Some cell))
+      ∙ sym (length-map (lines_of_cell table row info cell) (piece_of_line table cell info))
+      ∙ ap length (pieces_of_cell info cell)
 
   -- line by line
   pub drawn_pieces : (k : ℕ) (ps : List (ℕ × ColumnInfo))
       → map (piece_at table k) (map (drawn_cell table row) ps) ≡ map (λ (p : ℕ × ColumnInfo). slice_index_or (pieces_at table row p) k (blank_piece p.1)) ps
   drawn_pieces k [] = refl
-  drawn_pieces k (p ∷ ps) = ap₂ (λ (x : Text) (xs : List Text). x ∷ xs) (piece_of_optional p.1 (slice_get row.cells p.0) k) (drawn_pieces k ps)
+  drawn_pieces k (p ∷ ps) = ap₂ (λ (x : Text) (xs : List Text). x ∷ xs) (ap (piece_of_lines table k p.1 (slice_get row.cells p.0)) (lines_are_drawn table row p.1 (slice_get row.cells p.0)) ∙ piece_of_optional p.1 (slice_get row.cells p.0) k) (drawn_pieces k ps)
 
   -- the greatest height
   pub drawn_height : (ps : List (ℕ × ColumnInfo)) → greatest_height (map (drawn_cell table row) ps) ≡ greatest (map (λ (p : ℕ × ColumnInfo). length (pieces_at table row p)) ps)

@@ -12,7 +12,7 @@ use Rattle.comfy_parts.specs.VisibleLines.{CellLine, line_texts}
 use Rattle.comfy_parts.specs.VisibleText.{has_escape, visible_text}
 use Rattle.comfy_parts.specs.Wrapping.{lines_of_text}
 use Rattle.comfy_table.proofs.WrittenLemmas.{cut_lines_are_closed, each_cut, no_line, seen_of, texts_seen}
-use Rattle.comfy_table.specs.DrawnCells.{as_seen, drawn_cell, lines_of_optional, lines_with_texts, seen_of_optional, text_of_line, texts_of_optional, uncut_texts}
+use Rattle.comfy_table.specs.DrawnCells.{as_seen, lines_of_optional, lines_with_texts, seen_of_optional, text_of_line, texts_of_optional, uncut_texts}
 use Rattle.comfy_table.specs.Lines.{cell_delimiter, cut_cell_line, cut_cell_lines_to_limit, cut_to_limit, uncut_count}
 use Rattle.comfy_table.specs.Pieces.{row_cell_lines, row_cell_texts}
 use Rattle.comfy_table.specs.TableValue.{TableValue}
@@ -33,6 +33,10 @@ get-with_texts custom [] (line ∷ lines) zero = refl
 get-with_texts custom [] (line ∷ lines) (suc k) = get-with_texts custom [] lines k
 get-with_texts custom (text ∷ texts) (line ∷ lines) zero = refl
 get-with_texts custom (text ∷ texts) (line ∷ lines) (suc k) = get-with_texts custom texts lines k
+
+-- a line with the text at a place
+abbrev pub with_text : Bool → List Text → ℕ → Text → CellLine
+with_text custom texts k line = record { seen = line; written = text_of_line custom (slice_get texts k) line }
 
 -- without custom styling and texts they are written as they are seen
 plain_texts : (lines : List Text) → lines_with_texts false [] lines ≡ map as_seen lines
@@ -141,15 +145,3 @@ texts_kept table row info o cell d height texts is on escaped of_cell of_row are
     ∙ ap (λ n. uncut_texts row.max_height (map written_of (line_texts info.content_width n cell.text_lines))) of_cell
     ∙ ap₂ (λ (b e : Bool). if b && e then uncut_texts row.max_height (map written_of (line_texts info.content_width (cell_delimiter table info.delimiter cell) cell.text_lines)) else []) (sym on) (sym escaped)
     ∙ ap (texts_of_optional table row info) (sym is)
-
--- so what a drawn cell keeps is the drawn cell
-pub kept_is_drawn : (table : TableValue) (row : RowValue) (position : ℕ) (info : ColumnInfo) (cell : Option CellValue) (custom : Bool) (texts lines : List Text)
-    → cell ≡ slice_get row.cells position → custom ≡ table.custom_styling → texts ≡ texts_of_optional table row info cell → lines ≡ seen_of_optional table row info cell
-    → record { info = info; cell = cell; lines = lines_with_texts custom texts lines } ≡ drawn_cell table row (position, info)
-kept_is_drawn table row position info cell custom texts lines found setting own seen =
-    ap (λ (ls : List CellLine). record { info = info; cell = cell; lines = ls }) (
-    ap (λ (b : Bool). lines_with_texts b texts lines) setting
-    ∙ ap (λ (ts : List Text). lines_with_texts table.custom_styling ts lines) own
-    ∙ ap (lines_with_texts table.custom_styling (texts_of_optional table row info cell)) seen
-    ∙ lines_are_drawn table row info cell)
-    ∙ ap (λ (o : Option CellValue). record { info = info; cell = o; lines = lines_of_optional table row info o }) found

@@ -6,7 +6,7 @@ ghost use Rattle.comfy_parts.specs.CellValue.{HasTextLines, plain_cell};
 ghost use Rattle.comfy_parts.specs.Text.{measure};
 ghost use Rattle.comfy_parts.specs.VisibleText.{has_escape, visible_text};
 
-use crate::content_split::{has_escape, measure_text_width, visible_text};
+use crate::content_split::{has_escape, is_printable, measure_text_width, visible_text};
 use crate::error::Result;
 use std::alloc::{AllocError, Global};
 use std::marker::Model;
@@ -59,6 +59,13 @@ impl TextLines {
         ensures value { IfOk result (λ lines. lines ≡ (plain_cell (string_bytes text)).text_lines) }
         ensures text_lines { IfOk result HasTextLines }
     {
+        // Printable ASCII is one text line without ESC, and each of its bytes takes a column.
+        if is_printable(text.as_str().as_bytes()) {
+            let width = text.len();
+            return Ok(TextLines {
+                lines: Lines::One { text, width },
+            });
+        }
         if !text.as_str().contains('\n') && !has_escape(text.as_str()) {
             let width = measure_text_width(text.as_str());
             return Ok(TextLines {

@@ -23,19 +23,17 @@ pub(crate) struct DrawnCell<'a> {
     cell: Option<&'a Cell>,
     // the lines as they are seen
     lines: CellLines<'a>,
-    // the texts of the first of them, where sequences stand in the cell
+    // the texts of the first of them, where sequences stand in the cell and count nothing
     texts: Vec<String>,
-    // whether sequences count nothing, and each line closes its own
-    custom_styling: bool,
 }
 
 impl<'a> Model for DrawnCell<'a> {
     ghost use Rattle.std.specs.Prelude.{map, option_copied, string_bytes};
-    ghost use Rattle.comfy_table.specs.DrawnCells.{DrawnCell, lines_with_texts};
+    ghost use Rattle.comfy_table.specs.DrawnCells.{DrawnCell};
 
     ghost Value = { DrawnCell };
 
-    ghost view = { λ d. record { info = d.info.now; cell = option_copied d.cell; lines = lines_with_texts d.custom_styling (map string_bytes d.texts.items) d.lines } };
+    ghost view = { λ d. record { info = d.info.now; cell = option_copied d.cell; lines = d.lines; texts = map string_bytes d.texts.items } };
 }
 
 impl<'a> DrawnCell<'a> {
@@ -56,21 +54,12 @@ impl<'a> DrawnCell<'a> {
         let Some(cell) = self.cell else {
             return push_spaces(text, self.info.width());
         };
-        match self.line(line) {
-            Some(drawn) => push_piece(text, table, cell, self.info, &drawn),
-            None => push_spaces(text, self.info.width()),
-        }
-    }
-
-    // A line by its place, counted from 0.
-    fn line(&self, place: usize) -> Option<WrittenLine<'_>>
-        ensures { result ≡ slice_get self.now.lines place }
-    {
-        let Some(line) = self.lines.get(place) else {
-            return None;
+        let Some(seen) = self.lines.get(line) else {
+            return push_spaces(text, self.info.width());
         };
-        let text = text_at(self.texts.as_slice(), place);
-        Some(WrittenLine::new(line, text, self.custom_styling))
+        let own = text_at(self.texts.as_slice(), line);
+        let drawn = WrittenLine::new(&seen, own, table.custom_styling);
+        push_piece(text, table, cell, self.info, &drawn)
     }
 }
 
@@ -173,7 +162,6 @@ fn drawn_cell<'a>(
         cell,
         lines: row_cell_lines(row, cell, info, table)?,
         texts: row_cell_texts(row, cell, info, table)?,
-        custom_styling: table.custom_styling,
     })
 }
 
@@ -214,12 +202,12 @@ fn row_cell_texts(
 ) -> Result<Vec<String>>
     ensures { IfOk result (λ texts. map string_bytes texts.items ≡ texts_of_optional table.now row.now info.now (option_copied cell.entry)) }
 {
-    let none = Vec::new(*table.columns.allocator());
+    let alloc = *table.columns.allocator();
     let Some(cell) = cell else {
-        return Ok(none);
+        return Ok(Vec::new(alloc));
     };
     if !table.custom_styling || !cell.has_escape() {
-        return Ok(none);
+        return Ok(Vec::new(alloc));
     }
     let texts = cell.written_lines(info, delimiter(cell, info, table))?;
     Ok(uncut_texts(texts, row.height_limit()))

@@ -14,7 +14,7 @@ use std::marker::Model;
 /// A line of a cell. What is seen of it is measured and aligned. What is written may hold SGR sequences beside that.
 #[derive(Drop)]
 pub struct WrittenLine<'a> {
-    line: Line<'a>,
+    line: &'a Line<'a>,
     // none where the line is written as it is seen
     text: Option<&'a str>,
     // whether a sequence that such a line leaves open is closed
@@ -28,13 +28,13 @@ impl<'a> Model for WrittenLine<'a> {
 
     ghost Value = { CellLine };
 
-    ghost view = { λ l. record { seen = l.line; written = text_of_line l.closes (option_copied l.text) l.line } };
+    ghost view = { λ l. record { seen = l.line.now; written = text_of_line l.closes (option_copied l.text) l.line.now } };
 }
 
 impl<'a> WrittenLine<'a> {
     /// A line with a text of its own. A line without one is written as it is seen, and closed where that is asked for.
-    pub fn new(line: Line<'a>, text: Option<&'a str>, closes: bool) -> WrittenLine<'a>
-        ensures { result ≡ record { seen = line.entry; written = text_of_line closes (option_copied text.entry) line.entry } }
+    pub fn new(line: &'a Line<'a>, text: Option<&'a str>, closes: bool) -> WrittenLine<'a>
+        ensures { result ≡ record { seen = line.now; written = text_of_line closes (option_copied text.entry) line.now } }
     {
         WrittenLine { line, text, closes }
     }
@@ -56,7 +56,7 @@ impl<'a> WrittenLine<'a> {
             return Ok(());
         }
         if self.closes {
-            push_closed(text, &self.line)
+            push_closed(text, self.line)
         } else {
             self.line.push_to(text)
         }
