@@ -35,11 +35,7 @@ fn read(table: &Table, call: &str) -> Option<bool> {
     Some(succeeded)
 }
 
-fn difference_after(
-    table: &Table,
-    copy: &Table,
-    wanted: &[&str],
-) -> Result<Option<&'static str>> {
+fn difference_after(table: &Table, copy: &Table, wanted: &[&str]) -> Result<Option<&'static str>> {
     if draws(table, wanted)? {
         difference(table, copy)
     } else {
