@@ -1,10 +1,13 @@
 -- Text lines without ESC are visible as they are. Printable ASCII is such a text line.
-use Rattle.std.proofs.Common.{◌≡◌, ◌<◌, ◌||◌, ◌==◌, ℕ, true, false, List, [], ◌∷◌, map, refl, sym, ap, ap₂, ◌∙◌, arith}
+use Rattle.std.proofs.Common.{◌≡◌, ◌<◌, ◌||◌, ◌==◌, ℕ, true, false, List, [], ◌∷◌, map, refl, sym, ap, ap₂, ◌∙◌, arith, nat_lt, slice_index, lit<, ◌≢◌, rules}
 use Rattle.std.specs.Int.{is_in_range}
 use Rattle.std.specs.List.{All, list_all, list_any, slice_split}
 use Rattle.std.proofs.lemmas.Bool.{and_parts, or_parts}
 use Rattle.std.proofs.lemmas.Bool.Decides.{nat_tests}
-use Rattle.std.proofs.lemmas.List.Elements.{All-cons, All-nil}
+use Rattle.std.proofs.lemmas.List.Elements.{All-cons, All-from_get_or, All-nil}
+use Rattle.std.proofs.lemmas.List.Folds.{list_any_none}
+use Rattle.std.proofs.lemmas.Str.Pattern.{NoCharPasses-char}
+use Rattle.std.specs.Str.{NoCharPasses}
 use Rattle.std.proofs.lemmas.List.Splits.{slice_split_none}
 use Rattle.comfy_parts.proofs.ShownLemmas.{Shows-clear, visible_text-is}
 use Rattle.comfy_parts.specs.Text.{Text, is_printable_ascii}
@@ -28,6 +31,22 @@ none_below c low (b ∷ bs) printable =
     let both = and_parts (is_in_range 0x20 0x7E b) (list_all (is_in_range 0x20 0x7E) bs) printable in
     let other : (b == c) ≡ false = grind (arith, nat_tests, low, both.0) in
     ap (λ t. t || list_any (λ x. x == c) bs) other ∙ none_below c low bs both.1
+
+-- nor has what has no control character
+pub none_of_control : (c : ℕ) → c < 0x20 → (text : Text) → list_any (λ b. nat_lt b 0x20) text ≡ false → list_any (λ b. b == c) text ≡ false
+none_of_control c low [] none = refl
+none_of_control c low (b ∷ bs) none =
+    let both = or_parts (nat_lt b 0x20) (list_any (λ x. nat_lt x 0x20) bs) none in
+    let other : (b == c) ≡ false = grind (arith, nat_tests, low, both.0) in
+    ap (λ t. t || list_any (λ x. x == c) bs) other ∙ none_of_control c low bs both.1
+
+-- a text in which no character is a line feed has no such byte
+pub none_by_characters : (text : Text) → NoCharPasses (λ c. c == 0x0A) text → list_any (λ b. b == 0x0A) text ≡ false
+none_by_characters text none =
+    list_any_none (λ b. b == 0x0A) text (All-from_get_or (λ b. (b == 0x0A) ≡ false) text 0 (λ i below. other (slice_index text i) (NoCharPasses-char 0x0A text i none (lit< tt) below)))
+  where
+    other : (b : ℕ) → b ≢ 0x0A → (b == 0x0A) ≡ false
+    other b differs = search (rules, differs)
 
 -- what has no line feed is one text line
 pub unbroken_line : (text : Text) → list_any (λ b. b == 0x0A) text ≡ false → slice_split (λ b. b == 0x0A) text ≡ text ∷ []

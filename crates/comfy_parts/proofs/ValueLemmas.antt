@@ -1,14 +1,13 @@
 -- The laws of texts of cells, and of columns that grow.
-use Rattle.std.proofs.Common.{◌≡◌, ◌==◌, ℕ, ◌-◌, Bool, true, false, List, [], ◌∷◌, length, map, arith, refl, length-append, String, string_bytes, slice_index, lit<, ◌≢◌, rules}
+use Rattle.std.proofs.Common.{◌≡◌, ◌==◌, ℕ, ◌-◌, Bool, true, false, List, [], ◌∷◌, length, map, arith, refl, length-append, String, string_bytes}
 use Rattle.std.proofs.lemmas.List.{length-map}
-use Rattle.std.proofs.lemmas.List.Elements.{All-cons, All-from_get_or, All-nil, All-head, All-tail}
+use Rattle.std.proofs.lemmas.List.Elements.{All-cons, All-nil, All-head, All-tail}
 use Rattle.std.specs.List.{All, list_any, onto_first, range_with_len, slice_split}
 use Rattle.std.proofs.lemmas.List.FromFn.{length-range_with_len}
-use Rattle.std.proofs.lemmas.List.Splits.{join_with_byte-slice_split, length-slice_split, slice_split-cons_no, slice_split-cons_yes, slice_split_none}
+use Rattle.std.proofs.lemmas.List.Splits.{join_with_byte-slice_split, length-slice_split, slice_split-cons_no, slice_split-cons_yes}
 use Rattle.comfy_parts.specs.CellValue.{ColumnValue, ContentIsTheText, HasTextLines, NoFewerColumns, new_column}
 use Rattle.std.proofs.lemmas.Str.{IsUtf8-string_bytes}
-use Rattle.std.proofs.lemmas.Str.Pattern.{NoCharPasses-char}
-use Rattle.std.specs.Str.{IsUtf8, NoCharPasses}
+use Rattle.std.specs.Str.{IsUtf8}
 use Rattle.comfy_parts.specs.Text.{Text}
 
 -- the content of a cell that was made of a text is that text
@@ -33,14 +32,6 @@ unbroken-split (c ∷ cs) = by_test (c == 0x0A) refl (unbroken-split cs)
     by_test : (b : Bool) → (c == 0x0A) ≡ b → All IsUnbroken (slice_split (λ b. b == 0x0A) cs) → All IsUnbroken (slice_split (λ b. b == 0x0A) (c ∷ cs))
     by_test true is rest = rw (slice_split-cons_yes (λ b. b == 0x0A) c cs is) (All-cons IsUnbroken [] (slice_split (λ b. b == 0x0A) cs) refl rest)
     by_test false is rest = rw (slice_split-cons_no (λ b. b == 0x0A) c cs is) (unbroken-onto_first c (slice_split (λ b. b == 0x0A) cs) is rest)
-
--- a text without a line feed is one text line
-pub one_text_line : (text : Text) → NoCharPasses (λ c. c == 0x0A) text → slice_split (λ b. b == 0x0A) text ≡ text ∷ []
-one_text_line text none =
-    slice_split_none (λ b. b == 0x0A) text (All-from_get_or (λ b. (b == 0x0A) ≡ false) text 0 (λ i below. other (slice_index text i) (NoCharPasses-char 0x0A text i none (lit< tt) below)))
-  where
-    other : (b : ℕ) → b ≢ 0x0A → (b == 0x0A) ≡ false
-    other b differs = search (rules, differs)
 
 -- what strings hold is whole characters
 whole_texts : {A : Type 0} (texts : List (String A)) → All IsUtf8 (map string_bytes texts)

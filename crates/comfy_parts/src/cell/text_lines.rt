@@ -1,6 +1,6 @@
 //! The text lines of a cell, each with its measure.
 
-ghost use Rattle.std.specs.Prelude.{◌≡◌, ◌==◌, IfOk, map, string_bytes};
+ghost use Rattle.std.specs.Prelude.{◌≡◌, ◌==◌, true, false, nat_lt, IfOk, map, string_bytes};
 ghost use Rattle.std.specs.List.{list_any, slice_split};
 ghost use Rattle.comfy_parts.specs.CellValue.{HasTextLines, plain_cell};
 ghost use Rattle.comfy_parts.specs.Text.{measure};
@@ -66,7 +66,7 @@ impl TextLines {
                 lines: Lines::One { text, width },
             });
         }
-        if !text.as_str().contains('\n') && !has_escape(text.as_str()) {
+        if is_plain_line(text.as_str()) {
             let width = measure_text_width(text.as_str());
             return Ok(TextLines {
                 lines: Lines::One { text, width },
@@ -136,6 +136,28 @@ impl TextLines {
             Lines::Escaped(_) => true,
         }
     }
+}
+
+// Whether a text is one text line without ESC. Most texts show it by one look at their bytes: they have no control
+// character at all.
+fn is_plain_line(text: &str) -> bool
+    ensures unbroken { result ≡ true → list_any (λ b. b == 0x0A) text.now ≡ false }
+    ensures clear { result ≡ true → has_escape text.now ≡ false }
+{
+    if !has_control(text.as_bytes()) {
+        return true;
+    }
+    !text.contains('\n') && !has_escape(text)
+}
+
+fn has_control(bytes: &[u8]) -> bool
+    ensures { result ≡ list_any (λ b. nat_lt b 0x20) bytes.now }
+{
+    let mut found = false;
+    for byte in bytes {
+        found |= *byte < 0x20;
+    }
+    found
 }
 
 impl SeveralLines {

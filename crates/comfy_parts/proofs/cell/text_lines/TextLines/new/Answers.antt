@@ -1,8 +1,7 @@
-use Rattle.std.proofs.Common.{◌≡◌, ◌<◌, arith, ◌==◌, refl, true, false, List, [], ◌∷◌, ℕ, ap, sym, subst, ◌∙◌, map, string_bytes}
+use Rattle.std.proofs.Common.{◌≡◌, arith, ◌==◌, refl, true, false, List, [], ◌∷◌, ℕ, ap, sym, subst, ◌∙◌, map, string_bytes}
 use Rattle.std.specs.List.{list_any, slice_split}
-use Rattle.std.specs.Str.{NoCharPasses}
 use Rattle.comfy_parts.proofs.EscapedLemmas.{clear_lines, none_below, unbroken_line}
-use Rattle.comfy_parts.proofs.ValueLemmas.{has_text_lines, one_text_line}
+use Rattle.comfy_parts.proofs.ValueLemmas.{has_text_lines}
 use Rattle.comfy_parts.proofs.PrintableLemmas.{measure-printable}
 use Rattle.comfy_parts.specs.Text.{is_printable_ascii, measure}
 use Rattle.comfy_parts.specs.VisibleText.{has_escape}
@@ -29,31 +28,31 @@ returns-then-is_printable-clause-text_lines c =
     has_text_lines (string_bytes c.args.text) (c.args.text ∷ []) (returns-then-is_printable-clause-value c)
 
 -- one text line without ESC
-pub invariant_of-result-then-not-has_escape : goal.invariant_of-result-then-not-has_escape
-invariant_of-result-then-not-has_escape c =
+pub invariant_of-result-then-is_plain_line : goal.invariant_of-result-then-is_plain_line
+invariant_of-result-then-is_plain_line c =
     let text = string_bytes c.args.text in
-    let clear : has_escape text ≡ false = ap has_escape (sym c.as_str-then-not-contains.ensures.value) ∙ sym c.has_escape.ensures ∙ c.if-not-has_escape.true in
+    let clear : has_escape text ≡ false = ap has_escape (sym c.as_str-2.ensures.value) ∙ c.is_plain_line.ensures.clear c.if-is_plain_line.true in
     let none : list_any has_escape (text ∷ []) ≡ false = rw clear refl in
-    let width = ap (λ n. n ∷ []) (c.measure_text_width-width.ensures.value ∙ ap measure c.as_str-then-not-has_escape.ensures.value) in
+    let width = ap (λ n. n ∷ []) (c.measure_text_width-width.ensures.value ∙ ap measure c.as_str-then-is_plain_line.ensures.value) in
     record { widths = width; visible = clear_lines (text ∷ []) none; visible_widths = width; escaped = sym none }
 
-pub returns-then-not-has_escape-clause-value : goal.returns-then-not-has_escape-clause-value
-returns-then-not-has_escape-clause-value c =
-    sym (one_text_line (string_bytes c.args.text) (subst (λ (text : List ℕ). NoCharPasses (λ d. d == 10) text) c.as_str-2.ensures.value c.if-not-contains.ensures.cases))
+pub returns-then-is_plain_line-clause-value : goal.returns-then-is_plain_line-clause-value
+returns-then-is_plain_line-clause-value c =
+    sym (unbroken_line (string_bytes c.args.text) (subst (λ (text : List ℕ). list_any (λ b. b == 0x0A) text ≡ false) c.as_str-2.ensures.value (c.is_plain_line.ensures.unbroken c.if-is_plain_line.true)))
+
+pub returns-then-is_plain_line-clause-text_lines : goal.returns-then-is_plain_line-clause-text_lines
+returns-then-is_plain_line-clause-text_lines c =
+    has_text_lines (string_bytes c.args.text) (c.args.text ∷ []) (returns-then-is_plain_line-clause-value c)
+
+-- several without ESC
+pub invariant_of-result-then-not-has_escape : goal.invariant_of-result-then-not-has_escape
+invariant_of-result-then-not-has_escape c =
+    let texts = map string_bytes c.in_ok-whole.whole.texts.items in
+    let none : list_any has_escape texts ≡ false = sym c.has_escape.ensures ∙ c.if-not-has_escape.true in
+    rw c.in_ok-new.ensures.ok record { widths = c.in_ok-whole.ensures.widths; visible = clear_lines texts none; visible_widths = c.in_ok-whole.ensures.widths; escaped = sym none }
 
 pub returns-then-not-has_escape-clause-text_lines : goal.returns-then-not-has_escape-clause-text_lines
 returns-then-not-has_escape-clause-text_lines c =
-    has_text_lines (string_bytes c.args.text) (c.args.text ∷ []) (returns-then-not-has_escape-clause-value c)
-
--- several without ESC
-pub invariant_of-result-then-not-has_escape-2 : goal.invariant_of-result-then-not-has_escape-2
-invariant_of-result-then-not-has_escape-2 c =
-    let texts = map string_bytes c.in_ok-whole.whole.texts.items in
-    let none : list_any has_escape texts ≡ false = sym c.has_escape-2.ensures ∙ c.if-not-has_escape-2.true in
-    rw c.in_ok-new.ensures.ok record { widths = c.in_ok-whole.ensures.widths; visible = clear_lines texts none; visible_widths = c.in_ok-whole.ensures.widths; escaped = sym none }
-
-pub returns-then-not-has_escape-2-clause-text_lines : goal.returns-then-not-has_escape-2-clause-text_lines
-returns-then-not-has_escape-2-clause-text_lines c =
     rw c.in_ok-new.ensures.ok (has_text_lines (string_bytes c.args.text) c.in_ok-whole.whole.texts.items (c.in_ok-whole.ensures.texts ∙ ap (slice_split (λ b. b == 0x0A)) c.as_str-3.ensures.value))
 
 pub returns-clause-text_lines : goal.returns-clause-text_lines
