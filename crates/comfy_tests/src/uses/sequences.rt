@@ -1,6 +1,6 @@
 //! Callers that draw and look at cells whose texts hold sequences.
 
-ghost use Rattle.std.specs.Prelude.{◌≡◌, IfOk, length, map, not, option_map, slice_get, string_bytes, true};
+ghost use Rattle.std.specs.Prelude.{◌≡◌, ◌<◌, IfOk, Some, false, length, map, not, slice_get, string_bytes, true};
 ghost use Rattle.std.specs.List.{list_any};
 ghost use Rattle.comfy_parts.specs.Text.{measure};
 ghost use Rattle.comfy_parts.specs.VisibleLines.{line_texts};
@@ -8,9 +8,7 @@ ghost use Rattle.comfy_parts.specs.VisibleText.{closed, has_escape, visible_text
 ghost use Rattle.comfy_table.specs.Laws.{IsFreeOfEscapes};
 ghost use Rattle.comfy_tests.specs.Uses.{ClosesCutLines, IsDrawnWithCells, IsPlainDrawing, LeavesNoneOpen, ResumesItsSequences};
 
-use comfy_table::utils::formatting::content_split::{
-    ColumnDisplayInfo, leaves_sequence_open, visible_text,
-};
+use comfy_table::utils::formatting::content_split::{ColumnDisplayInfo, leaves_sequence_open};
 use comfy_table::{Cell, Lines, Result, Table};
 use std::alloc::Global;
 
@@ -58,23 +56,26 @@ pub fn closed_text(alloc: Global, text: &str) -> Result<String>
     Ok(whole)
 }
 
-/// What is visible of a text is found by the text alone, and in the same way for the first text line of a cell.
-pub fn sees_the_first_line(alloc: Global, cell: &Cell, text: &str) -> Result<bool>
-    ensures { IfOk result (λ same. slice_get cell.now.text_lines 0 ≡ Some text.now → same ≡ true) }
+/// How many texts are seen of a cell, and for how many of them it knows the width: as many as it has text lines.
+pub fn seen_counts(cell: &Cell) -> (usize, usize)
+    ensures { result ≡ (length cell.now.text_lines, length cell.now.text_lines) }
 {
-    let seen = visible_text(alloc, text)?;
-    Ok(
-        cell.visible_lines()
-            .first()
-            .is_some_and(|line| line.as_str() == seen.as_str()),
-    )
+    (cell.visible_lines().len(), cell.visible_widths().len())
 }
 
 /// The terminal columns that are seen of the first text line of a cell.
 pub fn first_seen_width(cell: &Cell) -> Option<usize>
-    ensures { result ≡ option_map (λ text. measure (visible_text text)) (slice_get cell.now.text_lines 0) }
+    ensures { result ≡ slice_get (map measure (map visible_text cell.now.text_lines)) 0 }
 {
     cell.visible_widths().first().copied()
+}
+
+/// What is seen of a text line of a cell, copied.
+pub fn seen_text(alloc: Global, cell: &Cell, place: usize) -> Result<String>
+    requires { place < length cell.now.text_lines }
+    ensures { IfOk result (λ text. slice_get (map visible_text cell.now.text_lines) place ≡ Some (string_bytes text)) }
+{
+    Ok(String::from_str(alloc, cell.visible_lines()[place].as_str())?)
 }
 
 /// Whether no ESC stands in a cell, so that it is written as it is.
