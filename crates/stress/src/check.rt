@@ -1,11 +1,11 @@
 //! What can be said of a drawing from outside.
 
-use crate::drawing::{Drawing, piece_at};
+use crate::drawing::{Drawing, JUNCTION, piece_at};
 use crate::sample::Sample;
+use crate::scan::{INDICATOR, Scan};
+use crate::seen::seen_table;
 use comfy_table::{Cell, Column, ContentArrangement, Result, Row, Table};
 use std::alloc::Global;
-
-const INDICATOR: char = '…';
 
 /// What is wrong with the drawing of a sample, if anything is.
 pub fn fault_of(alloc: Global, sample: &Sample) -> Result<Option<&'static str>> {
@@ -17,14 +17,20 @@ pub fn fault_of(alloc: Global, sample: &Sample) -> Result<Option<&'static str>> 
     if !keeps_to_width(&sample.table, frame) {
         return Ok(Some("the width doesn't hold"));
     }
-    if sample.is_plain
-        && !is_cut(&drawing)
+    if sample.kind.is_plain
+        && !is_cut(sample, &drawing)
         && drawing.row_counts.iter().any(|count| *count != frame)
     {
         return Ok(Some("lines have unlike counts"));
     }
     if !keeps_texts(alloc, sample, &drawing)? {
         return Ok(Some("a text is lost or changed"));
+    }
+    if sample.kind.has_sequences && !closes_all(alloc, &drawing)? {
+        return Ok(Some("a sequence is left open"));
+    }
+    if sample.kind.has_sequences && !is_drawn_as_seen(alloc, sample, &drawing)? {
+        return Ok(Some("sequences change the lines"));
     }
     Ok(None)
 }
@@ -36,9 +42,47 @@ fn are_alike(counts: &[usize]) -> bool {
     }
 }
 
-// whether a line was cut by a height limit
-fn is_cut(drawing: &Drawing) -> bool {
+// whether a line was cut by a height limit, or may have been so where the indicator doesn't tell
+fn is_cut(sample: &Sample, drawing: &Drawing) -> bool {
+    if sample.has_own_indicator {
+        return sample
+            .table
+            .header()
+            .is_some_and(|row| row.height_limit().is_some())
+            || sample
+                .table
+                .row_iter()
+                .any(|row| row.height_limit().is_some());
+    }
     drawing.rows.iter().any(|row| row.iter().any(|line| line.as_str().contains(INDICATOR)))
+}
+
+// whether no piece of a line leaves a sequence open
+fn closes_all(alloc: Global, drawing: &Drawing) -> Result<bool> {
+    for row in &drawing.rows {
+        for line in row {
+            for piece in line.as_str().split(JUNCTION) {
+                let mut scan = Scan::new(alloc, true);
+                scan.read(piece, ' ')?;
+                if scan.is_open() {
+                    return Ok(false);
+                }
+            }
+        }
+    }
+    Ok(true)
+}
+
+// whether as many characters are seen of each line as without sequences
+fn is_drawn_as_seen(alloc: Global, sample: &Sample, drawing: &Drawing) -> Result<bool> {
+    let Some(table) = seen_table(alloc, sample)? else {
+        return Ok(true);
+    };
+    let seen = Drawing::of(alloc, &table)?;
+    Ok(
+        seen.frame_counts.as_slice() == drawing.frame_counts.as_slice()
+            && seen.row_counts.as_slice() == drawing.row_counts.as_slice(),
+    )
 }
 
 // whether a frame line of so many characters keeps to the set width, where no constraint says otherwise
@@ -73,7 +117,8 @@ fn least_total(table: &Table) -> (usize, usize) {
     (visible, total.max(2))
 }
 
-// whether the cells of each row have the characters of their texts, in order and but for spaces and delimiters
+// whether the cells of each row have the characters of their texts, in order and but for spaces and delimiters, each
+// under the same sequences
 fn keeps_texts(alloc: Global, sample: &Sample, drawing: &Drawing) -> Result<bool> {
     // the first frame line ends no row
     let mut drawn = drawing.rows.iter().skip(1);
@@ -95,6 +140,7 @@ fn keeps_texts(alloc: Global, sample: &Sample, drawing: &Drawing) -> Result<bool
 fn keeps_row(alloc: Global, sample: &Sample, row: &Row, lines: &[String]) -> Result<bool> {
     let mut cells = row.cell_iter();
     let mut place: usize = 0;
+    let lines = lines_to_compare(sample, row, lines);
     for column in sample.table.column_iter() {
         let cell = cells.next();
         if column.is_hidden() {
@@ -102,11 +148,16 @@ fn keeps_row(alloc: Global, sample: &Sample, row: &Row, lines: &[String]) -> Res
         }
         if let Some(cell) = cell {
             let delimiter = delimiter_of(sample, column, cell);
-            let wanted = characters(alloc, delimiter, cell.content()?.as_str())?;
-            let found = characters_of_pieces(alloc, delimiter, lines, place)?;
+            let mut wanted = Scan::new(alloc, sample.kind.has_sequences);
+            wanted.read(cell.content()?.as_str(), delimiter)?;
+            let mut drawn = Scan::new(alloc, sample.kind.has_sequences);
+            for line in lines {
+                drawn.read(piece_at(line.as_str(), place), delimiter)?;
+                drawn.forget_open();
+            }
             if !is_as_wanted(
-                wanted.as_str(),
-                found.as_str(),
+                wanted.found.as_str(),
+                drawn.found.as_str(),
                 row.height_limit().is_some(),
             ) {
                 return Ok(false);
@@ -132,32 +183,14 @@ fn delimiter_of(sample: &Sample, column: &Column, cell: &Cell) -> char {
         .unwrap_or(sample.delimiter)
 }
 
-// the characters of the pieces of the visible column at a place
-fn characters_of_pieces(
-    alloc: Global,
-    delimiter: char,
-    lines: &[String],
-    place: usize,
-) -> Result<String> {
-    let mut found = String::new(alloc);
-    for line in lines {
-        let piece = characters(alloc, delimiter, piece_at(line.as_str(), place))?;
-        found.push_str(piece.as_str())?;
+// the lines of a row that hold nothing but its texts: where sequences are taken out, the last line may end in a cut,
+// whose characters can form others
+fn lines_to_compare<'a>(sample: &Sample, row: &Row, lines: &'a [String]) -> &'a [String] {
+    if sample.kind.has_sequences && row.height_limit().is_some() {
+        lines
+            .split_last()
+            .map_or(&[] as &[String], |(_, others)| others)
+    } else {
+        lines
     }
-    Ok(found)
-}
-
-// the characters of a text but for spaces, line feeds, delimiters, and the indicator of a cut
-fn characters(alloc: Global, delimiter: char, text: &str) -> Result<String> {
-    let mut kept = String::new(alloc);
-    for character in text.chars() {
-        let is_kept = character != ' '
-            && character != '\n'
-            && character != delimiter
-            && character != INDICATOR;
-        if is_kept {
-            kept.push(character)?;
-        }
-    }
-    Ok(kept)
 }

@@ -1,18 +1,20 @@
 //! A drawing in the style `UTF8_FULL`, read from outside.
 
+use crate::scan::Scan;
 use comfy_table::{Result, Table};
 use std::alloc::Global;
 
 const BORDER: char = '│';
 
-const JUNCTION: char = '┆';
+/// What stands between two pieces of a line.
+pub const JUNCTION: char = '┆';
 
 /// A drawing: how many characters its lines have, and what stands in the cells of each row.
 #[derive(Drop)]
 pub struct Drawing {
     /// The characters of each frame line.
     pub frame_counts: Vec<usize>,
-    /// The characters of each line of a row.
+    /// The characters that are seen of each line of a row.
     pub row_counts: Vec<usize>,
     /// For each row that has a line, the header first: its lines.
     pub rows: Vec<Vec<String>>,
@@ -28,12 +30,13 @@ impl Drawing {
         };
         let mut row = Vec::new(alloc);
         for line in table.lines()? {
-            let count = line.as_str().chars().count();
             if line.as_str().starts_with(BORDER) {
-                drawing.row_counts.push(count)?;
+                let mut scan = Scan::new(alloc, table.has_custom_styling());
+                scan.read(line.as_str(), ' ')?;
+                drawing.row_counts.push(scan.count)?;
                 row.push(line)?;
             } else {
-                drawing.frame_counts.push(count)?;
+                drawing.frame_counts.push(line.as_str().chars().count())?;
                 drawing.rows.push(row)?;
                 row = Vec::new(alloc);
             }

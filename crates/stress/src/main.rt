@@ -5,6 +5,8 @@
 mod check;
 mod drawing;
 mod sample;
+mod scan;
+mod seen;
 mod texts;
 
 use anyhow::Context;

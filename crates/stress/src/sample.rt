@@ -1,6 +1,6 @@
 //! Random tables, built through the public surface.
 
-use crate::texts::{delimiter, once_in, text};
+use crate::texts::{Kind, delimiter, indicator, once_in, text};
 use comfy_table::presets::UTF8_FULL;
 use comfy_table::{
     Cell, CellAlignment, Column, ColumnConstraint, ContentArrangement, Result, Row, Table, Width,
@@ -46,35 +46,48 @@ pub struct Sample {
     pub table: Table,
     /// The table's delimiter.
     pub delimiter: char,
-    /// Whether texts and delimiters are printable ASCII.
-    pub is_plain: bool,
+    /// What its texts are made of. Where they have sequences, the table's setting for these is on.
+    pub kind: Kind,
+    /// Whether cut lines end in another indicator than that of a new table.
+    pub has_own_indicator: bool,
 }
 
 impl Sample {
     /// A table of up to five rows and four columns.
     pub fn new<R: Rng>(alloc: Global, rng: &mut R) -> Result<Sample> {
-        let is_plain = once_in(rng, 3);
-        let delimiter = delimiter(rng, is_plain);
+        let kind = Kind {
+            is_plain: once_in(rng, 3),
+            has_sequences: once_in(rng, 2),
+        };
+        let delimiter = delimiter(rng, kind);
         let mut table = Table::new(alloc);
         table.load_style(UTF8_FULL).set_delimiter(delimiter);
         set_arrangement(rng, &mut table);
         if !once_in(rng, 3) {
-            table.set_header(row(alloc, rng, is_plain)?)?;
+            table.set_header(row(alloc, rng, kind)?)?;
         }
         for _ in 0..rng.random_range(0u32..6) {
-            table.add_row(row(alloc, rng, is_plain)?)?;
+            table.add_row(row(alloc, rng, kind)?)?;
         }
-        set_columns(rng, &mut table, is_plain);
+        set_columns(rng, &mut table, kind);
         if once_in(rng, 8) {
             exchange_columns(&mut table);
         }
         if once_in(rng, 8) {
-            add_late_cell(alloc, rng, &mut table, is_plain)?;
+            add_late_cell(alloc, rng, &mut table, kind)?;
+        }
+        let has_own_indicator = kind.has_sequences && once_in(rng, 2);
+        if kind.has_sequences {
+            table.custom_styling();
+        }
+        if has_own_indicator {
+            table.set_truncation_indicator(indicator(rng))?;
         }
         Ok(Sample {
             table,
             delimiter,
-            is_plain,
+            kind,
+            has_own_indicator,
         })
     }
 }
@@ -88,21 +101,21 @@ fn set_arrangement<R: Rng>(rng: &mut R, table: &mut Table) {
     }
 }
 
-fn row<R: Rng>(alloc: Global, rng: &mut R, is_plain: bool) -> Result<Row> {
+fn row<R: Rng>(alloc: Global, rng: &mut R, kind: Kind) -> Result<Row> {
     let mut row = Row::new(alloc);
     for _ in 0..rng.random_range(0u32..5) {
-        row.add_cell(cell(alloc, rng, is_plain)?)?;
+        row.add_cell(cell(alloc, rng, kind)?)?;
     }
-    if once_in(rng, 6) {
+    if once_in(rng, if kind.has_sequences { 2 } else { 6 }) {
         row.max_height(rng.random_range(0usize..4));
     }
     Ok(row)
 }
 
-fn cell<R: Rng>(alloc: Global, rng: &mut R, is_plain: bool) -> Result<Cell> {
-    let mut cell = Cell::new_owned(alloc, text(alloc, rng, is_plain)?)?;
+fn cell<R: Rng>(alloc: Global, rng: &mut R, kind: Kind) -> Result<Cell> {
+    let mut cell = Cell::new_owned(alloc, text(alloc, rng, kind)?)?;
     if once_in(rng, 6) {
-        cell = cell.set_delimiter(delimiter(rng, is_plain));
+        cell = cell.set_delimiter(delimiter(rng, kind));
     }
     if let Some(alignment) = ALIGNMENTS.choose(rng) {
         cell = cell.set_alignment(*alignment);
@@ -111,14 +124,14 @@ fn cell<R: Rng>(alloc: Global, rng: &mut R, is_plain: bool) -> Result<Cell> {
 }
 
 // most columns stay as they are, and in three tables of four none has a constraint but that it is hidden
-fn set_columns<R: Rng>(rng: &mut R, table: &mut Table, is_plain: bool) {
+fn set_columns<R: Rng>(rng: &mut R, table: &mut Table, kind: Kind) {
     let is_free = !once_in(rng, 4);
     for column in table.column_iter_mut() {
         if let Some(padding) = PADDINGS.choose(rng) {
             column.set_padding(*padding);
         }
         if once_in(rng, 5) {
-            column.set_delimiter(delimiter(rng, is_plain));
+            column.set_delimiter(delimiter(rng, kind));
         }
         if once_in(rng, 5) {
             let constraint = if is_free {
@@ -152,13 +165,8 @@ fn exchange_columns(table: &mut Table) {
 }
 
 // a cell in the last row that no column knows, or that a column of the other rows knows
-fn add_late_cell<R: Rng>(
-    alloc: Global,
-    rng: &mut R,
-    table: &mut Table,
-    is_plain: bool,
-) -> Result<()> {
-    let cell = cell(alloc, rng, is_plain)?;
+fn add_late_cell<R: Rng>(alloc: Global, rng: &mut R, table: &mut Table, kind: Kind) -> Result<()> {
+    let cell = cell(alloc, rng, kind)?;
     let last = table.row_count().saturating_sub(1);
     if let Some(row) = table.row_mut(last) {
         row.add_cell(cell)?;

@@ -41,36 +41,97 @@ const PIECES: [&str; 28] = [
 // how many of the pieces, from the front, are printable ASCII or line feeds
 const PLAIN: usize = 7;
 
-const DELIMITERS: [char; 11] = [
-    ' ', '-', 'a', '年', '\u{301}', '\u{200b}', '\u{200d}', '🇩', '\u{1b}', '\r', '\u{0}',
+// SGR sequences, and parts of such
+const SEQUENCES: [&str; 13] = [
+    "\u{1b}[31m",
+    "\u{1b}[0m",
+    "\u{1b}[m",
+    "\u{1b}[1;4:3m",
+    "\u{1b}[00m",
+    "\u{1b}[",
+    "\u{1b}[1",
+    "[",
+    "m",
+    "0m",
+    ";",
+    ":",
+    "\u{1b}",
 ];
 
-/// A text of up to twelve pieces; of printable ASCII and line feeds alone where it is to be plain.
-pub fn text<R: Rng>(alloc: Global, rng: &mut R, is_plain: bool) -> Result<String> {
-    let pieces = if is_plain {
+// how many of them, from the front, are whole
+const WHOLE: usize = 5;
+
+const DELIMITERS: [char; 14] = [
+    ' ', '-', 'a', 'm', '[', '1', '年', '\u{301}', '\u{200b}', '\u{200d}', '🇩', '\u{1b}', '\r',
+    '\u{0}',
+];
+
+// how many of them, from the front, are printable ASCII
+const PLAIN_DELIMITERS: usize = 6;
+
+const INDICATORS: [&str; 7] = [
+    "\u{1b}[m",
+    "\u{1b}[2m",
+    "\u{1b}[",
+    "[1m",
+    "m",
+    "\u{1b}[0mx\u{1b}[m",
+    "",
+];
+
+/// What the texts of a table are made of.
+#[derive(Clone, Copy)]
+pub struct Kind {
+    /// Texts and delimiters are printable ASCII, but for sequences.
+    pub is_plain: bool,
+    /// Texts hold SGR sequences that count nothing; parts of such too, where they needn't be plain.
+    pub has_sequences: bool,
+}
+
+/// A text of up to twelve pieces.
+pub fn text<R: Rng>(alloc: Global, rng: &mut R, kind: Kind) -> Result<String> {
+    let pieces = if kind.is_plain {
         &PIECES[..PLAIN]
     } else {
         PIECES.as_slice()
     };
+    let sequences = if kind.is_plain {
+        &SEQUENCES[..WHOLE]
+    } else {
+        SEQUENCES.as_slice()
+    };
     let mut text = String::new(alloc);
     for _ in 0..rng.random_range(0u32..13) {
-        if let Some(piece) = pieces.choose(rng) {
+        let choices = if kind.has_sequences && once_in(rng, 3) {
+            sequences
+        } else {
+            pieces
+        };
+        if let Some(piece) = choices.choose(rng) {
             text.push_str(piece)?;
         }
     }
     Ok(text)
 }
 
-/// A delimiter; printable ASCII where it is to be plain.
-pub fn delimiter<R: Rng>(rng: &mut R, is_plain: bool) -> char {
-    let delimiters = if is_plain {
-        &DELIMITERS[..3]
+/// A delimiter.
+pub fn delimiter<R: Rng>(rng: &mut R, kind: Kind) -> char {
+    let delimiters = if kind.is_plain {
+        &DELIMITERS[..PLAIN_DELIMITERS]
     } else {
         DELIMITERS.as_slice()
     };
     match delimiters.choose(rng) {
         Some(delimiter) => *delimiter,
         None => ' ',
+    }
+}
+
+/// An indicator of cut lines other than that of a new table.
+pub fn indicator<R: Rng>(rng: &mut R) -> &'static str {
+    match INDICATORS.choose(rng) {
+        Some(indicator) => *indicator,
+        None => "",
     }
 }
 
