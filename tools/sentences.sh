@@ -1,4 +1,4 @@
-# An input of the measurements, for the scripts that read this file.
+# Inputs of the measurements, for the scripts that read this file.
 
 # A header and 2,000 rows of 6 sentences: so many words, each of 2 letters up to so many, out of these letters.
 sentences() {
@@ -11,6 +11,29 @@ sentences() {
         for (word = 0; word < 6 * words; word++) {
           if (word > 0) printf (word % words ? " " : "\t")
           for (left = 2 + drawn(longest - 1); left > 0; left--) printf letter[1 + drawn(letters)]
+        }
+        print ""
+      }
+    }'
+}
+
+# A header and 10,000 rows of 6 sentences of six words. In every second cell one word stands between two sequences.
+sentences_with_sequences() {
+  awk '
+    function drawn(count) { state = state * 16807 % 2147483647; return state % count }
+    BEGIN {
+      state = 1
+      letters = split("a b c d e f g h i j k l m n o p q r s t u v w x y z", letter, " ")
+      for (row = 0; row <= 10000; row++) {
+        for (cell = 0; cell < 6; cell++) {
+          if (cell > 0) printf "\t"
+          coloured = (row + cell) % 2 ? 1 + drawn(6) : 0
+          for (word = 1; word <= 6; word++) {
+            if (word > 1) printf " "
+            if (word == coloured) printf "\033[31m"
+            for (left = 2 + drawn(8); left > 0; left--) printf letter[1 + drawn(letters)]
+            if (word == coloured) printf "\033[0m"
+          }
         }
         print ""
       }
