@@ -1,5 +1,5 @@
 #!/bin/sh
-# Measures the built ctable, and programs beside it: instructions and the five dearest functions on each input below,
+# Measures the built ctable, and programs beside it: instructions and the five costliest functions on each input below,
 # and time and memory on the one of 100,000 rows. It needs GNU time and valgrind, and takes about two minutes.
 #
 # usage: tools/measure.sh [PROGRAM].. [--wrapped PROGRAM..]

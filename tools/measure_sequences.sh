@@ -1,5 +1,5 @@
 #!/bin/sh
-# Measures programs that draw a table whose cells hold sequences that count nothing: instructions and the eight dearest
+# Measures programs that draw a table whose cells hold sequences that count nothing: instructions and the eight costliest
 # functions, as wide as its contents and in columns of three widths. It needs valgrind, and takes about a minute.
 #
 # usage: tools/measure_sequences.sh PROGRAM..

@@ -21,6 +21,10 @@ use std::marker::Model;
 use text_lines::TextLines;
 
 /// One cell of a table. It has at least one text line, and no text line holds a line feed.
+///
+/// ```
+/// let cell = Cell::new(alloc, "rent")?.fg(Color::Red).set_alignment(CellAlignment::Right);
+/// ```
 #[derive(Debug, Drop)]
 pub struct Cell {
     text_lines: TextLines,
@@ -91,7 +95,7 @@ impl Cell {
         self.text_lines.texts()
     }
 
-    /// The columns that each text line takes, in order. They were measured when the cell was made.
+    /// The terminal columns that each text line takes, in order. They were measured when the cell was made.
     pub fn text_widths(&self) -> &[usize]
         ensures { result.now ≡ map measure self.now.text_lines }
     {
@@ -106,7 +110,8 @@ impl Cell {
         self.text_lines.visible()
     }
 
-    /// The columns that what is visible of each text line takes, in order. They were measured when the cell was made.
+    /// The terminal columns that what is visible of each text line takes, in order. They were measured when the cell was
+    /// made.
     pub fn visible_widths(&self) -> &[usize]
         ensures { result.now ≡ map measure (map visible_text self.now.text_lines) }
     {

@@ -58,19 +58,21 @@ pub fn dynamic_widths_are_one_list()
     ensures { (room : ℕ) (columns : List ColumnNeeds) (full : Bool) (widths others : List ℕ) → DynamicIsOne room columns full widths others }
 {}
 
-/// Without constraints there is one level: columns whose content is at most the level get their content, and each other
-/// column gets at least the level or what its lines need.
+/// Without constraints, and with room for one terminal column each, there is one level: columns whose content is at most
+/// the level get their content, and each other column gets at least the level or what its lines need.
 pub fn dynamic_widths_are_levelled()
     ensures dynamic { (table : TableValue) (w : ℕ) (widths : List ℕ) → TableIsLevelled table w widths }
     ensures full { (table : TableValue) (w : ℕ) (widths : List ℕ) → TableIsFull table w widths }
 {}
 
-/// The level is the best one: no contents within the room give each column its content or one more than the level.
+/// Under `Dynamic` and without constraints the level is the best one: no contents within the room give each column its
+/// content or one more than the level.
 pub fn the_level_is_the_best()
     ensures { (table : TableValue) (w level : ℕ) (widths : List ℕ) → TableLevelIsBest table w level widths }
 {}
 
-/// Where all contents fit the set width with borders and paddings, `Dynamic` gives each column its content.
+/// Without constraints, where all contents fit the set width with borders and paddings, `Dynamic` gives each column its
+/// content, or 1.
 pub fn contents_that_fit_are_kept()
     ensures { (table : TableValue) (w : ℕ) (widths : List ℕ) → TableKeepsContents table w widths }
 {}

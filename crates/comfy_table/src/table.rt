@@ -59,7 +59,7 @@ impl Model for Table {
 
     ghost Value = { TableValue };
 
-    // a delimiter is a character; no call sets custom styling yet
+    // a delimiter is a character
     ghost invariant = { λ t. IsDelimiter t.delimiter };
 
     ghost view = { λ t. record { columns = t.columns.items; header = t.header; rows = t.rows.items; style = t.style; arrangement = t.arrangement; delimiter = t.delimiter; indicator = indicator_of t.indicator; set_width = t.set_width; terminal = t.terminal; no_tty = t.no_tty; use_stderr = t.use_stderr; enforce_styling = t.enforce_styling; style_text_only = t.style_text_only; custom_styling = t.custom_styling } };

@@ -61,9 +61,9 @@ const SEQUENCES: [&str; 13] = [
 // how many of them, from the front, are whole
 const WHOLE: usize = 5;
 
-const DELIMITERS: [char; 14] = [
-    ' ', '-', 'a', 'm', '[', '1', '年', '\u{301}', '\u{200b}', '\u{200d}', '🇩', '\u{1b}', '\r',
-    '\u{0}',
+const DELIMITERS: [char; 15] = [
+    ' ', '-', 'a', 'm', '[', '1', '年', '\u{301}', '\u{94d}', '\u{200b}', '\u{200d}', '🇩', '\u{1b}',
+    '\r', '\u{0}',
 ];
 
 // how many of them, from the front, are printable ASCII

@@ -10,12 +10,12 @@ use std::marker::Model;
 /// What the cells of one column are drawn by: the column's settings and the width of its content.
 #[derive(Debug, Drop)]
 pub struct ColumnDisplayInfo {
-    /// The places left free to the left and to the right of the content.
+    /// The terminal columns left free to the left and to the right of the content.
     pub padding: (u16, u16),
     /// The character at which the texts of the column may break, unless a cell has one of its own; with none the
     /// table's is taken.
     pub delimiter: Option<char>,
-    /// The places that the content has.
+    /// The terminal columns that the content has.
     pub content_width: u16,
     /// Where the texts of the column stand, unless a cell has an alignment of its own; with none at the left.
     pub cell_alignment: Option<CellAlignment>,
@@ -33,7 +33,7 @@ impl Model for ColumnDisplayInfo {
 }
 
 impl ColumnDisplayInfo {
-    /// The settings of a column, with this many places for its content. A width of 0 becomes 1.
+    /// The settings of a column, with this many terminal columns for its content. A width of 0 becomes 1.
     pub fn new(column: &Column, content_width: u16) -> ColumnDisplayInfo
         ensures { result ≡ info_of column.now content_width }
     {
@@ -46,7 +46,7 @@ impl ColumnDisplayInfo {
         }
     }
 
-    /// The whole width in places: the content and its paddings.
+    /// The whole width in terminal columns: the content and its paddings.
     pub fn width(&self) -> usize
         ensures { result ≡ info_width self.now }
     {

@@ -1,4 +1,4 @@
-//! The head of a text for some places.
+//! The head of a text for some terminal columns.
 
 ghost use Rattle.std.specs.Prelude.{◌≡◌, ◌++◌};
 ghost use Rattle.comfy_parts.specs.Text.{head};
@@ -7,8 +7,8 @@ use crate::content_split::width::is_printable;
 use unicode_segmentation::UnicodeSegmentation;
 use unicode_width::UnicodeWidthStr;
 
-/// The longest front of whole grapheme clusters whose summed measures are at most `allowed_width` places, and the rest
-/// of the word. It takes no memory.
+/// The longest front of whole grapheme clusters whose summed measures are at most `allowed_width` terminal columns, and
+/// the rest of the word. It takes no memory.
 pub fn split_long_word(allowed_width: usize, word: &str) -> (&str, &str)
     ensures head { result.0.now ≡ head allowed_width word.now }
     ensures rest { result.0.now ++ result.1.now ≡ word.now }

@@ -1,4 +1,4 @@
-//! How many places a text takes.
+//! How many terminal columns a text takes.
 
 ghost use Rattle.std.specs.Prelude.{◌≡◌, ◌+◌, ◌*◌, ◌≤◌, length, nat_lt, encode_utf8};
 ghost use Rattle.comfy_parts.specs.Following.{IsWideFrom};
@@ -9,7 +9,8 @@ use unicode_width::UnicodeWidthStr;
 // How many bytes more or less aren't looked for.
 const CLOSE: usize = 8;
 
-/// The places that a text takes, by the Unicode rules for terminals. They are at most two for each of its bytes.
+/// The terminal columns that a text takes, by the Unicode rules for terminals. They are at most two for each of its
+/// bytes.
 pub fn measure_text_width(text: &str) -> usize
     ensures value { result ≡ measure text.now }
     ensures bound { result ≤ 2 * length text.now }

@@ -23,6 +23,12 @@ const CHUNK: usize = 4096;
 ///
 /// The result says which device failed: `Read` comes only where a call of the source failed, `Write`
 /// only where a call of the sink failed. After `Ok` and every other error, no call of either failed.
+///
+/// ```
+/// let mut source = FromReader::new(rt.stdin());
+/// let mut sink = ToWriter::new(rt.stdout());
+/// run(rt.alloc(), &mut source, &mut sink, settings)?;
+/// ```
 pub fn run<R: Source, W: Sink>(
     alloc: Global,
     source: &mut R,

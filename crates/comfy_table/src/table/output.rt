@@ -52,8 +52,9 @@ impl Iterator for Lines {
 impl Table {
     /// The drawn lines of the table as it is now, from the top.
     ///
-    /// Where memory is found, these are frame lines and rows of padded pieces, in the order of the drawing; for printable
-    /// ASCII all of them have the same number of characters.
+    /// Where memory is found, these are frame lines and rows of padded pieces, in the order of the drawing. Without colours
+    /// and attributes all of them have the same number of characters, where texts and delimiters are printable ASCII and
+    /// each indicator that is written adds one column for each of its characters.
     ///
     /// Where the table's width is known, a frame line keeps to it, whatever the texts: under
     /// `ContentArrangement::Dynamic` it has at most so many characters, and under `DynamicFullWidth` exactly so many, if a

@@ -9,8 +9,8 @@ use comfy_parts::{IntoRow, Items, Result};
 
 impl Table {
     /// Appends rows in their order, each as `add_row` does. Returns the table for further calls. After `OutOfMemory` it
-    /// has the rows before the refused one, which is dropped with those behind it; a caller's own proof can use that of
-    /// `try_add_rows` only.
+    /// has the rows before the refused one, which is dropped with those behind it. A caller's own proof knows only from
+    /// `try_add_rows` that these are the first rows, and not all.
     pub fn add_rows<I>(&mut self, rows: I) -> Result<&mut Self>
     where
         I: Items,
@@ -41,7 +41,8 @@ impl Table {
 
     /// Asks the predicate once, with the number of rows and the new rows. On yes it appends them as `add_rows` does; on no
     /// it changes nothing and takes no memory, and they are dropped. Returns the table for further calls. After
-    /// `OutOfMemory` it has the rows before the refused one; a caller's own proof can use that of `try_add_rows_if` only.
+    /// `OutOfMemory` it has the rows before the refused one. A caller's own proof knows only from `try_add_rows_if` that
+    /// these are the first rows, and not all.
     pub fn add_rows_if<P, I>(&mut self, predicate: P, rows: I) -> Result<&mut Self>
     where
         P: Fn(usize, &I) -> bool + Drop,
@@ -58,8 +59,8 @@ impl Table {
     }
 
     /// Appends rows in their order, each as `add_row` does. This is for callers that go on with the table after
-    /// `OutOfMemory`: then it has the rows before the refused one, with the columns that these made, and no other, and the
-    /// caller's own proof can use that.
+    /// `OutOfMemory`. Then it has the rows before the refused one, with the columns that these made. The caller's own
+    /// proof can use that these are the first rows, not all, and no other.
     pub fn try_add_rows<I>(&mut self, rows: I) -> Result<()>
     where
         I: Items,
@@ -92,8 +93,8 @@ impl Table {
     }
 
     /// Asks the predicate once, with the number of rows and the new rows, and appends them on yes. This is for callers that
-    /// go on with the table after `OutOfMemory`, which comes on yes alone: then it has the rows before the refused one, and
-    /// no other, and the caller's own proof can use that.
+    /// go on with the table after `OutOfMemory`, which comes on yes alone. Then it has the rows before the refused one. The
+    /// caller's own proof can use that these are the first rows, not all, and no other.
     pub fn try_add_rows_if<P, I>(&mut self, predicate: P, rows: I) -> Result<()>
     where
         P: Fn(usize, &I) -> bool + Drop,

@@ -106,7 +106,8 @@ impl Table {
 
     /// Has SGR sequences in cells (ESC, `[`, digits, `;` and `:`, then `m`) count nothing. Widths, line ends and cuts are
     /// then those of the table without them. Each line resumes the sequences that are active where it begins, and ends
-    /// with `ESC[0m` where one is still open. No call turns this off, and a new table has it off.
+    /// with `ESC[0m` where one is still open. A line that a row's height cuts has none of its text's sequences. No call
+    /// turns this off, and a new table has it off.
     ///
     /// ```
     /// table.custom_styling().set_width(7).set_content_arrangement(ContentArrangement::Dynamic);

@@ -28,6 +28,10 @@ impl Terminal {
 impl Table {
     /// Passes in what is known of the terminal; a new table knows of none. No call asks the terminal itself, so the caller
     /// looks up these facts.
+    ///
+    /// ```
+    /// table.set_terminal(Terminal { stdout_is_tty: true, stderr_is_tty: false, width: Some(80) });
+    /// ```
     pub fn set_terminal(&mut self, terminal: Terminal) -> &mut Self
         ensures same_reference { result.ghost_name ≡ self.entry.ghost_name }
         ensures value { result.now ≡ record self.old { terminal = terminal } }

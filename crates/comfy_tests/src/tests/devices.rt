@@ -1,12 +1,13 @@
 //! Devices that fail, and what a run leaves behind then.
 
+use super::program::README;
 use super::support::joined;
 use comfy_run::run::{
     DeviceFault, FromReader, MemorySink, MemorySource, RunError, Settings, Sink, Source, ToWriter,
     run,
 };
-use comfy_table::ContentArrangement;
 use comfy_table::presets::{ASCII_FULL, ASCII_MARKDOWN};
+use comfy_table::{ContentArrangement, TableError};
 use std::alloc::{Alloc, AllocError, Global};
 use std::io::{self, Read, Write};
 use std::process::Abort;
@@ -119,6 +120,33 @@ fn a_full_sink_holds_the_beginning(rt: HostRuntime) -> Result<(), Fail> {
     let mut sink = MemorySink::new(rt.alloc(), 10, 0)?;
     assert_unwritten(&rt, &mut sink);
     assert_eq!(rt; sink.bytes(), joined(rt.alloc(), &OUTPUT[..1])?.as_bytes());
+    Ok(())
+}
+
+// The table of the README: each read fails in turn, then the write, and then there is room for ten bytes.
+#[test]
+fn the_table_of_the_readme_fails_at_each_call(rt: HostRuntime) -> Result<(), Fail> {
+    for call in [1, 2] {
+        assert_unread(&rt, MemorySource::new(README, call), call)?;
+    }
+    for (room, failing_write, wanted) in [
+        (1000, 1, b"".as_slice()),
+        (10, 0, b"+---------".as_slice()),
+    ] {
+        let mut source = MemorySource::new(README, 0);
+        let mut sink = MemorySink::new(rt.alloc(), room, failing_write)?;
+        let answer = run(rt.alloc(), &mut source, &mut sink, PLAIN);
+        assert_eq!(rt; answer, Err(RunError::Write));
+        assert_eq!(rt; sink.bytes(), wanted);
+    }
+    Ok(())
+}
+
+// No machine has so much memory, so this is a request that is refused in every run of the tests.
+#[test]
+fn a_sink_with_too_much_room_is_refused(rt: HostRuntime) -> Result<(), Fail> {
+    let refused = MemorySink::new(rt.alloc(), usize::MAX, 0);
+    assert!(rt; matches!(&refused, Err(TableError::OutOfMemory)));
     Ok(())
 }
 

@@ -10,7 +10,8 @@ use std::test::Fail;
 
 const USAGE: &str = "usage: ctable [WIDTH|- [disabled|dynamic|full [STYLE]]]";
 
-const README: &[u8] = b"Header1\tHeader2\tHeader3
+/// The table of the README, as the program reads it.
+pub const README: &[u8] = b"Header1\tHeader2\tHeader3
 This is a text\tThis is another text\tThis is the third text
 This is another text\tNow\x0badd some\x0bmulti line stuff\tThis is awesome
 ";
@@ -63,6 +64,28 @@ fn assert_ends(
 #[test]
 fn the_table_of_the_readme_is_drawn(rt: HostRuntime) -> Result<(), Fail> {
     assert_ends(&rt, &[], sound(README), (0, &tables::README, &[]))?;
+    Ok(())
+}
+
+// The picture that the README has of these arguments.
+#[test]
+fn the_table_of_the_readme_keeps_to_a_width(rt: HostRuntime) -> Result<(), Fail> {
+    let drawn = [
+        "┌────────────┬────────────┬────────────┐",
+        "│ Header1    ┆ Header2    ┆ Header3    │",
+        "╞════════════╪════════════╪════════════╡",
+        "│ This is a  ┆ This is    ┆ This is    │",
+        "│ text       ┆ another    ┆ the third  │",
+        "│            ┆ text       ┆ text       │",
+        "├╌╌╌╌╌╌╌╌╌╌╌╌┼╌╌╌╌╌╌╌╌╌╌╌╌┼╌╌╌╌╌╌╌╌╌╌╌╌┤",
+        "│ This is    ┆ Now        ┆ This is    │",
+        "│ another    ┆ add some   ┆ awesome    │",
+        "│ text       ┆ multi line ┆            │",
+        "│            ┆ stuff      ┆            │",
+        "└────────────┴────────────┴────────────┘",
+    ];
+    let words = ["40", "dynamic", "UTF8_FULL"];
+    assert_ends(&rt, &words, sound(README), (0, &drawn, &[]))?;
     Ok(())
 }
 
@@ -188,25 +211,45 @@ fn other_words_are_refused(rt: HostRuntime) -> Result<(), Fail> {
     Ok(())
 }
 
+// One read gives the input, and one shows its end.
 #[test]
 fn a_failing_source_is_reported(rt: HostRuntime) -> Result<(), Fail> {
-    let given = Given {
-        failing_read: 1,
-        ..sound(b"a\n")
-    };
-    let reported = ["ctable: the input can't be read"];
-    assert_ends(&rt, &[], given, (1, &[], &reported))?;
+    for failing_read in [1, 2] {
+        let given = Given {
+            failing_read,
+            ..sound(README)
+        };
+        let reported = ["ctable: the input can't be read"];
+        assert_ends(&rt, &[], given, (1, &[], &reported))?;
+    }
     Ok(())
 }
 
+// The drawing is one write.
 #[test]
 fn a_failing_sink_is_reported(rt: HostRuntime) -> Result<(), Fail> {
     let given = Given {
         failing_write: 1,
-        ..sound(b"a\n")
+        ..sound(README)
     };
     let reported = ["ctable: the output can't be written"];
     assert_ends(&rt, &[], given, (1, &[], &reported))?;
+    Ok(())
+}
+
+// A sink with room for ten bytes takes the first ten.
+#[test]
+fn a_full_sink_is_reported(rt: HostRuntime) -> Result<(), Fail> {
+    let mut source = MemorySource::new(README, 0);
+    let mut sink = MemorySink::new(rt.alloc(), 10, 0)?;
+    let mut reports = MemorySink::new(rt.alloc(), 256, 0)?;
+    let status = program(rt.alloc(), &[], &mut source, &mut sink, &mut reports);
+    assert_eq!(rt; status, 1);
+    assert_eq!(rt; sink.bytes(), b"+---------".as_slice());
+    assert_eq!(rt;
+        reports.bytes(),
+        b"ctable: the output can't be written\n".as_slice()
+    );
     Ok(())
 }
 

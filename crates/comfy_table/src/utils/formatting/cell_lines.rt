@@ -146,13 +146,30 @@ fn width_at(widths: &[usize], place: usize) -> Option<usize>
     widths.get(place).copied()
 }
 
+// The front of a line, and the indicator where it has room. It is measured when it is drawn.
+#[derive(Drop)]
+struct CutLine<'a> {
+    text: &'a str,
+    indicator: Option<&'a str>,
+}
+
+impl<'a> Model for CutLine<'a> {
+    ghost use Rattle.std.specs.Prelude.{option_copied};
+    ghost use Rattle.comfy_parts.specs.Text.{Text};
+    ghost use Rattle.comfy_table.specs.BorrowedLines.{line_text};
+
+    ghost Value = { Text };
+
+    ghost view = { λ l. line_text l.text.now (option_copied l.indicator) };
+}
+
 /// The lines of a cell in its row, from the top.
 #[derive(Drop)]
 pub struct CellLines<'a> {
     whole: WholeLines<'a>,
     // where the row's height cuts the cell: how many lines stand as they are, and the line behind them
     kept: usize,
-    cut: Option<Line<'a>>,
+    cut: Option<CutLine<'a>>,
 }
 
 impl<'a> Model for CellLines<'a> {
@@ -212,7 +229,7 @@ impl<'a> CellLines<'a> {
         Some(Line {
             text: cut.text,
             indicator: cut.indicator,
-            width: cut.width,
+            width: None,
         })
     }
 }
@@ -348,23 +365,21 @@ fn cut_to_height<'a>(
 }
 
 // A line's head beside the indicator, and the indicator; one that is wider than the column counts as empty.
-fn cut_line<'a>(line: &'a str, width: u16, indicator: &'a str) -> Line<'a>
+fn cut_line<'a>(line: &'a str, width: u16, indicator: &'a str) -> CutLine<'a>
     ensures { result ≡ cut_line width indicator.now line.now }
 {
     let places = usize::from(width);
     let indicator_width = measure_text_width(indicator);
     if indicator_width > places {
         let (text, _) = split_long_word(places, line);
-        return Line {
+        return CutLine {
             text,
             indicator: None,
-            width: None,
         };
     }
     let (text, _) = split_long_word(places - indicator_width, line);
-    Line {
+    CutLine {
         text,
         indicator: Some(indicator),
-        width: None,
     }
 }

@@ -51,6 +51,18 @@ impl<'a> WrittenLine<'a> {
     pub fn push_to(&self, text: &mut String) -> Result<()>
         ensures { OnOk result (string_bytes text.new ≡ string_bytes text.old ++ self.now.written) }
     {
+        // in a table without custom styling every line
+        if self.text.is_none() && !self.closes {
+            return self.line.push_to(text);
+        }
+        self.push_own(text)
+    }
+
+    // a call of its own, so that `push_to` stays small where it is inlined
+    #[inline(never)]
+    fn push_own(&self, text: &mut String) -> Result<()>
+        ensures { OnOk result (string_bytes text.new ≡ string_bytes text.old ++ self.now.written) }
+    {
         if let Some(written) = self.text {
             text.push_str(written)?;
             return Ok(());

@@ -1,4 +1,4 @@
-use Rattle.std.proofs.Common.{rules, refl, map, List}
+use Rattle.std.proofs.Common.{rules, map, List}
 use Rattle.std.specs.Prelude.{◌≡◌, true}
 use Rattle.std.proofs.lemmas.Result.{IfOk-weaker}
 use Rattle.comfy_parts.specs.Text.{Text}
@@ -6,8 +6,8 @@ use Rattle.comfy_parts.specs.VisibleText.{visible_text}
 use Rattle.comfy_table.specs.Headline.{IsTableDrawing}
 use Rattle.comfy_table.specs.Laws.{IsFreeOfEscapes}
 use Rattle.comfy_table.specs.TableValue.{TableValue}
-use Rattle.comfy_tests.specs.Uses.{ClosesCutLines, IsDrawnWithCells, IsPlainDrawing, LeavesNoneOpen, ResumesItsSequences}
-use Rattle.comfy_tests.proofs.uses.sequences.drawn_with_sequences.Goals as goal
+use Rattle.comfy_callers.specs.Uses.{ClosesCutLines, IsDrawnWithCells, IsPlainDrawing, LeavesNoneOpen, ResumesItsSequences}
+use Rattle.comfy_callers.proofs.uses.sequences.drawn_with_sequences.Goals as goal
 
 -- what a drawing of a table with the setting promises
 closed_of : (table : TableValue) (lines : List Text) → table.custom_styling ≡ true → IsTableDrawing table lines → IsDrawnWithCells (LeavesNoneOpen table) table lines

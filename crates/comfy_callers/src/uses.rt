@@ -8,7 +8,7 @@ ghost use Rattle.comfy_table.specs.Arrangement.{IsDrawingOf};
 ghost use Rattle.comfy_table.specs.Laws.{NoConstraints, least_total};
 ghost use Rattle.comfy_table.specs.TableValue.{new_table, should_style, with_header, with_row};
 ghost use Rattle.comfy_table.specs.Widths.{visible_count};
-ghost use Rattle.comfy_tests.specs.Uses.{HasFrameOf, IsPlainDrawing};
+ghost use Rattle.comfy_callers.specs.Uses.{HasFrameOf, IsPlainDrawing};
 
 pub mod cells;
 pub mod columns;

@@ -11,7 +11,7 @@ ghost use Rattle.comfy_table.specs.Laws.{DynamicIsOne};
 ghost use Rattle.comfy_table.specs.TableLaws.{ShrinkingKeepsCells};
 ghost use Rattle.comfy_table.specs.TableValue.{TableValue};
 ghost use Rattle.comfy_table.specs.Widths.{ColumnNeeds};
-ghost use Rattle.comfy_tests.specs.Uses.{KeepsTheLaws};
+ghost use Rattle.comfy_callers.specs.Uses.{KeepsTheLaws};
 
 use comfy_parts::laws::{
     attributes_are_ordered, cells_are_equal_by_their_values, colors_are_ordered,

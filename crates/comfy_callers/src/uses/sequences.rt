@@ -6,7 +6,7 @@ ghost use Rattle.comfy_parts.specs.Text.{measure};
 ghost use Rattle.comfy_parts.specs.VisibleLines.{line_texts};
 ghost use Rattle.comfy_parts.specs.VisibleText.{closed, has_escape, visible_text};
 ghost use Rattle.comfy_table.specs.Laws.{IsFreeOfEscapes};
-ghost use Rattle.comfy_tests.specs.Uses.{ClosesCutLines, IsDrawnWithCells, IsPlainDrawing, LeavesNoneOpen, ResumesItsSequences};
+ghost use Rattle.comfy_callers.specs.Uses.{ClosesCutLines, IsDrawnWithCells, IsPlainDrawing, LeavesNoneOpen, ResumesItsSequences};
 
 use comfy_table::utils::formatting::content_split::{ColumnDisplayInfo, leaves_sequence_open};
 use comfy_table::{Cell, Lines, Result, Table};

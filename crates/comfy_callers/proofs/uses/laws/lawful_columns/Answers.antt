@@ -1,5 +1,5 @@
 use Rattle.std.proofs.lemmas.Result.{IfOk-weaker}
-use Rattle.comfy_tests.proofs.uses.laws.lawful_columns.Goals as goal
+use Rattle.comfy_callers.proofs.uses.laws.lawful_columns.Goals as goal
 
 pub returns : goal.returns
 returns c =

@@ -6,8 +6,8 @@ use Rattle.comfy_table.specs.Headline.{IsTableDrawing}
 use Rattle.comfy_table.specs.Laws.{NoConstraints, least_total}
 use Rattle.comfy_table.specs.TableValue.{TableValue}
 use Rattle.comfy_table.specs.Widths.{visible_count}
-use Rattle.comfy_tests.specs.Uses.{HasFrameOf}
-use Rattle.comfy_tests.proofs.uses.drawn_over_width.Goals as goal
+use Rattle.comfy_callers.specs.Uses.{HasFrameOf}
+use Rattle.comfy_callers.proofs.uses.drawn_over_width.Goals as goal
 
 -- a drawing of a table after both settings has a frame of the width
 frame_of_width : (old new : TableValue) (w : ℕ) (lines : List Text) → new ≡ record old { set_width = Some w; arrangement = DynamicFullWidth } → IsTableDrawing new lines

@@ -1,7 +1,7 @@
 use Rattle.std.proofs.Common.{[], Option, Some, ap, List, ℕ}
 use Rattle.std.specs.Prelude.{unwrap_or}
 use Rattle.comfy_run.specs.Device.{MemorySinkValue, MemorySourceValue, left_in}
-use Rattle.comfy_tests.proofs.uses.output_for.Goals as goal
+use Rattle.comfy_callers.proofs.uses.output_for.Goals as goal
 
 pub returns : goal.returns
 returns c =
