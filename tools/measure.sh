@@ -8,6 +8,7 @@
 # program's instructions divided by those of the program that it stands at.
 set -eu
 . "$(dirname "$0")/sentences.sh"
+. "$(dirname "$0")/counting.sh"
 IFS='
 '
 here=$PWD
@@ -46,24 +47,10 @@ short_cells() {
   }'
 }
 
-# Counts the instructions of each program on an input, and compares what they write.
+# Counts for programs, one a line, on an input of the folder.
 count() {
-  input=$1
-  programs=$2
-  width=${3-}
-  echo "$input${width:+, columns of $width}"
-  first=
-  for program in $programs; do
-    valgrind --tool=callgrind --callgrind-out-file="$work/counts" "$program" $width < "$work/$input" > "$work/drawn" 2> "$work/said"
-    count=$(sed -n 's/.*Collected : //p' "$work/said")
-    [ "$first" ] || cp "$work/drawn" "$work/first"
-    first=${first:-$count}
-    cmp "$work/drawn" "$work/first"
-    awk -v count="$count" -v first="$first" -v program="$program" 'BEGIN {
-      printf "  %.1f million instructions, ratio %.3f: %s\n", count / 1e6, first / count, program
-    }'
-    callgrind_annotate "$work/counts" | grep '%) .*:' | head -n 5
-  done
+  echo "$1${3:+, columns of $3}"
+  compare "$work/$1" "${3-}" 5 $2
 }
 
 short_cells 1000 6 cell > "$work/1,000 rows of 6 short cells"

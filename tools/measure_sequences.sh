@@ -8,22 +8,12 @@
 # it stands at.
 set -eu
 . "$(dirname "$0")/sentences.sh"
+. "$(dirname "$0")/counting.sh"
 work=$(mktemp -d)
 trap 'rm -rf "$work"' EXIT
 sentences_with_sequences > "$work/input"
 
 for width in '' 12 20 40; do
   echo "${width:+columns of }${width:-as wide as the contents}"
-  first=
-  for program in "$@"; do
-    valgrind --tool=callgrind --callgrind-out-file="$work/counts" "$program" $width < "$work/input" > "$work/drawn" 2> "$work/said"
-    count=$(sed -n 's/.*Collected : //p' "$work/said")
-    [ "$first" ] || cp "$work/drawn" "$work/first"
-    first=${first:-$count}
-    cmp "$work/drawn" "$work/first"
-    awk -v count="$count" -v first="$first" -v program="$program" 'BEGIN {
-      printf "  %.1f million instructions, ratio %.3f: %s\n", count / 1e6, first / count, program
-    }'
-    callgrind_annotate "$work/counts" | grep '%) .*:' | head -n 8
-  done
+  compare "$work/input" "$width" 8 "$@"
 done
