@@ -1,20 +1,19 @@
 -- A cursor over the parts of a text line: what it passes, and where it stands then.
-use Rattle.std.proofs.Common.{◌≡◌, inl, inr, ◌<◌, ◌≤◌, ℕ, zero, suc, ◌+◌, ◌-◌, Bool, true, false, List, [], ◌∷◌, ◌++◌, length, map, take, drop, replicate, refl, sym, ap, ap₂, ◌∙◌, subst, arith, append_assoc, append-nil, length-append}
+use Rattle.std.proofs.Common.{◌≡◌, inl, inr, ◌<◌, ◌≤◌, ℕ, zero, suc, ◌+◌, ◌-◌, Bool, true, false, List, [], ◌∷◌, ◌++◌, length, map, take, drop, nat_lt, replicate, refl, sym, ap, ap₂, ◌∙◌, subst, arith, append_assoc, append-nil, length-append}
 use Rattle.std.specs.List.{concat, flat_map}
-use Rattle.std.specs.Char.{IsScalar}
-use Rattle.std.specs.Prelude.{if◌then◌else◌, chars, encode_utf8, encode_utf8_all, IsUtf8}
-use Rattle.std.specs.Str.{all_scalars}
+use Rattle.std.specs.Prelude.{if◌then◌else◌, encode_utf8, encode_utf8_all, IsUtf8}
+use Rattle.std.specs.Str.{all_scalars, IsCharBoundary}
 use Rattle.std.proofs.Math.Utf8.{scalar as scalar_of}
 use Rattle.std.proofs.lemmas.Bool.{and_parts}
+use Rattle.std.proofs.lemmas.Bool.Decides.{nat_tests}
 use Rattle.std.proofs.lemmas.Grind.{flat_map-append}
-use Rattle.std.proofs.Math.Seq.{take-append-add, drop-append-add}
-use Rattle.std.proofs.lemmas.List.{append_cancel_left, length-take, take-append-drop, take_all}
-use Rattle.std.proofs.lemmas.Str.{chars-append}
-use Rattle.unicode_segmentation.proofs.TextLemmas.{encode_utf8_nonempty}
+use Rattle.std.proofs.Math.Seq.{take-append-add, take-append_seam, take-length, drop-append-add, drop-append_seam}
+use Rattle.std.proofs.lemmas.List.{length-take-le, take-append-le, take_all}
+use Rattle.std.proofs.lemmas.Str.{IsCharBoundary-from_take, IsUtf8-drop}
 use Rattle.comfy_parts.specs.Cursor.{CursorValue, StandsAt, at_byte, begins_with_sequence, behind_bytes, bytes_up_to, character_parts, open_at_end, opened, parts_behind, visible_part}
 use Rattle.comfy_parts.specs.Text.{Text, IsOnly, begins_with}
 use Rattle.comfy_parts.specs.VisibleText.{Part, parts, parts_before, parts_from, parts_up_to, sequence_len, visible_bytes, visible_text}
-use Rattle.comfy_parts.proofs.FrontLemmas.{parts-behind_sequence}
+use Rattle.comfy_parts.proofs.FrontLemmas.{parts-behind_sequence, visible-seen}
 use Rattle.comfy_parts.proofs.LineTextLemmas.{before_from, before_further}
 use Rattle.comfy_parts.proofs.OpenLemmas.{opened-append}
 use Rattle.comfy_parts.proofs.ScanLemmas.{AreScanned, bytes_of, scan}
@@ -141,10 +140,10 @@ seen-front (p ∷ ps) = by_test p.is_sequence refl (seen-front ps)
     by_test true is more = more ∙ ap (λ t. (if t then [] else p.bytes) ++ flat_map visible_bytes ps) (sym is)
     by_test false is more = refl
 
--- ---- a character is passed
+-- ---- visible bytes are passed
 
 -- fewer visible bytes are left to pass
-visible-behind : (n : ℕ) (ss : List Text) (bs : Text) (ps : List Part) → length bs ≤ n → behind_bytes n (at ss (map visible_part bs ++ ps)) ≡ behind_bytes (n - length bs) (at ss ps)
+pub visible-behind : (n : ℕ) (ss : List Text) (bs : Text) (ps : List Part) → length bs ≤ n → behind_bytes n (at ss (map visible_part bs ++ ps)) ≡ behind_bytes (n - length bs) (at ss ps)
 visible-behind n ss [] ps few =
     let same : n ≡ n - 0 = omega arith in
     ap (λ k. behind_bytes k (at ss ps)) same
@@ -152,9 +151,6 @@ visible-behind zero ss (b ∷ bs) ps few = absurd (omega (arith, few))
 visible-behind (suc n) ss (b ∷ bs) ps few =
     let same : n - length bs ≡ suc n - suc (length bs) = omega arith in
     visible-behind n ss bs ps (omega (arith, few)) ∙ ap (λ k. behind_bytes k (at ss ps)) same
-
-pub character-behind : (n : ℕ) (c : ℕ) (ss : List Text) (ps : List Part) → length (encode_utf8 c) ≤ n → behind_bytes n (at ss (character_parts c ++ ps)) ≡ behind_bytes (n - length (encode_utf8 c)) (at ss ps)
-character-behind n c ss ps few = visible-behind n ss (encode_utf8 c) ps few
 
 -- a cursor behind a character stands as many bytes on
 visible-stands : (ss : List Text) (bs : Text) (ps : List Part) → StandsAt (at ss ps) (length bs) (at ss (map visible_part bs ++ ps))
@@ -191,61 +187,43 @@ begins_visible d text (c ∷ cs, (scalars, is)) free otherwise =
 
 -- ---- whole characters
 
--- what is taken of a text that begins with a character has that character whole
-pub record TakesFirst (n c : ℕ) (rest : Text) : Type 0 where
-  pub fits : length (encode_utf8 c) ≤ n
-  pub whole : IsUtf8 (take (n - length (encode_utf8 c)) rest)
-
--- so it is of whole characters
-pub takes_first : (n c : ℕ) (rest : Text) → IsScalar c → IsUtf8 (take n (encode_utf8 c ++ rest)) → 0 < n → TakesFirst n c rest
-takes_first n c rest scalar ([], (scalars, is)) some =
-    let none : 0 ≡ length (take n (encode_utf8 c ++ rest)) = ap length is in
-    let taken = length-take n (encode_utf8 c ++ rest) in
-    let both = length-append (encode_utf8 c) rest in
-    let bytes = encode_utf8_nonempty c in
-    absurd (omega (arith, none, taken, both, bytes, some))
-takes_first n c rest scalar (c' ∷ cs, (scalars, is)) some =
-    record { fits = fits; whole = (cs, ((and_parts (scalar_of c') (all_scalars cs) scalars).1, append_cancel_left (encode_utf8 c) (encode_utf8_all cs) (take (n - length (encode_utf8 c)) rest) (first ∙ is ∙ cut))) }
+-- behind whole characters whole characters are left
+pub whole-behind : (n : ℕ) (run rest : Text) → IsUtf8 run → length run ≤ n → IsUtf8 (take n (run ++ rest)) → IsUtf8 (take (n - length run) rest)
+whole-behind n run rest whole few all =
+    subst IsUtf8 (ap (drop (length run)) cut ∙ drop-append_seam run (take (n - length run) rest)) (IsUtf8-drop (take n (run ++ rest)) (length run) all place)
   where
-    text : Text
-    text = encode_utf8 c ++ rest
-
-    one : IsUtf8 (encode_utf8 c') × (chars (encode_utf8 c') ≡ c' ∷ [])
-    one = one_character c' (and_parts (scalar_of c') (all_scalars cs) scalars).0
-
-    joined : encode_utf8 c' ++ (encode_utf8_all cs ++ drop n text) ≡ text
-    joined = sym (append_assoc (encode_utf8 c') (encode_utf8_all cs) (drop n text)) ∙ ap (λ (t : Text). t ++ drop n text) is ∙ take-append-drop n text
-
-    same : c ≡ c'
-    same =
-        cons-first (sym (characters c rest (one_character c scalar)) ∙ ap chars (sym joined) ∙ characters c' (encode_utf8_all cs ++ drop n text) one)
-      where
-        characters : (x : ℕ) (more : Text) → IsUtf8 (encode_utf8 x) × (chars (encode_utf8 x) ≡ x ∷ []) → chars (encode_utf8 x ++ more) ≡ x ∷ chars more
-        characters x more known = chars-append (encode_utf8 x) more known.0 ∙ ap (λ xs. xs ++ chars more) known.1
-
-        cons-first : {x y : ℕ} {xs ys : List ℕ} → x ∷ xs ≡ y ∷ ys → x ≡ y
-        cons-first e = cc e
-
-    first : encode_utf8 c ++ encode_utf8_all cs ≡ encode_utf8 c' ++ encode_utf8_all cs
-    first = ap (λ x. encode_utf8 x ++ encode_utf8_all cs) same
-
-    fits : length (encode_utf8 c) ≤ n
-    fits =
-        let bytes = length-append (encode_utf8 c) (encode_utf8_all cs) in
-        let long = ap length (first ∙ is) in
-        let taken = length-take n text in
-        omega (arith, bytes, long, taken)
-
-    cut : take n text ≡ encode_utf8 c ++ take (n - length (encode_utf8 c)) rest
+    cut : take n (run ++ rest) ≡ run ++ take (n - length run) rest
     cut =
-        let place : n ≡ length (encode_utf8 c) + (n - length (encode_utf8 c)) = omega (arith, fits) in
-        ap (λ k. take k text) place ∙ take-append-add (encode_utf8 c) rest (n - length (encode_utf8 c))
+        let same : n ≡ length run + (n - length run) = omega (arith, few) in
+        ap (λ k. take k (run ++ rest)) same ∙ take-append-add run rest (n - length run)
+
+    place : IsCharBoundary (take n (run ++ rest)) (length run)
+    place =
+        let long = ap length cut ∙ length-append run (take (n - length run) rest) in
+        IsCharBoundary-from_take (take n (run ++ rest)) (length run) all (omega (arith, long)) (subst IsUtf8 (sym (ap (take (length run)) cut ∙ take-append_seam run (take (n - length run) rest))) whole)
 
 -- what is left of it is the same
-pub drops_first : (n c : ℕ) (rest : Text) → length (encode_utf8 c) ≤ n → drop n (encode_utf8 c ++ rest) ≡ drop (n - length (encode_utf8 c)) rest
-drops_first n c rest fits =
-    let place : n ≡ length (encode_utf8 c) + (n - length (encode_utf8 c)) = omega (arith, fits) in
-    ap (λ k. drop k (encode_utf8 c ++ rest)) place ∙ drop-append-add (encode_utf8 c) rest (n - length (encode_utf8 c))
+pub drops-behind : (n : ℕ) (run rest : Text) → length run ≤ n → drop n (run ++ rest) ≡ drop (n - length run) rest
+drops-behind n run rest few =
+    let same : n ≡ length run + (n - length run) = omega (arith, few) in
+    ap (λ k. drop k (run ++ rest)) same ∙ drop-append-add run rest (n - length run)
+
+-- visible bytes at a text's front end where a character does
+pub run-place : (n most : ℕ) (text : Text) → IsUtf8 text → n ≤ most → n ≤ length text → (n < most → IsCharBoundary text n)
+    → parts text ≡ map visible_part (take n text) ++ parts (drop n text) → IsUtf8 (take most (visible_text text)) → IsCharBoundary text n
+run-place n most text utf8 within inside before divides whole = by_test (nat_lt n most) refl
+  where
+    front : take n (visible_text text) ≡ take n text
+    front =
+        let all = ap (flat_map visible_bytes) divides ∙ visible-seen (take n text) (parts (drop n text)) in
+        let long = length-take-le n text inside in
+        ap (take n) all ∙ take-append-le n (take n text) (visible_text (drop n text)) (omega (arith, long)) ∙ ap (λ k. take k (take n text)) (sym long) ∙ take-length (take n text)
+
+    by_test : (b : Bool) → nat_lt n most ≡ b → IsCharBoundary text n
+    by_test true less = before (grind (arith, nat_tests, less))
+    by_test false equal =
+        let same : most ≡ n = grind (arith, nat_tests, equal, within) in
+        IsCharBoundary-from_take text n utf8 inside (subst IsUtf8 (ap (λ k. take k (visible_text text)) same ∙ front) whole)
 
 -- ---- delimiters
 

@@ -1,4 +1,4 @@
--- The part at a text's front: a whole sequence, or the bytes of a visible character.
+-- The part at a text's front: a whole sequence, or visible bytes.
 use Rattle.std.proofs.Common.{◌≡◌, ◌<◌, ℕ, zero, suc, ◌+◌, ◌-◌, Bool, true, false, ◌==◌, ◌&&◌, List, [], ◌∷◌, ◌++◌, length, map, take, drop, nat_lt, refl, sym, ap, ◌∙◌, subst, arith, length-append, eqb-true}
 use Rattle.std.specs.List.{flat_map, list_any, slice_index}
 use Rattle.std.specs.Prelude.{if◌then◌else◌, encode_utf8}
@@ -69,7 +69,7 @@ character_parts-some c ps =
     omega (arith, some, each, both)
 
 -- what is visible of it
-visible-seen : (bs : Text) (ps : List Part) → flat_map visible_bytes (map visible_part bs ++ ps) ≡ bs ++ flat_map visible_bytes ps
+pub visible-seen : (bs : Text) (ps : List Part) → flat_map visible_bytes (map visible_part bs ++ ps) ≡ bs ++ flat_map visible_bytes ps
 visible-seen [] ps = refl
 visible-seen (b ∷ bs) ps = ap (λ (xs : Text). b ∷ xs) (visible-seen bs ps)
 

@@ -2,10 +2,10 @@
 use Rattle.std.proofs.Common.{◌≡◌, ◌≤◌, ℕ, zero, suc, ◌+◌, ◌-◌, Bool, true, false, cond, not, ◌&&◌, ◌==◌, List, [], ◌∷◌, ◌++◌, length, map, drop, subst, refl, sym, ap, ap₂, ◌∙◌, arith, append_assoc, append-nil, length-append}
 use Rattle.std.specs.List.{filter, prefix_len, suffix_len, after_last, AllByRecursion}
 use Rattle.std.specs.Cmp.{nat_eq_equiv}
-use Rattle.std.specs.Prelude.{if◌then◌else◌, bytes_eq, encode_utf8}
+use Rattle.std.specs.Prelude.{if◌then◌else◌, bytes_eq}
 use Rattle.std.proofs.lemmas.Bool.Decides.{nat_tests}
 use Rattle.std.proofs.lemmas.List.{reverse-append}
-use Rattle.comfy_parts.specs.Cursor.{character_parts, opened, opened_by, sequence_part, visible_part}
+use Rattle.comfy_parts.specs.Cursor.{opened, opened_by, sequence_part, visible_part}
 use Rattle.comfy_parts.specs.Text.{Text}
 use Rattle.comfy_parts.specs.VisibleText.{Part, open_after, reset, sequences_in}
 use Rattle.std.proofs.lemmas.List.Sums.{suffix_len-le-length}
@@ -145,12 +145,9 @@ opened-append ss [] qs = refl
 opened-append ss (p ∷ ps) qs = opened-append (opened_by ss p) ps qs
 
 -- visible bytes open nothing
-opened-visible : (ss : List Text) (bs : Text) (ps : List Part) → opened ss (map visible_part bs ++ ps) ≡ opened ss ps
+pub opened-visible : (ss : List Text) (bs : Text) (ps : List Part) → opened ss (map visible_part bs ++ ps) ≡ opened ss ps
 opened-visible ss [] ps = refl
 opened-visible ss (b ∷ bs) ps = opened-visible ss bs ps
-
-pub opened-character : (ss : List Text) (c : ℕ) (ps : List Part) → opened ss (character_parts c ++ ps) ≡ opened ss ps
-opened-character ss c ps = opened-visible ss (encode_utf8 c) ps
 
 -- a sequence leaves one open where it isn't the reset
 pub is_open-sequence : (ss : List Text) (s : Text) (b : Bool) → b ≡ not (bytes_eq s reset) → b ≡ not (length (opened_by ss (sequence_part s)) == 0)

@@ -1,14 +1,13 @@
 //! A cursor that passes the text lines of a cell once, and knows the SGR sequences that are open where it stands.
 
-ghost use Rattle.std.specs.Prelude.{◌≡◌, ◌++◌, [], true, false, take, drop, IfNone, IfOk, IfSome, IsUtf8, OnOk, string_bytes};
-ghost use Rattle.std.specs.Char.{IsScalar};
+ghost use Rattle.std.specs.Prelude.{◌≡◌, ◌<◌, ◌≤◌, ◌++◌, [], true, false, length, map, take, drop, IfOk, IsUtf8, OnOk, string_bytes};
 ghost use Rattle.std.specs.List.{concat};
-ghost use Rattle.comfy_parts.specs.Cursor.{IsBehindGap, StandsAt, at_byte, begins_with_sequence, behind_bytes, bytes_up_to, character_parts, open_at_end, past_sequence, seen_ahead};
+ghost use Rattle.comfy_parts.specs.Cursor.{IsBehindGap, StandsAt, at_byte, begins_with_sequence, behind_bytes, bytes_up_to, character_parts, open_at_end, past_sequence, seen_ahead, visible_part};
 ghost use Rattle.comfy_parts.specs.Text.{begins_with};
 ghost use Rattle.comfy_parts.specs.VisibleText.{parts};
 ghost use Rattle.comfy_parts.specs.Written.{written};
 
-use crate::content_split::sequences::{RESET, split_character, split_sequence};
+use crate::content_split::sequences::{RESET, split_sequence, visible_run};
 use crate::error::Result;
 use std::alloc::Global;
 use std::marker::Model;
@@ -120,10 +119,11 @@ impl<'a> Cursor<'a> {
             if self.pass_sequence()? {
                 continue;
             }
-            let Some(character) = self.pass_character() else {
+            let passed = self.pass_run(left);
+            if passed.is_empty() {
                 return Ok(());
-            };
-            left = left.saturating_sub(character.len_utf8());
+            }
+            left -= passed.len();
         }
         Ok(())
     }
@@ -153,17 +153,17 @@ impl<'a> Cursor<'a> {
         Ok(true)
     }
 
-    // Passes the character that comes next.
-    fn pass_character(&mut self) -> Option<char>
-        requires { begins_with_sequence self.old.ahead ≡ false }
-        ensures scalar { IfSome result IsScalar }
-        ensures some { IfSome result (λ c. self.old ≡ record self.new { ahead = character_parts c ++ self.new.ahead }) }
-        ensures none { IfNone result (self.old.ahead ≡ []) }
-        ensures stays { IfNone result (self.new ≡ self.old) }
+    // Passes the visible text up to the next ESC, at most so many bytes of it, and gives what it passed.
+    fn pass_run(&mut self, most: usize) -> &'a str
+        requires none { begins_with_sequence self.old.ahead ≡ false }
+        requires whole { IsUtf8 (take most (seen_ahead self.old)) }
+        ensures passed { self.old ≡ record self.new { ahead = map visible_part result.now ++ self.new.ahead } }
+        ensures within { length result.now ≤ most }
+        ensures some { 0 < most → result.now ≡ [] → self.old.ahead ≡ [] }
     {
-        let (character, behind) = split_character(self.rest)?;
+        let (passed, behind) = self.rest.split_at(visible_run(self.rest, most));
         self.rest = behind;
-        Some(character)
+        passed
     }
 
     // Passes the delimiter, where it comes next.

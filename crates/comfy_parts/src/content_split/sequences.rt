@@ -1,9 +1,8 @@
 //! SGR sequences in texts: ESC, `[`, digits, `;` and `:`, then `m`. They count nothing.
 
-ghost use Rattle.std.specs.Prelude.{◌≡◌, [], ◌∷◌, ◌++◌, ◌==◌, not, length, IfNone, IfOk, IfSome, IsUtf8, string_bytes};
-ghost use Rattle.std.specs.Char.{IsScalar};
+ghost use Rattle.std.specs.Prelude.{◌≡◌, ◌<◌, ◌≤◌, ◌∷◌, ◌++◌, ◌==◌, not, length, map, take, drop, IfNone, IfOk, IfSome, IsUtf8, string_bytes};
 ghost use Rattle.std.specs.Str.{IsCharBoundary};
-ghost use Rattle.comfy_parts.specs.Cursor.{character_parts, sequence_part};
+ghost use Rattle.comfy_parts.specs.Cursor.{sequence_part, visible_part};
 ghost use Rattle.comfy_parts.specs.VisibleText.{has_escape, is_parameter, open_after, parts, sequence_len, visible_text};
 
 use crate::error::Result;
@@ -29,13 +28,14 @@ pub(crate) fn has_escape(text: &str) -> bool
 pub fn visible_text(alloc: Global, text: &str) -> Result<String>
     ensures { IfOk result (λ seen. string_bytes seen ≡ visible_text text.now) }
 {
-    let mut seen = String::new(alloc);
+    let mut seen = String::with_capacity(alloc, text.len())?;
     let mut rest = text;
     'parts: while !rest.is_empty() {
         if let Some((_, behind)) = split_sequence(rest) {
             rest = behind;
-        } else if let Some((c, behind)) = split_character(rest) {
-            seen.push(c)?;
+        } else {
+            let (visible, behind) = split_visible(rest);
+            seen.push_str(visible)?;
             rest = behind;
         }
     }
@@ -52,7 +52,8 @@ pub fn leaves_sequence_open(text: &str) -> bool
         if let Some((sequence, behind)) = split_sequence(rest) {
             is_open = sequence != RESET;
             rest = behind;
-        } else if let Some((_, behind)) = split_character(rest) {
+        } else {
+            let (_, behind) = split_visible(rest);
             rest = behind;
         }
     }
@@ -72,17 +73,38 @@ pub(crate) fn split_sequence(text: &str) -> Option<(&str, &str)>
     Some(text.split_at(len))
 }
 
-/// The character at the front of a text that has no sequence there, and what is behind it.
-pub(crate) fn split_character(text: &str) -> Option<(char, &str)>
+/// The visible text up to the next ESC, of a text that has no sequence at its front, and what is behind it.
+pub(crate) fn split_visible(text: &str) -> (&str, &str)
     requires { sequence_len text.now ≡ 0 }
-    ensures scalar { IfSome result (λ halves. IsScalar halves.0) }
-    ensures some { IfSome result (λ halves. parts text.now ≡ character_parts halves.0 ++ parts halves.1.now) }
-    ensures whole { IfSome result (λ halves. IsUtf8 halves.1.now) }
-    ensures none { IfNone result (text.now ≡ []) }
+    ensures parts { parts text.now ≡ map visible_part result.0.now ++ parts result.1.now }
+    ensures joined { text.now ≡ result.0.now ++ result.1.now }
+    ensures whole { IsUtf8 result.0.now }
+    ensures whole_behind { IsUtf8 result.1.now }
+    ensures some { 0 < length text.now → 0 < length result.0.now }
 {
-    let mut chars = text.chars();
-    let first = chars.next()?;
-    Some((first, chars.as_str()))
+    text.split_at(visible_run(text, text.len()))
+}
+
+/// The visible bytes up to the next ESC, at most so many, of a text that has no sequence at its front.
+pub(crate) fn visible_run(text: &str, most: usize) -> usize
+    requires { sequence_len text.now ≡ 0 }
+    ensures parts { parts text.now ≡ map visible_part (take result text.now) ++ parts (drop result text.now) }
+    ensures within { result ≤ most }
+    ensures inside { result ≤ length text.now }
+    ensures boundary { result < most → IsCharBoundary text.now result }
+    ensures some { 0 < most → 0 < length text.now → 0 < result }
+{
+    let bytes = text.as_bytes();
+    let end = bytes.len().min(most);
+    if end == 0 {
+        return 0;
+    }
+    // An ESC that begins no sequence is visible.
+    let mut run = 1;
+    'run: while run < end && bytes[run] != 0x1b {
+        run += 1;
+    }
+    run
 }
 
 // The bytes of the sequence at a text's front, 0 where there is none.

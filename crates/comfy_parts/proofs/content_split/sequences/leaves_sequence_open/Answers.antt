@@ -1,8 +1,7 @@
 use Rattle.std.proofs.Common.{[], refl, length, ap, ◌∙◌, arith}
 use Rattle.comfy_parts.specs.VisibleText.{parts}
 use Rattle.comfy_parts.specs.Cursor.{opened, opened_by, sequence_part}
-use Rattle.comfy_parts.proofs.FrontLemmas.{character_parts-some}
-use Rattle.comfy_parts.proofs.OpenLemmas.{is_open-sequence, open_after-opened, opened-character}
+use Rattle.comfy_parts.proofs.OpenLemmas.{is_open-sequence, open_after-opened, opened-visible}
 use Rattle.comfy_parts.proofs.content_split.sequences.leaves_sequence_open.Goals as goal
 
 pub parts-smaller-in-Some : goal.parts-smaller-in-Some
@@ -20,20 +19,16 @@ parts-preserved-in-Some c =
       );
     }
 
-pub parts-smaller-in-Some-split_character : goal.parts-smaller-in-Some-split_character
-parts-smaller-in-Some-split_character c =
-    let len = ap length c.in-Some-split_character.ensures.some in
-    let some = character_parts-some c.in-Some-split_character.field-0-0 (parts c.in-Some-split_character.behind.now) in
-    omega (arith, len, some)
-
-pub parts-preserved-in-Some-split_character : goal.parts-preserved-in-Some-split_character
-parts-preserved-in-Some-split_character c =
+pub parts-preserved : goal.parts-preserved
+parts-preserved c =
     let left = c.parts.invariant.left in
+    let visible = c.split_visible.result.0.now in
+    let behind = c.split_visible.result.1.now in
     record {
-      utf8 = c.in-Some-split_character.ensures.whole;
+      utf8 = c.split_visible.ensures.whole_behind;
       left = (
         left.0,
-        left.1 ∙ ap (opened left.0) c.in-Some-split_character.ensures.some ∙ opened-character left.0 c.in-Some-split_character.field-0-0 (parts c.in-Some-split_character.behind.now),
+        left.1 ∙ ap (opened left.0) c.split_visible.ensures.parts ∙ opened-visible left.0 visible (parts behind),
         left.2,
       );
     }
