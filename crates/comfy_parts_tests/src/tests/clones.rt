@@ -1,16 +1,13 @@
 //! Copies: they are equal, and stay as they are when what they were made of is changed.
 
-use super::support::assert_drawn;
-use comfy_table::{Attribute, Cell, Color, IntoRow, Result, Row, Table};
+use comfy_parts::style::{Attribute, Color};
+use comfy_parts::{Cell, IntoRow, Row};
 use std::alloc::{Alloc, Global};
 use std::process::Abort;
 use std::test::Fail;
 
 // A copy of a bold cell of this text equals it, and still has its text and its attribute when the cell was changed.
-fn assert_cell_copied(
-    rt: &(impl Abort + Alloc<A = Global>),
-    text: &str,
-) -> std::result::Result<(), Fail> {
+fn assert_cell_copied(rt: &(impl Abort + Alloc<A = Global>), text: &str) -> Result<(), Fail> {
     let cell = Cell::new(rt.alloc(), text)?.add_attribute(Attribute::Bold)?;
     let copy = cell.clone()?;
     assert!(rt; copy == cell);
@@ -22,12 +19,12 @@ fn assert_cell_copied(
 }
 
 #[test]
-fn a_cell_of_one_text_line_is_copied(rt: HostRuntime) -> std::result::Result<(), Fail> {
+fn a_cell_of_one_text_line_is_copied(rt: HostRuntime) -> Result<(), Fail> {
     assert_cell_copied(&rt, "dock 3")
 }
 
 #[test]
-fn a_cell_of_several_text_lines_is_copied(rt: HostRuntime) -> std::result::Result<(), Fail> {
+fn a_cell_of_several_text_lines_is_copied(rt: HostRuntime) -> Result<(), Fail> {
     assert_cell_copied(&rt, "Now\nadd some\nmulti line stuff")
 }
 
@@ -38,7 +35,7 @@ fn are_equal(first: &Row, second: &Row) -> bool {
 }
 
 #[test]
-fn a_row_is_copied(rt: HostRuntime) -> std::result::Result<(), Fail> {
+fn a_row_is_copied(rt: HostRuntime) -> Result<(), Fail> {
     let mut row = ["17", "dock 3"].into_row(rt.alloc())?;
     row.max_height(2);
     let copy = row.clone()?;
@@ -46,39 +43,5 @@ fn a_row_is_copied(rt: HostRuntime) -> std::result::Result<(), Fail> {
     row.add_cell(Cell::new(rt.alloc(), true)?)?.max_height(5);
     assert!(rt; !are_equal(&copy, &row));
     assert_eq!(rt; (copy.cell_count(), copy.height_limit()), (2, Some(2)));
-    Ok(())
-}
-
-const DRAWN: [&str; 5] = [
-    "+----+--------+",
-    "| id | where  |",
-    "+=============+",
-    "| 17 | dock 3 |",
-    "+----+--------+",
-];
-
-fn bikes(alloc: Global) -> Result<Table> {
-    let mut table = Table::new(alloc);
-    table
-        .set_header(["id", "where"])?
-        .add_row(["17", "dock 3"])?;
-    Ok(table)
-}
-
-fn change(table: &mut Table) -> Result<()> {
-    table
-        .set_header(["bike"])?
-        .add_row(["18", "dock 4"])?
-        .set_truncation_indicator("~")?;
-    Ok(())
-}
-
-#[test]
-fn a_table_is_copied(rt: HostRuntime) -> std::result::Result<(), Fail> {
-    let mut table = bikes(rt.alloc())?;
-    let copy = table.clone()?;
-    assert_drawn(&rt, &copy, &DRAWN)?;
-    change(&mut table)?;
-    assert_drawn(&rt, &copy, &DRAWN)?;
     Ok(())
 }

@@ -1,18 +1,7 @@
 //! What the tests share.
 
 use comfy_table::{Cell, Table};
-use std::alloc::{AllocError, Global};
 use std::process::Abort;
-
-/// The lines as one text, each followed by a line feed.
-pub fn joined(alloc: Global, lines: &[&str]) -> std::result::Result<String, AllocError> {
-    let mut text = String::new(alloc);
-    for line in lines {
-        text.push_str(line)?;
-        text.push('\n')?;
-    }
-    Ok(text)
-}
 
 /// Compares texts one by one.
 pub fn assert_texts(rt: &impl Abort, texts: &[String], expected: &[&str], case: &str) {

@@ -1,7 +1,7 @@
 //! That each conversion succeeds, and gives the texts that the original's would.
 
 use super::support::assert_texts;
-use comfy_table::{Cell, Cells, IntoCell, IntoCells, IntoRow, Result, Table};
+use comfy_parts::{Cell, Cells, IntoCell, IntoCells, IntoRow, Result};
 use std::alloc::Global;
 use std::fmt::{self, Display, Formatter, Write};
 use std::process::Abort;
@@ -105,19 +105,6 @@ fn lists_are_rows_in_order(rt: HostRuntime) -> Result<()> {
         "cells",
     )?;
     assert_row(&rt, ["a", "b"].into_row(rt.alloc())?, &["a", "b"], "row")
-}
-
-#[test]
-fn a_table_is_built_from_arrays(rt: HostRuntime) -> Result<()> {
-    let mut table = Table::new(rt.alloc());
-    table.add_row(["17", "dock 3"])?;
-    let mut lines = Vec::new(rt.alloc());
-    for line in table.lines()? {
-        lines.push(line)?;
-    }
-    let drawn = ["+----+--------+", "| 17 | dock 3 |", "+----+--------+"];
-    assert_texts(&rt, lines.as_slice(), &drawn, "table");
-    Ok(())
 }
 
 // A value that refuses to be printed.

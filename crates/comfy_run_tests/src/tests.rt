@@ -1,14 +1,7 @@
 //! What no clause says: that calls succeed where there is memory, and that the clauses mean what is wanted. Expected values come from outside.
 
-mod cells;
-mod clones;
-mod conversions;
 mod counted;
 mod devices;
-mod extremes;
 mod program;
 mod sequences;
 mod support;
-mod surface;
-mod tables;
-mod wrapping;

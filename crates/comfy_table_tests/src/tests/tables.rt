@@ -12,8 +12,8 @@ use std::alloc::{AllocError, Global};
 use std::process::Abort;
 use std::test::Fail;
 
-/// The drawing of the README's table.
-pub const README: [&str; 9] = [
+// The drawing of the README's table.
+const README: [&str; 9] = [
     "+----------------------+----------------------+------------------------+",
     "| Header1              | Header2              | Header3                |",
     "+======================================================================+",

@@ -1,0 +1,8 @@
+//! What no clause says: that calls succeed where there is memory, and that the clauses mean what is wanted. Expected values come from outside.
+
+mod cells;
+mod clones;
+mod conversions;
+mod sequences;
+mod support;
+mod wrapping;
