@@ -5,10 +5,14 @@ use Rattle.std.proofs.lemmas.List.Elements.{All-cons, All-nil, All-head, All-tai
 use Rattle.std.specs.List.{All, list_any, onto_first, range_with_len, slice_split}
 use Rattle.std.proofs.lemmas.List.FromFn.{length-range_with_len}
 use Rattle.std.proofs.lemmas.List.Splits.{join_with_byte-slice_split, length-slice_split, slice_split-cons_no, slice_split-cons_yes}
-use Rattle.comfy_parts.specs.CellValue.{ColumnValue, ContentIsTheText, HasTextLines, NoFewerColumns, new_column}
+use Rattle.comfy_parts.specs.CellValue.{ColumnValue, HasTextLines, NoFewerColumns, new_column, content_of, plain_cell}
 use Rattle.std.proofs.lemmas.Str.{IsUtf8-string_bytes}
 use Rattle.std.specs.Str.{IsUtf8}
 use Rattle.comfy_parts.specs.Text.{Text}
+
+-- the content of a cell that was made of a text is that text
+abbrev pub ContentIsTheText : Text → Type 0
+ContentIsTheText text = content_of (plain_cell text) ≡ text
 
 -- the content of a cell that was made of a text is that text
 pub content_is_the_text : (text : Text) → ContentIsTheText text

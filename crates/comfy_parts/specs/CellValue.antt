@@ -89,10 +89,6 @@ char_cell c = plain_cell (encode_utf8 c)
 abbrev pub content_of : CellValue → Text
 content_of cell = join_with_byte 0x0A cell.text_lines
 
--- the content of a cell that was made of a text is that text
-abbrev pub ContentIsTheText : Text → Type 0
-ContentIsTheText text = content_of (plain_cell text) ≡ text
-
 -- a row of these cells, without a greatest height
 abbrev pub plain_row : List CellValue → RowValue
 plain_row cells = record { cells = cells; max_height = None }
@@ -139,7 +135,7 @@ info_of column width =
 abbrev pub info_width : ColumnInfo → ℕ
 info_width info = info.padding.0 + info.content_width + info.padding.1
 
--- the paddings of a column, left and right
+-- both paddings of a column together
 abbrev pub column_padding : ColumnValue → ℕ
 column_padding column = column.padding.0 + column.padding.1
 

@@ -9,11 +9,11 @@ pub mod ItemsGiven
 pub mod Laws
 pub mod Presets
 pub mod RowLoans
+pub mod RowReference
 pub mod StyleModifiers
 pub mod Text
 pub mod TextLines
 pub mod VisibleLines
 pub mod VisibleText
-pub mod WrappedRow
 pub mod Wrapping
 pub mod Written

@@ -6,7 +6,7 @@ ghost use Rattle.std.specs.List.{All};
 ghost use Rattle.std.specs.Iterator.Adapters.{IterYieldsInOrder};
 ghost use Rattle.std.specs.Slice.Iter.{iter_rest};
 ghost use Rattle.comfy_parts.specs.CellValue.{CellValue, IsCell, IsRow, plain_row, with_cell, with_max_height};
-ghost use Rattle.comfy_parts.specs.WrappedRow.{reference_of};
+ghost use Rattle.comfy_parts.specs.RowReference.{reference_of};
 ghost use Rattle.comfy_parts.specs.RowLoans.{RowStaysIfErr};
 
 use crate::cell::Cell;
@@ -67,17 +67,17 @@ impl Row {
         ensures same_reference { IfOk result (λ row. row.ghost_name ≡ self.entry.ghost_name) }
         ensures added { IfOk result (λ row. row.now ≡ with_cell cell self.old) }
     {
-        into_reference(self.add_cell_wrapped(cell))
+        into_reference(self.with_cell_added(cell))
     }
 
-    // `add_cell`, with the reference wrapped in a struct: in this form the clause `err` can be proved.
-    fn add_cell_wrapped(&mut self, cell: Cell) -> Result<WrappedRow<'_>>
+    // `add_cell`, with the reference in a struct: so its clause on `OutOfMemory` can be proved.
+    fn with_cell_added(&mut self, cell: Cell) -> Result<RowReference<'_>>
         ensures* err { sem 𝓛 (RowStaysIfErr self.entry (reference_of result)) }
         ensures same_reference { IfOk (reference_of result) (λ row. row.ghost_name ≡ self.entry.ghost_name) }
         ensures added { IfOk (reference_of result) (λ row. row.now ≡ with_cell cell self.old) }
     {
         self.try_add_cell(cell)?;
-        Ok(WrappedRow { row: self })
+        Ok(RowReference { row: self })
     }
 
     /// Appends a cell, for callers that go on with the row after `OutOfMemory`: then it is unchanged and the cell is
@@ -86,14 +86,14 @@ impl Row {
         ensures ok { OnOk result (self.new ≡ with_cell cell self.old) }
         ensures err { OnErr result (self.new ≡ self.old) }
     {
-        // what every cell keeps
+        // Read for the clause `is_cell` alone: a cell that was looked at is known to keep what every cell keeps.
         let _ = cell.text_lines();
         self.cells.push(cell)?;
         Ok(())
     }
 
     /// Sets how many lines of each cell are drawn at the most; 0 counts as 1. Of a cell with more lines the first ones are
-    /// drawn, and the last of these ends with the table's truncation indicator.
+    /// drawn, and the last of these ends with the table's truncation indicator, unless that is wider than the column.
     pub fn max_height(&mut self, lines: usize) -> &mut Self
         ensures same_reference { result.ghost_name ≡ self.entry.ghost_name }
         ensures value { result.now ≡ with_max_height lines self.old }
@@ -149,17 +149,17 @@ fn look_at(cells: &[Cell])
 }
 
 // A reference to a row.
-struct WrappedRow<'a> {
+struct RowReference<'a> {
     row: &'a mut Row,
 }
 
 // The reference, taken out of its struct.
-fn into_reference<'a>(wrapped: Result<WrappedRow<'a>>) -> Result<&'a mut Row>
-    ensures { result ≡ reference_of wrapped.entry }
+fn into_reference<'a>(reference: Result<RowReference<'a>>) -> Result<&'a mut Row>
+    ensures { result ≡ reference_of reference.entry }
 {
-    match wrapped {
-        Ok(wrapped) => {
-            let WrappedRow { row } = wrapped;
+    match reference {
+        Ok(reference) => {
+            let RowReference { row } = reference;
             Ok(row)
         }
         Err(error) => Err(error),

@@ -1,5 +1,5 @@
 -- The table that an input text stands for: a line for the header, a line for each row, and a TAB between cells.
-use Rattle.std.specs.Prelude.{◌≡◌, ℕ, ◌==◌, List, [], ◌∷◌, ◌++◌, Option, map, fold, flat_map, if◌then◌else◌}
+use Rattle.std.specs.Prelude.{ℕ, ◌==◌, List, [], ◌∷◌, Option, map, fold, if◌then◌else◌}
 use Rattle.std.specs.List.{slice_split}
 use Rattle.std.specs.Str.Lines.{lines}
 use Rattle.comfy_parts.specs.CellValue.{CellValue, RowValue, plain_row}
@@ -7,7 +7,7 @@ use Rattle.comfy_parts.specs.Text.{Text}
 use Rattle.comfy_parts.specs.declared.style.table.ContentArrangement.{ContentArrangement}
 use Rattle.comfy_parts.specs.declared.style.table_style.TableStyle.{TableStyle}
 use Rattle.comfy_parts.specs.CellValue.{plain_cell}
-use Rattle.comfy_table.specs.Headline.{IsTableDrawing}
+use Rattle.comfy_table.specs.Headline.{IsTerminatedTextOf}
 use Rattle.comfy_table.specs.TableValue.{TableValue, new_table, with_header, with_row}
 
 -- inside a cell U+000B stands for a line feed
@@ -33,11 +33,6 @@ abbrev pub input_table : Option ℕ → ContentArrangement → TableStyle → Te
 input_table width arrangement style text =
     table_of_lines (record (new_table style) { set_width = width; arrangement = arrangement }) (lines text)
 
--- each line followed by a line feed
-abbrev pub written_lines : List Text → Text
-written_lines drawn = flat_map (λ (line : Text). line ++ 0x0A ∷ []) drawn
-
--- the bytes written for an input: a drawing of its table, with all that a drawing promises
+-- the bytes written for an input: a drawing of its table, with all that a drawing promises, each line followed by a line feed
 abbrev pub IsOutputFor : Option ℕ → ContentArrangement → TableStyle → Text → Text → Type 0
-IsOutputFor width arrangement style text output =
-    (drawn : List Text) × IsTableDrawing (input_table width arrangement style text) drawn × (output ≡ written_lines drawn)
+IsOutputFor width arrangement style text output = IsTerminatedTextOf (input_table width arrangement style text) output

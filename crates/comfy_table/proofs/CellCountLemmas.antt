@@ -49,7 +49,7 @@ fitting_indicator-utf8 w indicator utf8 = by_test (nat_lt w (measure indicator))
     by_test true = IsUtf8-nil
     by_test false = utf8
 
--- an even indicator that is written measures at most w
+-- an indicator that is written, and adds one column for each character, measures at most w
 fitting_indicator-le : (w : ℕ) (indicator : Text) → AddsOneColumnEach (fitting_indicator w indicator) → measure (fitting_indicator w indicator) ≤ w
 fitting_indicator-le w indicator = by_test (nat_lt w (measure indicator)) refl
   where
@@ -103,7 +103,7 @@ cut_to_height-counted h w indicator lines utf8 even plain = by_test (nat_le (len
         All-append (IsCountedLine w) (take (h - 1) lines) (cut_line w indicator (slice_index_or lines (h - 1) []) ∷ []) (All-take (IsCountedLine w) (h - 1) lines counted)
         (All-cons (IsCountedLine w) (cut_line w indicator (slice_index_or lines (h - 1) [])) [] (cut_line-counted w indicator _ utf8 (even below) last.printable) (All-nil (IsCountedLine w)))
 
--- the lines of a plain cell in a row are counted, where the indicator is even if a line is cut
+-- the lines of a plain cell in a row are counted, where the indicator adds one column for each character if a line is cut
 pub row_cell_lines-counted : (table : TableValue) (row : RowValue) (info : ColumnInfo) (cell : CellValue) → 1 ≤ info.content_width → IsUtf8 table.indicator
     → IsPlainCell table info.delimiter (seen_cell table cell)
     → ((h : ℕ) → row.max_height ≡ Some h → h < length (cell_lines info.content_width (cell_delimiter table info.delimiter cell) (seen_cell table cell)) → AddsOneColumnEach (fitting_indicator info.content_width table.indicator))

@@ -18,7 +18,6 @@ use Rattle.comfy_parts.specs.declared.style.table_style.LineStyle.{LineStyle}
 use Rattle.comfy_parts.specs.declared.style.table_style.TableStyle.{TableStyle}
 use Rattle.comfy_table.specs.Drawing.{visible_widths}
 use Rattle.comfy_table.specs.Frame.{border_count, character, between_borders, frame_line, draws_left_border, draws_right_border, draws_vertical_lines}
-use Rattle.comfy_table.specs.TableLaws.{FrameLinesCount}
 use Rattle.comfy_table.specs.Laws.{count}
 use Rattle.comfy_table.specs.Pieces.{visible_infos}
 
@@ -171,6 +170,11 @@ fills fill (w ∷ widths) = (HasCount-repeat w (character fill) (HasCount-encode
 pub HasCount-frame_line : (style : TableStyle) (line : LineStyle) (widths : List ℕ) → HasCount (border_count style (length widths) + sum widths) (frame_line style line widths)
 HasCount-frame_line style line widths =
     HasCount-joined style line.left line.junction line.right widths (map (λ (width : ℕ). repeat width (character line.fill)) widths) (fills line.fill widths)
+
+-- whatever the style, a frame line has the border characters and the whole widths of the visible columns
+abbrev pub FrameLinesCount : TableStyle → LineStyle → List ColumnInfo → Type 0
+FrameLinesCount style line infos =
+    count (frame_line style line (visible_widths infos)) ≡ border_count style (length (visible_infos infos)) + sum (visible_widths infos)
 
 -- a frame line has the border characters and the whole widths
 pub frame_lines_count : (style : TableStyle) (line : LineStyle) (infos : List ColumnInfo) → FrameLinesCount style line infos

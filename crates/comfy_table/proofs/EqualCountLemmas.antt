@@ -14,11 +14,12 @@ use Rattle.comfy_table.proofs.CountLemmas.{HasCount, HasCount-spaces, HasCount-j
 use Rattle.comfy_table.proofs.ListLemmas.{All-every, At-or, All-join_by, All-given, AllZip-map}
 use Rattle.comfy_table.specs.Drawing.{infos_of, visible_widths, drawn_row, drawn_header, drawn_rows, drawing_of_infos, drawing}
 use Rattle.comfy_table.specs.Frame.{border_count, content_line, frame_line, is_drawn, optional_frame_line}
-use Rattle.comfy_table.specs.Laws.{count, unstyled, line_total, IsPlainCell, AddsOneColumnEachWhereWritten, EqualCounts}
+use Rattle.comfy_table.specs.Laws.{count, unstyled, line_total, IsPlainCell, AddsOneColumnEachWhereWritten, IsPlainTable}
 use Rattle.comfy_table.specs.Lines.{cell_lines, cell_delimiter, fitting_indicator}
 use Rattle.comfy_table.specs.Pieces.{blank_piece, pieces_of_optional, pieces_at, piece, row_cell_lines, row_line, row_lines, row_height, visible_infos}
 use Rattle.comfy_table.specs.TableValue.{TableValue, column_cells, seen_table, seen_rows}
 use Rattle.comfy_table.specs.Widths.{visible_count}
+use Rattle.comfy_table.specs.Arrangement.{IsArranged}
 
 -- ---- columns
 
@@ -146,6 +147,11 @@ module _ (table : TableValue) (infos : List ColumnInfo) where
               (frame_counted table.style.row_separator)
               (All-weaker (λ row. All (ArePiecesCounted table row) (visible_infos infos)) (λ row. All (HasCount total_of) (drawn_row (unstyled table) infos table.style.content_lines row))
               (row_counted table.style.content_lines) (seen_table table).rows each)
+
+-- all lines, frame lines too, have the same count, whatever the arrangement and the constraints; an indicator that ends inside a character would swallow what follows it
+abbrev pub EqualCounts : TableValue → List ℕ → Type 0
+EqualCounts table widths =
+    IsUtf8 table.indicator → IsPlainTable table widths → IsArranged table widths → All (λ line. count line ≡ line_total table widths) (drawing (unstyled table) widths)
 
 -- all lines of a plain table have the same count
 pub equal_counts : (table : TableValue) (widths : List ℕ) → EqualCounts table widths

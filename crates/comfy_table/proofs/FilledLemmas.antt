@@ -3,9 +3,9 @@ use Rattle.std.proofs.Common.{◌≡◌, ◌<◌, ℕ, zero, suc, ◌+◌, List,
 use Rattle.std.specs.List.{All}
 use Rattle.std.proofs.lemmas.List.{append_assoc, drop_more}
 use Rattle.std.proofs.lemmas.List.FromFn.{get_or-map-range_with_len}
-use Rattle.comfy_table.specs.Deciding.{decided, filled, part_of, undecided_count}
+use Rattle.comfy_table.specs.Deciding.{decided, filled, undecided_count}
 use Rattle.comfy_table.specs.Dynamic.{added}
-use Rattle.comfy_table.specs.Widths.{even_spread}
+use Rattle.comfy_table.specs.Widths.{even_spread, part_of}
 use Rattle.comfy_table.proofs.ListLemmas.{All-at}
 use Rattle.comfy_table.proofs.SpreadLemmas.{length-even_spread}
 

@@ -19,11 +19,11 @@ use Rattle.comfy_table.proofs.StyledLemmas.{Shows-spaces, Shows-written_piece}
 use Rattle.comfy_table.proofs.WrittenLemmas.{texts_seen, texts_show}
 use Rattle.comfy_table.specs.Drawing.{infos_of, visible_widths, drawn_row, drawn_header, drawn_rows, drawing_of_infos, drawing}
 use Rattle.comfy_table.specs.Frame.{character, between_borders, content_line, frame_line, is_drawn, optional_frame_line, draws_left_border, draws_right_border, draws_vertical_lines, left_characters, right_characters, junction_characters}
-use Rattle.comfy_table.specs.Laws.{unstyled, HasNoEscape, IsFreeOfEscapes, StylingTakenOut}
+use Rattle.comfy_table.specs.Laws.{unstyled, HasNoEscape, IsFreeOfEscapes}
 use Rattle.comfy_table.specs.Lines.{cell_delimiter, cell_lines, cut_to_limit}
 use Rattle.comfy_parts.specs.VisibleLines.{CellLine}
 use Rattle.comfy_table.specs.Pieces.{cell_pieces, plain_piece, row_cell_texts, written_piece, blank_piece, pieces_of_optional, pieces_at, piece, row_cell_lines, row_line, row_height, visible_infos}
-use Rattle.comfy_table.specs.TableValue.{TableValue, header_and_rows, seen_cell, seen_rows, visible_row}
+use Rattle.comfy_table.specs.TableValue.{TableValue, header_and_rows, seen_cell, seen_rows, visible_row, HasWholeTexts}
 
 -- ---- framed lines
 
@@ -270,6 +270,11 @@ rows_clear table each = by_setting table.custom_styling each
     by_setting custom each =
         with_header custom table.header (subst (λ (header : Option RowValue). All IsClearRow (option_to_list header ++ map (row_seen custom) table.rows)) (header_seen custom table.header)
         (subst (λ (rows : List RowValue). All IsClearRow (option_to_list (if custom then option_map visible_row table.header else table.header) ++ rows)) (rows_seen custom table.rows) each))
+
+-- the sequences taken out of the styled lines, the unstyled lines are left; bytes that are no UTF-8 could be cut so that an ESC arises
+abbrev pub StylingTakenOut : TableValue → List ℕ → Type 0
+StylingTakenOut table widths =
+    HasWholeTexts table → IsFreeOfEscapes table → map visible_text (drawing table widths) ≡ drawing (unstyled table) widths
 
 -- the sequences taken out of the drawn lines, the unstyled lines are left
 pub styling_taken_out : (table : TableValue) (widths : List ℕ) → StylingTakenOut table widths

@@ -19,7 +19,7 @@ use Rattle.std.proofs.lemmas.List.{length-map}
 use Rattle.comfy_table.specs.Arrangement.{IsArranged, room_beside_borders}
 use Rattle.comfy_table.specs.Dynamic.{Placed, Share, Steps, IsArrangedBy, IsTakenAfter, lower_of_boundary, shrunk_at, settled_at, fit_at, upper_at, settled_shares, fixed_shares, places_of, without_shares, share_at, added, undecided, others, unsettled, even_columns, even_shares, all_shares, contents_after, room_left, content_room, room_of_unsettled, average}
 use Rattle.comfy_table.specs.Frame.{border_count}
-use Rattle.comfy_table.specs.Laws.{KeepsToWiderBoundInFull, line_total, least_with_steps}
+use Rattle.comfy_table.specs.Laws.{line_total, least_with_steps}
 use Rattle.comfy_table.specs.TableLaws.{KeepsToWiderTotal, KeepsToWiderTotalInFull, FillsWiderTotal, visible_contents}
 use Rattle.comfy_table.specs.TableValue.{TableValue, visible_columns, column_content_width}
 use Rattle.comfy_table.specs.Widths.{ColumnNeeds, needs_of, visible_needs, visible_count, without_padding, even_spread, fixed_by_boundary, fixed_by_constraint, resolved_width}
@@ -165,6 +165,12 @@ module _ (room : ℕ) (columns : List ColumnNeeds) (fair : AllByRecursion HasEar
       by_test false = every_content
 
 -- ---- the wider bound
+
+-- with full width they keep to it too, also where no column is visible
+abbrev pub KeepsToWiderBoundInFull : ℕ → List ColumnNeeds → Steps → List ℕ → Type 0
+KeepsToWiderBoundInFull room columns steps widths =
+    IsArrangedBy room columns true steps widths
+    → sum_by (λ (column : ColumnNeeds). column.padding) columns + sum widths ≤ max room (least_with_steps columns steps)
 
 -- with full width the widths keep to it too
 pub keeps_to_wider_bound_in_full : (room : ℕ) (columns : List ColumnNeeds) (steps : Steps) (widths : List ℕ) → KeepsToWiderBoundInFull room columns steps widths

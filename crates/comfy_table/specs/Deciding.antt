@@ -1,5 +1,5 @@
 -- The dynamic widths while they are decided, one column after another.
-use Rattle.std.specs.Prelude.{◌≡◌, ℕ, ◌+◌, ◌-◌, ◌/◌, ◌%◌, ◌<◌, ◌≤◌, ◌==◌, ◌&&◌, All, Bool, List, [], ◌∷◌, Option, Some, None, drop, fold, filter, is_none, length, map, max, nat_lt, option_and_then, slice_get, slice_index_or, slice_set, unwrap_or, if◌then◌else◌}
+use Rattle.std.specs.Prelude.{◌≡◌, ℕ, ◌+◌, ◌-◌, ◌/◌, ◌<◌, ◌≤◌, ◌==◌, ◌&&◌, All, Bool, List, [], ◌∷◌, Option, Some, None, drop, fold, filter, is_none, length, map, max, nat_lt, option_and_then, slice_get, slice_index_or, slice_set, unwrap_or, if◌then◌else◌}
 use Rattle.comfy_parts.specs.CellValue.{column_padding}
 use Rattle.comfy_table.specs.Dynamic.{IsLevel, IsTakenInOrder, Placed, Share, added, lower_of_boundary, places_of, settled_shares, shrunk_at, total, without_shares}
 use Rattle.comfy_table.specs.Lines.{longest_line}
@@ -74,7 +74,7 @@ HasSettled needs old new =
     (level : Option ℕ) × IsLevel old.room (undecided_among needs old.widths.items) level
     × HasTaken (settled_shares level (undecided_among needs old.widths.items)) old new
 
--- the widths that are decided
+-- the decided widths, 0 for an undecided column
 abbrev pub decided : List (Option ℕ) → List ℕ
 decided widths = map (λ (w : Option ℕ). unwrap_or w 0) widths
 
@@ -92,10 +92,6 @@ shared_evenly budget =
 -- all widths, with the room spread over them
 abbrev pub widened : Budget → List ℕ
 widened budget = added (decided budget.widths.items) (even_spread budget.room (length budget.widths.items))
-
--- the part at an index of an even spread
-abbrev pub part_of : ℕ → ℕ → ℕ → ℕ
-part_of x k j = x / k + (if nat_lt j (x % k) then 1 else 0)
 
 -- the content widths at the end: the undecided columns share the room; with full width and no such column all do
 abbrev pub final_widths : Bool → Budget → List ℕ

@@ -1,21 +1,20 @@
 -- What drawings and widths promise beyond their definitions. Each is a statement at given values.
-use Rattle.std.specs.Prelude.{◌≡◌, ℕ, ◌+◌, ◌-◌, ◌<◌, ◌≤◌, Bool, true, false, List, [], ◌∷◌, ◌++◌, Option, Some, None, map, take, drop, length, max, min, sum, sum_by, All, IsUtf8, chars, slice_get, unwrap_or, ◌==◌, nat_lt}
+use Rattle.std.specs.Prelude.{◌≡◌, ℕ, ◌+◌, ◌-◌, ◌<◌, ◌≤◌, Bool, true, false, List, [], ◌∷◌, ◌++◌, Option, Some, None, take, drop, length, max, sum, sum_by, All, chars, slice_get, unwrap_or, ◌==◌}
 use Rattle.std.specs.Int.{is_in_range}
-use Rattle.std.specs.List.{AllByRecursion, AllZip, list_any}
+use Rattle.std.specs.List.{AllByRecursion, list_any}
 use Rattle.comfy_parts.specs.CellValue.{CellValue, RowValue, ColumnValue, ColumnInfo, column_padding}
 use Rattle.comfy_parts.specs.Text.{Text, is_printable_ascii, AddsOneColumnEach}
 use Rattle.comfy_parts.specs.Laws.{IsResumedLine}
 use Rattle.comfy_parts.specs.VisibleLines.{CellLine, line_texts}
-use Rattle.comfy_parts.specs.VisibleText.{closed, parts, open_after, visible_text}
+use Rattle.comfy_parts.specs.VisibleText.{closed, parts, open_after}
 use Rattle.comfy_parts.specs.declared.style.table.ContentArrangement.TheVariants.{Dynamic, DynamicFullWidth}
 use Rattle.comfy_table.specs.Arrangement.{IsArranged}
-use Rattle.comfy_table.specs.Drawing.{drawing, infos_of, visible_widths}
-use Rattle.comfy_table.specs.Dynamic.{Steps, IsArrangedBy, IsDynamic, content_room, fixed_shares, places_of, total}
+use Rattle.comfy_table.specs.Drawing.{infos_of, visible_widths}
+use Rattle.comfy_table.specs.Dynamic.{Steps, IsDynamic, fixed_shares, places_of, total}
 use Rattle.comfy_table.specs.Frame.{border_count, left_characters, right_characters, junction_characters}
-use Rattle.comfy_table.specs.Levels.{IsUnconstrained, IsLevelled, IsLevelledAt, IsFull}
 use Rattle.comfy_table.specs.Lines.{cell_lines, cell_delimiter, fitting_indicator, uncut_count}
 use Rattle.comfy_table.specs.Pieces.{visible_infos, row_cell_texts}
-use Rattle.comfy_table.specs.TableValue.{TableValue, HasWholeTexts, table_width, visible_columns, column_cells, seen_table, seen_rows}
+use Rattle.comfy_table.specs.TableValue.{TableValue, table_width, visible_columns, column_cells, seen_table, seen_rows}
 use Rattle.comfy_table.specs.Widths.{ColumnNeeds, visible_count}
 
 -- ---- counts of lines
@@ -42,7 +41,7 @@ abbrev pub IsPlainCell : TableValue → Option ℕ → CellValue → Type 0
 IsPlainCell table column_delimiter cell =
     All (λ line. is_printable_ascii line ≡ true) cell.text_lines × (is_in_range 0x20 0x7E (cell_delimiter table column_delimiter cell) ≡ true)
 
--- where a row cuts the cell of this column, the indicator that is written is even
+-- where a row cuts the cell of this column, the indicator that is written adds one column for each of its characters
 abbrev pub AddsOneColumnEachWhereWritten : TableValue → RowValue → ℕ × ColumnInfo → Type 0
 AddsOneColumnEachWhereWritten table row p =
     (cell : CellValue) (h : ℕ) → slice_get row.cells p.0 ≡ Some cell → row.max_height ≡ Some h
@@ -53,15 +52,10 @@ AddsOneColumnEachWhereWritten table row p =
 abbrev pub HasPlainCells : TableValue → Type 0
 HasPlainCells table = All (λ (p : ℕ × ColumnValue). All (IsPlainCell table p.1.delimiter) (column_cells table p.0)) (visible_columns table)
 
--- all known cells of the visible columns are printable ASCII, and the indicator is even wherever it is written
+-- all known cells of the visible columns are printable ASCII, and the indicator adds one column for each of its characters wherever it is written
 pub record IsPlainTable (table : TableValue) (widths : List ℕ) : Type 0 where
   pub plain_cells : HasPlainCells table
   pub indicator_adds_one_column_each : All (λ (row : RowValue). All (AddsOneColumnEachWhereWritten table row) (visible_infos (infos_of table widths))) (seen_rows table)
-
--- all lines, frame lines too, have the same count, whatever the arrangement and the constraints; an indicator that ends inside a character would swallow what follows it
-abbrev pub EqualCounts : TableValue → List ℕ → Type 0
-EqualCounts table widths =
-    IsUtf8 table.indicator → IsPlainTable table widths → IsArranged table widths → All (λ line. count line ≡ line_total table widths) (drawing (unstyled table) widths)
 
 -- ---- totals
 
@@ -87,57 +81,11 @@ least_with_steps columns steps =
     sum_by (λ (column : ColumnNeeds). column.padding) columns + (total (fixed_shares (places_of columns)) + total steps.lower)
     + (length columns - (length (fixed_shares (places_of columns)) + length steps.lower))
 
--- under every constraint, the columns and their paddings keep to the room or to this bound
-abbrev pub KeepsToWiderBound : ℕ → List ColumnNeeds → Steps → List ℕ → Type 0
-KeepsToWiderBound room columns steps widths =
-    IsArrangedBy room columns false steps widths
-    → sum_by (λ (column : ColumnNeeds). column.padding) columns + sum widths ≤ max room (least_with_steps columns steps)
-
--- with full width they keep to it too, also where no column is visible
-abbrev pub KeepsToWiderBoundInFull : ℕ → List ColumnNeeds → Steps → List ℕ → Type 0
-KeepsToWiderBoundInFull room columns steps widths =
-    IsArrangedBy room columns true steps widths
-    → sum_by (λ (column : ColumnNeeds). column.padding) columns + sum widths ≤ max room (least_with_steps columns steps)
-
--- with full width and a visible column they take exactly that
-abbrev pub FillsWiderBound : ℕ → List ColumnNeeds → Steps → List ℕ → Type 0
-FillsWiderBound room columns steps widths =
-    0 < length columns → IsArrangedBy room columns true steps widths
-    → sum_by (λ (column : ColumnNeeds). column.padding) columns + sum widths ≡ max room (least_with_steps columns steps)
-
 -- ---- widths
 
--- some list of widths is dynamic
-abbrev pub DynamicIsSome : ℕ → List ColumnNeeds → Bool → Type 0
-DynamicIsSome room columns full = (widths : List ℕ) × IsDynamic room columns full widths
-
--- and no other one is
+-- one list of widths is dynamic
 abbrev pub DynamicIsOne : ℕ → List ColumnNeeds → Bool → List ℕ → List ℕ → Type 0
 DynamicIsOne room columns full widths others = IsDynamic room columns full widths → IsDynamic room columns full others → widths ≡ others
-
--- without constraints the dynamic widths keep to a level
-abbrev pub DynamicIsLevelled : ℕ → List ColumnNeeds → List ℕ → Type 0
-DynamicIsLevelled room columns widths =
-    All IsUnconstrained columns → 0 < length columns → IsDynamic room columns false widths → IsLevelled room columns widths
-
--- and with full width they fill the room
-abbrev pub DynamicIsFull : ℕ → List ColumnNeeds → List ℕ → Type 0
-DynamicIsFull room columns widths =
-    All IsUnconstrained columns → 0 < length columns → IsDynamic room columns true widths → IsFull room columns widths
-
--- with room for every content, every column gets its content
-abbrev pub ContentsThatFitAreKept : ℕ → List ColumnNeeds → List ℕ → Type 0
-ContentsThatFitAreKept room columns widths =
-    All IsUnconstrained columns → sum_by (λ (column : ColumnNeeds). max 1 column.content + column.padding) columns ≤ room
-    → IsDynamic room columns false widths → widths ≡ map (λ (column : ColumnNeeds). max 1 column.content) columns
-
--- the level is the best: where a column doesn't fit, no contents within the room give each column its content or one more than the level
-abbrev pub LevelIsBest : ℕ → List ColumnNeeds → ℕ → List ℕ → Type 0
-LevelIsBest room columns level widths =
-    All IsUnconstrained columns → length columns ≤ content_room room columns → IsLevelledAt room columns level widths
-    → list_any (λ (column : ColumnNeeds). nat_lt level column.content) columns ≡ true
-    → (contents : List ℕ) → sum contents ≤ content_room room columns
-    → ¬ (AllZip (λ (column : ColumnNeeds) content. min (max 1 column.content) (level + 1) ≤ content) columns contents)
 
 -- ---- styling and sequences
 
@@ -151,11 +99,6 @@ pub record IsFreeOfEscapes (table : TableValue) : Type 0 where
   pub indicator : HasNoEscape table.indicator
   pub style_ends : All (λ (c : Option ℕ). (unwrap_or c 0x20 == 0x1B) ≡ false) (left_characters table.style ++ (right_characters table.style ++ junction_characters table.style))
   pub style_fills : All (λ (c : Option ℕ). (unwrap_or c 0x20 == 0x1B) ≡ false) (table.style.top_border.fill ∷ table.style.header_separator.fill ∷ table.style.row_separator.fill ∷ table.style.bottom_border.fill ∷ [])
-
--- the sequences taken out of the styled lines, the unstyled lines are left; bytes that are no UTF-8 could be cut so that an ESC arises
-abbrev pub StylingTakenOut : TableValue → List ℕ → Type 0
-StylingTakenOut table widths =
-    HasWholeTexts table → IsFreeOfEscapes table → map visible_text (drawing table widths) ≡ drawing (unstyled table) widths
 
 -- with custom styling, no sequence stands open at the end of a line's text before the cell's own styling, cut lines too
 abbrev pub NoneIsOpenAtTheEnd : TableValue → RowValue → ColumnInfo → CellValue → Type 0

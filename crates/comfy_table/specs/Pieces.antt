@@ -37,7 +37,7 @@ abbrev pub padded : CellValue → ColumnInfo → Text → Text → Text
 padded cell info line text =
     spaces info.padding.0 ++ (spaces_before cell info line ++ (text ++ (spaces_after cell info line ++ spaces info.padding.1)))
 
--- the piece of a line, and the same drawn without styling
+-- the piece of a line without styling
 abbrev pub plain_piece : CellValue → ColumnInfo → Text → Text
 plain_piece cell info line = padded cell info line line
 

@@ -1,13 +1,12 @@
 -- The laws of frame lines and of dynamic widths, said of whole tables. Each is a statement at given values: `widths` are the content widths of all columns, w is the table's width.
 use Rattle.std.specs.Prelude.{◌≡◌, ℕ, ◌+◌, ◌<◌, ◌≤◌, true, false, List, Some, map, length, max, min, sum, sum_by, nat_lt, All}
 use Rattle.std.specs.List.{AllZip, list_any}
-use Rattle.comfy_parts.specs.CellValue.{CellValue, ColumnValue, ColumnInfo}
+use Rattle.comfy_parts.specs.CellValue.{CellValue, ColumnValue}
 use Rattle.comfy_parts.specs.Laws.{SameButOneDelimiter}
 use Rattle.comfy_parts.specs.Text.{Text}
 use Rattle.comfy_parts.specs.Wrapping.{lines_of_text}
 use Rattle.comfy_parts.specs.declared.style.table.ContentArrangement.TheVariants.{Dynamic, DynamicFullWidth}
 use Rattle.comfy_parts.specs.declared.style.table_style.LineStyle.{LineStyle}
-use Rattle.comfy_parts.specs.declared.style.table_style.TableStyle.{TableStyle}
 use Rattle.comfy_table.specs.Arrangement.{IsArranged, room_beside_borders, widths_at}
 use Rattle.comfy_table.specs.Drawing.{infos_of, visible_widths}
 use Rattle.comfy_table.specs.Dynamic.{Steps, IsArrangedBy, content_room}
@@ -15,7 +14,6 @@ use Rattle.comfy_table.specs.Frame.{border_count, frame_line}
 use Rattle.comfy_table.specs.Laws.{count, line_total, least_total, least_with_steps, NoConstraints, HasPlainCells, IsPlainCell}
 use Rattle.comfy_table.specs.Levels.{IsLevelled, IsLevelledAt, IsFull}
 use Rattle.comfy_table.specs.Lines.{cell_delimiter, longest_line}
-use Rattle.comfy_table.specs.Pieces.{visible_infos}
 use Rattle.comfy_table.specs.TableValue.{TableValue, table_width, visible_columns, column_cells}
 use Rattle.comfy_table.specs.Widths.{ColumnNeeds, visible_count, visible_needs}
 
@@ -25,12 +23,7 @@ visible_contents table widths = widths_at widths (visible_columns table)
 
 -- ---- frame lines, whatever the texts
 
--- whatever the style, a frame line has the border characters and the whole widths of the visible columns
-abbrev pub FrameLinesCount : TableStyle → LineStyle → List ColumnInfo → Type 0
-FrameLinesCount style line infos =
-    count (frame_line style line (visible_widths infos)) ≡ border_count style (length (visible_infos infos)) + sum (visible_widths infos)
-
--- so a table's frame lines have the line's total
+-- whatever the style, a table's frame lines have the line's total
 abbrev pub FrameCounts : TableValue → List ℕ → LineStyle → Type 0
 FrameCounts table widths line =
     length widths ≡ length table.columns

@@ -10,9 +10,13 @@ use Rattle.comfy_table.specs.Frame.{border_count}
 use Rattle.comfy_table.specs.Lines.{longest_line}
 use Rattle.comfy_table.specs.TableValue.{TableValue, table_width, column_content_width, visible_columns}
 
--- an even spread of x over k: x / k each, and one more for each of the first x mod k
+-- the part at an index of an even spread of x over k: x / k, and one more for each of the first x mod k
+abbrev pub part_of : ℕ → ℕ → ℕ → ℕ
+part_of x k j = x / k + (if nat_lt j (x % k) then 1 else 0)
+
+-- an even spread of x over k
 abbrev pub even_spread : ℕ → ℕ → List ℕ
-even_spread x k = map (λ j. x / k + (if nat_lt j (x % k) then 1 else 0)) (range_with_len 0 k)
+even_spread x k = map (part_of x k) (range_with_len 0 k)
 
 -- how many columns are visible
 abbrev pub visible_count : TableValue → ℕ

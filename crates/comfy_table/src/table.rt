@@ -53,7 +53,6 @@ pub struct Table {
 }
 
 impl Model for Table {
-    ghost use Rattle.std.specs.Prelude.{◌≡◌, false};
     ghost use Rattle.comfy_parts.specs.CellValue.{IsDelimiter};
     ghost use Rattle.comfy_table.specs.TableValue.{TableValue, indicator_of};
 
@@ -131,9 +130,7 @@ impl Table {
     {
         let added = row.into_row(*self.rows.allocator())?;
         // The row's place is reserved first: nothing can fail once the columns have grown.
-        if self.rows.try_reserve(1).is_err() {
-            return Err(TableError::OutOfMemory);
-        }
+        self.rows.try_reserve(1)?;
         grow_columns(&mut self.columns, added.cell_count())?;
         self.rows.push(added).unwrap();
         Ok(())
@@ -210,9 +207,7 @@ fn grow_columns(columns: &mut Vec<Column>, count: usize) -> Result<()>
 {
     let have = columns.len();
     let missing = count.saturating_sub(have);
-    if columns.try_reserve(missing).is_err() {
-        return Err(TableError::OutOfMemory);
-    }
+    columns.try_reserve(missing)?;
     for index in have..count {
         columns.push(Column::new(index)).unwrap();
     }

@@ -33,6 +33,7 @@ pub(crate) fn drawn(table: &Table, form: OutputForm) -> Result<Output>
     ensures { IfOk result (λ output. (lines : List Text) × IsTableDrawing table.now lines × (output ≡ with_lines lines (new_output form))) }
 {
     look_at_parts(table);
+    // Read for the proof: what was looked at is known to be UTF-8.
     let _ = &table.indicator;
     let infos = arrange_content(table)?;
     draw(table, infos.as_slice(), form)

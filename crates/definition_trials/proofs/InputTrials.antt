@@ -8,13 +8,14 @@ use Rattle.comfy_parts.specs.Presets.{ascii_full, ascii_markdown}
 use Rattle.comfy_parts.specs.Text.{Text}
 use Rattle.comfy_parts.specs.declared.style.table.ContentArrangement.{ContentArrangement}
 use Rattle.comfy_parts.specs.declared.style.table_style.TableStyle.{TableStyle}
-use Rattle.comfy_run.specs.Input.{input_table, written_lines}
+use Rattle.comfy_run.specs.Input.{input_table}
 use Rattle.comfy_table.specs.Arrangement.{IsDrawingOf}
+use Rattle.comfy_table.specs.Drawing.{terminated_text_of}
 
 -- the lines of a drawing of the input's table
 abbrev IsWrittenFor : Option ℕ → ContentArrangement → TableStyle → Text → Text → Type 0
 IsWrittenFor width arrangement style text output =
-    (drawn : List Text) × IsDrawingOf (input_table width arrangement style text) drawn × (output ≡ written_lines drawn)
+    (drawn : List Text) × IsDrawingOf (input_table width arrangement style text) drawn × (output ≡ terminated_text_of drawn)
 
 empty_input : IsWrittenFor None Disabled ascii_full [] (0x2B ∷ 0x2B ∷ 0x0A ∷ 0x2B ∷ 0x2B ∷ 0x0A ∷ [])
 unfolding wrapping
@@ -43,7 +44,7 @@ breaks_and_carriage_returns = (
 
 cells_with_breaks : IsWrittenFor None Disabled ascii_full
     (codes "Header1\tHeader2\tHeader3\nThis is a text\tThis is another text\tThis is the third text\nThis is another text\tNow\u{b}add some\u{b}multi line stuff\tThis is awesome\n")
-    (written_lines (map (λ (l : String). codes l)
+    (terminated_text_of (map (λ (l : String). codes l)
     ("+----------------------+----------------------+------------------------+"
     ∷ "| Header1              | Header2              | Header3                |"
     ∷ "+======================================================================+"

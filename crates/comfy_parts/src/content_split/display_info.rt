@@ -8,6 +8,11 @@ use crate::style::CellAlignment;
 use std::marker::Model;
 
 /// What the cells of one column are drawn by: the column's settings and the width of its content.
+///
+/// ```
+/// let info = ColumnDisplayInfo::new(&Column::new(0), 12);
+/// let lines = split_line(rt.alloc(), "Now add some text", &info, ' ')?;
+/// ```
 #[derive(Debug, Drop)]
 pub struct ColumnDisplayInfo {
     /// The terminal columns left free to the left and to the right of the content.

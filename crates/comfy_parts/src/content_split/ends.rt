@@ -1,6 +1,6 @@
-//! Where the lines of a wrapped text begin and end. A place is a number of bytes from a text's front.
+//! Where the lines of a wrapped text begin and end. An end is a number of bytes from a text's front.
 
-ghost use Rattle.std.specs.Prelude.{◌≡◌, ℕ, ◌+◌, ◌*◌, ◌==◌, ◌<◌, ◌≤◌, List, length, take, drop, true, false};
+ghost use Rattle.std.specs.Prelude.{◌≡◌, ℕ, ◌+◌, ◌*◌, ◌==◌, ◌≤◌, List, length, take, drop, true, false};
 ghost use Rattle.std.specs.List.{list_any};
 ghost use Rattle.std.specs.Str.{IsCharBoundary};
 ghost use Rattle.comfy_parts.specs.Following.{ArePlacesUpTo, EndsElement, Follow, IsFirstElement, bytes_taken, part_taken};
@@ -33,7 +33,7 @@ pub fn first_element(text: &str, delimiter: char) -> (&str, &str)
     }
 }
 
-/// The first element of a text, what follows it, and the columns that it takes.
+/// The first element of a text, what follows it, and the terminal columns that it takes.
 pub fn measured_element(text: &str, delimiter: char) -> (&str, &str, usize)
     ensures element { IsFirstElement delimiter text.now result.0.now result.1.now }
     ensures places { result.2 ≡ measure result.0.now }
@@ -75,8 +75,8 @@ fn printable_run(bytes: &[u8], delimiter: char) -> usize
     run
 }
 
-/// The place where the line from the text's front ends. The text's first element has `first` bytes and takes `places`
-/// columns; where it is wider than a line, any number above the line's width is passed for `places`.
+/// The end of the line that begins at the text's front. The text's first element has `first` bytes and takes `places`
+/// terminal columns; where it is wider than a line, any number above the line's width is passed for `places`.
 pub(crate) fn line_end(
     text: &str,
     first: usize,
@@ -111,7 +111,7 @@ fn end_within(word: &str, width: usize) -> usize
     }
 }
 
-// The bytes that a line takes behind its first element, which fills so many places.
+// The bytes that a line takes behind its first element, which fills so many terminal columns.
 fn taken_behind(first: usize, behind: &str, width: usize, delimiter: char) -> usize
     requires narrow { width ≤ 65535 }
     ensures value { (es : List Text) → Follow delimiter es behind.now → result ≡ bytes_taken width delimiter first es }
@@ -133,8 +133,8 @@ fn taken_behind(first: usize, behind: &str, width: usize, delimiter: char) -> us
     behind.len() - rest.len()
 }
 
-// The bytes that a line takes of the next element, which takes so many places and has no room as a whole, and of the
-// delimiter before it.
+// The bytes that a line takes of the next element, which takes so many terminal columns and has no room as a whole, and
+// of the delimiter before it.
 fn part_of_next(next: &str, places: usize, filled: usize, width: usize, delimiter: char) -> usize
     requires places { places ≡ measure next.now }
     requires narrow { filled ≤ 65535 }

@@ -1,6 +1,6 @@
 //! The lines of a wrapped text, one after another.
 
-ghost use Rattle.std.specs.Prelude.{◌≡◌, ◌≤◌, IsUtf8};
+ghost use Rattle.std.specs.Prelude.{◌≡◌, ◌≤◌};
 ghost use Rattle.std.specs.Iterator.{YieldsFirstBy, item_count};
 ghost use Rattle.comfy_parts.specs.Following.{ArePlacesUpTo, IsWideFrom};
 ghost use Rattle.comfy_parts.specs.Wrapping.{IsWrapped, wrapped};

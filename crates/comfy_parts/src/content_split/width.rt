@@ -83,7 +83,7 @@ fn shows_wide(end: &str, places: usize) -> bool
     measure_text_width(end) > places.saturating_add(1)
 }
 
-/// The places that a character takes as a text.
+/// The terminal columns that a character takes as a text.
 pub fn char_width(character: char) -> usize
     ensures value { result ≡ measure (encode_utf8 character) }
     ensures bound { result ≤ 8 }

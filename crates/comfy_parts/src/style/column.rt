@@ -5,18 +5,25 @@
 pub enum Width {
     /// That many terminal columns.
     Fixed(u16),
-    /// That many percent, at most 100, of the table's width without its borders. It needs a table whose width is known.
+    /// That many percent, at most 100, of the table's width without its borders. Where the table's width isn't known, a constraint
+    /// that needs this is as if it weren't there.
     Percentage(u16),
 }
 
 /// A constraint on the width of a column.
+///
+/// ```
+/// if let Some(column) = table.column_mut(0) {
+///     column.set_constraint(ColumnConstraint::LowerBoundary(Width::Fixed(12)));
+/// }
+/// ```
 #[derive(Copy, Clone, Debug, PartialEq, Eq)]
 pub enum ColumnConstraint {
     /// The column isn't drawn.
     Hidden,
     /// The column is exactly as wide as its content and its paddings.
     ContentWidth,
-    /// The column has this width.
+    /// The column has this width, or that of its paddings and one terminal column where that is more.
     Absolute(Width),
     /// The column is at least this wide, where the arrangement allows it.
     LowerBoundary(Width),

@@ -1,12 +1,21 @@
 //! How the widths of a table's columns are found.
 
 /// How the widths of a table's columns are found.
+///
+/// ```
+/// table
+///     .set_content_arrangement(ContentArrangement::Dynamic)
+///     .set_width(40);
+/// ```
 #[derive(Copy, Clone, Debug, PartialEq, Eq)]
 pub enum ContentArrangement {
     /// Each column is as wide as its content, unless its constraint says otherwise.
     Disabled,
-    /// The table keeps to its width where one is known, and contents are wrapped.
+    /// Where the table's width is known, the table keeps to it, and contents are wrapped. It is wider where its columns
+    /// can't be narrow enough: each has one terminal column at least, and constraints can ask for more. Where no width is
+    /// known, this is as `Disabled`.
     Dynamic,
-    /// The table is exactly as wide as its width where one is known, and contents are wrapped.
+    /// As `Dynamic`, and what is left of the width is spread over the visible columns, also over those with a constraint
+    /// where no others take it.
     DynamicFullWidth,
 }

@@ -5,7 +5,10 @@ ghost use Rattle.comfy_parts.specs.Borders.{draws_left_border, draws_right_borde
 ghost use Rattle.comfy_parts.specs.Presets.{nothing};
 ghost use Rattle.comfy_parts.specs.StyleModifiers.{with_rounded_corners, with_solid_inner_borders, RoundingTwiceIsOnce, SolidTwiceIsOnce};
 
-/// A horizontal line of the frame; a part that isn't set is drawn as a space, a line with no part set isn't drawn.
+/// A horizontal line of the frame. With no part set it isn't drawn.
+///
+/// A fill that isn't set is spaces. A left, right or junction character that isn't set is a space where another line of
+/// the style has one, and takes no room where none has.
 ///
 /// ```text
 /// ├╌╌╌╌╌╌╌╌┼╌╌╌╌╌╌╌╌┤
@@ -91,6 +94,9 @@ impl LineStyle {
 }
 
 /// A line that holds contents.
+///
+/// A character that isn't set is a space where a horizontal line of the style has one at this place, and takes no room
+/// where none has.
 ///
 /// ```text
 /// │ Hello  ┆ there  │

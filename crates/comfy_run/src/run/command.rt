@@ -1,6 +1,6 @@
 //! The program: what it does for the words after its name, and what it says.
 
-ghost use Rattle.std.specs.Prelude.{◌≡◌, List, None, Some, Result};
+ghost use Rattle.std.specs.Prelude.{◌≡◌, None, Some, Result};
 ghost use Rattle.comfy_run.specs.Arguments.{settings_for};
 ghost use Rattle.comfy_run.specs.Program.{usage_line, error_line, status_of, report_of, Reports};
 ghost use Rattle.comfy_run.specs.Run.{Between, IsAfter};

@@ -1,6 +1,6 @@
 //! Devices over memory, which fail at a call of choice.
 
-ghost use Rattle.std.specs.Prelude.{◌≡◌, ◌-◌, ◌||◌, ◌++◌, List, ℕ, true, false, Some, None, [], IfOk, OnOk, OnErr, is_err, is_none, length, min, take, drop, refl};
+ghost use Rattle.std.specs.Prelude.{◌≡◌, ◌||◌, ◌++◌, true, false, Some, [], IfOk, OnOk, OnErr, is_err, is_none, length, min, take, drop};
 ghost use Rattle.comfy_run.specs.Device.{left_in, is_due, after_reading, is_full_for, fitting, after_writing};
 ghost use Rattle.comfy_run.specs.DeviceLaws.{none_is_left};
 
@@ -8,7 +8,11 @@ use crate::run::device::{DeviceFault, Sink, Source};
 use std::alloc::Global;
 use std::marker::Model;
 
-/// A source over bytes, one call of which fails.
+/// A source over bytes, one call of which can be made to fail.
+///
+/// ```
+/// let mut source = MemorySource::new(b"a\tb\n1\t2\n", 0);
+/// ```
 #[derive(Debug, Drop)]
 pub struct MemorySource<'a> {
     rest: Option<&'a [u8]>,
@@ -26,14 +30,14 @@ impl<'a> Model for MemorySource<'a> {
 }
 
 impl<'a> MemorySource<'a> {
-    /// A source of these bytes, which gives as many as fit the buffer. Its `k`-th call fails; with 0
-    /// none does.
-    pub fn new(bytes: &'a [u8], k: u64) -> MemorySource<'a>
-        ensures { result ≡ record { rest = Some bytes.now; fails_at = k; failed = false } }
+    /// A source of these bytes, which gives as many as fit the buffer. The call of the number `fails_at` fails, counted
+    /// from 1; with 0 none does.
+    pub fn new(bytes: &'a [u8], fails_at: u64) -> MemorySource<'a>
+        ensures { result ≡ record { rest = Some bytes.now; fails_at = fails_at; failed = false } }
     {
         MemorySource {
             rest: Some(bytes),
-            fails_at: k,
+            fails_at,
             failed: false,
         }
     }
@@ -75,7 +79,11 @@ impl Source for MemorySource<'_> {
     }
 }
 
-/// A sink in memory with room for some bytes, one call of which fails.
+/// A sink in memory with room for some bytes, one call of which can be made to fail.
+///
+/// ```
+/// let mut sink = MemorySink::new(rt.alloc(), 4096, 0)?;
+/// ```
 #[derive(Debug, Drop)]
 pub struct MemorySink {
     bytes: Vec<u8>,
@@ -98,14 +106,14 @@ impl Model for MemorySink {
 impl MemorySink {
     /// An empty sink with room for this many bytes, which is taken here: no later call takes memory.
     /// It takes as many bytes of a piece as have room, and fails where the piece isn't empty and no
-    /// room is left. Its `k`-th call fails; with 0 none does for that.
-    pub fn new(alloc: Global, room: usize, k: u64) -> comfy_table::Result<MemorySink>
-        ensures { IfOk result (λ s. s ≡ record { bytes = []; room = room; fails_at = k; failed = false }) }
+    /// room is left. The call of the number `fails_at` fails too, counted from 1; with 0 no call does for that.
+    pub fn new(alloc: Global, room: usize, fails_at: u64) -> comfy_table::Result<MemorySink>
+        ensures { IfOk result (λ s. s ≡ record { bytes = []; room = room; fails_at = fails_at; failed = false }) }
     {
         Ok(MemorySink {
             bytes: Vec::with_capacity(alloc, room)?,
             room,
-            fails_at: k,
+            fails_at,
             failed: false,
         })
     }

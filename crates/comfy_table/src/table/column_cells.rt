@@ -10,6 +10,14 @@ use std::marker::Model;
 
 /// The cells of one column, one item for each row, and none where a row has no such cell. `Table::column_cells_iter` and
 /// `Table::column_cells_with_header_iter` make it.
+///
+/// ```
+/// for cell in table.column_cells_iter(2) {
+///     if let Some(cell) = cell {
+///         println!(rt; "{}", cell.content()?)?;
+///     }
+/// }
+/// ```
 #[derive(Drop)]
 pub struct ColumnCellIter<'a> {
     // the item of the header, where one is still to come
@@ -19,7 +27,7 @@ pub struct ColumnCellIter<'a> {
 }
 
 impl<'a> Model for ColumnCellIter<'a> {
-    ghost use Rattle.std.specs.Prelude.{List, Option, ◌++◌, map, option_copied, option_map, option_to_list, slice_get};
+    ghost use Rattle.std.specs.Prelude.{List, Option, ◌++◌, option_copied, option_map, option_to_list};
     ghost use Rattle.comfy_parts.specs.CellValue.{CellValue};
     ghost use Rattle.comfy_table.specs.TableValue.{cells_at};
 
@@ -75,8 +83,8 @@ impl<'a> Iterator for ColumnCellIter<'a> {
     }
 }
 
-// The cell of a row at a position, if it has one.
-fn cell_at(row: &Row, position: usize) -> Option<&Cell>
+/// The cell of a row at a position, if it has one.
+pub(crate) fn cell_at(row: &Row, position: usize) -> Option<&Cell>
     ensures { option_copied result ≡ slice_get row.now.cells position }
 {
     row.cell_iter().as_slice().get(position)

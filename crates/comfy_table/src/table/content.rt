@@ -6,6 +6,7 @@ ghost use Rattle.comfy_table.specs.TableValue.{cell_content_width, column_conten
 ghost use Rattle.comfy_table.specs.Contents.{row_content_width, rows_content_width};
 
 use crate::table::Table;
+use crate::table::column_cells::cell_at;
 use comfy_parts::{Cell, Result, Row};
 
 /// The greatest measure, in terminal columns, of a text line of the column at a position, over header and rows. Each
@@ -73,7 +74,7 @@ fn rows_content_width(table: &Table, rows: &[Row], position: usize) -> u16
 fn row_content_width(table: &Table, row: &Row, position: usize) -> u16
     ensures { result ≡ row_content_width table.now position row.now }
 {
-    match row.cell_iter().as_slice().get(position) {
+    match cell_at(row, position) {
         Some(cell) => cell_content_width(table, cell),
         None => 0,
     }

@@ -13,6 +13,12 @@ use std::marker::Model;
 use std::vec;
 
 /// The drawn lines of a table that are still to come, from the top. None ends with a line feed.
+///
+/// ```
+/// for line in table.lines()? {
+///     println!(rt; "{line}")?;
+/// }
+/// ```
 #[derive(Drop)]
 pub struct Lines {
     rest: vec::IntoIter<String>,
@@ -74,6 +80,7 @@ impl Table {
         ensures { IfOk result (λ text. IsTextOf self.now (string_bytes text)) }
     {
         let mut text = drawn(self, OutputForm::Joined)?.into_text();
+        // the last line's line feed
         text.pop();
         Ok(text)
     }
@@ -83,6 +90,7 @@ impl Table {
         ensures { IfOk result (λ text. IsTrimmedTextOf self.now (string_bytes text)) }
     {
         let mut text = drawn(self, OutputForm::Trimmed)?.into_text();
+        // the last line's line feed
         text.pop();
         Ok(text)
     }

@@ -45,7 +45,8 @@ impl Table {
         self
     }
 
-    /// Sets the text that stands behind a line which `Row::max_height` cuts; a new table has `…`. Returns the table for
+    /// Sets the text that stands behind a line which `Row::max_height` cuts; a new table has `…`. In a column that is
+    /// narrower than the text none stands there. Returns the table for
     /// further calls. After `OutOfMemory` the table is unchanged; a caller's own proof can use that of
     /// `try_set_truncation_indicator` only.
     pub fn set_truncation_indicator(&mut self, indicator: &str) -> Result<&mut Self>
@@ -56,7 +57,7 @@ impl Table {
         into_reference(self.with_indicator_set(indicator))
     }
 
-    /// Sets the text that stands behind a line which `Row::max_height` cuts. This is for callers that go on with the table
+    /// Sets the text that stands behind a line which `Row::max_height` cuts, as `set_truncation_indicator` does. This is for callers that go on with the table
     /// after `OutOfMemory`: then it is unchanged, and the caller's own proof can use that.
     pub fn try_set_truncation_indicator(&mut self, indicator: &str) -> Result<()>
         ensures ok { OnOk result (self.new ≡ record self.old { indicator = indicator.now }) }

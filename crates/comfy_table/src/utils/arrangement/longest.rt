@@ -10,11 +10,12 @@ ghost use Rattle.comfy_table.specs.LongestLine.{cell_longest_line, row_longest_l
 ghost use Rattle.comfy_table.specs.TableValue.{seen_cell};
 
 use crate::table::Table;
+use crate::table::column_cells::cell_at;
 use crate::utils::arrangement::dynamic::visible::VisibleColumn;
 use comfy_parts::content_split::{ColumnDisplayInfo, measure_text_width, wrapped_lines};
 use comfy_parts::{Cell, Result, Row};
 
-/// The columns of the terminal that the widest line of a table's column takes, over header and rows, where each cell is
+/// The terminal columns that the widest line of a table's column takes, over header and rows, where each cell is
 /// wrapped at this content width. Greatest heights of rows cut nothing off. A width of 0 counts as 1, and a position
 /// without a column gives 0. It takes no memory and always succeeds.
 pub fn longest_line(table: &Table, position: usize, content_width: u16) -> Result<usize>
@@ -84,7 +85,7 @@ fn rows_longest_line(
 fn row_longest_line(table: &Table, row: &Row, position: usize, info: &ColumnDisplayInfo) -> usize
     ensures { result ≡ row_longest_line table.now info.now position row.now }
 {
-    match row.cell_iter().as_slice().get(position) {
+    match cell_at(row, position) {
         Some(cell) => cell_longest_line(table, cell, info),
         None => 0,
     }

@@ -106,10 +106,7 @@ impl<'a> WholeLines<'a> {
         if self.is_wrapped {
             return self.wrapped.get(place).copied();
         }
-        let Some(text) = text_at(self.texts, place) else {
-            return None;
-        };
-        Some(text.as_str())
+        text_at(self.texts, place)
     }
 
     fn get(&self, place: usize) -> Option<Line<'a>>
@@ -123,27 +120,23 @@ impl<'a> WholeLines<'a> {
                 width: Some(measure_text_width(text)),
             });
         }
-        let Some(text) = text_at(self.texts, place) else {
-            return None;
-        };
+        let text = text_at(self.texts, place)?;
         Some(Line {
-            text: text.as_str(),
+            text,
             indicator: None,
-            width: width_at(self.widths, place),
+            width: self.widths.get(place).copied(),
         })
     }
 }
 
-fn text_at<'a>(texts: &'a [String], place: usize) -> Option<&'a String>
-    ensures { option_copied result ≡ slice_get texts.now place }
+/// A text by its place, counted from 0.
+pub(crate) fn text_at(texts: &[String], place: usize) -> Option<&str>
+    ensures { option_copied result ≡ slice_get (map string_bytes texts.now) place }
 {
-    texts.get(place)
-}
-
-fn width_at(widths: &[usize], place: usize) -> Option<usize>
-    ensures { result ≡ slice_get widths.now place }
-{
-    widths.get(place).copied()
+    match texts.get(place) {
+        Some(text) => Some(text.as_str()),
+        None => None,
+    }
 }
 
 // The front of a line, and the indicator where it has room. It is measured when it is drawn.
@@ -205,6 +198,7 @@ impl<'a> CellLines<'a> {
     pub fn len(&self) -> usize
         ensures { result ≡ length self.now }
     {
+        // Read for the proof: fewer lines are kept than there are, so one more is a `usize`.
         let count = self.whole.len();
         if self.cut.is_some() {
             self.kept + 1

@@ -7,7 +7,8 @@ ghost use Rattle.comfy_table.specs.Pieces.{content_lines, row_lines, visible_inf
 ghost use Rattle.comfy_table.specs.DrawnCells.{drawn_cell, greatest_height, height_of, piece_at, seen_of_optional, texts_of_optional, uncut_texts};
 
 use crate::table::Table;
-use crate::utils::formatting::cell_lines::{CellLines, cell_lines, cut_to_limit};
+use crate::table::column_cells::cell_at;
+use crate::utils::formatting::cell_lines::{CellLines, cell_lines, cut_to_limit, text_at};
 use crate::utils::formatting::piece::{push_piece, push_spaces};
 use crate::utils::formatting::written_line::WrittenLine;
 use comfy_parts::content_split::ColumnDisplayInfo;
@@ -63,15 +64,6 @@ impl<'a> DrawnCell<'a> {
     }
 }
 
-fn text_at(texts: &[String], place: usize) -> Option<&str>
-    ensures { option_copied result ≡ slice_get (map string_bytes texts.now) place }
-{
-    match texts.get(place) {
-        Some(text) => Some(text.as_str()),
-        None => None,
-    }
-}
-
 /// The lines of a row, from the top, each as its pieces from the left. The i-th info serves the i-th cell, and cells past
 /// the last info are left out.
 ///
@@ -119,13 +111,10 @@ fn header_content(
     ensures { IfOk result (λ content. map (λ lines. map (λ pieces. map string_bytes pieces.items) lines.items) content.items ≡ map (row_lines table.now display_infos.now) (option_to_list table.now.header)) }
 {
     let mut content = Vec::new(*table.columns.allocator());
-    match &table.header {
-        Some(header) => {
-            content.push(format_row(header, display_infos, table)?)?;
-            Ok(content)
-        }
-        None => Ok(content),
+    if let Some(header) = &table.header {
+        content.push(format_row(header, display_infos, table)?)?;
     }
+    Ok(content)
 }
 
 // The cells of a row in the visible columns, each the one at its column's own position.
@@ -163,12 +152,6 @@ fn drawn_cell<'a>(
         lines: row_cell_lines(row, cell, info, table)?,
         texts: row_cell_texts(row, cell, info, table)?,
     })
-}
-
-fn cell_at(row: &Row, position: usize) -> Option<&Cell>
-    ensures { option_copied result ≡ slice_get row.now.cells position }
-{
-    row.cell_iter().as_slice().get(position)
 }
 
 // The lines of a cell in its row as they are seen: wrapped at the column's width and cut to the row's height.

@@ -7,7 +7,7 @@ ghost use Rattle.comfy_table.specs.Styling.{sequence, color_code, foreground_cod
 use comfy_parts::style::{Attribute, Color};
 use comfy_parts::{Cell, Result};
 
-// All attributes, in the order in which they are written
+// All attributes, in the order in which they are written.
 const ALL_ATTRIBUTES: [Attribute; 28] = [
     Attribute::Reset,
     Attribute::Bold,
@@ -54,8 +54,7 @@ pub(crate) fn push_style_begin(line: &mut String, cell: &Cell) -> Result<()>
 pub(crate) fn push_reset(line: &mut String) -> Result<()>
     ensures { OnOk result (string_bytes line.new ≡ string_bytes line.old ++ reset) }
 {
-    line.push_str("\u{1b}[0m")?;
-    Ok(())
+    push_sequence(line, "0")
 }
 
 fn push_background(line: &mut String, color: Option<Color>) -> Result<()>
@@ -98,7 +97,7 @@ pub(crate) fn push_style_end(line: &mut String, cell: &Cell) -> Result<()>
     Ok(())
 }
 
-// The sequences of these attributes, each once and in the order of all
+// The sequences of these attributes, each once and in the order of all.
 fn push_attributes(line: &mut String, given: &[Attribute]) -> Result<()>
     ensures { OnOk result (string_bytes line.new ≡ string_bytes line.old ++ attribute_sequences given.now) }
 {
@@ -109,7 +108,7 @@ fn push_attributes(line: &mut String, given: &[Attribute]) -> Result<()>
     push_given(line, &ALL_ATTRIBUTES, given)
 }
 
-// The sequences of those attributes that were given
+// The sequences of those attributes that were given.
 fn push_given(line: &mut String, attributes: &[Attribute], given: &[Attribute]) -> Result<()>
     ensures { OnOk result (string_bytes line.new ≡ string_bytes line.old ++ flat_map (λ a. sequence (attribute_code a)) (filter (has_attribute given.now) attributes.now)) }
 {
@@ -158,7 +157,7 @@ fn push_foreground_code(line: &mut String, color: Color) -> Result<()>
     push_color_code(line, color)
 }
 
-// The code of a colour other than `Reset`: by its number of sixteen or of 256, or by its three parts
+// The code of a colour other than `Reset`: by its number of sixteen or of 256, or by its three parts.
 fn push_color_code(code: &mut String, color: Color) -> Result<()>
     ensures { OnOk result (string_bytes code.new ≡ string_bytes code.old ++ color_code color) }
 {

@@ -1,4 +1,4 @@
--- `add_cell` returns the reference that `add_cell_wrapped` returns in a struct, under the same clauses. Assumes `Logic`.
+-- `add_cell` returns the reference that `with_cell_added` returns in a struct, under the same clauses. Assumes `Logic`.
 use Rattle.std.proofs.Common.{◌≡◌, List, [], ◌∷◌, refl, sym}
 use Rattle.std.proofs.raw_atomic.Walks.{proved_at, leaves}
 use mathlib.Core.Path.{subst}
@@ -25,7 +25,7 @@ use denote.Triple.Entry.{Vals}
 use denote.Triple.Spec.{triple_of}
 use denote.Triple.Table.{framed}
 use denote.Triple.Walked.{Stays, walk_of, stay_dropped, Goes-dropped, Goes-spent_ref}
-use Rattle.comfy_parts.specs.WrappedRow.{reference_of}
+use Rattle.comfy_parts.specs.RowReference.{reference_of}
 use Rattle.comfy_parts.specs.contracts.cell.Cell as cell
 use Rattle.comfy_parts.specs.contracts.row.Row as row
 use Rattle.comfy_parts.proofs.cell.Cell.TheLaws as cell_laws
@@ -33,9 +33,9 @@ use Rattle.comfy_parts.specs.contracts.row.Row.add_cell as f
 use Rattle.comfy_parts.proofs.row.Row.add_cell.Statement.{statement}
 use Rattle.comfy_parts.proofs.row.Row.add_cell.Code as code
 use Rattle.comfy_parts.proofs.row.Row.add_cell.Kinds as f_kinds
-use Rattle.comfy_parts.specs.contracts.row.Row.add_cell_wrapped as g
-use Rattle.comfy_parts.proofs.row.Row.add_cell_wrapped.Met.{met as g_met}
-use Rattle.comfy_parts.proofs.row.Row.add_cell_wrapped.Kinds as g_kinds
+use Rattle.comfy_parts.specs.contracts.row.Row.with_cell_added as g
+use Rattle.comfy_parts.proofs.row.Row.with_cell_added.Met.{met as g_met}
+use Rattle.comfy_parts.proofs.row.Row.with_cell_added.Kinds as g_kinds
 use Rattle.comfy_parts.specs.contracts.row.into_reference as h
 use Rattle.comfy_parts.proofs.row.into_reference.Met.{met as h_met}
 
@@ -74,7 +74,7 @@ add_cell_spec {M} 𝓤 𝓛 𝓜 𝓡 wired =
     alloc_all ! (λ l. pass_all ! refl ((tt, tt), (got.2, tt)) $
     sets ! (addr ! (through ! refl (stop !))) refl (tt, tt) $
     sets ! (of_opd ! (get ! refl)) refl got.2 $
-    calls_at ! fm G (g_met 𝓤 𝓛 𝓜 𝓡 (code.calls-comfy_parts::row::Row::add_cell_wrapped 𝓡.env wired)) z
+    calls_at ! fm G (g_met 𝓤 𝓛 𝓜 𝓡 (code.calls-comfy_parts::row::Row::with_cell_added 𝓡.env wired)) z
     (and_then ! (get ! refl) (and_then ! (get ! refl) (no_more !))) (λ v.
     use1 𝓛 (later (some (λ (r : Held.Denot). ((‵ (flft κs.0 qs.0) ⊛ ‵ ftrue) ⊛ ‵ (Held.own_val r (v ∷ []))) ⊛
     some (λ (ws : Lasts g.ended κs a). ‵ (lasts g.ended κs a ws) ⊛ raw (Ends (reference_of r)))))) (id⊢ 𝓤 _) $

@@ -1,7 +1,8 @@
 //! Room that is spread evenly over columns.
 
 ghost use Rattle.std.specs.Prelude.{◌≡◌, ◌≤◌, ◌<◌, IfOk, max};
-ghost use Rattle.comfy_table.specs.Deciding.{HasRoomToSpread, final_widths, part_of, shared_evenly, undecided_count, widened};
+ghost use Rattle.comfy_table.specs.Deciding.{HasRoomToSpread, final_widths, shared_evenly, undecided_count, widened};
+ghost use Rattle.comfy_table.specs.Widths.{part_of};
 
 use super::budget::Budget;
 use comfy_parts::Result;

@@ -2,9 +2,9 @@
 use Rattle.std.specs.Prelude.{Result, Ok, Err}
 use Rattle.std.specs.Borrow.{MutBor}
 use Rattle.comfy_parts.specs.CellValue.{RowValue}
-use Rattle.comfy_parts.specs.declared.row.WrappedRow.{WrappedRow}
+use Rattle.comfy_parts.specs.declared.row.RowReference.{RowReference}
 
 -- the reference that the result holds
-abbrev pub reference_of : {E : Type 0} → Result WrappedRow E → Result (MutBor RowValue) E
-reference_of (Ok wrapped) = Ok wrapped.row
+abbrev pub reference_of : {E : Type 0} → Result RowReference E → Result (MutBor RowValue) E
+reference_of (Ok reference) = Ok reference.row
 reference_of (Err error) = Err error
