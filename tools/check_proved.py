@@ -56,11 +56,11 @@ def main():
                 wrong.append(f"{crate} has no function {it[1]}")
             known = set().union(*(one[1] for one in found))
             wrong += [f"{it[1]} has no clause {clause}" for clause in re.findall(r"\w+", it[2] or "") if clause not in known]
-    edits = {os.path.basename(it)[: -len(".edit")]: it for it in glob.glob("crates/*/m*/*.edit", root_dir=TOP)}
+    edits = [(it.split("/")[1], os.path.basename(it)[: -len(".edit")]) for it in glob.glob("crates/*/m*/*.edit", root_dir=TOP)]
     cited = set(re.findall(r"`(\w+__\w+)`", page))
-    wrong += [f"no mutation {it}" for it in sorted(cited - set(edits))]
-    for name, path in sorted(edits.items()):
-        if name not in cited and f"{path.split('/')[1]}/{name.split('__')[0]}" not in named:
+    wrong += [f"no mutation {it}" for it in sorted(cited - {name for _, name in edits})]
+    for crate, name in sorted(edits):
+        if name not in cited and f"{crate}/{name.split('__')[0]}" not in named:
             wrong.append(f"no row names the mutation {name}")
     labels = set(re.findall(r"\*\*(P\d+) ", page))
     for group in re.findall(r"\[(P\d+(?:, P\d+)*)\]", text_of("README.md")):
