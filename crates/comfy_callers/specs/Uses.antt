@@ -1,17 +1,12 @@
 -- What the callers in `uses` say of their drawings.
-use Rattle.std.specs.Prelude.{◌≡◌, ℕ, [], List, Some, All, drop, slice_get, take}
-use Rattle.std.specs.List.{AllByRecursion}
+use Rattle.std.specs.Prelude.{◌≡◌, ℕ, List, Some, All, slice_get}
 use Rattle.comfy_parts.specs.CellValue.{CellValue, ColumnInfo, RowValue}
-use Rattle.comfy_parts.specs.Laws.{IsResumedLine}
 use Rattle.comfy_parts.specs.Text.{Text}
-use Rattle.comfy_parts.specs.VisibleLines.{CellLine, line_texts}
-use Rattle.comfy_parts.specs.VisibleText.{closed, open_after, parts}
 use Rattle.comfy_parts.specs.declared.style.table_style.LineStyle.{LineStyle}
 use Rattle.comfy_table.specs.Drawing.{drawing, infos_of, visible_widths}
 use Rattle.comfy_table.specs.Frame.{frame_line}
 use Rattle.comfy_table.specs.Laws.{FillsWidth, KeepsToWidth, count, unstyled}
-use Rattle.comfy_table.specs.Lines.{cell_delimiter, uncut_count}
-use Rattle.comfy_table.specs.Pieces.{row_cell_texts, visible_infos}
+use Rattle.comfy_table.specs.Pieces.{visible_infos}
 use Rattle.comfy_table.specs.TableLaws.{FillsWiderTotal, FrameCounts, FrameFillsWidth, FrameKeepsToWidth, IsAtMostThreeOver, KeepsToWiderTotal, KeepsToWiderTotalInFull, TableIsFull, TableIsLevelled, TableKeepsContents, TableLevelIsBest}
 use Rattle.comfy_table.specs.TableValue.{TableValue, header_and_rows}
 
@@ -30,25 +25,6 @@ abbrev pub IsDrawnWithCells : (RowValue → ColumnInfo → CellValue → Type 0)
 IsDrawnWithCells P table lines =
     (widths : List ℕ) × (lines ≡ drawing table widths)
     × All (λ (row : RowValue). All (λ (p : ℕ × ColumnInfo). (cell : CellValue) → slice_get row.cells p.0 ≡ Some cell → P row p.1 cell) (visible_infos (infos_of table widths))) (header_and_rows table)
-
--- how many lines of a cell in its row aren't cut, where sequences count nothing
-abbrev pub whole_lines : TableValue → RowValue → ColumnInfo → CellValue → ℕ
-whole_lines table row info cell =
-    uncut_count row.max_height (line_texts info.content_width (cell_delimiter table info.delimiter cell) cell.text_lines)
-
--- no sequence is open behind the text that is written for a line of the cell
-abbrev pub LeavesNoneOpen : TableValue → RowValue → ColumnInfo → CellValue → Type 0
-LeavesNoneOpen table row info cell = AllByRecursion (λ (line : CellLine). open_after (parts line.written) ≡ []) (row_cell_texts table row info cell)
-
--- each line that isn't cut has its sequences open where they are active in the cell
-abbrev pub ResumesItsSequences : TableValue → RowValue → ColumnInfo → CellValue → Type 0
-ResumesItsSequences table row info cell =
-    AllByRecursion (IsResumedLine cell.text_lines) (take (whole_lines table row info cell) (row_cell_texts table row info cell))
-
--- a line that is cut is written as it is seen, with a reset where that leaves a sequence open
-abbrev pub ClosesCutLines : TableValue → RowValue → ColumnInfo → CellValue → Type 0
-ClosesCutLines table row info cell =
-    AllByRecursion (λ (line : CellLine). line.written ≡ closed line.seen) (drop (whole_lines table row info cell) (row_cell_texts table row info cell))
 
 -- what the laws say of the content widths of a table's columns, where w is the table's width
 pub record KeepsTheLaws (table : TableValue) (w : ℕ) (widths : List ℕ) : Type 0 where

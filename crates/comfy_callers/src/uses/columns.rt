@@ -131,7 +131,7 @@ pub fn columns_in(table: &mut Table) -> (usize, usize)
     (count, table.column_iter_mut().count())
 }
 
-/// How many of the columns that are left of the iterator are visible.
+/// How many columns of a table are visible.
 pub fn visible_in(table: &Table) -> usize
     ensures { result ≡ visible_among table.now.columns }
 {

@@ -5,8 +5,8 @@ ghost use Rattle.std.specs.List.{list_any};
 ghost use Rattle.comfy_parts.specs.Text.{measure};
 ghost use Rattle.comfy_parts.specs.VisibleLines.{line_texts};
 ghost use Rattle.comfy_parts.specs.VisibleText.{closed, has_escape, visible_text};
-ghost use Rattle.comfy_table.specs.Laws.{IsFreeOfEscapes};
-ghost use Rattle.comfy_callers.specs.Uses.{ClosesCutLines, IsDrawnWithCells, IsPlainDrawing, LeavesNoneOpen, ResumesItsSequences};
+ghost use Rattle.comfy_table.specs.Laws.{CutLinesAreClosed, IsFreeOfEscapes, LinesAreResumedInRow, NoneIsOpenAtTheEnd};
+ghost use Rattle.comfy_callers.specs.Uses.{IsDrawnWithCells, IsPlainDrawing};
 
 use comfy_table::utils::formatting::content_split::{ColumnDisplayInfo, leaves_sequence_open};
 use comfy_table::{Cell, Lines, Result, Table};
@@ -17,9 +17,9 @@ use std::alloc::Global;
 /// without its sequences is that without styling.
 pub fn drawn_with_sequences(table: &mut Table) -> Result<Lines>
     ensures set { table.new ≡ record table.old { custom_styling = true } }
-    ensures closed { IfOk result (IsDrawnWithCells (LeavesNoneOpen table.new) table.new) }
-    ensures resumed { IfOk result (IsDrawnWithCells (ResumesItsSequences table.new) table.new) }
-    ensures cut { IfOk result (IsDrawnWithCells (ClosesCutLines table.new) table.new) }
+    ensures closed { IfOk result (IsDrawnWithCells (NoneIsOpenAtTheEnd table.new) table.new) }
+    ensures resumed { IfOk result (IsDrawnWithCells (LinesAreResumedInRow table.new) table.new) }
+    ensures cut { IfOk result (IsDrawnWithCells (CutLinesAreClosed table.new) table.new) }
     ensures seen { IfOk result (λ lines. IsFreeOfEscapes table.new → IsPlainDrawing table.new (map visible_text lines)) }
 {
     table.custom_styling();

@@ -4,19 +4,19 @@ use Rattle.std.proofs.lemmas.Result.{IfOk-weaker}
 use Rattle.comfy_parts.specs.Text.{Text}
 use Rattle.comfy_parts.specs.VisibleText.{visible_text}
 use Rattle.comfy_table.specs.Headline.{IsTableDrawing}
-use Rattle.comfy_table.specs.Laws.{IsFreeOfEscapes}
+use Rattle.comfy_table.specs.Laws.{CutLinesAreClosed, IsFreeOfEscapes, LinesAreResumedInRow, NoneIsOpenAtTheEnd}
 use Rattle.comfy_table.specs.TableValue.{TableValue}
-use Rattle.comfy_callers.specs.Uses.{ClosesCutLines, IsDrawnWithCells, IsPlainDrawing, LeavesNoneOpen, ResumesItsSequences}
+use Rattle.comfy_callers.specs.Uses.{IsDrawnWithCells, IsPlainDrawing}
 use Rattle.comfy_callers.proofs.uses.sequences.drawn_with_sequences.Goals as goal
 
 -- what a drawing of a table with the setting promises
-closed_of : (table : TableValue) (lines : List Text) → table.custom_styling ≡ true → IsTableDrawing table lines → IsDrawnWithCells (LeavesNoneOpen table) table lines
+closed_of : (table : TableValue) (lines : List Text) → table.custom_styling ≡ true → IsTableDrawing table lines → IsDrawnWithCells (NoneIsOpenAtTheEnd table) table lines
 closed_of table lines on drawn = (drawn.widths, drawn.drawn, drawn.closed on)
 
-resumed_of : (table : TableValue) (lines : List Text) → table.custom_styling ≡ true → IsTableDrawing table lines → IsDrawnWithCells (ResumesItsSequences table) table lines
+resumed_of : (table : TableValue) (lines : List Text) → table.custom_styling ≡ true → IsTableDrawing table lines → IsDrawnWithCells (LinesAreResumedInRow table) table lines
 resumed_of table lines on drawn = (drawn.widths, drawn.drawn, drawn.resumed on)
 
-cut_of : (table : TableValue) (lines : List Text) → table.custom_styling ≡ true → IsTableDrawing table lines → IsDrawnWithCells (ClosesCutLines table) table lines
+cut_of : (table : TableValue) (lines : List Text) → table.custom_styling ≡ true → IsTableDrawing table lines → IsDrawnWithCells (CutLinesAreClosed table) table lines
 cut_of table lines on drawn = (drawn.widths, drawn.drawn, drawn.cut_closed on)
 
 seen_of : (table : TableValue) (lines : List Text) → IsTableDrawing table lines → IsFreeOfEscapes table → IsPlainDrawing table (map visible_text lines)
