@@ -5,7 +5,6 @@ use comfy_parts::content_split::{
     ColumnDisplayInfo, measure_text_width, split_line, split_line_by_delimiter, split_line_ref,
     split_long_word,
 };
-use std::alloc::Global;
 use std::test::Fail;
 
 // Each text, the content width, the delimiter, and the lines, joined by bars.
@@ -33,47 +32,13 @@ fn info_of(width: u16) -> ColumnDisplayInfo {
     info
 }
 
-// The lines, joined by bars.
-fn wrapped(alloc: Global, text: &str, width: u16, delimiter: char) -> comfy_parts::Result<String> {
-    let mut joined = String::new(alloc);
-    for (at, line) in split_line(alloc, text, &info_of(width), delimiter)?
-        .iter()
-        .enumerate()
-    {
-        if at > 0 {
-            joined.push('|')?;
-        }
-        joined.push_str(line.as_str())?;
-    }
-    Ok(joined)
-}
-
-// The borrowed lines, joined by bars.
-fn wrapped_ref(
-    alloc: Global,
-    text: &str,
-    width: u16,
-    delimiter: char,
-) -> comfy_parts::Result<String> {
-    let mut joined = String::new(alloc);
-    for (at, line) in split_line_ref(alloc, text, &info_of(width), delimiter)?
-        .iter()
-        .enumerate()
-    {
-        if at > 0 {
-            joined.push('|')?;
-        }
-        joined.push_str(line)?;
-    }
-    Ok(joined)
-}
-
 #[test]
 fn texts_are_wrapped(rt: HostRuntime) -> Result<(), Fail> {
     for (text, width, delimiter, expected) in WRAPPED {
-        let lines = wrapped(rt.alloc(), text, width, delimiter)?;
+        let info = info_of(width);
+        let lines = split_line(rt.alloc(), text, &info, delimiter)?.join(rt.alloc(), "|")?;
         assert_eq!(rt; lines.as_str(), expected, "`{text}` at {width}");
-        let borrowed = wrapped_ref(rt.alloc(), text, width, delimiter)?;
+        let borrowed = split_line_ref(rt.alloc(), text, &info, delimiter)?.join(rt.alloc(), "|")?;
         assert_eq!(rt;
             borrowed.as_str(),
             expected,
