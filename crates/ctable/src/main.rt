@@ -10,22 +10,20 @@ use std::{env, io};
 // Stands for a word that isn't text: the program knows no such word.
 const NO_TEXT: &str = "\u{fffd}";
 
-const FAILED: u8 = 1;
-
 fn main(rt: HostRuntime) -> ExitCode {
-    let status = match run_with_arguments(&rt) {
+    match run_with_arguments(&rt) {
         Ok(status) => status,
         Err(error) if error.kind() == ErrorKind::InvalidData => run_with(&rt, &[NO_TEXT]),
+        // Words that are text are only copied: what fails then is the memory for it.
         Err(_) => {
             let _ = eprintln!(rt; "ctable: {}", RunError::from(AllocError));
-            FAILED
+            ExitCode::FAILURE
         }
-    };
-    ExitCode::from(status)
+    }
 }
 
 // Runs the program with the words after its name.
-fn run_with_arguments(rt: &HostRuntime) -> io::Result<u8> {
+fn run_with_arguments(rt: &HostRuntime) -> io::Result<ExitCode> {
     let arguments = arguments(rt)?;
     let mut words = Vec::new(rt.alloc());
     for word in &arguments {
@@ -43,9 +41,10 @@ fn arguments(rt: &HostRuntime) -> io::Result<Vec<String>> {
     Ok(words)
 }
 
-fn run_with(rt: &HostRuntime, words: &[&str]) -> u8 {
+fn run_with(rt: &HostRuntime, words: &[&str]) -> ExitCode {
     let mut source = FromReader::new(rt.stdin());
     let mut sink = ToWriter::new(rt.stdout());
     let mut messages = ToWriter::new(rt.stderr());
-    program(rt.alloc(), words, &mut source, &mut sink, &mut messages)
+    let status = program(rt.alloc(), words, &mut source, &mut sink, &mut messages);
+    ExitCode::from(status)
 }
