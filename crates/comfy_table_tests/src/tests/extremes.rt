@@ -1,5 +1,6 @@
 //! Columns in each other's place, numbers at the ends of their types, and delimiters of two terminal columns.
 
+use super::support::assert_drawn;
 use comfy_table::utils::arrangement::arrange_content;
 use comfy_table::{
     Column, ColumnConstraint, ContentArrangement, IntoRow, Result, Row, Table, Width,
@@ -36,11 +37,6 @@ fn exchange_columns(table: &mut Table) {
     }
 }
 
-fn assert_drawn(rt: &impl Abort, table: &Table, drawn: &str) -> Result<()> {
-    assert_eq!(rt; table.to_text()?.as_str(), drawn);
-    Ok(())
-}
-
 // Each drawn line has so many characters.
 fn assert_counts(rt: &impl Abort, table: &Table, count: usize) -> Result<()> {
     for line in table.lines()? {
@@ -51,15 +47,15 @@ fn assert_counts(rt: &impl Abort, table: &Table, count: usize) -> Result<()> {
 
 #[test]
 fn the_place_of_a_column_decides(rt: HostRuntime) -> std::result::Result<(), Fail> {
-    let drawn = "+----+--+\n| ab |cd|\n+----+--+";
+    let drawn = ["+----+--+", "| ab |cd|", "+----+--+"];
     let mut table = table_of(rt.alloc(), ["ab", "cd"])?;
     set_padding(&mut table, (0, 0));
     exchange_columns(&mut table);
-    assert_drawn(&rt, &table, drawn)?;
+    assert_drawn(&rt, &table, &drawn)?;
     for column in table.column_iter_mut() {
         column.index = 7;
     }
-    assert_drawn(&rt, &table, drawn)?;
+    assert_drawn(&rt, &table, &drawn)?;
     Ok(())
 }
 
@@ -70,7 +66,7 @@ fn a_longer_row_shows_the_cells_of_known_columns(rt: HostRuntime) -> std::result
     if let Some(row) = table.row_mut(0) {
         *row = longer;
     }
-    assert_drawn(&rt, &table, "+---+\n| x |\n+---+")?;
+    assert_drawn(&rt, &table, &["+---+", "| x |", "+---+"])?;
     Ok(())
 }
 
@@ -108,6 +104,6 @@ fn a_wide_delimiter_can_stand_past_the_edge(rt: HostRuntime) -> std::result::Res
     if let Some(column) = table.column_mut(0) {
         column.set_constraint(ColumnConstraint::Absolute(Width::Fixed(7)));
     }
-    assert_drawn(&rt, &table, "+-------+\n| ab年cd |\n+-------+")?;
+    assert_drawn(&rt, &table, &["+-------+", "| ab年cd |", "+-------+"])?;
     Ok(())
 }
