@@ -1,5 +1,5 @@
--- What the callers in `uses` say of their drawings.
-use Rattle.std.specs.Prelude.{◌≡◌, ℕ, List, Some, All, slice_get}
+-- What the callers in `uses` say of drawings and of rows.
+use Rattle.std.specs.Prelude.{◌≡◌, ◌∷◌, ℕ, [], List, Some, All, map, slice_get}
 use Rattle.comfy_parts.specs.CellValue.{CellValue, ColumnInfo, RowValue}
 use Rattle.comfy_parts.specs.Text.{Text}
 use Rattle.comfy_parts.specs.declared.style.table_style.LineStyle.{LineStyle}
@@ -9,6 +9,7 @@ use Rattle.comfy_table.specs.Laws.{FillsWidth, KeepsToWidth, count, unstyled}
 use Rattle.comfy_table.specs.Pieces.{visible_infos}
 use Rattle.comfy_table.specs.TableLaws.{FillsWiderTotal, FrameCounts, FrameFillsWidth, FrameKeepsToWidth, IsAtMostThreeOver, KeepsToWiderTotal, KeepsToWiderTotalInFull, TableIsFull, TableIsLevelled, TableKeepsContents, TableLevelIsBest}
 use Rattle.comfy_table.specs.TableValue.{TableValue, header_and_rows}
+use Rattle.comfy_callers.specs.declared.uses.items.NumberRows.{NumberRows}
 
 -- the lines are a drawing of the table in which each frame line has n characters
 abbrev pub HasFrameOf : ℕ → TableValue → List Text → Type 0
@@ -25,6 +26,10 @@ abbrev pub IsDrawnWithCells : (RowValue → ColumnInfo → CellValue → Type 0)
 IsDrawnWithCells P table lines =
     (widths : List ℕ) × (lines ≡ drawing table widths)
     × All (λ (row : RowValue). All (λ (p : ℕ × ColumnInfo). (cell : CellValue) → slice_get row.cells p.0 ≡ Some cell → P row p.1 cell) (visible_infos (infos_of table widths))) (header_and_rows table)
+
+-- the rows that the iterator still gives: each number that is left, in a list of its own
+abbrev pub rows_left : NumberRows → List (List ℕ)
+rows_left numbers = map (λ number. number ∷ []) numbers.left.now
 
 -- what the laws say of the content widths of a table's columns, where w is the table's width
 pub record KeepsTheLaws (table : TableValue) (w : ℕ) (widths : List ℕ) : Type 0 where

@@ -13,6 +13,7 @@ ghost use Rattle.comfy_callers.specs.Uses.{HasFrameOf, IsPlainDrawing};
 pub mod cells;
 pub mod columns;
 pub mod drawing;
+pub mod items;
 pub mod laws;
 pub mod rows;
 pub mod running;
