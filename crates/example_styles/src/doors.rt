@@ -3,6 +3,7 @@
 use comfy_table::{Attribute, Cell, Color, Result, Table};
 use std::alloc::Global;
 
+/// Prints the states of two doors: first with whole cells in colours and attributes, then with their texts alone.
 pub fn print_doors(rt: &HostRuntime) -> anyhow::Result<()> {
     let mut doors = doors(rt.alloc())?;
     // This writes the colours wherever the output goes. With the facts of a terminal, passed in by `set_terminal`, they
