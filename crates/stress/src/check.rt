@@ -57,17 +57,23 @@ fn is_cut(sample: &Sample, drawing: &Drawing) -> bool {
     drawing.rows.iter().any(|row| row.iter().any(|line| line.as_str().contains(INDICATOR)))
 }
 
-// whether no piece of a line leaves a sequence open
+// whether each line closes its sequences
 fn closes_all(alloc: Global, drawing: &Drawing) -> Result<bool> {
-    for row in &drawing.rows {
-        for line in row {
-            for piece in line.as_str().split(JUNCTION) {
-                let mut scan = Scan::new(alloc, true);
-                scan.read(piece, ' ')?;
-                if scan.is_open() {
-                    return Ok(false);
-                }
-            }
+    for line in drawing.rows.iter().flatten() {
+        if !closes_line(alloc, line.as_str())? {
+            return Ok(false);
+        }
+    }
+    Ok(true)
+}
+
+// whether no piece of a line leaves a sequence open
+fn closes_line(alloc: Global, line: &str) -> Result<bool> {
+    for piece in line.split(JUNCTION) {
+        let mut scan = Scan::new(alloc, true);
+        scan.read(piece, ' ')?;
+        if scan.is_open() {
+            return Ok(false);
         }
     }
     Ok(true)
@@ -102,13 +108,15 @@ fn keeps_to_width(table: &Table, count: usize) -> bool {
     }
 }
 
-// how many columns are visible, and their borders, paddings and one character for each
+// how many columns are visible, and their borders, paddings and one character for each; n columns have n + 1 borders,
+// and none have 2
 fn least_total(table: &Table) -> (usize, usize) {
     let mut visible: usize = 0;
     let mut total: usize = 1;
     for column in table.column_iter() {
         if !column.is_hidden() {
             visible = visible.saturating_add(1);
+            // a border and one character
             total = total
                 .saturating_add(2)
                 .saturating_add(usize::from(column.padding_width()));
@@ -122,13 +130,8 @@ fn least_total(table: &Table) -> (usize, usize) {
 fn keeps_texts(alloc: Global, sample: &Sample, drawing: &Drawing) -> Result<bool> {
     // the first frame line ends no row
     let mut drawn = drawing.rows.iter().skip(1);
-    if let Some(header) = sample.table.header() {
-        let lines = drawn.next().map_or(&[] as &[String], |row| row.as_slice());
-        if !keeps_row(alloc, sample, header, lines)? {
-            return Ok(false);
-        }
-    }
-    for row in sample.table.row_iter() {
+    let header = sample.table.header().into_iter();
+    for row in header.chain(sample.table.row_iter()) {
         let lines = drawn.next().map_or(&[] as &[String], |row| row.as_slice());
         if !keeps_row(alloc, sample, row, lines)? {
             return Ok(false);
@@ -151,10 +154,7 @@ fn keeps_row(alloc: Global, sample: &Sample, row: &Row, lines: &[String]) -> Res
             let mut wanted = Scan::new(alloc, sample.kind.has_sequences);
             wanted.read(cell.content()?.as_str(), delimiter)?;
             let mut drawn = Scan::new(alloc, sample.kind.has_sequences);
-            for line in lines {
-                drawn.read(piece_at(line.as_str(), place), delimiter)?;
-                drawn.forget_open();
-            }
+            read_pieces(&mut drawn, lines, place, delimiter)?;
             if !is_as_wanted(
                 wanted.found.as_str(),
                 drawn.found.as_str(),
@@ -166,6 +166,15 @@ fn keeps_row(alloc: Global, sample: &Sample, row: &Row, lines: &[String]) -> Res
         place = place.saturating_add(1);
     }
     Ok(true)
+}
+
+// reads the piece of each line at this place; no sequence stays open behind a line
+fn read_pieces(scan: &mut Scan, lines: &[String], place: usize, delimiter: char) -> Result<()> {
+    for line in lines {
+        scan.read(piece_at(line.as_str(), place), delimiter)?;
+        scan.forget_open();
+    }
+    Ok(())
 }
 
 // all of it, or a beginning where the row's height is limited

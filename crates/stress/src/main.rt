@@ -15,6 +15,9 @@ use rand_pcg::Pcg32;
 use sample::Sample;
 use std::process::ExitCode;
 
+// what is said where the input is something else
+const WANTED: &str = "SEED COUNT is wanted";
+
 fn main(rt: HostRuntime) -> anyhow::Result<ExitCode> {
     let (seed, count) = asked_for(&rt)?;
     let mut rng = Pcg32::seed_from_u64(seed);
@@ -36,13 +39,7 @@ fn main(rt: HostRuntime) -> anyhow::Result<ExitCode> {
 
 // the seed, and how many tables
 fn asked_for(rt: &HostRuntime) -> anyhow::Result<(u64, u64)> {
-    for line in rt.lines(rt.alloc()) {
-        let line = line?;
-        let (seed, count) = line
-            .as_str()
-            .split_once(' ')
-            .context("SEED COUNT is wanted")?;
-        return Ok((seed.parse::<u64>()?, count.parse::<u64>()?));
-    }
-    Err(anyhow::anyhow!("SEED COUNT is wanted"))
+    let line = rt.lines(rt.alloc()).next().context(WANTED)??;
+    let (seed, count) = line.as_str().split_once(' ').context(WANTED)?;
+    Ok((seed.parse::<u64>()?, count.parse::<u64>()?))
 }
