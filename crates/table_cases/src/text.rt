@@ -56,7 +56,7 @@ pub fn number(word: &str) -> Result<usize> {
         .map_err(|_| Fault::NotRead("a number is empty or too great"))
 }
 
-/// The number of columns of the terminal that some digits stand for, at most 65535.
+/// The number of terminal columns that some digits stand for, at most 65535.
 pub fn width(word: &str) -> Result<u16> {
     u16::try_from(number(word)?).map_err(|_| Fault::NotRead("a number is past 65535"))
 }
