@@ -9,7 +9,8 @@ ghost use Rattle.comfy_parts.specs.ItemsGiven.{array_gives, vec_gives};
 use std::vec;
 
 /// Values in order that come to an end, as `Table::add_rows` and `Table::set_constraints` take them: a `Vec`, an array, or
-/// the iterator that a `Vec` makes. For an iterator of your own, say in an `impl` which items it gives.
+/// the iterator that a `Vec` makes. For an iterator of your own, say in an `impl` which items it gives, as the crate
+/// `comfy_callers` does in `src/uses/items.rt`.
 pub trait Items: IntoIterator {
     // the values, in their order
     ghost items_of: { Self → List Self.Item };
