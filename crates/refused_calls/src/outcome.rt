@@ -35,7 +35,7 @@ impl Outcome {
         }
     }
 
-    /// How many rows are kept, where this is told.
+    /// How many rows are kept, where the outcome says it.
     pub fn kept(self) -> Option<usize> {
         match self {
             Outcome::Kept(rows) => Some(rows),

@@ -5,8 +5,8 @@
 pub enum Width {
     /// That many terminal columns.
     Fixed(u16),
-    /// That many percent, at most 100, of the table's width without its borders. Where the table's width isn't known, a constraint
-    /// that needs this is as if it weren't there.
+    /// That many percent, at most 100, of the table's width without its borders. Where the table's width isn't known, this
+    /// is as if it weren't there.
     Percentage(u16),
 }
 

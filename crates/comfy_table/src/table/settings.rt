@@ -46,9 +46,8 @@ impl Table {
     }
 
     /// Sets the text that stands behind a line which `Row::max_height` cuts; a new table has `…`. In a column that is
-    /// narrower than the text none stands there. Returns the table for
-    /// further calls. After `OutOfMemory` the table is unchanged; a caller's own proof can use that of
-    /// `try_set_truncation_indicator` only.
+    /// narrower than the text none stands there. Returns the table for further calls. After `OutOfMemory` the table is
+    /// unchanged; a caller's own proof can use that of `try_set_truncation_indicator` only.
     pub fn set_truncation_indicator(&mut self, indicator: &str) -> Result<&mut Self>
         ensures* err { sem 𝓛 (TableStaysIfErr self.entry result) }
         ensures same_reference { IfOk result (λ table. table.ghost_name ≡ self.entry.ghost_name) }
@@ -57,8 +56,9 @@ impl Table {
         into_reference(self.with_indicator_set(indicator))
     }
 
-    /// Sets the text that stands behind a line which `Row::max_height` cuts, as `set_truncation_indicator` does. This is for callers that go on with the table
-    /// after `OutOfMemory`: then it is unchanged, and the caller's own proof can use that.
+    /// Sets the text that stands behind a line which `Row::max_height` cuts, as `set_truncation_indicator` does. This is
+    /// for callers that go on with the table after `OutOfMemory`: then it is unchanged, and the caller's own proof can use
+    /// that.
     pub fn try_set_truncation_indicator(&mut self, indicator: &str) -> Result<()>
         ensures ok { OnOk result (self.new ≡ record self.old { indicator = indicator.now }) }
         ensures err { OnErr result (self.new ≡ self.old) }
