@@ -1,16 +1,16 @@
 -- The lines of text lines without ESC are written as they are seen.
 use Rattle.std.proofs.Common.{◌≡◌, ℕ, zero, suc, Bool, true, ◌==◌, false, List, [], ◌∷◌, ◌++◌, length, map, take, drop, zip, refl, sym, ap, ap₂, ◌∙◌, append-nil, eqb-true}
-use Rattle.std.specs.List.{after_last, concat, list_any, flat_map, AllByRecursion}
-use Rattle.std.specs.Prelude.{bytes_eq, if◌then◌else◌}
+use Rattle.std.specs.List.{concat, list_any, flat_map, AllByRecursion}
+use Rattle.std.specs.Prelude.{if◌then◌else◌}
 use Rattle.std.proofs.lemmas.Bool.{or_parts}
 use Rattle.std.proofs.lemmas.Grind.{flat_map-append}
 use Rattle.comfy_parts.proofs.EscapedLemmas.{clear_text}
-use Rattle.comfy_parts.proofs.OpenLemmas.{sequences_in-append}
+use Rattle.comfy_parts.proofs.OpenLemmas.{opened-append}
 use Rattle.comfy_parts.proofs.SequenceLemmas.{begins_with_sequence, parts-visible}
 use Rattle.comfy_parts.proofs.VisibleLineLemmas.{StandsIn, every-append, every-map, text_lines_stand}
 use Rattle.comfy_parts.specs.Text.{Text}
 use Rattle.comfy_parts.specs.VisibleLines.{CellLine, line_texts, line_texts_of_text, line_texts_past, starts_of_text}
-use Rattle.comfy_parts.specs.VisibleText.{Part, active, closed, has_escape, line_text, parts, parts_before, parts_from, parts_up_to, reset, sequences_in, text_between, visible_text}
+use Rattle.comfy_parts.specs.VisibleText.{Part, active, closed, has_escape, line_text, parts, parts_before, parts_from, open_after, opened, parts_up_to, text_between, visible_text}
 use Rattle.comfy_parts.specs.Wrapping.{lines_of_text}
 
 -- a byte that is visible
@@ -28,16 +28,16 @@ clear_parts (b ∷ bs) clear =
     let both = or_parts (b == 0x1B) (has_escape bs) clear in
     parts-visible b bs (no_sequence b bs both.0) ∙ ap (λ (ps : List Part). visible_part b ∷ ps) (clear_parts bs both.1)
 
--- some of them hold no sequence
-none_among : (bs : Text) → sequences_in (map visible_part bs) ≡ []
-none_among [] = refl
-none_among (b ∷ bs) = none_among bs
+-- parts before a byte open nothing
+before_clear : (ss : List Text) (n : ℕ) (bs : Text) → opened ss (parts_before n (map visible_part bs)) ≡ ss
+before_clear ss n [] = refl
+before_clear ss zero (b ∷ bs) = refl
+before_clear ss (suc n) (b ∷ bs) = before_clear ss n bs
 
--- nor do parts before a byte
-before_clear : (n : ℕ) (bs : Text) → sequences_in (parts_before n (map visible_part bs)) ≡ []
-before_clear n [] = refl
-before_clear zero (b ∷ bs) = refl
-before_clear (suc n) (b ∷ bs) = before_clear n bs
+-- nor do all of them
+none_opened : (ss : List Text) (bs : Text) → opened ss (map visible_part bs) ≡ ss
+none_opened ss [] = refl
+none_opened ss (b ∷ bs) = none_opened ss bs
 
 -- parts from a byte on
 from_clear : (n : ℕ) (bs : Text) → parts_from n (map visible_part bs) ≡ map visible_part (drop n bs)
@@ -52,16 +52,16 @@ up_to_clear zero bs = refl
 up_to_clear (suc n) [] = refl
 up_to_clear (suc n) (b ∷ bs) = ap (λ (t : Text). b ∷ t) (up_to_clear n bs)
 
--- texts without ESC hold no sequence
+-- texts without ESC leave none open
 abbrev AreClear : List Text → Type 0
-AreClear texts = sequences_in (flat_map parts texts) ≡ []
+AreClear texts = open_after (flat_map parts texts) ≡ []
 
 -- so nothing is active in a text without ESC behind them
 none_active : (earlier : List Text) (text : Text) (n : ℕ) → AreClear earlier → has_escape text ≡ false → active earlier text n ≡ []
 none_active earlier text n before clear =
-    ap (after_last (bytes_eq reset)) (
-    sequences_in-append (flat_map parts earlier) (parts_before n (parts text))
-    ∙ ap₂ (λ (xs ys : List Text). xs ++ ys) before (ap (λ (ps : List Part). sequences_in (parts_before n ps)) (clear_parts text clear) ∙ before_clear n text))
+    opened-append [] (flat_map parts earlier) (parts_before n (parts text))
+    ∙ ap₂ (λ (ss : List Text) (ps : List Part). opened ss (parts_before n ps)) before (clear_parts text clear)
+    ∙ before_clear [] n text
 
 -- a line of such a text is written as it is
 line_text-clear : (earlier : List Text) (text : Text) (start len : ℕ) → AreClear earlier → has_escape text ≡ false → line_text earlier text start len ≡ closed (take len (drop start text))
@@ -94,9 +94,10 @@ clear_past w d earlier (text ∷ texts) before clear =
   where
     further : has_escape text ≡ false → AreClear (earlier ++ text ∷ [])
     further clear =
-        ap sequences_in (flat_map-append parts earlier (text ∷ []))
-        ∙ sequences_in-append (flat_map parts earlier) (flat_map parts (text ∷ []))
-        ∙ ap₂ (λ (xs ys : List Text). xs ++ ys) before (ap sequences_in (append-nil (parts text) ∙ clear_parts text clear) ∙ none_among text)
+        ap open_after (flat_map-append parts earlier (text ∷ []))
+        ∙ opened-append [] (flat_map parts earlier) (flat_map parts (text ∷ []))
+        ∙ ap₂ (λ (ss : List Text) (ps : List Part). opened ss ps) before (append-nil (parts text) ∙ clear_parts text clear)
+        ∙ none_opened [] text
 
 -- of all lines of a cell
 pub clear_written : (w d : ℕ) (texts : List Text) → list_any has_escape texts ≡ false → AllByRecursion IsClosedLine (line_texts w d texts)

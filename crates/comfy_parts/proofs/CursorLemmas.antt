@@ -6,13 +6,14 @@ use Rattle.std.specs.Str.{all_scalars, IsCharBoundary}
 use Rattle.std.proofs.Math.Utf8.{scalar as scalar_of}
 use Rattle.std.proofs.lemmas.Bool.{and_parts}
 use Rattle.std.proofs.lemmas.Bool.Decides.{nat_tests}
+use Rattle.std.proofs.lemmas.Bool.{cond_both}
 use Rattle.std.proofs.lemmas.Grind.{flat_map-append}
 use Rattle.std.proofs.Math.Seq.{take-append-add, take-append_seam, take-length, drop-append-add, drop-append_seam}
 use Rattle.std.proofs.lemmas.List.{length-take-le, take-append-le, take_all}
 use Rattle.std.proofs.lemmas.Str.{IsCharBoundary-from_take, IsUtf8-drop}
-use Rattle.comfy_parts.specs.Cursor.{CursorValue, StandsAt, at_byte, begins_with_sequence, behind_bytes, bytes_up_to, character_parts, open_at_end, opened, parts_behind, visible_part}
+use Rattle.comfy_parts.specs.Cursor.{CursorValue, StandsAt, at_byte, begins_with_sequence, behind_bytes, bytes_up_to, character_parts, open_at_end, parts_behind, visible_part}
 use Rattle.comfy_parts.specs.Text.{Text, IsOnly, begins_with}
-use Rattle.comfy_parts.specs.VisibleText.{Part, parts, parts_before, parts_from, parts_up_to, sequence_len, visible_bytes, visible_text}
+use Rattle.comfy_parts.specs.VisibleText.{Part, opened, parts, parts_before, parts_from, parts_up_to, sequence_len, visible_bytes, visible_text}
 use Rattle.comfy_parts.proofs.FrontLemmas.{parts-behind_sequence, visible-seen}
 use Rattle.comfy_parts.proofs.LineTextLemmas.{before_from, before_further}
 use Rattle.comfy_parts.proofs.OpenLemmas.{opened-append}
@@ -115,30 +116,19 @@ end-stands n new old stands = sym (end-at 0 new) ∙ ap open_at_end stands ∙ e
 -- behind the sequences none comes next
 pub front-free : (ps : List Part) → begins_with_sequence (parts_from zero ps) ≡ false
 front-free [] = refl
-front-free (p ∷ ps) = by_test p.is_sequence refl (front-free ps)
-  where
-    by_test : (b : Bool) → p.is_sequence ≡ b → begins_with_sequence (parts_from zero ps) ≡ false → begins_with_sequence (if b then parts_from zero ps else p ∷ ps) ≡ false
-    by_test true is more = more
-    by_test false is more = is
+front-free (p ∷ ps) = cond_both p.is_sequence _ _ (λ qs. begins_with_sequence qs ≡ false) (λ _. front-free ps) (λ is. is)
 
 -- no more parts are left there
 pub from-fewer : (ps : List Part) → length (parts_from zero ps) ≤ length ps
 from-fewer [] = omega arith
-from-fewer (p ∷ ps) = by_test p.is_sequence (from-fewer ps)
-  where
-    by_test : (b : Bool) → length (parts_from zero ps) ≤ length ps → length (if b then parts_from zero ps else p ∷ ps) ≤ suc (length ps)
-    by_test true fewer = omega (arith, fewer)
-    by_test false fewer = omega arith
+from-fewer (p ∷ ps) = cond_both p.is_sequence _ _ (λ qs. length qs ≤ suc (length ps)) (λ _. omega (arith, from-fewer ps)) (λ _. omega arith)
 
 -- sequences aren't seen
 pub seen-front : (ps : List Part) → flat_map visible_bytes (parts_from zero ps) ≡ flat_map visible_bytes ps
 seen-front [] = refl
-seen-front (p ∷ ps) = by_test p.is_sequence refl (seen-front ps)
-  where
-    by_test : (b : Bool) → p.is_sequence ≡ b → flat_map visible_bytes (parts_from zero ps) ≡ flat_map visible_bytes ps
-        → flat_map visible_bytes (if b then parts_from zero ps else p ∷ ps) ≡ flat_map visible_bytes (p ∷ ps)
-    by_test true is more = more ∙ ap (λ t. (if t then [] else p.bytes) ++ flat_map visible_bytes ps) (sym is)
-    by_test false is more = refl
+seen-front (p ∷ ps) =
+    cond_both p.is_sequence _ _ (λ qs. flat_map visible_bytes qs ≡ flat_map visible_bytes (p ∷ ps))
+    (λ is. seen-front ps ∙ ap (λ t. (if t then [] else p.bytes) ++ flat_map visible_bytes ps) (sym is)) (λ _. refl)
 
 -- ---- visible bytes are passed
 

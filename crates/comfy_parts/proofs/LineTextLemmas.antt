@@ -1,15 +1,15 @@
 -- The text of a line of a cell with sequences: no sequence is left open, those that were active are resumed, and what is seen of it is the line.
 use Rattle.std.proofs.Common.{◌≡◌, inl, inr, ◌<◌, ◌≤◌, ℕ, zero, suc, ◌+◌, Bool, true, false, ◌==◌, List, [], ◌∷◌, ◌++◌, length, map, take, drop, refl, sym, ap, ◌∙◌, subst, arith, append_assoc, append-nil}
-use Rattle.std.specs.List.{list_any, flat_map, concat, after_last, AllByRecursion}
-use Rattle.std.specs.Prelude.{if◌then◌else◌, bytes_eq, codes}
+use Rattle.std.specs.List.{list_any, flat_map, concat, AllByRecursion}
+use Rattle.std.specs.Prelude.{if◌then◌else◌, codes}
 use Rattle.std.proofs.lemmas.Bool.{or_parts, or_from}
 use Rattle.std.proofs.lemmas.Bool.Decides.{nat_tests}
 use Rattle.std.proofs.lemmas.Grind.{flat_map-append}
 use Rattle.std.proofs.lemmas.List.{length-drop}
 use Rattle.comfy_parts.specs.Cursor.{sequence_part}
 use Rattle.comfy_parts.specs.Text.{Text}
-use Rattle.comfy_parts.specs.VisibleText.{Part, parts, visible_bytes, visible_text, sequences_in, reset, open_after, parts_before, parts_from, parts_up_to, active, closing, closed, line_text}
-use Rattle.comfy_parts.proofs.OpenLemmas.{after_last-push, after_last-again, every-after_last, sequences_in-append, sequences_in-sequences}
+use Rattle.comfy_parts.specs.VisibleText.{Part, parts, visible_bytes, visible_text, reset, open_after, opened, parts_before, parts_from, parts_up_to, active, closing, closed, line_text}
+use Rattle.comfy_parts.proofs.OpenLemmas.{every-opened, open_after-again, opened-append}
 use Rattle.comfy_parts.proofs.ScanLemmas.{AreScanned, bytes_of, parts-scanned, scanned-parts, scanned-stops, scan}
 use Rattle.comfy_parts.proofs.SequenceLemmas.{IsSequence, Stops-nil, Stops-escape}
 use Rattle.comfy_parts.proofs.ShownLemmas.{Shows, Shows-nil, Shows-append, Shows-byte, Shows-sequence}
@@ -157,18 +157,16 @@ parts-closed text = by_test (length (open_after (parts text)) == 0)
 
 -- no sequence is open at its end
 pub none_open : (text : Text) → open_after (parts (closed text)) ≡ []
-none_open text = ap open_after (parts-closed text) ∙ by_test (length (open_after (parts text)) == 0) refl
+none_open text =
+    ap open_after (parts-closed text)
+    ∙ opened-append [] (parts text) (closing_part (open_after (parts text)))
+    ∙ by_count (open_after (parts text))
   where
-    by_test : (b : Bool) → (length (open_after (parts text)) == 0) ≡ b → open_after (parts text ++ (if b then [] else sequence_part reset ∷ [])) ≡ []
-    by_test true none =
-        let len : length (open_after (parts text)) ≡ 0 = grind (arith, nat_tests) in
-        ap open_after (append-nil (parts text)) ∙ no_items (open_after (parts text)) len
-      where
-        no_items : (xs : List Text) → length xs ≡ 0 → xs ≡ []
-        no_items [] len = refl
-        no_items (x ∷ xs) len = absurd (omega (arith, len))
-    by_test false some =
-        ap (after_last (bytes_eq reset)) (sequences_in-append (parts text) (sequence_part reset ∷ [])) ∙ after_last-push (bytes_eq reset) (sequences_in (parts text)) reset
+    by_count : (ss : List Text) → opened ss (closing_part ss) ≡ []
+    by_count [] = refl
+    by_count (s ∷ ss) =
+        let some : (length (s ∷ ss) == 0) ≡ false = grind (arith, nat_tests) in
+        ap (λ b. opened (s ∷ ss) (if b then [] else sequence_part reset ∷ [])) some
 
 -- as much is seen of it as of the text
 pub seen-closed : (text : Text) → visible_text (closed text) ≡ visible_text text
@@ -184,28 +182,12 @@ seen-closed text =
 
 -- ---- sequences that are resumed
 
--- the sequences among scanned parts are such
-every_sequence : (ps : List Part) (rest : Text) → AreScanned ps rest → AllByRecursion IsSequence (sequences_in ps)
-every_sequence [] rest scanned = tt
-every_sequence (p ∷ ps) rest (inl part, more) =
-    subst (λ (x : Part). AllByRecursion IsSequence (sequences_in (x ∷ ps))) (sym part.is) (part.sequence, every_sequence ps rest more)
-every_sequence (p ∷ ps) rest (inr part, more) =
-    subst (λ (x : Part). AllByRecursion IsSequence (sequences_in (x ∷ ps))) (sym part.is) (every_sequence ps rest more)
-
--- and so are those of both of two lists of parts
-every_sequence-append : (ps qs : List Part) → AllByRecursion IsSequence (sequences_in ps) → AllByRecursion IsSequence (sequences_in qs) → AllByRecursion IsSequence (sequences_in (ps ++ qs))
-every_sequence-append ps qs each others =
-    subst (AllByRecursion IsSequence) (sym (sequences_in-append ps qs)) (every-append (sequences_in ps) (sequences_in qs) each others)
-  where
-    every-append : (xs ys : List Text) → AllByRecursion IsSequence xs → AllByRecursion IsSequence ys → AllByRecursion IsSequence (xs ++ ys)
-    every-append [] ys each others = others
-    every-append (x ∷ xs) ys each others = (each.0, every-append xs ys each.1 others)
-
--- of all earlier text lines
-every_earlier : (texts : List Text) → AllByRecursion IsSequence (sequences_in (flat_map parts texts))
-every_earlier [] = tt
-every_earlier (text ∷ texts) =
-    every_sequence-append (parts text) (flat_map parts texts) (every_sequence (parts text) [] (scan text).scanned) (every_earlier texts)
+-- the sequences that earlier text lines leave open are such
+every_earlier : (ss texts : List Text) → AllByRecursion IsSequence ss → AllByRecursion IsSequence (opened ss (flat_map parts texts))
+every_earlier ss [] each = each
+every_earlier ss (text ∷ texts) each =
+    subst (AllByRecursion IsSequence) (sym (opened-append ss (parts text) (flat_map parts texts)))
+    (every_earlier (opened ss (parts text)) texts (every-opened ss (parts text) [] each (scan text).scanned))
 
 -- sequences are scanned parts, whatever follows them
 sequences_scanned : (ss : List Text) (rest : Text) → AllByRecursion IsSequence ss → AreScanned (map sequence_part ss) rest
@@ -238,10 +220,9 @@ module _ (earlier : List Text) (text : Text) (start len : ℕ) where
 
   every_resumed : AllByRecursion IsSequence resumed
   every_resumed =
-      every-after_last (bytes_eq reset) IsSequence (sequences_in (flat_map parts earlier ++ parts_before start (parts text)))
-      (every_sequence-append (flat_map parts earlier) (parts_before start (parts text)) (every_earlier earlier)
-      (every_sequence (parts_before start (parts text)) (bytes_of (parts_from start (parts text)) ++ [])
-      (scanned-parts (parts_before start (parts text)) (parts_from start (parts text)) [] (subst (λ ps. AreScanned ps []) (sym (before_from start (parts text))) (scan text).scanned)).0))
+      subst (AllByRecursion IsSequence) (sym (opened-append [] (flat_map parts earlier) (parts_before start (parts text))))
+      (every-opened (open_after (flat_map parts earlier)) (parts_before start (parts text)) (bytes_of (parts_from start (parts text)) ++ []) (every_earlier [] earlier tt)
+      (scanned-parts (parts_before start (parts text)) (parts_from start (parts text)) [] (subst (λ ps. AreScanned ps []) (sym (before_from start (parts text))) (scan text).scanned)).0)
 
   from_scanned : AreScanned (parts_from start (parts text)) []
   from_scanned =
@@ -294,9 +275,7 @@ module _ (earlier : List Text) (text : Text) (start len : ℕ) where
       ap (λ (b : Bool). open_after (parts_before k (parts (if b then [] else closed written)))) some
       ∙ ap (λ ps. open_after (parts_before k ps)) (parts-closed written ∙ ap (λ ps. ps ++ last) parts-written ∙ append_assoc (map sequence_part resumed) taken last)
       ∙ ap open_after (before_sequences k resumed (taken ++ last) ∙ ap (λ ps. map sequence_part resumed ++ ps) (before_within k len (parts_from start (parts text)) last below enough))
-      ∙ ap (after_last (bytes_eq reset)) (sequences_in-append (map sequence_part resumed) inner ∙ ap (λ ss. ss ++ sequences_in inner) (sequences_in-sequences resumed))
-      ∙ after_last-again (bytes_eq reset) (sequences_in (flat_map parts earlier ++ parts_before start (parts text))) (sequences_in inner)
-      ∙ ap (after_last (bytes_eq reset)) (sym (sequences_in-append (flat_map parts earlier ++ parts_before start (parts text)) inner))
+      ∙ open_after-again (flat_map parts earlier ++ parts_before start (parts text)) inner
       ∙ ap open_after (append_assoc (flat_map parts earlier) (parts_before start (parts text)) inner ∙ ap (λ ps. flat_map parts earlier ++ ps) (sym (before_further start k (start + k) (parts text) refl)))
     where
       last : List Part

@@ -176,16 +176,8 @@ parts-sequence code rest all = ap₂ (λ (p : Part) ps. p ∷ ps) part skipped
     text : Text
     text = 0x1B ∷ 0x5B ∷ (code ++ (0x6D ∷ rest))
 
-    count : parameter_count text ≡ length code
-    count = prefix_len-parameters code rest all
-
-    ends : slice_index text (2 + parameter_count text) ≡ 0x6D
-    ends =
-        let place : 2 + parameter_count text ≡ suc (suc (length code)) = omega (arith, count) in
-        ap (slice_index text) place ∙ slice_index_behind code 0x6D rest
-
     len : sequence_len text ≡ suc (suc (suc (length code)))
-    len = ap₂ (λ x n. if x == 0x6D then n + 3 else 0) ends count ∙ omega arith
+    len = sequence_len-sequence code rest all
 
     part : part_at text ≡ record { is_sequence = true; bytes = 0x1B ∷ 0x5B ∷ (code ++ (0x6D ∷ [])) }
     part =

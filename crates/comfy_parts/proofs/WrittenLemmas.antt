@@ -1,21 +1,21 @@
 -- The lines that a cursor writes: where they begin in a wrapped text, and that they are the texts of the lines of a cell.
 use Rattle.std.proofs.Common.{◌≡◌, ◌<◌, ◌≤◌, ℕ, zero, suc, ◌+◌, ◌-◌, Bool, true, false, ◌==◌, List, [], ◌∷◌, ◌++◌, length, map, take, drop, zip, replicate, refl, sym, ap, ap₂, ◌∙◌, subst, arith, append_assoc, append-nil, length-append, slice_index_or}
 use Rattle.std.specs.Char.{IsScalar}
-use Rattle.std.specs.List.{after_last, concat, flat_map}
+use Rattle.std.specs.List.{concat, flat_map}
 use Rattle.std.specs.Prelude.{if◌then◌else◌, bytes_eq, encode_utf8, encode_utf8_all, IsUtf8}
 use Rattle.std.proofs.lemmas.Grind.{flat_map-append}
 use Rattle.std.proofs.lemmas.List.{drop_more, get_or-map, length-map, length-take, map-append, take-append-drop}
 use Rattle.std.proofs.lemmas.Str.{IsUtf8-past_char, IsUtf8-take}
 use Rattle.unicode_segmentation.proofs.TextLemmas.{encode_utf8_nonempty}
-use Rattle.comfy_parts.specs.Cursor.{CursorValue, IsBehindGap, StandsAt, at_byte, open_at_end, opened, seen_ahead, sequence_part}
+use Rattle.comfy_parts.specs.Cursor.{CursorValue, IsBehindGap, StandsAt, at_byte, open_at_end, seen_ahead, sequence_part}
 use Rattle.comfy_parts.specs.Text.{Text, IsOnly, begins_with, measure}
 use Rattle.comfy_parts.specs.VisibleLines.{CellLine, line_texts, line_texts_of_text, line_texts_past, starts_of_text, starts_past}
-use Rattle.comfy_parts.specs.VisibleText.{Part, active, closed, closing, line_text, open_after, parts, parts_before, parts_from, parts_up_to, reset, sequences_in, text_between, visible_text}
+use Rattle.comfy_parts.specs.VisibleText.{Part, active, closed, closing, line_text, open_after, parts, parts_before, parts_from, parts_up_to, opened, text_between, visible_text}
 use Rattle.comfy_parts.specs.Wrapping.{line_end, lines_of_text, lines_past, part_end, wrapped}
 use Rattle.comfy_parts.specs.Written.{wrapped_places, written, written_at, written_of_text, written_past}
 use Rattle.comfy_parts.proofs.CursorLemmas.{at, at_further}
 use Rattle.comfy_parts.proofs.LineTextLemmas.{parts-written}
-use Rattle.comfy_parts.proofs.OpenLemmas.{after_last-again, open_after-opened, sequences_in-append, sequences_in-sequences}
+use Rattle.comfy_parts.proofs.OpenLemmas.{open_after-again, opened-append}
 use Rattle.comfy_parts.proofs.StartLemmas.{IsLineCut, line-cut}
 use Rattle.comfy_parts.proofs.WrappingLemmas.{begins_with-delimiter, lines_past-delimiter, lines_past-gap, lines_past-line}
 
@@ -207,17 +207,9 @@ written-none w d c text none =
 open-taken : (earlier : List Text) (text : Text) (start len : ℕ)
     → open_after (parts (concat (active earlier text start) ++ text_between text start len)) ≡ opened (active earlier text start) (parts_up_to len (parts_from start (parts text)))
 open-taken earlier text start len =
-    ap open_after (parts-written earlier text start len)
-    ∙ ap (after_last (bytes_eq reset)) (sequences_in-append (map sequence_part (active earlier text start)) taken ∙ ap (λ ss. ss ++ sequences_in taken) (sequences_in-sequences (active earlier text start)))
-    ∙ after_last-again (bytes_eq reset) (sequences_in before) (sequences_in taken)
-    ∙ ap (after_last (bytes_eq reset)) (sym (sequences_in-append before taken))
-    ∙ open_after-opened before taken
-  where
-    before : List Part
-    before = flat_map parts earlier ++ parts_before start (parts text)
-
-    taken : List Part
-    taken = parts_up_to len (parts_from start (parts text))
+    let before : List Part = flat_map parts earlier ++ parts_before start (parts text) in
+    let taken : List Part = parts_up_to len (parts_from start (parts text)) in
+    ap open_after (parts-written earlier text start len) ∙ open_after-again before taken ∙ opened-append [] before taken
 
 -- the text of a line is what a cursor writes that comes from its text line's front
 line_text-written : (earlier : List Text) (text : Text) (start len : ℕ) → written len (at_byte start (at (open_after (flat_map parts earlier)) (parts text))) ≡ line_text earlier text start len
@@ -233,7 +225,7 @@ line_text-written earlier text start len = by_test (len == 0)
     between = text_between text start len
 
     same : resumed ≡ active earlier text start
-    same = sym (open_after-opened (flat_map parts earlier) (parts_before start (parts text)))
+    same = sym (opened-append [] (flat_map parts earlier) (parts_before start (parts text)))
 
     by_test : (b : Bool) → (if b then [] else concat resumed ++ (between ++ closing (opened resumed taken))) ≡ (if b then [] else closed (concat (active earlier text start) ++ between))
     by_test true = refl
@@ -261,7 +253,7 @@ past-written w d earlier (text ∷ more) =
   where
     next : opened (open_after (flat_map parts earlier)) (parts text) ≡ open_after (flat_map parts (earlier ++ text ∷ []))
     next =
-        sym (open_after-opened (flat_map parts earlier) (parts text))
+        sym (opened-append [] (flat_map parts earlier) (parts text))
         ∙ ap (λ ps. open_after (flat_map parts earlier ++ ps)) (sym (append-nil (parts text)))
         ∙ ap open_after (sym (flat_map-append parts earlier (text ∷ [])))
 

@@ -1,7 +1,7 @@
 -- A cursor over the parts of a cell's text lines: what it passes, and the sequences that are open where it stands.
-use Rattle.std.specs.Prelude.{◌≡◌, ℕ, zero, suc, Bool, true, false, List, [], ◌∷◌, ◌++◌, map, length, flat_map, encode_utf8, bytes_eq, if◌then◌else◌}
+use Rattle.std.specs.Prelude.{◌≡◌, ℕ, zero, suc, Bool, true, false, List, [], ◌∷◌, ◌++◌, map, length, flat_map, encode_utf8, if◌then◌else◌}
 use Rattle.comfy_parts.specs.Text.{Text, IsOnly, begins_with}
-use Rattle.comfy_parts.specs.VisibleText.{Part, parts_before, parts_from, parts_up_to, reset, visible_bytes}
+use Rattle.comfy_parts.specs.VisibleText.{Part, opened, opened_by, parts_before, parts_from, parts_up_to, visible_bytes}
 
 -- ---- parts
 
@@ -27,15 +27,6 @@ abbrev pub parts_behind : ℕ → List Part → List Part
 parts_behind zero ps = ps
 parts_behind (suc n) [] = []
 parts_behind (suc n) (p ∷ ps) = parts_behind (if p.is_sequence then suc n else n) ps
-
--- the sequences that are open behind a part, where these are before it
-abbrev pub opened_by : List Text → Part → List Text
-opened_by ss p = if p.is_sequence then (if bytes_eq reset p.bytes then [] else ss ++ p.bytes ∷ []) else ss
-
--- the same behind some parts
-abbrev pub opened : List Text → List Part → List Text
-opened ss [] = ss
-opened ss (p ∷ ps) = opened (opened_by ss p) ps
 
 -- ---- a cursor
 

@@ -1,6 +1,7 @@
 pub mod Borders
 pub mod CellEquality
 pub mod CellValue
+pub mod Columns
 pub mod Comparisons
 pub mod Cursor
 pub mod Following

@@ -1,10 +1,10 @@
 -- What is written for the lines of a cell with SGR sequences, from a cursor that passes each of its text lines once.
 use Rattle.std.specs.Prelude.{ℕ, ◌==◌, List, [], ◌∷◌, ◌++◌, map, zip, length, if◌then◌else◌}
 use Rattle.std.specs.List.{concat}
-use Rattle.comfy_parts.specs.Cursor.{CursorValue, at_byte, behind_bytes, bytes_up_to, opened, seen_ahead}
+use Rattle.comfy_parts.specs.Cursor.{CursorValue, at_byte, behind_bytes, bytes_up_to, seen_ahead}
 use Rattle.comfy_parts.specs.Text.{Text}
 use Rattle.comfy_parts.specs.VisibleLines.{starts_of_text, starts_past}
-use Rattle.comfy_parts.specs.VisibleText.{closing, parts}
+use Rattle.comfy_parts.specs.VisibleText.{opened, closing, parts}
 use Rattle.comfy_parts.specs.Wrapping.{lines_of_text, wrapped}
 
 -- what is written for a line of so many visible bytes: the open sequences, what the line takes, and a reset where a sequence is open then

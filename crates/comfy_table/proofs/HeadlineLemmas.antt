@@ -16,6 +16,7 @@ use Rattle.comfy_parts.specs.Wrapping.{IsWrapped, wrapped}
 use Rattle.comfy_table.proofs.DrawnWidthLemmas.{fills_width, keeps_to_width}
 use Rattle.comfy_table.proofs.EqualCountLemmas.{equal_counts}
 use Rattle.comfy_table.proofs.ListLemmas.{All-at, All-every}
+use Rattle.comfy_table.proofs.StraightLemmas.{straight}
 use Rattle.comfy_table.specs.Arrangement.{AreInfosOf, IsArranged, IsDrawingOf}
 use Rattle.comfy_table.proofs.StylingTakenOutLemmas.{styling_taken_out}
 use Rattle.comfy_table.proofs.TableLemmas.{frame_counts}
@@ -101,6 +102,7 @@ table_drawing table infos lines utf8 kept (widths, arranged, is) drawn =
           (λ row each. All-weaker (λ (p : ℕ × ColumnInfo). IsDelimiter p.1.delimiter) (IsCutIntoSlices table row) (row_slices table row kept.delimiter each) (visible_infos (infos_of table widths)) delimiters) (seen_rows table) (seen_kept table rows);
       unstyled_lines = λ off plain. whole ∙ sym (unstyled_drawing table (infos_of table widths) off plain);
       equal_counts = λ plain. equal_counts table widths utf8 plain arranged;
+      straight = λ is. straight table widths is arranged;
       without_sequences = λ free. ap (map visible_text) whole ∙ styling_taken_out table widths texts free;
       closed = λ _. All-every (λ (row : RowValue). All (IsClosedInRow table row) (visible_infos (infos_of table widths))) (header_and_rows table)
           (λ row. All-every (IsClosedInRow table row) (visible_infos (infos_of table widths)) (λ p cell is. none_is_open_at_the_end table row p.1 cell));

@@ -2,7 +2,7 @@
 use Rattle.std.specs.Prelude.{◌≡◌, ◌⊎◌, ℕ, ◌<◌, ◌≤◌, Bool, true, false, List, [], ◌∷◌, Some, map, max, slice_get, All}
 use Rattle.comfy_parts.specs.CellValue.{CellValue, ColumnInfo, RowValue}
 use Rattle.comfy_parts.specs.Wrapping.{IsWrapped, lines_of_text}
-use Rattle.comfy_parts.specs.Text.{Text}
+use Rattle.comfy_parts.specs.Text.{Text, measure}
 use Rattle.comfy_parts.specs.VisibleText.{visible_text}
 use Rattle.comfy_parts.specs.declared.style.table.ContentArrangement.TheVariants.{Dynamic, DynamicFullWidth}
 use Rattle.comfy_parts.specs.declared.style.table_style.LineStyle.{LineStyle}
@@ -13,6 +13,7 @@ use Rattle.comfy_table.specs.Frame.{frame_line}
 use Rattle.comfy_table.specs.Laws.{CutLinesAreClosed, IsFreeOfEscapes, IsPlainTable, LinesAreResumedInRow, NoConstraints, NoneIsOpenAtTheEnd, count, least_total, line_total, unstyled}
 use Rattle.comfy_table.specs.Lines.{cell_delimiter}
 use Rattle.comfy_table.specs.Pieces.{visible_infos}
+use Rattle.comfy_table.specs.Straight.{IsStraightTable}
 use Rattle.comfy_table.specs.TableLaws.{visible_contents, wider_total}
 use Rattle.comfy_table.specs.TableValue.{TableValue, header_and_rows, seen_rows, should_style, table_width}
 use Rattle.comfy_table.specs.Widths.{visible_count, visible_needs}
@@ -63,6 +64,8 @@ pub record IsTableDrawing (table : TableValue) (lines : List Text) : Type 0 wher
   pub unstyled_lines : should_style table ≡ false → table.custom_styling ≡ false → lines ≡ drawing (unstyled table) widths
   -- for printable ASCII the unstyled lines have the same count of characters
   pub equal_counts : IsPlainTable table widths → All (λ line. count line ≡ line_total table widths) (drawing (unstyled table) widths)
+  -- in terminal columns the unstyled lines are equally wide, whatever the script, where no line is wider than its column
+  pub straight : IsStraightTable table widths → All (λ line. measure line ≡ line_total table widths) (drawing (unstyled table) widths)
   -- without their sequences the lines are the unstyled ones, where nothing else holds ESC
   pub without_sequences : IsFreeOfEscapes table → map visible_text lines ≡ drawing (unstyled table) widths
   -- with custom styling no line of a cell leaves a sequence open, lines that aren't cut resume those that are active, and cut lines are closed

@@ -16,6 +16,7 @@ pub mod LongestLine
 pub mod Output
 pub mod Pieces
 pub mod Predicate
+pub mod Straight
 pub mod Styling
 pub mod TableLaws
 pub mod TableLoans

@@ -1,7 +1,7 @@
 use Rattle.std.proofs.Common.{[], refl, length, ap, ◌∙◌, arith}
-use Rattle.comfy_parts.specs.VisibleText.{parts}
-use Rattle.comfy_parts.specs.Cursor.{opened, opened_by, sequence_part}
-use Rattle.comfy_parts.proofs.OpenLemmas.{is_open-sequence, open_after-opened, opened-visible}
+use Rattle.comfy_parts.specs.VisibleText.{opened, opened_by, parts}
+use Rattle.comfy_parts.specs.Cursor.{sequence_part}
+use Rattle.comfy_parts.proofs.OpenLemmas.{is_open-sequence, opened-visible}
 use Rattle.comfy_parts.proofs.content_split.sequences.leaves_sequence_open.Goals as goal
 
 pub parts-smaller-in-Some : goal.parts-smaller-in-Some
@@ -34,4 +34,4 @@ parts-preserved c =
     }
 
 pub parts-init : goal.parts-init
-parts-init c = record { utf8 = c.utf8.text; left = ([], open_after-opened [] (parts c.args.text.now), refl) }
+parts-init c = record { utf8 = c.utf8.text; left = ([], refl, refl) }

@@ -3,7 +3,7 @@ use denote.Text.{Utf8}
 use denote.Shadow.{shadow}
 use Rattle.comfy_parts.specs.Text.{Text}
 use Rattle.comfy_parts.specs.VisibleText.{open_after, parts}
-use Rattle.comfy_parts.specs.Cursor.{opened}
+use Rattle.comfy_parts.specs.VisibleText.{opened}
 use Rattle.comfy_parts.proofs.content_split.sequences.leaves_sequence_open.Given as goal
 
 abbrev pub invariant-parts : goal.invariant-parts

@@ -1,7 +1,8 @@
 use Rattle.std.proofs.Common.{◌≡◌, length, ap, subst, ◌∙◌, take}
 use Rattle.std.specs.Prelude.{IsUtf8}
 use Rattle.comfy_parts.specs.VisibleText.{parts, parts_up_to}
-use Rattle.comfy_parts.specs.Cursor.{opened, seen_ahead}
+use Rattle.comfy_parts.specs.Cursor.{seen_ahead}
+use Rattle.comfy_parts.specs.VisibleText.{opened}
 use Rattle.comfy_parts.proofs.CursorLemmas.{at, whole_passed, whole_seen}
 use Rattle.comfy_parts.proofs.content_split.cursor.Cursor.begin.Goals as goal
 

@@ -1,0 +1,180 @@
+-- The characters of all presets add one column wherever they stand.
+use Rattle.std.proofs.Common.{◌≡◌, ℕ, ◌+◌, ◌-◌, ◌==◌, ◌&&◌, nat_le, Bool, true, false, cond, not, None, refl, sym, ap, ap₂, ◌∙◌, subst, arith}
+use Rattle.std.specs.Int.{is_in_range}
+use Rattle.std.proofs.lemmas.Bool.{and_parts}
+use Rattle.std.proofs.lemmas.Bool.Decides.{nat_tests}
+use Rattle.ucd_table.proofs.TrieCheck.{all_below, all_below-at}
+use Rattle.unicode_width.specs.declared.kind.Kind.{Kind}
+use Rattle.unicode_width.specs.declared.kind.Kind.TheVariants as kinds
+use Rattle.unicode_width.specs.declared.state.After.{After}
+use Rattle.unicode_width.specs.declared.state.After.TheVariants.{Nothing, LineFeed, EmojiModifier, RegionalIndicator, RegionalIndicators, Emoji, ZwjEmoji, KeycapZwjEmoji, IndicatorZwj, EvenIndicatorsZwj, OddIndicatorsZwj, TagEnd, TagDigit1, TagDigit2, TagDigit3, TagLetter1, TagLetter2, TagLetter3, TagLetter4, TagLetter5, TagLetter6, KiratE, KiratAi, Alef, Solidus, SolidusAlef, Lamed, ZwjLamed, Ya, ZwjYa, VowelZwjYa, Tifinagh, ZwjTifinagh, JoinerTifinagh, LisuTone, OrkhonI, ZwjOrkhonI, KhmerLetter}
+use Rattle.unicode_width.specs.declared.state.State.{State}
+use Rattle.unicode_width.specs.Kind.{kind, is_ligature_transparent, is_text_presentation_base}
+use Rattle.unicode_width.specs.Width.{is_emoji_modifier_base, is_emoji_variation_base, alone, before, before_alef, if_kept, in_context, is_emoji, is_joined_emoji, is_lam, is_plain, is_quote, joined_or, joins, of_kind, past_emoji, past_selectors, plain, skips_marks, step, with_joiner}
+use Rattle.unicode_width.proofs.Computing.{unicode_width}
+use Rattle.comfy_parts.proofs.SpaceMeasureLemmas.{Seals}
+
+-- ---- printable ASCII
+
+pub low_seals : (c : ℕ) → is_in_range 0x20 0x7E c ≡ true → is_emoji_variation_base c ≡ false → Seals c
+unfolding step past_emoji
+low_seals c printable base n s = by_flag s.emoji s
+  where
+    at : (s : State) → past_emoji false c n s ≡ (n + 1, plain)
+    at s = grind (arith, nat_tests, printable)
+
+    by_flag : (b : Bool) (s : State) → cond (not b) (past_emoji false c n s) (cond (is_emoji_variation_base c) (n + cond (is_joined_emoji s.after) 0 2, before Emoji) (past_emoji false c n (record (if_kept s) { emoji = false }))) ≡ (n + 1, plain)
+    by_flag false s = at s
+    by_flag true s = rw base (at (record (if_kept s) { emoji = false }))
+
+-- ---- box characters
+
+-- one column wide, and joined with nothing
+abbrev is_narrow : Kind → Bool
+is_narrow kinds.Narrow = true
+is_narrow kinds.Ambiguous = true
+is_narrow _ = false
+
+-- no rule speaks of the character
+abbrev pub is_lone : ℕ → Bool
+is_lone c =
+    is_narrow (kind c) && (not (is_emoji_variation_base c) && (not (is_ligature_transparent c) && (not (is_lam c) && not (is_emoji_modifier_base c))))
+
+-- so it is with all box characters, U+2500 to U+257F
+boxes_are_lone : all_below (λ k. is_lone (0x2500 + k)) 128 ≡ true
+unfolding unicode_width all_below
+boxes_are_lone = refl
+
+-- what is known of such a character
+record IsLone (c : ℕ) : Type 0 where
+  alone : alone false c ≡ (1, plain)
+  not_emoji : is_emoji (kind c) ≡ false
+  not_variation_base : is_emoji_variation_base c ≡ false
+  not_transparent : is_ligature_transparent c ≡ false
+  not_lam : is_lam c ≡ false
+  not_modifier_base : is_emoji_modifier_base c ≡ false
+
+of_narrow : (c : ℕ) (k : Kind) → is_narrow k ≡ true → (of_kind false c k ≡ (1, plain)) × (is_emoji k ≡ false)
+of_narrow c kinds.Zero h = absurd (cc h)
+of_narrow c kinds.Narrow h = (refl, refl)
+of_narrow c kinds.Wide h = absurd (cc h)
+of_narrow c kinds.Ambiguous h = (refl, refl)
+of_narrow c kinds.Alef h = absurd (cc h)
+of_narrow c kinds.KhmerLetter h = absurd (cc h)
+of_narrow c kinds.TifinaghConsonant h = absurd (cc h)
+of_narrow c kinds.LisuTone h = absurd (cc h)
+of_narrow c kinds.RegionalIndicator h = absurd (cc h)
+of_narrow c kinds.EmojiModifier h = absurd (cc h)
+of_narrow c kinds.Emoji h = absurd (cc h)
+of_narrow c kinds.Single h = absurd (cc h)
+
+not-false : (b : Bool) → not b ≡ true → b ≡ false
+not-false true h = sym h
+not-false false h = refl
+
+lone_parts : (c : ℕ) → is_lone c ≡ true → IsLone c
+unfolding alone
+lone_parts c test =
+    let first = and_parts _ _ test in
+    let second = and_parts _ _ first.1 in
+    let third = and_parts _ _ second.1 in
+    let fourth = and_parts _ _ third.1 in
+    let own = of_narrow c (kind c) first.0 in
+    record { alone = own.0; not_emoji = own.1; not_variation_base = not-false _ second.0; not_transparent = not-false _ third.0; not_lam = not-false _ fourth.0; not_modifier_base = not-false _ fourth.1 }
+
+-- nothing is joined with what follows it
+joins_none : (c : ℕ) → is_in_range 0x2500 0x257F c ≡ true → IsLone c → (after : After) → joins false after c ≡ None
+unfolding joins before_alef
+joins_none c box lone Nothing = grind (arith, nat_tests, box)
+joins_none c box lone LineFeed = grind (arith, nat_tests, box)
+joins_none c box lone EmojiModifier = let m = lone.not_modifier_base in grind (arith, nat_tests, m, box)
+joins_none c box lone RegionalIndicator = grind (arith, nat_tests, box)
+joins_none c box lone RegionalIndicators = grind (arith, nat_tests, box)
+joins_none c box lone Emoji = grind (arith, nat_tests, box)
+joins_none c box lone ZwjEmoji = let e = lone.not_emoji in grind (arith, nat_tests, e, box)
+joins_none c box lone KeycapZwjEmoji = grind (arith, nat_tests, box)
+joins_none c box lone IndicatorZwj = grind (arith, nat_tests, box)
+joins_none c box lone EvenIndicatorsZwj = grind (arith, nat_tests, box)
+joins_none c box lone OddIndicatorsZwj = grind (arith, nat_tests, box)
+joins_none c box lone TagEnd = grind (arith, nat_tests, box)
+joins_none c box lone TagDigit1 = grind (arith, nat_tests, box)
+joins_none c box lone TagDigit2 = grind (arith, nat_tests, box)
+joins_none c box lone TagDigit3 = grind (arith, nat_tests, box)
+joins_none c box lone TagLetter1 = grind (arith, nat_tests, box)
+joins_none c box lone TagLetter2 = grind (arith, nat_tests, box)
+joins_none c box lone TagLetter3 = grind (arith, nat_tests, box)
+joins_none c box lone TagLetter4 = grind (arith, nat_tests, box)
+joins_none c box lone TagLetter5 = grind (arith, nat_tests, box)
+joins_none c box lone TagLetter6 = grind (arith, nat_tests, box)
+joins_none c box lone KiratE = grind (arith, nat_tests, box)
+joins_none c box lone KiratAi = grind (arith, nat_tests, box)
+joins_none c box lone Alef = let l = lone.not_lam in let w = ap (λ (r : ℕ × State). r.0 == 0) lone.alone in rw (l, w) refl
+joins_none c box lone Solidus = grind (arith, nat_tests, box)
+joins_none c box lone SolidusAlef = grind (arith, nat_tests, box)
+joins_none c box lone Lamed = grind (arith, nat_tests, box)
+joins_none c box lone ZwjLamed = grind (arith, nat_tests, box)
+joins_none c box lone Ya = grind (arith, nat_tests, box)
+joins_none c box lone ZwjYa = grind (arith, nat_tests, box)
+joins_none c box lone VowelZwjYa = grind (arith, nat_tests, box)
+joins_none c box lone Tifinagh = grind (arith, nat_tests, box)
+joins_none c box lone ZwjTifinagh = grind (arith, nat_tests, box)
+joins_none c box lone JoinerTifinagh = grind (arith, nat_tests, box)
+joins_none c box lone LisuTone = grind (arith, nat_tests, box)
+joins_none c box lone OrkhonI = grind (arith, nat_tests, box)
+joins_none c box lone ZwjOrkhonI = grind (arith, nat_tests, box)
+joins_none c box lone KhmerLetter = grind (arith, nat_tests, box)
+
+past_selectors-lone : (c n : ℕ) (after : After) → is_in_range 0x2500 0x257F c ≡ true → IsLone c → past_selectors false c n after ≡ (n + 1, plain)
+unfolding past_selectors
+past_selectors-lone c n after box lone =
+    let joiner : (c == 0x200D) ≡ false = grind (arith, nat_tests, box) in
+    by_skip (skips_marks after) (c == 0x200D) (is_ligature_transparent c) joiner lone.not_transparent
+    ∙ ap₂ (λ j (own : ℕ × State). joined_or n j own) (joins_none c box lone after) lone.alone
+  where
+    by_skip : (skips joiner transparent : Bool) → joiner ≡ false → transparent ≡ false
+        → cond (skips && joiner) (n, before (with_joiner after)) (cond (skips && transparent) (n, before after) (joined_or n (joins false after c) (alone false c))) ≡ joined_or n (joins false after c) (alone false c)
+    by_skip true joiner transparent p q = rw (p, q) refl
+    by_skip false joiner transparent p q = refl
+
+in_context-lone : (c n : ℕ) (s : State) → is_in_range 0x2500 0x257F c ≡ true → IsLone c → in_context false c n s ≡ (n + 1, plain)
+unfolding in_context
+in_context-lone c n s box lone =
+    let one : (c == 0xFE0F) ≡ false = grind (arith, nat_tests, box) in
+    let two : (c == 0xFE01) ≡ false = grind (arith, nat_tests, box) in
+    let three : (c == 0xFE0E) ≡ false = grind (arith, nat_tests, box) in
+    let quote : is_quote c ≡ false = grind (arith, nat_tests, box) in
+    rw (one, two, three) (by_text (s.text && is_text_presentation_base c) (by_quote s.quote (is_quote c) quote))
+  where
+    by_quote : (b quote : Bool) → quote ≡ false → cond (b && quote) (n + 2, plain) (past_selectors false c n s.after) ≡ (n + 1, plain)
+    by_quote true quote none = rw none (past_selectors-lone c n s.after box lone)
+    by_quote false quote none = past_selectors-lone c n s.after box lone
+
+    by_text : {r : ℕ × State} (b : Bool) → r ≡ (n + 1, plain) → cond b (n + 1, plain) r ≡ (n + 1, plain)
+    by_text true rest = refl
+    by_text false rest = rest
+
+past_emoji-lone : (c n : ℕ) (s : State) → is_in_range 0x2500 0x257F c ≡ true → IsLone c → past_emoji false c n s ≡ (n + 1, plain)
+unfolding past_emoji
+past_emoji-lone c n s box lone =
+    let feed : (c == 0x0A) ≡ false = grind (arith, nat_tests, box) in
+    let return : (c == 0x0D) ≡ false = grind (arith, nat_tests, box) in
+    let high : nat_le c 0xA0 ≡ false = grind (arith, nat_tests, box) in
+    rw (feed, return, high) (by_state (is_plain s))
+  where
+    by_state : (b : Bool) → cond b (n + (alone false c).0, (alone false c).1) (in_context false c n s) ≡ (n + 1, plain)
+    by_state true = ap (λ (own : ℕ × State). (n + own.0, own.1)) lone.alone
+    by_state false = in_context-lone c n s box lone
+
+-- so each box character adds one column
+pub box_seals : (c : ℕ) → is_in_range 0x2500 0x257F c ≡ true → Seals c
+unfolding step
+box_seals c box n s = by_flag s.emoji s
+  where
+    lone : IsLone c
+    lone =
+        let here : 0x2500 + (c - 0x2500) ≡ c = grind (arith, nat_tests, box) in
+        lone_parts c (subst (λ x. is_lone x ≡ true) here (all_below-at (λ k. is_lone (0x2500 + k)) 128 (c - 0x2500) boxes_are_lone (grind (arith, nat_tests, box))))
+
+    by_flag : (b : Bool) (s : State) → cond (not b) (past_emoji false c n s) (cond (is_emoji_variation_base c) (n + cond (is_joined_emoji s.after) 0 2, before Emoji) (past_emoji false c n (record (if_kept s) { emoji = false }))) ≡ (n + 1, plain)
+    by_flag false s = past_emoji-lone c n s box lone
+    by_flag true s = rw lone.not_variation_base (past_emoji-lone c n (record (if_kept s) { emoji = false }) box lone)

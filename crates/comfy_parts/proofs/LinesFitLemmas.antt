@@ -1,0 +1,306 @@
+-- Wrapped lines fit their column, where the words that are wider than it are cut well.
+use Rattle.std.proofs.Common.{◌≡◌, ◌<◌, ◌≤◌, ◌⊎◌, inl, inr, ℕ, zero, suc, ◌+◌, ◌-◌, Bool, true, false, ◌&&◌, ◌==◌, List, [], ◌∷◌, ◌++◌, length, take, nat_le, nat_lt, refl, sym, ap, ap₂, ◌∙◌, subst, arith, append-nil, append_assoc, length-append, eqb-true, replicate}
+use Rattle.std.specs.Char.{IsScalar}
+use Rattle.std.specs.List.{All}
+use Rattle.std.specs.Prelude.{if◌then◌else◌, encode_utf8, encode_utf8_all, IsUtf8}
+use Rattle.std.specs.Str.{all_scalars, NonePass, NoCharPasses}
+use Rattle.std.proofs.Math.Seq.{take-append_seam}
+use Rattle.std.proofs.lemmas.Bool.{and_parts}
+use Rattle.std.proofs.lemmas.Bool.Decides.{nat_tests}
+use Rattle.std.proofs.lemmas.List.{append_cancel_left}
+use Rattle.std.proofs.lemmas.List.Elements.{All-cons, All-nil, All-head, All-tail}
+use Rattle.std.proofs.lemmas.Str.{encodes-append, IsUtf8-append, IsUtf8-nil}
+use Rattle.unicode_segmentation.proofs.TextLemmas.{encode_utf8_nonempty, IsUtf8-after}
+use Rattle.comfy_parts.proofs.ElementLemmas.{elements-none, elements-first}
+use Rattle.comfy_parts.proofs.FollowingLemmas.{first-none, first-rest, line_end-narrow, line_end-wide, some_elements}
+use Rattle.comfy_parts.proofs.PlaceLemmas.{scalars-parts}
+use Rattle.comfy_parts.proofs.WrappingLemmas.{one_character}
+use Rattle.comfy_parts.specs.Following.{Follow, IsFirstElement, bytes_taken, part_taken}
+use Rattle.comfy_parts.specs.Text.{Text, measure, head, elements}
+use Rattle.comfy_parts.specs.Wrapping.{IsWrapped, head_or_first, line_end}
+use Rattle.comfy_parts.proofs.SpaceMeasureLemmas.{measure-nil}
+use Rattle.comfy_parts.specs.Columns.{AddsOneColumn}
+
+-- ---- the first element of every text
+
+-- the characters before the first delimiter, and those from it on
+record IsRun (d : ℕ) (cs : List ℕ) : Type 0 where
+  run : List ℕ
+  more : List ℕ
+  none : NonePass (λ c. c == d) run
+  splits : cs ≡ run ++ more
+  ends : (more ≡ []) ⊎ ((rest : List ℕ) × (more ≡ d ∷ rest))
+
+first_run : (d : ℕ) (cs : List ℕ) → IsRun d cs
+first_run d [] = record { run = []; more = []; none = tt; splits = refl; ends = inl refl }
+first_run d (c ∷ cs) = by_test (c == d) refl (first_run d cs)
+  where
+    by_test : (b : Bool) → (c == d) ≡ b → IsRun d cs → IsRun d (c ∷ cs)
+    by_test true same rest =
+        record { run = []; more = c ∷ cs; none = tt; splits = refl; ends = inr (cs, ap (λ x. x ∷ cs) (eqb-true c d same)) }
+    by_test false other rest =
+        record { run = c ∷ rest.run; more = rest.more; none = (other, rest.none); splits = ap (λ xs. c ∷ xs) rest.splits; ends = rest.ends }
+
+record HasFirst (d : ℕ) (text : Text) : Type 0 where
+  first : Text
+  behind : Text
+  is : IsFirstElement d text first behind
+
+-- an element and what follows it, where a delimiter stands between
+first-before : (d : ℕ) (front rest : Text) → IsScalar d → IsUtf8 front → IsUtf8 rest → NoCharPasses (λ c. c == d) front → IsFirstElement d (front ++ (encode_utf8 d ++ rest)) front (encode_utf8 d ++ rest)
+first-before d front rest scalar utf8 utf8' none =
+    record { others = elements d rest; elements_are = elements-first d front rest scalar utf8 none; follow = by_elements (elements d rest) refl; joined = refl; whole_first = utf8; whole_behind = IsUtf8-append (encode_utf8 d) rest (one_character d scalar).0 utf8' }
+  where
+    by_elements : (es : List Text) → elements d rest ≡ es → Follow d es (encode_utf8 d ++ rest)
+    by_elements [] none = absurd (omega (arith, ap length none, some_elements d rest))
+    by_elements (e ∷ es) some = (rest, refl, some)
+
+-- every text has a first element
+first_exists : (d : ℕ) (text : Text) → IsScalar d → IsUtf8 text → HasFirst d text
+first_exists d text scalar (cs, (scalars, spelt)) = by_ends (first_run d cs).ends
+  where
+    it : IsRun d cs
+    it = first_run d cs
+
+    parts : (all_scalars it.run ≡ true) × (all_scalars it.more ≡ true)
+    parts = scalars-parts it.run it.more (sym (ap all_scalars it.splits) ∙ scalars)
+
+    by_ends : (it.more ≡ []) ⊎ ((rest : List ℕ) × (it.more ≡ d ∷ rest)) → HasFirst d text
+    by_ends (inl nothing) =
+        let whole : encode_utf8_all it.run ≡ text = sym (ap encode_utf8_all (it.splits ∙ ap (λ xs. it.run ++ xs) nothing ∙ append-nil it.run)) ∙ spelt in
+        record { first = text; behind = []; is = first-none d text (cs, (scalars, spelt)) (it.run, whole, it.none) }
+    by_ends (inr (rest, delimiter)) =
+        let splits : encode_utf8_all it.run ++ (encode_utf8 d ++ encode_utf8_all rest) ≡ text = sym (encodes-append it.run (d ∷ rest)) ∙ ap (λ xs. encode_utf8_all (it.run ++ xs)) (sym delimiter) ∙ sym (ap encode_utf8_all it.splits) ∙ spelt in
+        let behind : all_scalars rest ≡ true = (scalars-parts (d ∷ []) rest (ap all_scalars (sym delimiter) ∙ parts.1)).1 in
+        record {
+          first = encode_utf8_all it.run;
+          behind = encode_utf8 d ++ encode_utf8_all rest;
+          is = subst (λ t. IsFirstElement d t (encode_utf8_all it.run) (encode_utf8 d ++ encode_utf8_all rest)) splits (first-before d (encode_utf8_all it.run) (encode_utf8_all rest) scalar (it.run, (parts.0, refl)) (rest, (behind, refl)) (it.run, refl, it.none));
+        }
+
+-- one list of elements follows
+follow-same : (d : ℕ) (xs ys : List Text) (behind : Text) → Follow d xs behind → Follow d ys behind → xs ≡ ys
+follow-same d [] [] behind none none' = refl
+follow-same d [] (y ∷ ys) behind none (more, splits, parts) =
+    absurd (omega (arith, encode_utf8_nonempty d, length-append (encode_utf8 d) more, ap length (sym splits ∙ none)))
+follow-same d (x ∷ xs) [] behind (more, splits, parts) none =
+    absurd (omega (arith, encode_utf8_nonempty d, length-append (encode_utf8 d) more, ap length (sym splits ∙ none)))
+follow-same d (x ∷ xs) (y ∷ ys) behind (more, splits, parts) (more', splits', parts') =
+    sym parts ∙ ap (elements d) (append_cancel_left (encode_utf8 d) more more' (sym splits ∙ splits')) ∙ parts'
+
+-- ---- words that are cut well
+
+-- a word of which the front measures at most k, and the rest is such a word too
+pub record IsCut (Word : Text → Type 0) (k : ℕ) (front word : Text) : Type 0 where
+  pub rest : Text
+  pub splits : word ≡ front ++ rest
+  pub whole_front : IsUtf8 front
+  pub whole_rest : IsUtf8 rest
+  pub fits : measure front ≤ k
+  pub keeps : Word rest
+
+-- wherever a line may end within such a word that is wider than w places, what stands before fits
+pub record BreaksWell (w : ℕ) (Word : Text → Type 0) : Type 0 where
+  pub empty : Word []
+  pub part : (k : ℕ) (word : Text) → Word word → IsUtf8 word → w < measure word → IsCut Word k (head k word) word
+  pub first : (word : Text) → Word word → IsUtf8 word → w < measure word → IsCut Word w (head_or_first w word) word
+
+module _ (w d : ℕ) (Word : Text → Type 0) (breaks : BreaksWell w Word) (scalar : IsScalar d) (adds : AddsOneColumn d) where
+  -- all elements of a text are such words
+  abbrev Words : Text → Type 0
+  Words text = All Word (elements d text)
+
+  words-nil : Words []
+  words-nil = subst (All Word) (sym (elements-none d [] IsUtf8-nil ([], refl, tt))) (All-cons Word [] [] breaks.empty (All-nil Word))
+
+  words-behind : (es : List Text) (behind : Text) → Follow d es behind → All Word es → Words behind
+  words-behind [] behind none words = subst Words (sym none) words-nil
+  words-behind (e ∷ es) behind (more, splits, parts) words =
+      subst Words (sym splits)
+      (subst (All Word) (sym (elements-first d [] more scalar IsUtf8-nil ([], refl, tt) ∙ ap (λ xs. [] ∷ xs) parts)) (All-cons Word [] (e ∷ es) breaks.empty words))
+
+  one : measure (encode_utf8 d) ≡ 1
+  one =
+      let none = measure-nil in
+      ap measure (sym (append-nil (encode_utf8 d))) ∙ adds [] [] IsUtf8-nil ∙ omega (arith, none)
+
+  -- what a line takes behind its first elements, which measure `filled`
+  record IsTaken (filled n : ℕ) (behind : Text) : Type 0 where
+    taken : Text
+    rest : Text
+    splits : behind ≡ taken ++ rest
+    bytes : length taken ≡ n
+    whole_taken : IsUtf8 taken
+    whole_rest : IsUtf8 rest
+    fits : (front : Text) → IsUtf8 front → measure front ≡ filled → measure (front ++ taken) ≤ w
+    keeps : Words rest
+
+  -- nothing
+  takes-none : (filled : ℕ) (behind : Text) → filled ≤ w → IsUtf8 behind → Words behind → IsTaken filled 0 behind
+  takes-none filled behind room whole words =
+      record { taken = []; rest = behind; splits = refl; bytes = refl; whole_taken = IsUtf8-nil; whole_rest = whole; fits = λ front utf8 same. subst (λ t. measure t ≤ w) (sym (append-nil front)) (omega (arith, same, room)); keeps = words }
+
+  -- a delimiter and a word measure one place more than the word
+  behind-delimiter : (front word : Text) → IsUtf8 front → measure (front ++ (encode_utf8 d ++ word)) ≡ measure front + (1 + measure word)
+  behind-delimiter front word utf8 = adds front word utf8
+
+  takes : (filled : ℕ) (es : List Text) (behind : Text) → Follow d es behind → IsUtf8 behind → All Word es → filled ≤ w → IsTaken filled (bytes_taken w d filled es) behind
+  takes filled [] behind none whole words room = takes-none filled behind room whole (words-behind [] behind none words)
+  takes filled (next ∷ others) behind (more, splits, parts) whole words room =
+      by_tests (nat_lt (w - 2) filled) (nat_lt w (filled + 1 + measure next)) refl (λ behind' follow whole' fits. takes (filled + measure next + measure (encode_utf8 d)) others behind' follow whole' (All-tail Word next others words) fits)
+    where
+      filled' : ℕ
+      filled' = filled + measure next + measure (encode_utf8 d)
+
+      whole_more : IsUtf8 more
+      whole_more = IsUtf8-after behind (encode_utf8 d) more whole (one_character d scalar).0 splits
+
+      first : HasFirst d more
+      first = first_exists d more scalar whole_more
+
+      both : first.first ∷ first.is.others ≡ next ∷ others
+      both = sym first.is.elements_are ∙ parts
+
+      same_first : first.first ≡ next
+      same_first = cc both
+
+      same_others : first.is.others ≡ others
+      same_others = cc both
+
+      is : IsFirstElement d more next first.behind
+      is = subst (λ t. IsFirstElement d more t first.behind) same_first first.is
+
+      follow : Follow d others first.behind
+      follow = subst (λ es. Follow d es first.behind) same_others first.is.follow
+
+      none : IsTaken filled 0 behind
+      none = takes-none filled behind room whole (words-behind (next ∷ others) behind (more, splits, parts) words)
+
+      -- a part of the next element
+      by_part : (b : Bool) → (nat_lt w (measure next) && nat_le (filled + 4) w) ≡ b → IsTaken filled (if b then length (encode_utf8 d) + length (head (w - filled - 1) next) else 0) behind
+      by_part true takes =
+          let tests = and_parts (nat_lt w (measure next)) (nat_le (filled + 4) w) takes in
+          let wide : w < measure next = grind (arith, nat_tests, tests.0) in
+          let free : filled + 4 ≤ w = grind (arith, nat_tests, tests.1) in
+          let cut = breaks.part (w - filled - 1) next (All-head Word next others words) is.whole_first wide in
+          let part = head (w - filled - 1) next in
+          let after : IsFirstElement d (cut.rest ++ first.behind) cut.rest first.behind = first-rest d more part cut.rest first.behind cut.whole_front cut.whole_rest (subst (λ t. IsFirstElement d more t first.behind) cut.splits is) in
+          record {
+            taken = encode_utf8 d ++ part;
+            rest = cut.rest ++ first.behind;
+            splits = splits ∙ ap (λ t. encode_utf8 d ++ t) (sym is.joined ∙ ap (λ t. t ++ first.behind) cut.splits ∙ append_assoc part cut.rest first.behind) ∙ sym (append_assoc (encode_utf8 d) part (cut.rest ++ first.behind));
+            bytes = length-append (encode_utf8 d) part;
+            whole_taken = IsUtf8-append (encode_utf8 d) part (one_character d scalar).0 cut.whole_front;
+            whole_rest = IsUtf8-append cut.rest first.behind cut.whole_rest is.whole_behind;
+            fits = λ front utf8 same. let all = behind-delimiter front part utf8 in let fits = cut.fits in omega (arith, all, fits, same, free);
+            keeps = subst (All Word) (sym after.elements_are) (All-cons Word cut.rest after.others cut.keeps (subst (All Word) (follow-same d others after.others first.behind follow after.follow) (All-tail Word next others words)));
+          }
+      by_part false refuses = none
+
+      by_tests : (full wide : Bool) → nat_lt w (filled + 1 + measure next) ≡ wide
+          → ((behind' : Text) → Follow d others behind' → IsUtf8 behind' → filled' ≤ w → IsTaken filled' (bytes_taken w d filled' others) behind')
+          → IsTaken filled (if full then 0 else if wide then part_taken w d filled next else length (encode_utf8 d) + length next + bytes_taken w d filled' others) behind
+      by_tests true wide test rest = none
+      by_tests false true test rest = by_part (nat_lt w (measure next) && nat_le (filled + 4) w) refl
+      by_tests false false test rest =
+          let room' : filled + 1 + measure next ≤ w = grind (arith, nat_tests, test) in
+          let place = one in
+          let further = rest first.behind follow is.whole_behind (omega (arith, room', place)) in
+          record {
+            taken = encode_utf8 d ++ (next ++ further.taken);
+            rest = further.rest;
+            splits = splits ∙ ap (λ t. encode_utf8 d ++ t) (sym is.joined ∙ ap (λ t. next ++ t) further.splits ∙ sym (append_assoc next further.taken further.rest)) ∙ sym (append_assoc (encode_utf8 d) (next ++ further.taken) further.rest);
+            bytes = (let outer = length-append (encode_utf8 d) (next ++ further.taken) in let inner = length-append next further.taken in let bytes = further.bytes in omega (arith, outer, inner, bytes));
+            whole_taken = IsUtf8-append (encode_utf8 d) (next ++ further.taken) (one_character d scalar).0 (IsUtf8-append next further.taken is.whole_first further.whole_taken);
+            whole_rest = further.whole_rest;
+            fits = λ front utf8 same.
+                let all = behind-delimiter front next utf8 in
+                let whole_front = IsUtf8-append front (encode_utf8 d ++ next) utf8 (IsUtf8-append (encode_utf8 d) next (one_character d scalar).0 is.whole_first) in
+                subst (λ t. measure t ≤ w) (append_assoc front (encode_utf8 d ++ next) further.taken ∙ ap (λ t. front ++ t) (append_assoc (encode_utf8 d) next further.taken))
+                (further.fits (front ++ (encode_utf8 d ++ next)) whole_front (omega (arith, all, same, place)));
+            keeps = further.keeps;
+          }
+
+  -- ---- a line and what follows it
+
+  -- the line at a text's front fits, and all elements behind it are such words
+  record IsLineThatFits (line tail : Text) : Type 0 where
+    fits : measure line ≤ w
+    whole : IsUtf8 tail
+    keeps : Words tail
+
+  -- a front of a text that has the line's bytes is the line
+  same_line : (line tail front rest : Text) → line ++ tail ≡ front ++ rest → length front ≡ length line → (line ≡ front) × (tail ≡ rest)
+  same_line line tail front rest same bytes =
+      let first : line ≡ front = sym (take-append_seam line tail) ∙ ap₂ (λ n (t : Text). take n t) (sym bytes) same ∙ take-append_seam front rest in
+      (first, append_cancel_left front tail rest (ap (λ t. t ++ tail) (sym first) ∙ same))
+
+  line_fits : (line tail : Text) → IsUtf8 (line ++ tail) → Words (line ++ tail) → length line ≡ line_end w d (line ++ tail) → IsLineThatFits line tail
+  line_fits line tail utf8 words ends = by_width (nat_lt w (measure has.first)) refl
+    where
+      has : HasFirst d (line ++ tail)
+      has = first_exists d (line ++ tail) scalar utf8
+
+      is : IsFirstElement d (line ++ tail) has.first has.behind
+      is = has.is
+
+      all : All Word (has.first ∷ is.others)
+      all = subst (All Word) is.elements_are words
+
+      word : Word has.first
+      word = All-head Word has.first is.others all
+
+      by_width : (b : Bool) → nat_lt w (measure has.first) ≡ b → IsLineThatFits line tail
+      by_width true wide =
+          let front = head_or_first w has.first in
+          let cut = breaks.first has.first word is.whole_first (grind (arith, nat_tests, wide)) in
+          let splits : line ++ tail ≡ front ++ (cut.rest ++ has.behind) = sym is.joined ∙ ap (λ t. t ++ has.behind) cut.splits ∙ append_assoc front cut.rest has.behind in
+          let same = same_line line tail front (cut.rest ++ has.behind) splits (sym (ends ∙ line_end-wide w d (line ++ tail) has.first has.behind is wide)) in
+          let after : IsFirstElement d (cut.rest ++ has.behind) cut.rest has.behind = first-rest d (line ++ tail) front cut.rest has.behind cut.whole_front cut.whole_rest (subst (λ t. IsFirstElement d (line ++ tail) t has.behind) cut.splits is) in
+          record {
+            fits = subst (λ t. measure t ≤ w) (sym same.0) cut.fits;
+            whole = subst IsUtf8 (sym same.1) (IsUtf8-append cut.rest has.behind cut.whole_rest is.whole_behind);
+            keeps = subst Words (sym same.1) (subst (All Word) (sym after.elements_are) (All-cons Word cut.rest after.others cut.keeps (subst (All Word) (follow-same d is.others after.others has.behind is.follow after.follow) (All-tail Word has.first is.others all))));
+          }
+      by_width false narrow =
+          let room : measure has.first ≤ w = grind (arith, nat_tests, narrow) in
+          let further = takes (measure has.first) is.others has.behind is.follow is.whole_behind (All-tail Word has.first is.others all) room in
+          let splits : line ++ tail ≡ (has.first ++ further.taken) ++ further.rest = sym is.joined ∙ ap (λ t. has.first ++ t) further.splits ∙ sym (append_assoc has.first further.taken further.rest) in
+          let bytes : length (has.first ++ further.taken) ≡ length line = length-append has.first further.taken ∙ ap (λ n. length has.first + n) further.bytes ∙ sym (ends ∙ line_end-narrow w d (line ++ tail) has.first has.behind is narrow) in
+          let same = same_line line tail (has.first ++ further.taken) further.rest splits bytes in
+          record {
+            fits = subst (λ t. measure t ≤ w) (sym same.0) (further.fits has.first is.whole_first refl);
+            whole = subst IsUtf8 (sym same.1) further.whole_rest;
+            keeps = subst Words (sym same.1) further.keeps;
+          }
+
+  -- ---- all lines
+
+  -- behind a gap of delimiters the elements are such words too
+  words-past_gap : (n : ℕ) (rest : Text) → Words (encode_utf8_all (replicate n d) ++ rest) → Words rest
+  words-past_gap zero rest words = words
+  words-past_gap (suc n) rest words =
+      let more = encode_utf8_all (replicate n d) ++ rest in
+      words-past_gap n rest
+      (All-tail Word [] (elements d more)
+      (subst (All Word) (elements-first d [] more scalar IsUtf8-nil ([], refl, tt)) (subst Words (append_assoc (encode_utf8 d) (encode_utf8_all (replicate n d)) rest) words)))
+
+  -- what stands behind a gap is whole characters
+  whole-past_gap : (n : ℕ) (rest : Text) → IsUtf8 (encode_utf8_all (replicate n d) ++ rest) → IsUtf8 rest
+  whole-past_gap zero rest whole = whole
+  whole-past_gap (suc n) rest whole =
+      let more = encode_utf8_all (replicate n d) ++ rest in
+      whole-past_gap n rest (IsUtf8-after (encode_utf8_all (replicate (suc n) d) ++ rest) (encode_utf8 d) more whole (one_character d scalar).0 (append_assoc (encode_utf8 d) (encode_utf8_all (replicate n d)) rest))
+
+  -- a line of whole characters that measures at most w
+  abbrev Fits : Text → Type 0
+  Fits line = IsUtf8 line × (measure line ≤ w)
+
+  -- each line of such a text fits
+  pub wrapped-fit : (text : Text) (lines : List Text) → IsWrapped w d text lines → IsUtf8 text → Words text → All Fits lines
+  wrapped-fit text [] wrapped whole words = All-nil Fits
+  wrapped-fit text (line ∷ lines) (tail, slice, ends, more) whole words =
+      let gap = slice.gap_is_delimiters in
+      let splits : text ≡ encode_utf8_all (replicate gap.0 d) ++ (line ++ tail) = slice.splits ∙ ap (λ g. g ++ (line ++ tail)) gap.1 in
+      let it = line_fits line tail (whole-past_gap gap.0 (line ++ tail) (subst IsUtf8 splits whole)) (words-past_gap gap.0 (line ++ tail) (subst Words splits words)) ends in
+      All-cons Fits line lines (slice.whole_characters, it.fits) (wrapped-fit tail lines more it.whole it.keeps)

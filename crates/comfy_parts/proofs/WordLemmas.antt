@@ -1,0 +1,159 @@
+-- Texts of characters whose widths add up are cut well.
+use Rattle.std.proofs.Common.{◌≡◌, ◌<◌, ◌≤◌, ◌⊎◌, inl, inr, ℕ, ◌-◌, Bool, true, false, ◌==◌, List, [], ◌∷◌, ◌++◌, length, map, take, nat_le, refl, sym, ap, ◌∙◌, subst, arith, append_assoc, sum_by}
+use Rattle.std.specs.List.{list_all}
+use Rattle.std.specs.Prelude.{if◌then◌else◌, encode_utf8_all, IsUtf8}
+use Rattle.std.specs.Str.{all_scalars}
+use Rattle.std.proofs.lemmas.Bool.{and_parts}
+use Rattle.std.proofs.lemmas.Bool.Decides.{nat_tests}
+use Rattle.std.proofs.lemmas.List.Folds.{list_all-append}
+use Rattle.std.proofs.lemmas.List.Sums.{sum_by-cons, sum_by-append}
+use Rattle.std.proofs.lemmas.Str.{chars-encodes, encodes-append}
+use Rattle.unicode_segmentation.specs.Grapheme.{is_grapheme_break}
+use Rattle.unicode_segmentation.specs.Segments.{Rule, cut, prepend, segments}
+use Rattle.unicode_width.specs.Width.{str_width}
+use Rattle.unicode_width.proofs.Rules.{width_or_zero}
+use Rattle.comfy_parts.proofs.PlaceLemmas.{scalars-parts}
+use Rattle.comfy_parts.specs.Text.{Text, measure, clusters_within, first_character, head}
+use Rattle.comfy_parts.specs.Wrapping.{head_or_first}
+use Rattle.comfy_parts.proofs.LinesFitLemmas.{BreaksWell, IsCut}
+use Rattle.comfy_parts.proofs.SpaceMeasureLemmas.{measure-nil}
+
+-- the widths of characters of this kind add up, and each is at most two columns
+pub record AddUp (kind : ℕ → Bool) : Type 0 where
+  pub sums : (cs : List ℕ) → list_all kind cs ≡ true → str_width false cs ≡ sum_by (width_or_zero false) cs
+  pub narrow : (c : ℕ) → kind c ≡ true → width_or_zero false c ≤ 2
+
+-- the characters of all pieces, in a row
+abbrev joined_chars : List (List ℕ) → List ℕ
+joined_chars [] = []
+joined_chars (cs ∷ css) = cs ++ joined_chars css
+
+joined-prepend : (part : List ℕ) (pieces : List (List ℕ)) → joined_chars (prepend part pieces) ≡ part ++ joined_chars pieces
+joined-prepend part [] = refl
+joined-prepend part (piece ∷ pieces) = append_assoc part piece (joined_chars pieces)
+
+joined-cut : (rule : Rule) (before cs after : List ℕ) → joined_chars (cut rule before cs after) ≡ cs
+unfolding cut
+joined-cut rule before [] after = refl
+joined-cut rule before (c ∷ cs) after = by_test (rule (c ∷ before) (cs ++ after)) (joined-cut rule (c ∷ before) cs after)
+  where
+    by_test : (b : Bool) → joined_chars (cut rule (c ∷ before) cs after) ≡ cs
+        → joined_chars (if b then (c ∷ []) ∷ cut rule (c ∷ before) cs after else prepend (c ∷ []) (cut rule (c ∷ before) cs after)) ≡ c ∷ cs
+    by_test true rest = ap (λ more. c ∷ more) rest
+    by_test false rest = joined-prepend (c ∷ []) (cut rule (c ∷ before) cs after) ∙ ap (λ more. c ∷ more) rest
+
+module _ (kind : ℕ → Bool) (add_up : AddUp kind) where
+  -- a text of such characters
+  pub record IsSummed (text : Text) : Type 0 where
+    pub characters : List ℕ
+    pub scalars : all_scalars characters ≡ true
+    pub spelt : encode_utf8_all characters ≡ text
+    pub each : list_all kind characters ≡ true
+
+  measure-encoded : (cs : List ℕ) → all_scalars cs ≡ true → list_all kind cs ≡ true → measure (encode_utf8_all cs) ≡ sum_by (width_or_zero false) cs
+  measure-encoded cs scalars each = ap (str_width false) (chars-encodes cs scalars) ∙ add_up.sums cs each
+
+  -- the taken text is the front of these characters, and fits
+  record IsFitHead (k : ℕ) (cs : List ℕ) (taken : Text) : Type 0 where
+    front : List ℕ
+    back : List ℕ
+    splits : cs ≡ front ++ back
+    spelt : encode_utf8_all front ≡ taken
+    fits : sum_by (width_or_zero false) front ≤ k
+
+  within-fits : (k : ℕ) (css : List (List ℕ)) → all_scalars (joined_chars css) ≡ true → list_all kind (joined_chars css) ≡ true
+      → IsFitHead k (joined_chars css) (clusters_within k (map encode_utf8_all css))
+  within-fits k [] scalars each = record { front = []; back = []; splits = refl; spelt = refl; fits = omega arith }
+  within-fits k (cs ∷ css) scalars each =
+      let whole = scalars-parts cs (joined_chars css) scalars in
+      let kinds = and_parts (list_all kind cs) (list_all kind (joined_chars css)) (sym (list_all-append kind cs (joined_chars css)) ∙ each) in
+      by_test (nat_le (measure (encode_utf8_all cs)) k) refl (measure-encoded cs whole.0 kinds.0) (within-fits (k - measure (encode_utf8_all cs)) css whole.1 kinds.1)
+    where
+      by_test : (b : Bool) → nat_le (measure (encode_utf8_all cs)) k ≡ b → measure (encode_utf8_all cs) ≡ sum_by (width_or_zero false) cs
+          → IsFitHead (k - measure (encode_utf8_all cs)) (joined_chars css) (clusters_within (k - measure (encode_utf8_all cs)) (map encode_utf8_all css))
+          → IsFitHead k (cs ++ joined_chars css) (if b then encode_utf8_all cs ++ clusters_within (k - measure (encode_utf8_all cs)) (map encode_utf8_all css) else [])
+      by_test true test sums rest =
+          let sum = sum_by-append (width_or_zero false) cs rest.front in
+          let within = rest.fits in
+          let one : measure (encode_utf8_all cs) ≤ k = grind (arith, nat_tests, test) in
+          record { front = cs ++ rest.front; back = rest.back; splits = ap (λ xs. cs ++ xs) rest.splits ∙ sym (append_assoc cs rest.front rest.back); spelt = encodes-append cs rest.front ∙ ap (λ t. encode_utf8_all cs ++ t) rest.spelt; fits = omega (arith, sum, within, one, sums) }
+      by_test false test sums rest = record { front = []; back = cs ++ joined_chars css; splits = refl; spelt = refl; fits = omega arith }
+
+  -- the head of such a text
+  head-fits : (k : ℕ) (cs : List ℕ) → all_scalars cs ≡ true → list_all kind cs ≡ true → IsFitHead k cs (head k (encode_utf8_all cs))
+  unfolding segments
+  head-fits k cs scalars each =
+      let joined : joined_chars (cut (is_grapheme_break true) [] cs []) ≡ cs = joined-cut (is_grapheme_break true) [] cs [] in
+      subst (λ xs. IsFitHead k cs (clusters_within k (map encode_utf8_all (cut (is_grapheme_break true) [] xs [])))) (sym (chars-encodes cs scalars))
+      (subst (λ xs. IsFitHead k xs (clusters_within k (map encode_utf8_all (cut (is_grapheme_break true) [] cs [])))) joined
+      (within-fits k (cut (is_grapheme_break true) [] cs []) (ap all_scalars joined ∙ scalars) (ap (list_all kind) joined ∙ each)))
+
+  -- a front of such a text that fits cuts it well
+  cut-front : (k : ℕ) (cs : List ℕ) (taken : Text) → all_scalars cs ≡ true → list_all kind cs ≡ true → IsFitHead k cs taken → IsCut IsSummed k taken (encode_utf8_all cs)
+  cut-front k cs taken scalars each head =
+      let whole = scalars-parts head.front head.back (sym (ap all_scalars head.splits) ∙ scalars) in
+      let kinds = and_parts (list_all kind head.front) (list_all kind head.back) (sym (list_all-append kind head.front head.back) ∙ sym (ap (list_all kind) head.splits) ∙ each) in
+      let sums = measure-encoded head.front whole.0 kinds.0 in
+      record {
+        rest = encode_utf8_all head.back;
+        splits = ap encode_utf8_all head.splits ∙ encodes-append head.front head.back ∙ ap (λ t. t ++ encode_utf8_all head.back) head.spelt;
+        whole_front = (head.front, (whole.0, head.spelt));
+        whole_rest = (head.back, (whole.1, refl));
+        fits = subst (λ t. measure t ≤ k) head.spelt (omega (arith, sums, head.fits));
+        keeps = record { characters = head.back; scalars = whole.1; spelt = refl; each = kinds.1 };
+      }
+
+  -- the first character of such a text fits two places
+  first-fits : (w : ℕ) (cs : List ℕ) → 2 ≤ w → all_scalars cs ≡ true → list_all kind cs ≡ true → IsFitHead w cs (first_character (encode_utf8_all cs))
+  first-fits w cs two scalars each =
+      subst (λ xs. IsFitHead w cs (encode_utf8_all (take 1 xs))) (sym (chars-encodes cs scalars)) (by_characters cs each)
+    where
+      by_characters : (cs : List ℕ) → list_all kind cs ≡ true → IsFitHead w cs (encode_utf8_all (take 1 cs))
+      by_characters [] each = record { front = []; back = []; splits = refl; spelt = refl; fits = omega arith }
+      by_characters (c ∷ cs) each =
+          let one = add_up.narrow c (and_parts (kind c) (list_all kind cs) each).0 in
+          let sum = sum_by-cons (width_or_zero false) c [] in
+          record { front = c ∷ []; back = cs; splits = refl; spelt = refl; fits = omega (arith, one, sum, two) }
+
+  -- the head of such a text cuts it well
+  pub head-cut : (k : ℕ) (text : Text) → IsSummed text → IsCut IsSummed k (head k text) text
+  head-cut k text summed =
+      subst (λ t. IsCut IsSummed k (head k t) t) summed.spelt
+      (cut-front k summed.characters (head k (encode_utf8_all summed.characters)) summed.scalars summed.each (head-fits k summed.characters summed.scalars summed.each))
+
+  -- so such texts are cut well
+  pub breaks-summed : (w : ℕ) → 2 ≤ w → BreaksWell w IsSummed
+  breaks-summed w two =
+      record {
+        empty = record { characters = []; scalars = refl; spelt = refl; each = refl };
+        part = λ k word summed utf8 wide. head-cut k word summed;
+        first = λ word summed utf8 wide. subst (λ t. IsCut IsSummed w (head_or_first w t) t) summed.spelt (cut-front w summed.characters (head_or_first w (encode_utf8_all summed.characters)) summed.scalars summed.each (by_test summed.characters summed.scalars summed.each (length (head w (encode_utf8_all summed.characters)) == 0)));
+      }
+    where
+      by_test : (cs : List ℕ) → all_scalars cs ≡ true → list_all kind cs ≡ true → (b : Bool) → IsFitHead w cs (if b then first_character (encode_utf8_all cs) else head w (encode_utf8_all cs))
+      by_test cs scalars each true = first-fits w cs two scalars each
+      by_test cs scalars each false = head-fits w cs scalars each
+
+-- words that fit, or are of such a kind
+abbrev pub FitsOr : (Text → Type 0) → ℕ → Text → Type 0
+FitsOr Word w word = (measure word ≤ w) ⊎ Word word
+
+-- they are cut well too
+pub breaks-or : (Word : Text → Type 0) (w : ℕ) → BreaksWell w Word → BreaksWell w (FitsOr Word w)
+breaks-or Word w breaks = record { empty = inr breaks.empty; part = λ k word is utf8 wide. by_part k word is utf8 wide; first = λ word is utf8 wide. by_first word is utf8 wide }
+  where
+    either : (k : ℕ) (front word : Text) → IsCut Word k front word → IsCut (FitsOr Word w) k front word
+    either k front word cut = record { rest = cut.rest; splits = cut.splits; whole_front = cut.whole_front; whole_rest = cut.whole_rest; fits = cut.fits; keeps = inr cut.keeps }
+
+    by_part : (k : ℕ) (word : Text) → FitsOr Word w word → IsUtf8 word → w < measure word → IsCut (FitsOr Word w) k (head k word) word
+    by_part k word (inl fits) utf8 wide = absurd (omega (arith, fits, wide))
+    by_part k word (inr is) utf8 wide = either k (head k word) word (breaks.part k word is utf8 wide)
+
+    by_first : (word : Text) → FitsOr Word w word → IsUtf8 word → w < measure word → IsCut (FitsOr Word w) w (head_or_first w word) word
+    by_first word (inl fits) utf8 wide = absurd (omega (arith, fits, wide))
+    by_first word (inr is) utf8 wide = either w (head_or_first w word) word (breaks.first word is utf8 wide)
+
+-- where every word fits, none is cut
+pub breaks-none : (w : ℕ) → BreaksWell w (λ word. measure word ≤ w)
+breaks-none w =
+    record { empty = (let none = measure-nil in omega (arith, none)); part = λ k word fits utf8 wide. absurd (omega (arith, fits, wide)); first = λ word fits utf8 wide. absurd (omega (arith, fits, wide)) }

@@ -1,0 +1,172 @@
+-- All lines of a table whose lines fit measure the same.
+use Rattle.std.proofs.Common.{◌≡◌, ◌<◌, ◌≤◌, inl, inr, ℕ, ◌+◌, Bool, true, false, List, [], ◌∷◌, ◌++◌, Option, Some, None, length, sum, refl, ◌∙◌, subst, arith, slice_index_or}
+use Rattle.std.specs.List.{All, range_with_len, slice_get}
+use Rattle.std.specs.Prelude.{if◌then◌else◌, option_to_list}
+use Rattle.std.proofs.lemmas.List.{length-map}
+use Rattle.std.proofs.lemmas.List.Elements.{All-cons, All-nil, All-head, All-tail, All-append, All-weaker, All-map}
+use Rattle.comfy_parts.specs.CellValue.{CellValue, RowValue, ColumnInfo, info_width}
+use Rattle.comfy_parts.specs.Text.{Text, measure}
+use Rattle.comfy_parts.specs.declared.style.table_style.ContentLineStyle.{ContentLineStyle}
+use Rattle.comfy_parts.specs.declared.style.table_style.LineStyle.{LineStyle}
+use Rattle.comfy_table.proofs.EqualCountLemmas.{length-infos_from}
+use Rattle.comfy_table.proofs.ListLemmas.{All-every, At-or, All-join_by, AllZip-map}
+use Rattle.comfy_table.specs.Drawing.{infos_of, visible_widths, drawn_row, drawn_header, drawn_rows, drawing_of_infos, drawing}
+use Rattle.comfy_table.specs.Frame.{border_count, content_line, draws_vertical_lines, frame_line, is_drawn, optional_frame_line}
+use Rattle.comfy_table.specs.Laws.{unstyled}
+use Rattle.comfy_table.specs.Pieces.{blank_piece, pieces_of_optional, pieces_at, piece, row_cell_lines, row_line, row_lines, row_height, visible_infos}
+use Rattle.comfy_table.specs.TableValue.{TableValue, seen_table, seen_rows}
+use Rattle.comfy_table.specs.Widths.{visible_count}
+use Rattle.comfy_table.specs.Straight.{IsOneColumn, LinesFitColumn, TextsStandApart, style_characters, IsStraight}
+use Rattle.comfy_table.proofs.InfoLemmas.{infos-known}
+use Rattle.comfy_table.proofs.MeasureLemmas.{IsAny, IsFollowing, any_follows, apart_follows, HasMeasure, HasMeasure-any, HasMeasure-spaces, IsPiece, measure-is}
+use Rattle.comfy_table.proofs.PieceMeasureLemmas.{HasMeasure-frame_line, HasMeasure-joined, IsGoodPiece, good-any, good-front, good-junction, piece-any, piece-apart, spaced-blank, spaced-front}
+use Rattle.comfy_parts.specs.Columns.{IsFittingLine, IsApart}
+
+-- a piece of the cell that a row has in a column, or the blank one
+abbrev ArePiecesGood : (Text → Type 0) → TableValue → RowValue → ℕ × ColumnInfo → Type 0
+ArePiecesGood Follows table row p = All (IsGoodPiece Follows (draws_vertical_lines table.style) (info_width p.1)) (pieces_at (unstyled table) row p)
+
+-- the pieces of lines that fit are good, where every piece of a line that fits is, and the blank one
+pieces-good : (Follows : Text → Type 0) (table : TableValue) (row : RowValue) (p : ℕ × ColumnInfo) → LinesFitColumn table row p
+    → IsGoodPiece Follows (draws_vertical_lines table.style) (info_width p.1) (blank_piece p.1)
+    → ((cell : CellValue) (line : Text) → IsFittingLine p.1.content_width line → IsGoodPiece Follows (draws_vertical_lines table.style) (info_width p.1) (piece (unstyled table) cell p.1 line))
+    → ArePiecesGood Follows table row p
+pieces-good Follows table row p fit blank each = by_option (slice_get row.cells p.0) fit
+  where
+    Good : Text → Type 0
+    Good = IsGoodPiece Follows (draws_vertical_lines table.style) (info_width p.1)
+
+    by_option : (o : Option CellValue) → ((cell : CellValue) → o ≡ Some cell → All (IsFittingLine p.1.content_width) (row_cell_lines (unstyled table) row p.1 cell)) → All Good (pieces_of_optional (unstyled table) row p.1 o)
+    by_option None fit = All-cons Good (blank_piece p.1) [] blank (All-nil Good)
+    by_option (Some cell) fit =
+        All-map Good (piece (unstyled table) cell p.1) (row_cell_lines (unstyled table) row p.1 cell)
+        (All-weaker (IsFittingLine p.1.content_width) (λ line. Good (piece (unstyled table) cell p.1 line)) (each cell) (row_cell_lines (unstyled table) row p.1 cell) (fit cell refl))
+
+-- ---- the drawing
+
+module _ (table : TableValue) (infos : List ColumnInfo) (Follows : Text → Type 0) (follows : IsFollowing Follows) (characters : All IsOneColumn (style_characters table.style))
+    (blanks : All (λ (p : ℕ × ColumnInfo). IsGoodPiece Follows (draws_vertical_lines table.style) (info_width p.1) (blank_piece p.1)) (visible_infos infos)) where
+  -- the columns of a line
+  abbrev total_of : ℕ
+  total_of = border_count table.style (length (visible_widths infos)) + sum (visible_widths infos)
+
+  -- a line has them
+  abbrev HasTotal : Text → Type 0
+  HasTotal = HasMeasure Follows total_of
+
+  -- each line of a row has them
+  row_measured : (line : ContentLineStyle) (row : RowValue) → IsOneColumn line.left → IsOneColumn line.junction → IsOneColumn line.right
+      → All (ArePiecesGood Follows table row) (visible_infos infos) → All HasTotal (drawn_row (unstyled table) infos line row)
+  row_measured line row left junction right each =
+      All-map HasTotal (content_line table.style line) (row_lines (unstyled table) infos row)
+      (All-map (λ pieces. HasTotal (content_line table.style line pieces)) (row_line (unstyled table) infos row) (range_with_len 0 (row_height (unstyled table) infos row))
+      (All-every (λ k. HasTotal (content_line table.style line (row_line (unstyled table) infos row k))) (range_with_len 0 (row_height (unstyled table) infos row)) at))
+    where
+      Good : ℕ × ColumnInfo → Text → Type 0
+      Good p = IsGoodPiece Follows (draws_vertical_lines table.style) (info_width p.1)
+
+      at : (k : ℕ) → HasTotal (content_line table.style line (row_line (unstyled table) infos row k))
+      at k =
+          HasMeasure-joined Follows table.style line.left line.junction line.right (visible_widths infos) (row_line (unstyled table) infos row k) follows left junction right
+          (AllZip-map (IsPiece Follows _) (λ (p : ℕ × ColumnInfo). info_width p.1) (λ (p : ℕ × ColumnInfo). slice_index_or (pieces_at (unstyled table) row p) k (blank_piece p.1)) (visible_infos infos)
+          (λ j other below.
+          let p = slice_index_or (visible_infos infos) j other in
+          let good : Good p (slice_index_or (pieces_at (unstyled table) row p) k (blank_piece p.1)) = At-or (Good p) (pieces_at (unstyled table) row p) k (blank_piece p.1) (each j other below) (blanks j other below) in
+          record { has = good.has; fronts = good.fronts _ junction }))
+
+  -- a frame line that is drawn has them
+  frame_measured : (line : LineStyle) → IsOneColumn line.left → IsOneColumn line.fill → IsOneColumn line.junction → IsOneColumn line.right → All HasTotal (optional_frame_line table.style line (visible_widths infos))
+  frame_measured line left fill junction right = by_test (is_drawn line)
+    where
+      by_test : (b : Bool) → All HasTotal (if b then frame_line table.style line (visible_widths infos) ∷ [] else [])
+      by_test true =
+          All-cons HasTotal (frame_line table.style line (visible_widths infos)) [] (HasMeasure-any Follows _ _ (HasMeasure-frame_line table.style line (visible_widths infos) left fill junction right)) (All-nil HasTotal)
+      by_test false = All-nil HasTotal
+
+  -- all lines have them
+  drawing_measured : All (λ row. All (ArePiecesGood Follows table row) (visible_infos infos)) (seen_rows table) → All HasTotal (drawing_of_infos (unstyled table) infos)
+  drawing_measured each = by_header (seen_table table).header each
+    where
+      at : (k : ℕ) → k < 22 → IsOneColumn (slice_index_or (style_characters table.style) k None)
+      at k below = characters k None below
+
+      header_separator : All HasTotal (optional_frame_line table.style table.style.header_separator (visible_widths infos))
+      header_separator = frame_measured table.style.header_separator (at 7 (omega arith)) (at 8 (omega arith)) (at 9 (omega arith)) (at 10 (omega arith))
+
+      header_lines : (header : Option RowValue) → All (λ row. All (ArePiecesGood Follows table row) (visible_infos infos)) (option_to_list header ++ (seen_table table).rows)
+          → All HasTotal (drawn_header (unstyled table) infos header)
+      header_lines None each = All-nil HasTotal
+      header_lines (Some row) each =
+          All-append HasTotal (drawn_row (unstyled table) infos table.style.header_lines row) _
+          (row_measured table.style.header_lines row (at 4 (omega arith)) (at 5 (omega arith)) (at 6 (omega arith)) (All-head (λ row. All (ArePiecesGood Follows table row) (visible_infos infos)) row (seen_table table).rows each)) header_separator
+
+      rows_of : (header : Option RowValue) → All (λ row. All (ArePiecesGood Follows table row) (visible_infos infos)) (option_to_list header ++ (seen_table table).rows)
+          → All (λ row. All (ArePiecesGood Follows table row) (visible_infos infos)) (seen_table table).rows
+      rows_of None each = each
+      rows_of (Some row) each = All-tail (λ row. All (ArePiecesGood Follows table row) (visible_infos infos)) row (seen_table table).rows each
+
+      rows_lines : All (λ row. All (ArePiecesGood Follows table row) (visible_infos infos)) (seen_table table).rows → All HasTotal (drawn_rows (unstyled table) infos (seen_table table).rows)
+      rows_lines each =
+          All-join_by HasTotal (drawn_row (unstyled table) infos table.style.content_lines) (optional_frame_line table.style table.style.row_separator (visible_widths infos)) (seen_table table).rows
+          (frame_measured table.style.row_separator (at 14 (omega arith)) (at 15 (omega arith)) (at 16 (omega arith)) (at 17 (omega arith)))
+          (All-weaker (λ row. All (ArePiecesGood Follows table row) (visible_infos infos)) (λ row. All HasTotal (drawn_row (unstyled table) infos table.style.content_lines row))
+          (λ row own. row_measured table.style.content_lines row (at 11 (omega arith)) (at 12 (omega arith)) (at 13 (omega arith)) own) (seen_table table).rows each)
+
+      by_header : (header : Option RowValue) → All (λ row. All (ArePiecesGood Follows table row) (visible_infos infos)) (option_to_list header ++ (seen_table table).rows)
+          → All HasTotal (optional_frame_line table.style table.style.top_border (visible_widths infos) ++ (drawn_header (unstyled table) infos header ++ (drawn_rows (unstyled table) infos (seen_table table).rows ++ optional_frame_line table.style table.style.bottom_border (visible_widths infos))))
+      by_header header each =
+          All-append HasTotal _ _ (frame_measured table.style.top_border (at 0 (omega arith)) (at 1 (omega arith)) (at 2 (omega arith)) (at 3 (omega arith)))
+          (All-append HasTotal (drawn_header (unstyled table) infos header) _ (header_lines header each)
+          (All-append HasTotal (drawn_rows (unstyled table) infos (seen_table table).rows) _ (rows_lines (rows_of header each))
+          (frame_measured table.style.bottom_border (at 18 (omega arith)) (at 19 (omega arith)) (at 20 (omega arith)) (at 21 (omega arith)))))
+
+  -- so all lines measure them
+  pub drawing_straight : All (λ row. All (ArePiecesGood Follows table row) (visible_infos infos)) (seen_rows table) → All (λ line. measure line ≡ total_of) (drawing_of_infos (unstyled table) infos)
+  drawing_straight each = All-weaker HasTotal (λ line. measure line ≡ total_of) (λ line has. measure-is Follows _ line follows has) (drawing_of_infos (unstyled table) infos) (drawing_measured each)
+
+-- ---- all tables
+
+-- all lines, frame lines too, are equally many columns wide
+pub straight : (table : TableValue) (widths : List ℕ) → IsStraight table widths
+straight table widths is arranged =
+    subst (λ n. All (λ line. measure line ≡ border_count table.style n + sum (visible_widths infos)) (drawing (unstyled table) widths)) columns (by_case is.apart)
+  where
+    infos : List ColumnInfo
+    infos = infos_of table widths
+
+    v : Bool
+    v = draws_vertical_lines table.style
+
+    columns : length (visible_widths infos) ≡ visible_count table
+    columns = length-map (visible_infos infos) _ ∙ length-infos_from 0 table.columns widths arranged.one_for_each
+
+    by_case : TextsStandApart table → All (λ line. measure line ≡ border_count table.style (length (visible_widths infos)) + sum (visible_widths infos)) (drawing (unstyled table) widths)
+    by_case (inl drawn) =
+        drawing_straight table infos IsApart apart_follows is.characters (λ j other below. good-junction v _ _ drawn (HasMeasure-any IsApart _ _ (HasMeasure-spaces _)))
+        (λ k default under j other below.
+        pieces-good IsApart table (slice_index_or (seen_rows table) k default) (slice_index_or (visible_infos infos) j other) (is.lines_fit k default under j other below)
+        (good-junction v _ _ drawn (HasMeasure-any IsApart _ _ (HasMeasure-spaces _)))
+        (λ cell line fitting. good-junction v _ _ drawn (piece-apart cell (slice_index_or (visible_infos infos) j other).1 line fitting)))
+    by_case (inr (inl each)) =
+        drawing_straight table infos IsApart apart_follows is.characters (λ j other below. blank j other below)
+        (λ k default under j other below.
+        pieces-good IsApart table (slice_index_or (seen_rows table) k default) (slice_index_or (visible_infos infos) j other) (is.lines_fit k default under j other below)
+        (blank j other below)
+        (λ cell line fitting. good-front v _ _ (λ rest. spaced-front IsApart _ _ rest apart_follows (padded j other below)) (piece-apart cell (slice_index_or (visible_infos infos) j other).1 line fitting)))
+      where
+        padded : All (λ (q : ℕ × ColumnInfo). 1 ≤ q.1.padding.0) (visible_infos infos)
+        padded = infos-known table widths (λ p. 1 ≤ p.1.padding.0) (λ (q : ℕ × ColumnInfo). 1 ≤ q.1.padding.0) arranged.one_for_each each (λ i column w left. left)
+
+        blank : (j : ℕ) (other : ℕ × ColumnInfo) → j < length (visible_infos infos) → IsGoodPiece IsApart v (info_width (slice_index_or (visible_infos infos) j other).1) (blank_piece (slice_index_or (visible_infos infos) j other).1)
+        blank j other below =
+            let left = padded j other below in
+            good-front v _ _ (λ rest. spaced-blank IsApart _ rest apart_follows (omega (arith, left))) (HasMeasure-any IsApart _ _ (HasMeasure-spaces _))
+    by_case (inr (inr each)) =
+        drawing_straight table infos IsAny any_follows is.characters (λ j other below. good-any v _ _ (HasMeasure-spaces _))
+        (λ k default under j other below.
+        pieces-good IsAny table (slice_index_or (seen_rows table) k default) (slice_index_or (visible_infos infos) j other) (is.lines_fit k default under j other below)
+        (good-any v _ _ (HasMeasure-spaces _))
+        (λ cell line fitting. good-any v _ _ (piece-any cell (slice_index_or (visible_infos infos) j other).1 line (padded j other below) fitting)))
+      where
+        padded : All (λ (q : ℕ × ColumnInfo). 1 ≤ q.1.padding.1) (visible_infos infos)
+        padded = infos-known table widths (λ p. 1 ≤ p.1.padding.1) (λ (q : ℕ × ColumnInfo). 1 ≤ q.1.padding.1) arranged.one_for_each each (λ i column w right. right)
