@@ -1,5 +1,5 @@
 -- The characters of all presets add one column wherever they stand.
-use Rattle.std.proofs.Common.{◌≡◌, ℕ, ◌+◌, ◌-◌, ◌==◌, ◌&&◌, nat_le, Bool, true, false, cond, not, None, refl, sym, ap, ap₂, ◌∙◌, subst, arith}
+use Rattle.std.proofs.Common.{◌≡◌, ℕ, ◌+◌, ◌-◌, ◌==◌, ◌&&◌, ◌||◌, nat_le, Bool, true, false, cond, not, None, refl, sym, ap, ap₂, ◌∙◌, subst, arith}
 use Rattle.std.specs.Int.{is_in_range}
 use Rattle.std.proofs.lemmas.Bool.{and_parts}
 use Rattle.std.proofs.lemmas.Bool.Decides.{nat_tests}
@@ -16,10 +16,30 @@ use Rattle.comfy_parts.proofs.SpaceMeasureLemmas.{Seals}
 
 -- ---- printable ASCII
 
-pub low_seals : (c : ℕ) → is_in_range 0x20 0x7E c ≡ true → is_emoji_variation_base c ≡ false → Seals c
-unfolding step past_emoji
-low_seals c printable base n s = by_flag s.emoji s
+-- `#`, `*` and the digits
+abbrev is_keycap : ℕ → Bool
+is_keycap c = (c == 0x23) || ((c == 0x2A) || is_in_range 0x30 0x39 c)
+
+-- no other character of printable ASCII can become an emoji
+low_are_no_bases : all_below (λ c. is_keycap c || not (is_emoji_variation_base c)) 0x7F ≡ true
+unfolding unicode_width all_below
+low_are_no_bases = refl
+
+not_base : (c : ℕ) → is_in_range 0x20 0x7E c ≡ true → is_keycap c ≡ false → is_emoji_variation_base c ≡ false
+not_base c printable plain =
+    not-false _ (ap (λ b. b || not (is_emoji_variation_base c)) (sym plain) ∙ all_below-at (λ k. is_keycap k || not (is_emoji_variation_base k)) 0x7F c low_are_no_bases (grind (arith, nat_tests, printable)))
   where
+    not-false : (b : Bool) → not b ≡ true → b ≡ false
+    not-false true h = sym h
+    not-false false h = refl
+
+pub low_seals : (c : ℕ) → is_in_range 0x20 0x7E c ≡ true → is_keycap c ≡ false → Seals c
+unfolding step past_emoji
+low_seals c printable other n s = by_flag s.emoji s
+  where
+    base : is_emoji_variation_base c ≡ false
+    base = not_base c printable other
+
     at : (s : State) → past_emoji false c n s ≡ (n + 1, plain)
     at s = grind (arith, nat_tests, printable)
 
@@ -27,7 +47,7 @@ low_seals c printable base n s = by_flag s.emoji s
     by_flag false s = at s
     by_flag true s = rw base (at (record (if_kept s) { emoji = false }))
 
--- ---- box characters
+-- ---- box and block characters
 
 -- one column wide, and joined with nothing
 abbrev is_narrow : Kind → Bool
@@ -40,8 +60,8 @@ abbrev pub is_lone : ℕ → Bool
 is_lone c =
     is_narrow (kind c) && (not (is_emoji_variation_base c) && (not (is_ligature_transparent c) && (not (is_lam c) && not (is_emoji_modifier_base c))))
 
--- so it is with all box characters, U+2500 to U+257F
-boxes_are_lone : all_below (λ k. is_lone (0x2500 + k)) 128 ≡ true
+-- so it is with all box and block characters, U+2500 to U+259F
+boxes_are_lone : all_below (λ k. is_lone (0x2500 + k)) 160 ≡ true
 unfolding unicode_width all_below
 boxes_are_lone = refl
 
@@ -83,7 +103,7 @@ lone_parts c test =
     record { alone = own.0; not_emoji = own.1; not_variation_base = not-false _ second.0; not_transparent = not-false _ third.0; not_lam = not-false _ fourth.0; not_modifier_base = not-false _ fourth.1 }
 
 -- nothing is joined with what follows it
-joins_none : (c : ℕ) → is_in_range 0x2500 0x257F c ≡ true → IsLone c → (after : After) → joins false after c ≡ None
+joins_none : (c : ℕ) → is_in_range 0x2500 0x259F c ≡ true → IsLone c → (after : After) → joins false after c ≡ None
 unfolding joins before_alef
 joins_none c box lone Nothing = grind (arith, nat_tests, box)
 joins_none c box lone LineFeed = grind (arith, nat_tests, box)
@@ -124,7 +144,7 @@ joins_none c box lone OrkhonI = grind (arith, nat_tests, box)
 joins_none c box lone ZwjOrkhonI = grind (arith, nat_tests, box)
 joins_none c box lone KhmerLetter = grind (arith, nat_tests, box)
 
-past_selectors-lone : (c n : ℕ) (after : After) → is_in_range 0x2500 0x257F c ≡ true → IsLone c → past_selectors false c n after ≡ (n + 1, plain)
+past_selectors-lone : (c n : ℕ) (after : After) → is_in_range 0x2500 0x259F c ≡ true → IsLone c → past_selectors false c n after ≡ (n + 1, plain)
 unfolding past_selectors
 past_selectors-lone c n after box lone =
     let joiner : (c == 0x200D) ≡ false = grind (arith, nat_tests, box) in
@@ -136,7 +156,7 @@ past_selectors-lone c n after box lone =
     by_skip true joiner transparent p q = rw (p, q) refl
     by_skip false joiner transparent p q = refl
 
-in_context-lone : (c n : ℕ) (s : State) → is_in_range 0x2500 0x257F c ≡ true → IsLone c → in_context false c n s ≡ (n + 1, plain)
+in_context-lone : (c n : ℕ) (s : State) → is_in_range 0x2500 0x259F c ≡ true → IsLone c → in_context false c n s ≡ (n + 1, plain)
 unfolding in_context
 in_context-lone c n s box lone =
     let one : (c == 0xFE0F) ≡ false = grind (arith, nat_tests, box) in
@@ -153,7 +173,7 @@ in_context-lone c n s box lone =
     by_text true rest = refl
     by_text false rest = rest
 
-past_emoji-lone : (c n : ℕ) (s : State) → is_in_range 0x2500 0x257F c ≡ true → IsLone c → past_emoji false c n s ≡ (n + 1, plain)
+past_emoji-lone : (c n : ℕ) (s : State) → is_in_range 0x2500 0x259F c ≡ true → IsLone c → past_emoji false c n s ≡ (n + 1, plain)
 unfolding past_emoji
 past_emoji-lone c n s box lone =
     let feed : (c == 0x0A) ≡ false = grind (arith, nat_tests, box) in
@@ -165,15 +185,15 @@ past_emoji-lone c n s box lone =
     by_state true = ap (λ (own : ℕ × State). (n + own.0, own.1)) lone.alone
     by_state false = in_context-lone c n s box lone
 
--- so each box character adds one column
-pub box_seals : (c : ℕ) → is_in_range 0x2500 0x257F c ≡ true → Seals c
+-- so each box or block character adds one column
+pub box_seals : (c : ℕ) → is_in_range 0x2500 0x259F c ≡ true → Seals c
 unfolding step
 box_seals c box n s = by_flag s.emoji s
   where
     lone : IsLone c
     lone =
         let here : 0x2500 + (c - 0x2500) ≡ c = grind (arith, nat_tests, box) in
-        lone_parts c (subst (λ x. is_lone x ≡ true) here (all_below-at (λ k. is_lone (0x2500 + k)) 128 (c - 0x2500) boxes_are_lone (grind (arith, nat_tests, box))))
+        lone_parts c (subst (λ x. is_lone x ≡ true) here (all_below-at (λ k. is_lone (0x2500 + k)) 160 (c - 0x2500) boxes_are_lone (grind (arith, nat_tests, box))))
 
     by_flag : (b : Bool) (s : State) → cond (not b) (past_emoji false c n s) (cond (is_emoji_variation_base c) (n + cond (is_joined_emoji s.after) 0 2, before Emoji) (past_emoji false c n (record (if_kept s) { emoji = false }))) ≡ (n + 1, plain)
     by_flag false s = past_emoji-lone c n s box lone

@@ -1,36 +1,53 @@
 -- Kinds of characters whose widths add up: those that join nothing, and emoji that stand by themselves.
-use Rattle.std.proofs.Common.{◌≡◌, ◌≢◌, ◌<◌, ◌≤◌, ◌⊎◌, inl, inr, ℕ, ◌+◌, Bool, true, false, not, ◌&&◌, ◌==◌, List, [], ◌∷◌, nat_lt, refl, sym, ap, ◌∙◌, subst, arith, sum_by, ⊎_elim}
+use Rattle.std.proofs.Common.{◌≡◌, ◌≢◌, ◌<◌, ◌≤◌, ◌⊎◌, inl, inr, ℕ, ◌+◌, Bool, true, false, not, ◌&&◌, ◌||◌, ◌==◌, List, [], ◌∷◌, nat_lt, nat_le, zero, suc, slice_index_or, refl, sym, ap, ◌∙◌, subst, arith, sum_by, ⊎_elim}
 use Rattle.std.specs.Int.{is_in_range}
-use Rattle.std.specs.List.{list_all}
+use Rattle.std.specs.List.{list_all, list_any}
 use Rattle.std.proofs.lemmas.Bool.{and_parts, or_cases}
 use Rattle.std.proofs.lemmas.Bool.Decides.{nat_tests}
 use Rattle.std.proofs.lemmas.List.Sums.{sum_by-cons}
+use Rattle.std.proofs.lemmas.Bool.{or_parts}
+use Rattle.ucd_table.specs.Rows.{Range, in_ranges}
+use Rattle.ucd_table.proofs.Facts.{Stepped-everywhere, ends_by}
+use Rattle.ucd_table.proofs.Stepped.{Stepped, of_ranges, zip_stepped}
+use Rattle.ucd_table.proofs.StepsLemmas.{rises_from}
+use Rattle.unicode_width.proofs.Computing.{unicode_width}
+use Rattle.unicode_width.proofs.KindLemmas.{kind_stepped}
 use Rattle.unicode_width.specs.declared.kind.Kind.{Kind}
 use Rattle.unicode_width.specs.declared.kind.Kind.TheVariants as kinds
 use Rattle.unicode_width.specs.declared.state.After.TheVariants as after
 use Rattle.unicode_width.specs.declared.state.State.{State}
 use Rattle.unicode_width.specs.Kind.{kind}
 use Rattle.unicode_width.specs.Width.{Reading, added, alone, before, char_width, of_kind, past_emoji, plain, read_before, step, str_width}
-use Rattle.unicode_width.proofs.Rules.{is_simple, is_simple_kind, str_width-simple, width_or_zero}
+use Rattle.unicode_width.proofs.Rules.{width_or_zero}
 use Rattle.unicode_width.proofs.WidthLemmas.{step-before_emoji}
 use Rattle.comfy_parts.proofs.WordLemmas.{AddUp}
-use Rattle.comfy_parts.specs.Columns.{is_summed, is_summed_kind}
+use Rattle.comfy_parts.specs.Columns.{joining_characters, joins_no_other}
 
--- ---- characters that join nothing
+-- ---- kinds
 
-kind-narrow : (c : ℕ) (k : Kind) → is_simple_kind k ≡ true → (of_kind false c k).0 ≤ 2
-kind-narrow c kinds.Zero h = omega arith
-kind-narrow c kinds.Narrow h = omega arith
-kind-narrow c kinds.Wide h = omega arith
-kind-narrow c kinds.Ambiguous h = omega arith
-kind-narrow c kinds.Alef h = absurd (cc h)
-kind-narrow c kinds.KhmerLetter h = absurd (cc h)
-kind-narrow c kinds.TifinaghConsonant h = absurd (cc h)
-kind-narrow c kinds.LisuTone h = absurd (cc h)
-kind-narrow c kinds.RegionalIndicator h = absurd (cc h)
-kind-narrow c kinds.EmojiModifier h = absurd (cc h)
-kind-narrow c kinds.Emoji h = absurd (cc h)
-kind-narrow c kinds.Single h = absurd (cc h)
+-- ranges hold a number that one of them holds
+pub in_ranges-any : (rs : List Range) (c : ℕ) → list_any (λ (r : Range). nat_le r.0 c && nat_le c r.1) rs ≡ in_ranges rs c
+unfolding in_ranges
+in_ranges-any [] c = refl
+in_ranges-any (r ∷ rs) c = ap (λ b. (nat_le r.0 c && nat_le c r.1) || b) (in_ranges-any rs c)
+
+-- the kinds of characters that join nothing, and emoji
+abbrev adds_up_kind : Kind → Bool
+adds_up_kind kinds.Zero = true
+adds_up_kind kinds.Narrow = true
+adds_up_kind kinds.Wide = true
+adds_up_kind kinds.Ambiguous = true
+adds_up_kind kinds.Emoji = true
+adds_up_kind _ = false
+
+unfoldable joining_stepped : Stepped (in_ranges joining_characters)
+unfolding rises_from
+joining_stepped = of_ranges joining_characters refl
+
+-- each character that isn't among the joining ones is of such a kind
+others_add_up : (c : ℕ) → (in_ranges joining_characters c || adds_up_kind (kind c)) ≡ true
+unfolding unicode_width ends_by joining_stepped
+others_add_up = Stepped-everywhere _ (zip_stepped (λ joins k. joins || adds_up_kind k) (in_ranges joining_characters) kind joining_stepped kind_stepped) refl
 
 ascii-one : (c : ℕ) → is_in_range 0x20 0x7E c ≡ true → width_or_zero false c ≡ 1
 unfolding char_width
@@ -40,23 +57,13 @@ high-alone : (c : ℕ) → nat_lt 0xA0 c ≡ true → width_or_zero false c ≡ 
 unfolding char_width
 high-alone c high = grind (arith, nat_tests, high)
 
-simple-narrow : (c : ℕ) → is_simple c ≡ true → width_or_zero false c ≤ 2
-unfolding alone
-simple-narrow c h =
-    ⊎_elim (λ printable. let one = ascii-one c printable in omega (arith, one))
-    (λ high. let parts = and_parts (nat_lt 0xA0 c) (is_simple_kind (kind c)) high in let own = high-alone c parts.0 in let most = kind-narrow c (kind c) parts.1 in omega (arith, own, most))
-    (or_cases (is_in_range 0x20 0x7E c) (nat_lt 0xA0 c && is_simple_kind (kind c)) h)
-
-pub simple_add_up : AddUp is_simple
-simple_add_up = record { sums = str_width-simple false; narrow = simple-narrow }
-
 -- ---- and emoji that stand by themselves
 
 -- what the reading of such a character leaves
 abbrev IsCalm : State → Type 0
 IsCalm s = (s ≡ plain) ⊎ (s ≡ before after.Emoji)
 
-of_kind-summed : (c : ℕ) (k : Kind) → is_summed_kind k ≡ true → IsCalm (of_kind false c k).1 × ((of_kind false c k).0 ≤ 2)
+of_kind-summed : (c : ℕ) (k : Kind) → adds_up_kind k ≡ true → IsCalm (of_kind false c k).1 × ((of_kind false c k).0 ≤ 2)
 of_kind-summed c kinds.Zero h = (inl refl, omega arith)
 of_kind-summed c kinds.Narrow h = (inl refl, omega arith)
 of_kind-summed c kinds.Wide h = (inl refl, omega arith)
@@ -86,61 +93,75 @@ not-false : (b : Bool) → not b ≡ true → b ≡ false
 not-false true h = sym h
 not-false false h = refl
 
-record IsSummedHigh (c : ℕ) : Type 0 where
+record IsOther (c : ℕ) : Type 0 where
   high : nat_lt 0xA0 c ≡ true
   no_joiner : c ≢ 0x200D
   no_selector : (c < 0xFE00) ⊎ (0xFE0F < c)
   own : IsCalm (alone false c).1 × ((alone false c).0 ≤ 2)
 
-outside : (c : ℕ) → is_in_range 0xFE00 0xFE0F c ≡ false → (c < 0xFE00) ⊎ (0xFE0F < c)
-outside c h = by_test (nat_lt c 0xFE00) refl
+-- a number in none of some ranges isn't in the one at position k
+outside_range : (rs : List Range) (k c : ℕ) → in_ranges rs c ≡ false → (c < (slice_index_or rs k (1, 0)).0) ⊎ ((slice_index_or rs k (1, 0)).1 < c)
+unfolding in_ranges
+outside_range [] k c none = by_test (nat_lt c 1) refl
   where
-    by_test : (b : Bool) → nat_lt c 0xFE00 ≡ b → (c < 0xFE00) ⊎ (0xFE0F < c)
+    by_test : (b : Bool) → nat_lt c 1 ≡ b → (c < 1) ⊎ (0 < c)
     by_test true below = inl (grind (arith, nat_tests, below))
-    by_test false above = inr (grind (arith, nat_tests, above, h))
+    by_test false above = inr (grind (arith, nat_tests, above))
+outside_range (r ∷ rs) zero c none = by_test (nat_lt c r.0) refl
+  where
+    here : (nat_le r.0 c && nat_le c r.1) ≡ false
+    here = (or_parts (nat_le r.0 c && nat_le c r.1) (in_ranges rs c) none).0
 
-high_parts : (c : ℕ) → (nat_lt 0xA0 c && (not (c == 0x200D) && (not (is_in_range 0xFE00 0xFE0F c) && is_summed_kind (kind c)))) ≡ true → IsSummedHigh c
+    by_test : (b : Bool) → nat_lt c r.0 ≡ b → (c < r.0) ⊎ (r.1 < c)
+    by_test true below = inl (grind (arith, nat_tests, below))
+    by_test false above = inr (grind (arith, nat_tests, above, here))
+outside_range (r ∷ rs) (suc k) c none = outside_range rs k c (or_parts (nat_le r.0 c && nat_le c r.1) (in_ranges rs c) none).1
+
+other_parts : (c : ℕ) → (nat_lt 0xA0 c && not (in_ranges joining_characters c)) ≡ true → IsOther c
 unfolding alone
-high_parts c h =
-    let one = and_parts (nat_lt 0xA0 c) _ h in
-    let two = and_parts (not (c == 0x200D)) _ one.1 in
-    let three = and_parts (not (is_in_range 0xFE00 0xFE0F c)) (is_summed_kind (kind c)) two.1 in
-    let joiner : (c == 0x200D) ≡ false = not-false _ two.0 in
-    record { high = one.0; no_joiner = grind (arith, nat_tests, joiner); no_selector = outside c (not-false _ three.0); own = of_kind-summed c (kind c) three.1 }
+other_parts c h =
+    let both = and_parts (nat_lt 0xA0 c) (not (in_ranges joining_characters c)) h in
+    let none : in_ranges joining_characters c ≡ false = not-false _ both.1 in
+    record {
+      high = both.0;
+      no_joiner = λ same. ⊎_elim (λ below. absurd (omega (arith, below, same))) (λ above. absurd (omega (arith, above, same))) (outside_range joining_characters 12 c none);
+      no_selector = outside_range joining_characters 16 c none;
+      own = of_kind-summed c (kind c) (ap (λ b. b || adds_up_kind (kind c)) (sym none) ∙ others_add_up c);
+    }
 
 -- one character more adds its width
-pub step-summed : (c total : ℕ) (s : State) → IsCalm s → is_summed c ≡ true → (step false c (total, s)).0 ≡ total + width_or_zero false c
+pub step-summed : (c total : ℕ) (s : State) → IsCalm s → joins_no_other c ≡ true → (step false c (total, s)).0 ≡ total + width_or_zero false c
 step-summed c total s calm h =
     ⊎_elim
     (λ printable. let one = ascii-one c printable in by_ascii printable one calm)
-    (λ high. by_high (high_parts c high) calm)
+    (λ high. by_high (other_parts c high) calm)
     (or_cases (is_in_range 0x20 0x7E c) _ h)
   where
     by_ascii : is_in_range 0x20 0x7E c ≡ true → width_or_zero false c ≡ 1 → IsCalm s → (step false c (total, s)).0 ≡ total + width_or_zero false c
     by_ascii printable one (inl same) = ap (λ u. (step false c (total, u)).0) same ∙ ap (λ (r : Reading). r.0) (ascii-plain c total printable) ∙ ap (λ n. total + n) (sym one)
     by_ascii printable one (inr same) = ap (λ u. (step false c (total, u)).0) same ∙ ap (λ (r : Reading). r.0) (ascii-emoji c total printable) ∙ ap (λ n. total + n) (sym one)
 
-    by_high : IsSummedHigh c → IsCalm s → (step false c (total, s)).0 ≡ total + width_or_zero false c
+    by_high : IsOther c → IsCalm s → (step false c (total, s)).0 ≡ total + width_or_zero false c
     by_high is (inl same) = ap (λ u. (step false c (total, u)).0) same ∙ ap (λ (r : Reading). r.0) (high-plain c total is.high) ∙ ap (λ n. total + n) (sym (high-alone c is.high))
     by_high is (inr same) = ap (λ u. (step false c (total, u)).0) same ∙ ap (λ (r : Reading). r.0) (step-before_emoji false c total (grind (arith, nat_tests, is.high)) is.no_joiner is.no_selector) ∙ ap (λ n. total + n) (sym (high-alone c is.high))
 
 -- and leaves what another may follow
-pub calm-summed : (c total : ℕ) (s : State) → IsCalm s → is_summed c ≡ true → IsCalm (step false c (total, s)).1
+pub calm-summed : (c total : ℕ) (s : State) → IsCalm s → joins_no_other c ≡ true → IsCalm (step false c (total, s)).1
 calm-summed c total s calm h =
-    ⊎_elim (λ printable. by_ascii printable calm) (λ high. by_high (high_parts c high) calm) (or_cases (is_in_range 0x20 0x7E c) _ h)
+    ⊎_elim (λ printable. by_ascii printable calm) (λ high. by_high (other_parts c high) calm) (or_cases (is_in_range 0x20 0x7E c) _ h)
   where
     by_ascii : is_in_range 0x20 0x7E c ≡ true → IsCalm s → IsCalm (step false c (total, s)).1
     by_ascii printable (inl same) = inl (ap (λ u. (step false c (total, u)).1) same ∙ ap (λ (r : Reading). r.1) (ascii-plain c total printable))
     by_ascii printable (inr same) = inl (ap (λ u. (step false c (total, u)).1) same ∙ ap (λ (r : Reading). r.1) (ascii-emoji c total printable))
 
-    by_high : IsSummedHigh c → IsCalm s → IsCalm (step false c (total, s)).1
+    by_high : IsOther c → IsCalm s → IsCalm (step false c (total, s)).1
     by_high is (inl same) = subst IsCalm (sym (ap (λ u. (step false c (total, u)).1) same ∙ ap (λ (r : Reading). r.1) (high-plain c total is.high))) is.own.0
     by_high is (inr same) = subst IsCalm (sym (ap (λ u. (step false c (total, u)).1) same ∙ ap (λ (r : Reading). r.1) (step-before_emoji false c total (grind (arith, nat_tests, is.high)) is.no_joiner is.no_selector))) is.own.0
 
-read-summed : (cs : List ℕ) → list_all is_summed cs ≡ true → ((read_before false cs (0, plain)).0 ≡ sum_by (width_or_zero false) cs) × IsCalm (read_before false cs (0, plain)).1
+read-summed : (cs : List ℕ) → list_all joins_no_other cs ≡ true → ((read_before false cs (0, plain)).0 ≡ sum_by (width_or_zero false) cs) × IsCalm (read_before false cs (0, plain)).1
 read-summed [] h = (refl, inl refl)
 read-summed (c ∷ cs) h =
-    let parts = and_parts (is_summed c) (list_all is_summed cs) h in
+    let parts = and_parts (joins_no_other c) (list_all joins_no_other cs) h in
     let rest = read-summed cs parts.1 in
     let r : Reading = read_before false cs (0, plain) in
     let sum = sum_by-cons (width_or_zero false) c cs in
@@ -148,12 +169,12 @@ read-summed (c ∷ cs) h =
     let same = rest.0 in
     (omega (arith, sum, one, same), calm-summed c r.0 r.1 rest.1 parts.0)
 
-summed-narrow : (c : ℕ) → is_summed c ≡ true → width_or_zero false c ≤ 2
+summed-narrow : (c : ℕ) → joins_no_other c ≡ true → width_or_zero false c ≤ 2
 summed-narrow c h =
     ⊎_elim (λ printable. let one = ascii-one c printable in omega (arith, one))
-    (λ high. let is = high_parts c high in let own = high-alone c is.high in let most = is.own.1 in omega (arith, own, most))
+    (λ high. let is = other_parts c high in let own = high-alone c is.high in let most = is.own.1 in omega (arith, own, most))
     (or_cases (is_in_range 0x20 0x7E c) _ h)
 
-pub summed_add_up : AddUp is_summed
+pub summed_add_up : AddUp joins_no_other
 unfolding str_width
 summed_add_up = record { sums = λ cs each. (read-summed cs each).0; narrow = summed-narrow }

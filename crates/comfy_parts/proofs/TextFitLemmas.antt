@@ -1,15 +1,20 @@
 -- The lines of text lines whose words fit are no wider than their column.
-use Rattle.std.proofs.Common.{◌≡◌, ◌<◌, ◌≤◌, inl, inr, ℕ, Bool, true, false, [], ◌∷◌, nat_le, refl, ap, ◌∙◌, subst, arith}
-use Rattle.std.specs.List.{All, list_all}
-use Rattle.std.specs.Prelude.{if◌then◌else◌, chars, IsUtf8}
+use Rattle.std.proofs.Common.{◌≡◌, ◌<◌, ◌≤◌, inl, inr, ℕ, zero, suc, Bool, true, false, cond, ◌&&◌, ◌==◌, List, [], ◌∷◌, ◌++◌, nat_le, replicate, slice_index_or, refl, sym, ap, ap₂, ◌∙◌, subst, arith}
+use Rattle.std.specs.Char.{IsScalar}
+use Rattle.std.specs.List.{All, list_all, onto_first, slice_split}
+use Rattle.std.specs.Prelude.{if◌then◌else◌, chars, encode_utf8_all, IsUtf8}
+use Rattle.std.specs.Str.{all_scalars}
+use Rattle.std.proofs.Math.Utf8.{scalar as scalar_of}
+use Rattle.std.proofs.lemmas.Bool.{and_parts, cond_both}
+use Rattle.std.proofs.lemmas.List.Folds.{list_all-append}
 use Rattle.std.proofs.lemmas.Bool.Decides.{nat_tests}
-use Rattle.std.proofs.lemmas.List.Elements.{All-cons, All-nil, All-weaker}
+use Rattle.std.proofs.lemmas.List.Elements.{All-cons, All-nil, All-head, All-tail, All-map, All-weaker}
 use Rattle.std.proofs.lemmas.Str.{chars-append, chars-encodes, encodes-chars, scalars-chars}
 use Rattle.unicode_width.proofs.Rules.{is_simple, str_width-append_simple}
 use Rattle.unicode_width.specs.Width.{str_width}
-use Rattle.comfy_parts.specs.Columns.{IsApart, IsFittingLine, IsSummed, TextFits, TextLinesFit, WordFits, is_summed}
-use Rattle.comfy_parts.specs.Text.{Text, measure, head}
-use Rattle.comfy_parts.specs.Wrapping.{head_or_first, wrapped}
+use Rattle.comfy_parts.specs.Columns.{AddingUpFits, AddsUp, IsApart, IsFittingLine, TextFits, TextLinesFit, WordFits, joins_no_other}
+use Rattle.comfy_parts.specs.Text.{Text, measure, head, elements}
+use Rattle.comfy_parts.specs.Wrapping.{IsWrapped, head_or_first, lines_of_text, wrapped}
 use Rattle.comfy_parts.proofs.LinesFitLemmas.{BreaksWell, IsCut, wrapped-fit}
 use Rattle.comfy_parts.proofs.SpaceMeasureLemmas.{measure-nil}
 use Rattle.comfy_parts.proofs.SumKindLemmas.{summed_add_up}
@@ -19,28 +24,28 @@ use Rattle.comfy_parts.proofs.WrappedLemmas.{wrapped_is_wrapped}
 -- ---- words
 
 -- the characters of a text, as they are cut
-pub summed_text : (text : Text) → IsUtf8 text → IsSummed text → words.IsSummed is_summed summed_add_up text
+pub summed_text : (text : Text) → IsUtf8 text → AddsUp text → words.IsSummed joins_no_other summed_add_up text
 summed_text text utf8 each = record { characters = chars text; scalars = scalars-chars text utf8; spelt = encodes-chars text utf8; each = each }
 
-text_summed : (text : Text) → words.IsSummed is_summed summed_add_up text → IsSummed text
+text_summed : (text : Text) → words.IsSummed joins_no_other summed_add_up text → AddsUp text
 text_summed text summed =
-    subst IsSummed summed.spelt (ap (list_all is_summed) (chars-encodes summed.characters summed.scalars) ∙ summed.each)
+    subst AddsUp summed.spelt (ap (list_all joins_no_other) (chars-encodes summed.characters summed.scalars) ∙ summed.each)
 
 -- words that fit, or whose characters do, are cut well
 breaks-words : (w : ℕ) → BreaksWell w (WordFits w)
 breaks-words w = record { empty = inl (let none = measure-nil in omega (arith, none)); part = by_part; first = by_first }
   where
-    either : (k : ℕ) (front word : Text) → 2 ≤ w → IsCut (words.IsSummed is_summed summed_add_up) k front word → IsCut (WordFits w) k front word
+    either : (k : ℕ) (front word : Text) → 2 ≤ w → IsCut (words.IsSummed joins_no_other summed_add_up) k front word → IsCut (WordFits w) k front word
     either k front word two cut =
         record { rest = cut.rest; splits = cut.splits; whole_front = cut.whole_front; whole_rest = cut.whole_rest; fits = cut.fits; keeps = inr (two, text_summed cut.rest cut.keeps) }
 
     by_part : (k : ℕ) (word : Text) → WordFits w word → IsUtf8 word → w < measure word → IsCut (WordFits w) k (head k word) word
     by_part k word (inl fits) utf8 wide = absurd (omega (arith, fits, wide))
-    by_part k word (inr (two, summed)) utf8 wide = either k (head k word) word two ((words.breaks-summed is_summed summed_add_up w two).part k word (summed_text word utf8 summed) utf8 wide)
+    by_part k word (inr (two, summed)) utf8 wide = either k (head k word) word two ((words.breaks-summed joins_no_other summed_add_up w two).part k word (summed_text word utf8 summed) utf8 wide)
 
     by_first : (word : Text) → WordFits w word → IsUtf8 word → w < measure word → IsCut (WordFits w) w (head_or_first w word) word
     by_first word (inl fits) utf8 wide = absurd (omega (arith, fits, wide))
-    by_first word (inr (two, summed)) utf8 wide = either w (head_or_first w word) word two ((words.breaks-summed is_summed summed_add_up w two).first word (summed_text word utf8 summed) utf8 wide)
+    by_first word (inr (two, summed)) utf8 wide = either w (head_or_first w word) word two ((words.breaks-summed joins_no_other summed_add_up w two).first word (summed_text word utf8 summed) utf8 wide)
 
 -- ---- lines
 
@@ -56,11 +61,65 @@ text_lines_fit w d text utf8 fits = by_test (nat_le (measure text) w) refl fits
         (wrapped-fit w d (WordFits w) (breaks-words w) scalar adds text (wrapped w d text) (wrapped_is_wrapped w d text scalar utf8) utf8 each)
 
 -- the head of a text whose characters add up fits
-pub head-summed : (k : ℕ) (text : Text) → IsUtf8 text → IsSummed text → IsFittingLine k (head k text)
+pub head-summed : (k : ℕ) (text : Text) → IsUtf8 text → AddsUp text → IsFittingLine k (head k text)
 head-summed k text utf8 summed =
-    let cut = words.head-cut is_summed summed_add_up k text (summed_text text utf8 summed) in
+    let cut = words.head-cut joins_no_other summed_add_up k text (summed_text text utf8 summed) in
     record { whole = cut.whole_front; fits = cut.fits }
 
 -- simple characters are apart from every text before them
 pub apart-simple : (text : Text) → list_all is_simple (chars text) ≡ true → IsApart text
 apart-simple text simple front utf8 = ap (str_width false) (chars-append front text utf8) ∙ str_width-append_simple false (chars front) (chars text) simple
+
+-- ---- texts whose characters add up
+
+-- what each item meets, each item of the parts between others does
+split-all : (f p : ℕ → Bool) (xs : List ℕ) → list_all f xs ≡ true → All (λ part. list_all f part ≡ true) (slice_split p xs)
+split-all f p [] each = All-cons (λ part. list_all f part ≡ true) [] [] refl (All-nil (λ part. list_all f part ≡ true))
+split-all f p (x ∷ xs) each = by_test (p x) (slice_split p xs) (split-all f p xs parts.1)
+  where
+    parts : (f x ≡ true) × (list_all f xs ≡ true)
+    parts = and_parts (f x) (list_all f xs) each
+
+    by_test : (b : Bool) (others : List (List ℕ)) → All (λ part. list_all f part ≡ true) others → All (λ part. list_all f part ≡ true) (cond b ([] ∷ others) (onto_first x others))
+    by_test true others rest = All-cons (λ part. list_all f part ≡ true) [] others refl rest
+    by_test false [] rest = All-cons (λ part. list_all f part ≡ true) (x ∷ []) [] (ap₂ ◌&&◌ parts.0 refl) (All-nil (λ part. list_all f part ≡ true))
+    by_test false (part ∷ others) rest =
+        All-cons (λ part. list_all f part ≡ true) (x ∷ part) others (ap₂ ◌&&◌ parts.0 (All-head (λ part. list_all f part ≡ true) part others rest)) (All-tail (λ part. list_all f part ≡ true) part others rest)
+
+-- the elements of such a text are such texts
+elements-add_up : (d : ℕ) (text : Text) → IsUtf8 text → AddsUp text → All AddsUp (elements d text)
+elements-add_up d text utf8 each =
+    All-map AddsUp encode_utf8_all (slice_split (λ c. c == d) (chars text))
+    (λ k default below.
+    let whole = split-all scalar_of (λ c. c == d) (chars text) (scalars-chars text utf8) k default below in
+    ap (list_all joins_no_other) (chars-encodes (slice_index_or (slice_split (λ c. c == d) (chars text)) k default) whole) ∙ split-all joins_no_other (λ c. c == d) (chars text) each k default below)
+
+-- so such a text fits each column of two or more
+pub adding_up_fits : (w d : ℕ) (text : Text) → AddingUpFits w d text
+adding_up_fits w d text two scalar adds utf8 each =
+    inr (scalar, adds, All-weaker AddsUp (WordFits w) (λ word own. inr (two, own)) (elements d text) (elements-add_up d text utf8 each))
+
+-- two texts add up where both do
+add_up-parts : (front back : Text) → IsUtf8 front → AddsUp (front ++ back) → AddsUp front × AddsUp back
+add_up-parts front back utf8 each =
+    and_parts (list_all joins_no_other (chars front)) (list_all joins_no_other (chars back))
+    (sym (list_all-append joins_no_other (chars front) (chars back)) ∙ sym (ap (list_all joins_no_other) (chars-append front back utf8)) ∙ each)
+
+-- delimiters are whole characters
+whole_gap : (d n : ℕ) → IsScalar d → all_scalars (replicate n d) ≡ true
+whole_gap d zero scalar = refl
+whole_gap d (suc n) scalar = ap₂ ◌&&◌ scalar (whole_gap d n scalar)
+
+-- the lines of such a text are such texts
+wrapped-add_up : (w d : ℕ) (text : Text) (lines : List Text) → IsScalar d → IsWrapped w d text lines → AddsUp text → All AddsUp lines
+wrapped-add_up w d text [] scalar wrapped each = All-nil AddsUp
+wrapped-add_up w d text (line ∷ lines) scalar (tail, slice, ends, more) each =
+    let gap = slice.gap_is_delimiters in
+    let behind = (add_up-parts slice.gap (line ++ tail) (replicate gap.0 d, (whole_gap d gap.0 scalar, sym gap.1)) (subst AddsUp slice.splits each)).1 in
+    let both = add_up-parts line tail slice.whole_characters behind in
+    All-cons AddsUp line lines both.0 (wrapped-add_up w d tail lines scalar more both.1)
+
+pub lines-add_up : (w d : ℕ) (text : Text) → IsScalar d → IsUtf8 text → AddsUp text → All AddsUp (lines_of_text w d text)
+lines-add_up w d text scalar utf8 each =
+    cond_both (nat_le (measure text) w) _ _ (All AddsUp) (λ _. All-cons AddsUp text [] each (All-nil AddsUp))
+    (λ _. wrapped-add_up w d text (wrapped w d text) scalar (wrapped_is_wrapped w d text scalar utf8) each)

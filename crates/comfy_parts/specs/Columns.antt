@@ -1,14 +1,12 @@
--- Columns of a terminal that texts of every script take: which characters add one wherever they stand, and which words and text lines fit.
-use Rattle.std.specs.Prelude.{◌≡◌, ◌⊎◌, ℕ, ◌+◌, ◌≤◌, Bool, true, false, not, ◌&&◌, ◌||◌, ◌==◌, nat_lt, chars, ◌∷◌, ◌++◌, encode_utf8, All, IsUtf8}
+-- Terminal columns that texts of every script take: which characters add one wherever they stand, and which words and text lines fit.
+use Rattle.std.specs.Prelude.{◌≡◌, ◌⊎◌, ℕ, ◌+◌, ◌≤◌, Bool, true, not, ◌&&◌, ◌||◌, ◌==◌, nat_lt, chars, List, [], ◌∷◌, ◌++◌, Option, unwrap_or, encode_utf8, All, IsUtf8}
 use Rattle.std.specs.Char.{IsScalar}
 use Rattle.std.specs.Int.{is_in_range}
 use Rattle.std.specs.List.{list_all}
-use Rattle.unicode_width.specs.Kind.{kind}
-use Rattle.unicode_width.specs.Width.{is_emoji_variation_base}
-use Rattle.unicode_width.specs.declared.kind.Kind.{Kind}
-use Rattle.unicode_width.specs.declared.kind.Kind.TheVariants.{Zero, Narrow, Wide, Ambiguous, Emoji}
+use Rattle.ucd_table.specs.Rows.{Range, in_ranges}
 use Rattle.comfy_parts.specs.Text.{Text, measure, elements}
 use Rattle.comfy_parts.specs.Wrapping.{lines_of_text}
+use Rattle.comfy_parts.specs.declared.style.table_style.TableStyle.{TableStyle}
 
 -- ---- characters
 
@@ -20,13 +18,38 @@ AddsOneColumn c = (front back : Text) → IsUtf8 front → measure (front ++ (en
 abbrev pub SpaceAddsOneColumn : Text → Text → Type 0
 SpaceAddsOneColumn front back = IsUtf8 front → measure (front ++ 0x20 ∷ back) ≡ measure front + (1 + measure back)
 
--- a box character, or printable ASCII but for `#`, `*` and the digits
+-- a box or block character, or printable ASCII but for `#`, `*` and the digits
 abbrev pub is_frame_character : ℕ → Bool
-is_frame_character c = is_in_range 0x2500 0x257F c || (is_in_range 0x20 0x7E c && not (is_emoji_variation_base c))
+is_frame_character c =
+    is_in_range 0x2500 0x259F c || (is_in_range 0x20 0x7E c && not ((c == 0x23) || ((c == 0x2A) || is_in_range 0x30 0x39 c)))
 
 -- each of these does
 abbrev pub FrameCharactersAddOneColumn : ℕ → Type 0
 FrameCharactersAddOneColumn c = is_frame_character c ≡ true → AddsOneColumn c
+
+-- ---- styles
+
+-- the character of a style adds one column; a missing one is a space
+abbrev pub IsOneColumn : Option ℕ → Type 0
+IsOneColumn c = AddsOneColumn (unwrap_or c 0x20)
+
+-- the characters of a style, line by line; a line that holds contents has no fill
+abbrev pub style_characters : TableStyle → List (Option ℕ)
+style_characters style =
+    style.top_border.left ∷ style.top_border.fill ∷ style.top_border.junction ∷ style.top_border.right
+    ∷ style.header_lines.left ∷ style.header_lines.junction ∷ style.header_lines.right
+    ∷ style.header_separator.left ∷ style.header_separator.fill ∷ style.header_separator.junction ∷ style.header_separator.right
+    ∷ style.content_lines.left ∷ style.content_lines.junction ∷ style.content_lines.right
+    ∷ style.row_separator.left ∷ style.row_separator.fill ∷ style.row_separator.junction ∷ style.row_separator.right
+    ∷ style.bottom_border.left ∷ style.bottom_border.fill ∷ style.bottom_border.junction ∷ style.bottom_border.right ∷ []
+
+-- all of them are box or block characters, or such ASCII
+abbrev pub has_frame_characters : TableStyle → Bool
+has_frame_characters style = list_all (λ c. is_frame_character (unwrap_or c 0x20)) (style_characters style)
+
+-- then each adds one column
+abbrev pub FrameStylesAreOneColumn : TableStyle → Type 0
+FrameStylesAreOneColumn style = has_frame_characters style ≡ true → All IsOneColumn (style_characters style)
 
 -- ---- texts
 
@@ -34,28 +57,32 @@ FrameCharactersAddOneColumn c = is_frame_character c ≡ true → AddsOneColumn 
 abbrev pub IsApart : Text → Type 0
 IsApart rest = (text : Text) → IsUtf8 text → measure (text ++ rest) ≡ measure text + measure rest
 
--- the kinds of characters that join nothing, and emoji
-abbrev pub is_summed_kind : Kind → Bool
-is_summed_kind Zero = true
-is_summed_kind Narrow = true
-is_summed_kind Wide = true
-is_summed_kind Ambiguous = true
-is_summed_kind Emoji = true
-is_summed_kind _ = false
+-- the characters that join others
+abbrev pub joining_characters : List Range
+joining_characters =
+    -- the struck solidus, Hebrew lamed, Arabic alefs
+    (0x338, 0x338) ∷ (0x5DC, 0x5DC) ∷ (0x622, 0x623) ∷ (0x625, 0x625) ∷ (0x627, 0x627) ∷ (0x671, 0x673) ∷ (0x675, 0x675) ∷ (0x773, 0x774) ∷ (0x870, 0x882)
+    -- Khmer letters, Buginese ya, the joiner of emoji, Tifinagh, two Lisu tones, lamed with a dot
+    ∷ (0x1780, 0x17AF) ∷ (0x17D8, 0x17D8) ∷ (0x1A10, 0x1A10) ∷ (0x200D, 0x200D) ∷ (0x2D31, 0x2D6F) ∷ (0xA4FC, 0xA4FD) ∷ (0xFB3C, 0xFB3C)
+    -- variation selectors, an Old Turkic and two Kirat Rai letters, the letters of flags, skin tones
+    ∷ (0xFE00, 0xFE0F) ∷ (0x10C03, 0x10C03) ∷ (0x16D67, 0x16D68) ∷ (0x1F1E6, 0x1F1FF) ∷ (0x1F3FB, 0x1F3FF) ∷ []
 
--- printable ASCII, and above U+00A0 such a character but the joiner of emoji and the variation selectors
-abbrev pub is_summed : ℕ → Bool
-is_summed c = is_in_range 0x20 0x7E c || (nat_lt 0xA0 c && (not (c == 0x200D) && (not (is_in_range 0xFE00 0xFE0F c) && is_summed_kind (kind c))))
+-- printable ASCII, and above U+00A0 each other character
+abbrev pub joins_no_other : ℕ → Bool
+joins_no_other c = is_in_range 0x20 0x7E c || (nat_lt 0xA0 c && not (in_ranges joining_characters c))
 
 -- a text of such characters: its measure is the sum of their widths
-abbrev pub IsSummed : Text → Type 0
-IsSummed text = list_all is_summed (chars text) ≡ true
+abbrev pub adds_up : Text → Bool
+adds_up text = list_all joins_no_other (chars text)
+
+abbrev pub AddsUp : Text → Type 0
+AddsUp text = adds_up text ≡ true
 
 -- ---- lines
 
--- a word fits a column of w places, or its characters add up and each fits
+-- a word fits a column of w terminal columns, or its characters add up and each fits
 abbrev pub WordFits : ℕ → Text → Type 0
-WordFits w word = (measure word ≤ w) ⊎ ((2 ≤ w) × IsSummed word)
+WordFits w word = (measure word ≤ w) ⊎ ((2 ≤ w) × AddsUp word)
 
 -- a text line fits, or each of its words does, between delimiters that add one column
 abbrev pub TextFits : ℕ → ℕ → Text → Type 0
@@ -69,3 +96,7 @@ pub record IsFittingLine (w : ℕ) (line : Text) : Type 0 where
 -- then all its lines fit
 abbrev pub TextLinesFit : ℕ → ℕ → Text → Type 0
 TextLinesFit w d text = IsUtf8 text → TextFits w d text → All (IsFittingLine w) (lines_of_text w d text)
+
+-- a text whose characters add up fits each column of two or more
+abbrev pub AddingUpFits : ℕ → ℕ → Text → Type 0
+AddingUpFits w d text = 2 ≤ w → IsScalar d → AddsOneColumn d → IsUtf8 text → AddsUp text → TextFits w d text

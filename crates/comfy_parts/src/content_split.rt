@@ -7,6 +7,7 @@ ghost use Rattle.comfy_parts.specs.Wrapping.{IsWrapped, wrapped};
 mod cursor;
 pub mod display_info;
 mod ends;
+mod joining;
 mod lines;
 mod prefix;
 mod sequences;
@@ -15,6 +16,7 @@ mod written;
 
 use crate::error::Result;
 pub use display_info::ColumnDisplayInfo;
+pub use joining::{adds_one_column, adds_up};
 pub use lines::{WrappedLines, wrapped_lines};
 pub use prefix::split_long_word;
 pub(crate) use sequences::has_escape;

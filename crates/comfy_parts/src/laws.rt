@@ -7,7 +7,7 @@ ghost use Rattle.std.specs.Prelude.{ℕ, List, []};
 ghost use Rattle.std.specs.Char.{IsScalar};
 ghost use Rattle.std.specs.Cmp.{IsTotalOrder};
 ghost use Rattle.comfy_parts.specs.CellEquality.{cell_eq, cell_hash};
-ghost use Rattle.comfy_parts.specs.Columns.{FrameCharactersAddOneColumn, SpaceAddsOneColumn, TextLinesFit};
+ghost use Rattle.comfy_parts.specs.Columns.{AddingUpFits, FrameCharactersAddOneColumn, SpaceAddsOneColumn, TextLinesFit};
 ghost use Rattle.comfy_parts.specs.Comparisons.{attribute_cmp, attribute_eq, attribute_hash, color_cmp, color_eq, color_hash, EqHashesAlike, EqIsSame, EqualIsSame};
 ghost use Rattle.comfy_parts.specs.Laws.{ActiveIsResumed, ClosedTextsLeaveNone, CutLinesAreFull, HeadIsLongest, IsCutOutsideNarrow, LinesAreFew, LinesAreFewest, LinesAreResumed, LinesAreSeen, LinesFit, NeighboursFillALine, NoneIsLeftOpen, OtherBytesAreVisible, PrintableClustersAreCharacters, PrintableAddsOneColumnEach, PrintableMeasuresItsLength, SequencesAreTakenOut, SequencesLeaveTheLines, WrappedIsOne, WrappedIsWrapped};
 ghost use Rattle.comfy_parts.specs.Text.{Text};
@@ -55,17 +55,18 @@ pub fn head_is_longest()
     ensures { (k : ℕ) (text : Text) → HeadIsLongest k text }
 {}
 
-/// Between any two texts, of every script, a space adds one terminal column. So do box characters, and printable ASCII
-/// but for `#`, `*` and the digits.
+/// Between any two texts, of every script, a space adds one terminal column. So do box and block characters, and printable
+/// ASCII but for `#`, `*` and the digits.
 pub fn spaces_and_borders_add_one_column()
     ensures space { (front back : Text) → SpaceAddsOneColumn front back }
     ensures border { (c : ℕ) → FrameCharactersAddOneColumn c }
 {}
 
-/// Where each word of a text fits its width, or is made of characters whose widths add up, each line fits. These are
-/// all but such as join others; the width is at least 2 there, and the delimiter adds one terminal column.
+/// Where each word of a text fits its width, or is made of characters that join no other, each line fits. The width is at
+/// least 2 there, and the delimiter adds one terminal column. So it is of a text where `adds_up` says yes.
 pub fn lines_of_every_script_fit()
-    ensures { (w d : ℕ) (text : Text) → TextLinesFit w d text }
+    ensures lines { (w d : ℕ) (text : Text) → TextLinesFit w d text }
+    ensures adds_up { (w d : ℕ) (text : Text) → AddingUpFits w d text }
 {}
 
 /// Printable ASCII measures its length, and each of its characters is a cluster.

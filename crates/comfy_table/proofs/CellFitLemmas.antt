@@ -8,7 +8,7 @@ use Rattle.std.proofs.lemmas.Str.{IsUtf8-append, IsUtf8-nil}
 use Rattle.comfy_parts.proofs.SpaceMeasureLemmas.{measure-nil}
 use Rattle.comfy_parts.proofs.TextFitLemmas.{head-summed, text_lines_fit}
 use Rattle.comfy_parts.specs.CellValue.{CellValue, RowValue, ColumnInfo}
-use Rattle.comfy_parts.specs.Columns.{IsApart, IsFittingLine, IsSummed}
+use Rattle.comfy_parts.specs.Columns.{AddsUp, IsApart, IsFittingLine}
 use Rattle.comfy_parts.specs.Text.{Text, measure, head}
 use Rattle.comfy_parts.specs.Wrapping.{lines_of_text}
 use Rattle.comfy_table.proofs.ListLemmas.{All-flat_map}
@@ -22,7 +22,7 @@ use Rattle.comfy_table.specs.TableValue.{TableValue}
 -- ---- cut lines
 
 -- a line that is cut fits
-cut-fits : (w : ℕ) (indicator line : Text) → IsUtf8 line → IsSummed line → IsUtf8 indicator → IsApart indicator → IsFittingLine w (cut_line w indicator line)
+cut-fits : (w : ℕ) (indicator line : Text) → IsUtf8 line → AddsUp line → IsUtf8 indicator → IsApart indicator → IsFittingLine w (cut_line w indicator line)
 cut-fits w indicator line utf8 summed whole apart = by_test (nat_lt w (measure indicator)) refl
   where
     with : (k : ℕ) (shown : Text) → IsUtf8 shown → IsApart shown → k + measure shown ≤ w → IsFittingLine w (head k line ++ shown)
@@ -51,7 +51,7 @@ module _ (table : TableValue) (row : RowValue) (p : ℕ × ColumnInfo) where
           (λ k default below. text_lines_fit p.1.content_width (cell_delimiter table p.1.delimiter cell) (slice_index_or cell.text_lines k default) (is.whole k default below) (is.fits k default below))
 
       Cuts : Option ℕ → Type 0
-      Cuts height = (h : ℕ) → height ≡ Some h → h < length lines → All IsSummed lines × IsUtf8 table.indicator × IsApart table.indicator
+      Cuts height = (h : ℕ) → height ≡ Some h → h < length lines → All AddsUp lines × IsUtf8 table.indicator × IsApart table.indicator
 
       by_height : (height : Option ℕ) → Cuts height → All (IsFittingLine p.1.content_width) (cut_to_limit height p.1.content_width table.indicator lines)
       by_height None cut = fit

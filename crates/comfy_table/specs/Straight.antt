@@ -3,7 +3,7 @@ use Rattle.std.specs.List.{list_all}
 use Rattle.std.specs.Prelude.{max, ◌≡◌, ◌⊎◌, ℕ, ◌≤◌, Bool, true, ◌&&◌, ◌<◌, length, List, [], ◌∷◌, Option, Some, None, unwrap_or, slice_get, All, IsUtf8}
 use Rattle.comfy_table.specs.Lines.{cell_delimiter, cell_lines}
 use Rattle.comfy_parts.specs.CellValue.{CellValue, RowValue, ColumnInfo, ColumnValue}
-use Rattle.comfy_parts.specs.Columns.{AddsOneColumn, IsApart, IsFittingLine, IsSummed, TextFits, is_frame_character}
+use Rattle.comfy_parts.specs.Columns.{AddsOneColumn, IsApart, IsFittingLine, AddsUp, TextFits, is_frame_character}
 use Rattle.comfy_parts.specs.Presets as presets
 use Rattle.comfy_parts.specs.StyleModifiers.{with_rounded_corners, with_solid_inner_borders}
 use Rattle.comfy_parts.specs.Text.{measure}
@@ -16,20 +16,6 @@ use Rattle.comfy_table.specs.Laws.{NoConstraints, least_total, line_total, unsty
 use Rattle.comfy_table.specs.Pieces.{row_cell_lines, visible_infos}
 use Rattle.comfy_table.specs.Widths.{visible_count}
 use Rattle.comfy_table.specs.TableValue.{TableValue, seen_rows, table_width, visible_columns}
-
--- a character of a style does; a missing one is a space
-abbrev pub IsOneColumn : Option ℕ → Type 0
-IsOneColumn c = AddsOneColumn (unwrap_or c 0x20)
-
--- all characters of a style, those of frame lines left, fill, junction and right
-abbrev pub style_characters : TableStyle → List (Option ℕ)
-style_characters style =
-    style.top_border.left ∷ style.top_border.fill ∷ style.top_border.junction ∷ style.top_border.right
-    ∷ style.header_lines.left ∷ style.header_lines.junction ∷ style.header_lines.right
-    ∷ style.header_separator.left ∷ style.header_separator.fill ∷ style.header_separator.junction ∷ style.header_separator.right
-    ∷ style.content_lines.left ∷ style.content_lines.junction ∷ style.content_lines.right
-    ∷ style.row_separator.left ∷ style.row_separator.fill ∷ style.row_separator.junction ∷ style.row_separator.right
-    ∷ style.bottom_border.left ∷ style.bottom_border.fill ∷ style.bottom_border.junction ∷ style.bottom_border.right ∷ []
 
 -- the lines of the cell that a row has in a column are no wider than it
 abbrev pub LinesFitColumn : TableValue → RowValue → ℕ × ColumnInfo → Type 0
@@ -49,7 +35,7 @@ pub record CellFits (table : TableValue) (row : RowValue) (p : ℕ × ColumnInfo
   pub whole : All IsUtf8 cell.text_lines
   pub fits : All (TextFits p.1.content_width (cell_delimiter table p.1.delimiter cell)) cell.text_lines
   pub cut : (h : ℕ) → row.max_height ≡ Some h → h < length (cell_lines p.1.content_width (cell_delimiter table p.1.delimiter cell) cell)
-      → All IsSummed (cell_lines p.1.content_width (cell_delimiter table p.1.delimiter cell) cell) × IsUtf8 table.indicator × IsApart table.indicator
+      → All AddsUp (cell_lines p.1.content_width (cell_delimiter table p.1.delimiter cell) cell) × IsUtf8 table.indicator × IsApart table.indicator
 
 abbrev pub CellsFit : TableValue → RowValue → ℕ × ColumnInfo → Type 0
 CellsFit table row p = (cell : CellValue) → slice_get row.cells p.0 ≡ Some cell → CellFits table row p cell
@@ -102,14 +88,6 @@ abbrev pub StraightFillsWidth : TableValue → ℕ → List ℕ → Type 0
 StraightFillsWidth table w widths =
     IsStraightTable table widths → NoConstraints table → table.arrangement ≡ DynamicFullWidth → table_width table ≡ Some w → 0 < visible_count table → IsArranged table widths
     → All (λ line. measure line ≡ max w (least_total table)) (drawing (unstyled table) widths)
-
--- each character of the style is a box character, or printable ASCII but for `#`, `*` and the digits
-abbrev pub has_frame_characters : TableStyle → Bool
-has_frame_characters style = list_all (λ c. is_frame_character (unwrap_or c 0x20)) (style_characters style)
-
--- then each is one column wide
-abbrev pub FrameStylesAreOneColumn : TableStyle → Type 0
-FrameStylesAreOneColumn style = has_frame_characters style ≡ true → All IsOneColumn (style_characters style)
 
 -- the thirteen presets
 abbrev pub presets_all : List TableStyle
