@@ -6,10 +6,11 @@ use Rattle.std.specs.List.{All, list_all}
 use Rattle.std.proofs.lemmas.Bool.{and_parts, or_cases}
 use Rattle.std.proofs.lemmas.Bool.Decides.{nat_tests}
 use Rattle.std.proofs.lemmas.List.Elements.{All-cons, All-nil}
+use Rattle.comfy_parts.proofs.Computing.{wrapping}
 use Rattle.comfy_parts.proofs.BoxLemmas.{box_seals, low_seals}
 use Rattle.comfy_parts.proofs.SpaceMeasureLemmas.{Seals, measure-sealed}
 use Rattle.comfy_parts.specs.declared.style.table_style.TableStyle.{TableStyle}
-use Rattle.comfy_parts.specs.Columns.{FrameCharactersAddOneColumn, FrameStylesAreOneColumn, IsOneColumn, is_frame_character, style_characters}
+use Rattle.comfy_parts.specs.Columns.{FrameCharactersAddOneColumn, FrameStylesAreOneColumn, IsOneColumn, is_frame_character, is_straight_preset, presets_all, style_characters}
 
 not-false : (b : Bool) → not b ≡ true → b ≡ false
 not-false true h = sym h
@@ -38,3 +39,8 @@ all_one_column (c ∷ cs) each =
 -- so does each character of a style that is made of them
 pub one_column_characters : (style : TableStyle) → FrameStylesAreOneColumn style
 one_column_characters style each = all_one_column (style_characters style) each
+
+-- all presets are, with both modifiers
+pub presets_are_straight : list_all is_straight_preset presets_all ≡ true
+unfolding wrapping
+presets_are_straight = refl

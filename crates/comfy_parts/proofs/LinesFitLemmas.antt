@@ -21,6 +21,11 @@ use Rattle.comfy_parts.specs.Wrapping.{IsWrapped, head_or_first, line_end}
 use Rattle.comfy_parts.proofs.SpaceMeasureLemmas.{measure-nil}
 use Rattle.comfy_parts.specs.Columns.{AddsOneColumn}
 
+-- a line is whole characters, and measures at most w
+pub record IsFittingLine (w : ℕ) (line : Text) : Type 0 where
+  pub whole : IsUtf8 line
+  pub fits : measure line ≤ w
+
 -- ---- the first element of every text
 
 -- the characters before the first delimiter, and those from it on

@@ -12,10 +12,10 @@ use Rattle.std.proofs.lemmas.List.Elements.{All-cons, All-nil, All-head, All-tai
 use Rattle.std.proofs.lemmas.Str.{chars-append, chars-encodes, encodes-chars, scalars-chars}
 use Rattle.unicode_width.proofs.Rules.{is_simple, str_width-append_simple}
 use Rattle.unicode_width.specs.Width.{str_width}
-use Rattle.comfy_parts.specs.Columns.{AddingUpFits, AddsUp, IsApart, IsFittingLine, TextFits, TextLinesFit, WordFits, joins_no_other}
+use Rattle.comfy_parts.specs.Columns.{AddingUpFits, AddsUp, IsApart, TextFits, TextLinesFit, WordFits, joins_no_other}
 use Rattle.comfy_parts.specs.Text.{Text, measure, head, elements}
 use Rattle.comfy_parts.specs.Wrapping.{IsWrapped, head_or_first, lines_of_text, wrapped}
-use Rattle.comfy_parts.proofs.LinesFitLemmas.{BreaksWell, IsCut, wrapped-fit}
+use Rattle.comfy_parts.proofs.LinesFitLemmas.{BreaksWell, IsCut, IsFittingLine, wrapped-fit}
 use Rattle.comfy_parts.proofs.SpaceMeasureLemmas.{measure-nil}
 use Rattle.comfy_parts.proofs.SumKindLemmas.{summed_add_up}
 use Rattle.comfy_parts.proofs.WordLemmas as words
@@ -50,15 +50,19 @@ breaks-words w = record { empty = inl (let none = measure-nil in omega (arith, n
 -- ---- lines
 
 -- the lines of a text that fits do
-pub text_lines_fit : (w d : ℕ) (text : Text) → TextLinesFit w d text
-text_lines_fit w d text utf8 fits = by_test (nat_le (measure text) w) refl fits
+pub text_lines_fit : (w d : ℕ) (text : Text) → IsScalar d → IsUtf8 text → TextFits w d text → All (IsFittingLine w) (lines_of_text w d text)
+text_lines_fit w d text scalar utf8 fits = by_test (nat_le (measure text) w) refl fits
   where
     by_test : (b : Bool) → nat_le (measure text) w ≡ b → TextFits w d text → All (IsFittingLine w) (if b then text ∷ [] else wrapped w d text)
     by_test true narrow fits = All-cons (IsFittingLine w) text [] (record { whole = utf8; fits = grind (arith, nat_tests, narrow) }) (All-nil (IsFittingLine w))
     by_test false wide (inl fits) = absurd (grind (arith, nat_tests, wide, fits))
-    by_test false wide (inr (scalar, adds, each)) =
+    by_test false wide (inr (adds, each)) =
         All-weaker (λ line. IsUtf8 line × (measure line ≤ w)) (IsFittingLine w) (λ line both. record { whole = both.0; fits = both.1 }) (wrapped w d text)
         (wrapped-fit w d (WordFits w) (breaks-words w) scalar adds text (wrapped w d text) (wrapped_is_wrapped w d text scalar utf8) utf8 each)
+
+pub text_lines_narrow : (w d : ℕ) (text : Text) → TextLinesFit w d text
+text_lines_narrow w d text scalar utf8 fits =
+    All-weaker (IsFittingLine w) (λ line. measure line ≤ w) (λ line fitting. fitting.fits) (lines_of_text w d text) (text_lines_fit w d text scalar utf8 fits)
 
 -- the head of a text whose characters add up fits
 pub head-summed : (k : ℕ) (text : Text) → IsUtf8 text → AddsUp text → IsFittingLine k (head k text)
@@ -96,8 +100,8 @@ elements-add_up d text utf8 each =
 
 -- so such a text fits each column of two or more
 pub adding_up_fits : (w d : ℕ) (text : Text) → AddingUpFits w d text
-adding_up_fits w d text two scalar adds utf8 each =
-    inr (scalar, adds, All-weaker AddsUp (WordFits w) (λ word own. inr (two, own)) (elements d text) (elements-add_up d text utf8 each))
+adding_up_fits w d text two adds utf8 each =
+    inr (adds, All-weaker AddsUp (WordFits w) (λ word own. inr (two, own)) (elements d text) (elements-add_up d text utf8 each))
 
 -- two texts add up where both do
 add_up-parts : (front back : Text) → IsUtf8 front → AddsUp (front ++ back) → AddsUp front × AddsUp back

@@ -1,13 +1,13 @@
 -- Texts of characters whose widths add up are cut well.
 use Rattle.std.proofs.Common.{◌≡◌, ◌<◌, ◌≤◌, ◌⊎◌, inl, inr, ℕ, ◌-◌, Bool, true, false, ◌==◌, List, [], ◌∷◌, ◌++◌, length, map, take, nat_le, refl, sym, ap, ◌∙◌, subst, arith, append_assoc, sum_by}
 use Rattle.std.specs.List.{list_all}
-use Rattle.std.specs.Prelude.{if◌then◌else◌, encode_utf8_all, IsUtf8}
+use Rattle.std.specs.Prelude.{if◌then◌else◌, chars, encode_utf8_all, IsUtf8}
 use Rattle.std.specs.Str.{all_scalars}
-use Rattle.std.proofs.lemmas.Bool.{and_parts}
+use Rattle.std.proofs.lemmas.Bool.{and_parts, cond_both}
 use Rattle.std.proofs.lemmas.Bool.Decides.{nat_tests}
 use Rattle.std.proofs.lemmas.List.Folds.{list_all-append}
 use Rattle.std.proofs.lemmas.List.Sums.{sum_by-cons, sum_by-append}
-use Rattle.std.proofs.lemmas.Str.{chars-encodes, encodes-append}
+use Rattle.std.proofs.lemmas.Str.{chars-encodes, encodes-append, scalars-chars, IsUtf8-append, IsUtf8-nil}
 use Rattle.unicode_segmentation.specs.Grapheme.{is_grapheme_break}
 use Rattle.unicode_segmentation.specs.Segments.{Rule, cut, prepend, segments}
 use Rattle.unicode_width.specs.Width.{str_width}
@@ -41,6 +41,19 @@ joined-cut rule before (c ∷ cs) after = by_test (rule (c ∷ before) (cs ++ af
         → joined_chars (if b then (c ∷ []) ∷ cut rule (c ∷ before) cs after else prepend (c ∷ []) (cut rule (c ∷ before) cs after)) ≡ c ∷ cs
     by_test true rest = ap (λ more. c ∷ more) rest
     by_test false rest = joined-prepend (c ∷ []) (cut rule (c ∷ before) cs after) ∙ ap (λ more. c ∷ more) rest
+
+-- the head of a text is whole characters
+within-whole : (k : ℕ) (css : List (List ℕ)) → all_scalars (joined_chars css) ≡ true → IsUtf8 (clusters_within k (map encode_utf8_all css))
+within-whole k [] scalars = IsUtf8-nil
+within-whole k (cs ∷ css) scalars =
+    let whole = scalars-parts cs (joined_chars css) scalars in
+    cond_both (nat_le (measure (encode_utf8_all cs)) k) _ _ IsUtf8
+    (λ _. IsUtf8-append (encode_utf8_all cs) _ (cs, (whole.0, refl)) (within-whole (k - measure (encode_utf8_all cs)) css whole.1)) (λ _. IsUtf8-nil)
+
+pub head-utf8 : (k : ℕ) (text : Text) → IsUtf8 text → IsUtf8 (head k text)
+unfolding segments
+head-utf8 k text utf8 =
+    within-whole k (cut (is_grapheme_break true) [] (chars text) []) (ap all_scalars (joined-cut (is_grapheme_break true) [] (chars text) []) ∙ scalars-chars text utf8)
 
 module _ (kind : ℕ → Bool) (add_up : AddUp kind) where
   -- a text of such characters
@@ -133,27 +146,3 @@ module _ (kind : ℕ → Bool) (add_up : AddUp kind) where
       by_test : (cs : List ℕ) → all_scalars cs ≡ true → list_all kind cs ≡ true → (b : Bool) → IsFitHead w cs (if b then first_character (encode_utf8_all cs) else head w (encode_utf8_all cs))
       by_test cs scalars each true = first-fits w cs two scalars each
       by_test cs scalars each false = head-fits w cs scalars each
-
--- words that fit, or are of such a kind
-abbrev pub FitsOr : (Text → Type 0) → ℕ → Text → Type 0
-FitsOr Word w word = (measure word ≤ w) ⊎ Word word
-
--- they are cut well too
-pub breaks-or : (Word : Text → Type 0) (w : ℕ) → BreaksWell w Word → BreaksWell w (FitsOr Word w)
-breaks-or Word w breaks = record { empty = inr breaks.empty; part = λ k word is utf8 wide. by_part k word is utf8 wide; first = λ word is utf8 wide. by_first word is utf8 wide }
-  where
-    either : (k : ℕ) (front word : Text) → IsCut Word k front word → IsCut (FitsOr Word w) k front word
-    either k front word cut = record { rest = cut.rest; splits = cut.splits; whole_front = cut.whole_front; whole_rest = cut.whole_rest; fits = cut.fits; keeps = inr cut.keeps }
-
-    by_part : (k : ℕ) (word : Text) → FitsOr Word w word → IsUtf8 word → w < measure word → IsCut (FitsOr Word w) k (head k word) word
-    by_part k word (inl fits) utf8 wide = absurd (omega (arith, fits, wide))
-    by_part k word (inr is) utf8 wide = either k (head k word) word (breaks.part k word is utf8 wide)
-
-    by_first : (word : Text) → FitsOr Word w word → IsUtf8 word → w < measure word → IsCut (FitsOr Word w) w (head_or_first w word) word
-    by_first word (inl fits) utf8 wide = absurd (omega (arith, fits, wide))
-    by_first word (inr is) utf8 wide = either w (head_or_first w word) word (breaks.first word is utf8 wide)
-
--- where every word fits, none is cut
-pub breaks-none : (w : ℕ) → BreaksWell w (λ word. measure word ≤ w)
-breaks-none w =
-    record { empty = (let none = measure-nil in omega (arith, none)); part = λ k word fits utf8 wide. absurd (omega (arith, fits, wide)); first = λ word fits utf8 wide. absurd (omega (arith, fits, wide)) }

@@ -2,12 +2,12 @@
 use Rattle.std.proofs.Common.{◌≡◌, ◌<◌, ◌≤◌, ℕ, zero, suc, ◌+◌, ◌-◌, Bool, true, false, ◌==◌, List, [], ◌∷◌, ◌++◌, length, map, take, drop, zip, replicate, refl, sym, ap, ap₂, ◌∙◌, subst, arith, append_assoc, append-nil, length-append, slice_index_or}
 use Rattle.std.specs.Char.{IsScalar}
 use Rattle.std.specs.List.{concat, flat_map}
-use Rattle.std.specs.Prelude.{if◌then◌else◌, bytes_eq, encode_utf8, encode_utf8_all, IsUtf8}
+use Rattle.std.specs.Prelude.{if◌then◌else◌, encode_utf8, encode_utf8_all, IsUtf8}
 use Rattle.std.proofs.lemmas.Grind.{flat_map-append}
 use Rattle.std.proofs.lemmas.List.{drop_more, get_or-map, length-map, length-take, map-append, take-append-drop}
 use Rattle.std.proofs.lemmas.Str.{IsUtf8-past_char, IsUtf8-take}
 use Rattle.unicode_segmentation.proofs.TextLemmas.{encode_utf8_nonempty}
-use Rattle.comfy_parts.specs.Cursor.{CursorValue, IsBehindGap, StandsAt, at_byte, open_at_end, seen_ahead, sequence_part}
+use Rattle.comfy_parts.specs.Cursor.{CursorValue, IsBehindGap, StandsAt, at_byte, open_at_end, seen_ahead}
 use Rattle.comfy_parts.specs.Text.{Text, IsOnly, begins_with, measure}
 use Rattle.comfy_parts.specs.VisibleLines.{CellLine, line_texts, line_texts_of_text, line_texts_past, starts_of_text, starts_past}
 use Rattle.comfy_parts.specs.VisibleText.{Part, active, closed, closing, line_text, open_after, parts, parts_before, parts_from, parts_up_to, opened, text_between, visible_text}

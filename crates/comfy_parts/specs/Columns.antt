@@ -4,6 +4,8 @@ use Rattle.std.specs.Char.{IsScalar}
 use Rattle.std.specs.Int.{is_in_range}
 use Rattle.std.specs.List.{list_all}
 use Rattle.ucd_table.specs.Rows.{Range, in_ranges}
+use Rattle.comfy_parts.specs.Presets as presets
+use Rattle.comfy_parts.specs.StyleModifiers.{with_rounded_corners, with_solid_inner_borders}
 use Rattle.comfy_parts.specs.Text.{Text, measure, elements}
 use Rattle.comfy_parts.specs.Wrapping.{lines_of_text}
 use Rattle.comfy_parts.specs.declared.style.table_style.TableStyle.{TableStyle}
@@ -86,17 +88,26 @@ WordFits w word = (measure word ≤ w) ⊎ ((2 ≤ w) × AddsUp word)
 
 -- a text line fits, or each of its words does, between delimiters that add one column
 abbrev pub TextFits : ℕ → ℕ → Text → Type 0
-TextFits w d text = (measure text ≤ w) ⊎ (IsScalar d × AddsOneColumn d × All (WordFits w) (elements d text))
+TextFits w d text = (measure text ≤ w) ⊎ (AddsOneColumn d × All (WordFits w) (elements d text))
 
--- a line is whole characters, and measures at most w
-pub record IsFittingLine (w : ℕ) (line : Text) : Type 0 where
-  pub whole : IsUtf8 line
-  pub fits : measure line ≤ w
-
--- then all its lines fit
+-- then no line of it is wider than w
 abbrev pub TextLinesFit : ℕ → ℕ → Text → Type 0
-TextLinesFit w d text = IsUtf8 text → TextFits w d text → All (IsFittingLine w) (lines_of_text w d text)
+TextLinesFit w d text = IsScalar d → IsUtf8 text → TextFits w d text → All (λ line. measure line ≤ w) (lines_of_text w d text)
 
 -- a text whose characters add up fits each column of two or more
 abbrev pub AddingUpFits : ℕ → ℕ → Text → Type 0
-AddingUpFits w d text = 2 ≤ w → IsScalar d → AddsOneColumn d → IsUtf8 text → AddsUp text → TextFits w d text
+AddingUpFits w d text = 2 ≤ w → AddsOneColumn d → IsUtf8 text → AddsUp text → TextFits w d text
+
+-- ---- presets
+
+-- the thirteen presets
+abbrev pub presets_all : List TableStyle
+presets_all =
+    presets.ascii_full ∷ presets.ascii_full_condensed ∷ presets.ascii_no_borders ∷ presets.ascii_borders_only ∷ presets.ascii_borders_only_condensed
+    ∷ presets.ascii_horizontal_only ∷ presets.ascii_markdown ∷ presets.utf8_full ∷ presets.utf8_full_condensed ∷ presets.utf8_no_borders
+    ∷ presets.utf8_borders_only ∷ presets.utf8_horizontal_only ∷ presets.nothing ∷ []
+
+-- by itself, with either modifier and with both
+abbrev pub is_straight_preset : TableStyle → Bool
+is_straight_preset style =
+    has_frame_characters style && (has_frame_characters (with_rounded_corners style) && (has_frame_characters (with_solid_inner_borders style) && has_frame_characters (with_rounded_corners (with_solid_inner_borders style))))

@@ -1,22 +1,27 @@
 -- The lines of cells whose text lines fit are no wider than their columns.
-use Rattle.std.proofs.Common.{◌≡◌, ◌<◌, ◌≤◌, ℕ, ◌+◌, ◌-◌, Bool, true, false, List, [], ◌∷◌, ◌++◌, Option, Some, None, length, take, nat_le, nat_lt, refl, arith, slice_index_or}
+use Rattle.std.proofs.Common.{◌≡◌, ◌<◌, ◌≤◌, ℕ, ◌+◌, ◌-◌, Bool, true, false, List, [], ◌++◌, Option, Some, None, length, take, nat_le, nat_lt, refl, arith, slice_index_or}
+use Rattle.std.specs.Char.{IsScalar}
 use Rattle.std.specs.List.{All}
 use Rattle.std.specs.Prelude.{if◌then◌else◌, IsUtf8}
+use Rattle.std.proofs.lemmas.Bool.{cond_both}
 use Rattle.std.proofs.lemmas.Bool.Decides.{nat_tests}
-use Rattle.std.proofs.lemmas.List.Elements.{All-cons, All-nil, All-append, All-take}
+use Rattle.std.proofs.lemmas.List.Elements.{All-cons, All-nil, All-append, All-take, All-weaker}
 use Rattle.std.proofs.lemmas.Str.{IsUtf8-append, IsUtf8-nil}
+use Rattle.comfy_parts.proofs.LinesFitLemmas.{IsFittingLine}
 use Rattle.comfy_parts.proofs.SpaceMeasureLemmas.{measure-nil}
-use Rattle.comfy_parts.proofs.TextFitLemmas.{head-summed, text_lines_fit}
+use Rattle.comfy_parts.proofs.TextFitLemmas.{head-summed, lines-add_up, text_lines_fit}
+use Rattle.comfy_parts.proofs.WholeLineLemmas.{lines_of_text-utf8}
+use Rattle.comfy_parts.proofs.WordLemmas.{head-utf8}
 use Rattle.comfy_parts.specs.CellValue.{CellValue, RowValue, ColumnInfo}
-use Rattle.comfy_parts.specs.Columns.{AddsUp, IsApart, IsFittingLine}
+use Rattle.comfy_parts.specs.Columns.{AddsUp, IsApart}
 use Rattle.comfy_parts.specs.Text.{Text, measure, head}
 use Rattle.comfy_parts.specs.Wrapping.{lines_of_text}
 use Rattle.comfy_table.proofs.ListLemmas.{All-flat_map}
 use Rattle.comfy_table.proofs.MeasureLemmas.{apart_follows}
 use Rattle.comfy_table.specs.Laws.{unstyled}
-use Rattle.comfy_table.specs.Lines.{cell_delimiter, cell_lines, cut_line, cut_to_limit}
+use Rattle.comfy_table.specs.Lines.{cell_delimiter, cell_lines, cut_line, cut_to_limit, fitting_indicator}
 use Rattle.comfy_table.specs.Pieces.{row_cell_lines}
-use Rattle.comfy_table.specs.Straight.{CellFits, FittingCellsAreStraight}
+use Rattle.comfy_table.specs.Straight.{LinesFit, TextsFit}
 use Rattle.comfy_table.specs.TableValue.{TableValue}
 
 -- ---- cut lines
@@ -36,38 +41,65 @@ cut-fits w indicator line utf8 summed whole apart = by_test (nat_lt w (measure i
     by_test true wide = let none = measure-nil in with (w - measure []) [] IsUtf8-nil apart_follows.ends (omega (arith, none))
     by_test false narrow = let fits : measure indicator ≤ w = grind (arith, nat_tests, narrow) in with (w - measure indicator) indicator whole apart (omega (arith, fits))
 
+-- what each line meets, and the one that is cut, each line of a row does
+All-cut : (P : Text → Type 0) (height : Option ℕ) (w : ℕ) (indicator : Text) (lines : List Text) → All P lines
+    → ((h : ℕ) → height ≡ Some h → h < length lines → P (cut_line w indicator (slice_index_or lines (h - 1) []))) → All P (cut_to_limit height w indicator lines)
+All-cut P None w indicator lines each cut = each
+All-cut P (Some h) w indicator lines each cut =
+    cond_both (nat_le (length lines) h) _ _ (All P) (λ _. each)
+    (λ more. All-append P (take (h - 1) lines) _ (All-take P (h - 1) lines each) (All-cons P _ [] (cut h refl (grind (arith, nat_tests, more))) (All-nil P)))
+
 -- ---- cells
 
-module _ (table : TableValue) (row : RowValue) (p : ℕ × ColumnInfo) where
-  cell-fits : (cell : CellValue) → CellFits table row p cell → All (IsFittingLine p.1.content_width) (row_cell_lines (unstyled table) row p.1 cell)
-  cell-fits cell is = by_height row.max_height is.cut
+-- the text lines of the cell are whole characters, and its delimiter is one
+abbrev pub IsWholeCell : TableValue → RowValue → ColumnInfo → CellValue → Type 0
+IsWholeCell table row info cell = All IsUtf8 cell.text_lines × IsScalar (cell_delimiter table info.delimiter cell)
+
+-- its lines are whole characters that fit
+abbrev pub HasFittingLines : TableValue → RowValue → ColumnInfo → CellValue → Type 0
+HasFittingLines table row info cell = All (IsFittingLine info.content_width) (row_cell_lines (unstyled table) row info cell)
+
+module _ (table : TableValue) (row : RowValue) (info : ColumnInfo) (cell : CellValue) (indicator : IsUtf8 table.indicator) (known : IsWholeCell table row info cell) where
+  abbrev w : ℕ
+  w = info.content_width
+
+  abbrev d : ℕ
+  d = cell_delimiter table info.delimiter cell
+
+  abbrev lines : List Text
+  lines = cell_lines w d cell
+
+  whole : All IsUtf8 lines
+  whole = All-flat_map IsUtf8 (lines_of_text w d) cell.text_lines (All-weaker IsUtf8 (λ text. All IsUtf8 (lines_of_text w d text)) (lines_of_text-utf8 w d) cell.text_lines known.0)
+
+  -- all lines are whole characters, cut ones too
+  whole_lines : All IsUtf8 (row_cell_lines (unstyled table) row info cell)
+  whole_lines = All-cut IsUtf8 row.max_height w table.indicator lines whole cut
     where
-      lines : List Text
-      lines = cell_lines p.1.content_width (cell_delimiter table p.1.delimiter cell) cell
+      cut : (h : ℕ) → row.max_height ≡ Some h → h < length lines → IsUtf8 (cut_line w table.indicator (slice_index_or lines (h - 1) []))
+      cut h is below =
+          IsUtf8-append (head _ (slice_index_or lines (h - 1) [])) (fitting_indicator w table.indicator) (head-utf8 _ _ (whole (h - 1) [] (omega (arith, below))))
+          (cond_both (nat_lt w (measure table.indicator)) _ _ IsUtf8 (λ _. IsUtf8-nil) (λ _. indicator))
 
-      fit : All (IsFittingLine p.1.content_width) lines
+  -- so lines that are no wider than the column fit
+  pub lines-fit : LinesFit table row info cell → HasFittingLines table row info cell
+  lines-fit narrow k default below = record { whole = whole_lines k default below; fits = narrow k default below }
+
+  -- and so do the lines of texts that fit
+  pub texts-fit : TextsFit table row info cell → HasFittingLines table row info cell
+  texts-fit is = All-cut (IsFittingLine w) row.max_height w table.indicator lines fit cut
+    where
+      fit : All (IsFittingLine w) lines
       fit =
-          All-flat_map (IsFittingLine p.1.content_width) (lines_of_text p.1.content_width (cell_delimiter table p.1.delimiter cell)) cell.text_lines
-          (λ k default below. text_lines_fit p.1.content_width (cell_delimiter table p.1.delimiter cell) (slice_index_or cell.text_lines k default) (is.whole k default below) (is.fits k default below))
+          All-flat_map (IsFittingLine w) (lines_of_text w d) cell.text_lines
+          (λ k default below. text_lines_fit w d (slice_index_or cell.text_lines k default) known.1 (known.0 k default below) (is.fit k default below))
 
-      Cuts : Option ℕ → Type 0
-      Cuts height = (h : ℕ) → height ≡ Some h → h < length lines → All AddsUp lines × IsUtf8 table.indicator × IsApart table.indicator
+      add_up : All AddsUp cell.text_lines → All AddsUp lines
+      add_up each =
+          All-flat_map AddsUp (lines_of_text w d) cell.text_lines (λ k default below. lines-add_up w d (slice_index_or cell.text_lines k default) known.1 (known.0 k default below) (each k default below))
 
-      by_height : (height : Option ℕ) → Cuts height → All (IsFittingLine p.1.content_width) (cut_to_limit height p.1.content_width table.indicator lines)
-      by_height None cut = fit
-      by_height (Some h) cut = by_test (nat_le (length lines) h) refl
-        where
-          -- of no line nothing is cut away, and the first one is looked up where the height is 0
-          by_test : (b : Bool) → nat_le (length lines) h ≡ b → All (IsFittingLine p.1.content_width) (if b then lines else take (h - 1) lines ++ cut_line p.1.content_width table.indicator (slice_index_or lines (h - 1) []) ∷ [])
-          by_test true enough = fit
-          by_test false more =
-              let below : h < length lines = grind (arith, nat_tests, more) in
-              let inside : h - 1 < length lines = omega (arith, below) in
-              let kinds = cut h refl below in
-              All-append (IsFittingLine p.1.content_width) (take (h - 1) lines) _ (All-take (IsFittingLine p.1.content_width) (h - 1) lines fit)
-              (All-cons (IsFittingLine p.1.content_width) _ [] (cut-fits p.1.content_width table.indicator (slice_index_or lines (h - 1) []) (fit (h - 1) [] inside).whole (kinds.0 (h - 1) [] inside) kinds.1 kinds.2) (All-nil (IsFittingLine p.1.content_width)))
-
--- a table whose cells fit is straight
-pub fitting_cells_are_straight : (table : TableValue) (widths : List ℕ) → FittingCellsAreStraight table widths
-fitting_cells_are_straight table widths is =
-    record { characters = is.characters; apart = is.apart; lines_fit = λ k default under j other below cell found. cell-fits table _ _ cell (is.cells_fit k default under j other below cell found) }
+      cut : (h : ℕ) → row.max_height ≡ Some h → h < length lines → IsFittingLine w (cut_line w table.indicator (slice_index_or lines (h - 1) []))
+      cut h limited below =
+          let inside : h - 1 < length lines = omega (arith, below) in
+          let kinds = is.cut h limited below in
+          cut-fits w table.indicator (slice_index_or lines (h - 1) []) (whole (h - 1) [] inside) (add_up kinds.0 (h - 1) [] inside) indicator kinds.1

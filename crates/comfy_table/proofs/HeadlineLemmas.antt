@@ -1,22 +1,24 @@
 -- What a drawing over the table's infos promises.
-use Rattle.std.proofs.Common.{◌≡◌, ◌≤◌, ◌⊎◌, inl, inr, ℕ, ◌+◌, Bool, true, false, if◌then◌else◌, nat_le, not, List, [], ◌∷◌, ◌++◌, Option, Some, None, option_to_list, map, zip, unwrap_or, max, String, refl, ap, sym, subst, ◌∙◌}
+use Rattle.std.proofs.Common.{◌≡◌, ◌≤◌, ◌⊎◌, inl, inr, ℕ, ◌+◌, Bool, true, false, if◌then◌else◌, nat_le, not, List, [], ◌∷◌, ◌++◌, Option, Some, None, option_to_list, map, zip, slice_index_or, unwrap_or, max, String, refl, ap, sym, subst, ◌∙◌}
 use Rattle.std.proofs.lemmas.List.Elements.{All-cons, All-filter, All-head, All-nil, All-tail, All-weaker}
 use Rattle.std.proofs.lemmas.Str.{IsUtf8-string_bytes}
 use Rattle.std.specs.Char.{IsScalar}
-use Rattle.std.specs.List.{All, enumerate_from}
+use Rattle.std.specs.List.{All, enumerate_from, slice_get}
 use Rattle.std.specs.Option.{IfSome}
 use Rattle.std.specs.Str.{IsUtf8}
 use Rattle.comfy_parts.proofs.Computing.{wrapping}
 use Rattle.comfy_parts.proofs.WrappedLemmas.{wrapped_is_wrapped}
 use Rattle.comfy_parts.proofs.WrappingLemmas.{one_character}
 use Rattle.comfy_table.proofs.SeenLemmas.{IsSeenCell, IsSeenRow, IsWholeRow, seen_kept, whole_row}
-use Rattle.comfy_parts.specs.CellValue.{ColumnInfo, ColumnValue, IsCell, IsColumn, IsDelimiter, IsRow, RowValue, info_of}
+use Rattle.comfy_parts.specs.CellValue.{CellValue, ColumnInfo, ColumnValue, IsCell, IsColumn, IsDelimiter, IsRow, RowValue, info_of}
 use Rattle.comfy_parts.specs.Text.{Text, measure}
 use Rattle.comfy_parts.specs.Wrapping.{IsWrapped, wrapped}
 use Rattle.comfy_table.proofs.DrawnWidthLemmas.{fills_width, keeps_to_width}
 use Rattle.comfy_table.proofs.EqualCountLemmas.{equal_counts}
-use Rattle.comfy_table.proofs.ListLemmas.{All-at, All-every}
+use Rattle.comfy_table.proofs.ListLemmas.{All-at, All-every, All-of_map}
 use Rattle.comfy_table.proofs.StraightLemmas.{straight}
+use Rattle.comfy_table.proofs.CellFitLemmas.{IsWholeCell}
+use Rattle.comfy_table.specs.Straight.{EachCell}
 use Rattle.comfy_table.specs.Arrangement.{AreInfosOf, IsArranged, IsDrawingOf}
 use Rattle.comfy_table.proofs.StylingTakenOutLemmas.{styling_taken_out}
 use Rattle.comfy_table.proofs.TableLemmas.{frame_counts}
@@ -26,7 +28,7 @@ use Rattle.comfy_parts.specs.VisibleText.{visible_text}
 use Rattle.comfy_table.proofs.UnstyledLemmas.{unstyled_drawing}
 use Rattle.comfy_table.specs.Drawing.{drawing, drawing_of_infos, infos_of}
 use Rattle.comfy_table.specs.Headline.{EachLineCounts, IsClosedInRow, IsCutClosedInRow, IsResumedInRow, IsCutIntoSlices, IsTableDrawing, IsTextOrSlices}
-use Rattle.comfy_table.specs.Laws.{count, least_total, line_total, unstyled}
+use Rattle.comfy_table.specs.Laws.{IsFreeOfEscapes, count, least_total, line_total, unstyled}
 use Rattle.comfy_table.specs.Lines.{cell_delimiter}
 use Rattle.comfy_table.specs.Pieces.{visible_infos}
 use Rattle.comfy_table.specs.TableLaws.{wider_total}
@@ -49,13 +51,19 @@ delimiter_or : (delimiter : Option ℕ) (other : ℕ) → IsDelimiter delimiter 
 delimiter_or None other is given = given
 delimiter_or (Some d) other is given = is
 
--- such are the lines of each text line of a row's cells, in a column whose delimiter is a character
-row_slices : (table : TableValue) (row : RowValue) → IsDelimiter table.delimiter → All IsSeenCell row.cells → (p : ℕ × ColumnInfo) → IsDelimiter p.1.delimiter → IsCutIntoSlices table row p
-row_slices table row own kept p of_column cell is =
+-- the cell of a row in a column whose delimiter is a character
+whole_cell : (table : TableValue) (row : RowValue) → IsDelimiter table.delimiter → All IsSeenCell row.cells → (p : ℕ × ColumnInfo) → IsDelimiter p.1.delimiter
+    → (cell : CellValue) → slice_get row.cells p.0 ≡ Some cell → IsWholeCell table row p.1 cell
+whole_cell table row own kept p of_column cell is =
     let seen : IsSeenCell cell = All-at IsSeenCell row.cells p.0 cell kept is in
-    let scalar : IsScalar (cell_delimiter table p.1.delimiter cell) = delimiter_or cell.delimiter _ seen.1 (delimiter_or p.1.delimiter _ of_column (delimiter_or table.delimiter 0x20 own refl)) in
+    (seen.0, delimiter_or cell.delimiter _ seen.1 (delimiter_or p.1.delimiter _ of_column (delimiter_or table.delimiter 0x20 own refl)))
+
+-- the lines of its text lines are these, or slices of them
+row_slices : (table : TableValue) (row : RowValue) (p : ℕ × ColumnInfo) → ((cell : CellValue) → slice_get row.cells p.0 ≡ Some cell → IsWholeCell table row p.1 cell) → IsCutIntoSlices table row p
+row_slices table row p whole cell is =
+    let own = whole cell is in
     All-weaker IsUtf8 (IsTextOrSlices p.1.content_width (cell_delimiter table p.1.delimiter cell))
-    (λ text whole. text_or_slices p.1.content_width (cell_delimiter table p.1.delimiter cell) text scalar whole) cell.text_lines seen.0
+    (λ text utf8. text_or_slices p.1.content_width (cell_delimiter table p.1.delimiter cell) text own.1 utf8) cell.text_lines own.0
 
 -- a table's rows and its header keep what rows keep
 all_rows : (table : TableValue) → KeepsParts table → All IsRow (header_and_rows table)
@@ -79,11 +87,13 @@ info_delimiters n (column ∷ columns) (width ∷ widths) kept =
     (info_delimiters (n + 1) columns widths (All-tail IsColumn column columns kept))
 
 -- what a line's total meets, each line's count does
-each_line_counts : (P : ℕ → Type 0) (table : TableValue) (widths : List ℕ) → IsUtf8 table.indicator → IsArranged table widths → P (line_total table widths) → EachLineCounts P table widths
-each_line_counts P table widths utf8 arranged meets =
+each_line_counts : (P : ℕ → Type 0) (table : TableValue) (widths : List ℕ) → IsUtf8 table.indicator → EachCell (IsWholeCell table) table widths → IsArranged table widths → P (line_total table widths)
+    → EachLineCounts P table widths
+each_line_counts P table widths utf8 cells arranged meets =
     record {
       frame_lines = λ line. subst P (sym (frame_counts table widths line arranged.one_for_each)) meets;
       plain_lines = λ plain. All-weaker (λ line. count line ≡ line_total table widths) (λ line. P (count line)) (λ line is. subst P (sym is) meets) (drawing (unstyled table) widths) (equal_counts table widths utf8 plain arranged);
+      straight_lines = λ is. All-weaker (λ line. measure line ≡ line_total table widths) (λ line. P (measure line)) (λ line same. subst P (sym same) meets) (drawing (unstyled table) widths) (straight table widths utf8 cells arranged is);
     }
 
 -- and promise what every drawing does
@@ -94,16 +104,23 @@ table_drawing table infos lines utf8 kept (widths, arranged, is) drawn =
     let texts : HasWholeTexts table = All-weaker IsSeenRow IsWholeRow whole_row (header_and_rows table) rows in
     let delimiters : All (λ (p : ℕ × ColumnInfo). IsDelimiter p.1.delimiter) (visible_infos (infos_of table widths)) =
     All-filter (λ (p : ℕ × ColumnInfo). not p.1.is_hidden) (λ (p : ℕ × ColumnInfo). IsDelimiter p.1.delimiter) _ (info_delimiters 0 table.columns widths kept.columns) in
+    let cells : EachCell (IsWholeCell table) table widths =
+    All-weaker IsSeenRow (λ (row : RowValue). All (λ (p : ℕ × ColumnInfo). (cell : CellValue) → slice_get row.cells p.0 ≡ Some cell → IsWholeCell table row p.1 cell) (visible_infos (infos_of table widths)))
+    (λ row each. All-weaker (λ (p : ℕ × ColumnInfo). IsDelimiter p.1.delimiter) (λ (p : ℕ × ColumnInfo). (cell : CellValue) → slice_get row.cells p.0 ≡ Some cell → IsWholeCell table row p.1 cell)
+    (whole_cell table row kept.delimiter each) (visible_infos (infos_of table widths)) delimiters)
+    (seen_rows table) (seen_kept table rows) in
+    let free_lines = λ (free : IsFreeOfEscapes table). ap (map visible_text) whole ∙ styling_taken_out table widths texts free in
     record {
       widths = widths;
       arranged = arranged;
       drawn = whole;
-      slices = All-weaker IsSeenRow (λ (row : RowValue). All (IsCutIntoSlices table row) (visible_infos (infos_of table widths)))
-          (λ row each. All-weaker (λ (p : ℕ × ColumnInfo). IsDelimiter p.1.delimiter) (IsCutIntoSlices table row) (row_slices table row kept.delimiter each) (visible_infos (infos_of table widths)) delimiters) (seen_rows table) (seen_kept table rows);
+      slices = λ k default under j other below. row_slices table (slice_index_or (seen_rows table) k default) (slice_index_or (visible_infos (infos_of table widths)) j other) (cells k default under j other below);
       unstyled_lines = λ off plain. whole ∙ sym (unstyled_drawing table (infos_of table widths) off plain);
       equal_counts = λ plain. equal_counts table widths utf8 plain arranged;
-      straight = λ is. straight table widths is arranged;
-      without_sequences = λ free. ap (map visible_text) whole ∙ styling_taken_out table widths texts free;
+      straight = straight table widths utf8 cells arranged;
+      without_sequences = free_lines;
+      straight_without_sequences = λ free is. All-of_map (λ text. measure text ≡ line_total table widths) visible_text lines
+          (subst (All (λ text. measure text ≡ line_total table widths)) (sym (free_lines free)) (straight table widths utf8 cells arranged is));
       closed = λ _. All-every (λ (row : RowValue). All (IsClosedInRow table row) (visible_infos (infos_of table widths))) (header_and_rows table)
           (λ row. All-every (IsClosedInRow table row) (visible_infos (infos_of table widths)) (λ p cell is. none_is_open_at_the_end table row p.1 cell));
       resumed = λ _. All-every (λ (row : RowValue). All (IsResumedInRow table row) (visible_infos (infos_of table widths))) (header_and_rows table)
@@ -111,17 +128,17 @@ table_drawing table infos lines utf8 kept (widths, arranged, is) drawn =
       cut_closed = λ _. All-every (λ (row : RowValue). All (IsCutClosedInRow table row) (visible_infos (infos_of table widths))) (header_and_rows table)
           (λ row. All-every (IsCutClosedInRow table row) (visible_infos (infos_of table widths)) (λ p cell is. cut_lines_are_closed table row p.1 cell));
       frame_counts = λ line. frame_counts table widths line arranged.one_for_each;
-      keeps_to_width = λ w none dynamic known. each_line_counts (λ n. n ≤ max w (least_total table)) table widths utf8 arranged (keeps_to_width table w widths none dynamic known arranged);
-      fills_width = λ w none full known some. each_line_counts (λ n. n ≡ max w (least_total table)) table widths utf8 arranged (fills_width table w widths none full known some arranged);
+      keeps_to_width = λ w none dynamic known. each_line_counts (λ n. n ≤ max w (least_total table)) table widths utf8 cells arranged (keeps_to_width table w widths none dynamic known arranged);
+      fills_width = λ w none full known some. each_line_counts (λ n. n ≡ max w (least_total table)) table widths utf8 cells arranged (fills_width table w widths none full known some arranged);
       keeps_to_wider_total = λ w dynamic known.
           let found = keeps_to_wider_total table w widths dynamic known arranged in
-          (found.0, found.1, each_line_counts (λ n. n ≤ max w (wider_total table found.0)) table widths utf8 arranged found.2);
+          (found.0, found.1, each_line_counts (λ n. n ≤ max w (wider_total table found.0)) table widths utf8 cells arranged found.2);
       keeps_to_wider_total_in_full = λ w full known.
           let found = keeps_to_wider_total_in_full table w widths full known arranged in
-          (found.0, found.1, each_line_counts (λ n. n ≤ max w (wider_total table found.0)) table widths utf8 arranged found.2);
+          (found.0, found.1, each_line_counts (λ n. n ≤ max w (wider_total table found.0)) table widths utf8 cells arranged found.2);
       fills_wider_total = λ w full known some.
           let found = fills_wider_total table w widths full known some arranged in
-          (found.0, found.1, each_line_counts (λ n. n ≡ max w (wider_total table found.0)) table widths utf8 arranged found.2);
+          (found.0, found.1, each_line_counts (λ n. n ≡ max w (wider_total table found.0)) table widths utf8 cells arranged found.2);
     }
 
 -- the indicator of a new table is a character

@@ -1,7 +1,7 @@
 -- All lines of a table whose lines fit measure the same.
-use Rattle.std.proofs.Common.{◌≡◌, ◌<◌, ◌≤◌, inl, inr, ℕ, ◌+◌, Bool, true, false, List, [], ◌∷◌, ◌++◌, Option, Some, None, length, sum, refl, ◌∙◌, subst, arith, slice_index_or}
+use Rattle.std.proofs.Common.{◌≡◌, ◌<◌, ◌≤◌, ◌⊎◌, inl, inr, ℕ, ◌+◌, Bool, true, false, List, [], ◌∷◌, ◌++◌, Option, Some, None, length, sum, refl, ◌∙◌, subst, arith, slice_index_or}
 use Rattle.std.specs.List.{All, range_with_len, slice_get}
-use Rattle.std.specs.Prelude.{if◌then◌else◌, option_to_list}
+use Rattle.std.specs.Prelude.{if◌then◌else◌, option_to_list, IsUtf8}
 use Rattle.std.proofs.lemmas.List.{length-map}
 use Rattle.std.proofs.lemmas.List.Elements.{All-cons, All-nil, All-head, All-tail, All-append, All-weaker, All-map}
 use Rattle.comfy_parts.specs.CellValue.{CellValue, RowValue, ColumnInfo, info_width}
@@ -12,22 +12,26 @@ use Rattle.comfy_table.proofs.EqualCountLemmas.{length-infos_from}
 use Rattle.comfy_table.proofs.ListLemmas.{All-every, At-or, All-join_by, AllZip-map}
 use Rattle.comfy_table.specs.Drawing.{infos_of, visible_widths, drawn_row, drawn_header, drawn_rows, drawing_of_infos, drawing}
 use Rattle.comfy_table.specs.Frame.{border_count, content_line, draws_vertical_lines, frame_line, is_drawn, optional_frame_line}
-use Rattle.comfy_table.specs.Laws.{unstyled}
+use Rattle.comfy_table.specs.Laws.{line_total, unstyled}
 use Rattle.comfy_table.specs.Pieces.{blank_piece, pieces_of_optional, pieces_at, piece, row_cell_lines, row_line, row_lines, row_height, visible_infos}
 use Rattle.comfy_table.specs.TableValue.{TableValue, seen_table, seen_rows}
 use Rattle.comfy_table.specs.Widths.{visible_count}
-use Rattle.comfy_table.specs.Straight.{IsOneColumn, LinesFitColumn, TextsStandApart, style_characters, IsStraight}
+use Rattle.comfy_table.specs.Arrangement.{IsArranged}
+use Rattle.comfy_table.specs.Straight.{EachCell, IsShownWhole, IsStraightTable, LinesFit, TextsFit, TextsStandApart}
+use Rattle.comfy_table.proofs.CellFitLemmas.{HasFittingLines, IsWholeCell, lines-fit, texts-fit}
+use Rattle.comfy_table.proofs.WholeTableLemmas.{whole_table_fits}
 use Rattle.comfy_table.proofs.InfoLemmas.{infos-known}
 use Rattle.comfy_table.proofs.MeasureLemmas.{IsAny, IsFollowing, any_follows, apart_follows, HasMeasure, HasMeasure-any, HasMeasure-spaces, IsPiece, measure-is}
 use Rattle.comfy_table.proofs.PieceMeasureLemmas.{HasMeasure-frame_line, HasMeasure-joined, IsGoodPiece, good-any, good-front, good-junction, piece-any, piece-apart, spaced-blank, spaced-front}
-use Rattle.comfy_parts.specs.Columns.{IsFittingLine, IsApart}
+use Rattle.comfy_parts.proofs.LinesFitLemmas.{IsFittingLine}
+use Rattle.comfy_parts.specs.Columns.{IsApart, IsOneColumn, style_characters}
 
 -- a piece of the cell that a row has in a column, or the blank one
 abbrev ArePiecesGood : (Text → Type 0) → TableValue → RowValue → ℕ × ColumnInfo → Type 0
 ArePiecesGood Follows table row p = All (IsGoodPiece Follows (draws_vertical_lines table.style) (info_width p.1)) (pieces_at (unstyled table) row p)
 
 -- the pieces of lines that fit are good, where every piece of a line that fits is, and the blank one
-pieces-good : (Follows : Text → Type 0) (table : TableValue) (row : RowValue) (p : ℕ × ColumnInfo) → LinesFitColumn table row p
+pieces-good : (Follows : Text → Type 0) (table : TableValue) (row : RowValue) (p : ℕ × ColumnInfo) → ((cell : CellValue) → slice_get row.cells p.0 ≡ Some cell → HasFittingLines table row p.1 cell)
     → IsGoodPiece Follows (draws_vertical_lines table.style) (info_width p.1) (blank_piece p.1)
     → ((cell : CellValue) (line : Text) → IsFittingLine p.1.content_width line → IsGoodPiece Follows (draws_vertical_lines table.style) (info_width p.1) (piece (unstyled table) cell p.1 line))
     → ArePiecesGood Follows table row p
@@ -126,10 +130,11 @@ module _ (table : TableValue) (infos : List ColumnInfo) (Follows : Text → Type
 
 -- ---- all tables
 
--- all lines, frame lines too, are equally many columns wide
-pub straight : (table : TableValue) (widths : List ℕ) → IsStraight table widths
-straight table widths is arranged =
-    subst (λ n. All (λ line. measure line ≡ border_count table.style n + sum (visible_widths infos)) (drawing (unstyled table) widths)) columns (by_case is.apart)
+-- where all lines of cells fit, all lines, frame lines too, are equally many columns wide
+straight_lines : (table : TableValue) (widths : List ℕ) → All IsOneColumn (style_characters table.style) → TextsStandApart table → EachCell (HasFittingLines table) table widths → IsArranged table widths
+    → All (λ line. measure line ≡ line_total table widths) (drawing (unstyled table) widths)
+straight_lines table widths characters apart lines_fit arranged =
+    subst (λ n. All (λ line. measure line ≡ border_count table.style n + sum (visible_widths infos)) (drawing (unstyled table) widths)) columns (by_case apart)
   where
     infos : List ColumnInfo
     infos = infos_of table widths
@@ -142,15 +147,15 @@ straight table widths is arranged =
 
     by_case : TextsStandApart table → All (λ line. measure line ≡ border_count table.style (length (visible_widths infos)) + sum (visible_widths infos)) (drawing (unstyled table) widths)
     by_case (inl drawn) =
-        drawing_straight table infos IsApart apart_follows is.characters (λ j other below. good-junction v _ _ drawn (HasMeasure-any IsApart _ _ (HasMeasure-spaces _)))
+        drawing_straight table infos IsApart apart_follows characters (λ j other below. good-junction v _ _ drawn (HasMeasure-any IsApart _ _ (HasMeasure-spaces _)))
         (λ k default under j other below.
-        pieces-good IsApart table (slice_index_or (seen_rows table) k default) (slice_index_or (visible_infos infos) j other) (is.lines_fit k default under j other below)
+        pieces-good IsApart table (slice_index_or (seen_rows table) k default) (slice_index_or (visible_infos infos) j other) (lines_fit k default under j other below)
         (good-junction v _ _ drawn (HasMeasure-any IsApart _ _ (HasMeasure-spaces _)))
         (λ cell line fitting. good-junction v _ _ drawn (piece-apart cell (slice_index_or (visible_infos infos) j other).1 line fitting)))
     by_case (inr (inl each)) =
-        drawing_straight table infos IsApart apart_follows is.characters (λ j other below. blank j other below)
+        drawing_straight table infos IsApart apart_follows characters (λ j other below. blank j other below)
         (λ k default under j other below.
-        pieces-good IsApart table (slice_index_or (seen_rows table) k default) (slice_index_or (visible_infos infos) j other) (is.lines_fit k default under j other below)
+        pieces-good IsApart table (slice_index_or (seen_rows table) k default) (slice_index_or (visible_infos infos) j other) (lines_fit k default under j other below)
         (blank j other below)
         (λ cell line fitting. good-front v _ _ (λ rest. spaced-front IsApart _ _ rest apart_follows (padded j other below)) (piece-apart cell (slice_index_or (visible_infos infos) j other).1 line fitting)))
       where
@@ -162,11 +167,31 @@ straight table widths is arranged =
             let left = padded j other below in
             good-front v _ _ (λ rest. spaced-blank IsApart _ rest apart_follows (omega (arith, left))) (HasMeasure-any IsApart _ _ (HasMeasure-spaces _))
     by_case (inr (inr each)) =
-        drawing_straight table infos IsAny any_follows is.characters (λ j other below. good-any v _ _ (HasMeasure-spaces _))
+        drawing_straight table infos IsAny any_follows characters (λ j other below. good-any v _ _ (HasMeasure-spaces _))
         (λ k default under j other below.
-        pieces-good IsAny table (slice_index_or (seen_rows table) k default) (slice_index_or (visible_infos infos) j other) (is.lines_fit k default under j other below)
+        pieces-good IsAny table (slice_index_or (seen_rows table) k default) (slice_index_or (visible_infos infos) j other) (lines_fit k default under j other below)
         (good-any v _ _ (HasMeasure-spaces _))
         (λ cell line fitting. good-any v _ _ (piece-any cell (slice_index_or (visible_infos infos) j other).1 line (padded j other below) fitting)))
       where
         padded : All (λ (q : ℕ × ColumnInfo). 1 ≤ q.1.padding.1) (visible_infos infos)
         padded = infos-known table widths (λ p. 1 ≤ p.1.padding.1) (λ (q : ℕ × ColumnInfo). 1 ≤ q.1.padding.1) arranged.one_for_each each (λ i column w right. right)
+
+-- what follows from two facts of each cell
+each_cell : (table : TableValue) (widths : List ℕ) (P Q R : RowValue → ColumnInfo → CellValue → Type 0) → ((row : RowValue) (info : ColumnInfo) (cell : CellValue) → P row info cell → Q row info cell → R row info cell)
+    → EachCell P table widths → EachCell Q table widths → EachCell R table widths
+each_cell table widths P Q R gives ps qs k default under j other below cell found =
+    gives (slice_index_or (seen_rows table) k default) (slice_index_or (visible_infos (infos_of table widths)) j other).1 cell (ps k default under j other below cell found) (qs k default under j other below cell found)
+
+-- so they are in a straight table
+pub straight : (table : TableValue) (widths : List ℕ) → IsUtf8 table.indicator → EachCell (IsWholeCell table) table widths → IsArranged table widths → IsStraightTable table widths
+    → All (λ line. measure line ≡ line_total table widths) (drawing (unstyled table) widths)
+straight table widths indicator whole arranged is = straight_lines table widths is.characters is.apart (by_case is.fits) arranged
+  where
+    of_texts : EachCell (TextsFit table) table widths → EachCell (HasFittingLines table) table widths
+    of_texts = each_cell table widths (IsWholeCell table) (TextsFit table) (HasFittingLines table) (λ row info cell own fit. texts-fit table row info cell indicator own fit) whole
+
+    by_case : EachCell (LinesFit table) table widths ⊎ (EachCell (TextsFit table) table widths ⊎ IsShownWhole table) → EachCell (HasFittingLines table) table widths
+    by_case (inl each) =
+        each_cell table widths (IsWholeCell table) (LinesFit table) (HasFittingLines table) (λ row info cell own fit. lines-fit table row info cell indicator own fit) whole each
+    by_case (inr (inl each)) = of_texts each
+    by_case (inr (inr shown)) = of_texts (whole_table_fits table widths shown arranged)

@@ -8,16 +8,14 @@ use Rattle.comfy_parts.specs.CellValue.{CellValue, RowValue, ColumnInfo, ColumnV
 use Rattle.comfy_parts.specs.Text.{greatest, measure}
 use Rattle.comfy_parts.specs.declared.style.column.ColumnConstraint.{ColumnConstraint}
 use Rattle.comfy_table.proofs.ListLemmas.{All-at, All-given}
-use Rattle.comfy_table.specs.Arrangement.{is_full_width, room_beside_borders, widths_at}
+use Rattle.comfy_table.specs.Arrangement.{IsArranged, is_full_width, room_beside_borders, widths_at}
 use Rattle.comfy_table.specs.Drawing.{infos_of}
 use Rattle.comfy_table.specs.Dynamic.{IsDynamic}
 use Rattle.comfy_table.specs.Pieces.{visible_infos}
 use Rattle.comfy_table.specs.TableValue.{TableValue, cell_content_width, column_cells, column_content_width, seen_rows, visible_columns}
 use Rattle.comfy_table.specs.Widths.{capped_content, disabled_width, fixed_by_constraint, upper_boundary, visible_count, visible_needs}
-use Rattle.comfy_table.specs.Straight.{CellFits, CellsFit, WholeTablesAreStraight}
+use Rattle.comfy_table.specs.Straight.{EachCell, IsShownWhole, TextsFit}
 use Rattle.comfy_table.proofs.InfoLemmas.{infos-at}
-use Rattle.comfy_table.proofs.CellFitLemmas.{fitting_cells_are_straight}
-use Rattle.comfy_parts.specs.Columns.{IsFittingLine}
 
 -- each number is at most the greatest
 all-le-greatest : {X : Type 0} (f : X → ℕ) (xs : List X) → All (λ x. f x ≤ greatest (map f xs)) xs
@@ -38,9 +36,9 @@ unconstrained_width : (table : TableValue) (i : ℕ) (column : ColumnValue) → 
 unconstrained_width table i column none =
     ap (λ (c : Option ColumnConstraint). unwrap_or (fixed_by_constraint table (visible_count table) (column_content_width table i) (column_padding column) c) (capped_content (column_content_width table i) (column_padding column) (upper_boundary table (visible_count table) c))) none
 
--- a table that is shown whole is straight
-pub whole_tables_are_straight : (table : TableValue) (widths : List ℕ) → WholeTablesAreStraight table widths
-whole_tables_are_straight table widths is arranged = fitting_cells_are_straight table widths (record { characters = is.characters; apart = is.apart; cells_fit = each })
+-- the texts of a table that is shown whole fit
+pub whole_table_fits : (table : TableValue) (widths : List ℕ) → IsShownWhole table → IsArranged table widths → EachCell (TextsFit table) table widths
+whole_table_fits table widths is arranged = each
   where
     shown : widths_at widths (visible_columns table) ≡ map (disabled_width table) (visible_columns table)
     shown =
@@ -58,19 +56,18 @@ whole_tables_are_straight table widths is arranged = fitting_cells_are_straight 
         (λ i column w at both. let own = unconstrained_width table i column both.0 in let same = both.1 in omega (arith, at, same, own))
 
     cell_fits : (row : RowValue) (q : ℕ × ColumnInfo) (cell : CellValue) → column_content_width table q.0 ≤ q.1.content_width → cell_content_width cell ≤ column_content_width table q.0 → row.max_height ≡ None
-        → All (IsFittingLine 65535) cell.text_lines → CellFits table row q cell
+        → All (λ line. measure line ≤ 65535) cell.text_lines → TextsFit table row q.1 cell
     cell_fits row q cell room content uncut texts =
         record {
-          whole = λ k default below. (texts k default below).whole;
-          fits = λ k default below. inl
-              (let most = all-le-greatest measure cell.text_lines k default below in let short = (texts k default below).fits in omega (arith, most, short, room, content));
+          fit = λ k default below. inl
+              (let most = all-le-greatest measure cell.text_lines k default below in let short = texts k default below in omega (arith, most, short, room, content));
           cut = λ h tall more. absurd (cc (uncut, tall));
         }
 
-    each : All (λ (row : RowValue). All (CellsFit table row) (visible_infos (infos_of table widths))) (seen_rows table)
+    each : EachCell (TextsFit table) table widths
     each k default under j other below cell found =
         cell_fits (slice_index_or (seen_rows table) k default) (slice_index_or (visible_infos (infos_of table widths)) j other) cell (wide j other below)
         (All-given (λ (c : CellValue). cell_content_width c ≤ column_content_width table (slice_index_or (visible_infos (infos_of table widths)) j other).0) (λ (row : RowValue). slice_get row.cells (slice_index_or (visible_infos (infos_of table widths)) j other).0) (seen_rows table)
         (all-le-greatest cell_content_width (column_cells table (slice_index_or (visible_infos (infos_of table widths)) j other).0)) k default under cell found)
         (is.uncut k default under)
-        (All-at (λ (c : CellValue). All (IsFittingLine 65535) c.text_lines) (slice_index_or (seen_rows table) k default).cells (slice_index_or (visible_infos (infos_of table widths)) j other).0 cell (is.texts k default under) found)
+        (All-at (λ (c : CellValue). All (λ line. measure line ≤ 65535) c.text_lines) (slice_index_or (seen_rows table) k default).cells (slice_index_or (visible_infos (infos_of table widths)) j other).0 cell (is.short k default under) found)

@@ -43,10 +43,11 @@ abbrev pub IsCutClosedInRow : TableValue → RowValue → ℕ × ColumnInfo → 
 IsCutClosedInRow table row p =
     (cell : CellValue) → slice_get row.cells p.0 ≡ Some cell → CutLinesAreClosed table row p.1 cell
 
--- the number of characters of a line meets P: that of each frame line, whatever the style and the texts; that of every line as it is seen, where the table is printable ASCII
+-- the number of characters of a line meets P: that of each frame line, whatever the style and the texts; that of every line as it is seen, where the table is printable ASCII; and so do the terminal columns of every line as it is seen, where the table is straight
 pub record EachLineCounts (P : ℕ → Type 0) (table : TableValue) (widths : List ℕ) : Type 0 where
   pub frame_lines : (line : LineStyle) → P (count (frame_line table.style line (visible_widths (infos_of table widths))))
   pub plain_lines : IsPlainTable table widths → All (λ line. P (count line)) (drawing (unstyled table) widths)
+  pub straight_lines : IsStraightTable table widths → All (λ line. P (measure line)) (drawing (unstyled table) widths)
 
 -- these steps lead to the contents of the visible columns, in the room that the table's width w leaves beside the borders
 abbrev pub LeadToWidths : TableValue → ℕ → Bool → List ℕ → Steps → Type 0
@@ -64,10 +65,12 @@ pub record IsTableDrawing (table : TableValue) (lines : List Text) : Type 0 wher
   pub unstyled_lines : should_style table ≡ false → table.custom_styling ≡ false → lines ≡ drawing (unstyled table) widths
   -- for printable ASCII the unstyled lines have the same count of characters
   pub equal_counts : IsPlainTable table widths → All (λ line. count line ≡ line_total table widths) (drawing (unstyled table) widths)
-  -- in terminal columns the unstyled lines are equally wide, whatever the script, where no line is wider than its column
+  -- in terminal columns the unstyled lines are equally wide, whatever the script, where the table is straight
   pub straight : IsStraightTable table widths → All (λ line. measure line ≡ line_total table widths) (drawing (unstyled table) widths)
   -- without their sequences the lines are the unstyled ones, where nothing else holds ESC
   pub without_sequences : IsFreeOfEscapes table → map visible_text lines ≡ drawing (unstyled table) widths
+  -- so what is visible of the lines is equally wide too
+  pub straight_without_sequences : IsFreeOfEscapes table → IsStraightTable table widths → All (λ line. measure (visible_text line) ≡ line_total table widths) lines
   -- with custom styling no line of a cell leaves a sequence open, lines that aren't cut resume those that are active, and cut lines are closed
   pub closed : table.custom_styling ≡ true → All (λ (row : RowValue). All (IsClosedInRow table row) (visible_infos (infos_of table widths))) (header_and_rows table)
   pub resumed : table.custom_styling ≡ true → All (λ (row : RowValue). All (IsResumedInRow table row) (visible_infos (infos_of table widths))) (header_and_rows table)

@@ -2,13 +2,10 @@
 //! proof of yours can cite it. `IsArranged table widths` says which widths the columns of a table have;
 //! `arrange_content` gives them. The laws of wrapping are re-exported here too.
 
-ghost use Rattle.std.specs.Prelude.{◌≡◌, ℕ, Bool, true, List};
-ghost use Rattle.std.specs.List.{list_all};
+ghost use Rattle.std.specs.Prelude.{ℕ, Bool, List};
 ghost use Rattle.comfy_parts.specs.CellValue.{ColumnValue, NoFewerColumns};
 ghost use Rattle.comfy_parts.specs.declared.style.table_style.LineStyle.{LineStyle};
-ghost use Rattle.comfy_parts.specs.declared.style.table_style.TableStyle.{TableStyle};
 ghost use Rattle.comfy_table.specs.Laws.{DynamicIsOne, FillsWidth, KeepsToWidth};
-ghost use Rattle.comfy_table.specs.Straight.{FittingCellsAreStraight, FrameStylesAreOneColumn, IsStraight, StraightFillsWidth, StraightKeepsToWidth, WholeTablesAreStraight, is_straight_preset, presets_all};
 ghost use Rattle.comfy_table.specs.TableLaws.{FillsWiderTotal, FrameCounts, FrameFillsWidth, FrameKeepsToWidth, IsAtMostThreeOver, KeepsToWiderTotal, KeepsToWiderTotalInFull, ShrinkingKeepsCells, TableIsFull, TableIsLevelled, TableKeepsContents, TableLevelIsBest};
 ghost use Rattle.comfy_table.specs.TableValue.{TableValue};
 ghost use Rattle.comfy_table.specs.Widths.{ColumnNeeds};
@@ -16,7 +13,7 @@ ghost use Rattle.comfy_table.specs.Widths.{ColumnNeeds};
 pub use comfy_parts::laws::{
     active_sequences_are_resumed, cut_lines_are_full, head_is_longest, lines_are_few,
     lines_are_fewest, lines_fit, lines_leave_no_sequence_open, lines_of_every_script_fit,
-    narrow_elements_stay_whole, neighbours_fill_a_line, printable_adds_one_column_each,
+    narrow_elements_stay_whole, neighbours_fill_a_line, presets_have_columns_of_one, printable_adds_one_column_each,
     printable_measures_its_length, sequences_are_taken_out_in_one_pass, sequences_count_nothing,
     spaces_and_borders_add_one_column, wrapped_lines_are_one_list,
 };
@@ -38,24 +35,6 @@ pub fn frame_lines_have_one_count()
 pub fn frame_lines_keep_to_the_width()
     ensures dynamic { (table : TableValue) (w : ℕ) (widths : List ℕ) (line : LineStyle) → FrameKeepsToWidth table w widths line }
     ensures full { (table : TableValue) (w : ℕ) (widths : List ℕ) (line : LineStyle) → FrameFillsWidth table w widths line }
-{}
-
-/// The edges are straight in terminal columns, for texts of every script: without styling all lines are equally many
-/// columns wide, where each character of the style is one column wide, no texts of two columns touch, and no line is
-/// wider than its column. So it is where each text line or each of its words fits, or is made of characters whose widths
-/// add up, and wherever no width is kept to and no row is cut. All presets and their modifiers have such characters.
-pub fn edges_are_straight()
-    ensures straight { (table : TableValue) (widths : List ℕ) → IsStraight table widths }
-    ensures cells { (table : TableValue) (widths : List ℕ) → FittingCellsAreStraight table widths }
-    ensures whole { (table : TableValue) (widths : List ℕ) → WholeTablesAreStraight table widths }
-    ensures styles { (style : TableStyle) → FrameStylesAreOneColumn style }
-    ensures presets { list_all is_straight_preset presets_all ≡ true }
-{}
-
-/// Such lines keep to the set width, or are exactly that wide, as frame lines do.
-pub fn straight_lines_keep_to_the_width()
-    ensures dynamic { (table : TableValue) (w : ℕ) (widths : List ℕ) → StraightKeepsToWidth table w widths }
-    ensures full { (table : TableValue) (w : ℕ) (widths : List ℕ) → StraightFillsWidth table w widths }
 {}
 
 /// Where no visible column has a constraint, borders and whole widths together keep to the set width, or to borders,

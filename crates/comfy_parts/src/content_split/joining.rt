@@ -84,5 +84,7 @@ fn joins_no_other(character: char) -> bool
 fn is_within(ranges: &[(char, char)], character: char) -> bool
     ensures { result ≡ list_any (λ (r : Range). nat_le r.0 character && nat_le character r.1) ranges.now }
 {
-    ranges.iter().any(|(first, last)| *first <= character && character <= *last)
+    ranges
+        .iter()
+        .any(|(first, last)| *first <= character && character <= *last)
 }

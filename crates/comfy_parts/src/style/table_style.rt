@@ -326,12 +326,28 @@ impl TableStyle {
         let (top, header, separator) = (self.top_border, self.header_lines, self.header_separator);
         let (lines, between, bottom) = (self.content_lines, self.row_separator, self.bottom_border);
         [
-            top.left, top.fill, top.junction, top.right,
-            header.left, header.junction, header.right,
-            separator.left, separator.fill, separator.junction, separator.right,
-            lines.left, lines.junction, lines.right,
-            between.left, between.fill, between.junction, between.right,
-            bottom.left, bottom.fill, bottom.junction, bottom.right,
+            top.left,
+            top.fill,
+            top.junction,
+            top.right,
+            header.left,
+            header.junction,
+            header.right,
+            separator.left,
+            separator.fill,
+            separator.junction,
+            separator.right,
+            lines.left,
+            lines.junction,
+            lines.right,
+            between.left,
+            between.fill,
+            between.junction,
+            between.right,
+            bottom.left,
+            bottom.fill,
+            bottom.junction,
+            bottom.right,
         ]
     }
 
@@ -383,5 +399,7 @@ impl TableStyle {
 fn are_one_column(characters: &[Option<char>]) -> bool
     ensures { result ≡ list_all (λ c. is_frame_character (unwrap_or c 0x20)) characters.now }
 {
-    characters.iter().all(|character| adds_one_column(character.unwrap_or(' ')))
+    characters
+        .iter()
+        .all(|character| adds_one_column(character.unwrap_or(' ')))
 }

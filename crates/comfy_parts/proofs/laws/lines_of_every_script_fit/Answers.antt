@@ -1,8 +1,8 @@
-use Rattle.comfy_parts.proofs.TextFitLemmas.{adding_up_fits, text_lines_fit}
+use Rattle.comfy_parts.proofs.TextFitLemmas.{adding_up_fits, text_lines_narrow}
 use Rattle.comfy_parts.proofs.laws.lines_of_every_script_fit.Goals as goal
 
 pub returns-clause-lines : goal.returns-clause-lines
-returns-clause-lines c = text_lines_fit
+returns-clause-lines c = text_lines_narrow
 
 pub returns-clause-adds_up : goal.returns-clause-adds_up
 returns-clause-adds_up c = adding_up_fits
