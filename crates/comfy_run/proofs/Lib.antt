@@ -3,3 +3,4 @@ pub mod DeviceLemmas
 pub mod InputLemmas
 pub mod ProgramLemmas
 pub mod RunLemmas
+pub mod StraightLemmas

@@ -5,4 +5,5 @@ pub mod Input
 pub mod Outcome
 pub mod Program
 pub mod Run
+pub mod Straight
 pub mod Stream

@@ -1,4 +1,5 @@
 //! From tab-separated bytes to a drawn table.
 #![tactic(auto)]
 
+pub mod laws;
 pub mod run;

@@ -114,6 +114,7 @@ table_drawing table infos lines utf8 kept (widths, arranged, is) drawn =
       widths = widths;
       arranged = arranged;
       drawn = whole;
+      whole_texts = All-weaker IsSeenRow IsWholeRow whole_row (seen_rows table) (seen_kept table rows);
       slices = λ k default under j other below. row_slices table (slice_index_or (seen_rows table) k default) (slice_index_or (visible_infos (infos_of table widths)) j other) (cells k default under j other below);
       unstyled_lines = λ off plain. whole ∙ sym (unstyled_drawing table (infos_of table widths) off plain);
       equal_counts = λ plain. equal_counts table widths utf8 plain arranged;

@@ -1,5 +1,5 @@
 -- What every drawing of a table promises.
-use Rattle.std.specs.Prelude.{◌≡◌, ◌⊎◌, ℕ, ◌<◌, ◌≤◌, Bool, true, false, List, [], ◌∷◌, Some, map, max, slice_get, All}
+use Rattle.std.specs.Prelude.{◌≡◌, ◌⊎◌, ℕ, ◌<◌, ◌≤◌, Bool, true, false, List, [], ◌∷◌, Some, map, max, slice_get, All, IsUtf8}
 use Rattle.comfy_parts.specs.CellValue.{CellValue, ColumnInfo, RowValue}
 use Rattle.comfy_parts.specs.Wrapping.{IsWrapped, lines_of_text}
 use Rattle.comfy_parts.specs.Text.{Text, measure}
@@ -59,6 +59,8 @@ pub record IsTableDrawing (table : TableValue) (lines : List Text) : Type 0 wher
   pub widths : List ℕ
   pub arranged : IsArranged table widths
   pub drawn : lines ≡ drawing table widths
+  -- the text lines of its cells, as they are seen, are whole characters
+  pub whole_texts : All (λ (row : RowValue). All (λ (cell : CellValue). All IsUtf8 cell.text_lines) row.cells) (seen_rows table)
   -- the lines of its visible cells, as they are seen, are texts or slices of them
   pub slices : All (λ (row : RowValue). All (IsCutIntoSlices table row) (visible_infos (infos_of table widths))) (seen_rows table)
   -- without styling and custom styling the lines are the unstyled ones
