@@ -103,7 +103,7 @@ lone_parts c test =
     record { alone = own.0; not_emoji = own.1; not_variation_base = not-false _ second.0; not_transparent = not-false _ third.0; not_lam = not-false _ fourth.0; not_modifier_base = not-false _ fourth.1 }
 
 -- nothing is joined with what follows it
-joins_none : (c : ℕ) → is_in_range 0x2500 0x259F c ≡ true → IsLone c → (after : After) → joins false after c ≡ None
+joins_none : (c : ℕ) → (is_in_range 0x2500 0x259F c || (c == 0x2026)) ≡ true → IsLone c → (after : After) → joins false after c ≡ None
 unfolding joins before_alef
 joins_none c box lone Nothing = grind (arith, nat_tests, box)
 joins_none c box lone LineFeed = grind (arith, nat_tests, box)
@@ -144,7 +144,7 @@ joins_none c box lone OrkhonI = grind (arith, nat_tests, box)
 joins_none c box lone ZwjOrkhonI = grind (arith, nat_tests, box)
 joins_none c box lone KhmerLetter = grind (arith, nat_tests, box)
 
-past_selectors-lone : (c n : ℕ) (after : After) → is_in_range 0x2500 0x259F c ≡ true → IsLone c → past_selectors false c n after ≡ (n + 1, plain)
+past_selectors-lone : (c n : ℕ) (after : After) → (is_in_range 0x2500 0x259F c || (c == 0x2026)) ≡ true → IsLone c → past_selectors false c n after ≡ (n + 1, plain)
 unfolding past_selectors
 past_selectors-lone c n after box lone =
     let joiner : (c == 0x200D) ≡ false = grind (arith, nat_tests, box) in
@@ -156,7 +156,7 @@ past_selectors-lone c n after box lone =
     by_skip true joiner transparent p q = rw (p, q) refl
     by_skip false joiner transparent p q = refl
 
-in_context-lone : (c n : ℕ) (s : State) → is_in_range 0x2500 0x259F c ≡ true → IsLone c → in_context false c n s ≡ (n + 1, plain)
+in_context-lone : (c n : ℕ) (s : State) → (is_in_range 0x2500 0x259F c || (c == 0x2026)) ≡ true → IsLone c → in_context false c n s ≡ (n + 1, plain)
 unfolding in_context
 in_context-lone c n s box lone =
     let one : (c == 0xFE0F) ≡ false = grind (arith, nat_tests, box) in
@@ -173,7 +173,7 @@ in_context-lone c n s box lone =
     by_text true rest = refl
     by_text false rest = rest
 
-past_emoji-lone : (c n : ℕ) (s : State) → is_in_range 0x2500 0x259F c ≡ true → IsLone c → past_emoji false c n s ≡ (n + 1, plain)
+past_emoji-lone : (c n : ℕ) (s : State) → (is_in_range 0x2500 0x259F c || (c == 0x2026)) ≡ true → IsLone c → past_emoji false c n s ≡ (n + 1, plain)
 unfolding past_emoji
 past_emoji-lone c n s box lone =
     let feed : (c == 0x0A) ≡ false = grind (arith, nat_tests, box) in
@@ -185,16 +185,28 @@ past_emoji-lone c n s box lone =
     by_state true = ap (λ (own : ℕ × State). (n + own.0, own.1)) lone.alone
     by_state false = in_context-lone c n s box lone
 
--- so each box or block character adds one column
-pub box_seals : (c : ℕ) → is_in_range 0x2500 0x259F c ≡ true → Seals c
+-- so each lone character in this range adds one column
+lone_seals : (c : ℕ) → (is_in_range 0x2500 0x259F c || (c == 0x2026)) ≡ true → IsLone c → Seals c
 unfolding step
-box_seals c box n s = by_flag s.emoji s
+lone_seals c near lone n s = by_flag s.emoji s
+  where
+    by_flag : (b : Bool) (s : State) → cond (not b) (past_emoji false c n s) (cond (is_emoji_variation_base c) (n + cond (is_joined_emoji s.after) 0 2, before Emoji) (past_emoji false c n (record (if_kept s) { emoji = false }))) ≡ (n + 1, plain)
+    by_flag false s = past_emoji-lone c n s near lone
+    by_flag true s = rw lone.not_variation_base (past_emoji-lone c n (record (if_kept s) { emoji = false }) near lone)
+
+-- as each box or block character
+pub box_seals : (c : ℕ) → is_in_range 0x2500 0x259F c ≡ true → Seals c
+box_seals c box = lone_seals c (grind (arith, nat_tests, box)) lone
   where
     lone : IsLone c
     lone =
         let here : 0x2500 + (c - 0x2500) ≡ c = grind (arith, nat_tests, box) in
         lone_parts c (subst (λ x. is_lone x ≡ true) here (all_below-at (λ k. is_lone (0x2500 + k)) 160 (c - 0x2500) boxes_are_lone (grind (arith, nat_tests, box))))
 
-    by_flag : (b : Bool) (s : State) → cond (not b) (past_emoji false c n s) (cond (is_emoji_variation_base c) (n + cond (is_joined_emoji s.after) 0 2, before Emoji) (past_emoji false c n (record (if_kept s) { emoji = false }))) ≡ (n + 1, plain)
-    by_flag false s = past_emoji-lone c n s box lone
-    by_flag true s = rw lone.not_variation_base (past_emoji-lone c n (record (if_kept s) { emoji = false }) box lone)
+-- and `…`
+ellipsis_is_lone : is_lone 0x2026 ≡ true
+unfolding unicode_width
+ellipsis_is_lone = refl
+
+pub ellipsis_seals : Seals 0x2026
+ellipsis_seals = lone_seals 0x2026 refl (lone_parts 0x2026 ellipsis_is_lone)

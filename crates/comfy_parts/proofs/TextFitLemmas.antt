@@ -10,9 +10,7 @@ use Rattle.std.proofs.lemmas.List.Folds.{list_all-append}
 use Rattle.std.proofs.lemmas.Bool.Decides.{nat_tests}
 use Rattle.std.proofs.lemmas.List.Elements.{All-cons, All-nil, All-head, All-tail, All-map, All-weaker}
 use Rattle.std.proofs.lemmas.Str.{chars-append, chars-encodes, encodes-chars, scalars-chars}
-use Rattle.unicode_width.proofs.Rules.{is_simple, str_width-append_simple}
-use Rattle.unicode_width.specs.Width.{str_width}
-use Rattle.comfy_parts.specs.Columns.{AddingUpFits, AddsUp, IsApart, TextFits, TextLinesFit, WordFits, joins_no_other}
+use Rattle.comfy_parts.specs.Columns.{AddingUpFits, AddsUp, TextFits, TextLinesFit, WordFits, joins_no_other}
 use Rattle.comfy_parts.specs.Text.{Text, measure, head, elements}
 use Rattle.comfy_parts.specs.Wrapping.{IsWrapped, head_or_first, lines_of_text, wrapped}
 use Rattle.comfy_parts.proofs.LinesFitLemmas.{BreaksWell, IsCut, IsFittingLine, wrapped-fit}
@@ -69,10 +67,6 @@ pub head-summed : (k : ℕ) (text : Text) → IsUtf8 text → AddsUp text → Is
 head-summed k text utf8 summed =
     let cut = words.head-cut joins_no_other summed_add_up k text (summed_text text utf8 summed) in
     record { whole = cut.whole_front; fits = cut.fits }
-
--- simple characters are apart from every text before them
-pub apart-simple : (text : Text) → list_all is_simple (chars text) ≡ true → IsApart text
-apart-simple text simple front utf8 = ap (str_width false) (chars-append front text utf8) ∙ str_width-append_simple false (chars front) (chars text) simple
 
 -- ---- texts whose characters add up
 

@@ -1,5 +1,5 @@
 -- Texts of characters whose widths add up are cut well.
-use Rattle.std.proofs.Common.{◌≡◌, ◌<◌, ◌≤◌, ◌⊎◌, inl, inr, ℕ, ◌-◌, Bool, true, false, ◌==◌, List, [], ◌∷◌, ◌++◌, length, map, take, nat_le, refl, sym, ap, ◌∙◌, subst, arith, append_assoc, sum_by}
+use Rattle.std.proofs.Common.{◌≡◌, ◌≤◌, ℕ, ◌-◌, Bool, true, false, ◌==◌, List, [], ◌∷◌, ◌++◌, length, map, take, nat_le, refl, sym, ap, ◌∙◌, subst, arith, append_assoc, sum_by}
 use Rattle.std.specs.List.{list_all}
 use Rattle.std.specs.Prelude.{if◌then◌else◌, chars, encode_utf8_all, IsUtf8}
 use Rattle.std.specs.Str.{all_scalars}
@@ -16,7 +16,6 @@ use Rattle.comfy_parts.proofs.PlaceLemmas.{scalars-parts}
 use Rattle.comfy_parts.specs.Text.{Text, measure, clusters_within, first_character, head}
 use Rattle.comfy_parts.specs.Wrapping.{head_or_first}
 use Rattle.comfy_parts.proofs.LinesFitLemmas.{BreaksWell, IsCut}
-use Rattle.comfy_parts.proofs.SpaceMeasureLemmas.{measure-nil}
 
 -- the widths of characters of this kind add up, and each is at most two columns
 pub record AddUp (kind : ℕ → Bool) : Type 0 where

@@ -20,10 +20,10 @@ AddsOneColumn c = (front back : Text) → IsUtf8 front → measure (front ++ (en
 abbrev pub SpaceAddsOneColumn : Text → Text → Type 0
 SpaceAddsOneColumn front back = IsUtf8 front → measure (front ++ 0x20 ∷ back) ≡ measure front + (1 + measure back)
 
--- a box or block character, or printable ASCII but for `#`, `*` and the digits
+-- a box or block character, `…`, or printable ASCII but for `#`, `*` and the digits
 abbrev pub is_frame_character : ℕ → Bool
 is_frame_character c =
-    is_in_range 0x2500 0x259F c || (is_in_range 0x20 0x7E c && not ((c == 0x23) || ((c == 0x2A) || is_in_range 0x30 0x39 c)))
+    (is_in_range 0x2500 0x259F c || (c == 0x2026)) || (is_in_range 0x20 0x7E c && not ((c == 0x23) || ((c == 0x2A) || is_in_range 0x30 0x39 c)))
 
 -- each of these does
 abbrev pub FrameCharactersAddOneColumn : ℕ → Type 0
@@ -45,19 +45,23 @@ style_characters style =
     ∷ style.row_separator.left ∷ style.row_separator.fill ∷ style.row_separator.junction ∷ style.row_separator.right
     ∷ style.bottom_border.left ∷ style.bottom_border.fill ∷ style.bottom_border.junction ∷ style.bottom_border.right ∷ []
 
--- all of them are box or block characters, or such ASCII
+-- each of them adds one column
+abbrev pub IsOneColumnStyle : TableStyle → Type 0
+IsOneColumnStyle style = All IsOneColumn (style_characters style)
+
+-- each of them is a box or block character, or such ASCII
 abbrev pub has_frame_characters : TableStyle → Bool
 has_frame_characters style = list_all (λ c. is_frame_character (unwrap_or c 0x20)) (style_characters style)
-
--- then each adds one column
-abbrev pub FrameStylesAreOneColumn : TableStyle → Type 0
-FrameStylesAreOneColumn style = has_frame_characters style ≡ true → All IsOneColumn (style_characters style)
 
 -- ---- texts
 
 -- every text in front of this one adds its measure: no character is joined across
 abbrev pub IsApart : Text → Type 0
 IsApart rest = (text : Text) → IsUtf8 text → measure (text ++ rest) ≡ measure text + measure rest
+
+-- so it is with a text that begins with a character that adds one column
+abbrev pub FrameTextsAreApart : ℕ → Text → Type 0
+FrameTextsAreApart c rest = is_frame_character c ≡ true → IsApart (encode_utf8 c ++ rest)
 
 -- the characters that join others
 abbrev pub joining_characters : List Range
@@ -107,7 +111,8 @@ presets_all =
     ∷ presets.ascii_horizontal_only ∷ presets.ascii_markdown ∷ presets.utf8_full ∷ presets.utf8_full_condensed ∷ presets.utf8_no_borders
     ∷ presets.utf8_borders_only ∷ presets.utf8_horizontal_only ∷ presets.nothing ∷ []
 
--- by itself, with either modifier and with both
-abbrev pub is_straight_preset : TableStyle → Bool
-is_straight_preset style =
-    has_frame_characters style && (has_frame_characters (with_rounded_corners style) && (has_frame_characters (with_solid_inner_borders style) && has_frame_characters (with_rounded_corners (with_solid_inner_borders style))))
+-- by itself, rounded, with solid inner borders, and with both
+abbrev pub IsOneColumnPreset : TableStyle → Type 0
+IsOneColumnPreset style =
+    IsOneColumnStyle style × IsOneColumnStyle (with_rounded_corners style) × IsOneColumnStyle (with_solid_inner_borders style)
+    × IsOneColumnStyle (with_rounded_corners (with_solid_inner_borders style))

@@ -3,12 +3,11 @@
 //! The lines of which they speak are those that `split_line` returns, for every text, width `w` in terminal columns and
 //! delimiter `d`. "In printable ASCII" means that text and delimiter are, and that the width is at least 1.
 
-ghost use Rattle.std.specs.Prelude.{◌≡◌, ℕ, List, [], true};
+ghost use Rattle.std.specs.Prelude.{All, ℕ, List, []};
 ghost use Rattle.std.specs.Char.{IsScalar};
-ghost use Rattle.std.specs.List.{list_all};
 ghost use Rattle.std.specs.Cmp.{IsTotalOrder};
 ghost use Rattle.comfy_parts.specs.CellEquality.{cell_eq, cell_hash};
-ghost use Rattle.comfy_parts.specs.Columns.{AddingUpFits, FrameCharactersAddOneColumn, SpaceAddsOneColumn, TextLinesFit, is_straight_preset, presets_all};
+ghost use Rattle.comfy_parts.specs.Columns.{AddingUpFits, FrameCharactersAddOneColumn, FrameTextsAreApart, IsOneColumnPreset, SpaceAddsOneColumn, TextLinesFit, presets_all};
 ghost use Rattle.comfy_parts.specs.Comparisons.{attribute_cmp, attribute_eq, attribute_hash, color_cmp, color_eq, color_hash, EqHashesAlike, EqIsSame, EqualIsSame};
 ghost use Rattle.comfy_parts.specs.Laws.{ActiveIsResumed, ClosedTextsLeaveNone, CutLinesAreFull, HeadIsLongest, IsCutOutsideNarrow, LinesAreFew, LinesAreFewest, LinesAreResumed, LinesAreSeen, LinesFit, NeighboursFillALine, NoneIsLeftOpen, OtherBytesAreVisible, PrintableClustersAreCharacters, PrintableAddsOneColumnEach, PrintableMeasuresItsLength, SequencesAreTakenOut, SequencesLeaveTheLines, WrappedIsOne, WrappedIsWrapped};
 ghost use Rattle.comfy_parts.specs.Text.{Text};
@@ -56,16 +55,17 @@ pub fn head_is_longest()
     ensures { (k : ℕ) (text : Text) → HeadIsLongest k text }
 {}
 
-/// Between any two texts, of every script, a space adds one terminal column. So do box and block characters, and printable
-/// ASCII but for `#`, `*` and the digits.
+/// Between any two texts, of every script, a space adds one terminal column. So do box and block characters, `…`, and
+/// printable ASCII but for `#`, `*` and the digits. No text joins one that begins with such a character.
 pub fn spaces_and_borders_add_one_column()
     ensures space { (front back : Text) → SpaceAddsOneColumn front back }
     ensures border { (c : ℕ) → FrameCharactersAddOneColumn c }
+    ensures apart { (c : ℕ) (rest : Text) → FrameTextsAreApart c rest }
 {}
 
 /// The characters of all presets add one terminal column, with either modifier of a style and with both.
 pub fn presets_have_columns_of_one()
-    ensures { list_all is_straight_preset presets_all ≡ true }
+    ensures { All IsOneColumnPreset presets_all }
 {}
 
 /// Where each word of a text fits its width, or is made of characters that join no other, each line fits. The width is at

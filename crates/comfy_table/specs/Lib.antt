@@ -13,6 +13,7 @@ pub mod Laws
 pub mod Levels
 pub mod Lines
 pub mod LongestLine
+pub mod NewTables
 pub mod Output
 pub mod Pieces
 pub mod Predicate

@@ -1,7 +1,7 @@
 -- When the edges of a table are straight in terminal columns. Rows and cells are as they are seen.
 use Rattle.std.specs.Prelude.{◌≡◌, ◌⊎◌, ℕ, ◌≤◌, ◌<◌, true, length, List, Some, None, slice_get, All}
 use Rattle.comfy_parts.specs.CellValue.{CellValue, RowValue, ColumnInfo, ColumnValue}
-use Rattle.comfy_parts.specs.Columns.{AddsUp, IsApart, IsOneColumn, TextFits, style_characters}
+use Rattle.comfy_parts.specs.Columns.{AddsUp, IsApart, IsOneColumnStyle, TextFits}
 use Rattle.comfy_parts.specs.Text.{measure}
 use Rattle.comfy_table.specs.Arrangement.{width_kept}
 use Rattle.comfy_table.specs.Drawing.{infos_of}
@@ -42,6 +42,6 @@ pub record IsShownWhole (table : TableValue) : Type 0 where
 
 -- each character of the style adds one column, no texts touch, and no line of a cell is wider than its column: so it is where its texts fit, and in a table that is as wide as its texts
 pub record IsStraightTable (table : TableValue) (widths : List ℕ) : Type 0 where
-  pub characters : All IsOneColumn (style_characters table.style)
+  pub characters : IsOneColumnStyle table.style
   pub apart : TextsStandApart table
   pub fits : EachCell (LinesFit table) table widths ⊎ (EachCell (TextsFit table) table widths ⊎ IsShownWhole table)

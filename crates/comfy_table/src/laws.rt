@@ -3,9 +3,12 @@
 //! `arrange_content` gives them. The laws of wrapping are re-exported here too.
 
 ghost use Rattle.std.specs.Prelude.{ℕ, Bool, List};
-ghost use Rattle.comfy_parts.specs.CellValue.{ColumnValue, NoFewerColumns};
+ghost use Rattle.comfy_parts.specs.CellValue.{ColumnValue, NoFewerColumns, RowValue};
+ghost use Rattle.comfy_parts.specs.Text.{Text};
 ghost use Rattle.comfy_parts.specs.declared.style.table_style.LineStyle.{LineStyle};
+ghost use Rattle.comfy_parts.specs.declared.style.table_style.TableStyle.{TableStyle};
 ghost use Rattle.comfy_table.specs.Laws.{DynamicIsOne, FillsWidth, KeepsToWidth};
+ghost use Rattle.comfy_table.specs.NewTables.{NewTablesAreStraight};
 ghost use Rattle.comfy_table.specs.TableLaws.{FillsWiderTotal, FrameCounts, FrameFillsWidth, FrameKeepsToWidth, IsAtMostThreeOver, KeepsToWiderTotal, KeepsToWiderTotalInFull, ShrinkingKeepsCells, TableIsFull, TableIsLevelled, TableKeepsContents, TableLevelIsBest};
 ghost use Rattle.comfy_table.specs.TableValue.{TableValue};
 ghost use Rattle.comfy_table.specs.Widths.{ColumnNeeds};
@@ -13,8 +16,9 @@ ghost use Rattle.comfy_table.specs.Widths.{ColumnNeeds};
 pub use comfy_parts::laws::{
     active_sequences_are_resumed, cut_lines_are_full, head_is_longest, lines_are_few,
     lines_are_fewest, lines_fit, lines_leave_no_sequence_open, lines_of_every_script_fit,
-    narrow_elements_stay_whole, neighbours_fill_a_line, presets_have_columns_of_one, printable_adds_one_column_each,
-    printable_measures_its_length, sequences_are_taken_out_in_one_pass, sequences_count_nothing,
+    narrow_elements_stay_whole, neighbours_fill_a_line, presets_have_columns_of_one,
+    printable_adds_one_column_each, printable_measures_its_length,
+    sequences_are_taken_out_in_one_pass, sequences_count_nothing,
     spaces_and_borders_add_one_column, wrapped_lines_are_one_list,
 };
 
@@ -35,6 +39,13 @@ pub fn frame_lines_have_one_count()
 pub fn frame_lines_keep_to_the_width()
     ensures dynamic { (table : TableValue) (w : ℕ) (widths : List ℕ) (line : LineStyle) → FrameKeepsToWidth table w widths line }
     ensures full { (table : TableValue) (w : ℕ) (widths : List ℕ) (line : LineStyle) → FrameFillsWidth table w widths line }
+{}
+
+/// A new table in a style whose characters add one terminal column each, with a header and rows, has straight edges: all
+/// its lines are equally many terminal columns wide, for texts of every script. No row is cut, and no text line has more
+/// than 65535 terminal columns.
+pub fn new_tables_are_straight()
+    ensures { (style : TableStyle) (header : RowValue) (rows : List RowValue) (lines : List Text) → NewTablesAreStraight style header rows lines }
 {}
 
 /// Where no visible column has a constraint, borders and whole widths together keep to the set width, or to borders,

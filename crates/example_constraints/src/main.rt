@@ -1,4 +1,5 @@
-//! Draws one table twice at a width of 44: as its columns share the room, and by constraints, one of which hides a column.
+//! Draws one table of three scripts twice at a width of 44: as its columns share the room, and by constraints, one of which
+//! hides a column. Its right edge is straight in terminal columns: a Chinese character takes two.
 #![tactic(auto)]
 
 use comfy_table::{ColumnConstraint, ContentArrangement, Result, Table, Width};
@@ -23,7 +24,8 @@ fn books(alloc: Global) -> Result<Table> {
         .set_width(44)
         .set_header(["Shelf", "Title", "Pages", "About"])?
         .add_row(["A", "Emma", "474", "a matchmaker who errs"])?
-        .add_row(["B", "Walden", "352", "two years in the woods"])?;
+        .add_row(["B", "紅樓夢", "1120", "石頭記, a novel of a great house"])?
+        .add_row(["C", "Кобзар", "260", "songs of a kobza player"])?;
     Ok(books)
 }
 

@@ -1,18 +1,22 @@
 //! Callers that draw a table as a whole, or by its steps.
 
-ghost use Rattle.std.specs.Prelude.{◌≡◌, ◌++◌, IfOk, List, ℕ, length, option_map, slice_get, string_bytes, true};
+ghost use Rattle.std.specs.Prelude.{◌≡◌, ◌++◌, All, IfOk, List, ℕ, length, option_map, slice_get, string_bytes, true};
+ghost use Rattle.comfy_parts.specs.Presets.{utf8_full};
 ghost use Rattle.comfy_parts.specs.Text.{Text};
 ghost use Rattle.comfy_table.specs.Arrangement.{IsArranged, IsDrawingOf};
 ghost use Rattle.comfy_table.specs.Drawing.{infos_of};
 ghost use Rattle.comfy_table.specs.Headline.{IsTerminatedTextOf, IsTextOf, IsTrimmedTextOf};
+ghost use Rattle.comfy_table.specs.NewTables.{AreEquallyWide, IsShortRow};
 ghost use Rattle.comfy_table.specs.Pieces.{row_lines};
-ghost use Rattle.comfy_table.specs.TableValue.{header_and_rows, max_content_widths};
+ghost use Rattle.comfy_table.specs.TableValue.{header_and_rows, max_content_widths, new_table, with_header, with_rows};
 
+use comfy_table::laws::{new_tables_are_straight, presets_have_columns_of_one};
+use comfy_table::presets::UTF8_FULL;
 use comfy_table::utils::arrangement::{arrange_content, longest_line};
 use comfy_table::utils::build_table;
 use comfy_table::utils::formatting::content_format::{delimiter, format_content, format_row};
 use comfy_table::utils::formatting::content_split::ColumnDisplayInfo;
-use comfy_table::{Cell, Result, Row, Table};
+use comfy_table::{Cell, Lines, Result, Row, Table};
 use std::alloc::Global;
 
 /// The first line of a drawing; none where nothing is drawn.
@@ -84,4 +88,26 @@ pub fn own_delimiter_as_drawn(table: &Table, info: &ColumnDisplayInfo, cell: Cel
     ensures { result ≡ 44 }
 {
     delimiter(&cell.set_delimiter(','), info, table)
+}
+
+/// A report, as of Chinese names and how often each was met. All its lines are equally many terminal columns wide, whatever
+/// the script.
+pub fn report(alloc: Global, header: Row, rows: Vec<Row>) -> Result<Lines>
+    ensures { IfOk result (λ lines. IsShortRow header → All IsShortRow rows.items → AreEquallyWide lines) }
+{
+    let table = report_table(alloc, header, rows)?;
+    new_tables_are_straight();
+    presets_have_columns_of_one();
+    table.lines()
+}
+
+fn report_table(alloc: Global, header: Row, rows: Vec<Row>) -> Result<Table>
+    ensures { IfOk result (λ table. table ≡ with_rows rows.items (with_header header (new_table utf8_full))) }
+{
+    let mut table = Table::new(alloc);
+    table
+        .load_style(UTF8_FULL)
+        .set_header(header)?
+        .add_rows(rows)?;
+    Ok(table)
 }

@@ -33,7 +33,7 @@ const JOINING: [(char, char); 21] = [
 ];
 
 /// Whether the character adds one terminal column between any two texts, of every script. So do box and block characters,
-/// and printable ASCII but for `#`, `*` and the digits, which a variation selector after them makes wide. Of every other
+/// `…`, and printable ASCII but for `#`, `*` and the digits, which a variation selector after them makes wide. Of every other
 /// character this says no, though some of them do too.
 ///
 /// A delimiter of this kind, and a style of such characters, keeps the right edge of a table straight.
@@ -51,7 +51,7 @@ fn is_frame_character(character: char) -> bool
 {
     match character {
         '#' | '*' | '0'..='9' => false,
-        ' '..='~' | '\u{2500}'..='\u{259f}' => true,
+        ' '..='~' | '…' | '\u{2500}'..='\u{259f}' => true,
         _ => false,
     }
 }

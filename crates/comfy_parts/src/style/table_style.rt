@@ -1,9 +1,9 @@
 //! The characters of a table's frame.
 
-ghost use Rattle.std.specs.Prelude.{◌≡◌, All, true, unwrap_or};
+ghost use Rattle.std.specs.Prelude.{◌≡◌, true, unwrap_or};
 ghost use Rattle.std.specs.List.{list_all};
 ghost use Rattle.comfy_parts.specs.Borders.{draws_left_border, draws_right_border, draws_vertical_lines};
-ghost use Rattle.comfy_parts.specs.Columns.{IsOneColumn, has_frame_characters, is_frame_character, style_characters};
+ghost use Rattle.comfy_parts.specs.Columns.{IsOneColumnStyle, has_frame_characters, is_frame_character, style_characters};
 ghost use Rattle.comfy_parts.specs.Presets.{nothing};
 ghost use Rattle.comfy_parts.specs.StyleModifiers.{with_rounded_corners, with_solid_inner_borders, RoundingTwiceIsOnce, SolidTwiceIsOnce};
 
@@ -314,7 +314,7 @@ impl TableStyle {
     /// say yes, rounded or with solid inner borders too. The right edge of a table in such a style is straight.
     pub fn is_one_column(&self) -> bool
         ensures test { result ≡ has_frame_characters self.now }
-        ensures adds { result ≡ true → All IsOneColumn (style_characters self.now) }
+        ensures adds { result ≡ true → IsOneColumnStyle self.now }
     {
         are_one_column(&self.characters())
     }

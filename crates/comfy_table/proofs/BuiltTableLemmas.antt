@@ -1,0 +1,117 @@
+-- Tables that are built from one without columns by a header and rows.
+use Rattle.std.proofs.Common.{◌≡◌, ℕ, ◌+◌, ◌-◌, ◌≤◌, inl, inr, Bool, false, List, [], ◌∷◌, ◌++◌, None, map, length, refl, sym, ap, ◌∙◌, subst, arith, option_to_list}
+use Rattle.std.specs.List.{All, enumerate_from, range_with_len}
+use Rattle.std.specs.Prelude.{if◌then◌else◌, not, option_map}
+use Rattle.std.proofs.lemmas.List.Elements.{All-append, All-cons, All-filter, All-head, All-map, All-nil, All-tail, All-weaker}
+use Rattle.comfy_parts.specs.CellValue.{CellValue, ColumnValue, RowValue, columns_grown_to, is_hidden_column, new_column}
+use Rattle.comfy_parts.specs.Columns.{IsOneColumn, style_characters}
+use Rattle.comfy_parts.specs.Text.{Text, measure}
+use Rattle.comfy_parts.specs.declared.style.table_style.TableStyle.{TableStyle}
+use Rattle.comfy_table.proofs.ListLemmas.{All-every}
+use Rattle.comfy_table.specs.Arrangement.{width_kept}
+use Rattle.comfy_table.specs.Headline.{IsTableDrawing}
+use Rattle.comfy_table.specs.Laws.{NoConstraints, line_total}
+use Rattle.comfy_table.specs.NewTables.{AreEquallyWide, IsShortRow, NewTablesAreStraight}
+use Rattle.comfy_table.specs.Straight.{IsShownWhole, IsStraightTable}
+use Rattle.comfy_table.specs.TableValue.{TableValue, header_and_rows, new_table, seen_rows, should_style, table_width, visible_columns, visible_row, with_header, with_row, with_rows}
+
+-- what each item meets, each item with its position does
+All-enumerate : {X : Type 0} (P : X → Type 0) (n : ℕ) (xs : List X) → All P xs → All (λ (p : ℕ × X). P p.1) (enumerate_from n xs)
+All-enumerate P n [] each = All-nil (λ p. P p.1)
+All-enumerate {X} P n (x ∷ xs) each = All-cons (λ (p : ℕ × X). P p.1) (n, x) _ (All-head P x xs each) (All-enumerate P (n + 1) xs (All-tail P x xs each))
+
+-- a column as it is made
+pub record IsNewColumn (column : ColumnValue) : Type 0 where
+  pub padding : column.padding ≡ (1, 1)
+  pub no_constraint : column.constraint ≡ None
+  pub no_delimiter : column.delimiter ≡ None
+
+grown : (n : ℕ) (columns : List ColumnValue) → All IsNewColumn columns → All IsNewColumn (columns_grown_to n columns)
+grown n columns each =
+    All-append IsNewColumn columns _ each
+    (All-map IsNewColumn new_column (range_with_len (length columns) (n - length columns))
+    (All-every (λ i. IsNewColumn (new_column i)) (range_with_len (length columns) (n - length columns)) (λ i. record { padding = refl; no_constraint = refl; no_delimiter = refl })))
+
+-- a table like the base, but for new columns, and for a header and rows that P holds of
+module _ (base : TableValue) (plain : base.custom_styling ≡ false) (P : RowValue → Type 0) where
+  pub record IsBuilt (table : TableValue) : Type 0 where
+    pub is : table ≡ record base { columns = table.columns; header = table.header; rows = table.rows }
+    pub columns : All IsNewColumn table.columns
+    pub header : All P (option_to_list table.header)
+    pub rows : All P table.rows
+
+  pub built-row : (row : RowValue) (table : TableValue) → P row → IsBuilt table → IsBuilt (with_row row table)
+  built-row row table own known =
+      record { is = ap (λ (t : TableValue). with_row row t) known.is; columns = grown (length row.cells) table.columns known.columns; header = known.header; rows = All-append P table.rows _ known.rows (All-cons P row [] own (All-nil P)) }
+
+  pub built-header : (row : RowValue) (table : TableValue) → P row → IsBuilt table → IsBuilt (with_header row table)
+  built-header row table own known =
+      record { is = ap (λ (t : TableValue). with_header row t) known.is; columns = grown (length row.cells) table.columns known.columns; header = All-cons P row [] own (All-nil P); rows = known.rows }
+
+  pub built-rows : (rows : List RowValue) (table : TableValue) → All P rows → IsBuilt table → IsBuilt (with_rows rows table)
+  built-rows [] table each known = known
+  built-rows (row ∷ rows) table each known = built-rows rows (with_row row table) (All-tail P row rows each) (built-row row table (All-head P row rows each) known)
+
+  module _ (table : TableValue) (known : IsBuilt table) where
+    -- its rows are seen as they are
+    pub rows_known : All P (seen_rows table)
+    rows_known = subst (All P) (sym seen) (All-append P (option_to_list table.header) table.rows known.header known.rows)
+      where
+        seen : seen_rows table ≡ header_and_rows table
+        seen =
+            ap (λ (b : Bool). option_to_list (if b then option_map visible_row table.header else table.header) ++ (if b then map visible_row table.rows else table.rows)) (ap (λ (t : TableValue). t.custom_styling) known.is ∙ plain)
+
+    pub columns_known : All (λ (p : ℕ × ColumnValue). IsNewColumn p.1) (visible_columns table)
+    columns_known = All-filter (λ (p : ℕ × ColumnValue). not (is_hidden_column p.1)) (λ (p : ℕ × ColumnValue). IsNewColumn p.1) _ (All-enumerate IsNewColumn 0 table.columns known.columns)
+
+    pub padded : All (λ (p : ℕ × ColumnValue). 1 ≤ p.1.padding.0) (visible_columns table)
+    padded =
+        All-weaker (λ (p : ℕ × ColumnValue). IsNewColumn p.1) (λ (p : ℕ × ColumnValue). 1 ≤ p.1.padding.0)
+        (λ p new. let one : p.1.padding.0 ≡ 1 = ap (λ (x : ℕ × ℕ). x.0) new.padding in omega (arith, one)) (visible_columns table) columns_known
+
+    pub unconstrained : NoConstraints table
+    unconstrained = All-weaker (λ (p : ℕ × ColumnValue). IsNewColumn p.1) (λ (p : ℕ × ColumnValue). p.1.constraint ≡ None) (λ p new. new.no_constraint) (visible_columns table) columns_known
+
+    -- its characters are those of the base
+    pub characters_known : All IsOneColumn (style_characters base.style) → All IsOneColumn (style_characters table.style)
+    characters_known = subst (λ (style : TableStyle). All IsOneColumn (style_characters style)) (sym (ap (λ (t : TableValue). t.style) known.is))
+
+-- such a table of short rows that keeps to no width is straight
+pub built_is_straight : (base : TableValue) (plain : base.custom_styling ≡ false) (table : TableValue) (widths : List ℕ) → IsBuilt base plain IsShortRow table → All IsOneColumn (style_characters base.style)
+    → width_kept table.arrangement (table_width table) ≡ None → IsStraightTable table widths
+built_is_straight base plain table widths known characters no_width =
+    record { characters = characters_known base plain IsShortRow table known characters; apart = inr (inl (padded base plain IsShortRow table known)); fits = inr (inr shown) }
+  where
+    rows : All IsShortRow (seen_rows table)
+    rows = rows_known base plain IsShortRow table known
+
+    shown : IsShownWhole table
+    shown =
+        record {
+          no_width = no_width;
+          no_constraints = unconstrained base plain IsShortRow table known;
+          uncut = All-weaker IsShortRow (λ (row : RowValue). row.max_height ≡ None) (λ row own. own.uncut) (seen_rows table) rows;
+          short = All-weaker IsShortRow (λ (row : RowValue). All (λ (cell : CellValue). All (λ line. measure line ≤ 65535) cell.text_lines) row.cells) (λ row own. own.short) (seen_rows table) rows;
+        }
+
+-- its lines are equally wide
+pub built_is_equally_wide : (base : TableValue) (plain : base.custom_styling ≡ false) (unstyled : should_style base ≡ false) (P : RowValue → Type 0) (table : TableValue) → IsBuilt base plain P table
+    → (lines : List Text) (drawing : IsTableDrawing table lines) → IsStraightTable table drawing.widths → AreEquallyWide lines
+built_is_equally_wide base plain unstyled P table known lines drawing is = (
+  line_total table drawing.widths,
+  subst (All (λ line. measure line ≡ line_total table drawing.widths)) (sym (drawing.unstyled_lines (ap should_style known.is ∙ unstyled) (ap (λ (t : TableValue). t.custom_styling) known.is ∙ plain))) (drawing.straight is),
+)
+
+-- so are those of a new table with a header and rows
+pub new_tables_are_straight : (style : TableStyle) (header : RowValue) (rows : List RowValue) (lines : List Text) → NewTablesAreStraight style header rows lines
+new_tables_are_straight style header rows lines characters first each drawing =
+    built_is_equally_wide base refl refl IsShortRow (with_rows rows (with_header header base)) known lines drawing
+    (built_is_straight base refl (with_rows rows (with_header header base)) drawing.widths known characters (ap (λ (t : TableValue). width_kept t.arrangement (table_width t)) known.is))
+  where
+    base : TableValue
+    base = new_table style
+
+    known : IsBuilt base refl IsShortRow (with_rows rows (with_header header base))
+    known =
+        built-rows base refl IsShortRow rows (with_header header base) each
+        (built-header base refl IsShortRow header base first (record { is = refl; columns = All-nil IsNewColumn; header = All-nil IsShortRow; rows = All-nil IsShortRow }))

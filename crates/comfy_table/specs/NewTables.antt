@@ -1,0 +1,22 @@
+-- Tables to which nothing but a style, a header and rows was given, and the widths of their lines.
+use Rattle.std.specs.Prelude.{◌≡◌, ℕ, ◌≤◌, List, None, All}
+use Rattle.comfy_parts.specs.CellValue.{CellValue, RowValue}
+use Rattle.comfy_parts.specs.Columns.{IsOneColumnStyle}
+use Rattle.comfy_parts.specs.Text.{Text, measure}
+use Rattle.comfy_parts.specs.declared.style.table_style.TableStyle.{TableStyle}
+use Rattle.comfy_table.specs.Headline.{IsTableDrawing}
+use Rattle.comfy_table.specs.TableValue.{new_table, with_header, with_rows}
+
+-- a row without a greatest height, whose text lines have at most 65535 terminal columns
+pub record IsShortRow (row : RowValue) : Type 0 where
+  pub uncut : row.max_height ≡ None
+  pub short : All (λ (cell : CellValue). All (λ line. measure line ≤ 65535) cell.text_lines) row.cells
+
+-- all lines have the same number of terminal columns
+abbrev pub AreEquallyWide : List Text → Type 0
+AreEquallyWide lines = (n : ℕ) × All (λ line. measure line ≡ n) lines
+
+-- so have the lines of a new table of such rows, for texts of every script
+abbrev pub NewTablesAreStraight : TableStyle → RowValue → List RowValue → List Text → Type 0
+NewTablesAreStraight style header rows lines =
+    IsOneColumnStyle style → IsShortRow header → All IsShortRow rows → IsTableDrawing (with_rows rows (with_header header (new_table style))) lines → AreEquallyWide lines
