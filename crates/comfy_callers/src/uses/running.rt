@@ -1,8 +1,15 @@
 //! Callers that run the program, and make its devices.
 
 ghost use Rattle.std.specs.Prelude.{◌≡◌, ◌≤◌, ◌++◌, IfOk, List, Some, false, length, take, ℕ};
+ghost use Rattle.comfy_parts.specs.Text.{measure};
+ghost use Rattle.comfy_run.specs.Straight.{EachText, IsStraightOutput};
 
-use comfy_run::run::{DeviceFault, FromReader, MemorySink, Sink, Source, ToWriter, program};
+use crate::uses::output_for;
+use comfy_run::laws::outputs_are_straight;
+use comfy_run::run::{
+    DeviceFault, FromReader, MemorySink, RunError, Sink, Source, ToWriter, program,
+};
+use comfy_table::laws::presets_have_columns_of_one;
 use std::alloc::Global;
 use std::io::{Read, Write};
 
@@ -46,4 +53,14 @@ pub fn write_once<W: Sink>(sink: &mut W, piece: &[u8]) -> Result<usize, DeviceFa
     ensures { IfOk result (λ count. (had : List ℕ) → W.taken sink.old ≡ Some had → W.taken sink.new ≡ Some (had ++ take count piece.now)) }
 {
     sink.write(piece)
+}
+
+/// A sink that holds the output for an input, both in memory. All its lines are equally many terminal columns wide, whatever
+/// the script.
+pub fn straight_output_for(alloc: Global, input: &[u8], room: usize) -> Result<MemorySink, RunError>
+    ensures { IfOk result (λ sink. EachText (λ text. measure text ≤ 65535) input.now → IsStraightOutput sink.bytes) }
+{
+    outputs_are_straight();
+    presets_have_columns_of_one();
+    output_for(alloc, input, room)
 }

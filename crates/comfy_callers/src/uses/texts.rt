@@ -1,16 +1,21 @@
 //! Callers that measure texts, cut them and wrap them.
 
 ghost use Rattle.std.specs.Prelude.{◌≡◌, ◌≤◌, ◌+◌, ◌*◌, ◌/◌, All, IfOk, Some, length, map, option_copied, slice_get, string_bytes, true};
+ghost use Rattle.comfy_parts.specs.Columns.{IsOneColumnStyle, TextFits};
 ghost use Rattle.comfy_parts.specs.Text.{elements, is_printable_ascii, measure};
 ghost use Rattle.comfy_parts.specs.VisibleText.{visible_text};
 ghost use Rattle.comfy_parts.specs.Wrapping.{wrapped};
 
-use comfy_table::laws::{lines_are_few, lines_fit, printable_measures_its_length};
-use comfy_table::utils::formatting::content_split::{
-    ColumnDisplayInfo, measure_text_width, split_line, split_line_by_delimiter, split_line_ref,
-    split_long_word, visible_text, wrapped_lines,
+use comfy_table::laws::{
+    lines_are_few, lines_fit, lines_of_every_script_fit, presets_have_columns_of_one,
+    printable_measures_its_length,
 };
-use comfy_table::{Column, Result};
+use comfy_table::presets::UTF8_FULL;
+use comfy_table::utils::formatting::content_split::{
+    ColumnDisplayInfo, adds_one_column, adds_up, measure_text_width, split_line,
+    split_line_by_delimiter, split_line_ref, split_long_word, visible_text, wrapped_lines,
+};
+use comfy_table::{Column, Result, TableStyle};
 use std::alloc::Global;
 
 /// The terminal columns of a text: as many as it has bytes where it is printable ASCII.
@@ -89,5 +94,29 @@ pub fn whole_width(content: u16) -> Option<usize>
         None
     } else {
         Some(info.width())
+    }
+}
+
+/// Whether a text is sure to fit a column of this width, wrapped at the delimiter: its characters join no other, the
+/// delimiter adds one terminal column, and the column has two.
+pub fn is_sure_to_fit(text: &str, delimiter: char, width: usize) -> bool
+    ensures { result ≡ true → TextFits width delimiter text.now }
+{
+    lines_of_every_script_fit();
+    if width < 2 || !adds_one_column(delimiter) {
+        return false;
+    }
+    adds_up(text)
+}
+
+/// The style where its characters are one terminal column wide, else a preset, whose characters are.
+pub fn straight_style(style: TableStyle) -> TableStyle
+    ensures { IsOneColumnStyle result }
+{
+    presets_have_columns_of_one();
+    if style.is_one_column() {
+        style
+    } else {
+        UTF8_FULL
     }
 }

@@ -59,15 +59,17 @@ impl Table {
     /// The drawn lines of the table as it is now, from the top.
     ///
     /// Where memory is found, these are frame lines and rows of padded pieces, in the order of the drawing. Without colours
-    /// and attributes all of them have the same number of characters, where texts and delimiters are printable ASCII and
-    /// each indicator that is written adds one column for each of its characters.
+    /// and attributes all of them are equally many terminal columns wide, for texts of every script, where the table is
+    /// straight: `IsStraightTable` has the conditions, which a table that is as wide as its texts meets in all presets. They
+    /// have the same number of characters, where texts and delimiters are printable ASCII and each indicator that is written
+    /// adds one column for each of its characters.
     ///
     /// Where the table's width is known, a frame line keeps to it, whatever the texts: under
     /// `ContentArrangement::Dynamic` it has at most so many characters, and under `DynamicFullWidth` exactly so many, if a
     /// column is visible. Where the borders, the paddings and one character for each visible column need more than this
     /// width, what they need stands in its place. A column with a constraint may need more than the one character: where
     /// its width is fixed or its lower boundary is taken, it needs that width. For printable ASCII this holds for every
-    /// line, without its styles.
+    /// line, without its styles, and for a straight table in terminal columns.
     pub fn lines(&self) -> Result<Lines>
         ensures drawing { IfOk result (λ lines. IsDrawingOf self.now lines) }
         ensures headline { IfOk result (λ lines. IsTableDrawing self.now lines) }
