@@ -4,6 +4,7 @@ use crate::drawing::{Drawing, JUNCTION, piece_at};
 use crate::sample::Sample;
 use crate::scan::{INDICATOR, Scan};
 use crate::seen::seen_table;
+use comfy_table::utils::arrangement::helper::count_border_columns;
 use comfy_table::{Cell, Column, ContentArrangement, Result, Row, Table};
 use std::alloc::Global;
 
@@ -91,8 +92,8 @@ fn is_drawn_as_seen(alloc: Global, sample: &Sample, drawing: &Drawing) -> Result
     )
 }
 
-// whether a frame line of so many characters keeps to the set width, where no constraint says otherwise
-fn keeps_to_width(table: &Table, count: usize) -> bool {
+/// Whether a frame line of so many characters keeps to the set width, where no constraint says otherwise.
+pub fn keeps_to_width(table: &Table, count: usize) -> bool {
     let is_free = table.column_iter().all(|column| column.is_hidden()
         || column.constraint().is_none());
     let Some(width) = table.width() else {
@@ -108,21 +109,22 @@ fn keeps_to_width(table: &Table, count: usize) -> bool {
     }
 }
 
-// how many columns are visible, and their borders, paddings and one character for each; n columns have n + 1 borders,
-// and none have 2
+// how many columns are visible, and their borders, paddings and one character for each
 fn least_total(table: &Table) -> (usize, usize) {
     let mut visible: usize = 0;
-    let mut total: usize = 1;
+    let mut total: usize = 0;
     for column in table.column_iter() {
         if !column.is_hidden() {
             visible = visible.saturating_add(1);
-            // a border and one character
             total = total
-                .saturating_add(2)
+                .saturating_add(1)
                 .saturating_add(usize::from(column.padding_width()));
         }
     }
-    (visible, total.max(2))
+    (
+        visible,
+        total.saturating_add(count_border_columns(table, visible)),
+    )
 }
 
 // whether the cells of each row have the characters of their texts, in order and but for spaces and delimiters, each

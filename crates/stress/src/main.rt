@@ -1,12 +1,15 @@
-//! Draws random tables of awkward texts, and looks at each drawing from outside. Standard input holds `SEED COUNT`: the
-//! same seed gives the same tables. Each fault is printed with the number of its table. Status 1 where there is one.
+//! Draws random tables of awkward texts, and looks at each drawing from outside. With each of them it draws another one of
+//! many scripts, whose edges have to be straight. Standard input holds `SEED COUNT`: the same seed gives the same tables.
+//! Each fault is printed with the number of its table. Status 1 where there is one.
 #![tactic(auto)]
 
 mod check;
 mod drawing;
 mod sample;
 mod scan;
+mod scripts;
 mod seen;
+mod straight;
 mod texts;
 
 use anyhow::Context;
@@ -24,7 +27,9 @@ fn main(rt: HostRuntime) -> anyhow::Result<ExitCode> {
     let mut faults: u64 = 0;
     for number in 0..count {
         let sample = Sample::new(rt.alloc(), &mut rng)?;
-        if let Some(fault) = check::fault_of(rt.alloc(), &sample)? {
+        let of_sample = check::fault_of(rt.alloc(), &sample)?;
+        let of_scripts = straight::fault_of(rt.alloc(), &mut rng)?;
+        if let Some(fault) = of_sample.or(of_scripts) {
             println!(rt; "table {number}: {fault}")?;
             faults = faults.saturating_add(1);
         }
