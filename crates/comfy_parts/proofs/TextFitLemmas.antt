@@ -1,5 +1,5 @@
 -- The lines of text lines whose words fit are no wider than their column.
-use Rattle.std.proofs.Common.{◌≡◌, ◌<◌, ◌≤◌, inl, inr, ℕ, zero, suc, Bool, true, false, cond, ◌&&◌, ◌==◌, List, [], ◌∷◌, ◌++◌, nat_le, replicate, slice_index_or, refl, sym, ap, ap₂, ◌∙◌, subst, arith}
+use Rattle.std.proofs.Common.{◌≡◌, ◌<◌, ◌≤◌, inl, inr, ℕ, ◌+◌, zero, suc, Bool, true, false, cond, ◌&&◌, ◌==◌, List, [], ◌∷◌, ◌++◌, nat_le, replicate, slice_index_or, refl, sym, ap, ap₂, ◌∙◌, subst, arith}
 use Rattle.std.specs.Char.{IsScalar}
 use Rattle.std.specs.List.{All, list_all, onto_first, slice_split}
 use Rattle.std.specs.Prelude.{if◌then◌else◌, chars, encode_utf8_all, IsUtf8}
@@ -10,7 +10,10 @@ use Rattle.std.proofs.lemmas.List.Folds.{list_all-append}
 use Rattle.std.proofs.lemmas.Bool.Decides.{nat_tests}
 use Rattle.std.proofs.lemmas.List.Elements.{All-cons, All-nil, All-head, All-tail, All-map, All-weaker}
 use Rattle.std.proofs.lemmas.Str.{chars-append, chars-encodes, encodes-chars, scalars-chars}
-use Rattle.comfy_parts.specs.Columns.{AddingUpFits, AddsUp, TextFits, TextLinesFit, WordFits, joins_no_other}
+use Rattle.std.specs.List.{sum_by}
+use Rattle.std.proofs.lemmas.List.Sums.{sum_by-append}
+use Rattle.unicode_width.proofs.Rules.{width_or_zero}
+use Rattle.comfy_parts.specs.Columns.{AddingUpFits, AddsUp, PartsAddUp, TextFits, TextLinesFit, WordFits, joins_no_other}
 use Rattle.comfy_parts.specs.Text.{Text, measure, head, elements}
 use Rattle.comfy_parts.specs.Wrapping.{IsWrapped, head_or_first, lines_of_text, wrapped}
 use Rattle.comfy_parts.proofs.LinesFitLemmas.{BreaksWell, IsCut, IsFittingLine, wrapped-fit}
@@ -102,6 +105,15 @@ add_up-parts : (front back : Text) → IsUtf8 front → AddsUp (front ++ back) �
 add_up-parts front back utf8 each =
     and_parts (list_all joins_no_other (chars front)) (list_all joins_no_other (chars back))
     (sym (list_all-append joins_no_other (chars front) (chars back)) ∙ sym (ap (list_all joins_no_other) (chars-append front back utf8)) ∙ each)
+
+-- and their measures add up to the whole one
+pub parts_add_up : (front back : Text) → PartsAddUp front back
+parts_add_up front back utf8 each =
+    let both = add_up-parts front back utf8 each in
+    let whole = summed_add_up.sums (chars (front ++ back)) each in
+    let one = summed_add_up.sums (chars front) both.0 in
+    let other = summed_add_up.sums (chars back) both.1 in
+    whole ∙ (ap (sum_by (width_or_zero false)) (chars-append front back utf8) ∙ (sum_by-append (width_or_zero false) (chars front) (chars back) ∙ ap₂ ◌+◌ (sym one) (sym other)))
 
 -- delimiters are whole characters
 whole_gap : (d n : ℕ) → IsScalar d → all_scalars (replicate n d) ≡ true

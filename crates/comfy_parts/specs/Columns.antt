@@ -77,12 +77,16 @@ joining_characters =
 abbrev pub joins_no_other : ℕ → Bool
 joins_no_other c = is_in_range 0x20 0x7E c || (nat_lt 0xA0 c && not (in_ranges joining_characters c))
 
--- a text of such characters: its measure is the sum of their widths
+-- a text of such characters
 abbrev pub adds_up : Text → Bool
 adds_up text = list_all joins_no_other (chars text)
 
 abbrev pub AddsUp : Text → Type 0
 AddsUp text = adds_up text ≡ true
+
+-- wherever it is divided, its parts add up to its measure
+abbrev pub PartsAddUp : Text → Text → Type 0
+PartsAddUp front back = IsUtf8 front → AddsUp (front ++ back) → measure (front ++ back) ≡ measure front + measure back
 
 -- ---- lines
 

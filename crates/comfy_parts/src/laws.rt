@@ -7,7 +7,7 @@ ghost use Rattle.std.specs.Prelude.{All, ℕ, List, []};
 ghost use Rattle.std.specs.Char.{IsScalar};
 ghost use Rattle.std.specs.Cmp.{IsTotalOrder};
 ghost use Rattle.comfy_parts.specs.CellEquality.{cell_eq, cell_hash};
-ghost use Rattle.comfy_parts.specs.Columns.{AddingUpFits, FrameCharactersAddOneColumn, FrameTextsAreApart, IsOneColumnPreset, SpaceAddsOneColumn, TextLinesFit, presets_all};
+ghost use Rattle.comfy_parts.specs.Columns.{AddingUpFits, FrameCharactersAddOneColumn, FrameTextsAreApart, IsOneColumnPreset, PartsAddUp, SpaceAddsOneColumn, TextLinesFit, presets_all};
 ghost use Rattle.comfy_parts.specs.Comparisons.{attribute_cmp, attribute_eq, attribute_hash, color_cmp, color_eq, color_hash, EqHashesAlike, EqIsSame, EqualIsSame};
 ghost use Rattle.comfy_parts.specs.Laws.{ActiveIsResumed, ClosedTextsLeaveNone, CutLinesAreFull, HeadIsLongest, IsCutOutsideNarrow, LinesAreFew, LinesAreFewest, LinesAreResumed, LinesAreSeen, LinesFit, NeighboursFillALine, NoneIsLeftOpen, OtherBytesAreVisible, PrintableClustersAreCharacters, PrintableAddsOneColumnEach, PrintableMeasuresItsLength, SequencesAreTakenOut, SequencesLeaveTheLines, WrappedIsOne, WrappedIsWrapped};
 ghost use Rattle.comfy_parts.specs.Text.{Text};
@@ -69,10 +69,12 @@ pub fn presets_have_columns_of_one()
 {}
 
 /// Where each word of a text fits its width, or is made of characters that join no other, each line fits. The width is at
-/// least 2 there, and the delimiter adds one terminal column. So it is of a text where `adds_up` says yes.
+/// least 2 there, and the delimiter adds one terminal column. So it is of a text where `adds_up` says yes. Wherever such a
+/// text is divided, its parts add up to its width.
 pub fn lines_of_every_script_fit()
     ensures lines { (w d : ℕ) (text : Text) → TextLinesFit w d text }
     ensures adds_up { (w d : ℕ) (text : Text) → AddingUpFits w d text }
+    ensures parts { (front back : Text) → PartsAddUp front back }
 {}
 
 /// Printable ASCII measures its length, and each of its characters is a cluster.

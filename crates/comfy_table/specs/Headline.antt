@@ -43,7 +43,8 @@ abbrev pub IsCutClosedInRow : TableValue → RowValue → ℕ × ColumnInfo → 
 IsCutClosedInRow table row p =
     (cell : CellValue) → slice_get row.cells p.0 ≡ Some cell → CutLinesAreClosed table row p.1 cell
 
--- the number of characters of a line meets P: that of each frame line, whatever the style and the texts; that of every line as it is seen, where the table is printable ASCII; and so do the terminal columns of every line as it is seen, where the table is straight
+-- P holds of the number of characters of each frame line, whatever the style and the texts. It holds of that of every line as it is seen, where the table is printable ASCII.
+-- And it holds of the terminal columns of every line as it is seen, where the table is straight.
 pub record EachLineCounts (P : ℕ → Type 0) (table : TableValue) (widths : List ℕ) : Type 0 where
   pub frame_lines : (line : LineStyle) → P (count (frame_line table.style line (visible_widths (infos_of table widths))))
   pub plain_lines : IsPlainTable table widths → All (λ line. P (count line)) (drawing (unstyled table) widths)

@@ -11,7 +11,7 @@ use Rattle.comfy_table.specs.Lines.{cell_delimiter, cell_lines}
 use Rattle.comfy_table.specs.Pieces.{row_cell_lines, visible_infos}
 use Rattle.comfy_table.specs.TableValue.{TableValue, seen_rows, table_width, visible_columns}
 
--- no texts of two columns touch: vertical lines are drawn, or each visible column has a padding at its left, or each has one at its right
+-- vertical lines are drawn, or each visible column has a padding at its left, or each has one at its right: so no texts of two columns touch
 abbrev pub TextsStandApart : TableValue → Type 0
 TextsStandApart table =
     (draws_vertical_lines table.style ≡ true)
@@ -40,7 +40,8 @@ pub record IsShownWhole (table : TableValue) : Type 0 where
   pub uncut : All (λ (row : RowValue). row.max_height ≡ None) (seen_rows table)
   pub short : All (λ (row : RowValue). All (λ (cell : CellValue). All (λ line. measure line ≤ 65535) cell.text_lines) row.cells) (seen_rows table)
 
--- each character of the style adds one column, no texts touch, and no line of a cell is wider than its column: so it is where its texts fit, and in a table that is as wide as its texts
+-- each character of the style adds one column, no texts touch, and no line of a cell is wider than its column.
+-- The last is so where the texts fit, and in a table that is as wide as its texts.
 pub record IsStraightTable (table : TableValue) (widths : List ℕ) : Type 0 where
   pub characters : IsOneColumnStyle table.style
   pub apart : TextsStandApart table

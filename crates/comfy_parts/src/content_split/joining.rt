@@ -5,9 +5,9 @@ ghost use Rattle.std.specs.List.{list_any};
 ghost use Rattle.ucd_table.specs.Rows.{Range};
 ghost use Rattle.comfy_parts.specs.Columns.{AddsOneColumn, adds_up, is_frame_character, joins_no_other};
 
-// The characters that join others, as ranges: the struck solidus, Hebrew lamed, Arabic alefs, Khmer letters, Buginese ya,
-// the joiner of emoji, Tifinagh, two Lisu tones, lamed with a dot, variation selectors, an Old Turkic and two Kirat Rai
-// letters, the letters of flags, and skin tones.
+// The characters that join others, as ranges. They are, in order: the struck solidus, Hebrew lamed, Arabic alefs, Khmer
+// letters, Buginese ya, the joiner of emoji, Tifinagh letters, two Lisu tones and lamed with a dot. Then come variation
+// selectors, an Old Turkic and two Kirat Rai letters, the letters of flags, and skin tones.
 const JOINING: [(char, char); 21] = [
     ('\u{338}', '\u{338}'),
     ('\u{5dc}', '\u{5dc}'),
@@ -36,7 +36,8 @@ const JOINING: [(char, char); 21] = [
 /// `…`, and printable ASCII but for `#`, `*` and the digits, which a variation selector after them makes wide. Of every other
 /// character this says no, though some of them do too.
 ///
-/// A delimiter of this kind, and a style of such characters, keeps the right edge of a table straight.
+/// It is one of the things that a straight right edge asks for: of the characters of a style, of delimiters, and of the
+/// first character of an indicator.
 #[tactic(auto, using(crate::proofs::FrameCharacterLemmas::frame_adds))]
 pub fn adds_one_column(character: char) -> bool
     ensures test { result ≡ is_frame_character character }
@@ -56,9 +57,10 @@ fn is_frame_character(character: char) -> bool
     }
 }
 
-/// Whether the widths of the text's characters add up to the text's width, and so do those of each part of it. This is
-/// so where no character joins another: in Chinese, Japanese, Korean, in Latin letters with accents, in Greek and
-/// Cyrillic, in most other scripts, and for emoji that stand by themselves.
+/// Whether no character of the text is one that joins others, so that the widths of its characters add up to its width.
+/// Texts in Chinese, Japanese, Korean, Greek, Cyrillic, in Latin letters with accents and in most other scripts are such,
+/// and so are emoji that stand by themselves. An Arabic alef, a Hebrew lamed and Khmer letters join others. Of a text with
+/// one of these this says no, though its widths may still add up.
 ///
 /// ```
 /// adds_up("年度 Ωmega é ✅"); // true

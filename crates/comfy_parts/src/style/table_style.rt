@@ -311,7 +311,7 @@ impl TableStyle {
     }
 
     /// Whether each of its characters adds one terminal column between any texts, as `adds_one_column` tells. All presets
-    /// say yes, rounded or with solid inner borders too. The right edge of a table in such a style is straight.
+    /// say yes, rounded or with solid inner borders too. It is one of the three things that straight right edges ask for.
     pub fn is_one_column(&self) -> bool
         ensures test { result ≡ has_frame_characters self.now }
         ensures adds { result ≡ true → IsOneColumnStyle self.now }

@@ -1,4 +1,4 @@
-use Rattle.comfy_parts.proofs.TextFitLemmas.{adding_up_fits, text_lines_narrow}
+use Rattle.comfy_parts.proofs.TextFitLemmas.{adding_up_fits, parts_add_up, text_lines_narrow}
 use Rattle.comfy_parts.proofs.laws.lines_of_every_script_fit.Goals as goal
 
 pub returns-clause-lines : goal.returns-clause-lines
@@ -6,3 +6,6 @@ returns-clause-lines c = text_lines_narrow
 
 pub returns-clause-adds_up : goal.returns-clause-adds_up
 returns-clause-adds_up c = adding_up_fits
+
+pub returns-clause-parts : goal.returns-clause-parts
+returns-clause-parts c = parts_add_up
