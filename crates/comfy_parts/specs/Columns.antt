@@ -1,10 +1,10 @@
 -- Terminal columns that texts of every script take: which characters add one wherever they stand, and which words and text lines fit.
-use Rattle.std.specs.Prelude.{◌≡◌, ◌⊎◌, ℕ, ◌+◌, ◌≤◌, Bool, true, not, ◌&&◌, ◌||◌, ◌==◌, nat_lt, chars, List, [], ◌∷◌, ◌++◌, Option, unwrap_or, encode_utf8, All, IsUtf8}
+use Rattle.std.specs.Prelude.{◌≡◌, ◌⊎◌, ℕ, ◌+◌, ◌≤◌, Bool, true, not, ◌&&◌, ◌||◌, ◌==◌, nat_lt, chars, List, [], ◌∷◌, ◌++◌, Option, unwrap_or, encode_utf8, All, IsUtf8, map}
 use Rattle.std.specs.Char.{IsScalar}
 use Rattle.std.specs.Int.{is_in_range}
 use Rattle.std.specs.List.{list_all}
 use Rattle.ucd_table.specs.Rows.{Range, in_ranges}
-use Rattle.comfy_parts.specs.Presets as presets
+use Rattle.comfy_parts.specs.Presets.{named_presets}
 use Rattle.comfy_parts.specs.StyleModifiers.{with_rounded_corners, with_solid_inner_borders}
 use Rattle.comfy_parts.specs.Text.{Text, measure, elements}
 use Rattle.comfy_parts.specs.Wrapping.{lines_of_text}
@@ -108,12 +108,9 @@ AddingUpFits w d text = 2 ≤ w → AddsOneColumn d → IsUtf8 text → AddsUp t
 
 -- ---- presets
 
--- the thirteen presets
+-- all presets
 abbrev pub presets_all : List TableStyle
-presets_all =
-    presets.ascii_full ∷ presets.ascii_full_condensed ∷ presets.ascii_no_borders ∷ presets.ascii_borders_only ∷ presets.ascii_borders_only_condensed
-    ∷ presets.ascii_horizontal_only ∷ presets.ascii_markdown ∷ presets.utf8_full ∷ presets.utf8_full_condensed ∷ presets.utf8_no_borders
-    ∷ presets.utf8_borders_only ∷ presets.utf8_horizontal_only ∷ presets.nothing ∷ []
+presets_all = map (λ entry. entry.1) named_presets
 
 -- by itself, rounded, with solid inner borders, and with both
 abbrev pub IsOneColumnPreset : TableStyle → Type 0

@@ -1,6 +1,7 @@
 -- The thirteen presets. A part of a style is written as its characters: left, fill, junction and right of a frame line, left, junction and right of a content line; `_` is one that isn't set.
-use Rattle.std.specs.Prelude.{ℕ, ◌==◌, Option, Some, None, slice_index, codes, if◌then◌else◌}
+use Rattle.std.specs.Prelude.{ℕ, ◌==◌, List, [], ◌∷◌, Option, Some, None, option_map, find, slice_index, codes, bytes_eq, if◌then◌else◌}
 use Prim.Native.String.{String}
+use Rattle.comfy_parts.specs.Text.{Text}
 use Rattle.comfy_parts.specs.declared.style.table_style.ContentLineStyle.{ContentLineStyle}
 use Rattle.comfy_parts.specs.declared.style.table_style.LineStyle.{LineStyle}
 use Rattle.comfy_parts.specs.declared.style.table_style.TableStyle.{TableStyle}
@@ -73,3 +74,29 @@ utf8_horizontal_only = style_of "_──_" "___" "_══_" "___" "_──_" "_�
 -- no lines at all
 abbrev pub nothing : TableStyle
 nothing = style_of "____" "___" "____" "___" "____" "____"
+
+-- the presets by their names
+abbrev pub named_presets : List (Text × TableStyle)
+named_presets =
+    (codes "ASCII_FULL", ascii_full)
+    ∷ (codes "ASCII_FULL_CONDENSED", ascii_full_condensed)
+    ∷ (codes "ASCII_NO_BORDERS", ascii_no_borders)
+    ∷ (codes "ASCII_BORDERS_ONLY", ascii_borders_only)
+    ∷ (codes "ASCII_BORDERS_ONLY_CONDENSED", ascii_borders_only_condensed)
+    ∷ (codes "ASCII_HORIZONTAL_ONLY", ascii_horizontal_only)
+    ∷ (codes "ASCII_MARKDOWN", ascii_markdown)
+    ∷ (codes "UTF8_FULL", utf8_full)
+    ∷ (codes "UTF8_FULL_CONDENSED", utf8_full_condensed)
+    ∷ (codes "UTF8_NO_BORDERS", utf8_no_borders)
+    ∷ (codes "UTF8_BORDERS_ONLY", utf8_borders_only)
+    ∷ (codes "UTF8_HORIZONTAL_ONLY", utf8_horizontal_only)
+    ∷ (codes "NOTHING", nothing)
+    ∷ []
+
+-- what stands beside a word in a table
+abbrev pub beside : {A : Type 0} → List (Text × A) → Text → Option A
+beside table word = option_map (λ entry. entry.1) (find (λ entry. bytes_eq word entry.0) table)
+
+-- the preset of this name
+abbrev pub preset_named : Text → Option TableStyle
+preset_named = beside named_presets

@@ -1,10 +1,10 @@
 -- What the words after the program's name ask for.
-use Rattle.std.specs.Prelude.{ℕ, Bool, ◌&&◌, nat_le, nat_lt, List, [], ◌∷◌, length, Option, Some, None, option_map, find, codes, bytes_eq, if◌then◌else◌}
+use Rattle.std.specs.Prelude.{ℕ, Bool, ◌&&◌, nat_le, nat_lt, List, [], ◌∷◌, length, Option, Some, None, codes, bytes_eq, if◌then◌else◌}
 use Rattle.std.specs.Char.{is_ascii_digit}
 use Rattle.std.specs.List.{list_all}
 use Rattle.std.specs.Str.Parse.{digits_value}
 use Rattle.std.specs.Borrow.{Bor}
-use Rattle.comfy_parts.specs.Presets.{ascii_full, ascii_full_condensed, ascii_no_borders, ascii_borders_only, ascii_borders_only_condensed, ascii_horizontal_only, ascii_markdown, utf8_full, utf8_full_condensed, utf8_no_borders, utf8_borders_only, utf8_horizontal_only, nothing}
+use Rattle.comfy_parts.specs.Presets.{ascii_full, beside, preset_named}
 use Rattle.comfy_parts.specs.Text.{Text}
 use Rattle.comfy_parts.specs.declared.style.table.ContentArrangement.{ContentArrangement}
 use Rattle.comfy_parts.specs.declared.style.table.ContentArrangement.TheVariants.{Disabled, Dynamic, DynamicFullWidth}
@@ -24,31 +24,9 @@ number_for word = if is_number word then Some (digits_value 10 word) else None
 abbrev pub width_for : Text → Option (Option ℕ)
 width_for word = if bytes_eq word (codes "-") then Some None else option_map Some (number_for word)
 
--- what stands beside a word in a table
-abbrev pub beside : {A : Type 0} → List (Text × A) → Text → Option A
-beside table word = option_map (λ entry. entry.1) (find (λ entry. bytes_eq word entry.0) table)
-
 -- the arrangements by their words
 abbrev pub arrangement_for : Text → Option ContentArrangement
 arrangement_for = beside ((codes "disabled", Disabled) ∷ (codes "dynamic", Dynamic) ∷ (codes "full", DynamicFullWidth) ∷ [])
-
--- the presets by their names
-abbrev pub style_for : Text → Option TableStyle
-style_for = beside (
-    (codes "ASCII_FULL", ascii_full)
-    ∷ (codes "ASCII_FULL_CONDENSED", ascii_full_condensed)
-    ∷ (codes "ASCII_NO_BORDERS", ascii_no_borders)
-    ∷ (codes "ASCII_BORDERS_ONLY", ascii_borders_only)
-    ∷ (codes "ASCII_BORDERS_ONLY_CONDENSED", ascii_borders_only_condensed)
-    ∷ (codes "ASCII_HORIZONTAL_ONLY", ascii_horizontal_only)
-    ∷ (codes "ASCII_MARKDOWN", ascii_markdown)
-    ∷ (codes "UTF8_FULL", utf8_full)
-    ∷ (codes "UTF8_FULL_CONDENSED", utf8_full_condensed)
-    ∷ (codes "UTF8_NO_BORDERS", utf8_no_borders)
-    ∷ (codes "UTF8_BORDERS_ONLY", utf8_borders_only)
-    ∷ (codes "UTF8_HORIZONTAL_ONLY", utf8_horizontal_only)
-    ∷ (codes "NOTHING", nothing)
-    ∷ [])
 
 -- the settings of these parts, where each of them is known
 abbrev pub settings_with : Option (Option ℕ) → Option ContentArrangement → Option TableStyle → Option Settings
@@ -60,5 +38,5 @@ abbrev pub settings_for : List (Bor Text) → Option Settings
 settings_for [] = Some plain_settings
 settings_for (width ∷ []) = settings_with (width_for width.now) (Some Disabled) (Some ascii_full)
 settings_for (width ∷ arrangement ∷ []) = settings_with (width_for width.now) (arrangement_for arrangement.now) (Some ascii_full)
-settings_for (width ∷ arrangement ∷ style ∷ []) = settings_with (width_for width.now) (arrangement_for arrangement.now) (style_for style.now)
+settings_for (width ∷ arrangement ∷ style ∷ []) = settings_with (width_for width.now) (arrangement_for arrangement.now) (preset_named style.now)
 settings_for _ = None

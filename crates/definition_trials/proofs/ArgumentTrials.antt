@@ -2,9 +2,9 @@
 use Rattle.std.proofs.Common.{◌≡◌, List, [], ◌∷◌, refl, Option, Some, None, map}
 use Rattle.std.specs.Prelude.{codes}
 use Prim.Native.String.{String}
-use Rattle.comfy_parts.specs.Presets.{ascii_full, ascii_full_condensed, ascii_no_borders, ascii_borders_only, ascii_borders_only_condensed, ascii_horizontal_only, ascii_markdown, utf8_full, utf8_full_condensed, utf8_no_borders, utf8_borders_only, utf8_horizontal_only, nothing}
+use Rattle.comfy_parts.specs.Presets.{ascii_full, ascii_full_condensed, ascii_no_borders, ascii_borders_only, ascii_borders_only_condensed, ascii_horizontal_only, ascii_markdown, utf8_full, utf8_full_condensed, utf8_no_borders, utf8_borders_only, utf8_horizontal_only, nothing, preset_named}
 use Rattle.comfy_parts.specs.declared.style.table.ContentArrangement.TheVariants.{Disabled, Dynamic, DynamicFullWidth}
-use Rattle.comfy_run.specs.Arguments.{arrangement_for, settings_for, style_for, width_for}
+use Rattle.comfy_run.specs.Arguments.{arrangement_for, settings_for, width_for}
 use Rattle.comfy_run.specs.declared.run.settings.Settings.{Settings}
 
 -- the settings that these words ask for
@@ -43,14 +43,14 @@ arrangements : map (λ (word : String). arrangement_for (codes word)) ("disabled
 arrangements = refl
 
 ascii_styles :
-    map (λ (word : String). style_for (codes word)) ("ASCII_FULL" ∷ "ASCII_FULL_CONDENSED" ∷ "ASCII_NO_BORDERS" ∷ "ASCII_BORDERS_ONLY" ∷ "ASCII_BORDERS_ONLY_CONDENSED" ∷ "ASCII_HORIZONTAL_ONLY" ∷ "ASCII_MARKDOWN" ∷ [])
+    map (λ (word : String). preset_named (codes word)) ("ASCII_FULL" ∷ "ASCII_FULL_CONDENSED" ∷ "ASCII_NO_BORDERS" ∷ "ASCII_BORDERS_ONLY" ∷ "ASCII_BORDERS_ONLY_CONDENSED" ∷ "ASCII_HORIZONTAL_ONLY" ∷ "ASCII_MARKDOWN" ∷ [])
     ≡ map Some (ascii_full ∷ ascii_full_condensed ∷ ascii_no_borders ∷ ascii_borders_only ∷ ascii_borders_only_condensed ∷ ascii_horizontal_only ∷ ascii_markdown ∷ [])
 ascii_styles = refl
 
 other_styles :
-    map (λ (word : String). style_for (codes word)) ("UTF8_FULL" ∷ "UTF8_FULL_CONDENSED" ∷ "UTF8_NO_BORDERS" ∷ "UTF8_BORDERS_ONLY" ∷ "UTF8_HORIZONTAL_ONLY" ∷ "NOTHING" ∷ [])
+    map (λ (word : String). preset_named (codes word)) ("UTF8_FULL" ∷ "UTF8_FULL_CONDENSED" ∷ "UTF8_NO_BORDERS" ∷ "UTF8_BORDERS_ONLY" ∷ "UTF8_HORIZONTAL_ONLY" ∷ "NOTHING" ∷ [])
     ≡ map Some (utf8_full ∷ utf8_full_condensed ∷ utf8_no_borders ∷ utf8_borders_only ∷ utf8_horizontal_only ∷ nothing ∷ [])
 other_styles = refl
 
-no_styles : map (λ (word : String). style_for (codes word)) ("FANCY" ∷ "utf8_full" ∷ "UTF8_FUL" ∷ "UTF8_FULL_" ∷ "" ∷ []) ≡ None ∷ None ∷ None ∷ None ∷ None ∷ []
+no_styles : map (λ (word : String). preset_named (codes word)) ("FANCY" ∷ "utf8_full" ∷ "UTF8_FUL" ∷ "UTF8_FULL_" ∷ "" ∷ []) ≡ None ∷ None ∷ None ∷ None ∷ None ∷ []
 no_styles = refl

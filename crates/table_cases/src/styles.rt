@@ -2,7 +2,8 @@
 
 use crate::fault::{Fault, Result};
 use crate::text::optional_character;
-use comfy_table::style::{ContentLineStyle, LineStyle, TableStyle, presets};
+use comfy_table::presets::by_name;
+use comfy_table::style::{ContentLineStyle, LineStyle, TableStyle};
 use std::alloc::Global;
 
 /// The preset of a name, with its modifiers.
@@ -10,7 +11,9 @@ pub fn read_style(words: &[&str]) -> Result<TableStyle> {
     let Some((name, modifiers)) = words.split_first() else {
         return Err(Fault::NotRead("a style has a name"));
     };
-    let mut style = preset(name)?;
+    let Some(mut style) = by_name(name) else {
+        return Err(Fault::NotRead("a style isn't known"));
+    };
     for modifier in modifiers {
         style = match *modifier {
             "rounded" => style.with_rounded_corners(),
@@ -63,23 +66,4 @@ fn set_content_part(style: &mut TableStyle, name: &str, line: ContentLineStyle) 
         _ => return Err(Fault::NotRead("a part of three characters isn't known")),
     }
     Ok(())
-}
-
-fn preset(name: &str) -> Result<TableStyle> {
-    match name {
-        "ASCII_FULL" => Ok(presets::ASCII_FULL),
-        "ASCII_FULL_CONDENSED" => Ok(presets::ASCII_FULL_CONDENSED),
-        "ASCII_NO_BORDERS" => Ok(presets::ASCII_NO_BORDERS),
-        "ASCII_BORDERS_ONLY" => Ok(presets::ASCII_BORDERS_ONLY),
-        "ASCII_BORDERS_ONLY_CONDENSED" => Ok(presets::ASCII_BORDERS_ONLY_CONDENSED),
-        "ASCII_HORIZONTAL_ONLY" => Ok(presets::ASCII_HORIZONTAL_ONLY),
-        "ASCII_MARKDOWN" => Ok(presets::ASCII_MARKDOWN),
-        "UTF8_FULL" => Ok(presets::UTF8_FULL),
-        "UTF8_FULL_CONDENSED" => Ok(presets::UTF8_FULL_CONDENSED),
-        "UTF8_NO_BORDERS" => Ok(presets::UTF8_NO_BORDERS),
-        "UTF8_BORDERS_ONLY" => Ok(presets::UTF8_BORDERS_ONLY),
-        "UTF8_HORIZONTAL_ONLY" => Ok(presets::UTF8_HORIZONTAL_ONLY),
-        "NOTHING" => Ok(presets::NOTHING),
-        _ => Err(Fault::NotRead("a style isn't known")),
-    }
 }

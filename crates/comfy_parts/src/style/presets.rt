@@ -5,7 +5,7 @@
 //! ```
 
 ghost use Rattle.std.specs.Prelude.{◌≡◌};
-ghost use Rattle.comfy_parts.specs.Presets.{ascii_full, ascii_full_condensed, ascii_no_borders, ascii_borders_only, ascii_borders_only_condensed, ascii_horizontal_only, ascii_markdown, utf8_full, utf8_full_condensed, utf8_no_borders, utf8_borders_only, utf8_horizontal_only, nothing};
+ghost use Rattle.comfy_parts.specs.Presets.{ascii_full, ascii_full_condensed, ascii_no_borders, ascii_borders_only, ascii_borders_only_condensed, ascii_horizontal_only, ascii_markdown, utf8_full, utf8_full_condensed, utf8_no_borders, utf8_borders_only, utf8_horizontal_only, nothing, preset_named};
 
 use crate::style::table_style::{ContentLineStyle, LineStyle, TableStyle};
 
@@ -445,6 +445,33 @@ pub const NOTHING: TableStyle = TableStyle {
     row_separator: NO_LINE,
     bottom_border: NO_LINE,
 };
+
+/// The preset of this name, written as its constant is. Of another name there is none.
+///
+/// ```
+/// by_name("UTF8_FULL"); // Some(UTF8_FULL)
+/// ```
+pub fn by_name(name: &str) -> Option<TableStyle>
+    ensures { result ≡ preset_named name.now }
+{
+    let style = match name {
+        "ASCII_FULL" => ASCII_FULL,
+        "ASCII_FULL_CONDENSED" => ASCII_FULL_CONDENSED,
+        "ASCII_NO_BORDERS" => ASCII_NO_BORDERS,
+        "ASCII_BORDERS_ONLY" => ASCII_BORDERS_ONLY,
+        "ASCII_BORDERS_ONLY_CONDENSED" => ASCII_BORDERS_ONLY_CONDENSED,
+        "ASCII_HORIZONTAL_ONLY" => ASCII_HORIZONTAL_ONLY,
+        "ASCII_MARKDOWN" => ASCII_MARKDOWN,
+        "UTF8_FULL" => UTF8_FULL,
+        "UTF8_FULL_CONDENSED" => UTF8_FULL_CONDENSED,
+        "UTF8_NO_BORDERS" => UTF8_NO_BORDERS,
+        "UTF8_BORDERS_ONLY" => UTF8_BORDERS_ONLY,
+        "UTF8_HORIZONTAL_ONLY" => UTF8_HORIZONTAL_ONLY,
+        "NOTHING" => NOTHING,
+        _ => return None,
+    };
+    Some(style)
+}
 
 /// Each preset has the characters of its definition in `specs/Presets`. The function does nothing: its clauses say so.
 pub fn presets_are_as_tabled()

@@ -3,15 +3,11 @@
 ghost use Rattle.std.specs.Prelude.{◌≡◌};
 ghost use Rattle.std.specs.Char.{is_ascii_digit};
 ghost use Rattle.std.specs.List.{list_all};
-ghost use Rattle.comfy_run.specs.Arguments.{arrangement_for, number_for, settings_for, style_for, width_for};
+ghost use Rattle.comfy_run.specs.Arguments.{arrangement_for, number_for, settings_for, width_for};
 
 use crate::run::settings::Settings;
-use comfy_table::presets::{
-    ASCII_BORDERS_ONLY, ASCII_BORDERS_ONLY_CONDENSED, ASCII_FULL, ASCII_FULL_CONDENSED,
-    ASCII_HORIZONTAL_ONLY, ASCII_MARKDOWN, ASCII_NO_BORDERS, NOTHING, UTF8_BORDERS_ONLY, UTF8_FULL,
-    UTF8_FULL_CONDENSED, UTF8_HORIZONTAL_ONLY, UTF8_NO_BORDERS,
-};
-use comfy_table::{ContentArrangement, TableStyle};
+use comfy_table::ContentArrangement;
+use comfy_table::presets::by_name;
 
 const MOST_DIGITS: usize = 5;
 
@@ -30,7 +26,7 @@ pub fn settings_of(args: &[&str]) -> Option<Settings>
     Some(Settings {
         width: width_of(width)?,
         arrangement: arrangement_of(arrangement)?,
-        style: style_of(style)?,
+        style: by_name(style)?,
     })
 }
 
@@ -70,27 +66,4 @@ fn arrangement_of(word: &str) -> Option<ContentArrangement>
         "full" => Some(ContentArrangement::DynamicFullWidth),
         _ => None,
     }
-}
-
-// The preset of this name.
-fn style_of(word: &str) -> Option<TableStyle>
-    ensures { result ≡ style_for word.now }
-{
-    let style = match word {
-        "ASCII_FULL" => ASCII_FULL,
-        "ASCII_FULL_CONDENSED" => ASCII_FULL_CONDENSED,
-        "ASCII_NO_BORDERS" => ASCII_NO_BORDERS,
-        "ASCII_BORDERS_ONLY" => ASCII_BORDERS_ONLY,
-        "ASCII_BORDERS_ONLY_CONDENSED" => ASCII_BORDERS_ONLY_CONDENSED,
-        "ASCII_HORIZONTAL_ONLY" => ASCII_HORIZONTAL_ONLY,
-        "ASCII_MARKDOWN" => ASCII_MARKDOWN,
-        "UTF8_FULL" => UTF8_FULL,
-        "UTF8_FULL_CONDENSED" => UTF8_FULL_CONDENSED,
-        "UTF8_NO_BORDERS" => UTF8_NO_BORDERS,
-        "UTF8_BORDERS_ONLY" => UTF8_BORDERS_ONLY,
-        "UTF8_HORIZONTAL_ONLY" => UTF8_HORIZONTAL_ONLY,
-        "NOTHING" => NOTHING,
-        _ => return None,
-    };
-    Some(style)
 }
