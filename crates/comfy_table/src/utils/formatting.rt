@@ -4,9 +4,10 @@ pub mod borders;
 mod cell_lines;
 pub mod content_format;
 mod drawing;
+mod drawn_cell;
 mod output;
 mod piece;
-mod sequences;
+mod styling;
 mod written_line;
 
 pub use comfy_parts::content_split;

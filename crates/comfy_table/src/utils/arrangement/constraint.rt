@@ -53,7 +53,7 @@ pub fn absolute_value_from_width(
     ensures { result ≡ resolved_width table.now visible_columns width.now }
 {
     match width {
-        Width::Fixed(places) => Some(*places),
+        Width::Fixed(width) => Some(*width),
         Width::Percentage(percent) => {
             let whole = table.width()? as usize;
             let room = whole.saturating_sub(count_border_columns(table, visible_columns));

@@ -14,7 +14,7 @@ mod budget;
 mod level;
 mod spread;
 mod taking;
-pub mod visible;
+mod visible;
 
 use crate::table::Table;
 use budget::Budget;

@@ -3,15 +3,12 @@
 ghost use Rattle.std.specs.Prelude.{◌≡◌, ◌≤◌, IfOk, IsOk, map, option_to_list};
 ghost use Rattle.comfy_parts.specs.Text.{greatest, measure};
 ghost use Rattle.comfy_parts.specs.Wrapping.{wrapped};
-ghost use Rattle.comfy_table.specs.Deciding.{needs_in};
-ghost use Rattle.comfy_table.specs.Dynamic.{shrunk_at};
 ghost use Rattle.comfy_table.specs.Lines.{longest_line, longest_line_at};
 ghost use Rattle.comfy_table.specs.LongestLine.{cell_longest_line, row_longest_line, rows_longest_line, text_longest_line};
 ghost use Rattle.comfy_table.specs.TableValue.{seen_cell};
 
 use crate::table::Table;
 use crate::table::column_cells::cell_at;
-use crate::utils::arrangement::dynamic::visible::VisibleColumn;
 use comfy_parts::content_split::{ColumnDisplayInfo, measure_text_width, wrapped_lines};
 use comfy_parts::{Cell, Result, Row};
 
@@ -31,9 +28,9 @@ pub fn longest_line(table: &Table, position: usize, content_width: u16) -> Resul
     }
 }
 
-// The longest line of all cells at a position, in a column with this delimiter and content width. The cells are looked
-// at until a row passes the limit; an answer above it may be less than the longest line.
-fn column_longest_line(
+/// The longest line of all cells at a position, in a column with this delimiter and content width. The cells are looked
+/// at until a row passes the limit; a result above it may be less than the longest line.
+pub fn column_longest_line(
     table: &Table,
     position: usize,
     info: &ColumnDisplayInfo,
@@ -126,23 +123,4 @@ fn wrapped_longest_line(text: &str, info: &ColumnDisplayInfo, delimiter: char) -
         longest = measure_text_width(line).max(longest);
     }
     longest
-}
-
-// What a column shrinks to where it has this average room: its longest line there, if that leaves three or more terminal
-// columns free.
-pub fn shrunk_width(table: &Table, column: &VisibleColumn<'_>, average: usize) -> Option<u16>
-    requires { average ≤ 65535 }
-    ensures { result ≡ shrunk_at average (needs_in table.now column.now) }
-{
-    if average < 3 {
-        return None;
-    }
-    let info = ColumnDisplayInfo::new(column.column, average as u16);
-    let limit = average - 3;
-    let longest = column_longest_line(table, column.position, &info, limit);
-    if longest <= limit {
-        Some((longest as u16).max(1))
-    } else {
-        None
-    }
 }

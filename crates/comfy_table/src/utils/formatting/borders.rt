@@ -6,7 +6,7 @@ ghost use Rattle.comfy_table.specs.DrawnCells.{piece_at};
 ghost use Rattle.comfy_table.specs.Frame.{character, content_line, draws_left_border, draws_right_border, draws_vertical_lines, frame_line, is_drawn, optional_frame_line};
 
 use crate::table::Table;
-use crate::utils::formatting::content_format::DrawnCell;
+use crate::utils::formatting::drawn_cell::DrawnCell;
 use comfy_parts::Result;
 use comfy_parts::style::{ContentLineStyle, LineStyle};
 

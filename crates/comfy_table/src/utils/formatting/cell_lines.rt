@@ -100,40 +100,40 @@ impl<'a> WholeLines<'a> {
         }
     }
 
-    fn text(&self, place: usize) -> Option<&'a str>
-        ensures { option_copied result ≡ slice_get self.now place }
+    fn text(&self, position: usize) -> Option<&'a str>
+        ensures { option_copied result ≡ slice_get self.now position }
     {
         if self.is_wrapped {
-            return self.wrapped.get(place).copied();
+            return self.wrapped.get(position).copied();
         }
-        text_at(self.texts, place)
+        text_at(self.texts, position)
     }
 
-    fn get(&self, place: usize) -> Option<Line<'a>>
-        ensures { result ≡ slice_get self.now place }
+    fn get(&self, position: usize) -> Option<Line<'a>>
+        ensures { result ≡ slice_get self.now position }
     {
         if self.is_wrapped {
-            let text = self.wrapped.get(place)?;
+            let text = self.wrapped.get(position)?;
             return Some(Line {
                 text,
                 indicator: None,
                 width: Some(measure_text_width(text)),
             });
         }
-        let text = text_at(self.texts, place)?;
+        let text = text_at(self.texts, position)?;
         Some(Line {
             text,
             indicator: None,
-            width: self.widths.get(place).copied(),
+            width: self.widths.get(position).copied(),
         })
     }
 }
 
-/// A text by its place, counted from 0.
-pub(crate) fn text_at(texts: &[String], place: usize) -> Option<&str>
-    ensures { option_copied result ≡ slice_get (map string_bytes texts.now) place }
+/// A text by its position, counted from 0.
+pub(crate) fn text_at(texts: &[String], position: usize) -> Option<&str>
+    ensures { option_copied result ≡ slice_get (map string_bytes texts.now) position }
 {
-    match texts.get(place) {
+    match texts.get(position) {
         Some(text) => Some(text.as_str()),
         None => None,
     }
@@ -207,17 +207,17 @@ impl<'a> CellLines<'a> {
         }
     }
 
-    /// A line by its place, counted from 0.
-    pub fn get(&self, place: usize) -> Option<Line<'a>>
-        ensures { result ≡ slice_get self.now place }
+    /// A line by its position, counted from 0.
+    pub fn get(&self, position: usize) -> Option<Line<'a>>
+        ensures { result ≡ slice_get self.now position }
     {
         let Some(cut) = &self.cut else {
-            return self.whole.get(place);
+            return self.whole.get(position);
         };
-        if place < self.kept {
-            return self.whole.get(place);
+        if position < self.kept {
+            return self.whole.get(position);
         }
-        if place > self.kept {
+        if position > self.kept {
             return None;
         }
         Some(Line {
@@ -258,10 +258,10 @@ pub fn cell_lines<'a>(
     })
 }
 
-fn all_fit(widths: &[usize], places: usize) -> bool
-    ensures { result ≡ list_all (λ width. nat_le width places) widths.now }
+fn all_fit(widths: &[usize], content_width: usize) -> bool
+    ensures { result ≡ list_all (λ width. nat_le width content_width) widths.now }
 {
-    widths.iter().all(|width| *width <= places)
+    widths.iter().all(|width| *width <= content_width)
 }
 
 // Appends the lines of text lines that measure these columns.
@@ -275,8 +275,8 @@ fn push_lines<'a>(
     requires { widths.now ≡ map measure (map string_bytes texts.now) }
     ensures { OnOk result (map (λ x. x.now) lines.new.items ≡ map (λ x. x.now) lines.old.items ++ flat_map (λ s. lines_of_text info.now.content_width delimiter (string_bytes s)) texts.now) }
 {
-    for (place, text) in texts.iter().enumerate() {
-        push_lines_of_text(lines, text.as_str(), widths[place], info, delimiter)?;
+    for (position, text) in texts.iter().enumerate() {
+        push_lines_of_text(lines, text.as_str(), widths[position], info, delimiter)?;
     }
     Ok(())
 }
@@ -362,16 +362,16 @@ fn cut_to_height<'a>(
 fn cut_line<'a>(line: &'a str, width: u16, indicator: &'a str) -> CutLine<'a>
     ensures { result ≡ cut_line width indicator.now line.now }
 {
-    let places = usize::from(width);
+    let columns = usize::from(width);
     let indicator_width = measure_text_width(indicator);
-    if indicator_width > places {
-        let (text, _) = split_long_word(places, line);
+    if indicator_width > columns {
+        let (text, _) = split_long_word(columns, line);
         return CutLine {
             text,
             indicator: None,
         };
     }
-    let (text, _) = split_long_word(places - indicator_width, line);
+    let (text, _) = split_long_word(columns - indicator_width, line);
     CutLine {
         text,
         indicator: Some(indicator),

@@ -9,7 +9,7 @@ ghost use Rattle.comfy_table.specs.Output.{new_output, with_lines, with_written}
 
 use crate::table::Table;
 use crate::utils::formatting::borders::{optional_frame_line, push_content_line};
-use crate::utils::formatting::content_format::{DrawnCell, drawn_cells, greatest_height};
+use crate::utils::formatting::drawn_cell::{DrawnCell, drawn_cells, greatest_height};
 use crate::utils::formatting::output::{Output, OutputForm};
 use comfy_parts::content_split::ColumnDisplayInfo;
 use comfy_parts::style::{ContentLineStyle, LineStyle};

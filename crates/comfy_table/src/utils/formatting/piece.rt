@@ -5,7 +5,7 @@ ghost use Rattle.comfy_parts.specs.Text.{spaces};
 ghost use Rattle.comfy_table.specs.Pieces.{cell_alignment, free_before, written_piece};
 
 use crate::table::Table;
-use crate::utils::formatting::sequences::{push_style_begin, push_style_end};
+use crate::utils::formatting::styling::{push_style_begin, push_style_end};
 use crate::utils::formatting::written_line::WrittenLine;
 use comfy_parts::content_split::ColumnDisplayInfo;
 use comfy_parts::style::CellAlignment;

@@ -6,7 +6,7 @@ ghost use Rattle.comfy_parts.specs.VisibleText.{closed};
 ghost use Rattle.comfy_table.specs.DrawnCells.{text_of_line};
 
 use crate::utils::formatting::cell_lines::Line;
-use crate::utils::formatting::sequences::push_reset;
+use crate::utils::formatting::styling::push_reset;
 use comfy_parts::Result;
 use comfy_parts::content_split::leaves_sequence_open;
 use std::marker::Model;

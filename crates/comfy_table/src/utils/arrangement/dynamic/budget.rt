@@ -39,11 +39,11 @@ impl Budget {
         Ok(Budget { widths, room })
     }
 
-    // Whether the column at a place is undecided.
-    pub fn is_undecided(&self, place: usize) -> bool
-        ensures { result ≡ is_undecided self.now.widths.items place }
+    // Whether the column at a position is undecided.
+    pub fn is_undecided(&self, position: usize) -> bool
+        ensures { result ≡ is_undecided self.now.widths.items position }
     {
-        matches!(self.widths.get(place), Some(None))
+        matches!(self.widths.get(position), Some(None))
     }
 
     // How many columns are undecided.
@@ -60,12 +60,12 @@ impl Budget {
         self.room.checked_div(self.undecided()).unwrap_or(0)
     }
 
-    // Decides the width of the column at a place, and takes it from the room, which never falls below 0.
-    pub fn claim(&mut self, place: usize, width: u16)
-        ensures widths { self.new.widths.items ≡ slice_set self.old.widths.items place (Some width) }
+    // Decides the width of the column at a position, and takes it from the room, which never falls below 0.
+    pub fn claim(&mut self, position: usize, width: u16)
+        ensures widths { self.new.widths.items ≡ slice_set self.old.widths.items position (Some width) }
         ensures room { self.new.room ≡ self.old.room - width }
     {
-        if let Some(claimed) = self.widths.get_mut(place) {
+        if let Some(claimed) = self.widths.get_mut(position) {
             *claimed = Some(width);
         }
         self.room = self.room.saturating_sub(usize::from(width));

@@ -45,8 +45,8 @@ fn average_beside(columns: &[VisibleColumn<'_>], budget: &Budget, level: usize) 
 {
     let mut room = budget.room;
     let mut left = 0usize;
-    for (place, column) in columns.iter().enumerate() {
-        if budget.is_undecided(place) {
+    for (position, column) in columns.iter().enumerate() {
+        if budget.is_undecided(position) {
             match settled_width(column, level) {
                 Some(width) => room = room.saturating_sub(usize::from(width)),
                 None => left += 1,
@@ -60,11 +60,11 @@ fn average_beside(columns: &[VisibleColumn<'_>], budget: &Budget, level: usize) 
 fn settle_at(columns: &[VisibleColumn<'_>], budget: &mut Budget, level: usize)
     ensures { (table : TableValue) → HasTaken (settled_shares (Some level) (undecided_among (all_needs table columns.now) budget.old.widths.items)) budget.old budget.new }
 {
-    for (place, column) in columns.iter().enumerate() {
-        if budget.is_undecided(place)
+    for (position, column) in columns.iter().enumerate() {
+        if budget.is_undecided(position)
             && let Some(width) = settled_width(column, level)
         {
-            budget.claim(place, width);
+            budget.claim(position, width);
         }
     }
 }

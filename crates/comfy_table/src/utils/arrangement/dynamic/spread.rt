@@ -50,8 +50,8 @@ fn widened(budget: &Budget, alloc: Global) -> Result<Vec<u16>>
 {
     let count = budget.widths.len();
     let mut widths = Vec::new(alloc);
-    for (place, width) in budget.widths.iter().enumerate() {
-        widths.push(width.unwrap_or(0) + even_part(budget.room, count, place))?;
+    for (position, width) in budget.widths.iter().enumerate() {
+        widths.push(width.unwrap_or(0) + even_part(budget.room, count, position))?;
     }
     Ok(widths)
 }

@@ -2,14 +2,15 @@
 
 ghost use Rattle.std.specs.Prelude.{◌≡◌, ◌<◌, ◌≤◌, length};
 ghost use Rattle.comfy_parts.specs.CellValue.{column_padding};
-ghost use Rattle.comfy_table.specs.Deciding.{HasTakenInTurn, all_needs, place_behind, width_at};
-ghost use Rattle.comfy_table.specs.Dynamic.{lower_of_boundary};
+ghost use Rattle.comfy_table.specs.Deciding.{HasTakenInTurn, all_needs, needs_in, place_behind, width_at};
+ghost use Rattle.comfy_table.specs.Dynamic.{lower_of_boundary, shrunk_at};
 
 use super::budget::Budget;
 use super::visible::VisibleColumn;
 use crate::table::Table;
 use crate::utils::arrangement::helper::absolute_width_with_padding;
-use crate::utils::arrangement::longest::shrunk_width;
+use crate::utils::arrangement::longest::column_longest_line;
+use comfy_parts::content_split::ColumnDisplayInfo;
 
 // By what an undecided column takes its width.
 #[derive(Copy, Clone)]
@@ -36,45 +37,45 @@ impl<'a> Takers<'a> {
         requires room { budget.old.room ≤ 65535 }
         ensures { HasTakenInTurn self.now.rule (all_needs self.now.table.now self.now.columns.now) budget.old budget.new }
     {
-        let mut place = 0;
-        // how many columns before the place, going round, take nothing at the average
+        let mut position = 0;
+        // how many columns before the position, going round, take nothing at the average
         let mut passed = 0;
         let mut average = budget.average();
         while passed < self.columns.len() {
             passed += 1;
-            if let Some(width) = self.width_at(budget, place, average) {
-                budget.claim(place, width);
+            if let Some(width) = self.width_at(budget, position, average) {
+                budget.claim(position, width);
                 let average_now = budget.average();
                 if average_now != average {
                     average = average_now;
                     passed = 1;
                 }
             }
-            place = self.place_behind(place);
+            position = self.place_behind(position);
         }
     }
 
-    // The place behind this one, going round.
-    fn place_behind(&self, place: usize) -> usize
-        requires { place < length self.now.columns.now }
-        ensures { result ≡ place_behind (length self.now.columns.now) place }
+    // The position behind this one, going round.
+    fn place_behind(&self, position: usize) -> usize
+        requires { position < length self.now.columns.now }
+        ensures { result ≡ place_behind (length self.now.columns.now) position }
     {
-        if place + 1 < self.columns.len() {
-            place + 1
+        if position + 1 < self.columns.len() {
+            position + 1
         } else {
             0
         }
     }
 
-    // The width that the column at a place takes at this average, where it is undecided and takes one.
-    fn width_at(&self, budget: &Budget, place: usize, average: usize) -> Option<u16>
+    // The width that the column at a position takes at this average, where it is undecided and takes one.
+    fn width_at(&self, budget: &Budget, position: usize, average: usize) -> Option<u16>
         requires { average ≤ 65535 }
-        ensures { result ≡ width_at self.now.rule average (all_needs self.now.table.now self.now.columns.now) budget.now.widths.items place }
+        ensures { result ≡ width_at self.now.rule average (all_needs self.now.table.now self.now.columns.now) budget.now.widths.items position }
     {
-        if !budget.is_undecided(place) {
+        if !budget.is_undecided(position) {
             return None;
         }
-        let column = self.columns.get(place)?;
+        let column = self.columns.get(position)?;
         match self.rule {
             Rule::Lower => lower_width(column, average),
             Rule::Shrunk => shrunk_width(self.table, column, average),
@@ -91,5 +92,24 @@ fn lower_width(column: &VisibleColumn<'_>, average: usize) -> Option<u16>
             Some(absolute_width_with_padding(column.column, lower))
         }
         _ => None,
+    }
+}
+
+// What a column shrinks to where it has this average room: its longest line there, if that leaves three or more terminal
+// columns free.
+fn shrunk_width(table: &Table, column: &VisibleColumn<'_>, average: usize) -> Option<u16>
+    requires { average ≤ 65535 }
+    ensures { result ≡ shrunk_at average (needs_in table.now column.now) }
+{
+    if average < 3 {
+        return None;
+    }
+    let info = ColumnDisplayInfo::new(column.column, average as u16);
+    let limit = average - 3;
+    let longest = column_longest_line(table, column.position, &info, limit);
+    if longest <= limit {
+        Some((longest as u16).max(1))
+    } else {
+        None
     }
 }

@@ -7,10 +7,10 @@ use Rattle.comfy_table.proofs.utils.formatting.cell_lines.push_lines.Goals as go
 pub push_lines_of_text-requires : goal.push_lines_of_text-requires
 push_lines_of_text-requires c =
     let texts = c.args.texts.now in
-    let text = c.index-texts-place.result in
+    let text = c.index-texts-position.result in
     let width : String Global → ℕ = λ s. measure (string_bytes s) in
-    let place = c.loop-place.place in
-    ap (λ (ws : List ℕ). slice_index_or ws place 0) (c.requires ∙ map-map measure string_bytes texts)
-    ∙ get_or-map width texts place text 0 c.loop-place-test.true
-    ∙ ap width (sym c.index-texts-place.is)
+    let position = c.loop-position.position in
+    ap (λ (ws : List ℕ). slice_index_or ws position 0) (c.requires ∙ map-map measure string_bytes texts)
+    ∙ get_or-map width texts position text 0 c.loop-position-test.true
+    ∙ ap width (sym c.index-texts-position.is)
     ∙ ap measure (sym c.as_str.ensures.value)

@@ -3,6 +3,6 @@ use Rattle.std.specs.List.{flat_map}
 use Rattle.comfy_parts.specs.Wrapping.{lines_of_text}
 use Rattle.comfy_table.proofs.utils.formatting.cell_lines.push_lines.Given as goal
 
-abbrev pub invariant-loop-place : goal.invariant-loop-place
-invariant-loop-place l =
-    map (λ x. x.now) l.lines.items ≡ map (λ x. x.now) l.initial.lines.items ++ flat_map (λ s. lines_of_text l.info.content_width l.fn.delimiter (string_bytes s)) (take l.place l.texts)
+abbrev pub invariant-loop-position : goal.invariant-loop-position
+invariant-loop-position l =
+    map (λ x. x.now) l.lines.items ≡ map (λ x. x.now) l.initial.lines.items ++ flat_map (λ s. lines_of_text l.info.content_width l.fn.delimiter (string_bytes s)) (take l.position l.texts)

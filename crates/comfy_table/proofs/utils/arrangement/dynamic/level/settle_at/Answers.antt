@@ -7,8 +7,8 @@ use Rattle.comfy_table.proofs.utils.arrangement.dynamic.level.settle_at.Goals as
 
 pub returns : goal.returns
 returns c = λ (table : TableValue).
-    let none = undecided_past-none c.args.budget.now.widths.items (needs_in table) c.args.columns.now c.loop-place.place c.loop-place-test.false in
+    let none = undecided_past-none c.args.budget.now.widths.items (needs_in table) c.args.columns.now c.loop-position.position c.loop-position-test.false in
     record {
-      widths = ap (λ (ps : List Placed). with_shares (settled_shares (Some c.args.level) ps) c.loop-place.budget.widths.items) (sym none) ∙ c.loop-place.invariant.widths table;
-      room = omega (arith, ap (λ (ps : List Placed). total (settled_shares (Some c.args.level) ps)) none, c.loop-place.invariant.room table);
+      widths = ap (λ (ps : List Placed). with_shares (settled_shares (Some c.args.level) ps) c.loop-position.budget.widths.items) (sym none) ∙ c.loop-position.invariant.widths table;
+      room = omega (arith, ap (λ (ps : List Placed). total (settled_shares (Some c.args.level) ps)) none, c.loop-position.invariant.room table);
     }

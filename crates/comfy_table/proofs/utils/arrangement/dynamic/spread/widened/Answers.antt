@@ -11,17 +11,17 @@ overflow_add-unwrap_or c =
     let room = c.args.budget.now.room in
     let items = c.deref-width-items.result.now in
     let each : All (λ w. 0 < room → w + room ≤ 65535) (decided items) = subst (λ (ws : List (Option ℕ)). All (λ w. 0 < room → w + room ≤ 65535) (decided ws)) (sym c.deref-width-items.ensures.value) c.requires.each in
-    let fits = decided_where (λ w. 0 < room → w + room ≤ 65535) items c.loop-place.place each c.loop-place-test.true in
+    let fits = decided_where (λ w. 0 < room → w + room ≤ 65535) items c.loop-position.position each c.loop-position-test.true in
     ⊎_elim (λ none. omega (arith, none, c.even_part.ensures.at_most, c.unwrap_or.type_inv))
     (λ some. omega (arith, fits some, c.even_part.ensures.at_most, c.unwrap_or.ensures)) (eq-zero-or-pos room)
 
-pub loop-place-preserved : goal.loop-place-preserved
-loop-place-preserved c =
+pub loop-position-preserved : goal.loop-position-preserved
+loop-position-preserved c =
     let items = c.deref-width-items.result.now in
-    let i = c.loop-place.place in
+    let i = c.loop-position.position in
     let x = c.args.budget.now.room in
     let k = c.len-count.result in
-    let among : i < k = omega (arith, c.loop-place-test.true, c.len-count.ensures, ap length c.deref-width-items.ensures.value) in
+    let among : i < k = omega (arith, c.loop-position-test.true, c.len-count.ensures, ap length c.deref-width-items.ensures.value) in
     ap (λ (ws : List ℕ). ws ++ added (decided (drop (i + 1) items)) (drop (i + 1) (even_spread x k)))
-    (c.in_ok-push.ensures.items ∙ ap₂ (λ (w p : ℕ). c.loop-place.widths.items ++ (w + p) ∷ []) c.unwrap_or.ensures c.even_part.ensures.part)
-    ∙ widened_more items i x k c.loop-place-test.true among c.loop-place.widths.items (added (decided items) (even_spread x k)) c.loop-place.invariant
+    (c.in_ok-push.ensures.items ∙ ap₂ (λ (w p : ℕ). c.loop-position.widths.items ++ (w + p) ∷ []) c.unwrap_or.ensures c.even_part.ensures.part)
+    ∙ widened_more items i x k c.loop-position-test.true among c.loop-position.widths.items (added (decided items) (even_spread x k)) c.loop-position.invariant

@@ -10,6 +10,6 @@ split_at-requires c =
 
 pub truncate-requires : goal.truncate-requires
 truncate-requires c =
-    let place = seam (string_bytes c.push_to.new.text) (string_bytes c.args.text.now) c.args.self.now c.len-start.result (IsUtf8-string_bytes c.push_to.new.text) (IsUtf8-string_bytes c.args.text.now)
+    let position = seam (string_bytes c.push_to.new.text) (string_bytes c.args.text.now) c.args.self.now c.len-start.result (IsUtf8-string_bytes c.push_to.new.text) (IsUtf8-string_bytes c.args.text.now)
     (c.len-start.ensures ∙ c.args.text.now.bytes.ok.0) c.in_ok-push_to.ensures in
-    λ _. (place.0, λ _ below. place.1 below)
+    λ _. (position.0, λ _ below. position.1 below)

@@ -4,7 +4,7 @@ use Rattle.comfy_table.proofs.TakingInTurnLemmas.{IsTurn}
 use Rattle.comfy_table.proofs.utils.arrangement.dynamic.taking.Takers.take_in_turn.Given as goal
 
 abbrev pub invariant-loop-passed : goal.invariant-loop-passed
-invariant-loop-passed l = IsTurn l.self.rule (all_needs l.self.table.now l.self.columns.now) l.initial.budget l.budget l.place l.passed l.average
+invariant-loop-passed l = IsTurn l.self.rule (all_needs l.self.table.now l.self.columns.now) l.initial.budget l.budget l.position l.passed l.average
 
 abbrev pub decreases-loop-passed : goal.decreases-loop-passed
 decreases-loop-passed l = undecided_count l.budget.widths.items * (length l.self.columns.now + 1) + (length l.self.columns.now - l.passed)

@@ -4,8 +4,8 @@ use Rattle.comfy_table.proofs.LoopLemmas.{filtered_all, filtered_more}
 use Rattle.std.specs.List.{range_with_len}
 use Rattle.comfy_table.proofs.DrawnCellLemmas.{drawn_lines}
 use Rattle.comfy_table.specs.DrawnCells.{DrawnCell, drawn_cell, greatest_height, piece_at}
-use Rattle.comfy_table.proofs.utils.formatting.content_format.drawn_cells.Goals.{then-not-is_hidden+in_ok-drawn_cell+in_ok-push, else-not-is_hidden}
-use Rattle.comfy_table.proofs.utils.formatting.content_format.drawn_cells.Goals as goal
+use Rattle.comfy_table.proofs.utils.formatting.drawn_cell.drawn_cells.Goals.{then-not-is_hidden+in_ok-drawn_cell+in_ok-push, else-not-is_hidden}
+use Rattle.comfy_table.proofs.utils.formatting.drawn_cell.drawn_cells.Goals as goal
 
 pub loop-position-preserved : goal.loop-position-preserved
 loop-position-preserved c =

@@ -8,7 +8,7 @@ use Rattle.comfy_table.proofs.DrawnTextLemmas.{get-with_texts, with_text}
 use Rattle.comfy_table.proofs.SpaceLemmas.{pushed-as}
 use Rattle.comfy_table.specs.DrawnCells.{lines_with_texts, piece_at, piece_of_line, piece_of_lines, text_of_line}
 use Rattle.comfy_table.specs.TableValue.{TableValue}
-use Rattle.comfy_table.proofs.utils.formatting.content_format.DrawnCell.push_piece_at.Goals as goal
+use Rattle.comfy_table.proofs.utils.formatting.drawn_cell.DrawnCell.push_piece_at.Goals as goal
 
 -- there is no line
 pub returns-in_default-get : goal.returns-in_default-get

@@ -1,6 +1,6 @@
 use Rattle.std.proofs.Common.{ap, arith, ◌∙◌, map, string_bytes, take}
 use Rattle.comfy_table.proofs.DrawnTextLemmas.{truncated}
-use Rattle.comfy_table.proofs.utils.formatting.content_format.uncut_texts.Goals as goal
+use Rattle.comfy_table.proofs.utils.formatting.drawn_cell.uncut_texts.Goals as goal
 
 pub returns-then-len-height : goal.returns-then-len-height
 returns-then-len-height c =

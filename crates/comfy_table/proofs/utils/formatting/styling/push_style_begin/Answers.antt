@@ -1,6 +1,6 @@
 use Rattle.std.proofs.Common.{◌≡◌, ◌++◌, ℕ, List, append_assoc, ap}
 use Rattle.comfy_table.specs.Styling.{background_code, foreground_code, attribute_sequences, optional_sequence}
-use Rattle.comfy_table.proofs.utils.formatting.sequences.push_style_begin.Goals as goal
+use Rattle.comfy_table.proofs.utils.formatting.styling.push_style_begin.Goals as goal
 
 -- three texts that are appended in turn
 appended :
