@@ -25,10 +25,10 @@ selector_measures_nothing : measure (encode_utf8_all (0xFE0F ∷ [])) ≡ 0
 unfolding wrapping
 selector_measures_nothing = refl
 
--- a number sign before a variation selector is a key of a telephone
-keycap_measures_two : measure (encode_utf8_all (0x23 ∷ 0xFE0F ∷ [])) ≡ 2
+-- a variation selector makes the number sign before it wide
+wide_number_sign_measures_two : measure (encode_utf8_all (0x23 ∷ 0xFE0F ∷ [])) ≡ 2
 unfolding wrapping
-keycap_measures_two = refl
+wide_number_sign_measures_two = refl
 
 nothing_measures_nothing : measure [] ≡ 0
 unfolding wrapping
@@ -38,7 +38,7 @@ nothing_measures_nothing = refl
 number_sign_adds_two : ¬ (AddsOneColumn 0x23)
 number_sign_adds_two adds =
     let one = adds [] (encode_utf8_all (0xFE0F ∷ [])) IsUtf8-nil in
-    omega (arith, one, keycap_measures_two, nothing_measures_nothing, selector_measures_nothing)
+    omega (arith, one, wide_number_sign_measures_two, nothing_measures_nothing, selector_measures_nothing)
 
 -- no text joins the indicator of a new table
 ellipsis_is_apart : IsApart (utf8 "…")
