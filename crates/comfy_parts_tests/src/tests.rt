@@ -2,6 +2,7 @@
 
 mod cells;
 mod clones;
+mod columns;
 mod conversions;
 mod sequences;
 mod support;

@@ -4,6 +4,7 @@ mod InputTrials
 mod OutcomeTrials
 mod PremiseTrials
 mod PresetTrials
+mod StraightTrials
 mod StyleModifierTrials
 mod StylingTrials
 mod ThreePlacesTrials
