@@ -59,8 +59,9 @@ fn is_frame_character(character: char) -> bool
 
 /// Whether no character of the text is one that joins others, so that the widths of its characters add up to its width.
 /// Texts in Chinese, Japanese, Korean, Greek, Cyrillic, in Latin letters with accents and in most other scripts are such,
-/// and so are emoji that stand by themselves. An Arabic alef, a Hebrew lamed and Khmer letters join others. Of a text with
-/// one of these this says no, though its widths may still add up.
+/// and so are emoji without a joiner, a variation selector or a skin tone. An Arabic alef, a Hebrew lamed and Khmer letters
+/// join others. Of a text with one of these this says no, though its widths may still add up. So it does of a control
+/// character and of U+00A0.
 ///
 /// ```
 /// adds_up("年度 Ωmega é ✅"); // true
