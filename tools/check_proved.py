@@ -4,8 +4,8 @@
     tools/check_proved.py
 
 Each row's clauses are looked for in the crate of its section. A mutation has to be named in a row, or to change a
-function that a row names. Each label that README.md cites has to be a row. It prints what is missing, and ends with 1
-where anything is.
+function that a row names. Each label that README.md cites has to be a row. The page has to say how many lines of
+definitions a reader must believe. It prints what is missing, and ends with 1 where anything is.
 """
 import glob
 import os
@@ -13,6 +13,7 @@ import re
 import sys
 
 TOP = os.path.dirname(os.path.dirname(os.path.realpath(__file__)))
+LIBRARIES = ["comfy_parts", "comfy_table", "comfy_run"]
 WORDS = {"IsAfter", "IsTableDrawing", "input_table"}  # definitions, not functions
 
 
@@ -35,6 +36,13 @@ def functions_of(crate):
             clauses = set(re.findall(r"ensures\*? (\w+) \{", text[start.start() : after]))
             found.setdefault(start[1], []).append((places, clauses))
     return found
+
+
+def lines_to_believe():
+    """Lines of the definitions in which public contracts are written: of the files that don't say that they are private."""
+    paths = [it for crate in LIBRARIES for it in glob.glob(f"crates/{crate}/specs/**/*.antt", root_dir=TOP, recursive=True)]
+    texts = [text_of(path) for path in paths]
+    return sum(text.count("\n") for text in texts if not text.startswith("-- Private:"))
 
 
 def main():
@@ -65,6 +73,9 @@ def main():
     labels = set(re.findall(r"\*\*(P\d+) ", page))
     for group in re.findall(r"\[(P\d+(?:, P\d+)*)\]", text_of("README.md")):
         wrong += [f"README.md cites {it}, which isn't a row" for it in group.split(", ") if it not in labels]
+    believed = lines_to_believe()
+    if f"the {believed} lines" not in page:
+        wrong.append(f"docs/PROVED.md doesn't name the {believed} lines of definitions to believe")
     print("\n".join(wrong) or f"{len(labels)} labels, {len(edits)} mutations: all found")
     return 1 if wrong else 0
 

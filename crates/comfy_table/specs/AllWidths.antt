@@ -1,4 +1,4 @@
--- The widths of all columns, where those of the visible ones are given.
+-- Private: the widths of all columns, where those of the visible ones are given.
 use Rattle.std.specs.Prelude.{ℕ, List, [], ◌∷◌, drop, max, slice_index_or, if◌then◌else◌}
 use Rattle.std.specs.List.{enumerate_from}
 use Rattle.comfy_parts.specs.CellValue.{ColumnValue, is_hidden_column}

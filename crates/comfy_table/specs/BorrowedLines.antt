@@ -1,4 +1,4 @@
--- Lines of a cell that are borrowed from its text.
+-- Private: lines of a cell that are borrowed from its text.
 use Rattle.std.specs.Prelude.{◌≡◌, ◌<◌, ℕ, Bool, true, false, List, [], ◌∷◌, ◌++◌, Option, Some, None, take, IfSome}
 use Rattle.comfy_parts.specs.Text.{Text, measure}
 

@@ -1,4 +1,4 @@
--- The contents of a column, row by row.
+-- Private: the contents of a column, row by row.
 use Rattle.std.specs.Prelude.{ℕ, List, Option, Some, None, map, slice_get}
 use Rattle.comfy_parts.specs.CellValue.{CellValue, RowValue}
 use Rattle.comfy_parts.specs.Text.{greatest}

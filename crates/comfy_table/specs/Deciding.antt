@@ -1,4 +1,4 @@
--- The dynamic widths while they are decided, one column after another.
+-- Private: the dynamic widths while they are decided, one column after another.
 use Rattle.std.specs.Prelude.{◌≡◌, ℕ, ◌+◌, ◌-◌, ◌/◌, ◌<◌, ◌≤◌, ◌==◌, ◌&&◌, All, Bool, List, [], ◌∷◌, Option, Some, None, drop, fold, filter, is_none, length, map, max, nat_lt, option_and_then, slice_get, slice_index_or, slice_set, unwrap_or, if◌then◌else◌}
 use Rattle.comfy_parts.specs.CellValue.{column_padding}
 use Rattle.comfy_table.specs.Dynamic.{IsLevel, IsTakenInOrder, Placed, Share, added, lower_of_boundary, places_of, settled_shares, shrunk_at, total, without_shares}

@@ -1,4 +1,4 @@
--- The cells of a row as its visible columns draw them.
+-- Private: the cells of a row as its visible columns draw them.
 use Rattle.std.specs.Prelude.{ℕ, ◌-◌, Bool, List, [], ◌∷◌, ◌&&◌, Option, Some, None, map, length, nat_le, take, slice_get, slice_index_or, if◌then◌else◌}
 use Rattle.std.specs.List.{list_any}
 use Rattle.comfy_parts.specs.CellValue.{CellValue, RowValue, ColumnInfo}

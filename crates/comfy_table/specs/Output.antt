@@ -1,4 +1,4 @@
--- The drawn lines of a table as they are kept: each as a text of its own, or all in one text.
+-- Private: the drawn lines of a table as they are kept: each as a text of its own, or all in one text.
 use Rattle.std.specs.Prelude.{List, [], ◌∷◌, ◌++◌, flat_map}
 use Rattle.std.specs.Str.{trim_end}
 use Rattle.comfy_parts.specs.CellValue.{ColumnInfo}

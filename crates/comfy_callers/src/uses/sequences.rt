@@ -8,7 +8,8 @@ ghost use Rattle.comfy_parts.specs.VisibleText.{closed, has_escape, visible_text
 ghost use Rattle.comfy_table.specs.Laws.{CutLinesAreClosed, IsFreeOfEscapes, LinesAreResumedInRow, NoneIsOpenAtTheEnd};
 ghost use Rattle.comfy_callers.specs.Uses.{IsDrawnWithCells, IsPlainDrawing};
 
-use comfy_table::utils::formatting::content_split::{ColumnDisplayInfo, leaves_sequence_open};
+use comfy_parts::content_split::leaves_sequence_open;
+use comfy_table::utils::formatting::content_split::ColumnDisplayInfo;
 use comfy_table::{Cell, Lines, Result, Table};
 use std::alloc::Global;
 

@@ -6,6 +6,7 @@ ghost use Rattle.comfy_parts.specs.Text.{elements, is_printable_ascii, measure};
 ghost use Rattle.comfy_parts.specs.VisibleText.{visible_text};
 ghost use Rattle.comfy_parts.specs.Wrapping.{wrapped};
 
+use comfy_parts::content_split::wrapped_lines;
 use comfy_table::laws::{
     lines_are_few, lines_fit, lines_of_every_script_fit, presets_have_columns_of_one,
     printable_measures_its_length,
@@ -13,7 +14,7 @@ use comfy_table::laws::{
 use comfy_table::presets::UTF8_FULL;
 use comfy_table::utils::formatting::content_split::{
     ColumnDisplayInfo, adds_one_column, adds_up, measure_text_width, split_line,
-    split_line_by_delimiter, split_line_ref, split_long_word, visible_text, wrapped_lines,
+    split_line_by_delimiter, split_line_ref, split_long_word, visible_text,
 };
 use comfy_table::{Column, Result, TableStyle};
 use std::alloc::Global;
