@@ -1,8 +1,8 @@
--- What calls of a device answer.
+-- What calls of a device return.
 use Rattle.std.specs.Prelude.{ℕ, ◌-◌, ◌==◌, Bool, false, ◌&&◌, ◌||◌, nat_lt, [], ◌++◌, Option, Some, None, Result, Ok, Err, length, take, drop, min, unwrap_or, if◌then◌else◌}
 use Rattle.comfy_parts.specs.Text.{Text}
 
--- the answer says that the end was read: 0 bytes for a buffer that isn't empty
+-- the result says that the end was read: 0 bytes for a buffer that isn't empty
 abbrev pub is_end : {E : Type 0} → Result ℕ E → ℕ → Bool
 is_end (Ok count) room = (count == 0) && nat_lt 0 room
 is_end (Err _) room = false
@@ -21,12 +21,12 @@ pub record MemorySourceValue : Type 0 where
 abbrev pub left_in : MemorySourceValue → Text
 left_in source = unwrap_or source.rest []
 
--- what is left behind a call for this many bytes
+-- what is left after a call for this many bytes
 abbrev pub rest_after : Option Text → ℕ → Option Text
 rest_after None room = None
 rest_after (Some left) room = if (length left == 0) && nat_lt 0 room then None else Some (drop (min (length left) room) left)
 
--- the source behind a call for this many bytes that didn't fail
+-- the source after a call for this many bytes that didn't fail
 abbrev pub after_reading : ℕ → MemorySourceValue → MemorySourceValue
 after_reading room source = record source { rest = rest_after source.rest room; fails_at = source.fails_at - 1 }
 
@@ -45,7 +45,7 @@ fitting piece sink = min (length piece) (sink.room - length sink.bytes)
 abbrev pub is_full_for : Text → MemorySinkValue → Bool
 is_full_for piece sink = nat_lt 0 (length piece) && (fitting piece sink == 0)
 
--- the sink behind a call with this piece that didn't fail
+-- the sink after a call with this piece that didn't fail
 abbrev pub after_writing : Text → MemorySinkValue → MemorySinkValue
 after_writing piece sink =
     record sink { bytes = sink.bytes ++ take (fitting piece sink) piece; fails_at = sink.fails_at - 1 }

@@ -7,6 +7,6 @@ pub nothing_left : (rest : Option (List ℕ)) (fails_at : ℕ) (failed : _) → 
 nothing_left None fails_at failed ended left e = cc
 nothing_left (Some bytes) fails_at failed ended left e = absurd (cc)
 
--- behind the end there is no byte
+-- after the end there is no byte
 pub none_is_left : (s : MemorySourceValue) → is_none s.rest ≡ true → (left : List ℕ) → Some (left_in s) ≡ Some left → left ≡ []
 none_is_left s ended left e = nothing_left s.rest s.fails_at s.failed ended left e

@@ -30,7 +30,7 @@ module _ (width : Option ℕ) (arrangement : ContentArrangement) (style : TableS
     pub whole : facts.end_was_read ≡ true
     pub is_text : IsUtf8 facts.input
 
-  -- an input that was read whole is UTF-8, since any other one has an answer of its own
+  -- an input that was read whole is UTF-8, since any other one has a result of its own
   abbrev pub IsTextIfWhole : Type 0
   IsTextIfWhole = facts.end_was_read ≡ true → IsUtf8 facts.input
 

@@ -1,4 +1,4 @@
--- What the program answers and reports, by the answer of its run.
+-- What the program returns and reports, by the result of its run.
 use Rattle.std.specs.Prelude.{◌≡◌, ℕ, Bool, false, [], ◌++◌, Option, Some, Result, Ok, Err, codes}
 use Rattle.comfy_parts.specs.Text.{Text}
 use Rattle.comfy_parts.specs.declared.error.TableError.TheVariants.{OutOfMemory}

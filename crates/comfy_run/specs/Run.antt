@@ -1,4 +1,4 @@
--- What a call of `run` ensures, by its answer.
+-- What a call of `run` ensures, by its result.
 use Rattle.std.specs.Prelude.{◌≡◌, Bool, true, false, ◌++◌, Option, Some, None, Result, Ok, Err, IsUtf8}
 use Rattle.comfy_parts.specs.Presets.{ascii_full}
 use Rattle.comfy_parts.specs.Text.{Text}
@@ -12,7 +12,7 @@ use Rattle.comfy_run.specs.declared.run.settings.Settings.{Settings}
 abbrev pub plain_settings : Settings
 plain_settings = record { width = None; arrangement = Disabled; style = ascii_full }
 
--- what the facts of a call are, by its answer
+-- what the facts of a call are, by its result
 abbrev pub IsAfter : {T : Type 0} → Settings → Result T RunError → RunFacts → Type 0
 IsAfter settings (Ok _) facts = IsAfterOk settings.width settings.arrangement settings.style facts
 IsAfter settings (Err Read) facts = IsAfterRead settings.width settings.arrangement settings.style facts
@@ -34,7 +34,7 @@ Between old new Says =
     (input had : Text) → old.remaining ≡ Some input → old.taken ≡ Some had → old.read_failed ≡ false → old.write_failed ≡ false →
     (written : Text) × (new.taken ≡ Some (had ++ written)) × Says (record { input = input; end_was_read = new.end_was_read; written = written; read_failed = new.read_failed; write_failed = new.write_failed })
 
--- why there is nothing to write, by what the source tells behind the call
+-- why there is nothing to write, by what the source tells after the call
 abbrev pub IsRefusal : RunError → Text → Bool → Bool → Type 0
 IsRefusal Read input ended failed = (failed ≡ true) × (ended ≡ true → IsUtf8 input)
 IsRefusal Write input ended failed = ⊥

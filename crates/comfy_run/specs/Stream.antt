@@ -12,11 +12,11 @@ pub record WriterValue (W : Type 0) : Type 0 where
   pub writer : W
   pub failed : Bool
 
--- behind the end nothing is left; before it, what the reader says
+-- after the end nothing is left; before it, what the reader says
 abbrev pub left_before : Bool → Option (List ℕ) → Option (List ℕ)
 left_before ended known = if ended then Some [] else known
 
--- behind the end there is no byte
+-- after the end there is no byte
 pub none_is_left : (ended : Bool) (known : Option (List ℕ)) → ended ≡ true → (left : List ℕ) → left_before ended known ≡ Some left → left ≡ []
 none_is_left true known is left e = cc
 none_is_left false known is left e = absurd (cc)

@@ -2,7 +2,7 @@
 use Rattle.std.specs.Prelude.{◌≡◌, ◌<◌, ℕ, Bool, true, false, List, [], ◌∷◌, ◌++◌, Option, Some, None, take, IfSome}
 use Rattle.comfy_parts.specs.Text.{Text, measure}
 
--- what a line shows: its text, and the indicator behind it where it is cut
+-- what a line shows: its text, and the indicator after it where it is cut
 abbrev pub line_text : Text → Option Text → Text
 line_text text None = text
 line_text text (Some indicator) = text ++ indicator
@@ -16,7 +16,7 @@ abbrev pub lines_by_text : Bool → List Text → List Text → List Text
 lines_by_text true texts wrapped = wrapped
 lines_by_text false texts wrapped = texts
 
--- all lines, or those that are kept and the cut one behind them
+-- all lines, or those that are kept and the cut one after them
 abbrev pub lines_shown : Option Text → ℕ → List Text → List Text
 lines_shown None kept whole = whole
 lines_shown (Some cut) kept whole = take kept whole ++ cut ∷ []

@@ -19,11 +19,11 @@ needs_in table v =
 abbrev pub all_needs : TableValue → List VisibleColumn → List ColumnNeeds
 all_needs table columns = map (needs_in table) columns
 
--- whether the column at a place has no width yet; past the last column there is none
+-- whether the column at a position has no width yet; past the last column there is none
 abbrev pub is_undecided : List (Option ℕ) → ℕ → Bool
 is_undecided widths place = is_none (slice_index_or widths place (Some 0))
 
--- the columns without a width, each at its place
+-- the columns without a width, each with its position
 abbrev pub undecided_among : List ColumnNeeds → List (Option ℕ) → List Placed
 undecided_among needs widths = filter (λ (p : Placed). is_undecided widths p.0) (places_of needs)
 
@@ -49,16 +49,16 @@ abbrev pub width_by_rule : Rule → ℕ → ColumnNeeds → Option ℕ
 width_by_rule Lower average column = lower_of_boundary average column.padding column.lower
 width_by_rule Shrunk average column = shrunk_at average column
 
--- the same of the column at a place, where it is undecided
+-- the same of the column at a position, where it is undecided
 abbrev pub width_at : Rule → ℕ → List ColumnNeeds → List (Option ℕ) → ℕ → Option ℕ
 width_at rule average needs widths place =
     if is_undecided widths place then option_and_then (width_by_rule rule average) (slice_get needs place) else None
 
--- what a column at its place takes by a rule, once some are taken
+-- what a column at its position takes by a rule, once some are taken
 abbrev pub offer_by_rule : Rule → ℕ → List Placed → List Share → Placed → Option ℕ
 offer_by_rule rule room candidates taken p = width_by_rule rule ((room - total taken) / length (without_shares taken candidates)) p.1
 
--- the place behind one of n places, going round
+-- the position after one of n, going round
 abbrev pub place_behind : ℕ → ℕ → ℕ
 place_behind n place = if nat_lt (place + 1) n then place + 1 else 0
 

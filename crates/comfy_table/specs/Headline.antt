@@ -18,7 +18,7 @@ use Rattle.comfy_table.specs.TableLaws.{visible_contents, wider_total}
 use Rattle.comfy_table.specs.TableValue.{TableValue, header_and_rows, seen_rows, should_style, table_width}
 use Rattle.comfy_table.specs.Widths.{visible_count, visible_needs}
 
--- the lines of a text line in a column of w places: the text as it is, or slices of it that lose only the delimiter d
+-- the lines of a text line in a column of w terminal columns: the text as it is, or slices of it that lose only the delimiter d
 abbrev pub IsTextOrSlices : ℕ → ℕ → Text → Type 0
 IsTextOrSlices w d text = (lines_of_text w d text ≡ text ∷ []) ⊎ IsWrapped w d text (lines_of_text w d text)
 
@@ -80,7 +80,7 @@ pub record IsTableDrawing (table : TableValue) (lines : List Text) : Type 0 wher
   pub cut_closed : table.custom_styling ≡ true → All (λ (row : RowValue). All (IsCutClosedInRow table row) (visible_infos (infos_of table widths))) (header_and_rows table)
   -- each frame line has the line's total, whatever the texts
   pub frame_counts : (line : LineStyle) → count (frame_line table.style line (visible_widths (infos_of table widths))) ≡ line_total table widths
-  -- a known width w holds where no visible column has a constraint: under `Dynamic` a line has at most that count, or that of borders, paddings and one place for each visible column
+  -- a known width w holds where no visible column has a constraint: under `Dynamic` a line has at most that count, or that of borders, paddings and one terminal column for each visible column
   pub keeps_to_width : (w : ℕ) → NoConstraints table → table.arrangement ≡ Dynamic → table_width table ≡ Some w → EachLineCounts (λ n. n ≤ max w (least_total table)) table widths
   -- under `DynamicFullWidth` it has exactly that count, where a column is visible
   pub fills_width : (w : ℕ) → NoConstraints table → table.arrangement ≡ DynamicFullWidth → table_width table ≡ Some w → 0 < visible_count table → EachLineCounts (λ n. n ≡ max w (least_total table)) table widths

@@ -31,7 +31,7 @@ unstyled table = record (seen_table table) { no_tty = true; enforce_styling = fa
 abbrev pub line_total : TableValue → List ℕ → ℕ
 line_total table widths = border_count table.style (visible_count table) + sum (visible_widths (infos_of table widths))
 
--- borders, paddings and one place for each visible column
+-- borders, paddings and one terminal column for each visible column
 abbrev pub least_total : TableValue → ℕ
 least_total table =
     border_count table.style (visible_count table) + (sum_by (λ (p : ℕ × ColumnValue). column_padding p.1) (visible_columns table) + visible_count table)
@@ -63,7 +63,7 @@ pub record IsPlainTable (table : TableValue) (widths : List ℕ) : Type 0 where
 abbrev pub NoConstraints : TableValue → Type 0
 NoConstraints table = All (λ (p : ℕ × ColumnValue). p.1.constraint ≡ None) (visible_columns table)
 
--- under `Dynamic` a line keeps to the width, or to borders, paddings and one place for each column
+-- under `Dynamic` a line keeps to the width, or to borders, paddings and one terminal column for each column
 abbrev pub KeepsToWidth : TableValue → ℕ → List ℕ → Type 0
 KeepsToWidth table w widths =
     NoConstraints table → table.arrangement ≡ Dynamic → table_width table ≡ Some w → IsArranged table widths
@@ -75,7 +75,7 @@ FillsWidth table w widths =
     NoConstraints table → table.arrangement ≡ DynamicFullWidth → table_width table ≡ Some w → 0 < visible_count table → IsArranged table widths
     → line_total table widths ≡ max w (least_total table)
 
--- with constraints, the whole widths of the fixed and lower columns stand in the place of one place and their paddings; `room` is the width less the borders
+-- with constraints, the whole widths of the fixed and lower columns stand for one terminal column and their paddings; `room` is the width less the borders
 abbrev pub least_with_steps : List ColumnNeeds → Steps → ℕ
 least_with_steps columns steps =
     sum_by (λ (column : ColumnNeeds). column.padding) columns + (total (fixed_shares (places_of columns)) + total steps.lower)

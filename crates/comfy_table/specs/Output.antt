@@ -29,7 +29,7 @@ line_in_text Trimmed line = trim_end line ++ 0x0A ∷ []
 abbrev pub new_output : OutputForm → OutputValue
 new_output form = record { form = form; lines = []; text = [] }
 
--- an output with these lines behind its own
+-- an output with these lines after its own
 abbrev pub with_lines : List Text → OutputValue → OutputValue
 with_lines more output =
     record output { lines = output.lines ++ own_lines output.form more; text = output.text ++ flat_map (line_in_text output.form) more }
@@ -40,6 +40,6 @@ pub record WriterValue : Type 0 where
   pub infos : List ColumnInfo
   pub output : OutputValue
 
--- the same with these lines behind those of its output
+-- the same with these lines after those of its output
 abbrev pub with_written : List Text → WriterValue → WriterValue
 with_written more writer = record writer { output = with_lines more writer.output }

@@ -14,13 +14,13 @@ use Rattle.comfy_table.specs.TableValue.{TableValue, should_style, header_and_ro
 abbrev pub cell_alignment : CellValue → ColumnInfo → CellAlignment
 cell_alignment cell info = unwrap_or cell.alignment (unwrap_or info.alignment Left)
 
--- of r free places, those before the line: none at the left, all at the right, half of them, rounded up, in the centre
+-- of r free terminal columns, those before the line: none at the left, all at the right, half of them, rounded up, in the centre
 abbrev pub free_before : CellAlignment → ℕ → ℕ
 free_before Left r = 0
 free_before Right r = r
 free_before Center r = (r + 1) / 2
 
--- the places that a line leaves free in a column, none where it is wider
+-- the terminal columns that a line leaves free in its column, none where it is wider
 abbrev pub free_places : ColumnInfo → Text → ℕ
 free_places info line = info.content_width - measure line
 
@@ -28,11 +28,11 @@ free_places info line = info.content_width - measure line
 abbrev pub spaces_before : CellValue → ColumnInfo → Text → Text
 spaces_before cell info line = spaces (free_before (cell_alignment cell info) (free_places info line))
 
--- the other free places
+-- the other free terminal columns
 abbrev pub spaces_after : CellValue → ColumnInfo → Text → Text
 spaces_after cell info line = spaces (free_places info line - free_before (cell_alignment cell info) (free_places info line))
 
--- left padding, the spaces before, the text in the line's place, the spaces after, right padding
+-- left padding, the spaces before, the text written for the line, the spaces after, right padding
 abbrev pub padded : CellValue → ColumnInfo → Text → Text → Text
 padded cell info line text =
     spaces info.padding.0 ++ (spaces_before cell info line ++ (text ++ (spaces_after cell info line ++ spaces info.padding.1)))

@@ -1,10 +1,10 @@
--- What a predicate answers of a number of rows and a value.
+-- What a predicate returns for a number of rows and a value.
 use Rattle.std.specs.Prelude.{◌≡◌, ℕ, Bool}
 use Rattle.std.specs.Borrow.{Bor}
 use Rattle.std.specs.Fn.{FnReturns}
 use denote.Param.Members.{Shared}
 
--- asked with this number and a reference to the value, f may answer this
+-- asked with this number and a reference to the value, f may return this
 pub record Answers {F T : Type 0} (g : Shared F (ℕ × (Bor T × Unit {0})) Bool) (f : F) (count : ℕ) (value : T) (answer : Bool) : Type 0 where
   pub shown : Bor T
   pub shows : shown.now ≡ value

@@ -12,7 +12,7 @@ use Rattle.comfy_parts.specs.declared.style.color.Color.TheVariants as colors
 abbrev pub sequence : Text → Text
 sequence code = codes "\u{1b}[" ++ (code ++ codes "m")
 
--- how a colour is written behind `38;` or `48;`: by its number of sixteen or of 256, or by its three parts
+-- how a colour is written after `38;` or `48;`: by its number of sixteen or of 256, or by its three parts
 abbrev pub color_code : Color → Text
 color_code colors.Reset = []
 color_code colors.Black = codes "5;0"
@@ -102,7 +102,7 @@ abbrev pub style_end_without_attributes : Option Color → Option Color → Text
 style_end_without_attributes background foreground =
     (if is_some background then sequence (codes "49") else []) ++ (if is_some foreground then sequence (codes "39") else [])
 
--- what stands behind a styled text: `0` where the cell has an attribute
+-- what stands after a styled text: `0` where the cell has an attribute
 abbrev pub style_end : CellValue → Text
 style_end cell =
     if length cell.attributes == 0 then style_end_without_attributes cell.background cell.foreground else sequence (codes "0")

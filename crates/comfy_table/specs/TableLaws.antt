@@ -29,7 +29,7 @@ FrameCounts table widths line =
     length widths ≡ length table.columns
     → count (frame_line table.style line (visible_widths (infos_of table widths))) ≡ line_total table widths
 
--- under `Dynamic` a frame line keeps to the width, or to borders, paddings and one place for each visible column
+-- under `Dynamic` a frame line keeps to the width, or to borders, paddings and one terminal column for each visible column
 abbrev pub FrameKeepsToWidth : TableValue → ℕ → List ℕ → LineStyle → Type 0
 FrameKeepsToWidth table w widths line =
     NoConstraints table → table.arrangement ≡ Dynamic → table_width table ≡ Some w → IsArranged table widths
@@ -43,7 +43,7 @@ FrameFillsWidth table w widths line =
 
 -- ---- totals under every constraint
 
--- borders, the whole widths of the fixed and lower columns, and the paddings and one place of each other visible column
+-- borders, the whole widths of the fixed and lower columns, and the paddings and one terminal column of each other visible column
 abbrev pub wider_total : TableValue → Steps → ℕ
 wider_total table steps = border_count table.style (visible_count table) + least_with_steps (visible_needs table) steps
 
@@ -101,18 +101,18 @@ TableLevelIsBest table w level widths =
 
 -- ---- widths of printable ASCII
 
--- under `Dynamic` and without constraints no visible column is more than three places wider than its content; a content counts at most 65535, so a wider table could give a column more
+-- under `Dynamic` and without constraints no visible column is more than three terminal columns wider than its content; a content counts at most 65535, so a wider table could give a column more
 abbrev pub IsAtMostThreeOver : TableValue → ℕ → List ℕ → Type 0
 IsAtMostThreeOver table w widths =
     w ≤ 65535 → NoConstraints table → HasPlainCells table → table.arrangement ≡ Dynamic → table_width table ≡ Some w → IsArranged table widths
     → AllZip (λ (column : ColumnNeeds) width. width ≤ column.content + 3) (visible_needs table) (visible_contents table widths)
 
--- the lines of a cell's text lines at a narrower width are those at b, each but for at most one delimiter behind it
+-- the lines of a cell's text lines at a narrower width are those at b, each but for at most one delimiter after it
 abbrev pub ShrinkingKeepsLinesOf : ℕ → ℕ → ℕ → CellValue → Type 0
 ShrinkingKeepsLinesOf narrower b d cell =
     All (λ (text : Text). AllZip (SameButOneDelimiter d) (lines_of_text narrower d text) (lines_of_text b d text)) cell.text_lines
 
--- where the longest line of a column at b leaves three places of b free, all its cells keep their lines at the width of that line
+-- where the longest line of a column at b leaves three terminal columns of b free, all its cells keep their lines at the width of that line
 abbrev pub ShrinkingKeepsCells : TableValue → ℕ × ColumnValue → ℕ → Type 0
 ShrinkingKeepsCells table p b =
     All (IsPlainCell table p.1.delimiter) (column_cells table p.0) → longest_line table p.0 p.1.delimiter b + 3 ≤ b

@@ -103,7 +103,7 @@ cells_at rows i = map (λ (row : RowValue). slice_get row.cells i) rows
 abbrev pub cells_by_row : TableValue → ℕ → List (Option CellValue)
 cells_by_row table i = cells_at table.rows i
 
--- the same behind that of the header, none where there is no header
+-- the same after that of the header, none where there is no header
 abbrev pub cells_with_header : TableValue → ℕ → List (Option CellValue)
 cells_with_header table i = option_and_then (λ (row : RowValue). slice_get row.cells i) table.header ∷ cells_by_row table i
 

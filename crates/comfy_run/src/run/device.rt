@@ -28,7 +28,7 @@ pub trait Source {
         ensures end { IfOk result (λ count. count ≡ 0 → 0 < length buffer.old → (left : List ℕ) → remaining self.old ≡ Some left → left ≡ []) }
         ensures end_read { end_was_read self.new ≡ (end_was_read self.old || is_end result (length buffer.old)) };
 
-    // behind the end there is no byte
+    // after the end there is no byte
     ghost ended: { (s : Self) → end_was_read s ≡ true → (left : List ℕ) → remaining s ≡ Some left → left ≡ [] };
 }
 

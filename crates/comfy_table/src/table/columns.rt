@@ -66,7 +66,7 @@ where
 }
 
 // Sets the constraint of the column at a position. The column is taken out of the list meanwhile: what a list holds
-// behind a builder's call on one of its elements can't be proved.
+// after a builder's call on one of its elements can't be proved.
 fn set_at(columns: &mut [Column], position: usize, constraint: ColumnConstraint)
     requires { position < length columns.old }
     ensures { (d : ColumnValue) → columns.new ≡ slice_set columns.old position (record (slice_index_or columns.old position d) { constraint = Some constraint }) }

@@ -9,7 +9,7 @@ use comfy_parts::{IntoRow, Items, Result};
 
 impl Table {
     /// Appends rows in their order, each as `add_row` does. Returns the table for further calls. After `OutOfMemory` it
-    /// has the rows before the refused one, which is dropped with those behind it. A caller's own proof knows only from
+    /// has the rows before the refused one, which is dropped with those after it. A caller's own proof knows only from
     /// `try_add_rows` that these are the first rows, and not all.
     pub fn add_rows<I>(&mut self, rows: I) -> Result<&mut Self>
     where

@@ -45,7 +45,7 @@ impl Table {
         self
     }
 
-    /// Sets the text that stands behind a line which `Row::max_height` cuts; a new table has `…`. In a column that is
+    /// Sets the text that stands after a line which `Row::max_height` cuts; a new table has `…`. In a column that is
     /// narrower than the text none stands there. Returns the table for further calls. After `OutOfMemory` the table is
     /// unchanged; a caller's own proof can use that of `try_set_truncation_indicator` only.
     pub fn set_truncation_indicator(&mut self, indicator: &str) -> Result<&mut Self>
@@ -56,7 +56,7 @@ impl Table {
         into_reference(self.with_indicator_set(indicator))
     }
 
-    /// Sets the text that stands behind a line which `Row::max_height` cuts, as `set_truncation_indicator` does. This is
+    /// Sets the text that stands after a line which `Row::max_height` cuts, as `set_truncation_indicator` does. This is
     /// for callers that go on with the table after `OutOfMemory`: then it is unchanged, and the caller's own proof can use
     /// that.
     pub fn try_set_truncation_indicator(&mut self, indicator: &str) -> Result<()>
@@ -133,7 +133,7 @@ impl Table {
         self.custom_styling
     }
 
-    // What stands behind a line that is cut.
+    // What stands after a line that is cut.
     pub(crate) fn truncation_indicator(&self) -> &str
         ensures { result.now ≡ self.now.indicator }
     {

@@ -15,7 +15,7 @@ use comfy_parts::{Cell, Result};
 use std::alloc::Global;
 use std::marker::Model;
 
-/// A line of a cell, borrowed from its text. Where the row's height cuts the cell, the indicator stands behind it.
+/// A line of a cell, borrowed from its text. Where the row's height cuts the cell, the indicator stands after it.
 #[derive(Drop)]
 pub struct Line<'a> {
     text: &'a str,
@@ -48,7 +48,7 @@ impl<'a> Line<'a> {
         Ok(())
     }
 
-    /// The columns of the line. A line that is cut is measured as one text: it is written behind this one for that, and
+    /// The columns of the line. A line that is cut is measured as one text: it is written after this one for that, and
     /// taken away again.
     pub fn width(&self, text: &mut String) -> Result<usize>
         ensures value { IfOk result (λ columns. columns ≡ measure self.now) }
@@ -160,7 +160,7 @@ impl<'a> Model for CutLine<'a> {
 #[derive(Drop)]
 pub struct CellLines<'a> {
     whole: WholeLines<'a>,
-    // where the row's height cuts the cell: how many lines stand as they are, and the line behind them
+    // where the row's height cuts the cell: how many lines stand as they are, and the line after them
     kept: usize,
     cut: Option<CutLine<'a>>,
 }

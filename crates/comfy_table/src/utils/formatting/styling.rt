@@ -81,7 +81,7 @@ fn push_foreground(line: &mut String, color: Option<Color>) -> Result<()>
     Ok(())
 }
 
-/// Appends what stands behind a styled text.
+/// Appends what stands after a styled text.
 pub(crate) fn push_style_end(line: &mut String, cell: &Cell) -> Result<()>
     ensures { OnOk result (string_bytes line.new ≡ string_bytes line.old ++ style_end cell.now) }
 {

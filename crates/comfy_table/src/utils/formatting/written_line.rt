@@ -39,7 +39,7 @@ impl<'a> WrittenLine<'a> {
         WrittenLine { line, text, closes }
     }
 
-    /// The columns of what is seen. A line that is cut is measured behind this text, which then is as before.
+    /// The columns of what is seen. A line that is cut is measured after this text, which then is as before.
     pub fn width(&self, text: &mut String) -> Result<usize>
         ensures value { IfOk result (λ columns. columns ≡ measure self.now.seen) }
         ensures stays { OnOk result (string_bytes text.new ≡ string_bytes text.old) }

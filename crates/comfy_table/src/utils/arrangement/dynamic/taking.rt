@@ -55,7 +55,7 @@ impl<'a> Takers<'a> {
         }
     }
 
-    // The position behind this one, going round.
+    // The position after this one, going round.
     fn place_behind(&self, position: usize) -> usize
         requires { position < length self.now.columns.now }
         ensures { result ≡ place_behind (length self.now.columns.now) position }
