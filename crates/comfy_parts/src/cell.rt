@@ -4,14 +4,10 @@ ghost use Rattle.std.specs.Prelude.{◌≡◌, ◌∷◌, ◌++◌, [], string_b
 ghost use Rattle.std.specs.Cmp.{partial_equiv_from_equiv};
 ghost use Rattle.comfy_parts.specs.CellEquality.{cell_eq, cell_eq_equiv, cell_hash, cell_hash_respects_eq};
 ghost use Rattle.comfy_parts.specs.CellValue.{IsCell, content_of, plain_cell};
-ghost use Rattle.comfy_parts.specs.Text.{measure};
-ghost use Rattle.comfy_parts.specs.VisibleText.{has_escape, visible_text};
-ghost use Rattle.std.specs.List.{list_any};
-ghost use Rattle.comfy_parts.specs.VisibleLines.{CellLine, line_texts};
 
+pub mod for_tables;
 mod text_lines;
 
-use crate::content_split::{ColumnDisplayInfo, written_lines};
 use crate::error::Result;
 use crate::style::{Attribute, CellAlignment, Color};
 use std::alloc::{AllocError, Global};
@@ -93,54 +89,6 @@ impl Cell {
         ensures is_cell { IsCell self.now }
     {
         self.text_lines.texts()
-    }
-
-    /// The terminal columns that each text line takes, in order. They were measured when the cell was made.
-    pub fn text_widths(&self) -> &[usize]
-        ensures { result.now ≡ map measure self.now.text_lines }
-    {
-        self.text_lines.widths()
-    }
-
-    /// What is visible of each text line, in order: the text line without its SGR sequences. It was found when the cell
-    /// was made.
-    pub fn visible_lines(&self) -> &[String]
-        ensures { map string_bytes result.now ≡ map visible_text self.now.text_lines }
-    {
-        self.text_lines.visible()
-    }
-
-    /// The terminal columns that what is visible of each text line takes, in order. They were measured when the cell was
-    /// made.
-    pub fn visible_widths(&self) -> &[usize]
-        ensures { result.now ≡ map measure (map visible_text self.now.text_lines) }
-    {
-        self.text_lines.visible_widths()
-    }
-
-    /// Whether ESC stands in the cell's text. Where it doesn't, the cell holds no sequence.
-    pub fn has_escape(&self) -> bool
-        ensures { result ≡ list_any has_escape self.now.text_lines }
-    {
-        self.text_lines.has_escape()
-    }
-
-    /// The texts that are written for the lines of the cell in a column where SGR sequences count nothing, from the top.
-    ///
-    /// The lines themselves are those of `visible_lines`, wrapped at the column's content width. A line's text begins with
-    /// the sequences that are active there, keeps those between its visible characters, and ends with `ESC[0m` where one
-    /// is open then. Sequences of earlier text lines stay active.
-    pub fn written_lines(&self, info: &ColumnDisplayInfo, delimiter: char) -> Result<Vec<String>>
-        ensures { IfOk result (λ texts. map string_bytes texts.items ≡ map (λ (line : CellLine). line.written) (line_texts info.now.content_width delimiter self.now.text_lines)) }
-    {
-        written_lines(
-            *self.attributes.allocator(),
-            self.text_lines(),
-            self.visible_lines(),
-            self.visible_widths(),
-            info,
-            delimiter,
-        )
     }
 
     /// Sets the character at which the cell's texts may break, whatever its column and its table have.

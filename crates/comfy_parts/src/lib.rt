@@ -13,7 +13,7 @@ pub mod laws;
 pub mod row;
 pub mod style;
 
-pub use cell::Cell;
+pub use cell::{Cell, for_tables};
 pub use column::Column;
 pub use convert::{Cells, IntoCell, IntoCells, IntoRow, Items};
 pub use error::{Result, TableError};

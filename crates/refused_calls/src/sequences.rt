@@ -2,9 +2,8 @@
 
 use crate::borrowing::outcome_on;
 use crate::outcome::Outcome;
-use comfy_table::utils::ColumnDisplayInfo;
 use comfy_table::utils::formatting::content_split::visible_text;
-use comfy_table::{Cell, Column, ContentArrangement, Result, Table};
+use comfy_table::{Cell, ContentArrangement, Result, Table};
 use std::alloc::Global;
 
 const TEXT: &str = "\u{1b}[1mabcdef\u{1b}[0m";
@@ -22,16 +21,9 @@ pub fn outcome_of(alloc: Global, name: &str) -> Result<Outcome> {
     match name.split_once("::") {
         Some(("Table", call)) => outcome_on(&bold_table(alloc)?, &BOLD, call),
         Some(("Cell", "new")) => Ok(Outcome::of(Cell::new(alloc, TEXT).is_ok())),
-        Some(("Cell", "written_lines")) => written_lines(alloc),
         None if name == "visible_text" => Ok(Outcome::of(visible_text(alloc, TEXT).is_ok())),
         _ => Ok(Outcome::Unknown),
     }
-}
-
-fn written_lines(alloc: Global) -> Result<Outcome> {
-    let cell = Cell::new(alloc, TEXT)?;
-    let info = ColumnDisplayInfo::new(&Column::new(0), 3);
-    Ok(Outcome::of(cell.written_lines(&info, ' ').is_ok()))
 }
 
 // A table of one bold cell, in a width that takes three of its characters.

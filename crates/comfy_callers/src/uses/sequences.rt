@@ -9,6 +9,7 @@ ghost use Rattle.comfy_table.specs.Laws.{CutLinesAreClosed, IsFreeOfEscapes, Lin
 ghost use Rattle.comfy_callers.specs.Uses.{IsDrawnWithCells, IsPlainDrawing};
 
 use comfy_parts::content_split::leaves_sequence_open;
+use comfy_parts::for_tables::{has_escape, visible_lines, visible_widths, written_lines};
 use comfy_table::utils::formatting::content_split::ColumnDisplayInfo;
 use comfy_table::{Cell, Lines, Result, Table};
 use std::alloc::Global;
@@ -61,34 +62,34 @@ pub fn closed_text(alloc: Global, text: &str) -> Result<String>
 pub fn seen_counts(cell: &Cell) -> (usize, usize)
     ensures { result ≡ (length cell.now.text_lines, length cell.now.text_lines) }
 {
-    (cell.visible_lines().len(), cell.visible_widths().len())
+    (visible_lines(cell).len(), visible_widths(cell).len())
 }
 
 /// The terminal columns that are seen of the first text line of a cell.
 pub fn first_seen_width(cell: &Cell) -> Option<usize>
     ensures { result ≡ slice_get (map measure (map visible_text cell.now.text_lines)) 0 }
 {
-    cell.visible_widths().first().copied()
+    visible_widths(cell).first().copied()
 }
 
 /// What is seen of a text line of a cell, copied.
-pub fn seen_text(alloc: Global, cell: &Cell, place: usize) -> Result<String>
-    requires { place < length cell.now.text_lines }
-    ensures { IfOk result (λ text. slice_get (map visible_text cell.now.text_lines) place ≡ Some (string_bytes text)) }
+pub fn seen_text(alloc: Global, cell: &Cell, position: usize) -> Result<String>
+    requires { position < length cell.now.text_lines }
+    ensures { IfOk result (λ text. slice_get (map visible_text cell.now.text_lines) position ≡ Some (string_bytes text)) }
 {
-    Ok(String::from_str(alloc, cell.visible_lines()[place].as_str())?)
+    Ok(String::from_str(alloc, visible_lines(cell)[position].as_str())?)
 }
 
 /// Whether no ESC stands in a cell, so that it is written as it is.
 pub fn is_written_as_it_is(cell: &Cell) -> bool
     ensures { result ≡ not (list_any has_escape cell.now.text_lines) }
 {
-    !cell.has_escape()
+    !has_escape(cell)
 }
 
 /// How many lines are written for a cell in a column of its own delimiter.
 pub fn written_height(cell: &Cell, info: &ColumnDisplayInfo) -> Result<usize>
     ensures { IfOk result (λ height. height ≡ length (line_texts info.now.content_width 44 cell.now.text_lines)) }
 {
-    Ok(cell.written_lines(info, ',')?.len())
+    Ok(written_lines(cell, info, ',')?.len())
 }

@@ -2,6 +2,7 @@
 
 use super::support::assert_texts;
 use comfy_parts::content_split::{ColumnDisplayInfo, leaves_sequence_open, visible_text};
+use comfy_parts::for_tables::{has_escape, visible_lines, visible_widths, written_lines};
 use comfy_parts::{Cell, Column};
 use std::test::Fail;
 
@@ -48,9 +49,9 @@ fn only_the_reset_closes_a_text(rt: HostRuntime) -> Result<(), Fail> {
 fn a_cell_has_both_of_its_texts(rt: HostRuntime) -> Result<(), Fail> {
     let cell = Cell::new(rt.alloc(), CARRIED)?;
     assert_eq!(rt; cell.content()?.as_str(), CARRIED);
-    assert_texts(&rt, cell.visible_lines(), &["hello123", "456cell1"], "seen");
-    assert_eq!(rt; cell.visible_widths(), [8usize, 8].as_slice());
-    assert!(rt; cell.has_escape());
+    assert_texts(&rt, visible_lines(&cell), &["hello123", "456cell1"], "seen");
+    assert_eq!(rt; visible_widths(&cell), [8usize, 8].as_slice());
+    assert!(rt; has_escape(&cell));
     Ok(())
 }
 
@@ -59,7 +60,7 @@ fn a_cell_has_both_of_its_texts(rt: HostRuntime) -> Result<(), Fail> {
 fn lines_are_written_with_their_sequences(rt: HostRuntime) -> Result<(), Fail> {
     let cell = Cell::new(rt.alloc(), CARRIED)?;
     let info = ColumnDisplayInfo::new(&Column::new(0), 8);
-    let lines = cell.written_lines(&info, ' ')?;
+    let lines = written_lines(&cell, &info, ' ')?;
     let wanted = [
         "hello\u{1b}[34m\u{1b}[2m123\u{1b}[0m",
         "\u{1b}[34m\u{1b}[2m456\u{1b}[0mcell1",

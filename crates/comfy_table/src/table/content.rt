@@ -7,6 +7,7 @@ ghost use Rattle.comfy_table.specs.Contents.{row_content_width, rows_content_wid
 
 use crate::table::Table;
 use crate::table::column_cells::cell_at;
+use comfy_parts::for_tables::{text_widths, visible_lines, visible_widths};
 use comfy_parts::{Cell, Result, Row};
 
 /// The greatest measure, in terminal columns, of a text line of the column at a position, over header and rows. Each
@@ -27,7 +28,7 @@ impl Table {
         ensures { map string_bytes result.now ≡ (seen_cell self.now cell.now).text_lines }
     {
         if self.custom_styling {
-            cell.visible_lines()
+            visible_lines(cell)
         } else {
             cell.text_lines()
         }
@@ -38,9 +39,9 @@ impl Table {
         ensures { result.now ≡ map measure (seen_cell self.now cell.now).text_lines }
     {
         if self.custom_styling {
-            cell.visible_widths()
+            visible_widths(cell)
         } else {
-            cell.text_widths()
+            text_widths(cell)
         }
     }
 

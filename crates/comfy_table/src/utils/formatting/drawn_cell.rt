@@ -12,6 +12,7 @@ use crate::utils::formatting::cell_lines::{CellLines, cell_lines, cut_to_limit, 
 use crate::utils::formatting::piece::{push_piece, push_spaces};
 use crate::utils::formatting::written_line::WrittenLine;
 use comfy_parts::content_split::ColumnDisplayInfo;
+use comfy_parts::for_tables::{has_escape, written_lines};
 use comfy_parts::{Cell, Result, Row};
 use std::marker::Model;
 
@@ -153,10 +154,10 @@ fn row_cell_texts(
     let Some(cell) = cell else {
         return Ok(Vec::new(alloc));
     };
-    if !table.custom_styling || !cell.has_escape() {
+    if !table.custom_styling || !has_escape(cell) {
         return Ok(Vec::new(alloc));
     }
-    let texts = cell.written_lines(info, table.delimiter_of(cell, info.delimiter))?;
+    let texts = written_lines(cell, info, table.delimiter_of(cell, info.delimiter))?;
     Ok(uncut_texts(texts, row.height_limit()))
 }
 

@@ -1,0 +1,59 @@
+//! What a table reads of its cells to draw them: the widths of their text lines, what is visible of these, and what is
+//! written for their lines. It is public for the crate of tables, and whoever calls that needs none of it.
+
+ghost use Rattle.std.specs.Prelude.{◌≡◌, IfOk, map, string_bytes};
+ghost use Rattle.std.specs.List.{list_any};
+ghost use Rattle.comfy_parts.specs.Text.{measure};
+ghost use Rattle.comfy_parts.specs.VisibleLines.{CellLine, line_texts};
+ghost use Rattle.comfy_parts.specs.VisibleText.{has_escape, visible_text};
+
+use crate::cell::Cell;
+use crate::content_split::ColumnDisplayInfo;
+use crate::error::Result;
+
+/// The terminal columns that each text line takes, in order. They were measured when the cell was made.
+pub fn text_widths(cell: &Cell) -> &[usize]
+    ensures { result.now ≡ map measure cell.now.text_lines }
+{
+    cell.text_lines.widths()
+}
+
+/// What is visible of each text line, in order: the text line without its SGR sequences. It was found when the cell was
+/// made.
+pub fn visible_lines(cell: &Cell) -> &[String]
+    ensures { map string_bytes result.now ≡ map visible_text cell.now.text_lines }
+{
+    cell.text_lines.visible()
+}
+
+/// The terminal columns that what is visible of each text line takes, in order. They were measured when the cell was made.
+pub fn visible_widths(cell: &Cell) -> &[usize]
+    ensures { result.now ≡ map measure (map visible_text cell.now.text_lines) }
+{
+    cell.text_lines.visible_widths()
+}
+
+/// Whether ESC stands in the cell's text. Where it doesn't, the cell holds no sequence.
+pub fn has_escape(cell: &Cell) -> bool
+    ensures { result ≡ list_any has_escape cell.now.text_lines }
+{
+    cell.text_lines.has_escape()
+}
+
+/// The texts that are written for the lines of the cell in a column where SGR sequences count nothing, from the top.
+///
+/// The lines themselves are those of `visible_lines`, wrapped at the column's content width. A line's text begins with
+/// the sequences that are active there, keeps those between its visible characters, and ends with `ESC[0m` where one
+/// is open then. Sequences of earlier text lines stay active.
+pub fn written_lines(cell: &Cell, info: &ColumnDisplayInfo, delimiter: char) -> Result<Vec<String>>
+    ensures { IfOk result (λ texts. map string_bytes texts.items ≡ map (λ (line : CellLine). line.written) (line_texts info.now.content_width delimiter cell.now.text_lines)) }
+{
+    crate::content_split::written_lines(
+        *cell.attributes.allocator(),
+        cell.text_lines(),
+        visible_lines(cell),
+        visible_widths(cell),
+        info,
+        delimiter,
+    )
+}
