@@ -15,9 +15,9 @@ use Rattle.comfy_parts.proofs.ElementLemmas.{elements-none, elements-first}
 use Rattle.comfy_parts.proofs.FollowingLemmas.{first-none, first-rest, line_end-narrow, line_end-wide, some_elements}
 use Rattle.comfy_parts.proofs.PlaceLemmas.{scalars-parts}
 use Rattle.comfy_parts.proofs.WrappingLemmas.{one_character}
-use Rattle.comfy_parts.specs.Following.{Follow, IsFirstElement, bytes_taken, part_taken}
+use Rattle.comfy_parts.specs.Following.{Follow, IsFirstElement}
 use Rattle.comfy_parts.specs.Text.{Text, measure, head, elements}
-use Rattle.comfy_parts.specs.Wrapping.{IsWrapped, head_or_first, line_end}
+use Rattle.comfy_parts.specs.Wrapping.{IsWrapped, bytes_taken, head_or_first, line_end, part_taken}
 use Rattle.comfy_parts.proofs.SpaceMeasureLemmas.{measure-nil}
 use Rattle.comfy_parts.specs.Columns.{AddsOneColumn}
 

@@ -1,7 +1,7 @@
--- An element at a text's front, what follows it, and how much of that a line takes.
-use Rattle.std.specs.Prelude.{◌≡◌, ◌⊎◌, ℕ, ◌+◌, ◌-◌, ◌<◌, ◌≤◌, nat_lt, nat_le, ◌&&◌, List, [], ◌∷◌, ◌++◌, length, take, drop, false, encode_utf8, if◌then◌else◌, IsUtf8}
+-- An element at a text's front, and what follows it.
+use Rattle.std.specs.Prelude.{◌≡◌, ◌⊎◌, ℕ, ◌<◌, ◌≤◌, List, [], ◌∷◌, ◌++◌, length, take, drop, false, encode_utf8, IsUtf8}
 use Rattle.std.specs.Str.{IsCharBoundary}
-use Rattle.comfy_parts.specs.Text.{Text, measure, head, elements, begins_with}
+use Rattle.comfy_parts.specs.Text.{Text, measure, elements, begins_with}
 
 -- what follows an element: a delimiter and a text of these elements, or nothing where there are none
 abbrev pub Follow : ℕ → List Text → Text → Type 0
@@ -39,16 +39,3 @@ pub record IsAtLine (w d : ℕ) (text : Text) (first places shown : ℕ) : Type 
   pub element : IsFirstElement d text (take first text) (drop first text)
   pub places_are : ArePlacesUpTo w places (take first text)
   pub wide_from : IsWideFrom w shown (take first text)
-
--- the bytes of the next element that a line of w places takes, with the delimiter before it, where not the whole element has room
-abbrev pub part_taken : ℕ → ℕ → ℕ → Text → ℕ
-part_taken w d filled next =
-    if nat_lt w (measure next) && nat_le (filled + 4) w then length (encode_utf8 d) + length (head (w - filled - 1) next) else 0
-
--- the bytes that a line of w places takes behind an element up to which it has filled so many places, where these elements follow
-abbrev pub bytes_taken : ℕ → ℕ → ℕ → List Text → ℕ
-bytes_taken w d filled [] = 0
-bytes_taken w d filled (next ∷ others) =
-    if nat_lt (w - 2) filled then 0
-    else if nat_lt w (filled + 1 + measure next) then part_taken w d filled next
-    else length (encode_utf8 d) + length next + bytes_taken w d (filled + measure next + measure (encode_utf8 d)) others
