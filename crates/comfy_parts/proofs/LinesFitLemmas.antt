@@ -1,19 +1,20 @@
 -- Wrapped lines fit their column, where the words that are wider than it are cut well.
-use Rattle.std.proofs.Common.{◌≡◌, ◌<◌, ◌≤◌, ◌⊎◌, inl, inr, ℕ, zero, suc, ◌+◌, ◌-◌, Bool, true, false, ◌&&◌, ◌==◌, List, [], ◌∷◌, ◌++◌, length, take, nat_le, nat_lt, refl, sym, ap, ap₂, ◌∙◌, subst, arith, append-nil, append_assoc, length-append, eqb-true, replicate}
+use Rattle.std.proofs.Common.{◌≡◌, ◌<◌, ◌≤◌, ℕ, zero, suc, ◌+◌, ◌-◌, Bool, true, false, ◌&&◌, ◌==◌, List, [], ◌∷◌, ◌++◌, length, map, nat_le, nat_lt, refl, sym, ap, ◌∙◌, subst, arith, append-nil, append_assoc, length-append, eqb-true, replicate}
 use Rattle.std.specs.Char.{IsScalar}
-use Rattle.std.specs.List.{All}
-use Rattle.std.specs.Prelude.{if◌then◌else◌, encode_utf8, encode_utf8_all, IsUtf8}
-use Rattle.std.specs.Str.{all_scalars, NonePass, NoCharPasses}
-use Rattle.std.proofs.Math.Seq.{take-append_seam}
+use Rattle.std.specs.List.{All, slice_split}
+use Rattle.std.specs.Prelude.{if◌then◌else◌, chars, encode_utf8, encode_utf8_all, IsUtf8}
+use Rattle.std.specs.Str.{all_scalars}
 use Rattle.std.proofs.lemmas.Bool.{and_parts}
 use Rattle.std.proofs.lemmas.Bool.Decides.{nat_tests}
 use Rattle.std.proofs.lemmas.List.{append_cancel_left}
 use Rattle.std.proofs.lemmas.List.Elements.{All-cons, All-nil, All-head, All-tail}
-use Rattle.std.proofs.lemmas.Str.{encodes-append, IsUtf8-append, IsUtf8-nil}
+use Rattle.std.proofs.lemmas.Str.{chars-encodes, encodes-append, encodes-chars, scalars-chars, IsUtf8-append, IsUtf8-nil}
 use Rattle.unicode_segmentation.proofs.TextLemmas.{encode_utf8_nonempty, IsUtf8-after}
 use Rattle.comfy_parts.proofs.ElementLemmas.{elements-none, elements-first}
-use Rattle.comfy_parts.proofs.FollowingLemmas.{first-none, first-rest, line_end-narrow, line_end-wide, some_elements}
+use Rattle.comfy_parts.proofs.FollowingLemmas.{first-rest, line_end-narrow, line_end-wide}
 use Rattle.comfy_parts.proofs.PlaceLemmas.{scalars-parts}
+use Rattle.comfy_parts.proofs.EndLemmas.{same_front}
+use Rattle.comfy_parts.proofs.PartLemmas.{AreNext, first_part}
 use Rattle.comfy_parts.proofs.WrappingLemmas.{one_character}
 use Rattle.comfy_parts.specs.Following.{Follow, IsFirstElement}
 use Rattle.comfy_parts.specs.Text.{Text, measure, head, elements}
@@ -28,60 +29,31 @@ pub record IsFittingLine (w : ℕ) (line : Text) : Type 0 where
 
 -- ---- the first element of every text
 
--- the characters before the first delimiter, and those from it on
-record IsRun (d : ℕ) (cs : List ℕ) : Type 0 where
-  run : List ℕ
-  more : List ℕ
-  none : NonePass (λ c. c == d) run
-  splits : cs ≡ run ++ more
-  ends : (more ≡ []) ⊎ ((rest : List ℕ) × (more ≡ d ∷ rest))
-
-first_run : (d : ℕ) (cs : List ℕ) → IsRun d cs
-first_run d [] = record { run = []; more = []; none = tt; splits = refl; ends = inl refl }
-first_run d (c ∷ cs) = by_test (c == d) refl (first_run d cs)
-  where
-    by_test : (b : Bool) → (c == d) ≡ b → IsRun d cs → IsRun d (c ∷ cs)
-    by_test true same rest =
-        record { run = []; more = c ∷ cs; none = tt; splits = refl; ends = inr (cs, ap (λ x. x ∷ cs) (eqb-true c d same)) }
-    by_test false other rest =
-        record { run = c ∷ rest.run; more = rest.more; none = (other, rest.none); splits = ap (λ xs. c ∷ xs) rest.splits; ends = rest.ends }
-
 record HasFirst (d : ℕ) (text : Text) : Type 0 where
   first : Text
   behind : Text
   is : IsFirstElement d text first behind
 
--- an element and what follows it, where a delimiter stands between
-first-before : (d : ℕ) (front rest : Text) → IsScalar d → IsUtf8 front → IsUtf8 rest → NoCharPasses (λ c. c == d) front → IsFirstElement d (front ++ (encode_utf8 d ++ rest)) front (encode_utf8 d ++ rest)
-first-before d front rest scalar utf8 utf8' none =
-    record { others = elements d rest; elements_are = elements-first d front rest scalar utf8 none; follow = by_elements (elements d rest) refl; joined = refl; whole_first = utf8; whole_behind = IsUtf8-append (encode_utf8 d) rest (one_character d scalar).0 utf8' }
-  where
-    by_elements : (es : List Text) → elements d rest ≡ es → Follow d es (encode_utf8 d ++ rest)
-    by_elements [] none = absurd (omega (arith, ap length none, some_elements d rest))
-    by_elements (e ∷ es) some = (rest, refl, some)
+-- after a first part stands what the later elements spell
+follow-parts : (d : ℕ) (parts : List (List ℕ)) (rest : List ℕ) → all_scalars rest ≡ true → AreNext (λ c. c == d) parts rest → Follow d (map encode_utf8_all parts) (encode_utf8_all rest)
+follow-parts d [] rest scalars nothing = ap encode_utf8_all nothing
+follow-parts d (part ∷ parts) rest scalars (c, cs, is, delimiter, are) =
+    let whole = (scalars-parts (c ∷ []) cs (ap all_scalars (sym is) ∙ scalars)).1 in (
+      encode_utf8_all cs,
+      ap encode_utf8_all is ∙ ap (λ x. encode_utf8 x ++ encode_utf8_all cs) (eqb-true c d delimiter),
+      ap (λ xs. map encode_utf8_all (slice_split (λ c. c == d) xs)) (chars-encodes cs whole) ∙ ap (map encode_utf8_all) are,
+    )
 
 -- every text has a first element
-first_exists : (d : ℕ) (text : Text) → IsScalar d → IsUtf8 text → HasFirst d text
-first_exists d text scalar (cs, (scalars, spelt)) = by_ends (first_run d cs).ends
-  where
-    it : IsRun d cs
-    it = first_run d cs
-
-    parts : (all_scalars it.run ≡ true) × (all_scalars it.more ≡ true)
-    parts = scalars-parts it.run it.more (sym (ap all_scalars it.splits) ∙ scalars)
-
-    by_ends : (it.more ≡ []) ⊎ ((rest : List ℕ) × (it.more ≡ d ∷ rest)) → HasFirst d text
-    by_ends (inl nothing) =
-        let whole : encode_utf8_all it.run ≡ text = sym (ap encode_utf8_all (it.splits ∙ ap (λ xs. it.run ++ xs) nothing ∙ append-nil it.run)) ∙ spelt in
-        record { first = text; behind = []; is = first-none d text (cs, (scalars, spelt)) (it.run, whole, it.none) }
-    by_ends (inr (rest, delimiter)) =
-        let splits : encode_utf8_all it.run ++ (encode_utf8 d ++ encode_utf8_all rest) ≡ text = sym (encodes-append it.run (d ∷ rest)) ∙ ap (λ xs. encode_utf8_all (it.run ++ xs)) (sym delimiter) ∙ sym (ap encode_utf8_all it.splits) ∙ spelt in
-        let behind : all_scalars rest ≡ true = (scalars-parts (d ∷ []) rest (ap all_scalars (sym delimiter) ∙ parts.1)).1 in
-        record {
-          first = encode_utf8_all it.run;
-          behind = encode_utf8 d ++ encode_utf8_all rest;
-          is = subst (λ t. IsFirstElement d t (encode_utf8_all it.run) (encode_utf8 d ++ encode_utf8_all rest)) splits (first-before d (encode_utf8_all it.run) (encode_utf8_all rest) scalar (it.run, (parts.0, refl)) (rest, (behind, refl)) (it.run, refl, it.none));
-        }
+first_exists : (d : ℕ) (text : Text) → IsUtf8 text → HasFirst d text
+first_exists d text utf8 =
+    let has = first_part (λ c. c == d) (chars text) in
+    let parts = scalars-parts has.part has.is.rest (sym (ap all_scalars has.is.splits) ∙ scalars-chars text utf8) in
+    record {
+      first = encode_utf8_all has.part;
+      behind = encode_utf8_all has.is.rest;
+      is = record { others = map encode_utf8_all has.parts; elements_are = ap (map encode_utf8_all) has.are; follow = follow-parts d has.parts has.is.rest parts.1 has.is.next; joined = sym (encodes-append has.part has.is.rest) ∙ ap encode_utf8_all (sym has.is.splits) ∙ encodes-chars text utf8; whole_first = (has.part, (parts.0, refl)); whole_behind = (has.is.rest, (parts.1, refl)) };
+    }
 
 -- one list of elements follows
 follow-same : (d : ℕ) (xs ys : List Text) (behind : Text) → Follow d xs behind → Follow d ys behind → xs ≡ ys
@@ -161,7 +133,7 @@ module _ (w d : ℕ) (Word : Text → Type 0) (breaks : BreaksWell w Word) (scal
       whole_more = IsUtf8-after behind (encode_utf8 d) more whole (one_character d scalar).0 splits
 
       first : HasFirst d more
-      first = first_exists d more scalar whole_more
+      first = first_exists d more whole_more
 
       both : first.first ∷ first.is.others ≡ next ∷ others
       both = sym first.is.elements_are ∙ parts
@@ -234,17 +206,11 @@ module _ (w d : ℕ) (Word : Text → Type 0) (breaks : BreaksWell w Word) (scal
     whole : IsUtf8 tail
     keeps : Words tail
 
-  -- a front of a text that has the line's bytes is the line
-  same_line : (line tail front rest : Text) → line ++ tail ≡ front ++ rest → length front ≡ length line → (line ≡ front) × (tail ≡ rest)
-  same_line line tail front rest same bytes =
-      let first : line ≡ front = sym (take-append_seam line tail) ∙ ap₂ (λ n (t : Text). take n t) (sym bytes) same ∙ take-append_seam front rest in
-      (first, append_cancel_left front tail rest (ap (λ t. t ++ tail) (sym first) ∙ same))
-
   line_fits : (line tail : Text) → IsUtf8 (line ++ tail) → Words (line ++ tail) → length line ≡ line_end w d (line ++ tail) → IsLineThatFits line tail
   line_fits line tail utf8 words ends = by_width (nat_lt w (measure has.first)) refl
     where
       has : HasFirst d (line ++ tail)
-      has = first_exists d (line ++ tail) scalar utf8
+      has = first_exists d (line ++ tail) utf8
 
       is : IsFirstElement d (line ++ tail) has.first has.behind
       is = has.is
@@ -260,7 +226,7 @@ module _ (w d : ℕ) (Word : Text → Type 0) (breaks : BreaksWell w Word) (scal
           let front = head_or_first w has.first in
           let cut = breaks.first has.first word is.whole_first (grind (arith, nat_tests, wide)) in
           let splits : line ++ tail ≡ front ++ (cut.rest ++ has.behind) = sym is.joined ∙ ap (λ t. t ++ has.behind) cut.splits ∙ append_assoc front cut.rest has.behind in
-          let same = same_line line tail front (cut.rest ++ has.behind) splits (sym (ends ∙ line_end-wide w d (line ++ tail) has.first has.behind is wide)) in
+          let same = same_front line tail front (cut.rest ++ has.behind) splits (ends ∙ line_end-wide w d (line ++ tail) has.first has.behind is wide) in
           let after : IsFirstElement d (cut.rest ++ has.behind) cut.rest has.behind = first-rest d (line ++ tail) front cut.rest has.behind cut.whole_front cut.whole_rest (subst (λ t. IsFirstElement d (line ++ tail) t has.behind) cut.splits is) in
           record {
             fits = subst (λ t. measure t ≤ w) (sym same.0) cut.fits;
@@ -272,7 +238,7 @@ module _ (w d : ℕ) (Word : Text → Type 0) (breaks : BreaksWell w Word) (scal
           let further = takes (measure has.first) is.others has.behind is.follow is.whole_behind (All-tail Word has.first is.others all) room in
           let splits : line ++ tail ≡ (has.first ++ further.taken) ++ further.rest = sym is.joined ∙ ap (λ t. has.first ++ t) further.splits ∙ sym (append_assoc has.first further.taken further.rest) in
           let bytes : length (has.first ++ further.taken) ≡ length line = length-append has.first further.taken ∙ ap (λ n. length has.first + n) further.bytes ∙ sym (ends ∙ line_end-narrow w d (line ++ tail) has.first has.behind is narrow) in
-          let same = same_line line tail (has.first ++ further.taken) further.rest splits bytes in
+          let same = same_front line tail (has.first ++ further.taken) further.rest splits (sym bytes) in
           record {
             fits = subst (λ t. measure t ≤ w) (sym same.0) (further.fits has.first is.whole_first refl);
             whole = subst IsUtf8 (sym same.1) further.whole_rest;
