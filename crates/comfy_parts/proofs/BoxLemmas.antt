@@ -1,7 +1,7 @@
 -- The characters of all presets add one column wherever they stand.
 use Rattle.std.proofs.Common.{◌≡◌, ℕ, ◌+◌, ◌-◌, ◌==◌, ◌&&◌, ◌||◌, nat_le, Bool, true, false, cond, not, None, refl, sym, ap, ap₂, ◌∙◌, subst, arith}
 use Rattle.std.specs.Int.{is_in_range}
-use Rattle.std.proofs.lemmas.Bool.{and_parts}
+use Rattle.std.proofs.lemmas.Bool.{and_parts, cond_both}
 use Rattle.std.proofs.lemmas.Bool.Decides.{nat_tests}
 use Rattle.ucd_table.proofs.TrieCheck.{all_below, all_below-at}
 use Rattle.unicode_width.specs.declared.kind.Kind.{Kind}
@@ -179,11 +179,8 @@ past_emoji-lone c n s box lone =
     let feed : (c == 0x0A) ≡ false = grind (arith, nat_tests, box) in
     let return : (c == 0x0D) ≡ false = grind (arith, nat_tests, box) in
     let high : nat_le c 0xA0 ≡ false = grind (arith, nat_tests, box) in
-    rw (feed, return, high) (by_state (is_plain s))
-  where
-    by_state : (b : Bool) → cond b (n + (alone false c).0, (alone false c).1) (in_context false c n s) ≡ (n + 1, plain)
-    by_state true = ap (λ (own : ℕ × State). (n + own.0, own.1)) lone.alone
-    by_state false = in_context-lone c n s box lone
+    rw (feed, return, high)
+    (cond_both (is_plain s) _ _ (λ next. next ≡ (n + 1, plain)) (λ _. ap (λ (own : ℕ × State). (n + own.0, own.1)) lone.alone) (λ _. in_context-lone c n s box lone))
 
 -- so each lone character in this range adds one column
 lone_seals : (c : ℕ) → (is_in_range 0x2500 0x259F c || (c == 0x2026)) ≡ true → IsLone c → Seals c

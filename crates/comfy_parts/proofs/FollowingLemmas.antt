@@ -1,12 +1,14 @@
 -- The first element of a text by its first delimiter, and the end of a line by what follows its first element.
-use Rattle.std.proofs.Common.{◌≡◌, ◌<◌, ◌≤◌, ℕ, ◌+◌, ◌-◌, Bool, true, false, ◌==◌, cond, List, [], ◌∷◌, ◌++◌, length, take, drop, Some, None, map, nat_lt, refl, sym, ap, ap₂, ◌∙◌, subst, arith, append-nil, length-append, take_at, drop_at}
+use Rattle.std.proofs.Common.{◌≡◌, ◌<◌, ◌≤◌, ℕ, ◌+◌, ◌-◌, Bool, true, false, ◌==◌, List, [], ◌∷◌, ◌++◌, length, take, drop, Some, None, map, nat_lt, refl, sym, ap, ap₂, ◌∙◌, subst, arith, append-nil, length-append, take_at, drop_at}
 use Rattle.std.specs.Char.{IsScalar}
 use Rattle.std.specs.List.{slice_split, onto_first}
 use Rattle.std.specs.Prelude.{chars, encode_utf8, encode_utf8_all, IsUtf8}
 use Rattle.std.specs.Str.{all_scalars, IsCharBoundary, NoCharPasses}
 use Rattle.std.specs.Str.Pattern.{FindsChar, FindsCharPrefix, SplitsAroundMatch, StripsPrefix}
 use Rattle.std.proofs.Math.Seq.{take-add}
-use Rattle.std.proofs.lemmas.Bool.{cond-true, cond-false}
+use Rattle.std.proofs.lemmas.Bool.{cond-true, cond-false, cond_both, false_from_ne_true}
+use Rattle.std.proofs.lemmas.List.Splits.{slice_split-cons_yes}
+use Rattle.comfy_parts.proofs.PartLemmas.{first_part}
 use Rattle.std.proofs.lemmas.Bool.Decides.{nat_tests}
 use Rattle.std.proofs.lemmas.List.{append_assoc, append_cancel_left, take-append-drop, length-map, length-drop, length-take-le}
 use Rattle.std.proofs.lemmas.Str.{IsUtf8-nil, IsUtf8-take, IsUtf8-drop, IsUtf8-between, IsCharBoundary-at_seam, chars-append, encodes-append, encodes-chars, encodes_same}
@@ -93,18 +95,18 @@ follow-none d (e ∷ es) rest (more, same, parts) absent = absurd (absent more s
 -- behind the front of its first part, a list has the rest of that part and the other parts
 slice_split-rest : (p : ℕ → Bool) (xs ys zs : List ℕ) (parts : List (List ℕ)) → slice_split p (xs ++ ys) ≡ (xs ++ zs) ∷ parts → slice_split p ys ≡ zs ∷ parts
 slice_split-rest p [] ys zs parts same = same
-slice_split-rest p (x ∷ xs) ys zs parts same = by_test (p x) (slice_split p (xs ++ ys)) (some_parts p (xs ++ ys)) same (slice_split-rest p xs ys zs parts)
+slice_split-rest p (x ∷ xs) ys zs parts same =
+    let first = first_part p (xs ++ ys) in
+    cond_both (p x) _ _ (λ split. split ≡ (x ∷ (xs ++ zs)) ∷ parts → slice_split p ys ≡ zs ∷ parts) (λ _ same. absurd (nothing same))
+    (λ _ same. slice_split-rest p xs ys zs parts (first.are ∙ rest first.part first.parts (sym (ap (onto_first x) first.are) ∙ same))) same
   where
-    by_test : (b : Bool) (split : List (List ℕ)) → 0 < length split → cond b ([] ∷ split) (onto_first x split) ≡ (x ∷ (xs ++ zs)) ∷ parts
-        → (split ≡ (xs ++ zs) ∷ parts → slice_split p ys ≡ zs ∷ parts) → slice_split p ys ≡ zs ∷ parts
-    by_test true split some same rest =
-        let nothing : [] ≡ x ∷ (xs ++ zs) = cc same in
-        absurd (omega (arith, ap length nothing))
-    by_test false [] some same rest = absurd (omega arith)
-    by_test false (q ∷ qs) some same rest =
-        let first : q ≡ xs ++ zs = cc same in
-        let others : qs ≡ parts = cc same in
-        rest (ap₂ (λ a b. a ∷ b) first others)
+    nothing : {split : List (List ℕ)} → [] ∷ split ≡ (x ∷ (xs ++ zs)) ∷ parts → ⊥
+    nothing same =
+        let empty : [] ≡ x ∷ (xs ++ zs) = cc same in
+        omega (arith, ap length empty)
+
+    rest : (q : List ℕ) (qs : List (List ℕ)) → (x ∷ q) ∷ qs ≡ (x ∷ (xs ++ zs)) ∷ parts → q ∷ qs ≡ (xs ++ zs) ∷ parts
+    rest q qs same = cc same
 
 -- where a text is cut inside its first element, the rest of that element is the first of what is behind
 pub first-rest : (d : ℕ) (text front rest behind : Text) → IsUtf8 front → IsUtf8 rest → IsFirstElement d text (front ++ rest) behind → IsFirstElement d (rest ++ behind) rest behind
@@ -129,18 +131,15 @@ first-rest d text front rest behind utf8 utf8' first = by_parts (slice_split (λ
 pub begins_otherwise-first : (d : ℕ) (text first behind : Text) → IsUtf8 text → IsFirstElement d text first behind → 0 < length first → begins_with d text ≡ false
 begins_otherwise-first d text first behind utf8 is some = by_characters (chars text) refl
   where
-    by_test : (b : Bool) (c : ℕ) (cs : List ℕ) → chars text ≡ c ∷ cs → (c == d) ≡ b → b ≡ false
-    by_test true c cs characters delimiter =
-        let parts : slice_split (λ c. c == d) (chars text) ≡ [] ∷ slice_split (λ c. c == d) cs =
-        ap (slice_split (λ c. c == d)) characters ∙ ap (λ b. cond b ([] ∷ slice_split (λ c. c == d) cs) (onto_first c (slice_split (λ c. c == d) cs))) delimiter in
-        let both : [] ∷ map encode_utf8_all (slice_split (λ c. c == d) cs) ≡ first ∷ is.others = sym (ap (map encode_utf8_all) parts) ∙ is.elements_are in
-        let nothing : [] ≡ first = cc both in
-        absurd (omega (arith, ap length nothing, some))
-    by_test false c cs characters other = refl
-
     by_characters : (cs : List ℕ) → chars text ≡ cs → begins_with d text ≡ false
     by_characters [] characters = ap (is_first d) characters
-    by_characters (c ∷ cs) characters = ap (is_first d) characters ∙ by_test (c == d) c cs characters refl
+    by_characters (c ∷ cs) characters =
+        ap (is_first d) characters
+        ∙ false_from_ne_true (c == d) (λ delimiter.
+        let parts = ap (slice_split (λ c. c == d)) characters ∙ slice_split-cons_yes (λ c. c == d) c cs delimiter in
+        let both : [] ∷ map encode_utf8_all (slice_split (λ c. c == d) cs) ≡ first ∷ is.others = sym (ap (map encode_utf8_all) parts) ∙ is.elements_are in
+        let nothing : [] ≡ first = cc both in
+        omega (arith, ap length nothing, some))
 
 -- the first element and what follows it, by the place between them
 pub first-at : (d : ℕ) (text first behind : Text) → IsFirstElement d text first behind → IsCharBoundary text (length first) × IsFirstElement d text (take (length first) text) (drop (length first) text)

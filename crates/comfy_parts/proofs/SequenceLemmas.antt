@@ -1,8 +1,8 @@
 -- The parts of a text: a text either begins with an SGR sequence or with a visible byte, and its parts are those of any text with them at its front.
-use Rattle.std.proofs.Common.{◌≡◌, ◌⊎◌, inl, inr, ℕ, suc, ◌+◌, ◌-◌, Bool, true, false, cond, ◌&&◌, ◌==◌, [], ◌∷◌, ◌++◌, length, take, nat_lt, refl, sym, ap, ap₂, ◌∙◌, arith, eqb-true}
+use Rattle.std.proofs.Common.{◌≡◌, ◌⊎◌, inl, inr, ⊎_elim, ℕ, suc, ◌+◌, ◌-◌, Bool, true, false, cond, ◌&&◌, ◌==◌, [], ◌∷◌, ◌++◌, length, take, nat_lt, refl, sym, ap, ap₂, ◌∙◌, arith, eqb-true}
 use Rattle.std.specs.List.{list_all, prefix_len, flat_map, slice_index}
 use Rattle.std.specs.Prelude.{if◌then◌else◌}
-use Rattle.std.proofs.lemmas.Bool.{and_parts, both_ways}
+use Rattle.std.proofs.lemmas.Bool.{and_parts, both_ways, cases_Bool}
 use Rattle.std.proofs.lemmas.Bool.Decides.{nat_tests}
 use Rattle.comfy_parts.specs.Text.{Text}
 use Rattle.comfy_parts.specs.VisibleText.{Part, is_parameter, parameter_count, sequence_len, part_at, parts, parts_past, visible_bytes, visible_text}
@@ -78,11 +78,7 @@ begins-is (a ∷ b ∷ text) begins =
 
 -- a text begins with a sequence, or has none at its front
 pub front_of : (text : Text) → BeginsWithSequence text ⊎ (begins_with_sequence text ≡ false)
-front_of text = by_test (begins_with_sequence text) refl
-  where
-    by_test : (b : Bool) → begins_with_sequence text ≡ b → BeginsWithSequence text ⊎ (b ≡ false)
-    by_test true begins = inl (begins-is text begins)
-    by_test false free = inr refl
+front_of text = ⊎_elim (λ begins. inl (begins-is text begins)) inr (cases_Bool (begins_with_sequence text))
 
 -- ---- what follows can't make a sequence
 

@@ -4,6 +4,7 @@ use Rattle.std.specs.Char.{IsScalar}
 use Rattle.std.specs.Prelude.{chars, encode_utf8, encode_utf8_all, IsUtf8}
 use Rattle.std.specs.Str.{IsCharBoundary}
 use Rattle.std.specs.Str.Pattern.{FindsCharPrefix}
+use Rattle.std.proofs.lemmas.Bool.{false_from_ne_true}
 use Rattle.std.proofs.lemmas.Bool.Decides.{nat_tests}
 use Rattle.std.proofs.lemmas.List.{append_assoc, map-append}
 use Rattle.std.proofs.lemmas.Str.{encodes-chars, IsCharBoundary-at_seam}
@@ -17,14 +18,11 @@ use Rattle.comfy_parts.proofs.WrappingLemmas.{begins_with-delimiter, lines_past-
 pub begins_otherwise-none : (d : ℕ) (text : Text) → IsUtf8 text → FindsCharPrefix d text None → begins_with d text ≡ false
 begins_otherwise-none d text utf8 none = by_characters (chars text) refl
   where
-    by_test : (b : Bool) (c : ℕ) (cs : List ℕ) → chars text ≡ c ∷ cs → (c == d) ≡ b → b ≡ false
-    by_test true c cs characters same =
-        absurd (none (encode_utf8_all cs) (sym (encodes-chars text utf8) ∙ ap encode_utf8_all characters ∙ ap (λ x. encode_utf8 x ++ encode_utf8_all cs) (eqb-true c d same)))
-    by_test false c cs characters other = refl
-
     by_characters : (cs : List ℕ) → chars text ≡ cs → begins_with d text ≡ false
     by_characters [] characters = ap (is_first d) characters
-    by_characters (c ∷ cs) characters = ap (is_first d) characters ∙ by_test (c == d) c cs characters refl
+    by_characters (c ∷ cs) characters =
+        ap (is_first d) characters
+        ∙ false_from_ne_true (c == d) (λ same. none (encode_utf8_all cs) (sym (encodes-chars text utf8) ∙ ap encode_utf8_all characters ∙ ap (λ x. encode_utf8 x ++ encode_utf8_all cs) (eqb-true c d same)))
 
 -- a delimiter at the front gives no line
 pub wrapped-delimiter : (w d : ℕ) (text behind : Text) → IsScalar d → text ≡ encode_utf8 d ++ behind → wrapped w d behind ≡ wrapped w d text

@@ -3,7 +3,7 @@ use Rattle.std.proofs.Common.{◌≡◌, ◌⊎◌, inl, inr, ◌<◌, ◌≤◌
 use Rattle.std.specs.List.{list_any, slice_index}
 use Rattle.std.specs.Prelude.{if◌then◌else◌, encode_utf8, encode_utf8_all, IsUtf8}
 use Rattle.std.specs.Str.{all_scalars}
-use Rattle.std.proofs.lemmas.Bool.{and_parts, or_from}
+use Rattle.std.proofs.lemmas.Bool.{and_parts, cases_Bool, cond_both, or_from}
 use Rattle.std.proofs.lemmas.Bool.Decides.{nat_tests}
 use Rattle.std.proofs.lemmas.List.{append_assoc}
 use Rattle.std.proofs.lemmas.List.Prefix.{front_rest}
@@ -79,6 +79,16 @@ escape_shown : (more : Text) → begins_with_sequence (encode_utf8 0x1B ++ more)
 unfolding encode
 escape_shown more free = ap (flat_map visible_bytes) (parts-visible 0x1B more free)
 
+-- a character without a sequence at its place stays
+pub visible_character : (c : ℕ) (more : Text) → begins_with_sequence (encode_utf8 c ++ more) ≡ false → visible_text (encode_utf8 c ++ more) ≡ encode_utf8 c ++ visible_text more
+visible_character c more free = by_test (cases_Bool (c == 0x1B))
+  where
+    by_test : ((c == 0x1B) ≡ true) ⊎ ((c == 0x1B) ≡ false) → visible_text (encode_utf8 c ++ more) ≡ encode_utf8 c ++ visible_text more
+    by_test (inl escape) =
+        let at : c ≡ 0x1B = eqb-true c 0x1B escape in
+        subst (λ n. visible_text (encode_utf8 n ++ more) ≡ encode_utf8 n ++ visible_text more) (sym at) (escape_shown more (ap (λ n. begins_with_sequence (encode_utf8 n ++ more)) (sym at) ∙ free))
+    by_test (inr other) = (Shows-clear (encode_utf8 c) (encoded_clear c other)).shows more
+
 -- behind a visible character
 behind_character : (fuel c : ℕ) (cs : List ℕ) (text : Text) → text ≡ encode_utf8 c ++ encode_utf8_all cs → all_scalars (c ∷ cs) ≡ true → begins_with_sequence text ≡ false → length text ≤ suc fuel → WholeWithin fuel → IsUtf8 (visible_text text)
 behind_character fuel c cs text is scalars free short rest =
@@ -97,14 +107,7 @@ behind_character fuel c cs text is scalars free short rest =
         omega (arith, some, bytes, short)
 
     shown : visible_text text ≡ encode_utf8 c ++ visible_text more
-    shown = ap visible_text is ∙ by_test (c == 0x1B) refl
-      where
-        by_test : (b : Bool) → (c == 0x1B) ≡ b → visible_text (encode_utf8 c ++ more) ≡ encode_utf8 c ++ visible_text more
-        by_test true escape =
-            let at : c ≡ 0x1B = eqb-true c 0x1B escape in
-            subst (λ n. visible_text (encode_utf8 n ++ more) ≡ encode_utf8 n ++ visible_text more) (sym at)
-            (escape_shown more (ap (λ n. begins_with_sequence (encode_utf8 n ++ more)) (sym at) ∙ ap begins_with_sequence (sym is) ∙ free))
-        by_test false other = (Shows-clear (encode_utf8 c) (encoded_clear c other)).shows more
+    shown = ap visible_text is ∙ visible_character c more (ap begins_with_sequence (sym is) ∙ free)
 
 whole_within : (fuel : ℕ) → WholeWithin fuel
 whole_within fuel [] short utf8 = IsUtf8-nil
@@ -128,21 +131,8 @@ visible_text-whole text utf8 = whole_within (length text) text (omega arith) utf
 
 -- without a sequence at the front the text doesn't begin with one
 pub none_at_front : (text : Text) → sequence_len text ≡ 0 → begins_with_sequence text ≡ false
-none_at_front text none = by_test (begins_with_sequence text) none
-  where
-    by_test : (b : Bool) → (if b then parameter_count text + 3 else 0) ≡ 0 → b ≡ false
-    by_test true len = absurd (omega (arith, len))
-    by_test false len = refl
-
--- a character without a sequence at its place stays
-pub visible_character : (c : ℕ) (more : Text) → begins_with_sequence (encode_utf8 c ++ more) ≡ false → visible_text (encode_utf8 c ++ more) ≡ encode_utf8 c ++ visible_text more
-visible_character c more free = by_test (c == 0x1B) refl
-  where
-    by_test : (b : Bool) → (c == 0x1B) ≡ b → visible_text (encode_utf8 c ++ more) ≡ encode_utf8 c ++ visible_text more
-    by_test true escape =
-        let at : c ≡ 0x1B = eqb-true c 0x1B escape in
-        subst (λ n. visible_text (encode_utf8 n ++ more) ≡ encode_utf8 n ++ visible_text more) (sym at) (escape_shown more (ap (λ n. begins_with_sequence (encode_utf8 n ++ more)) (sym at) ∙ free))
-    by_test false other = (Shows-clear (encode_utf8 c) (encoded_clear c other)).shows more
+none_at_front text none =
+    cond_both (begins_with_sequence text) _ _ (λ n. n ≡ 0 → begins_with_sequence text ≡ false) (λ _ len. absurd (omega (arith, len))) (λ free _. free) none
 
 -- what stands behind a sequence at the front
 pub record IsBehind (text rest : Text) : Type 0 where
