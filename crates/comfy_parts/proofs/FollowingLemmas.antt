@@ -28,6 +28,14 @@ some_elements d text =
     let some = some_parts (λ c. c == d) (chars text) in
     omega (arith, same, some)
 
+-- after an element a delimiter and the other elements follow
+pub follow-delimiter : (d : ℕ) (more rest : Text) → rest ≡ encode_utf8 d ++ more → Follow d (elements d more) rest
+follow-delimiter d more rest splits = by_elements (elements d more) refl
+  where
+    by_elements : (es : List Text) → elements d more ≡ es → Follow d es rest
+    by_elements [] none = absurd (omega (arith, ap length none, some_elements d more))
+    by_elements (e ∷ es) some = (more, splits, some)
+
 -- a text without a delimiter is its first element, and nothing follows
 pub first-none : (d : ℕ) (text : Text) → IsUtf8 text → NoCharPasses (λ c. c == d) text → IsFirstElement d text text []
 first-none d text utf8 none = record { others = []; elements_are = elements-none d text utf8 none; follow = refl; joined = append-nil text; whole_first = utf8; whole_behind = IsUtf8-nil }
@@ -43,11 +51,7 @@ elements-found d text i j scalar utf8 (none, at) boundary =
 pub first-found : (d : ℕ) (text : Text) (i j : ℕ) → IsScalar d → IsUtf8 text → FindsChar d text (Some (i, j)) → IsCharBoundary text i
     → IsFirstElement d text (take i text) (drop i text)
 first-found d text i j scalar utf8 found boundary =
-    record { others = elements d (drop j text); elements_are = elements-found d text i j scalar utf8 found boundary; follow = by_elements (elements d (drop j text)) refl; joined = take-append-drop i text; whole_first = IsUtf8-take text i utf8 boundary; whole_behind = IsUtf8-drop text i utf8 boundary }
-  where
-    by_elements : (es : List Text) → elements d (drop j text) ≡ es → Follow d es (drop i text)
-    by_elements [] none = absurd (omega (arith, ap length none, some_elements d (drop j text)))
-    by_elements (e ∷ es) some = (drop j text, found.1.split, some)
+    record { others = elements d (drop j text); elements_are = elements-found d text i j scalar utf8 found boundary; follow = follow-delimiter d (drop j text) (drop i text) found.1.split; joined = take-append-drop i text; whole_first = IsUtf8-take text i utf8 boundary; whole_behind = IsUtf8-drop text i utf8 boundary }
 
 -- what stands before a delimiter that was found is whole characters
 utf8-found : (d : ℕ) (text : Text) (i j : ℕ) → IsUtf8 text → FindsChar d text (Some (i, j)) → IsUtf8 (take i text)

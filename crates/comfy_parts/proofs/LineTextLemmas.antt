@@ -1,11 +1,12 @@
 -- The text of a line of a cell with sequences: no sequence is left open, those that were active are resumed, and what is seen of it is the line.
-use Rattle.std.proofs.Common.{◌≡◌, inl, inr, ◌<◌, ◌≤◌, ℕ, zero, suc, ◌+◌, Bool, true, false, ◌==◌, List, [], ◌∷◌, ◌++◌, length, map, take, drop, refl, sym, ap, ◌∙◌, subst, arith, append_assoc, append-nil, eqb-true}
+use Rattle.std.proofs.Common.{◌≡◌, inl, inr, ◌<◌, ◌≤◌, ℕ, zero, suc, ◌+◌, Bool, true, false, ◌||◌, ◌==◌, List, [], ◌∷◌, ◌++◌, length, map, take, drop, refl, sym, ap, ◌∙◌, subst, arith, append_assoc, append-nil, eqb-true}
 use Rattle.std.specs.List.{list_any, flat_map, concat, AllByRecursion}
 use Rattle.std.specs.Prelude.{if◌then◌else◌, codes}
-use Rattle.std.proofs.lemmas.Bool.{cond_both, or_parts, or_from}
+use Rattle.std.proofs.lemmas.Bool.{cond_both, or_parts}
 use Rattle.std.proofs.lemmas.Bool.Decides.{nat_tests}
 use Rattle.std.proofs.lemmas.Grind.{flat_map-append}
-use Rattle.std.proofs.lemmas.List.{length-drop}
+use Rattle.std.proofs.lemmas.List.{length-drop, take-append-drop}
+use Rattle.std.proofs.lemmas.List.Folds.{list_any-append}
 use Rattle.comfy_parts.specs.Cursor.{sequence_part}
 use Rattle.comfy_parts.specs.Text.{Text}
 use Rattle.comfy_parts.specs.VisibleText.{Part, parts, visible_bytes, visible_text, reset, open_after, opened, parts_before, parts_from, parts_up_to, active, closing, closed, line_text}
@@ -302,19 +303,17 @@ Shows-closed text clear =
 
 -- ---- lines without ESC
 
--- a front of a text without ESC has none
+-- both parts of a text without ESC
+clear-halves : (n : ℕ) (text : Text) → list_any (λ b. b == 0x1B) text ≡ false → (list_any (λ b. b == 0x1B) (take n text) || list_any (λ b. b == 0x1B) (drop n text)) ≡ false
+clear-halves n text clear = sym (list_any-append (λ b. b == 0x1B) (take n text) (drop n text)) ∙ ap (list_any (λ b. b == 0x1B)) (take-append-drop n text) ∙ clear
+
+-- a front of it has none
 clear-take : (n : ℕ) (text : Text) → list_any (λ b. b == 0x1B) text ≡ false → list_any (λ b. b == 0x1B) (take n text) ≡ false
-clear-take zero text clear = refl
-clear-take (suc n) [] clear = refl
-clear-take (suc n) (b ∷ bs) clear =
-    let both = or_parts (b == 0x1B) (list_any (λ b. b == 0x1B) bs) clear in
-    or_from (b == 0x1B) (list_any (λ b. b == 0x1B) (take n bs)) both.0 (clear-take n bs both.1)
+clear-take n text clear = (or_parts (list_any (λ b. b == 0x1B) (take n text)) (list_any (λ b. b == 0x1B) (drop n text)) (clear-halves n text clear)).0
 
 -- nor has an end of it
 clear-drop : (n : ℕ) (text : Text) → list_any (λ b. b == 0x1B) text ≡ false → list_any (λ b. b == 0x1B) (drop n text) ≡ false
-clear-drop zero text clear = clear
-clear-drop (suc n) [] clear = refl
-clear-drop (suc n) (b ∷ bs) clear = clear-drop n bs (or_parts (b == 0x1B) (list_any (λ b. b == 0x1B) bs) clear).1
+clear-drop n text clear = (or_parts (list_any (λ b. b == 0x1B) (take n text)) (list_any (λ b. b == 0x1B) (drop n text)) (clear-halves n text clear)).1
 
 -- the text of a line shows its slice of what is seen of the text line, before any other text
 pub Shows-line_text : (earlier : List Text) (text : Text) (start len : ℕ) → list_any (λ b. b == 0x1B) (visible_text text) ≡ false

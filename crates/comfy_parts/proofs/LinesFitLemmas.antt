@@ -2,9 +2,9 @@
 use Rattle.std.proofs.Common.{◌≡◌, ◌<◌, ◌≤◌, ℕ, zero, suc, ◌+◌, ◌-◌, Bool, true, false, ◌&&◌, ◌==◌, List, [], ◌∷◌, ◌++◌, length, map, nat_le, nat_lt, refl, sym, ap, ◌∙◌, subst, arith, append-nil, append_assoc, length-append, eqb-true, replicate}
 use Rattle.std.specs.Char.{IsScalar}
 use Rattle.std.specs.List.{All, slice_split}
-use Rattle.std.specs.Prelude.{if◌then◌else◌, chars, encode_utf8, encode_utf8_all, IsUtf8}
+use Rattle.std.specs.Prelude.{chars, encode_utf8, encode_utf8_all, IsUtf8}
 use Rattle.std.specs.Str.{all_scalars}
-use Rattle.std.proofs.lemmas.Bool.{and_parts}
+use Rattle.std.proofs.lemmas.Bool.{and_parts, cond_both}
 use Rattle.std.proofs.lemmas.Bool.Decides.{nat_tests}
 use Rattle.std.proofs.lemmas.List.{append_cancel_left}
 use Rattle.std.proofs.lemmas.List.Elements.{All-cons, All-nil, All-head, All-tail}
@@ -15,10 +15,10 @@ use Rattle.comfy_parts.proofs.FollowingLemmas.{first-rest, line_end-narrow, line
 use Rattle.comfy_parts.proofs.PlaceLemmas.{scalars-parts}
 use Rattle.comfy_parts.proofs.EndLemmas.{same_front}
 use Rattle.comfy_parts.proofs.PartLemmas.{AreNext, first_part}
-use Rattle.comfy_parts.proofs.WrappingLemmas.{one_character}
+use Rattle.comfy_parts.proofs.WrappingLemmas.{whole-past_gap, one_character}
 use Rattle.comfy_parts.specs.Following.{Follow, IsFirstElement}
 use Rattle.comfy_parts.specs.Text.{Text, measure, head, elements}
-use Rattle.comfy_parts.specs.Wrapping.{IsWrapped, bytes_taken, head_or_first, line_end, part_taken}
+use Rattle.comfy_parts.specs.Wrapping.{IsWrapped, bytes_taken, head_or_first, line_end}
 use Rattle.comfy_parts.proofs.SpaceMeasureLemmas.{measure-nil}
 use Rattle.comfy_parts.specs.Columns.{AddsOneColumn}
 
@@ -124,8 +124,13 @@ module _ (w d : ℕ) (Word : Text → Type 0) (breaks : BreaksWell w Word) (scal
   takes : (filled : ℕ) (es : List Text) (behind : Text) → Follow d es behind → IsUtf8 behind → All Word es → filled ≤ w → IsTaken filled (bytes_taken w d filled es) behind
   takes filled [] behind none whole words room = takes-none filled behind room whole (words-behind [] behind none words)
   takes filled (next ∷ others) behind (more, splits, parts) whole words room =
-      by_tests (nat_lt (w - 2) filled) (nat_lt w (filled + 1 + measure next)) refl (λ behind' follow whole' fits. takes (filled + measure next + measure (encode_utf8 d)) others behind' follow whole' (All-tail Word next others words) fits)
+      cond_both (nat_lt (w - 2) filled) _ _ Takes (λ _. none)
+      (λ _. cond_both (nat_lt w (filled + 1 + measure next)) _ _ Takes (λ _. cond_both (nat_lt w (measure next) && nat_le (filled + 4) w) _ _ Takes part (λ _. none))
+      (λ test. whole_next test (λ fits. takes filled' others first.behind follow is.whole_behind (All-tail Word next others words) fits)))
     where
+      Takes : ℕ → Type 0
+      Takes n = IsTaken filled n behind
+
       filled' : ℕ
       filled' = filled + measure next + measure (encode_utf8 d)
 
@@ -154,8 +159,8 @@ module _ (w d : ℕ) (Word : Text → Type 0) (breaks : BreaksWell w Word) (scal
       none = takes-none filled behind room whole (words-behind (next ∷ others) behind (more, splits, parts) words)
 
       -- a part of the next element
-      by_part : (b : Bool) → (nat_lt w (measure next) && nat_le (filled + 4) w) ≡ b → IsTaken filled (if b then length (encode_utf8 d) + length (head (w - filled - 1) next) else 0) behind
-      by_part true takes =
+      part : (nat_lt w (measure next) && nat_le (filled + 4) w) ≡ true → IsTaken filled (length (encode_utf8 d) + length (head (w - filled - 1) next)) behind
+      part takes =
           let tests = and_parts (nat_lt w (measure next)) (nat_le (filled + 4) w) takes in
           let wide : w < measure next = grind (arith, nat_tests, tests.0) in
           let free : filled + 4 ≤ w = grind (arith, nat_tests, tests.1) in
@@ -172,17 +177,14 @@ module _ (w d : ℕ) (Word : Text → Type 0) (breaks : BreaksWell w Word) (scal
             fits = λ front utf8 same. let all = behind-delimiter front part utf8 in let fits = cut.fits in omega (arith, all, fits, same, free);
             keeps = subst (All Word) (sym after.elements_are) (All-cons Word cut.rest after.others cut.keeps (subst (All Word) (follow-same d others after.others first.behind follow after.follow) (All-tail Word next others words)));
           }
-      by_part false refuses = none
 
-      by_tests : (full wide : Bool) → nat_lt w (filled + 1 + measure next) ≡ wide
-          → ((behind' : Text) → Follow d others behind' → IsUtf8 behind' → filled' ≤ w → IsTaken filled' (bytes_taken w d filled' others) behind')
-          → IsTaken filled (if full then 0 else if wide then part_taken w d filled next else length (encode_utf8 d) + length next + bytes_taken w d filled' others) behind
-      by_tests true wide test rest = none
-      by_tests false true test rest = by_part (nat_lt w (measure next) && nat_le (filled + 4) w) refl
-      by_tests false false test rest =
+      -- the whole of it, and what is taken after it
+      whole_next : nat_lt w (filled + 1 + measure next) ≡ false → (filled' ≤ w → IsTaken filled' (bytes_taken w d filled' others) first.behind)
+          → IsTaken filled (length (encode_utf8 d) + length next + bytes_taken w d filled' others) behind
+      whole_next test rest =
           let room' : filled + 1 + measure next ≤ w = grind (arith, nat_tests, test) in
           let place = one in
-          let further = rest first.behind follow is.whole_behind (omega (arith, room', place)) in
+          let further = rest (omega (arith, room', place)) in
           record {
             taken = encode_utf8 d ++ (next ++ further.taken);
             rest = further.rest;
@@ -256,13 +258,6 @@ module _ (w d : ℕ) (Word : Text → Type 0) (breaks : BreaksWell w Word) (scal
       (All-tail Word [] (elements d more)
       (subst (All Word) (elements-first d [] more scalar IsUtf8-nil ([], refl, tt)) (subst Words (append_assoc (encode_utf8 d) (encode_utf8_all (replicate n d)) rest) words)))
 
-  -- what stands behind a gap is whole characters
-  whole-past_gap : (n : ℕ) (rest : Text) → IsUtf8 (encode_utf8_all (replicate n d) ++ rest) → IsUtf8 rest
-  whole-past_gap zero rest whole = whole
-  whole-past_gap (suc n) rest whole =
-      let more = encode_utf8_all (replicate n d) ++ rest in
-      whole-past_gap n rest (IsUtf8-after (encode_utf8_all (replicate (suc n) d) ++ rest) (encode_utf8 d) more whole (one_character d scalar).0 (append_assoc (encode_utf8 d) (encode_utf8_all (replicate n d)) rest))
-
   -- a line of whole characters that measures at most w
   abbrev Fits : Text → Type 0
   Fits line = IsUtf8 line × (measure line ≤ w)
@@ -273,5 +268,5 @@ module _ (w d : ℕ) (Word : Text → Type 0) (breaks : BreaksWell w Word) (scal
   wrapped-fit text (line ∷ lines) (tail, slice, ends, more) whole words =
       let gap = slice.gap_is_delimiters in
       let splits : text ≡ encode_utf8_all (replicate gap.0 d) ++ (line ++ tail) = slice.splits ∙ ap (λ g. g ++ (line ++ tail)) gap.1 in
-      let it = line_fits line tail (whole-past_gap gap.0 (line ++ tail) (subst IsUtf8 splits whole)) (words-past_gap gap.0 (line ++ tail) (subst Words splits words)) ends in
+      let it = line_fits line tail (whole-past_gap d gap.0 (line ++ tail) (subst IsUtf8 splits whole)) (words-past_gap gap.0 (line ++ tail) (subst Words splits words)) ends in
       All-cons Fits line lines (slice.whole_characters, it.fits) (wrapped-fit tail lines more it.whole it.keeps)

@@ -1,15 +1,15 @@
 -- A run of printable ASCII without a delimiter is a text's first element, where a delimiter or nothing follows it.
-use Rattle.std.proofs.Common.{◌≡◌, inl, inr, ◌==◌, ℕ, Bool, true, false, List, [], ◌∷◌, ◌++◌, refl, sym, ap, ◌∙◌, subst, append-nil, arith, length}
+use Rattle.std.proofs.Common.{◌≡◌, inl, inr, ◌==◌, ℕ, Bool, true, false, List, [], ◌∷◌, ◌++◌, sym, ap, ◌∙◌, subst, append-nil}
 use Rattle.std.specs.Char.{IsScalar}
 use Rattle.std.specs.List.{list_any}
 use Rattle.std.specs.Prelude.{encode_utf8_all, IsUtf8}
 use Rattle.std.specs.Str.{NoCharPasses, NonePass}
 use Rattle.std.proofs.lemmas.Bool.{or_parts}
 use Rattle.std.proofs.lemmas.Str.{encodes-chars}
-use Rattle.comfy_parts.specs.Following.{EndsElement, Follow, IsFirstElement}
+use Rattle.comfy_parts.specs.Following.{EndsElement, IsFirstElement}
 use Rattle.comfy_parts.specs.Text.{Text, elements, is_printable_ascii}
 use Rattle.comfy_parts.proofs.ElementLemmas.{elements-first}
-use Rattle.comfy_parts.proofs.FollowingLemmas.{first-none, some_elements}
+use Rattle.comfy_parts.proofs.FollowingLemmas.{first-none, follow-delimiter}
 use Rattle.comfy_parts.proofs.PrintableLemmas.{IsUtf8-printable, chars-printable}
 
 none_passes : (p : ℕ → Bool) (cs : List ℕ) → list_any p cs ≡ false → NonePass p cs
@@ -32,12 +32,8 @@ first-printable d text front behind scalar utf8 splits whole printable none (inr
     record {
       others = elements d more;
       elements_are = ap (elements d) (splits ∙ ap (λ t. front ++ t) follows) ∙ elements-first d front more scalar (IsUtf8-printable front printable) (no_delimiter d front printable none);
-      follow = by_elements (elements d more) refl;
+      follow = follow-delimiter d more behind follows;
       joined = sym splits;
       whole_first = IsUtf8-printable front printable;
       whole_behind = whole;
     }
-  where
-    by_elements : (es : List Text) → elements d more ≡ es → Follow d es behind
-    by_elements [] none = absurd (omega (arith, ap length none, some_elements d more))
-    by_elements (e ∷ es) some = (more, follows, some)

@@ -55,6 +55,10 @@ abbrev pub begins_with_sequence : Text → Bool
 begins_with_sequence text =
     (slice_index text 0 == 0x1B) && ((slice_index text 1 == 0x5B) && (slice_index text (2 + parameter_count text) == 0x6D))
 
+-- at a byte other than ESC none begins
+pub no_sequence : (b : ℕ) (bs : Text) → (b == 0x1B) ≡ false → begins_with_sequence (b ∷ bs) ≡ false
+no_sequence b bs other = rw other refl
+
 -- two bytes in, what is told of the bytes behind them
 two_on : (a b : ℕ) (text : Text) → slice_index (a ∷ b ∷ text) (2 + prefix_len is_parameter text) ≡ slice_index text (prefix_len is_parameter text)
 two_on a b text =

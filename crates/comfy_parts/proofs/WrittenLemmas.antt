@@ -5,7 +5,7 @@ use Rattle.std.specs.List.{concat, flat_map}
 use Rattle.std.specs.Prelude.{if◌then◌else◌, encode_utf8, encode_utf8_all, IsUtf8}
 use Rattle.std.proofs.lemmas.Grind.{flat_map-append}
 use Rattle.std.proofs.lemmas.List.{drop_all, drop_more, get_or-map, length-map, length-take, map-append, take-append-drop}
-use Rattle.std.proofs.lemmas.Str.{IsUtf8-past_char, IsUtf8-take}
+use Rattle.std.proofs.lemmas.Str.{IsUtf8-take}
 use Rattle.unicode_segmentation.proofs.TextLemmas.{encode_utf8_nonempty}
 use Rattle.comfy_parts.specs.Cursor.{CursorValue, IsBehindGap, StandsAt, at_byte, open_at_end, seen_ahead}
 use Rattle.comfy_parts.specs.Text.{Text, IsOnly, begins_with, measure}
@@ -17,7 +17,7 @@ use Rattle.comfy_parts.proofs.CursorLemmas.{at, at_further}
 use Rattle.comfy_parts.proofs.LineTextLemmas.{parts-written}
 use Rattle.comfy_parts.proofs.OpenLemmas.{open_after-again, opened-append}
 use Rattle.comfy_parts.proofs.StartLemmas.{IsLineCut, line-cut}
-use Rattle.comfy_parts.proofs.WrappingLemmas.{begins_with-delimiter, lines_past-delimiter, lines_past-gap, lines_past-line}
+use Rattle.comfy_parts.proofs.WrappingLemmas.{whole-past_gap, begins_with-delimiter, lines_past-delimiter, lines_past-gap, lines_past-line}
 
 -- ---- places of lines
 
@@ -122,13 +122,6 @@ written-further n old new (p ∷ ps) stands =
     let same : at_byte (n + p.0) old ≡ at_byte p.0 new = sym (at_further n p.0 old) ∙ ap (at_byte p.0) (sym stands) ∙ at_further 0 p.0 new ∙ ap (λ k. at_byte k new) plain in
     ap₂ (λ c (ts : List Text). written p.1 c ∷ ts) same (written-further n old new ps stands)
 
--- behind delimiters a text is whole
-whole_behind : (d n : ℕ) (rest : Text) → IsUtf8 (encode_utf8_all (replicate n d) ++ rest) → IsUtf8 rest
-whole_behind d zero rest utf8 = utf8
-whole_behind d (suc n) rest utf8 =
-    let more = encode_utf8_all (replicate n d) ++ rest in
-    whole_behind d n rest (IsUtf8-past_char (encode_utf8_all (replicate (suc n) d) ++ rest) more d utf8 (append_assoc (encode_utf8 d) (encode_utf8_all (replicate n d)) rest))
-
 -- a text with a line has bytes
 some_bytes : (w d : ℕ) (line : Text) (behind : List Text) (text : Text) → line ∷ behind ≡ wrapped w d text → 0 < length text
 unfolding lines_past
@@ -164,7 +157,7 @@ next_line w d old mid line behind scalar utf8 gap lines =
     seen = seen_ahead mid
 
     whole : IsUtf8 seen
-    whole = whole_behind d gap.only.0 seen (subst IsUtf8 (gap.seen ∙ ap (λ g. g ++ seen) gap.only.1) utf8)
+    whole = whole-past_gap d gap.only.0 seen (subst IsUtf8 (gap.seen ∙ ap (λ g. g ++ seen) gap.only.1) utf8)
 
     same : line ∷ behind ≡ wrapped w d seen
     same =
