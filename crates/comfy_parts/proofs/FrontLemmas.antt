@@ -1,8 +1,8 @@
 -- The part at a text's front: a whole sequence, or visible bytes.
-use Rattle.std.proofs.Common.{◌≡◌, ◌<◌, ℕ, zero, suc, ◌+◌, ◌-◌, ◌/◌, ◌%◌, Bool, true, false, cond, ◌==◌, List, [], ◌∷◌, ◌++◌, length, map, take, drop, nat_lt, refl, sym, ap, ◌∙◌, subst, arith, length-append, eqb-true}
+use Rattle.std.proofs.Common.{◌≡◌, ◌<◌, ℕ, zero, suc, ◌+◌, ◌-◌, ◌/◌, ◌%◌, Bool, true, false, cond, ◌==◌, ⊎_elim, List, [], ◌∷◌, ◌++◌, length, map, take, drop, nat_lt, refl, sym, ap, ◌∙◌, subst, arith, length-append, eqb-true}
 use Rattle.std.specs.List.{flat_map, list_any}
 use Rattle.std.specs.Prelude.{if◌then◌else◌, encode_utf8}
-use Rattle.std.proofs.lemmas.Bool.{or_from, or_parts}
+use Rattle.std.proofs.lemmas.Bool.{cases_Bool, or_from, or_parts}
 use lib.Dec.{ltb}
 use Rattle.std.proofs.lemmas.Bool.Decides.{nat_tests}
 use Rattle.std.proofs.lemmas.List.{length-map}
@@ -71,14 +71,11 @@ parts-escape more free = parts-visible 0x1B more free
 
 -- the parts of a text with a visible character at its front
 pub parts-character : (c : ℕ) (more : Text) → begins_with_sequence (encode_utf8 c ++ more) ≡ false → parts (encode_utf8 c ++ more) ≡ character_parts c ++ parts more
-parts-character c more free = by_test (c == 0x1B) refl
-  where
-    by_test : (b : Bool) → (c == 0x1B) ≡ b → parts (encode_utf8 c ++ more) ≡ character_parts c ++ parts more
-    by_test true escape =
-        let at : c ≡ 0x1B = eqb-true c 0x1B escape in
-        subst (λ n. parts (encode_utf8 n ++ more) ≡ character_parts n ++ parts more) (sym at)
-        (parts-escape more (ap (λ n. begins_with_sequence (encode_utf8 n ++ more)) (sym at) ∙ free))
-    by_test false other = parts-clear (encode_utf8 c) more (encoded_clear c other)
+parts-character c more free =
+    ⊎_elim (λ escape.
+    let at : c ≡ 0x1B = eqb-true c 0x1B escape in
+    subst (λ n. parts (encode_utf8 n ++ more) ≡ character_parts n ++ parts more) (sym at) (parts-escape more (ap (λ n. begins_with_sequence (encode_utf8 n ++ more)) (sym at) ∙ free)))
+    (λ other. parts-clear (encode_utf8 c) more (encoded_clear c other)) (cases_Bool (c == 0x1B))
 
 -- a character has bytes
 pub character_parts-some : (c : ℕ) (ps : List Part) → length ps < length (character_parts c ++ ps)

@@ -2,7 +2,7 @@
 use Rattle.std.proofs.Common.{◌≡◌, ◌≢◌, ◌<◌, ◌≤◌, ◌⊎◌, inl, inr, ℕ, ◌+◌, Bool, true, false, not, ◌&&◌, ◌||◌, List, [], ◌∷◌, nat_lt, nat_le, zero, suc, slice_index_or, refl, sym, ap, ◌∙◌, subst, arith, sum_by, ⊎_elim}
 use Rattle.std.specs.Int.{is_in_range}
 use Rattle.std.specs.List.{list_all, list_any}
-use Rattle.std.proofs.lemmas.Bool.{and_parts, or_cases}
+use Rattle.std.proofs.lemmas.Bool.{and_parts, not-true, or_cases}
 use Rattle.std.proofs.lemmas.Bool.Decides.{nat_tests}
 use Rattle.std.proofs.lemmas.List.Sums.{sum_by-cons}
 use Rattle.std.proofs.lemmas.Bool.{cases_lt, or_parts}
@@ -89,10 +89,6 @@ high-plain : (c total : ℕ) → nat_lt 0xA0 c ≡ true → step false c (total,
 unfolding step past_emoji
 high-plain c total h = grind (arith, nat_tests, h)
 
-not-false : (b : Bool) → not b ≡ true → b ≡ false
-not-false true h = sym h
-not-false false h = refl
-
 record IsOther (c : ℕ) : Type 0 where
   high : nat_lt 0xA0 c ≡ true
   no_joiner : c ≢ 0x200D
@@ -112,7 +108,7 @@ other_parts : (c : ℕ) → (nat_lt 0xA0 c && not (in_ranges joining_characters 
 unfolding alone
 other_parts c h =
     let both = and_parts (nat_lt 0xA0 c) (not (in_ranges joining_characters c)) h in
-    let none : in_ranges joining_characters c ≡ false = not-false _ both.1 in
+    let none : in_ranges joining_characters c ≡ false = not-true _ both.1 in
     record {
       high = both.0;
       no_joiner = λ same. ⊎_elim (λ below. absurd (omega (arith, below, same))) (λ above. absurd (omega (arith, above, same))) (outside_range joining_characters 12 c none);

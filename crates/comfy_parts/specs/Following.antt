@@ -8,7 +8,7 @@ abbrev pub Follow : ℕ → List Text → Text → Type 0
 Follow d [] rest = rest ≡ []
 Follow d (e ∷ es) rest = (more : Text) × (rest ≡ encode_utf8 d ++ more) × (elements d more ≡ e ∷ es)
 
--- nothing stands behind an element, or a delimiter
+-- nothing stands after an element, or a delimiter
 abbrev pub EndsElement : ℕ → Text → Type 0
 EndsElement d behind = (behind ≡ []) ⊎ ((more : Text) × (behind ≡ encode_utf8 d ++ more))
 
@@ -21,16 +21,16 @@ pub record IsFirstElement (d : ℕ) (text first behind : Text) : Type 0 where
   pub whole_first : IsUtf8 first
   pub whole_behind : IsUtf8 behind
 
--- each end of a word that has at least so many bytes is wider than w places
+-- each end of a word that has at least so many bytes is wider than w terminal columns
 abbrev pub IsWideFrom : ℕ → ℕ → Text → Type 0
 IsWideFrom w bytes word = (front tail : Text) → word ≡ front ++ tail → IsUtf8 front → IsUtf8 tail → bytes ≤ length tail → w < measure tail
 
--- the places of a word: exact where they are at most w, and otherwise the word is wider than w
+-- the terminal columns of a word: exact where they are at most w, and otherwise the word is wider than w
 pub record ArePlacesUpTo (w places : ℕ) (word : Text) : Type 0 where
   pub fits : places ≤ w → places ≡ measure word
   pub wider : w < places → w < measure word
 
--- a text at the first character of a line of w places: its first element has so many bytes and places, and each of its ends with at least `shown` bytes is wider than the line
+-- a text at the first character of a line of w terminal columns: its first element has so many bytes and columns, and each of its ends with at least `shown` bytes is wider than the line
 pub record IsAtLine (w d : ℕ) (text : Text) (first places shown : ℕ) : Type 0 where
   pub narrow : w ≤ 65535
   pub whole : IsUtf8 text
