@@ -1,4 +1,6 @@
 -- The first element of a text by its first delimiter, and the end of a line by what follows its first element.
+use Rattle.std.specs.Cmp.{nat_eq_equiv}
+use Rattle.comfy_parts.proofs.WrappingLemmas.{begins_otherwise-unless}
 use Rattle.std.proofs.Common.{◌≡◌, ◌<◌, ◌≤◌, ℕ, ◌+◌, ◌-◌, Bool, true, false, ◌==◌, List, [], ◌∷◌, ◌++◌, length, take, drop, Some, None, map, nat_lt, refl, sym, ap, ap₂, ◌∙◌, subst, arith, append-nil, length-append, take_at, drop_at}
 use Rattle.std.specs.Char.{IsScalar}
 use Rattle.std.specs.List.{slice_split, onto_first}
@@ -6,14 +8,14 @@ use Rattle.std.specs.Prelude.{chars, encode_utf8, encode_utf8_all, IsUtf8}
 use Rattle.std.specs.Str.{all_scalars, IsCharBoundary, NoCharPasses}
 use Rattle.std.specs.Str.Pattern.{FindsChar, FindsCharPrefix, SplitsAroundMatch, StripsPrefix}
 use Rattle.std.proofs.Math.Seq.{take-add}
-use Rattle.std.proofs.lemmas.Bool.{cond-true, cond-false, cond_both, false_from_ne_true}
+use Rattle.std.proofs.lemmas.Bool.{cond-true, cond-false, cond_both}
 use Rattle.std.proofs.lemmas.List.Splits.{slice_split-cons_yes}
 use Rattle.comfy_parts.proofs.PartLemmas.{first_part}
 use Rattle.std.proofs.lemmas.Bool.Decides.{nat_tests}
 use Rattle.std.proofs.lemmas.List.{append_assoc, append_cancel_left, take-append-drop, length-map, length-drop, length-take-le}
 use Rattle.std.proofs.lemmas.Str.{IsUtf8-nil, IsUtf8-take, IsUtf8-drop, IsUtf8-between, IsCharBoundary-at_seam, chars-append, encodes-append, encodes-chars, encodes_same}
 use Rattle.unicode_segmentation.proofs.TextLemmas.{encode_utf8_nonempty}
-use Rattle.comfy_parts.specs.Text.{Text, measure, begins_with, is_first, elements}
+use Rattle.comfy_parts.specs.Text.{Text, measure, begins_with, elements}
 use Rattle.comfy_parts.specs.Following.{Follow, IsFirstElement}
 use Rattle.comfy_parts.specs.Wrapping.{bytes_of_line, bytes_taken, head_or_first, line_end, part_taken}
 use Rattle.comfy_parts.proofs.ElementLemmas.{elements-none, elements-first}
@@ -133,17 +135,12 @@ first-rest d text front rest behind utf8 utf8' first = by_parts (slice_split (λ
 
 -- a text whose first element is not empty begins otherwise
 pub begins_otherwise-first : (d : ℕ) (text first behind : Text) → IsUtf8 text → IsFirstElement d text first behind → 0 < length first → begins_with d text ≡ false
-begins_otherwise-first d text first behind utf8 is some = by_characters (chars text) refl
-  where
-    by_characters : (cs : List ℕ) → chars text ≡ cs → begins_with d text ≡ false
-    by_characters [] characters = ap (is_first d) characters
-    by_characters (c ∷ cs) characters =
-        ap (is_first d) characters
-        ∙ false_from_ne_true (c == d) (λ delimiter.
-        let parts = ap (slice_split (λ c. c == d)) characters ∙ slice_split-cons_yes (λ c. c == d) c cs delimiter in
-        let both : [] ∷ map encode_utf8_all (slice_split (λ c. c == d) cs) ≡ first ∷ is.others = sym (ap (map encode_utf8_all) parts) ∙ is.elements_are in
-        let nothing : [] ≡ first = cc both in
-        omega (arith, ap length nothing, some))
+begins_otherwise-first d text first behind utf8 is some =
+    begins_otherwise-unless d text (λ cs characters.
+    let parts = ap (slice_split (λ c. c == d)) characters ∙ slice_split-cons_yes (λ c. c == d) d cs (nat_eq_equiv.refl d) in
+    let both : [] ∷ map encode_utf8_all (slice_split (λ c. c == d) cs) ≡ first ∷ is.others = sym (ap (map encode_utf8_all) parts) ∙ is.elements_are in
+    let nothing : [] ≡ first = cc both in
+    omega (arith, ap length nothing, some))
 
 -- the first element and what follows it, by the place between them
 pub first-at : (d : ℕ) (text first behind : Text) → IsFirstElement d text first behind → IsCharBoundary text (length first) × IsFirstElement d text (take (length first) text) (drop (length first) text)

@@ -1,28 +1,22 @@
 -- A line's start, before which delimiters give no line, and its cut from the text's front.
-use Rattle.std.proofs.Common.{◌≡◌, ◌<◌, ℕ, Bool, true, false, ◌==◌, List, [], ◌∷◌, ◌++◌, length, take, drop, None, map, refl, sym, ap, ap₂, ◌∙◌, subst, arith, eqb-true, take_at, drop_at}
+use Rattle.std.proofs.Common.{◌≡◌, ◌<◌, ℕ, Bool, true, false, ◌==◌, List, [], ◌∷◌, ◌++◌, length, take, drop, None, map, refl, sym, ap, ap₂, ◌∙◌, subst, arith, take_at, drop_at}
 use Rattle.std.specs.Char.{IsScalar}
-use Rattle.std.specs.Prelude.{chars, encode_utf8, encode_utf8_all, IsUtf8}
+use Rattle.std.specs.Prelude.{encode_utf8, encode_utf8_all, IsUtf8}
 use Rattle.std.specs.Str.{IsCharBoundary}
 use Rattle.std.specs.Str.Pattern.{FindsCharPrefix}
-use Rattle.std.proofs.lemmas.Bool.{false_from_ne_true}
 use Rattle.std.proofs.lemmas.Bool.Decides.{nat_tests}
 use Rattle.std.proofs.lemmas.List.{append_assoc, map-append}
 use Rattle.std.proofs.lemmas.Str.{encodes-chars, IsCharBoundary-at_seam}
 use Rattle.unicode_segmentation.proofs.TextLemmas.{encode_utf8_nonempty}
-use Rattle.comfy_parts.specs.Text.{Text, begins_with, is_first}
+use Rattle.comfy_parts.specs.Text.{Text, begins_with}
 use Rattle.comfy_parts.specs.Wrapping.{wrapped, lines_past, line_end}
 use Rattle.comfy_parts.proofs.EndLemmas.{line-first}
-use Rattle.comfy_parts.proofs.WrappingLemmas.{begins_with-delimiter, lines_past-delimiter, lines_past-line}
+use Rattle.comfy_parts.proofs.WrappingLemmas.{begins_otherwise-unless, begins_with-delimiter, lines_past-delimiter, lines_past-line}
 
 -- where no delimiter is found at the front, the text begins otherwise
 pub begins_otherwise-none : (d : ℕ) (text : Text) → IsUtf8 text → FindsCharPrefix d text None → begins_with d text ≡ false
-begins_otherwise-none d text utf8 none = by_characters (chars text) refl
-  where
-    by_characters : (cs : List ℕ) → chars text ≡ cs → begins_with d text ≡ false
-    by_characters [] characters = ap (is_first d) characters
-    by_characters (c ∷ cs) characters =
-        ap (is_first d) characters
-        ∙ false_from_ne_true (c == d) (λ same. none (encode_utf8_all cs) (sym (encodes-chars text utf8) ∙ ap encode_utf8_all characters ∙ ap (λ x. encode_utf8 x ++ encode_utf8_all cs) (eqb-true c d same)))
+begins_otherwise-none d text utf8 none =
+    begins_otherwise-unless d text (λ cs characters. none (encode_utf8_all cs) (sym (encodes-chars text utf8) ∙ ap encode_utf8_all characters))
 
 -- a delimiter at the front gives no line
 pub wrapped-delimiter : (w d : ℕ) (text behind : Text) → IsScalar d → text ≡ encode_utf8 d ++ behind → wrapped w d behind ≡ wrapped w d text
