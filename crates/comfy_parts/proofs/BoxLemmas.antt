@@ -1,7 +1,7 @@
 -- The characters of all presets add one column wherever they stand.
 use Rattle.std.proofs.Common.{◌≡◌, ℕ, ◌+◌, ◌-◌, ◌==◌, ◌&&◌, ◌||◌, nat_le, Bool, true, false, cond, not, None, refl, sym, ap, ap₂, ◌∙◌, subst, arith}
 use Rattle.std.specs.Int.{is_in_range}
-use Rattle.std.proofs.lemmas.Bool.{and_parts}
+use Rattle.std.proofs.lemmas.Bool.{and_parts, cond_both, not-true}
 use Rattle.std.proofs.lemmas.Bool.Decides.{nat_tests}
 use Rattle.ucd_table.proofs.TrieCheck.{all_below, all_below-at}
 use Rattle.unicode_width.specs.declared.kind.Kind.{Kind}
@@ -27,25 +27,20 @@ low_are_no_bases = refl
 
 not_base : (c : ℕ) → is_in_range 0x20 0x7E c ≡ true → is_keycap c ≡ false → is_emoji_variation_base c ≡ false
 not_base c printable plain =
-    not-false _ (ap (λ b. b || not (is_emoji_variation_base c)) (sym plain) ∙ all_below-at (λ k. is_keycap k || not (is_emoji_variation_base k)) 0x7F c low_are_no_bases (grind (arith, nat_tests, printable)))
+    not-true _ (ap (λ b. b || not (is_emoji_variation_base c)) (sym plain) ∙ all_below-at (λ k. is_keycap k || not (is_emoji_variation_base k)) 0x7F c low_are_no_bases (grind (arith, nat_tests, printable)))
+
+-- a character that isn't a variation base adds one column, whatever was read after it, where it does with the emoji rules passed
+flag_seals : (c n : ℕ) (s : State) → is_emoji_variation_base c ≡ false → ((t : State) → past_emoji false c n t ≡ (n + 1, plain)) → step false c (n, s) ≡ (n + 1, plain)
+unfolding step
+flag_seals c n s base past = by_flag s.emoji s
   where
-    not-false : (b : Bool) → not b ≡ true → b ≡ false
-    not-false true h = sym h
-    not-false false h = refl
+    by_flag : (b : Bool) (s : State) → cond (not b) (past_emoji false c n s) (cond (is_emoji_variation_base c) (n + cond (is_joined_emoji s.after) 0 2, before Emoji) (past_emoji false c n (record (if_kept s) { emoji = false }))) ≡ (n + 1, plain)
+    by_flag false s = past s
+    by_flag true s = rw base (past (record (if_kept s) { emoji = false }))
 
 pub low_seals : (c : ℕ) → is_in_range 0x20 0x7E c ≡ true → is_keycap c ≡ false → Seals c
-unfolding step past_emoji
-low_seals c printable other n s = by_flag s.emoji s
-  where
-    base : is_emoji_variation_base c ≡ false
-    base = not_base c printable other
-
-    at : (s : State) → past_emoji false c n s ≡ (n + 1, plain)
-    at s = grind (arith, nat_tests, printable)
-
-    by_flag : (b : Bool) (s : State) → cond (not b) (past_emoji false c n s) (cond (is_emoji_variation_base c) (n + cond (is_joined_emoji s.after) 0 2, before Emoji) (past_emoji false c n (record (if_kept s) { emoji = false }))) ≡ (n + 1, plain)
-    by_flag false s = at s
-    by_flag true s = rw base (at (record (if_kept s) { emoji = false }))
+unfolding past_emoji
+low_seals c printable other n s = flag_seals c n s (not_base c printable other) (λ t. grind (arith, nat_tests, printable))
 
 -- ---- box and block characters
 
@@ -88,10 +83,6 @@ of_narrow c kinds.EmojiModifier h = absurd (cc h)
 of_narrow c kinds.Emoji h = absurd (cc h)
 of_narrow c kinds.Single h = absurd (cc h)
 
-not-false : (b : Bool) → not b ≡ true → b ≡ false
-not-false true h = sym h
-not-false false h = refl
-
 lone_parts : (c : ℕ) → is_lone c ≡ true → IsLone c
 unfolding alone
 lone_parts c test =
@@ -100,7 +91,7 @@ lone_parts c test =
     let third = and_parts _ _ second.1 in
     let fourth = and_parts _ _ third.1 in
     let own = of_narrow c (kind c) first.0 in
-    record { alone = own.0; not_emoji = own.1; not_variation_base = not-false _ second.0; not_transparent = not-false _ third.0; not_lam = not-false _ fourth.0; not_modifier_base = not-false _ fourth.1 }
+    record { alone = own.0; not_emoji = own.1; not_variation_base = not-true _ second.0; not_transparent = not-true _ third.0; not_lam = not-true _ fourth.0; not_modifier_base = not-true _ fourth.1 }
 
 -- nothing is joined with what follows it
 joins_none : (c : ℕ) → (is_in_range 0x2500 0x259F c || (c == 0x2026)) ≡ true → IsLone c → (after : After) → joins false after c ≡ None
@@ -179,20 +170,12 @@ past_emoji-lone c n s box lone =
     let feed : (c == 0x0A) ≡ false = grind (arith, nat_tests, box) in
     let return : (c == 0x0D) ≡ false = grind (arith, nat_tests, box) in
     let high : nat_le c 0xA0 ≡ false = grind (arith, nat_tests, box) in
-    rw (feed, return, high) (by_state (is_plain s))
-  where
-    by_state : (b : Bool) → cond b (n + (alone false c).0, (alone false c).1) (in_context false c n s) ≡ (n + 1, plain)
-    by_state true = ap (λ (own : ℕ × State). (n + own.0, own.1)) lone.alone
-    by_state false = in_context-lone c n s box lone
+    rw (feed, return, high)
+    (cond_both (is_plain s) _ _ (λ next. next ≡ (n + 1, plain)) (λ _. ap (λ (own : ℕ × State). (n + own.0, own.1)) lone.alone) (λ _. in_context-lone c n s box lone))
 
 -- so each lone character in this range adds one column
 lone_seals : (c : ℕ) → (is_in_range 0x2500 0x259F c || (c == 0x2026)) ≡ true → IsLone c → Seals c
-unfolding step
-lone_seals c near lone n s = by_flag s.emoji s
-  where
-    by_flag : (b : Bool) (s : State) → cond (not b) (past_emoji false c n s) (cond (is_emoji_variation_base c) (n + cond (is_joined_emoji s.after) 0 2, before Emoji) (past_emoji false c n (record (if_kept s) { emoji = false }))) ≡ (n + 1, plain)
-    by_flag false s = past_emoji-lone c n s near lone
-    by_flag true s = rw lone.not_variation_base (past_emoji-lone c n (record (if_kept s) { emoji = false }) near lone)
+lone_seals c near lone n s = flag_seals c n s lone.not_variation_base (λ t. past_emoji-lone c n t near lone)
 
 -- as each box or block character
 pub box_seals : (c : ℕ) → is_in_range 0x2500 0x259F c ≡ true → Seals c

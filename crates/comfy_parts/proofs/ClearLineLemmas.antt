@@ -1,32 +1,20 @@
 -- The lines of text lines without ESC are written as they are seen.
-use Rattle.std.proofs.Common.{◌≡◌, ℕ, zero, suc, Bool, true, ◌==◌, false, List, [], ◌∷◌, ◌++◌, length, map, take, drop, zip, refl, sym, ap, ap₂, ◌∙◌, append-nil, eqb-true}
+use Rattle.std.proofs.Common.{◌≡◌, ℕ, zero, suc, ◌==◌, false, List, [], ◌∷◌, ◌++◌, length, map, take, drop, refl, sym, ap, ap₂, ◌∙◌, append-nil, eqb-true}
 use Rattle.std.specs.List.{concat, list_any, flat_map, AllByRecursion}
-use Rattle.std.specs.Prelude.{if◌then◌else◌}
-use Rattle.std.proofs.lemmas.Bool.{or_parts}
+use Rattle.std.proofs.lemmas.Bool.{cond_both, or_parts}
 use Rattle.std.proofs.lemmas.Grind.{flat_map-append}
 use Rattle.comfy_parts.proofs.EscapedLemmas.{clear_text}
 use Rattle.comfy_parts.proofs.OpenLemmas.{opened-append}
-use Rattle.comfy_parts.proofs.SequenceLemmas.{begins_with_sequence, parts-visible}
-use Rattle.comfy_parts.proofs.VisibleLineLemmas.{StandsIn, every-append, every-map, text_lines_stand}
+use Rattle.comfy_parts.proofs.FrontLemmas.{parts-clear}
+use Rattle.comfy_parts.specs.Cursor.{visible_part}
+use Rattle.comfy_parts.proofs.VisibleLineLemmas.{each_slice, every-append}
 use Rattle.comfy_parts.specs.Text.{Text}
-use Rattle.comfy_parts.specs.VisibleLines.{CellLine, line_texts, line_texts_of_text, line_texts_past, starts_of_text}
-use Rattle.comfy_parts.specs.VisibleText.{Part, active, closed, has_escape, line_text, parts, parts_before, parts_from, open_after, opened, parts_up_to, text_between, visible_text}
-use Rattle.comfy_parts.specs.Wrapping.{lines_of_text}
-
--- a byte that is visible
-abbrev visible_part : ℕ → Part
-visible_part b = record { is_sequence = false; bytes = b ∷ [] }
-
--- at a byte other than ESC no sequence begins
-no_sequence : (b : ℕ) (bs : Text) → (b == 0x1B) ≡ false → begins_with_sequence (b ∷ bs) ≡ false
-no_sequence b bs other = rw other refl
+use Rattle.comfy_parts.specs.VisibleLines.{CellLine, line_texts, line_texts_of_text, line_texts_past}
+use Rattle.comfy_parts.specs.VisibleText.{Part, active, closed, has_escape, line_text, parts, parts_before, parts_from, open_after, opened, parts_up_to, text_between}
 
 -- the parts of a text without ESC are its bytes
 clear_parts : (text : Text) → has_escape text ≡ false → parts text ≡ map visible_part text
-clear_parts [] clear = refl
-clear_parts (b ∷ bs) clear =
-    let both = or_parts (b == 0x1B) (has_escape bs) clear in
-    parts-visible b bs (no_sequence b bs both.0) ∙ ap (λ (ps : List Part). visible_part b ∷ ps) (clear_parts bs both.1)
+clear_parts text clear = ap parts (sym (append-nil text)) ∙ parts-clear text [] clear ∙ append-nil (map visible_part text)
 
 -- parts before a byte open nothing
 before_clear : (ss : List Text) (n : ℕ) (bs : Text) → opened ss (parts_before n (map visible_part bs)) ≡ ss
@@ -65,16 +53,13 @@ none_active earlier text n before clear =
 
 -- a line of such a text is written as it is
 line_text-clear : (earlier : List Text) (text : Text) (start len : ℕ) → AreClear earlier → has_escape text ≡ false → line_text earlier text start len ≡ closed (take len (drop start text))
-line_text-clear earlier text start len before clear = by_test (len == 0) refl
-  where
-    by_test : (b : Bool) → (len == 0) ≡ b → (if b then [] else closed (concat (active earlier text start) ++ text_between text start len)) ≡ closed (take len (drop start text))
-    by_test true is = sym (ap (λ n. closed (take n (drop start text))) (eqb-true len 0 is))
-    by_test false is =
-        ap closed (
-        ap (λ (ss : List Text). concat ss ++ text_between text start len) (none_active earlier text start before clear)
-        ∙ ap (λ (ps : List Part). flat_map (λ (p : Part). p.bytes) (parts_up_to len (parts_from start ps))) (clear_parts text clear)
-        ∙ ap (λ (ps : List Part). flat_map (λ (p : Part). p.bytes) (parts_up_to len ps)) (from_clear start text)
-        ∙ up_to_clear len (drop start text))
+line_text-clear earlier text start len before clear =
+    cond_both (len == 0) _ _ (λ t. t ≡ closed (take len (drop start text))) (λ is. sym (ap (λ n. closed (take n (drop start text))) (eqb-true len 0 is)))
+    (λ _. ap closed (
+    ap (λ (ss : List Text). concat ss ++ text_between text start len) (none_active earlier text start before clear)
+    ∙ ap (λ (ps : List Part). flat_map (λ (p : Part). p.bytes) (parts_up_to len (parts_from start ps))) (clear_parts text clear)
+    ∙ ap (λ (ps : List Part). flat_map (λ (p : Part). p.bytes) (parts_up_to len ps)) (from_clear start text)
+    ∙ up_to_clear len (drop start text)))
 
 -- a line that is written as it is seen, closed
 abbrev pub IsClosedLine : CellLine → Type 0
@@ -86,10 +71,8 @@ clear_past w d earlier [] before clear = tt
 clear_past w d earlier (text ∷ texts) before clear =
     let both = or_parts (has_escape text) (list_any has_escape texts) clear in
     every-append IsClosedLine (line_texts_of_text w d earlier text) (line_texts_past w d (earlier ++ text ∷ []) texts)
-    (every-map (StandsIn (visible_text text)) IsClosedLine (λ (p : ℕ × Text). record { seen = p.1; written = line_text earlier text p.0 (length p.1) })
-    (zip (starts_of_text w d (visible_text text)) (lines_of_text w d (visible_text text)))
-    (λ p stands. line_text-clear earlier text p.0 (length p.1) before both.0 ∙ ap (λ (t : Text). closed (take (length p.1) (drop p.0 t))) (sym (clear_text text both.0)) ∙ ap closed stands)
-    (text_lines_stand w d (visible_text text)))
+    (each_slice w d IsClosedLine earlier text (λ start line stands.
+    line_text-clear earlier text start (length line) before both.0 ∙ ap (λ (t : Text). closed (take (length line) (drop start t))) (sym (clear_text text both.0)) ∙ ap closed stands))
     (clear_past w d (earlier ++ text ∷ []) texts (further both.0) both.1)
   where
     further : has_escape text ≡ false → AreClear (earlier ++ text ∷ [])

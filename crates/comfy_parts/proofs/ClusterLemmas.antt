@@ -1,10 +1,10 @@
 -- Where a text is cut between two of its clusters, and that what stands before the cut is its head.
-use Rattle.std.proofs.Common.{◌≡◌, ℕ, ◌+◌, ◌-◌, ◌≤◌, ◌<◌, Bool, true, false, List, [], ◌∷◌, ◌++◌, map, length, take, sum_by, nat_le, refl, sym, ap, ◌∙◌, subst, arith, length-append, append-nil}
+use Rattle.std.proofs.Common.{◌≡◌, ℕ, ◌+◌, ◌-◌, ◌≤◌, ◌<◌, true, List, [], ◌∷◌, ◌++◌, map, length, take, sum_by, nat_le, refl, sym, ap, ◌∙◌, subst, arith, length-append, append-nil}
 use Rattle.std.proofs.Math.Seq.{take-append_seam, get_or-append_seam}
 use Rattle.std.specs.Borrow.{Bor}
 use Rattle.std.specs.List.{All, concat}
-use Rattle.std.specs.Prelude.{if◌then◌else◌}
 use Rattle.std.specs.Str.{IsUtf8, IsCharBoundary}
+use Rattle.std.proofs.lemmas.Bool.{cond-false, cond_both}
 use Rattle.std.proofs.lemmas.Bool.Decides.{nat_tests}
 use Rattle.std.proofs.lemmas.List.{append_assoc, map-append}
 use Rattle.std.proofs.lemmas.List.Folds.{concat-append}
@@ -51,27 +51,17 @@ within-front : (k : ℕ) (qs more : List Text) → sum_by measure qs ≤ k → c
 within-front k [] more fits =
     let same : k ≡ k - 0 = omega arith in
     ap (λ n. clusters_within n more) same
-within-front k (q ∷ qs) more fits = by_test (nat_le (measure q) k) refl (λ h. within-front (k - measure q) qs more h)
-  where
-    sums : sum_by measure (q ∷ qs) ≡ measure q + sum_by measure qs
-    sums = sum_by-cons measure q qs
-
-    by_test : (b : Bool) → nat_le (measure q) k ≡ b
-        → (sum_by measure qs ≤ k - measure q → clusters_within (k - measure q) (qs ++ more) ≡ concat qs ++ clusters_within (k - measure q - sum_by measure qs) more)
-        → (if b then q ++ clusters_within (k - measure q) (qs ++ more) else []) ≡ (q ++ concat qs) ++ clusters_within (k - sum_by measure (q ∷ qs)) more
-    by_test true one rest =
-        let left : k - measure q - sum_by measure qs ≡ k - sum_by measure (q ∷ qs) = omega (arith, sums, fits) in
-        ap (λ t. q ++ t) (rest (omega (arith, sums, fits)) ∙ ap (λ n. concat qs ++ clusters_within n more) left)
-        ∙ sym (append_assoc q (concat qs) (clusters_within (k - sum_by measure (q ∷ qs)) more))
-    by_test false one rest = absurd (grind (arith, nat_tests, one, sums, fits))
+within-front k (q ∷ qs) more fits =
+    let sums = sum_by-cons measure q qs in
+    let left : k - measure q - sum_by measure qs ≡ k - sum_by measure (q ∷ qs) = omega (arith, sums, fits) in
+    cond_both (nat_le (measure q) k) _ _ (λ front. front ≡ (q ++ concat qs) ++ clusters_within (k - sum_by measure (q ∷ qs)) more)
+    (λ _. ap (λ t. q ++ t) (within-front (k - measure q) qs more (omega (arith, sums, fits)) ∙ ap (λ n. concat qs ++ clusters_within n more) left)
+    ∙ sym (append_assoc q (concat qs) (clusters_within (k - sum_by measure (q ∷ qs)) more)))
+    (λ wide. absurd (grind (arith, nat_tests, wide, sums, fits)))
 
 -- a cluster that is too wide ends the head
 within-wide : (k : ℕ) (p : Text) (more : List Text) → k < measure p → clusters_within k (p ∷ more) ≡ []
-within-wide k p more wide = by_test (nat_le (measure p) k) refl
-  where
-    by_test : (b : Bool) → nat_le (measure p) k ≡ b → (if b then p ++ clusters_within (k - measure p) more else []) ≡ []
-    by_test true fits = absurd (grind (arith, nat_tests, fits, wide))
-    by_test false fits = refl
+within-wide k p more wide = cond-false (nat_le (measure p) k) _ _ (grind (arith, nat_tests, wide))
 
 -- the text before the first cluster that is too wide is the head
 pub head-cut : (k : ℕ) (text : Text) (done : List Placed) (x : Placed) (rest : List Placed) → IsUtf8 text → done ++ x ∷ rest ≡ with_offsets 0 (clusters text)

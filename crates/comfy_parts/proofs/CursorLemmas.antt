@@ -1,12 +1,11 @@
 -- A cursor over the parts of a text line: what it passes, and where it stands then.
-use Rattle.std.proofs.Common.{◌≡◌, inl, inr, ◌<◌, ◌≤◌, ℕ, zero, suc, ◌+◌, ◌-◌, Bool, true, false, List, [], ◌∷◌, ◌++◌, length, map, take, drop, nat_lt, replicate, refl, sym, ap, ap₂, ◌∙◌, subst, arith, append_assoc, append-nil, length-append}
+use Rattle.std.proofs.Common.{◌≡◌, ◌⊎◌, inl, inr, ◌<◌, ◌≤◌, ℕ, zero, suc, ◌+◌, ◌-◌, true, false, List, [], ◌∷◌, ◌++◌, length, map, take, drop, replicate, refl, sym, ap, ap₂, ◌∙◌, subst, arith, append_assoc, append-nil, length-append}
 use Rattle.std.specs.List.{concat, flat_map}
 use Rattle.std.specs.Prelude.{if◌then◌else◌, encode_utf8, encode_utf8_all, IsUtf8}
 use Rattle.std.specs.Str.{all_scalars, IsCharBoundary}
 use Rattle.std.proofs.Math.Utf8.{scalar as scalar_of}
 use Rattle.std.proofs.lemmas.Bool.{and_parts}
-use Rattle.std.proofs.lemmas.Bool.Decides.{nat_tests}
-use Rattle.std.proofs.lemmas.Bool.{cond_both}
+use Rattle.std.proofs.lemmas.Bool.{cases_lt, cond_both}
 use Rattle.std.proofs.lemmas.Grind.{flat_map-append}
 use Rattle.std.proofs.Math.Seq.{take-append-add, take-append_seam, take-length, drop-append-add, drop-append_seam}
 use Rattle.std.proofs.lemmas.List.{length-take-le, take-append-le, take_all}
@@ -36,11 +35,8 @@ from_sequence (suc k) p ps is = ap (λ b. parts_from (if b then suc k else k) ps
 -- nor are those before the next visible byte
 from_zero : (k : ℕ) (ps : List Part) → parts_from k (parts_from zero ps) ≡ parts_from k ps
 from_zero k [] = refl
-from_zero k (p ∷ ps) = by_test p.is_sequence refl (from_zero k ps)
-  where
-    by_test : (b : Bool) → p.is_sequence ≡ b → parts_from k (parts_from zero ps) ≡ parts_from k ps → parts_from k (if b then parts_from zero ps else p ∷ ps) ≡ parts_from k (p ∷ ps)
-    by_test true is more = more ∙ sym (from_sequence k p ps is)
-    by_test false is more = refl
+from_zero k (p ∷ ps) =
+    cond_both p.is_sequence _ _ (λ qs. parts_from k qs ≡ parts_from k (p ∷ ps)) (λ is. from_zero k ps ∙ sym (from_sequence k p ps is)) (λ _. refl)
 
 from_nil : (n : ℕ) → parts_from n [] ≡ []
 from_nil zero = refl
@@ -53,11 +49,9 @@ from_further zero k m ps is =
     from_zero k ps ∙ ap (λ j. parts_from j ps) same
 from_further (suc n) k m [] is = from_nil k ∙ sym (from_nil m)
 from_further (suc n) k zero (p ∷ ps) is = absurd (omega (arith, is))
-from_further (suc n) k (suc m) (p ∷ ps) is = from_further (if p.is_sequence then suc n else n) k (if p.is_sequence then suc m else m) ps (by_test p.is_sequence)
-  where
-    by_test : (b : Bool) → (if b then suc m else m) ≡ (if b then suc n else n) + k
-    by_test true = is
-    by_test false = omega (arith, is)
+from_further (suc n) k (suc m) (p ∷ ps) is =
+    from_further (if p.is_sequence then suc n else n) k (if p.is_sequence then suc m else m) ps
+    (elim p.is_sequence as (λ b. (if b then suc m else m) ≡ (if b then suc n else n) + k) [ true ↦ is | false ↦ omega (arith, is) ])
 
 -- the parts up to a visible byte, and those behind it
 pub up_to_behind : (n : ℕ) (ps : List Part) → parts_up_to n ps ++ parts_behind n ps ≡ ps
@@ -201,7 +195,7 @@ drops-behind n run rest few =
 -- visible bytes at a text's front end where a character does
 pub run-place : (n most : ℕ) (text : Text) → IsUtf8 text → n ≤ most → n ≤ length text → (n < most → IsCharBoundary text n)
     → parts text ≡ map visible_part (take n text) ++ parts (drop n text) → IsUtf8 (take most (visible_text text)) → IsCharBoundary text n
-run-place n most text utf8 within inside before divides whole = by_test (nat_lt n most) refl
+run-place n most text utf8 within inside before divides whole = by_order (cases_lt n most)
   where
     front : take n (visible_text text) ≡ take n text
     front =
@@ -209,10 +203,10 @@ run-place n most text utf8 within inside before divides whole = by_test (nat_lt 
         let long = length-take-le n text inside in
         ap (take n) all ∙ take-append-le n (take n text) (visible_text (drop n text)) (omega (arith, long)) ∙ ap (λ k. take k (take n text)) (sym long) ∙ take-length (take n text)
 
-    by_test : (b : Bool) → nat_lt n most ≡ b → IsCharBoundary text n
-    by_test true less = before (grind (arith, nat_tests, less))
-    by_test false equal =
-        let same : most ≡ n = grind (arith, nat_tests, equal, within) in
+    by_order : (n < most) ⊎ (most ≤ n) → IsCharBoundary text n
+    by_order (inl less) = before less
+    by_order (inr equal) =
+        let same : most ≡ n = omega (arith, equal, within) in
         IsCharBoundary-from_take text n utf8 inside (subst IsUtf8 (ap (λ k. take k (visible_text text)) same ∙ front) whole)
 
 -- ---- delimiters
@@ -254,14 +248,8 @@ fewer_seen : (ps : List Part) → length (flat_map visible_bytes ps) ≤ length 
 fewer_seen [] = omega arith
 fewer_seen (p ∷ ps) =
     let both = length-append p.bytes (bytes_of ps) in
-    by_test p.is_sequence (fewer_seen ps) both
-  where
-    by_test : (b : Bool) → length (flat_map visible_bytes ps) ≤ length (bytes_of ps) → length (p.bytes ++ bytes_of ps) ≡ length p.bytes + length (bytes_of ps)
-        → length ((if b then [] else p.bytes) ++ flat_map visible_bytes ps) ≤ length (p.bytes ++ bytes_of ps)
-    by_test true fewer both = omega (arith, fewer, both)
-    by_test false fewer both =
-        let seen = length-append p.bytes (flat_map visible_bytes ps) in
-        omega (arith, fewer, both, seen)
+    cond_both p.is_sequence _ _ (λ bs. length (bs ++ flat_map visible_bytes ps) ≤ length (p.bytes ++ bytes_of ps)) (λ _. omega (arith, fewer_seen ps, both))
+    (λ _. omega (arith, fewer_seen ps, both, length-append p.bytes (flat_map visible_bytes ps)))
 
 -- as many visible bytes as a text has bytes are taken whole
 pub whole_seen : (text : Text) → IsUtf8 text → IsUtf8 (take (length text) (visible_text text))

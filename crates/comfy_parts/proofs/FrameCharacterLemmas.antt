@@ -1,9 +1,9 @@
 -- Characters of frames, and styles that are made of them.
-use Rattle.std.proofs.Common.{◌≡◌, ℕ, Bool, true, false, not, ◌==◌, ◌&&◌, ◌||◌, eqb-true, List, [], ◌∷◌, Option, unwrap_or, refl, sym, subst, ◌∙◌, arith, ⊎_elim}
+use Rattle.std.proofs.Common.{◌≡◌, ℕ, Bool, true, not, ◌==◌, ◌&&◌, ◌||◌, eqb-true, List, [], ◌∷◌, Option, unwrap_or, refl, sym, subst, ◌∙◌, arith, ⊎_elim}
 use Rattle.std.specs.Char.{IsScalar}
 use Rattle.std.specs.Int.{is_in_range}
 use Rattle.std.specs.List.{All, list_all}
-use Rattle.std.proofs.lemmas.Bool.{and_parts, or_cases}
+use Rattle.std.proofs.lemmas.Bool.{and_parts, not-true, or_cases}
 use Rattle.std.proofs.lemmas.Bool.Decides.{nat_tests}
 use Rattle.std.proofs.lemmas.List.Elements.{All-cons, All-nil}
 use Rattle.comfy_parts.proofs.Computing.{wrapping}
@@ -15,10 +15,6 @@ use Rattle.comfy_parts.specs.declared.style.table_style.TableStyle.{TableStyle}
 use Rattle.comfy_parts.specs.Columns.{FrameCharactersAddOneColumn, FrameTextsAreApart, IsOneColumn, IsOneColumnPreset, IsOneColumnStyle, has_frame_characters, is_frame_character, presets_all, style_characters}
 use Rattle.comfy_parts.specs.StyleModifiers.{with_rounded_corners, with_solid_inner_borders}
 
-not-false : (b : Bool) → not b ≡ true → b ≡ false
-not-false true h = sym h
-not-false false h = refl
-
 -- a frame character is of one of three sorts
 by_sort : (P : ℕ → Type 0) (c : ℕ) → (is_in_range 0x2500 0x259F c ≡ true → P c) → P 0x2026 → (is_in_range 0x20 0x7E c ≡ true → not ((c == 0x23) || ((c == 0x2A) || is_in_range 0x30 0x39 c)) ≡ true → P c) → is_frame_character c ≡ true → P c
 by_sort P c box ellipsis low h =
@@ -26,7 +22,7 @@ by_sort P c box ellipsis low h =
     (λ ascii. let parts = and_parts (is_in_range 0x20 0x7E c) _ ascii in low parts.0 parts.1) (or_cases (is_in_range 0x2500 0x259F c || (c == 0x2026)) _ h)
 
 frame_seals : (c : ℕ) → is_frame_character c ≡ true → Seals c
-frame_seals c h = by_sort Seals c (box_seals c) ellipsis_seals (λ ascii plain. low_seals c ascii (not-false _ plain)) h
+frame_seals c h = by_sort Seals c (box_seals c) ellipsis_seals (λ ascii plain. low_seals c ascii (not-true _ plain)) h
 
 frame_scalar : (c : ℕ) → is_frame_character c ≡ true → IsScalar c
 frame_scalar c h = by_sort IsScalar c (λ box. grind (arith, nat_tests, box)) refl (λ ascii plain. grind (arith, nat_tests, ascii)) h

@@ -1,17 +1,17 @@
 -- The part at a text's front: a whole sequence, or visible bytes.
-use Rattle.std.proofs.Common.{◌≡◌, ◌<◌, ℕ, zero, suc, ◌+◌, ◌-◌, Bool, true, false, ◌==◌, ◌&&◌, List, [], ◌∷◌, ◌++◌, length, map, take, drop, nat_lt, refl, sym, ap, ◌∙◌, subst, arith, length-append, eqb-true}
-use Rattle.std.specs.List.{flat_map, list_any, slice_index}
+use Rattle.std.proofs.Common.{◌≡◌, ◌<◌, ℕ, zero, suc, ◌+◌, ◌-◌, ◌/◌, ◌%◌, Bool, true, false, cond, ◌==◌, ⊎_elim, List, [], ◌∷◌, ◌++◌, length, map, take, drop, nat_lt, refl, sym, ap, ◌∙◌, subst, arith, length-append, eqb-true}
+use Rattle.std.specs.List.{flat_map, list_any}
 use Rattle.std.specs.Prelude.{if◌then◌else◌, encode_utf8}
-use Rattle.std.proofs.lemmas.Bool.{or_parts}
+use Rattle.std.proofs.lemmas.Bool.{cases_Bool, or_from, or_parts}
+use lib.Dec.{ltb}
 use Rattle.std.proofs.lemmas.Bool.Decides.{nat_tests}
 use Rattle.std.proofs.lemmas.List.{length-map}
 use Rattle.unicode_segmentation.proofs.TextLemmas.{encode_utf8_nonempty}
 use lib.Utf8.{encode}
 use Rattle.comfy_parts.specs.Cursor.{character_parts, sequence_part, visible_part}
 use Rattle.comfy_parts.specs.Text.{Text}
-use Rattle.comfy_parts.specs.VisibleText.{Part, parameter_count, parts, parts_past, sequence_len, visible_bytes}
-use Rattle.comfy_parts.proofs.SequenceLemmas.{begins_with_sequence, parts-visible}
-use Rattle.comfy_parts.proofs.VisibleWholeLemmas.{encoded_clear}
+use Rattle.comfy_parts.specs.VisibleText.{Part, parts, parts_past, sequence_len, visible_bytes}
+use Rattle.comfy_parts.proofs.SequenceLemmas.{begins_with_sequence, no_sequence, parts-visible}
 
 -- what is skipped gives no part
 parts_past-drop : (n : ℕ) (text : Text) → parts_past n text ≡ parts (drop n text)
@@ -36,13 +36,33 @@ parts-behind_sequence (b ∷ rest) some =
     ∙ ap (λ (ps : List Part). sequence_part (take n (b ∷ rest)) ∷ ps) (parts_past-drop (n - 1) rest ∙ ap parts (drop-next n b rest some))
 
 -- bytes other than ESC are visible
-parts-clear : (xs more : Text) → list_any (λ b. b == 0x1B) xs ≡ false → parts (xs ++ more) ≡ map visible_part xs ++ parts more
+pub parts-clear : (xs more : Text) → list_any (λ b. b == 0x1B) xs ≡ false → parts (xs ++ more) ≡ map visible_part xs ++ parts more
 parts-clear [] more clear = refl
 parts-clear (b ∷ bs) more clear =
     let each = or_parts (b == 0x1B) (list_any (λ b. b == 0x1B) bs) clear in
-    let free : begins_with_sequence (b ∷ (bs ++ more)) ≡ false =
-    ap (λ t. t && ((slice_index (b ∷ (bs ++ more)) 1 == 0x5B) && (slice_index (b ∷ (bs ++ more)) (2 + parameter_count (b ∷ (bs ++ more))) == 0x6D))) each.0 in
-    parts-visible b (bs ++ more) free ∙ ap (λ (ps : List Part). visible_part b ∷ ps) (parts-clear bs more each.1)
+    parts-visible b (bs ++ more) (no_sequence b (bs ++ more) each.0) ∙ ap (λ (ps : List Part). visible_part b ∷ ps) (parts-clear bs more each.1)
+
+-- a greater byte is not ESC
+not_escape : (b : ℕ) → 0x1B < b → (b == 0x1B) ≡ false
+not_escape b high = grind (arith, nat_tests)
+
+-- the bytes of a number other than ESC
+pub encoded_clear : (c : ℕ) → (c == 0x1B) ≡ false → list_any (λ b. b == 0x1B) (encode_utf8 c) ≡ false
+unfolding encode
+encoded_clear c other = by_size (ltb c 128) (ltb c 2048) (ltb c 65536)
+  where
+    next : (n : ℕ) → ((128 + n % 64) == 0x1B) ≡ false
+    next n = not_escape (128 + n % 64) (omega arith)
+
+    by_size : (one two three : Bool)
+        → list_any (λ b. b == 0x1B) (cond one (c ∷ []) (cond two ((192 + c / 64) ∷ (128 + c % 64) ∷ []) (cond three ((224 + c / 4096) ∷ (128 + (c / 64) % 64) ∷ (128 + c % 64) ∷ []) ((240 + c / 262144) ∷ (128 + (c / 4096) % 64) ∷ (128 + (c / 64) % 64) ∷ (128 + c % 64) ∷ [])))) ≡ false
+    by_size true two three = or_from (c == 0x1B) false other refl
+    by_size false true three =
+        or_from _ _ (not_escape (192 + c / 64) (omega arith)) (or_from _ false (next c) refl)
+    by_size false false true =
+        or_from _ _ (not_escape (224 + c / 4096) (omega arith)) (or_from _ _ (next (c / 64)) (or_from _ false (next c) refl))
+    by_size false false false =
+        or_from _ _ (not_escape (240 + c / 262144) (omega arith)) (or_from _ _ (next (c / 4096)) (or_from _ _ (next (c / 64)) (or_from _ false (next c) refl)))
 
 -- an ESC that begins no sequence
 parts-escape : (more : Text) → begins_with_sequence (encode_utf8 0x1B ++ more) ≡ false → parts (encode_utf8 0x1B ++ more) ≡ character_parts 0x1B ++ parts more
@@ -51,14 +71,11 @@ parts-escape more free = parts-visible 0x1B more free
 
 -- the parts of a text with a visible character at its front
 pub parts-character : (c : ℕ) (more : Text) → begins_with_sequence (encode_utf8 c ++ more) ≡ false → parts (encode_utf8 c ++ more) ≡ character_parts c ++ parts more
-parts-character c more free = by_test (c == 0x1B) refl
-  where
-    by_test : (b : Bool) → (c == 0x1B) ≡ b → parts (encode_utf8 c ++ more) ≡ character_parts c ++ parts more
-    by_test true escape =
-        let at : c ≡ 0x1B = eqb-true c 0x1B escape in
-        subst (λ n. parts (encode_utf8 n ++ more) ≡ character_parts n ++ parts more) (sym at)
-        (parts-escape more (ap (λ n. begins_with_sequence (encode_utf8 n ++ more)) (sym at) ∙ free))
-    by_test false other = parts-clear (encode_utf8 c) more (encoded_clear c other)
+parts-character c more free =
+    ⊎_elim (λ escape.
+    let at : c ≡ 0x1B = eqb-true c 0x1B escape in
+    subst (λ n. parts (encode_utf8 n ++ more) ≡ character_parts n ++ parts more) (sym at) (parts-escape more (ap (λ n. begins_with_sequence (encode_utf8 n ++ more)) (sym at) ∙ free)))
+    (λ other. parts-clear (encode_utf8 c) more (encoded_clear c other)) (cases_Bool (c == 0x1B))
 
 -- a character has bytes
 pub character_parts-some : (c : ℕ) (ps : List Part) → length ps < length (character_parts c ++ ps)

@@ -1,11 +1,12 @@
 -- The text of a line of a cell with sequences: no sequence is left open, those that were active are resumed, and what is seen of it is the line.
-use Rattle.std.proofs.Common.{◌≡◌, inl, inr, ◌<◌, ◌≤◌, ℕ, zero, suc, ◌+◌, Bool, true, false, ◌==◌, List, [], ◌∷◌, ◌++◌, length, map, take, drop, refl, sym, ap, ◌∙◌, subst, arith, append_assoc, append-nil}
+use Rattle.std.proofs.Common.{◌≡◌, inl, inr, ◌<◌, ◌≤◌, ℕ, zero, suc, ◌+◌, Bool, true, false, ◌||◌, ◌==◌, List, [], ◌∷◌, ◌++◌, length, map, take, drop, refl, sym, ap, ◌∙◌, subst, arith, append_assoc, append-nil, eqb-true}
 use Rattle.std.specs.List.{list_any, flat_map, concat, AllByRecursion}
 use Rattle.std.specs.Prelude.{if◌then◌else◌, codes}
-use Rattle.std.proofs.lemmas.Bool.{or_parts, or_from}
+use Rattle.std.proofs.lemmas.Bool.{cond_both, or_parts}
 use Rattle.std.proofs.lemmas.Bool.Decides.{nat_tests}
 use Rattle.std.proofs.lemmas.Grind.{flat_map-append}
-use Rattle.std.proofs.lemmas.List.{length-drop}
+use Rattle.std.proofs.lemmas.List.{length-drop, take-append-drop}
+use Rattle.std.proofs.lemmas.List.Folds.{list_any-append}
 use Rattle.comfy_parts.specs.Cursor.{sequence_part}
 use Rattle.comfy_parts.specs.Text.{Text}
 use Rattle.comfy_parts.specs.VisibleText.{Part, parts, visible_bytes, visible_text, reset, open_after, opened, parts_before, parts_from, parts_up_to, active, closing, closed, line_text}
@@ -34,12 +35,9 @@ before_nil (suc n) = refl
 pub before_from : (n : ℕ) (ps : List Part) → parts_before n ps ++ parts_from n ps ≡ ps
 before_from zero [] = refl
 before_from (suc n) [] = refl
-before_from zero (p ∷ ps) = by_test p.is_sequence (before_from zero ps)
-  where
-    by_test : (b : Bool) → parts_before zero ps ++ parts_from zero ps ≡ ps
-        → (if b then p ∷ parts_before zero ps else []) ++ (if b then parts_from zero ps else p ∷ ps) ≡ p ∷ ps
-    by_test true more = ap (λ xs. p ∷ xs) more
-    by_test false more = refl
+before_from zero (p ∷ ps) =
+    elim p.is_sequence as (λ b. (if b then p ∷ parts_before zero ps else []) ++ (if b then parts_from zero ps else p ∷ ps) ≡ p ∷ ps)
+    [ true ↦ ap (λ xs. p ∷ xs) (before_from zero ps) | false ↦ refl ]
 before_from (suc n) (p ∷ ps) = ap (λ xs. p ∷ xs) (before_from (if p.is_sequence then suc n else n) ps)
 
 -- the parts up to a visible byte are the first ones
@@ -79,11 +77,8 @@ before_further zero k m ps is =
 before_further (suc n) k m [] is = before_nil m ∙ sym (before_nil k)
 before_further (suc n) k zero (p ∷ ps) is = absurd (omega (arith, is))
 before_further (suc n) k (suc m) (p ∷ ps) is =
-    ap (λ xs. p ∷ xs) (before_further (if p.is_sequence then suc n else n) k (if p.is_sequence then suc m else m) ps (by_test p.is_sequence))
-  where
-    by_test : (b : Bool) → (if b then suc m else m) ≡ (if b then suc n else n) + k
-    by_test true = is
-    by_test false = omega (arith, is)
+    ap (λ xs. p ∷ xs) (before_further (if p.is_sequence then suc n else n) k (if p.is_sequence then suc m else m) ps
+    (elim p.is_sequence as (λ b. (if b then suc m else m) ≡ (if b then suc n else n) + k) [ true ↦ is | false ↦ omega (arith, is) ]))
 
 -- behind enough visible bytes nothing matters
 before_within : (k len : ℕ) (ps more : List Part) → k < len → k < visible_count ps → parts_before k (parts_up_to len ps ++ more) ≡ parts_before k ps
@@ -147,13 +142,11 @@ closing_part ss = if length ss == 0 then [] else sequence_part reset ∷ []
 
 -- a closed text has the parts of the text, and perhaps a reset
 parts-closed : (text : Text) → parts (closed text) ≡ parts text ++ closing_part (open_after (parts text))
-parts-closed text = by_test (length (open_after (parts text)) == 0)
-  where
-    by_test : (b : Bool) → parts (text ++ (if b then [] else reset)) ≡ parts text ++ (if b then [] else sequence_part reset ∷ [])
-    by_test true = ap parts (append-nil text) ∙ sym (append-nil (parts text))
-    by_test false =
-        ap (λ t. parts (t ++ reset)) (sym (scan text).bytes)
-        ∙ parts-scanned (parts text) reset (scanned-stops (parts text) [] reset (Stops-escape _) (scan text).scanned)
+parts-closed text =
+    elim (length (open_after (parts text)) == 0) as (λ b. parts (text ++ (if b then [] else reset)) ≡ parts text ++ (if b then [] else sequence_part reset ∷ [])) [
+      | true ↦ ap parts (append-nil text) ∙ sym (append-nil (parts text))
+      | false ↦ ap (λ t. parts (t ++ reset)) (sym (scan text).bytes) ∙ parts-scanned (parts text) reset (scanned-stops (parts text) [] reset (Stops-escape _) (scan text).scanned)
+    ]
 
 -- no sequence is open at its end
 pub none_open : (text : Text) → open_after (parts (closed text)) ≡ []
@@ -173,12 +166,8 @@ pub seen-closed : (text : Text) → visible_text (closed text) ≡ visible_text 
 seen-closed text =
     ap seen_of (parts-closed text)
     ∙ flat_map-append visible_bytes (parts text) (closing_part (open_after (parts text)))
-    ∙ ap (λ xs. visible_text text ++ xs) (by_test (length (open_after (parts text)) == 0))
+    ∙ ap (λ xs. visible_text text ++ xs) (cond_both (length (open_after (parts text)) == 0) _ _ (λ ps. seen_of ps ≡ []) (λ _. refl) (λ _. refl))
     ∙ append-nil (visible_text text)
-  where
-    by_test : (b : Bool) → seen_of (if b then [] else sequence_part reset ∷ []) ≡ []
-    by_test true = refl
-    by_test false = refl
 
 -- ---- sequences that are resumed
 
@@ -253,21 +242,13 @@ module _ (earlier : List Text) (text : Text) (start len : ℕ) where
 
   -- no sequence is open at its end
   pub line_closed : open_after (parts (line_text earlier text start len)) ≡ []
-  line_closed = by_test (len == 0)
-    where
-      by_test : (b : Bool) → open_after (parts (if b then [] else closed written)) ≡ []
-      by_test true = refl
-      by_test false = none_open written
+  line_closed = cond_both (len == 0) _ _ (λ t. open_after (parts t) ≡ []) (λ _. refl) (λ _. none_open written)
 
   -- what is seen of it is its slice of what is seen of the text line
   pub line_seen : visible_text (line_text earlier text start len) ≡ take len (drop start (visible_text text))
-  line_seen = by_test (len == 0) refl
-    where
-      by_test : (b : Bool) → (len == 0) ≡ b → visible_text (if b then [] else closed written) ≡ take len (drop start (visible_text text))
-      by_test true none =
-          let zero_len : len ≡ 0 = grind (arith, nat_tests) in
-          ap (λ n. take n (drop start (visible_text text))) (sym zero_len)
-      by_test false some = seen-closed written ∙ seen_written
+  line_seen =
+      cond_both (len == 0) _ _ (λ t. visible_text t ≡ take len (drop start (visible_text text)))
+      (λ none. ap (λ n. take n (drop start (visible_text text))) (sym (eqb-true len 0 none))) (λ _. seen-closed written ∙ seen_written)
 
   -- before each of its visible bytes the sequences are open that are active there
   pub line_resumes : (k : ℕ) → start + len ≤ length (visible_text text) → k < len → open_after (parts_before k (parts (line_text earlier text start len))) ≡ active earlier text (start + k)
@@ -311,11 +292,7 @@ Shows-scanned (p ∷ ps) rest (inr part, more) clear =
 
 -- a reset, written or not, shows nothing
 Shows-closing : (ss : List Text) → Shows [] (closing ss)
-Shows-closing ss = by_test (length ss == 0)
-  where
-    by_test : (b : Bool) → Shows [] (if b then [] else reset)
-    by_test true = Shows-nil
-    by_test false = Shows-sequence (codes "0") refl
+Shows-closing ss = cond_both (length ss == 0) _ _ (Shows []) (λ _. Shows-nil) (λ _. Shows-sequence (codes "0") refl)
 
 -- a text of which no visible byte is ESC, closed
 pub Shows-closed : (text : Text) → list_any (λ b. b == 0x1B) (visible_text text) ≡ false → Shows (visible_text text) (closed text)
@@ -326,36 +303,24 @@ Shows-closed text clear =
 
 -- ---- lines without ESC
 
--- a front of a text without ESC has none
+-- both parts of a text without ESC
+clear-halves : (n : ℕ) (text : Text) → list_any (λ b. b == 0x1B) text ≡ false → (list_any (λ b. b == 0x1B) (take n text) || list_any (λ b. b == 0x1B) (drop n text)) ≡ false
+clear-halves n text clear = sym (list_any-append (λ b. b == 0x1B) (take n text) (drop n text)) ∙ ap (list_any (λ b. b == 0x1B)) (take-append-drop n text) ∙ clear
+
+-- a front of it has none
 clear-take : (n : ℕ) (text : Text) → list_any (λ b. b == 0x1B) text ≡ false → list_any (λ b. b == 0x1B) (take n text) ≡ false
-clear-take zero text clear = refl
-clear-take (suc n) [] clear = refl
-clear-take (suc n) (b ∷ bs) clear =
-    let both = or_parts (b == 0x1B) (list_any (λ b. b == 0x1B) bs) clear in
-    or_from (b == 0x1B) (list_any (λ b. b == 0x1B) (take n bs)) both.0 (clear-take n bs both.1)
+clear-take n text clear = (or_parts (list_any (λ b. b == 0x1B) (take n text)) (list_any (λ b. b == 0x1B) (drop n text)) (clear-halves n text clear)).0
 
 -- nor has an end of it
 clear-drop : (n : ℕ) (text : Text) → list_any (λ b. b == 0x1B) text ≡ false → list_any (λ b. b == 0x1B) (drop n text) ≡ false
-clear-drop zero text clear = clear
-clear-drop (suc n) [] clear = refl
-clear-drop (suc n) (b ∷ bs) clear = clear-drop n bs (or_parts (b == 0x1B) (list_any (λ b. b == 0x1B) bs) clear).1
+clear-drop n text clear = (or_parts (list_any (λ b. b == 0x1B) (take n text)) (list_any (λ b. b == 0x1B) (drop n text)) (clear-halves n text clear)).1
 
 -- the text of a line shows its slice of what is seen of the text line, before any other text
 pub Shows-line_text : (earlier : List Text) (text : Text) (start len : ℕ) → list_any (λ b. b == 0x1B) (visible_text text) ≡ false
     → Shows (take len (drop start (visible_text text))) (line_text earlier text start len)
-Shows-line_text earlier text start len clear = by_test (len == 0) refl
-  where
-    slice : Text
-    slice = take len (drop start (visible_text text))
-
-    slice_clear : list_any (λ b. b == 0x1B) slice ≡ false
-    slice_clear = clear-take len (drop start (visible_text text)) (clear-drop start (visible_text text) clear)
-
-    by_test : (b : Bool) → (len == 0) ≡ b → Shows slice (if b then [] else closed (written earlier text start len))
-    by_test true none =
-        let zero_len : len ≡ 0 = grind (arith, nat_tests) in
-        subst (λ n. Shows (take n (drop start (visible_text text))) []) (sym zero_len) Shows-nil
-    by_test false some =
-        let same = seen_written earlier text start len in
-        subst (λ s. Shows s (closed (written earlier text start len))) same
-        (Shows-closed (written earlier text start len) (ap (list_any (λ b. b == 0x1B)) same ∙ slice_clear))
+Shows-line_text earlier text start len clear =
+    let same = seen_written earlier text start len in
+    let slice = take len (drop start (visible_text text)) in
+    cond_both (len == 0) _ _ (Shows slice) (λ none. subst (λ n. Shows (take n (drop start (visible_text text))) []) (sym (eqb-true len 0 none)) Shows-nil)
+    (λ _. subst (λ s. Shows s (closed (written earlier text start len))) same
+    (Shows-closed (written earlier text start len) (ap (list_any (λ b. b == 0x1B)) same ∙ clear-take len (drop start (visible_text text)) (clear-drop start (visible_text text) clear))))

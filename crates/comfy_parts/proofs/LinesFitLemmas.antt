@@ -1,23 +1,24 @@
 -- Wrapped lines fit their column, where the words that are wider than it are cut well.
-use Rattle.std.proofs.Common.{◌≡◌, ◌<◌, ◌≤◌, ◌⊎◌, inl, inr, ℕ, zero, suc, ◌+◌, ◌-◌, Bool, true, false, ◌&&◌, ◌==◌, List, [], ◌∷◌, ◌++◌, length, take, nat_le, nat_lt, refl, sym, ap, ap₂, ◌∙◌, subst, arith, append-nil, append_assoc, length-append, eqb-true, replicate}
+use Rattle.std.proofs.Common.{◌≡◌, ◌<◌, ◌≤◌, ℕ, zero, suc, ◌+◌, ◌-◌, Bool, true, false, ◌&&◌, ◌==◌, List, [], ◌∷◌, ◌++◌, length, map, nat_le, nat_lt, refl, sym, ap, ◌∙◌, subst, arith, append-nil, append_assoc, length-append, eqb-true, replicate}
 use Rattle.std.specs.Char.{IsScalar}
-use Rattle.std.specs.List.{All}
-use Rattle.std.specs.Prelude.{if◌then◌else◌, encode_utf8, encode_utf8_all, IsUtf8}
-use Rattle.std.specs.Str.{all_scalars, NonePass, NoCharPasses}
-use Rattle.std.proofs.Math.Seq.{take-append_seam}
-use Rattle.std.proofs.lemmas.Bool.{and_parts}
+use Rattle.std.specs.List.{All, slice_split}
+use Rattle.std.specs.Prelude.{chars, encode_utf8, encode_utf8_all, IsUtf8}
+use Rattle.std.specs.Str.{all_scalars}
+use Rattle.std.proofs.lemmas.Bool.{and_parts, cond_both}
 use Rattle.std.proofs.lemmas.Bool.Decides.{nat_tests}
 use Rattle.std.proofs.lemmas.List.{append_cancel_left}
 use Rattle.std.proofs.lemmas.List.Elements.{All-cons, All-nil, All-head, All-tail}
-use Rattle.std.proofs.lemmas.Str.{encodes-append, IsUtf8-append, IsUtf8-nil}
+use Rattle.std.proofs.lemmas.Str.{chars-encodes, encodes-append, encodes-chars, scalars-chars, IsUtf8-append, IsUtf8-nil}
 use Rattle.unicode_segmentation.proofs.TextLemmas.{encode_utf8_nonempty, IsUtf8-after}
 use Rattle.comfy_parts.proofs.ElementLemmas.{elements-none, elements-first}
-use Rattle.comfy_parts.proofs.FollowingLemmas.{first-none, first-rest, line_end-narrow, line_end-wide, some_elements}
+use Rattle.comfy_parts.proofs.FollowingLemmas.{first-rest, line_end-narrow, line_end-wide}
 use Rattle.comfy_parts.proofs.PlaceLemmas.{scalars-parts}
-use Rattle.comfy_parts.proofs.WrappingLemmas.{one_character}
-use Rattle.comfy_parts.specs.Following.{Follow, IsFirstElement, bytes_taken, part_taken}
+use Rattle.comfy_parts.proofs.EndLemmas.{same_front}
+use Rattle.comfy_parts.proofs.PartLemmas.{AreNext, first_part}
+use Rattle.comfy_parts.proofs.WrappingLemmas.{whole-past_gap, one_character}
+use Rattle.comfy_parts.specs.Following.{Follow, IsFirstElement}
 use Rattle.comfy_parts.specs.Text.{Text, measure, head, elements}
-use Rattle.comfy_parts.specs.Wrapping.{IsWrapped, head_or_first, line_end}
+use Rattle.comfy_parts.specs.Wrapping.{IsWrapped, bytes_taken, head_or_first, line_end}
 use Rattle.comfy_parts.proofs.SpaceMeasureLemmas.{measure-nil}
 use Rattle.comfy_parts.specs.Columns.{AddsOneColumn}
 
@@ -28,60 +29,31 @@ pub record IsFittingLine (w : ℕ) (line : Text) : Type 0 where
 
 -- ---- the first element of every text
 
--- the characters before the first delimiter, and those from it on
-record IsRun (d : ℕ) (cs : List ℕ) : Type 0 where
-  run : List ℕ
-  more : List ℕ
-  none : NonePass (λ c. c == d) run
-  splits : cs ≡ run ++ more
-  ends : (more ≡ []) ⊎ ((rest : List ℕ) × (more ≡ d ∷ rest))
-
-first_run : (d : ℕ) (cs : List ℕ) → IsRun d cs
-first_run d [] = record { run = []; more = []; none = tt; splits = refl; ends = inl refl }
-first_run d (c ∷ cs) = by_test (c == d) refl (first_run d cs)
-  where
-    by_test : (b : Bool) → (c == d) ≡ b → IsRun d cs → IsRun d (c ∷ cs)
-    by_test true same rest =
-        record { run = []; more = c ∷ cs; none = tt; splits = refl; ends = inr (cs, ap (λ x. x ∷ cs) (eqb-true c d same)) }
-    by_test false other rest =
-        record { run = c ∷ rest.run; more = rest.more; none = (other, rest.none); splits = ap (λ xs. c ∷ xs) rest.splits; ends = rest.ends }
-
 record HasFirst (d : ℕ) (text : Text) : Type 0 where
   first : Text
   behind : Text
   is : IsFirstElement d text first behind
 
--- an element and what follows it, where a delimiter stands between
-first-before : (d : ℕ) (front rest : Text) → IsScalar d → IsUtf8 front → IsUtf8 rest → NoCharPasses (λ c. c == d) front → IsFirstElement d (front ++ (encode_utf8 d ++ rest)) front (encode_utf8 d ++ rest)
-first-before d front rest scalar utf8 utf8' none =
-    record { others = elements d rest; elements_are = elements-first d front rest scalar utf8 none; follow = by_elements (elements d rest) refl; joined = refl; whole_first = utf8; whole_behind = IsUtf8-append (encode_utf8 d) rest (one_character d scalar).0 utf8' }
-  where
-    by_elements : (es : List Text) → elements d rest ≡ es → Follow d es (encode_utf8 d ++ rest)
-    by_elements [] none = absurd (omega (arith, ap length none, some_elements d rest))
-    by_elements (e ∷ es) some = (rest, refl, some)
+-- after a first part stands what the later elements spell
+follow-parts : (d : ℕ) (parts : List (List ℕ)) (rest : List ℕ) → all_scalars rest ≡ true → AreNext (λ c. c == d) parts rest → Follow d (map encode_utf8_all parts) (encode_utf8_all rest)
+follow-parts d [] rest scalars nothing = ap encode_utf8_all nothing
+follow-parts d (part ∷ parts) rest scalars (c, cs, is, delimiter, are) =
+    let whole = (scalars-parts (c ∷ []) cs (ap all_scalars (sym is) ∙ scalars)).1 in (
+      encode_utf8_all cs,
+      ap encode_utf8_all is ∙ ap (λ x. encode_utf8 x ++ encode_utf8_all cs) (eqb-true c d delimiter),
+      ap (λ xs. map encode_utf8_all (slice_split (λ c. c == d) xs)) (chars-encodes cs whole) ∙ ap (map encode_utf8_all) are,
+    )
 
 -- every text has a first element
-first_exists : (d : ℕ) (text : Text) → IsScalar d → IsUtf8 text → HasFirst d text
-first_exists d text scalar (cs, (scalars, spelt)) = by_ends (first_run d cs).ends
-  where
-    it : IsRun d cs
-    it = first_run d cs
-
-    parts : (all_scalars it.run ≡ true) × (all_scalars it.more ≡ true)
-    parts = scalars-parts it.run it.more (sym (ap all_scalars it.splits) ∙ scalars)
-
-    by_ends : (it.more ≡ []) ⊎ ((rest : List ℕ) × (it.more ≡ d ∷ rest)) → HasFirst d text
-    by_ends (inl nothing) =
-        let whole : encode_utf8_all it.run ≡ text = sym (ap encode_utf8_all (it.splits ∙ ap (λ xs. it.run ++ xs) nothing ∙ append-nil it.run)) ∙ spelt in
-        record { first = text; behind = []; is = first-none d text (cs, (scalars, spelt)) (it.run, whole, it.none) }
-    by_ends (inr (rest, delimiter)) =
-        let splits : encode_utf8_all it.run ++ (encode_utf8 d ++ encode_utf8_all rest) ≡ text = sym (encodes-append it.run (d ∷ rest)) ∙ ap (λ xs. encode_utf8_all (it.run ++ xs)) (sym delimiter) ∙ sym (ap encode_utf8_all it.splits) ∙ spelt in
-        let behind : all_scalars rest ≡ true = (scalars-parts (d ∷ []) rest (ap all_scalars (sym delimiter) ∙ parts.1)).1 in
-        record {
-          first = encode_utf8_all it.run;
-          behind = encode_utf8 d ++ encode_utf8_all rest;
-          is = subst (λ t. IsFirstElement d t (encode_utf8_all it.run) (encode_utf8 d ++ encode_utf8_all rest)) splits (first-before d (encode_utf8_all it.run) (encode_utf8_all rest) scalar (it.run, (parts.0, refl)) (rest, (behind, refl)) (it.run, refl, it.none));
-        }
+first_exists : (d : ℕ) (text : Text) → IsUtf8 text → HasFirst d text
+first_exists d text utf8 =
+    let has = first_part (λ c. c == d) (chars text) in
+    let parts = scalars-parts has.part has.is.rest (sym (ap all_scalars has.is.splits) ∙ scalars-chars text utf8) in
+    record {
+      first = encode_utf8_all has.part;
+      behind = encode_utf8_all has.is.rest;
+      is = record { others = map encode_utf8_all has.parts; elements_are = ap (map encode_utf8_all) has.are; follow = follow-parts d has.parts has.is.rest parts.1 has.is.next; joined = sym (encodes-append has.part has.is.rest) ∙ ap encode_utf8_all (sym has.is.splits) ∙ encodes-chars text utf8; whole_first = (has.part, (parts.0, refl)); whole_behind = (has.is.rest, (parts.1, refl)) };
+    }
 
 -- one list of elements follows
 follow-same : (d : ℕ) (xs ys : List Text) (behind : Text) → Follow d xs behind → Follow d ys behind → xs ≡ ys
@@ -152,8 +124,13 @@ module _ (w d : ℕ) (Word : Text → Type 0) (breaks : BreaksWell w Word) (scal
   takes : (filled : ℕ) (es : List Text) (behind : Text) → Follow d es behind → IsUtf8 behind → All Word es → filled ≤ w → IsTaken filled (bytes_taken w d filled es) behind
   takes filled [] behind none whole words room = takes-none filled behind room whole (words-behind [] behind none words)
   takes filled (next ∷ others) behind (more, splits, parts) whole words room =
-      by_tests (nat_lt (w - 2) filled) (nat_lt w (filled + 1 + measure next)) refl (λ behind' follow whole' fits. takes (filled + measure next + measure (encode_utf8 d)) others behind' follow whole' (All-tail Word next others words) fits)
+      cond_both (nat_lt (w - 2) filled) _ _ Takes (λ _. none)
+      (λ _. cond_both (nat_lt w (filled + 1 + measure next)) _ _ Takes (λ _. cond_both (nat_lt w (measure next) && nat_le (filled + 4) w) _ _ Takes part (λ _. none))
+      (λ test. whole_next test (λ fits. takes filled' others first.behind follow is.whole_behind (All-tail Word next others words) fits)))
     where
+      Takes : ℕ → Type 0
+      Takes n = IsTaken filled n behind
+
       filled' : ℕ
       filled' = filled + measure next + measure (encode_utf8 d)
 
@@ -161,7 +138,7 @@ module _ (w d : ℕ) (Word : Text → Type 0) (breaks : BreaksWell w Word) (scal
       whole_more = IsUtf8-after behind (encode_utf8 d) more whole (one_character d scalar).0 splits
 
       first : HasFirst d more
-      first = first_exists d more scalar whole_more
+      first = first_exists d more whole_more
 
       both : first.first ∷ first.is.others ≡ next ∷ others
       both = sym first.is.elements_are ∙ parts
@@ -182,8 +159,8 @@ module _ (w d : ℕ) (Word : Text → Type 0) (breaks : BreaksWell w Word) (scal
       none = takes-none filled behind room whole (words-behind (next ∷ others) behind (more, splits, parts) words)
 
       -- a part of the next element
-      by_part : (b : Bool) → (nat_lt w (measure next) && nat_le (filled + 4) w) ≡ b → IsTaken filled (if b then length (encode_utf8 d) + length (head (w - filled - 1) next) else 0) behind
-      by_part true takes =
+      part : (nat_lt w (measure next) && nat_le (filled + 4) w) ≡ true → IsTaken filled (length (encode_utf8 d) + length (head (w - filled - 1) next)) behind
+      part takes =
           let tests = and_parts (nat_lt w (measure next)) (nat_le (filled + 4) w) takes in
           let wide : w < measure next = grind (arith, nat_tests, tests.0) in
           let free : filled + 4 ≤ w = grind (arith, nat_tests, tests.1) in
@@ -200,17 +177,14 @@ module _ (w d : ℕ) (Word : Text → Type 0) (breaks : BreaksWell w Word) (scal
             fits = λ front utf8 same. let all = behind-delimiter front part utf8 in let fits = cut.fits in omega (arith, all, fits, same, free);
             keeps = subst (All Word) (sym after.elements_are) (All-cons Word cut.rest after.others cut.keeps (subst (All Word) (follow-same d others after.others first.behind follow after.follow) (All-tail Word next others words)));
           }
-      by_part false refuses = none
 
-      by_tests : (full wide : Bool) → nat_lt w (filled + 1 + measure next) ≡ wide
-          → ((behind' : Text) → Follow d others behind' → IsUtf8 behind' → filled' ≤ w → IsTaken filled' (bytes_taken w d filled' others) behind')
-          → IsTaken filled (if full then 0 else if wide then part_taken w d filled next else length (encode_utf8 d) + length next + bytes_taken w d filled' others) behind
-      by_tests true wide test rest = none
-      by_tests false true test rest = by_part (nat_lt w (measure next) && nat_le (filled + 4) w) refl
-      by_tests false false test rest =
+      -- the whole of it, and what is taken after it
+      whole_next : nat_lt w (filled + 1 + measure next) ≡ false → (filled' ≤ w → IsTaken filled' (bytes_taken w d filled' others) first.behind)
+          → IsTaken filled (length (encode_utf8 d) + length next + bytes_taken w d filled' others) behind
+      whole_next test rest =
           let room' : filled + 1 + measure next ≤ w = grind (arith, nat_tests, test) in
           let place = one in
-          let further = rest first.behind follow is.whole_behind (omega (arith, room', place)) in
+          let further = rest (omega (arith, room', place)) in
           record {
             taken = encode_utf8 d ++ (next ++ further.taken);
             rest = further.rest;
@@ -234,17 +208,11 @@ module _ (w d : ℕ) (Word : Text → Type 0) (breaks : BreaksWell w Word) (scal
     whole : IsUtf8 tail
     keeps : Words tail
 
-  -- a front of a text that has the line's bytes is the line
-  same_line : (line tail front rest : Text) → line ++ tail ≡ front ++ rest → length front ≡ length line → (line ≡ front) × (tail ≡ rest)
-  same_line line tail front rest same bytes =
-      let first : line ≡ front = sym (take-append_seam line tail) ∙ ap₂ (λ n (t : Text). take n t) (sym bytes) same ∙ take-append_seam front rest in
-      (first, append_cancel_left front tail rest (ap (λ t. t ++ tail) (sym first) ∙ same))
-
   line_fits : (line tail : Text) → IsUtf8 (line ++ tail) → Words (line ++ tail) → length line ≡ line_end w d (line ++ tail) → IsLineThatFits line tail
   line_fits line tail utf8 words ends = by_width (nat_lt w (measure has.first)) refl
     where
       has : HasFirst d (line ++ tail)
-      has = first_exists d (line ++ tail) scalar utf8
+      has = first_exists d (line ++ tail) utf8
 
       is : IsFirstElement d (line ++ tail) has.first has.behind
       is = has.is
@@ -260,7 +228,7 @@ module _ (w d : ℕ) (Word : Text → Type 0) (breaks : BreaksWell w Word) (scal
           let front = head_or_first w has.first in
           let cut = breaks.first has.first word is.whole_first (grind (arith, nat_tests, wide)) in
           let splits : line ++ tail ≡ front ++ (cut.rest ++ has.behind) = sym is.joined ∙ ap (λ t. t ++ has.behind) cut.splits ∙ append_assoc front cut.rest has.behind in
-          let same = same_line line tail front (cut.rest ++ has.behind) splits (sym (ends ∙ line_end-wide w d (line ++ tail) has.first has.behind is wide)) in
+          let same = same_front line tail front (cut.rest ++ has.behind) splits (ends ∙ line_end-wide w d (line ++ tail) has.first has.behind is wide) in
           let after : IsFirstElement d (cut.rest ++ has.behind) cut.rest has.behind = first-rest d (line ++ tail) front cut.rest has.behind cut.whole_front cut.whole_rest (subst (λ t. IsFirstElement d (line ++ tail) t has.behind) cut.splits is) in
           record {
             fits = subst (λ t. measure t ≤ w) (sym same.0) cut.fits;
@@ -272,7 +240,7 @@ module _ (w d : ℕ) (Word : Text → Type 0) (breaks : BreaksWell w Word) (scal
           let further = takes (measure has.first) is.others has.behind is.follow is.whole_behind (All-tail Word has.first is.others all) room in
           let splits : line ++ tail ≡ (has.first ++ further.taken) ++ further.rest = sym is.joined ∙ ap (λ t. has.first ++ t) further.splits ∙ sym (append_assoc has.first further.taken further.rest) in
           let bytes : length (has.first ++ further.taken) ≡ length line = length-append has.first further.taken ∙ ap (λ n. length has.first + n) further.bytes ∙ sym (ends ∙ line_end-narrow w d (line ++ tail) has.first has.behind is narrow) in
-          let same = same_line line tail (has.first ++ further.taken) further.rest splits bytes in
+          let same = same_front line tail (has.first ++ further.taken) further.rest splits (sym bytes) in
           record {
             fits = subst (λ t. measure t ≤ w) (sym same.0) (further.fits has.first is.whole_first refl);
             whole = subst IsUtf8 (sym same.1) further.whole_rest;
@@ -290,13 +258,6 @@ module _ (w d : ℕ) (Word : Text → Type 0) (breaks : BreaksWell w Word) (scal
       (All-tail Word [] (elements d more)
       (subst (All Word) (elements-first d [] more scalar IsUtf8-nil ([], refl, tt)) (subst Words (append_assoc (encode_utf8 d) (encode_utf8_all (replicate n d)) rest) words)))
 
-  -- what stands behind a gap is whole characters
-  whole-past_gap : (n : ℕ) (rest : Text) → IsUtf8 (encode_utf8_all (replicate n d) ++ rest) → IsUtf8 rest
-  whole-past_gap zero rest whole = whole
-  whole-past_gap (suc n) rest whole =
-      let more = encode_utf8_all (replicate n d) ++ rest in
-      whole-past_gap n rest (IsUtf8-after (encode_utf8_all (replicate (suc n) d) ++ rest) (encode_utf8 d) more whole (one_character d scalar).0 (append_assoc (encode_utf8 d) (encode_utf8_all (replicate n d)) rest))
-
   -- a line of whole characters that measures at most w
   abbrev Fits : Text → Type 0
   Fits line = IsUtf8 line × (measure line ≤ w)
@@ -307,5 +268,5 @@ module _ (w d : ℕ) (Word : Text → Type 0) (breaks : BreaksWell w Word) (scal
   wrapped-fit text (line ∷ lines) (tail, slice, ends, more) whole words =
       let gap = slice.gap_is_delimiters in
       let splits : text ≡ encode_utf8_all (replicate gap.0 d) ++ (line ++ tail) = slice.splits ∙ ap (λ g. g ++ (line ++ tail)) gap.1 in
-      let it = line_fits line tail (whole-past_gap gap.0 (line ++ tail) (subst IsUtf8 splits whole)) (words-past_gap gap.0 (line ++ tail) (subst Words splits words)) ends in
+      let it = line_fits line tail (whole-past_gap d gap.0 (line ++ tail) (subst IsUtf8 splits whole)) (words-past_gap gap.0 (line ++ tail) (subst Words splits words)) ends in
       All-cons Fits line lines (slice.whole_characters, it.fits) (wrapped-fit tail lines more it.whole it.keeps)

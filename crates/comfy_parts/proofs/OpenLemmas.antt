@@ -35,14 +35,12 @@ bytes_eq-comm (x ∷ xs) (y ∷ ys) = ap₂ (λ a b. a && b) (nat_eq_equiv.symm 
 
 -- a sequence leaves one open where it isn't the reset
 pub is_open-sequence : (ss : List Text) (s : Text) (b : Bool) → b ≡ not (bytes_eq s reset) → b ≡ not (length (opened_by ss (sequence_part s)) == 0)
-is_open-sequence ss s b is = is ∙ ap not (bytes_eq-comm s reset) ∙ by_test (bytes_eq reset s)
-  where
-    by_test : (t : Bool) → not t ≡ not (length (if t then [] else ss ++ s ∷ []) == 0)
-    by_test true = refl
-    by_test false =
-        let len = length-append ss (s ∷ []) in
-        let some : (length (ss ++ s ∷ []) == 0) ≡ false = grind (arith, nat_tests, len) in
-        sym (ap not some)
+is_open-sequence ss s b is =
+    is ∙ ap not (bytes_eq-comm s reset)
+    ∙ elim (bytes_eq reset s) as (λ t. not t ≡ not (length (if t then [] else ss ++ s ∷ []) == 0)) [
+      | true ↦ refl
+      | false ↦ let some : (length (ss ++ s ∷ []) == 0) ≡ false = grind (arith, nat_tests, length-append ss (s ∷ [])) in sym (ap not some)
+    ]
 
 -- ---- what is known of them
 

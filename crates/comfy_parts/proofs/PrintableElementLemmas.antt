@@ -1,16 +1,16 @@
 -- A run of printable ASCII without a delimiter is a text's first element, where a delimiter or nothing follows it.
-use Rattle.std.proofs.Common.{◌≡◌, inl, inr, ◌==◌, ℕ, Bool, true, false, List, [], ◌∷◌, ◌++◌, refl, sym, ap, ◌∙◌, subst, append-nil, arith, length}
+use Rattle.std.proofs.Common.{◌≡◌, inl, inr, ◌==◌, ℕ, Bool, true, false, List, [], ◌∷◌, ◌++◌, sym, ap, ◌∙◌, subst, append-nil}
 use Rattle.std.specs.Char.{IsScalar}
 use Rattle.std.specs.List.{list_any}
 use Rattle.std.specs.Prelude.{encode_utf8_all, IsUtf8}
 use Rattle.std.specs.Str.{NoCharPasses, NonePass}
 use Rattle.std.proofs.lemmas.Bool.{or_parts}
-use Rattle.std.proofs.lemmas.Str.{encodes-chars, IsUtf8-from_ascii}
-use Rattle.comfy_parts.specs.Following.{EndsElement, Follow, IsFirstElement}
+use Rattle.std.proofs.lemmas.Str.{encodes-chars}
+use Rattle.comfy_parts.specs.Following.{EndsElement, IsFirstElement}
 use Rattle.comfy_parts.specs.Text.{Text, elements, is_printable_ascii}
 use Rattle.comfy_parts.proofs.ElementLemmas.{elements-first}
-use Rattle.comfy_parts.proofs.FollowingLemmas.{first-none, some_elements}
-use Rattle.comfy_parts.proofs.PrintableLemmas.{ascii-printable, chars-printable}
+use Rattle.comfy_parts.proofs.FollowingLemmas.{first-none, follow-delimiter}
+use Rattle.comfy_parts.proofs.PrintableLemmas.{IsUtf8-printable, chars-printable}
 
 none_passes : (p : ℕ → Bool) (cs : List ℕ) → list_any p cs ≡ false → NonePass p cs
 none_passes p [] none = tt
@@ -18,29 +18,22 @@ none_passes p (c ∷ cs) none =
     let both = or_parts (p c) (list_any p cs) none in
     (both.0, none_passes p cs both.1)
 
-whole-printable : (text : Text) → is_printable_ascii text ≡ true → IsUtf8 text
-whole-printable text printable = IsUtf8-from_ascii text (ascii-printable text printable)
-
 no_delimiter : (d : ℕ) (front : Text) → is_printable_ascii front ≡ true → list_any (λ b. b == d) front ≡ false → NoCharPasses (λ c. c == d) front
 no_delimiter d front printable none =
-    (front, ap encode_utf8_all (sym (chars-printable front printable)) ∙ encodes-chars front (whole-printable front printable), none_passes (λ c. c == d) front none)
+    (front, ap encode_utf8_all (sym (chars-printable front printable)) ∙ encodes-chars front (IsUtf8-printable front printable), none_passes (λ c. c == d) front none)
 
 pub first-printable : (d : ℕ) (text front behind : Text) → IsScalar d → IsUtf8 text → text ≡ front ++ behind → IsUtf8 behind → is_printable_ascii front ≡ true → list_any (λ b. b == d) front ≡ false
     → EndsElement d behind → IsFirstElement d text front behind
 first-printable d text front behind scalar utf8 splits whole printable none (inl empty) =
     let same : text ≡ front = splits ∙ ap (λ t. front ++ t) empty ∙ append-nil front in
     subst (λ (t : Text). IsFirstElement d text front t) (sym empty)
-    (subst (λ (t : Text). IsFirstElement d t front []) (sym same) (first-none d front (whole-printable front printable) (no_delimiter d front printable none)))
+    (subst (λ (t : Text). IsFirstElement d t front []) (sym same) (first-none d front (IsUtf8-printable front printable) (no_delimiter d front printable none)))
 first-printable d text front behind scalar utf8 splits whole printable none (inr (more, follows)) =
     record {
       others = elements d more;
-      elements_are = ap (elements d) (splits ∙ ap (λ t. front ++ t) follows) ∙ elements-first d front more scalar (whole-printable front printable) (no_delimiter d front printable none);
-      follow = by_elements (elements d more) refl;
+      elements_are = ap (elements d) (splits ∙ ap (λ t. front ++ t) follows) ∙ elements-first d front more scalar (IsUtf8-printable front printable) (no_delimiter d front printable none);
+      follow = follow-delimiter d more behind follows;
       joined = sym splits;
-      whole_first = whole-printable front printable;
+      whole_first = IsUtf8-printable front printable;
       whole_behind = whole;
     }
-  where
-    by_elements : (es : List Text) → elements d more ≡ es → Follow d es behind
-    by_elements [] none = absurd (omega (arith, ap length none, some_elements d more))
-    by_elements (e ∷ es) some = (more, follows, some)

@@ -1,8 +1,8 @@
 -- The parts of a text: a text either begins with an SGR sequence or with a visible byte, and its parts are those of any text with them at its front.
-use Rattle.std.proofs.Common.{◌≡◌, ◌⊎◌, inl, inr, ℕ, suc, ◌+◌, ◌-◌, Bool, true, false, cond, ◌&&◌, ◌==◌, [], ◌∷◌, ◌++◌, length, take, nat_lt, refl, sym, ap, ap₂, ◌∙◌, arith, eqb-true}
+use Rattle.std.proofs.Common.{◌≡◌, ◌⊎◌, inl, inr, ⊎_elim, ℕ, suc, ◌+◌, ◌-◌, Bool, true, false, cond, ◌&&◌, ◌==◌, [], ◌∷◌, ◌++◌, length, take, nat_lt, refl, sym, ap, ap₂, ◌∙◌, arith, eqb-true}
 use Rattle.std.specs.List.{list_all, prefix_len, flat_map, slice_index}
 use Rattle.std.specs.Prelude.{if◌then◌else◌}
-use Rattle.std.proofs.lemmas.Bool.{and_parts, both_ways}
+use Rattle.std.proofs.lemmas.Bool.{and_parts, both_ways, cases_Bool, cond_both}
 use Rattle.std.proofs.lemmas.Bool.Decides.{nat_tests}
 use Rattle.comfy_parts.specs.Text.{Text}
 use Rattle.comfy_parts.specs.VisibleText.{Part, is_parameter, parameter_count, sequence_len, part_at, parts, parts_past, visible_bytes, visible_text}
@@ -40,20 +40,21 @@ pub record BeginsWithSequence (text : Text) : Type 0 where
 -- what is behind ESC and `[` and ends so is parameters, an `m` and a rest
 ends_here-is : (text : Text) → ends_here text ≡ true → (code : Text) × (rest : Text) × (list_all is_parameter code ≡ true) × (text ≡ code ++ (0x6D ∷ rest))
 ends_here-is [] ends = absurd (true_is_false (sym ends))
-ends_here-is (c ∷ cs) ends = by_test (is_parameter c) refl ends (ends_here-is cs)
-  where
-    by_test : (b : Bool) → is_parameter c ≡ b → (slice_index (c ∷ cs) (cond b (1 + prefix_len is_parameter cs) 0) == 0x6D) ≡ true
-        → (ends_here cs ≡ true → (code : Text) × (rest : Text) × (list_all is_parameter code ≡ true) × (cs ≡ code ++ (0x6D ∷ rest)))
-        → (code : Text) × (rest : Text) × (list_all is_parameter code ≡ true) × (c ∷ cs ≡ code ++ (0x6D ∷ rest))
-    by_test true passes ends rest =
-        let more = rest (ap (λ x. x == 0x6D) (sym (one_on c cs (prefix_len is_parameter cs))) ∙ ends) in
-        (c ∷ more.0, more.1, ap (λ b. b && list_all is_parameter more.0) passes ∙ more.2, ap (λ xs. c ∷ xs) more.3)
-    by_test false stops ends rest = ([], cs, refl, ap (λ x. x ∷ cs) (eqb-true c 0x6D ends))
+ends_here-is (c ∷ cs) ends =
+    cond_both (is_parameter c) _ _ (λ n. (slice_index (c ∷ cs) n == 0x6D) ≡ true → (code : Text) × (rest : Text) × (list_all is_parameter code ≡ true) × (c ∷ cs ≡ code ++ (0x6D ∷ rest)))
+    (λ passes ends.
+    let more = ends_here-is cs (ap (λ x. x == 0x6D) (sym (one_on c cs (prefix_len is_parameter cs))) ∙ ends) in
+    (c ∷ more.0, more.1, ap (λ b. b && list_all is_parameter more.0) passes ∙ more.2, ap (λ xs. c ∷ xs) more.3))
+    (λ stops ends. ([], cs, refl, ap (λ x. x ∷ cs) (eqb-true c 0x6D ends))) ends
 
 -- whether a text begins with a sequence
 abbrev pub begins_with_sequence : Text → Bool
 begins_with_sequence text =
     (slice_index text 0 == 0x1B) && ((slice_index text 1 == 0x5B) && (slice_index text (2 + parameter_count text) == 0x6D))
+
+-- at a byte other than ESC none begins
+pub no_sequence : (b : ℕ) (bs : Text) → (b == 0x1B) ≡ false → begins_with_sequence (b ∷ bs) ≡ false
+no_sequence b bs other = rw other refl
 
 -- two bytes in, what is told of the bytes behind them
 two_on : (a b : ℕ) (text : Text) → slice_index (a ∷ b ∷ text) (2 + prefix_len is_parameter text) ≡ slice_index text (prefix_len is_parameter text)
@@ -78,11 +79,7 @@ begins-is (a ∷ b ∷ text) begins =
 
 -- a text begins with a sequence, or has none at its front
 pub front_of : (text : Text) → BeginsWithSequence text ⊎ (begins_with_sequence text ≡ false)
-front_of text = by_test (begins_with_sequence text) refl
-  where
-    by_test : (b : Bool) → begins_with_sequence text ≡ b → BeginsWithSequence text ⊎ (b ≡ false)
-    by_test true begins = inl (begins-is text begins)
-    by_test false free = inr refl
+front_of text = ⊎_elim (λ begins. inl (begins-is text begins)) inr (cases_Bool (begins_with_sequence text))
 
 -- ---- what follows can't make a sequence
 

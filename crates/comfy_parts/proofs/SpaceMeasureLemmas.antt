@@ -4,6 +4,7 @@ use Rattle.std.specs.Char.{IsScalar}
 use Rattle.std.specs.Int.{is_in_range}
 use Rattle.std.specs.List.{list_all}
 use Rattle.std.specs.Prelude.{chars, encode_utf8, IsUtf8}
+use Rattle.std.proofs.lemmas.List.{length-replicate}
 use Rattle.std.proofs.lemmas.Str.{chars-append, encode_ascii, IsUtf8-nil}
 use Rattle.unicode_width.specs.declared.state.State.{State}
 use Rattle.unicode_width.specs.Width.{plain, if_kept, past_emoji, step, read_before, str_width}
@@ -22,17 +23,13 @@ printable-blanks : (n : ℕ) → list_all (is_in_range 0x20 0x7E) (blanks n) ≡
 printable-blanks zero = refl
 printable-blanks (suc n) = printable-blanks n
 
-length-blanks : (n : ℕ) → length (blanks n) ≡ n
-length-blanks zero = refl
-length-blanks (suc n) = ap suc (length-blanks n)
-
 read-append : (xs ys : List ℕ) (r : ℕ × State) → read_before false (xs ++ ys) r ≡ read_before false xs (read_before false ys r)
 read-append [] ys r = refl
 read-append (x ∷ xs) ys r = ap (step false x) (read-append xs ys r)
 
 read-blanks : (n : ℕ) → (n, plain) ≡ read_before false (blanks n) (0, plain)
 read-blanks n =
-    ap (λ (m : ℕ). (m, plain)) (sym (zero-add (length (blanks n)) ∙ length-blanks n)) ∙ read_before-printable false (blanks n) [] 0 (printable-blanks n) refl
+    ap (λ (m : ℕ). (m, plain)) (sym (zero-add (length (blanks n)) ∙ length-replicate n 0x20)) ∙ read_before-printable false (blanks n) [] 0 (printable-blanks n) refl
     ∙ ap (λ l. read_before false l (0, plain)) (append-nil (blanks n))
 
 -- whatever was read before it, a text adds its width to it, where no character is joined at its end

@@ -1,30 +1,22 @@
 -- A line's start, before which delimiters give no line, and its cut from the text's front.
-use Rattle.std.proofs.Common.{◌≡◌, ◌<◌, ℕ, Bool, true, false, ◌==◌, List, [], ◌∷◌, ◌++◌, length, take, drop, None, map, refl, sym, ap, ap₂, ◌∙◌, subst, arith, eqb-true, take_at, drop_at}
+use Rattle.std.proofs.Common.{◌≡◌, ◌<◌, ℕ, Bool, true, false, ◌==◌, List, [], ◌∷◌, ◌++◌, length, take, drop, None, map, refl, sym, ap, ap₂, ◌∙◌, subst, arith, take_at, drop_at}
 use Rattle.std.specs.Char.{IsScalar}
-use Rattle.std.specs.Prelude.{chars, encode_utf8, encode_utf8_all, IsUtf8}
-use Rattle.std.specs.Str.{all_scalars, IsCharBoundary}
+use Rattle.std.specs.Prelude.{encode_utf8, encode_utf8_all, IsUtf8}
+use Rattle.std.specs.Str.{IsCharBoundary}
 use Rattle.std.specs.Str.Pattern.{FindsCharPrefix}
 use Rattle.std.proofs.lemmas.Bool.Decides.{nat_tests}
 use Rattle.std.proofs.lemmas.List.{append_assoc, map-append}
-use Rattle.std.proofs.lemmas.Str.{encodes-append, encodes-chars, scalars-chars, IsCharBoundary-at_seam}
+use Rattle.std.proofs.lemmas.Str.{encodes-chars, IsCharBoundary-at_seam}
 use Rattle.unicode_segmentation.proofs.TextLemmas.{encode_utf8_nonempty}
-use Rattle.comfy_parts.specs.Text.{Text, begins_with, is_first}
+use Rattle.comfy_parts.specs.Text.{Text, begins_with}
 use Rattle.comfy_parts.specs.Wrapping.{wrapped, lines_past, line_end}
-use Rattle.comfy_parts.proofs.PlaceLemmas.{line_end-place, line_end-some, scalars-parts}
-use Rattle.comfy_parts.proofs.WrappingLemmas.{begins_with-delimiter, first_of_text, lines_past-delimiter, lines_past-line}
+use Rattle.comfy_parts.proofs.EndLemmas.{line-first}
+use Rattle.comfy_parts.proofs.WrappingLemmas.{begins_otherwise-unless, begins_with-delimiter, lines_past-delimiter, lines_past-line}
 
 -- where no delimiter is found at the front, the text begins otherwise
 pub begins_otherwise-none : (d : ℕ) (text : Text) → IsUtf8 text → FindsCharPrefix d text None → begins_with d text ≡ false
-begins_otherwise-none d text utf8 none = by_characters (chars text) refl
-  where
-    by_test : (b : Bool) (c : ℕ) (cs : List ℕ) → chars text ≡ c ∷ cs → (c == d) ≡ b → b ≡ false
-    by_test true c cs characters same =
-        absurd (none (encode_utf8_all cs) (sym (encodes-chars text utf8) ∙ ap encode_utf8_all characters ∙ ap (λ x. encode_utf8 x ++ encode_utf8_all cs) (eqb-true c d same)))
-    by_test false c cs characters other = refl
-
-    by_characters : (cs : List ℕ) → chars text ≡ cs → begins_with d text ≡ false
-    by_characters [] characters = ap (is_first d) characters
-    by_characters (c ∷ cs) characters = ap (is_first d) characters ∙ by_test (c == d) c cs characters refl
+begins_otherwise-none d text utf8 none =
+    begins_otherwise-unless d text (λ cs characters. none (encode_utf8_all cs) (sym (encodes-chars text utf8) ∙ ap encode_utf8_all characters))
 
 -- a delimiter at the front gives no line
 pub wrapped-delimiter : (w d : ℕ) (text behind : Text) → IsScalar d → text ≡ encode_utf8 d ++ behind → wrapped w d behind ≡ wrapped w d text
@@ -41,26 +33,15 @@ pub record IsLineCut (w d : ℕ) (text : Text) : Type 0 where
 -- a text that begins otherwise has a line at its front
 pub line-cut : (w d : ℕ) (text : Text) → IsUtf8 text → 0 < length text → begins_with d text ≡ false → IsLineCut w d text
 line-cut w d text utf8 some begins =
-    let scalars = scalars-chars text utf8 in
-    let place = line_end-place w d text scalars in
-    let both = scalars-parts place.front place.back (sym (ap all_scalars place.splits) ∙ scalars) in
-    let line = encode_utf8_all place.front in
-    let tail = encode_utf8_all place.back in
-    let splits : text ≡ line ++ tail = sym (encodes-chars text utf8) ∙ ap encode_utf8_all place.splits ∙ encodes-append place.front place.back in
-    let ends : length line ≡ line_end w d text = place.bytes in
-    let front : take (line_end w d text) text ≡ line = ap (take (line_end w d text)) splits ∙ take_at line tail (line_end w d text) ends in
-    let back : drop (line_end w d text) text ≡ tail = ap (drop (line_end w d text)) splits ∙ drop_at line tail (line_end w d text) ends in
-    let first = first_of_text text utf8 some in
-    let characters : 0 < length (chars text) = subst (λ cs. 0 < length cs) (sym first.2) (omega arith) in
-    let behind : 0 < line_end w d text = line_end-some w d text scalars characters begins in
-    let whole : IsUtf8 tail = (place.back, (both.1, refl)) in
-    let lines : wrapped w d (line ++ tail) ≡ line ∷ wrapped w d tail =
-    lines_past-line w d line tail (omega (arith, ends, behind)) (ap (begins_with d) (sym splits) ∙ begins) (ends ∙ ap (line_end w d) splits) in
+    let it = line-first w d text utf8 in
+    let front : take (line_end w d text) text ≡ it.line = ap (take (line_end w d text)) it.splits ∙ take_at it.line it.tail (line_end w d text) it.ends in
+    let back : drop (line_end w d text) text ≡ it.tail = ap (drop (line_end w d text)) it.splits ∙ drop_at it.line it.tail (line_end w d text) it.ends in
+    let lines = lines_past-line w d it.line it.tail (it.some some begins) (ap (begins_with d) (sym it.splits) ∙ begins) (it.ends ∙ ap (line_end w d) it.splits) in
     record {
-      place = subst (IsCharBoundary text) ends (IsCharBoundary-at_seam text line tail splits whole);
-      some = behind;
-      whole_rest = subst IsUtf8 (sym back) whole;
-      lines = ap (wrapped w d) splits ∙ lines ∙ ap₂ (λ a b. a ∷ wrapped w d b) (sym front) (sym back);
+      place = subst (IsCharBoundary text) it.ends (IsCharBoundary-at_seam text it.line it.tail it.splits it.whole_tail);
+      some = omega (arith, it.ends, it.some some begins);
+      whole_rest = subst IsUtf8 (sym back) it.whole_tail;
+      lines = ap (wrapped w d) it.splits ∙ lines ∙ ap₂ (λ a b. a ∷ wrapped w d b) (sym front) (sym back);
     }
 
 -- what one more push shows, where the rest is to follow

@@ -2,10 +2,10 @@
 use Rattle.std.proofs.Common.{◌≡◌, ◌≢◌, ◌<◌, ◌≤◌, ◌⊎◌, inl, inr, ℕ, ◌+◌, Bool, true, false, not, ◌&&◌, ◌||◌, List, [], ◌∷◌, nat_lt, nat_le, zero, suc, slice_index_or, refl, sym, ap, ◌∙◌, subst, arith, sum_by, ⊎_elim}
 use Rattle.std.specs.Int.{is_in_range}
 use Rattle.std.specs.List.{list_all, list_any}
-use Rattle.std.proofs.lemmas.Bool.{and_parts, or_cases}
+use Rattle.std.proofs.lemmas.Bool.{and_parts, not-true, or_cases}
 use Rattle.std.proofs.lemmas.Bool.Decides.{nat_tests}
 use Rattle.std.proofs.lemmas.List.Sums.{sum_by-cons}
-use Rattle.std.proofs.lemmas.Bool.{or_parts}
+use Rattle.std.proofs.lemmas.Bool.{cases_lt, or_parts}
 use Rattle.ucd_table.specs.Rows.{Range, in_ranges}
 use Rattle.ucd_table.proofs.Facts.{Stepped-everywhere, ends_by}
 use Rattle.ucd_table.proofs.Stepped.{Stepped, of_ranges, zip_stepped}
@@ -89,10 +89,6 @@ high-plain : (c total : ℕ) → nat_lt 0xA0 c ≡ true → step false c (total,
 unfolding step past_emoji
 high-plain c total h = grind (arith, nat_tests, h)
 
-not-false : (b : Bool) → not b ≡ true → b ≡ false
-not-false true h = sym h
-not-false false h = refl
-
 record IsOther (c : ℕ) : Type 0 where
   high : nat_lt 0xA0 c ≡ true
   no_joiner : c ≢ 0x200D
@@ -102,26 +98,17 @@ record IsOther (c : ℕ) : Type 0 where
 -- a number in none of some ranges isn't in the one at position k
 outside_range : (rs : List Range) (k c : ℕ) → in_ranges rs c ≡ false → (c < (slice_index_or rs k (1, 0)).0) ⊎ ((slice_index_or rs k (1, 0)).1 < c)
 unfolding in_ranges
-outside_range [] k c none = by_test (nat_lt c 1) refl
-  where
-    by_test : (b : Bool) → nat_lt c 1 ≡ b → (c < 1) ⊎ (0 < c)
-    by_test true below = inl (grind (arith, nat_tests, below))
-    by_test false above = inr (grind (arith, nat_tests, above))
-outside_range (r ∷ rs) zero c none = by_test (nat_lt c r.0) refl
-  where
-    here : (nat_le r.0 c && nat_le c r.1) ≡ false
-    here = (or_parts (nat_le r.0 c && nat_le c r.1) (in_ranges rs c) none).0
-
-    by_test : (b : Bool) → nat_lt c r.0 ≡ b → (c < r.0) ⊎ (r.1 < c)
-    by_test true below = inl (grind (arith, nat_tests, below))
-    by_test false above = inr (grind (arith, nat_tests, above, here))
+outside_range [] k c none = cases_lt c 1
+outside_range (r ∷ rs) zero c none =
+    let here : (nat_le r.0 c && nat_le c r.1) ≡ false = (or_parts (nat_le r.0 c && nat_le c r.1) (in_ranges rs c) none).0 in
+    ⊎_elim inl (λ above. inr (grind (arith, nat_tests, above, here))) (cases_lt c r.0)
 outside_range (r ∷ rs) (suc k) c none = outside_range rs k c (or_parts (nat_le r.0 c && nat_le c r.1) (in_ranges rs c) none).1
 
 other_parts : (c : ℕ) → (nat_lt 0xA0 c && not (in_ranges joining_characters c)) ≡ true → IsOther c
 unfolding alone
 other_parts c h =
     let both = and_parts (nat_lt 0xA0 c) (not (in_ranges joining_characters c)) h in
-    let none : in_ranges joining_characters c ≡ false = not-false _ both.1 in
+    let none : in_ranges joining_characters c ≡ false = not-true _ both.1 in
     record {
       high = both.0;
       no_joiner = λ same. ⊎_elim (λ below. absurd (omega (arith, below, same))) (λ above. absurd (omega (arith, above, same))) (outside_range joining_characters 12 c none);

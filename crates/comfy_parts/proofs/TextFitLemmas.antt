@@ -1,14 +1,14 @@
 -- The lines of text lines whose words fit are no wider than their column.
-use Rattle.std.proofs.Common.{◌≡◌, ◌<◌, ◌≤◌, inl, inr, ℕ, ◌+◌, zero, suc, Bool, true, false, cond, ◌&&◌, ◌==◌, List, [], ◌∷◌, ◌++◌, nat_le, replicate, slice_index_or, refl, sym, ap, ap₂, ◌∙◌, subst, arith}
+use Rattle.std.proofs.Common.{◌<◌, ◌+◌, ap₂, ◌≤◌, inl, inr, ⊎_elim, ℕ, ◌==◌, List, [], ◌∷◌, ◌++◌, nat_le, slice_index_or, sym, ap, ◌∙◌, subst, arith}
 use Rattle.std.specs.Char.{IsScalar}
-use Rattle.std.specs.List.{All, list_all, onto_first, slice_split}
-use Rattle.std.specs.Prelude.{if◌then◌else◌, chars, encode_utf8_all, IsUtf8}
+use Rattle.std.specs.List.{All, list_all, slice_split}
+use Rattle.std.specs.Prelude.{chars, encode_utf8_all, IsUtf8}
 use Rattle.std.specs.Str.{all_scalars}
 use Rattle.std.proofs.Math.Utf8.{scalar as scalar_of}
 use Rattle.std.proofs.lemmas.Bool.{and_parts, cond_both}
 use Rattle.std.proofs.lemmas.List.Folds.{list_all-append}
 use Rattle.std.proofs.lemmas.Bool.Decides.{nat_tests}
-use Rattle.std.proofs.lemmas.List.Elements.{All-cons, All-nil, All-head, All-tail, All-map, All-weaker}
+use Rattle.std.proofs.lemmas.List.Elements.{All-cons, All-nil, All-map, All-weaker}
 use Rattle.std.proofs.lemmas.Str.{chars-append, chars-encodes, encodes-chars, scalars-chars}
 use Rattle.std.specs.List.{sum_by}
 use Rattle.std.proofs.lemmas.List.Sums.{sum_by-append}
@@ -17,7 +17,10 @@ use Rattle.comfy_parts.specs.Columns.{AddingUpFits, AddsUp, PartsAddUp, TextFits
 use Rattle.comfy_parts.specs.Text.{Text, measure, head, elements}
 use Rattle.comfy_parts.specs.Wrapping.{IsWrapped, head_or_first, lines_of_text, wrapped}
 use Rattle.comfy_parts.proofs.LinesFitLemmas.{BreaksWell, IsCut, IsFittingLine, wrapped-fit}
+use Rattle.comfy_parts.proofs.PlainLineLemmas.{parts-all}
 use Rattle.comfy_parts.proofs.SpaceMeasureLemmas.{measure-nil}
+use Rattle.comfy_parts.proofs.UncutLemmas.{only-utf8}
+use Rattle.std.proofs.lemmas.List.Sums.{AllPass-from_list_all}
 use Rattle.comfy_parts.proofs.SumKindLemmas.{summed_add_up}
 use Rattle.comfy_parts.proofs.WordLemmas as words
 use Rattle.comfy_parts.proofs.WrappedLemmas.{wrapped_is_wrapped}
@@ -52,14 +55,12 @@ breaks-words w = record { empty = inl (let none = measure-nil in omega (arith, n
 
 -- the lines of a text that fits do
 pub text_lines_fit : (w d : ℕ) (text : Text) → IsScalar d → IsUtf8 text → TextFits w d text → All (IsFittingLine w) (lines_of_text w d text)
-text_lines_fit w d text scalar utf8 fits = by_test (nat_le (measure text) w) refl fits
-  where
-    by_test : (b : Bool) → nat_le (measure text) w ≡ b → TextFits w d text → All (IsFittingLine w) (if b then text ∷ [] else wrapped w d text)
-    by_test true narrow fits = All-cons (IsFittingLine w) text [] (record { whole = utf8; fits = grind (arith, nat_tests, narrow) }) (All-nil (IsFittingLine w))
-    by_test false wide (inl fits) = absurd (grind (arith, nat_tests, wide, fits))
-    by_test false wide (inr (adds, each)) =
-        All-weaker (λ line. IsUtf8 line × (measure line ≤ w)) (IsFittingLine w) (λ line both. record { whole = both.0; fits = both.1 }) (wrapped w d text)
-        (wrapped-fit w d (WordFits w) (breaks-words w) scalar adds text (wrapped w d text) (wrapped_is_wrapped w d text scalar utf8) utf8 each)
+text_lines_fit w d text scalar utf8 fits =
+    cond_both (nat_le (measure text) w) _ _ (All (IsFittingLine w))
+    (λ narrow. All-cons (IsFittingLine w) text [] (record { whole = utf8; fits = grind (arith, nat_tests, narrow) }) (All-nil (IsFittingLine w)))
+    (λ wide. ⊎_elim (λ fits. absurd (grind (arith, nat_tests, wide, fits)))
+    (λ words. All-weaker (λ line. IsUtf8 line × (measure line ≤ w)) (IsFittingLine w) (λ line both. record { whole = both.0; fits = both.1 }) (wrapped w d text)
+    (wrapped-fit w d (WordFits w) (breaks-words w) scalar words.0 text (wrapped w d text) (wrapped_is_wrapped w d text scalar utf8) utf8 words.1)) fits)
 
 pub text_lines_narrow : (w d : ℕ) (text : Text) → TextLinesFit w d text
 text_lines_narrow w d text scalar utf8 fits =
@@ -73,27 +74,13 @@ head-summed k text utf8 summed =
 
 -- ---- texts whose characters add up
 
--- what each item meets, each item of the parts between others does
-split-all : (f p : ℕ → Bool) (xs : List ℕ) → list_all f xs ≡ true → All (λ part. list_all f part ≡ true) (slice_split p xs)
-split-all f p [] each = All-cons (λ part. list_all f part ≡ true) [] [] refl (All-nil (λ part. list_all f part ≡ true))
-split-all f p (x ∷ xs) each = by_test (p x) (slice_split p xs) (split-all f p xs parts.1)
-  where
-    parts : (f x ≡ true) × (list_all f xs ≡ true)
-    parts = and_parts (f x) (list_all f xs) each
-
-    by_test : (b : Bool) (others : List (List ℕ)) → All (λ part. list_all f part ≡ true) others → All (λ part. list_all f part ≡ true) (cond b ([] ∷ others) (onto_first x others))
-    by_test true others rest = All-cons (λ part. list_all f part ≡ true) [] others refl rest
-    by_test false [] rest = All-cons (λ part. list_all f part ≡ true) (x ∷ []) [] (ap₂ ◌&&◌ parts.0 refl) (All-nil (λ part. list_all f part ≡ true))
-    by_test false (part ∷ others) rest =
-        All-cons (λ part. list_all f part ≡ true) (x ∷ part) others (ap₂ ◌&&◌ parts.0 (All-head (λ part. list_all f part ≡ true) part others rest)) (All-tail (λ part. list_all f part ≡ true) part others rest)
-
 -- the elements of such a text are such texts
 elements-add_up : (d : ℕ) (text : Text) → IsUtf8 text → AddsUp text → All AddsUp (elements d text)
 elements-add_up d text utf8 each =
     All-map AddsUp encode_utf8_all (slice_split (λ c. c == d) (chars text))
     (λ k default below.
-    let whole = split-all scalar_of (λ c. c == d) (chars text) (scalars-chars text utf8) k default below in
-    ap (list_all joins_no_other) (chars-encodes (slice_index_or (slice_split (λ c. c == d) (chars text)) k default) whole) ∙ split-all joins_no_other (λ c. c == d) (chars text) each k default below)
+    let whole = AllPass-from_list_all all_scalars (slice_split (λ c. c == d) (chars text)) (parts-all scalar_of (λ c. c == d) (chars text) (scalars-chars text utf8)) k default below in
+    ap (list_all joins_no_other) (chars-encodes (slice_index_or (slice_split (λ c. c == d) (chars text)) k default) whole) ∙ AllPass-from_list_all (list_all joins_no_other) (slice_split (λ c. c == d) (chars text)) (parts-all joins_no_other (λ c. c == d) (chars text) each) k default below)
 
 -- so such a text fits each column of two or more
 pub adding_up_fits : (w d : ℕ) (text : Text) → AddingUpFits w d text
@@ -115,17 +102,12 @@ parts_add_up front back utf8 each =
     let other = summed_add_up.sums (chars back) both.1 in
     whole ∙ (ap (sum_by (width_or_zero false)) (chars-append front back utf8) ∙ (sum_by-append (width_or_zero false) (chars front) (chars back) ∙ ap₂ ◌+◌ (sym one) (sym other)))
 
--- delimiters are whole characters
-whole_gap : (d n : ℕ) → IsScalar d → all_scalars (replicate n d) ≡ true
-whole_gap d zero scalar = refl
-whole_gap d (suc n) scalar = ap₂ ◌&&◌ scalar (whole_gap d n scalar)
-
 -- the lines of such a text are such texts
 wrapped-add_up : (w d : ℕ) (text : Text) (lines : List Text) → IsScalar d → IsWrapped w d text lines → AddsUp text → All AddsUp lines
 wrapped-add_up w d text [] scalar wrapped each = All-nil AddsUp
 wrapped-add_up w d text (line ∷ lines) scalar (tail, slice, ends, more) each =
     let gap = slice.gap_is_delimiters in
-    let behind = (add_up-parts slice.gap (line ++ tail) (replicate gap.0 d, (whole_gap d gap.0 scalar, sym gap.1)) (subst AddsUp slice.splits each)).1 in
+    let behind = (add_up-parts slice.gap (line ++ tail) (only-utf8 d slice.gap scalar gap) (subst AddsUp slice.splits each)).1 in
     let both = add_up-parts line tail slice.whole_characters behind in
     All-cons AddsUp line lines both.0 (wrapped-add_up w d tail lines scalar more both.1)
 

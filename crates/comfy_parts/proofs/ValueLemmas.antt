@@ -1,10 +1,11 @@
 -- The laws of texts of cells, and of columns that grow.
-use Rattle.std.proofs.Common.{◌≡◌, ◌==◌, ℕ, ◌-◌, Bool, true, false, List, [], ◌∷◌, length, map, arith, refl, length-append, String, string_bytes}
+use Rattle.std.proofs.Common.{◌≡◌, ◌==◌, ℕ, ◌-◌, false, List, [], ◌∷◌, length, map, arith, refl, length-append, String, string_bytes}
 use Rattle.std.proofs.lemmas.List.{length-map}
 use Rattle.std.proofs.lemmas.List.Elements.{All-cons, All-nil, All-head, All-tail}
 use Rattle.std.specs.List.{All, list_any, onto_first, range_with_len, slice_split}
 use Rattle.std.proofs.lemmas.List.FromFn.{length-range_with_len}
-use Rattle.std.proofs.lemmas.List.Splits.{join_with_byte-slice_split, length-slice_split, slice_split-cons_no, slice_split-cons_yes}
+use Rattle.std.proofs.lemmas.Bool.{cond_both}
+use Rattle.std.proofs.lemmas.List.Splits.{join_with_byte-slice_split, length-slice_split}
 use Rattle.comfy_parts.specs.CellValue.{ColumnValue, HasTextLines, NoFewerColumns, new_column, content_of, plain_cell}
 use Rattle.std.proofs.lemmas.Str.{IsUtf8-string_bytes}
 use Rattle.std.specs.Str.{IsUtf8}
@@ -31,11 +32,10 @@ unbroken-onto_first c (line ∷ lines) other each =
 -- what stands between the line feeds is unbroken
 unbroken-split : (text : Text) → All IsUnbroken (slice_split (λ b. b == 0x0A) text)
 unbroken-split [] = All-cons IsUnbroken [] [] refl (All-nil IsUnbroken)
-unbroken-split (c ∷ cs) = by_test (c == 0x0A) refl (unbroken-split cs)
-  where
-    by_test : (b : Bool) → (c == 0x0A) ≡ b → All IsUnbroken (slice_split (λ b. b == 0x0A) cs) → All IsUnbroken (slice_split (λ b. b == 0x0A) (c ∷ cs))
-    by_test true is rest = rw (slice_split-cons_yes (λ b. b == 0x0A) c cs is) (All-cons IsUnbroken [] (slice_split (λ b. b == 0x0A) cs) refl rest)
-    by_test false is rest = rw (slice_split-cons_no (λ b. b == 0x0A) c cs is) (unbroken-onto_first c (slice_split (λ b. b == 0x0A) cs) is rest)
+unbroken-split (c ∷ cs) =
+    let rest = unbroken-split cs in
+    cond_both (c == 0x0A) _ _ (All IsUnbroken) (λ _. All-cons IsUnbroken [] (slice_split (λ b. b == 0x0A) cs) refl rest)
+    (λ other. unbroken-onto_first c (slice_split (λ b. b == 0x0A) cs) other rest)
 
 -- what strings hold is whole characters
 whole_texts : {A : Type 0} (texts : List (String A)) → All IsUtf8 (map string_bytes texts)

@@ -1,8 +1,9 @@
 -- The lines of a cell with sequences: they are seen as the lines of the visible text, and each is written as its slice with the sequences resumed and closed.
-use Rattle.std.proofs.Common.{◌≡◌, ℕ, zero, suc, ◌+◌, ◌-◌, Bool, true, false, ◌==◌, List, [], ◌∷◌, ◌++◌, length, map, take, drop, zip, nat_le, refl, sym, ap, ap₂, ◌∙◌, subst, arith, ◌<◌, ◌≤◌, append_assoc}
+use Rattle.std.proofs.Common.{◌≡◌, ℕ, zero, suc, ◌+◌, ◌-◌, Bool, true, false, ◌==◌, List, [], ◌∷◌, ◌++◌, length, map, take, drop, zip, nat_le, refl, sym, ap, ap₂, ◌∙◌, subst, arith, ◌<◌, ◌≤◌, append_assoc, slice_index_or}
 use Rattle.std.specs.List.{list_any, flat_map, AllByRecursion}
 use Rattle.std.specs.Prelude.{if◌then◌else◌}
-use Rattle.std.proofs.lemmas.List.{map-append, length-take, length-drop}
+use Rattle.std.proofs.lemmas.List.{map-append, length-take, length-drop, take_min}
+use Rattle.std.proofs.Math.Seq.{drop-cons, take-length}
 use Rattle.comfy_parts.specs.Text.{Text, measure, begins_with}
 use Rattle.comfy_parts.specs.VisibleLines.{CellLine, starts_past, starts_of_text, line_texts_of_text, line_texts_past, line_texts}
 use Rattle.comfy_parts.specs.VisibleText.{parts, visible_text, open_after, line_text}
@@ -13,28 +14,17 @@ use Rattle.comfy_parts.proofs.ShownLemmas.{Shows}
 
 -- ---- lists
 
--- a whole list is taken
-take-length : {X : Type 0} (xs : List X) → take (length xs) xs ≡ xs
-take-length [] = refl
-take-length {X} (x ∷ xs) = ap (λ (ys : List X). x ∷ ys) (take-length xs)
-
 -- a front is as long as it is
-take-take : {X : Type 0} (n : ℕ) (xs : List X) → take (length (take n xs)) xs ≡ take n xs
-take-take zero xs = refl
-take-take (suc n) [] = refl
-take-take {X} (suc n) (x ∷ xs) = ap (λ (ys : List X). x ∷ ys) (take-take n xs)
+take-front : (n : ℕ) (xs : Text) → take (length (take n xs)) xs ≡ take n xs
+take-front n xs = ap (λ k. take k xs) (length-take n xs) ∙ take_min n xs
 
 -- one element more is dropped
 drop_next : (n : ℕ) (xs : Text) (b : ℕ) (rest : Text) → drop n xs ≡ b ∷ rest → drop (n + 1) xs ≡ rest
 drop_next n xs b rest is =
     let next : n + 1 ≡ suc n = omega arith in
-    ap (λ k. drop k xs) next ∙ one n xs is
-  where
-    one : (n : ℕ) (xs : Text) → drop n xs ≡ b ∷ rest → drop (suc n) xs ≡ rest
-    one zero [] is = absurd (let len = ap length is in omega (arith, len))
-    one zero (x ∷ xs) is = ap (drop 1) is
-    one (suc n) [] is = absurd (let len = ap length is in omega (arith, len))
-    one (suc n) (x ∷ xs) is = one n xs is
+    let both : slice_index_or xs n 0 ∷ drop (suc n) xs ≡ b ∷ rest = sym (drop-cons xs n 0 (omega (arith, length-drop n xs, ap length is))) ∙ is in
+    let behind : drop (suc n) xs ≡ rest = cc both in
+    ap (λ k. drop k xs) next ∙ behind
 
 -- what holds of pairs, in front of others
 zip-one : (P : ℕ × Text → Type 0) (t : Bool) (at : ℕ) (line : Text) (starts : List ℕ) (lines : List Text) → P (at, line) → AllByRecursion P (zip starts lines)
@@ -63,7 +53,7 @@ lines_stand w d whole at (suc skip) (b ∷ rest) is = lines_stand w d whole (at 
 lines_stand w d whole at zero (b ∷ rest) is =
     let line : Text = take (line_end w d (b ∷ rest)) (b ∷ rest) in
     zip-one (StandsIn whole) (begins_with d (b ∷ rest)) at line (starts_past w d (at + 1) (part_end w d (b ∷ rest) - 1) rest) (lines_past w d (part_end w d (b ∷ rest) - 1) rest)
-    (ap (take (length line)) is ∙ take-take (line_end w d (b ∷ rest)) (b ∷ rest))
+    (ap (take (length line)) is ∙ take-front (line_end w d (b ∷ rest)) (b ∷ rest))
     (lines_stand w d whole (at + 1) (part_end w d (b ∷ rest) - 1) rest (drop_next at whole b rest is))
 
 -- there are as many places as lines
@@ -78,24 +68,20 @@ as_many w d at zero (b ∷ rest) =
 
 -- the lines of a text stand at their places
 pub text_lines_stand : (w d : ℕ) (text : Text) → AllByRecursion (StandsIn text) (zip (starts_of_text w d text) (lines_of_text w d text))
-text_lines_stand w d text = by_test (nat_le (measure text) w)
-  where
-    by_test : (b : Bool) → AllByRecursion (StandsIn text) (zip (if b then 0 ∷ [] else starts_past w d 0 0 text) (if b then text ∷ [] else wrapped w d text))
-    by_test true = (take-length text, tt)
-    by_test false = lines_stand w d text 0 0 text refl
+text_lines_stand w d text =
+    elim (nat_le (measure text) w) as (λ b. AllByRecursion (StandsIn text) (zip (if b then 0 ∷ [] else starts_past w d 0 0 text) (if b then text ∷ [] else wrapped w d text)))
+    [ true ↦ (take-length text, tt) | false ↦ lines_stand w d text 0 0 text refl ]
 
 -- as many as there are
 as_many_lines : (w d : ℕ) (text : Text) → map (λ (p : ℕ × Text). p.1) (zip (starts_of_text w d text) (lines_of_text w d text)) ≡ lines_of_text w d text
-as_many_lines w d text = by_test (nat_le (measure text) w)
-  where
-    by_test : (b : Bool) → map (λ (p : ℕ × Text). p.1) (zip (if b then 0 ∷ [] else starts_past w d 0 0 text) (if b then text ∷ [] else wrapped w d text)) ≡ (if b then text ∷ [] else wrapped w d text)
-    by_test true = refl
-    by_test false = as_many w d 0 0 text
+as_many_lines w d text =
+    elim (nat_le (measure text) w) as (λ b. map (λ (p : ℕ × Text). p.1) (zip (if b then 0 ∷ [] else starts_past w d 0 0 text) (if b then text ∷ [] else wrapped w d text)) ≡ (if b then text ∷ [] else wrapped w d text))
+    [ true ↦ refl | false ↦ as_many w d 0 0 text ]
 
 -- ---- lines that are written
 
 -- what a function gives of each
-pub every-map : {X Y : Type 0} (P : X → Type 0) (Q : Y → Type 0) (f : X → Y) (xs : List X) → ((x : X) → P x → Q (f x)) → AllByRecursion P xs → AllByRecursion Q (map f xs)
+every-map : {X Y : Type 0} (P : X → Type 0) (Q : Y → Type 0) (f : X → Y) (xs : List X) → ((x : X) → P x → Q (f x)) → AllByRecursion P xs → AllByRecursion Q (map f xs)
 every-map P Q f [] gives each = tt
 every-map P Q f (x ∷ xs) gives each = (gives x each.0, every-map P Q f xs gives each.1)
 
@@ -133,60 +119,42 @@ each_line w d P Q gives earlier (text ∷ more) each =
     every-append Q (line_texts_of_text w d earlier text) (line_texts_past w d (earlier ++ text ∷ []) more) (gives earlier text each.0)
     (each_line w d P Q gives (earlier ++ text ∷ []) more each.1)
 
+-- what holds of the text of each slice of what is visible holds of each line of a text line
+pub each_slice : (w d : ℕ) (Q : CellLine → Type 0) (earlier : List Text) (text : Text)
+    → ((start : ℕ) (line : Text) → take (length line) (drop start (visible_text text)) ≡ line → Q (record { seen = line; written = line_text earlier text start (length line) }))
+    → AllByRecursion Q (line_texts_of_text w d earlier text)
+each_slice w d Q earlier text gives =
+    every-map (StandsIn (visible_text text)) Q (λ (p : ℕ × Text). record { seen = p.1; written = line_text earlier text p.0 (length p.1) }) (zip (starts_of_text w d (visible_text text)) (lines_of_text w d (visible_text text)))
+    (λ p stands. gives p.0 p.1 stands) (text_lines_stand w d (visible_text text))
+
+-- what holds of any text
+always : (xs : List Text) → AllByRecursion (λ (x : Text). Unit {0}) xs
+always [] = tt
+always (x ∷ xs) = (tt, always xs)
+
 -- no sequence is open at the end of a line
 pub lines_closed : (w d : ℕ) (text_lines : List Text) → AllByRecursion (λ (line : CellLine). open_after (parts line.written) ≡ []) (line_texts w d text_lines)
-lines_closed w d text_lines = each_line w d (λ text. Unit {0}) Closed of_text [] text_lines (always text_lines)
-  where
-    Closed : CellLine → Type 0
-    Closed line = open_after (parts line.written) ≡ []
-
-    of_text : (earlier : List Text) (text : Text) → Unit {0} → AllByRecursion Closed (line_texts_of_text w d earlier text)
-    of_text earlier text _ =
-        every-map (StandsIn (visible_text text)) Closed (λ (p : ℕ × Text). record { seen = p.1; written = line_text earlier text p.0 (length p.1) }) (zip (starts_of_text w d (visible_text text)) (lines_of_text w d (visible_text text)))
-        (λ p stands. line_closed earlier text p.0 (length p.1)) (text_lines_stand w d (visible_text text))
-
-    always : (xs : List Text) → AllByRecursion (λ (x : Text). Unit {0}) xs
-    always [] = tt
-    always (x ∷ xs) = (tt, always xs)
+lines_closed w d text_lines =
+    each_line w d (λ text. Unit {0}) _ (λ earlier text _. each_slice w d (λ (line : CellLine). open_after (parts line.written) ≡ []) earlier text (λ start line stands. line_closed earlier text start (length line))) [] text_lines (always text_lines)
 
 -- the sequences taken out of a line's text, what is seen of it is left
 pub lines_seen : (w d : ℕ) (text_lines : List Text) → AllByRecursion (λ (line : CellLine). visible_text line.written ≡ line.seen) (line_texts w d text_lines)
-lines_seen w d text_lines = each_line w d (λ text. Unit {0}) Seen of_text [] text_lines (always text_lines)
-  where
-    Seen : CellLine → Type 0
-    Seen line = visible_text line.written ≡ line.seen
-
-    of_text : (earlier : List Text) (text : Text) → Unit {0} → AllByRecursion Seen (line_texts_of_text w d earlier text)
-    of_text earlier text _ =
-        every-map (StandsIn (visible_text text)) Seen (λ (p : ℕ × Text). record { seen = p.1; written = line_text earlier text p.0 (length p.1) }) (zip (starts_of_text w d (visible_text text)) (lines_of_text w d (visible_text text)))
-        (λ p stands. line_seen earlier text p.0 (length p.1) ∙ stands) (text_lines_stand w d (visible_text text))
-
-    always : (xs : List Text) → AllByRecursion (λ (x : Text). Unit {0}) xs
-    always [] = tt
-    always (x ∷ xs) = (tt, always xs)
+lines_seen w d text_lines =
+    each_line w d (λ text. Unit {0}) _ (λ earlier text _. each_slice w d (λ (line : CellLine). visible_text line.written ≡ line.seen) earlier text (λ start line stands. line_seen earlier text start (length line) ∙ stands)) [] text_lines (always text_lines)
 
 -- where no visible text holds ESC, also before any other text
 pub lines_show : (w d : ℕ) (text_lines : List Text) → AllByRecursion (λ text. list_any (λ b. b == 0x1B) (visible_text text) ≡ false) text_lines
     → AllByRecursion (λ (line : CellLine). Shows line.seen line.written) (line_texts w d text_lines)
-lines_show w d text_lines each = each_line w d Clear Shown of_text [] text_lines each
-  where
-    Clear : Text → Type 0
-    Clear text = list_any (λ b. b == 0x1B) (visible_text text) ≡ false
-
-    Shown : CellLine → Type 0
-    Shown line = Shows line.seen line.written
-
-    of_text : (earlier : List Text) (text : Text) → Clear text → AllByRecursion Shown (line_texts_of_text w d earlier text)
-    of_text earlier text clear =
-        every-map (StandsIn (visible_text text)) Shown (λ (p : ℕ × Text). record { seen = p.1; written = line_text earlier text p.0 (length p.1) }) (zip (starts_of_text w d (visible_text text)) (lines_of_text w d (visible_text text)))
-        (λ p stands. subst (λ s. Shows s (line_text earlier text p.0 (length p.1))) stands (Shows-line_text earlier text p.0 (length p.1) clear)) (text_lines_stand w d (visible_text text))
+lines_show w d text_lines each =
+    each_line w d (λ text. list_any (λ b. b == 0x1B) (visible_text text) ≡ false) _
+    (λ earlier text clear. each_slice w d (λ (line : CellLine). Shows line.seen line.written) earlier text
+    (λ start line stands. subst (λ s. Shows s (line_text earlier text start (length line))) stands (Shows-line_text earlier text start (length line) clear))) [] text_lines each
 
 -- before each visible byte of a line the sequences are open that are active there
 resumed_of_text : (w d : ℕ) (text_lines earlier : List Text) (text : Text) (later : List Text) → text_lines ≡ earlier ++ text ∷ later → AllByRecursion (IsResumedLine text_lines) (line_texts_of_text w d earlier text)
 resumed_of_text w d text_lines earlier text later is =
-    every-map (StandsIn (visible_text text)) (IsResumedLine text_lines) (λ (p : ℕ × Text). record { seen = p.1; written = line_text earlier text p.0 (length p.1) }) (zip (starts_of_text w d (visible_text text)) (lines_of_text w d (visible_text text)))
-    (λ p stands. record { earlier = earlier; text = text; later = later; in_cell = is; start = p.0; place = stands; resumed = λ k below. line_resumes earlier text p.0 (length p.1) k (within p.0 p.1 stands k below) below })
-    (text_lines_stand w d (visible_text text))
+    each_slice w d (IsResumedLine text_lines) earlier text
+    (λ start line stands. record { earlier = earlier; text = text; later = later; in_cell = is; start = start; place = stands; resumed = λ k below. line_resumes earlier text start (length line) k (within start line stands k below) below })
   where
     within : (start : ℕ) (line : Text) → StandsIn (visible_text text) (start, line) → (k : ℕ) → k < length line → start + length line ≤ length (visible_text text)
     within start line stands k below =

@@ -1,55 +1,36 @@
 -- The visible text of whole characters is whole characters.
-use Rattle.std.proofs.Common.{◌≡◌, ◌⊎◌, inl, inr, ◌<◌, ◌≤◌, ℕ, zero, suc, ◌+◌, ◌/◌, ◌%◌, Bool, true, false, cond, ◌==◌, List, [], ◌∷◌, ◌++◌, length, drop, refl, sym, ap, ◌∙◌, subst, arith, length-append, eqb-true}
-use Rattle.std.specs.List.{list_any, slice_index}
+use Rattle.std.proofs.Common.{◌≡◌, ◌⊎◌, inl, inr, ◌<◌, ◌≤◌, ℕ, zero, suc, ◌+◌, true, false, List, [], ◌∷◌, ◌++◌, length, drop, refl, sym, ap, ◌∙◌, subst, arith, length-append}
+use Rattle.std.specs.List.{slice_index}
 use Rattle.std.specs.Prelude.{if◌then◌else◌, encode_utf8, encode_utf8_all, IsUtf8}
 use Rattle.std.specs.Str.{all_scalars}
-use Rattle.std.proofs.lemmas.Bool.{and_parts, or_from}
-use Rattle.std.proofs.lemmas.Bool.Decides.{nat_tests}
+use Rattle.std.proofs.lemmas.Bool.{and_parts, cond_both}
 use Rattle.std.proofs.lemmas.List.{append_assoc}
 use Rattle.std.proofs.lemmas.List.Prefix.{front_rest}
 use Rattle.std.proofs.Math.Utf8.{scalar as scalar_of}
 use Rattle.comfy_parts.proofs.WrappingLemmas.{one_character}
 use Rattle.std.proofs.lemmas.Str.{IsUtf8-append, IsUtf8-drop, IsUtf8-nil, IsCharBoundary-after_ascii}
 use Rattle.unicode_segmentation.proofs.TextLemmas.{encode_utf8_nonempty}
-use lib.Dec.{ltb}
 use lib.Utf8.{encode}
 use Rattle.comfy_parts.specs.Text.{Text}
-use Rattle.comfy_parts.specs.VisibleText.{parameter_count, sequence_len, visible_text, visible_bytes}
-use Rattle.comfy_parts.proofs.SequenceLemmas.{BeginsWithSequence, begins_with_sequence, front_of, parts-sequence, parts-visible, sequence_len-sequence, slice_index_behind}
-use Rattle.comfy_parts.proofs.ShownLemmas.{Shows-clear}
+use Rattle.comfy_parts.specs.VisibleText.{parts, parameter_count, sequence_len, visible_text, visible_bytes}
+use Rattle.comfy_parts.proofs.SequenceLemmas.{BeginsWithSequence, begins_with_sequence, front_of, parts-sequence, sequence_len-sequence, slice_index_behind}
+use Rattle.comfy_parts.proofs.FrontLemmas.{character-seen, parts-character}
+pub use Rattle.comfy_parts.proofs.FrontLemmas.{encoded_clear}
 use Rattle.std.specs.List.{flat_map}
 
--- a greater byte is not ESC
-not_escape : (b : ℕ) → 0x1B < b → (b == 0x1B) ≡ false
-not_escape b high = grind (arith, nat_tests)
-
--- the bytes of a number other than ESC
-pub encoded_clear : (c : ℕ) → (c == 0x1B) ≡ false → list_any (λ b. b == 0x1B) (encode_utf8 c) ≡ false
-unfolding encode
-encoded_clear c other = by_size (ltb c 128) (ltb c 2048) (ltb c 65536)
-  where
-    next : (n : ℕ) → ((128 + n % 64) == 0x1B) ≡ false
-    next n = not_escape (128 + n % 64) (omega arith)
-
-    by_size : (one two three : Bool)
-        → list_any (λ b. b == 0x1B) (cond one (c ∷ []) (cond two ((192 + c / 64) ∷ (128 + c % 64) ∷ []) (cond three ((224 + c / 4096) ∷ (128 + (c / 64) % 64) ∷ (128 + c % 64) ∷ []) ((240 + c / 262144) ∷ (128 + (c / 4096) % 64) ∷ (128 + (c / 64) % 64) ∷ (128 + c % 64) ∷ [])))) ≡ false
-    by_size true two three = or_from (c == 0x1B) false other refl
-    by_size false true three =
-        or_from _ _ (not_escape (192 + c / 64) (omega arith)) (or_from _ false (next c) refl)
-    by_size false false true =
-        or_from _ _ (not_escape (224 + c / 4096) (omega arith)) (or_from _ _ (next (c / 64)) (or_from _ false (next c) refl))
-    by_size false false false =
-        or_from _ _ (not_escape (240 + c / 262144) (omega arith)) (or_from _ _ (next (c / 4096)) (or_from _ _ (next (c / 64)) (or_from _ false (next c) refl)))
+-- what stands after a sequence at the front
+past_sequence : (text : Text) (s : BeginsWithSequence text) (n : ℕ) → n ≡ length s.code + 3 → drop n text ≡ s.rest
+past_sequence text s n place =
+    let front : Text = 0x1B ∷ 0x5B ∷ (s.code ++ (0x6D ∷ [])) in
+    let whole : n ≡ length front = omega (arith, place, length-append s.code (0x6D ∷ [])) in
+    ap (λ i. drop i text) whole ∙ front_rest text front s.rest (s.is ∙ ap (λ xs. 0x1B ∷ 0x5B ∷ xs) (sym (append_assoc s.code (0x6D ∷ []) s.rest)))
 
 -- what stands behind a sequence is whole characters
 rest_whole : (text : Text) (s : BeginsWithSequence text) → IsUtf8 text → IsUtf8 s.rest
 rest_whole text s utf8 =
-    subst IsUtf8 behind
+    subst IsUtf8 (past_sequence text s (length s.code + 2 + 1) (omega arith))
     (IsUtf8-drop text (length s.code + 2 + 1) utf8 (IsCharBoundary-after_ascii text (length s.code + 2) utf8 (omega (arith, long, more)) (omega (arith, last))))
   where
-    front : Text
-    front = 0x1B ∷ 0x5B ∷ (s.code ++ (0x6D ∷ []))
-
     more : length (s.code ++ (0x6D ∷ s.rest)) ≡ length s.code + length (0x6D ∷ s.rest)
     more = length-append s.code (0x6D ∷ s.rest)
 
@@ -61,23 +42,13 @@ rest_whole text s utf8 =
         let place : length s.code + 2 ≡ suc (suc (length s.code)) = omega arith in
         ap (slice_index text) place ∙ ap (λ (t : Text). slice_index t (suc (suc (length s.code)))) s.is ∙ slice_index_behind s.code 0x6D s.rest
 
-    joined : text ≡ front ++ s.rest
-    joined = s.is ∙ ap (λ xs. 0x1B ∷ 0x5B ∷ xs) (sym (append_assoc s.code (0x6D ∷ []) s.rest))
-
-    behind : drop (length s.code + 2 + 1) text ≡ s.rest
-    behind =
-        let front_len = length-append s.code (0x6D ∷ []) in
-        let place : length s.code + 2 + 1 ≡ length front = omega (arith, front_len) in
-        ap (λ n. drop n text) place ∙ front_rest text front s.rest joined
-
 -- of each text that isn't longer
 abbrev WholeWithin : ℕ → Type 0
 WholeWithin fuel = (text : Text) → length text ≤ fuel → IsUtf8 text → IsUtf8 (visible_text text)
 
--- an ESC that begins no sequence
-escape_shown : (more : Text) → begins_with_sequence (encode_utf8 0x1B ++ more) ≡ false → visible_text (encode_utf8 0x1B ++ more) ≡ encode_utf8 0x1B ++ visible_text more
-unfolding encode
-escape_shown more free = ap (flat_map visible_bytes) (parts-visible 0x1B more free)
+-- a character without a sequence at its place stays
+pub visible_character : (c : ℕ) (more : Text) → begins_with_sequence (encode_utf8 c ++ more) ≡ false → visible_text (encode_utf8 c ++ more) ≡ encode_utf8 c ++ visible_text more
+visible_character c more free = ap (flat_map visible_bytes) (parts-character c more free) ∙ character-seen c (parts more)
 
 -- behind a visible character
 behind_character : (fuel c : ℕ) (cs : List ℕ) (text : Text) → text ≡ encode_utf8 c ++ encode_utf8_all cs → all_scalars (c ∷ cs) ≡ true → begins_with_sequence text ≡ false → length text ≤ suc fuel → WholeWithin fuel → IsUtf8 (visible_text text)
@@ -97,14 +68,7 @@ behind_character fuel c cs text is scalars free short rest =
         omega (arith, some, bytes, short)
 
     shown : visible_text text ≡ encode_utf8 c ++ visible_text more
-    shown = ap visible_text is ∙ by_test (c == 0x1B) refl
-      where
-        by_test : (b : Bool) → (c == 0x1B) ≡ b → visible_text (encode_utf8 c ++ more) ≡ encode_utf8 c ++ visible_text more
-        by_test true escape =
-            let at : c ≡ 0x1B = eqb-true c 0x1B escape in
-            subst (λ n. visible_text (encode_utf8 n ++ more) ≡ encode_utf8 n ++ visible_text more) (sym at)
-            (escape_shown more (ap (λ n. begins_with_sequence (encode_utf8 n ++ more)) (sym at) ∙ ap begins_with_sequence (sym is) ∙ free))
-        by_test false other = (Shows-clear (encode_utf8 c) (encoded_clear c other)).shows more
+    shown = ap visible_text is ∙ visible_character c more (ap begins_with_sequence (sym is) ∙ free)
 
 whole_within : (fuel : ℕ) → WholeWithin fuel
 whole_within fuel [] short utf8 = IsUtf8-nil
@@ -128,21 +92,8 @@ visible_text-whole text utf8 = whole_within (length text) text (omega arith) utf
 
 -- without a sequence at the front the text doesn't begin with one
 pub none_at_front : (text : Text) → sequence_len text ≡ 0 → begins_with_sequence text ≡ false
-none_at_front text none = by_test (begins_with_sequence text) none
-  where
-    by_test : (b : Bool) → (if b then parameter_count text + 3 else 0) ≡ 0 → b ≡ false
-    by_test true len = absurd (omega (arith, len))
-    by_test false len = refl
-
--- a character without a sequence at its place stays
-pub visible_character : (c : ℕ) (more : Text) → begins_with_sequence (encode_utf8 c ++ more) ≡ false → visible_text (encode_utf8 c ++ more) ≡ encode_utf8 c ++ visible_text more
-visible_character c more free = by_test (c == 0x1B) refl
-  where
-    by_test : (b : Bool) → (c == 0x1B) ≡ b → visible_text (encode_utf8 c ++ more) ≡ encode_utf8 c ++ visible_text more
-    by_test true escape =
-        let at : c ≡ 0x1B = eqb-true c 0x1B escape in
-        subst (λ n. visible_text (encode_utf8 n ++ more) ≡ encode_utf8 n ++ visible_text more) (sym at) (escape_shown more (ap (λ n. begins_with_sequence (encode_utf8 n ++ more)) (sym at) ∙ free))
-    by_test false other = (Shows-clear (encode_utf8 c) (encoded_clear c other)).shows more
+none_at_front text none =
+    cond_both (begins_with_sequence text) _ _ (λ n. n ≡ 0 → begins_with_sequence text ≡ false) (λ _ len. absurd (omega (arith, len))) (λ free _. free) none
 
 -- what stands behind a sequence at the front
 pub record IsBehind (text rest : Text) : Type 0 where
@@ -155,15 +106,6 @@ behind_sequence text utf8 some = by_front (front_of text)
     by_front : BeginsWithSequence text ⊎ (begins_with_sequence text ≡ false) → IsBehind text (drop (sequence_len text) text)
     by_front (inr free) = absurd (let none = ap (λ b. if b then parameter_count text + 3 else 0) free in omega (arith, none, some))
     by_front (inl s) =
-        subst (IsBehind text) (sym behind)
+        let len : sequence_len text ≡ length s.code + 3 = ap sequence_len s.is ∙ sequence_len-sequence s.code s.rest s.parameters ∙ omega arith in
+        subst (IsBehind text) (sym (past_sequence text s (sequence_len text) len))
         (record { seen = ap visible_text s.is ∙ ap (flat_map visible_bytes) (parts-sequence s.code s.rest s.parameters); whole = rest_whole text s utf8 })
-      where
-        front : Text
-        front = 0x1B ∷ 0x5B ∷ (s.code ++ (0x6D ∷ []))
-
-        behind : drop (sequence_len text) text ≡ s.rest
-        behind =
-            let front_len = length-append s.code (0x6D ∷ []) in
-            let len = ap sequence_len s.is ∙ sequence_len-sequence s.code s.rest s.parameters in
-            let place : sequence_len text ≡ length front = omega (arith, front_len, len) in
-            ap (λ n. drop n text) place ∙ front_rest text front s.rest (s.is ∙ ap (λ xs. 0x1B ∷ 0x5B ∷ xs) (sym (append_assoc s.code (0x6D ∷ []) s.rest)))

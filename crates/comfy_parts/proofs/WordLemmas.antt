@@ -1,18 +1,18 @@
 -- Texts of characters whose widths add up are cut well.
 use Rattle.std.proofs.Common.{◌≡◌, ◌≤◌, ℕ, ◌-◌, Bool, true, false, ◌==◌, List, [], ◌∷◌, ◌++◌, length, map, take, nat_le, refl, sym, ap, ◌∙◌, subst, arith, append_assoc, sum_by}
-use Rattle.std.specs.List.{list_all}
-use Rattle.std.specs.Prelude.{if◌then◌else◌, chars, encode_utf8_all, IsUtf8}
+use Rattle.std.specs.List.{concat, list_all}
+use Rattle.std.specs.Prelude.{encode_utf8_all, IsUtf8}
 use Rattle.std.specs.Str.{all_scalars}
 use Rattle.std.proofs.lemmas.Bool.{and_parts, cond_both}
 use Rattle.std.proofs.lemmas.Bool.Decides.{nat_tests}
 use Rattle.std.proofs.lemmas.List.Folds.{list_all-append}
 use Rattle.std.proofs.lemmas.List.Sums.{sum_by-cons, sum_by-append}
-use Rattle.std.proofs.lemmas.Str.{chars-encodes, encodes-append, scalars-chars, IsUtf8-append, IsUtf8-nil}
+use Rattle.std.proofs.lemmas.Str.{chars-encodes, encodes-append, scalars-chars}
 use Rattle.unicode_segmentation.specs.Grapheme.{is_grapheme_break}
-use Rattle.unicode_segmentation.specs.Segments.{Rule, cut, prepend, segments}
+use Rattle.unicode_segmentation.specs.Segments.{cut, segments}
 use Rattle.unicode_width.specs.Width.{str_width}
 use Rattle.unicode_width.proofs.Rules.{width_or_zero}
-use Rattle.comfy_parts.proofs.PlaceLemmas.{scalars-parts}
+use Rattle.comfy_parts.proofs.PlaceLemmas.{concat-cut, head-front, scalars-parts}
 use Rattle.comfy_parts.specs.Text.{Text, measure, clusters_within, first_character, head}
 use Rattle.comfy_parts.specs.Wrapping.{head_or_first}
 use Rattle.comfy_parts.proofs.LinesFitLemmas.{BreaksWell, IsCut}
@@ -22,37 +22,10 @@ pub record AddUp (kind : ℕ → Bool) : Type 0 where
   pub sums : (cs : List ℕ) → list_all kind cs ≡ true → str_width false cs ≡ sum_by (width_or_zero false) cs
   pub narrow : (c : ℕ) → kind c ≡ true → width_or_zero false c ≤ 2
 
--- the characters of all pieces, in a row
-abbrev joined_chars : List (List ℕ) → List ℕ
-joined_chars [] = []
-joined_chars (cs ∷ css) = cs ++ joined_chars css
-
-joined-prepend : (part : List ℕ) (pieces : List (List ℕ)) → joined_chars (prepend part pieces) ≡ part ++ joined_chars pieces
-joined-prepend part [] = refl
-joined-prepend part (piece ∷ pieces) = append_assoc part piece (joined_chars pieces)
-
-joined-cut : (rule : Rule) (before cs after : List ℕ) → joined_chars (cut rule before cs after) ≡ cs
-unfolding cut
-joined-cut rule before [] after = refl
-joined-cut rule before (c ∷ cs) after = by_test (rule (c ∷ before) (cs ++ after)) (joined-cut rule (c ∷ before) cs after)
-  where
-    by_test : (b : Bool) → joined_chars (cut rule (c ∷ before) cs after) ≡ cs
-        → joined_chars (if b then (c ∷ []) ∷ cut rule (c ∷ before) cs after else prepend (c ∷ []) (cut rule (c ∷ before) cs after)) ≡ c ∷ cs
-    by_test true rest = ap (λ more. c ∷ more) rest
-    by_test false rest = joined-prepend (c ∷ []) (cut rule (c ∷ before) cs after) ∙ ap (λ more. c ∷ more) rest
-
--- the head of a text is whole characters
-within-whole : (k : ℕ) (css : List (List ℕ)) → all_scalars (joined_chars css) ≡ true → IsUtf8 (clusters_within k (map encode_utf8_all css))
-within-whole k [] scalars = IsUtf8-nil
-within-whole k (cs ∷ css) scalars =
-    let whole = scalars-parts cs (joined_chars css) scalars in
-    cond_both (nat_le (measure (encode_utf8_all cs)) k) _ _ IsUtf8
-    (λ _. IsUtf8-append (encode_utf8_all cs) _ (cs, (whole.0, refl)) (within-whole (k - measure (encode_utf8_all cs)) css whole.1)) (λ _. IsUtf8-nil)
-
 pub head-utf8 : (k : ℕ) (text : Text) → IsUtf8 text → IsUtf8 (head k text)
-unfolding segments
 head-utf8 k text utf8 =
-    within-whole k (cut (is_grapheme_break true) [] (chars text) []) (ap all_scalars (joined-cut (is_grapheme_break true) [] (chars text) []) ∙ scalars-chars text utf8)
+    let it = head-front k text in
+    (it.front, ((scalars-parts it.front it.back (sym (ap all_scalars it.splits) ∙ scalars-chars text utf8)).0, it.spelt))
 
 module _ (kind : ℕ → Bool) (add_up : AddUp kind) where
   -- a text of such characters
@@ -73,29 +46,24 @@ module _ (kind : ℕ → Bool) (add_up : AddUp kind) where
     spelt : encode_utf8_all front ≡ taken
     fits : sum_by (width_or_zero false) front ≤ k
 
-  within-fits : (k : ℕ) (css : List (List ℕ)) → all_scalars (joined_chars css) ≡ true → list_all kind (joined_chars css) ≡ true
-      → IsFitHead k (joined_chars css) (clusters_within k (map encode_utf8_all css))
+  within-fits : (k : ℕ) (css : List (List ℕ)) → all_scalars (concat css) ≡ true → list_all kind (concat css) ≡ true
+      → IsFitHead k (concat css) (clusters_within k (map encode_utf8_all css))
   within-fits k [] scalars each = record { front = []; back = []; splits = refl; spelt = refl; fits = omega arith }
   within-fits k (cs ∷ css) scalars each =
-      let whole = scalars-parts cs (joined_chars css) scalars in
-      let kinds = and_parts (list_all kind cs) (list_all kind (joined_chars css)) (sym (list_all-append kind cs (joined_chars css)) ∙ each) in
-      by_test (nat_le (measure (encode_utf8_all cs)) k) refl (measure-encoded cs whole.0 kinds.0) (within-fits (k - measure (encode_utf8_all cs)) css whole.1 kinds.1)
-    where
-      by_test : (b : Bool) → nat_le (measure (encode_utf8_all cs)) k ≡ b → measure (encode_utf8_all cs) ≡ sum_by (width_or_zero false) cs
-          → IsFitHead (k - measure (encode_utf8_all cs)) (joined_chars css) (clusters_within (k - measure (encode_utf8_all cs)) (map encode_utf8_all css))
-          → IsFitHead k (cs ++ joined_chars css) (if b then encode_utf8_all cs ++ clusters_within (k - measure (encode_utf8_all cs)) (map encode_utf8_all css) else [])
-      by_test true test sums rest =
-          let sum = sum_by-append (width_or_zero false) cs rest.front in
-          let within = rest.fits in
-          let one : measure (encode_utf8_all cs) ≤ k = grind (arith, nat_tests, test) in
-          record { front = cs ++ rest.front; back = rest.back; splits = ap (λ xs. cs ++ xs) rest.splits ∙ sym (append_assoc cs rest.front rest.back); spelt = encodes-append cs rest.front ∙ ap (λ t. encode_utf8_all cs ++ t) rest.spelt; fits = omega (arith, sum, within, one, sums) }
-      by_test false test sums rest = record { front = []; back = cs ++ joined_chars css; splits = refl; spelt = refl; fits = omega arith }
+      let whole = scalars-parts cs (concat css) scalars in
+      let kinds = and_parts (list_all kind cs) (list_all kind (concat css)) (sym (list_all-append kind cs (concat css)) ∙ each) in
+      let rest = within-fits (k - measure (encode_utf8_all cs)) css whole.1 kinds.1 in
+      cond_both (nat_le (measure (encode_utf8_all cs)) k) _ _ (IsFitHead k (cs ++ concat css))
+      (λ test.
+      let one : measure (encode_utf8_all cs) ≤ k = grind (arith, nat_tests, test) in
+      record { front = cs ++ rest.front; back = rest.back; splits = ap (λ xs. cs ++ xs) rest.splits ∙ sym (append_assoc cs rest.front rest.back); spelt = encodes-append cs rest.front ∙ ap (λ t. encode_utf8_all cs ++ t) rest.spelt; fits = omega (arith, sum_by-append (width_or_zero false) cs rest.front, rest.fits, one, measure-encoded cs whole.0 kinds.0) })
+      (λ _. record { front = []; back = cs ++ concat css; splits = refl; spelt = refl; fits = omega arith })
 
   -- the head of such a text
   head-fits : (k : ℕ) (cs : List ℕ) → all_scalars cs ≡ true → list_all kind cs ≡ true → IsFitHead k cs (head k (encode_utf8_all cs))
   unfolding segments
   head-fits k cs scalars each =
-      let joined : joined_chars (cut (is_grapheme_break true) [] cs []) ≡ cs = joined-cut (is_grapheme_break true) [] cs [] in
+      let joined : concat (cut (is_grapheme_break true) [] cs []) ≡ cs = concat-cut (is_grapheme_break true) [] cs [] in
       subst (λ xs. IsFitHead k cs (clusters_within k (map encode_utf8_all (cut (is_grapheme_break true) [] xs [])))) (sym (chars-encodes cs scalars))
       (subst (λ xs. IsFitHead k xs (clusters_within k (map encode_utf8_all (cut (is_grapheme_break true) [] cs [])))) joined
       (within-fits k (cut (is_grapheme_break true) [] cs []) (ap all_scalars joined ∙ scalars) (ap (list_all kind) joined ∙ each)))
@@ -139,9 +107,5 @@ module _ (kind : ℕ → Bool) (add_up : AddUp kind) where
       record {
         empty = record { characters = []; scalars = refl; spelt = refl; each = refl };
         part = λ k word summed utf8 wide. head-cut k word summed;
-        first = λ word summed utf8 wide. subst (λ t. IsCut IsSummed w (head_or_first w t) t) summed.spelt (cut-front w summed.characters (head_or_first w (encode_utf8_all summed.characters)) summed.scalars summed.each (by_test summed.characters summed.scalars summed.each (length (head w (encode_utf8_all summed.characters)) == 0)));
+        first = λ word summed utf8 wide. subst (λ t. IsCut IsSummed w (head_or_first w t) t) summed.spelt (cut-front w summed.characters (head_or_first w (encode_utf8_all summed.characters)) summed.scalars summed.each (cond_both (length (head w (encode_utf8_all summed.characters)) == 0) _ _ (IsFitHead w summed.characters) (λ _. first-fits w summed.characters two summed.scalars summed.each) (λ _. head-fits w summed.characters summed.scalars summed.each)));
       }
-    where
-      by_test : (cs : List ℕ) → all_scalars cs ≡ true → list_all kind cs ≡ true → (b : Bool) → IsFitHead w cs (if b then first_character (encode_utf8_all cs) else head w (encode_utf8_all cs))
-      by_test cs scalars each true = first-fits w cs two scalars each
-      by_test cs scalars each false = head-fits w cs scalars each

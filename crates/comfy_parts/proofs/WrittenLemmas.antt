@@ -4,8 +4,8 @@ use Rattle.std.specs.Char.{IsScalar}
 use Rattle.std.specs.List.{concat, flat_map}
 use Rattle.std.specs.Prelude.{if◌then◌else◌, encode_utf8, encode_utf8_all, IsUtf8}
 use Rattle.std.proofs.lemmas.Grind.{flat_map-append}
-use Rattle.std.proofs.lemmas.List.{drop_more, get_or-map, length-map, length-take, map-append, take-append-drop}
-use Rattle.std.proofs.lemmas.Str.{IsUtf8-past_char, IsUtf8-take}
+use Rattle.std.proofs.lemmas.List.{drop_all, drop_more, get_or-map, length-map, length-take, map-append, take-append-drop}
+use Rattle.std.proofs.lemmas.Str.{IsUtf8-take}
 use Rattle.unicode_segmentation.proofs.TextLemmas.{encode_utf8_nonempty}
 use Rattle.comfy_parts.specs.Cursor.{CursorValue, IsBehindGap, StandsAt, at_byte, open_at_end, seen_ahead}
 use Rattle.comfy_parts.specs.Text.{Text, IsOnly, begins_with, measure}
@@ -17,7 +17,7 @@ use Rattle.comfy_parts.proofs.CursorLemmas.{at, at_further}
 use Rattle.comfy_parts.proofs.LineTextLemmas.{parts-written}
 use Rattle.comfy_parts.proofs.OpenLemmas.{open_after-again, opened-append}
 use Rattle.comfy_parts.proofs.StartLemmas.{IsLineCut, line-cut}
-use Rattle.comfy_parts.proofs.WrappingLemmas.{begins_with-delimiter, lines_past-delimiter, lines_past-gap, lines_past-line}
+use Rattle.comfy_parts.proofs.WrappingLemmas.{whole-past_gap, begins_with-delimiter, lines_past-delimiter, lines_past-gap, lines_past-line}
 
 -- ---- places of lines
 
@@ -58,11 +58,9 @@ module _ (w d : ℕ) where
   starts-further n place zero (b ∷ rest) =
       let sum : n + place + 1 ≡ n + (place + 1) = omega arith in
       let skip = part_end w d (b ∷ rest) - 1 in
-      by_test _ _ (begins_with d (b ∷ rest)) (ap (λ m. starts_past w d m skip rest) sum ∙ starts-further n (place + 1) skip rest)
-    where
-      by_test : (more others : List ℕ) (t : Bool) → more ≡ map (λ s. n + s) others → (if t then [] else (n + place) ∷ []) ++ more ≡ map (λ s. n + s) ((if t then [] else place ∷ []) ++ others)
-      by_test more others true same = same
-      by_test more others false same = ap (λ (xs : List ℕ). (n + place) ∷ xs) same
+      let same = ap (λ m. starts_past w d m skip rest) sum ∙ starts-further n (place + 1) skip rest in
+      elim (begins_with d (b ∷ rest)) as (λ t. (if t then [] else (n + place) ∷ []) ++ starts_past w d (n + place + 1) skip rest ≡ map (λ s. n + s) ((if t then [] else place ∷ []) ++ starts_past w d (place + 1) skip rest))
+      [ true ↦ same | false ↦ ap (λ (xs : List ℕ). (n + place) ∷ xs) same ]
 
   -- what is skipped begins no line
   starts-skip : (place : ℕ) (xs ys : Text) → starts_past w d place (length xs) (xs ++ ys) ≡ starts_past w d (length xs + place) 0 ys
@@ -124,13 +122,6 @@ written-further n old new (p ∷ ps) stands =
     let same : at_byte (n + p.0) old ≡ at_byte p.0 new = sym (at_further n p.0 old) ∙ ap (at_byte p.0) (sym stands) ∙ at_further 0 p.0 new ∙ ap (λ k. at_byte k new) plain in
     ap₂ (λ c (ts : List Text). written p.1 c ∷ ts) same (written-further n old new ps stands)
 
--- behind delimiters a text is whole
-whole_behind : (d n : ℕ) (rest : Text) → IsUtf8 (encode_utf8_all (replicate n d) ++ rest) → IsUtf8 rest
-whole_behind d zero rest utf8 = utf8
-whole_behind d (suc n) rest utf8 =
-    let more = encode_utf8_all (replicate n d) ++ rest in
-    whole_behind d n rest (IsUtf8-past_char (encode_utf8_all (replicate (suc n) d) ++ rest) more d utf8 (append_assoc (encode_utf8 d) (encode_utf8_all (replicate n d)) rest))
-
 -- a text with a line has bytes
 some_bytes : (w d : ℕ) (line : Text) (behind : List Text) (text : Text) → line ∷ behind ≡ wrapped w d text → 0 < length text
 unfolding lines_past
@@ -166,7 +157,7 @@ next_line w d old mid line behind scalar utf8 gap lines =
     seen = seen_ahead mid
 
     whole : IsUtf8 seen
-    whole = whole_behind d gap.only.0 seen (subst IsUtf8 (gap.seen ∙ ap (λ g. g ++ seen) gap.only.1) utf8)
+    whole = whole-past_gap d gap.only.0 seen (subst IsUtf8 (gap.seen ∙ ap (λ g. g ++ seen) gap.only.1) utf8)
 
     same : line ∷ behind ≡ wrapped w d seen
     same =
@@ -213,7 +204,14 @@ open-taken earlier text start len =
 
 -- the text of a line is what a cursor writes that comes from its text line's front
 line_text-written : (earlier : List Text) (text : Text) (start len : ℕ) → written len (at_byte start (at (open_after (flat_map parts earlier)) (parts text))) ≡ line_text earlier text start len
-line_text-written earlier text start len = by_test (len == 0)
+line_text-written earlier text start len =
+    elim (len == 0) as (λ b. (if b then [] else concat resumed ++ (between ++ closing (opened resumed taken))) ≡ (if b then [] else closed (concat (active earlier text start) ++ between))) [
+      | true ↦ refl
+      | false ↦
+          ap (λ ss. concat ss ++ (between ++ closing (opened ss taken))) same
+          ∙ sym (append_assoc (concat (active earlier text start)) between (closing (opened (active earlier text start) taken)))
+          ∙ ap (λ ss. (concat (active earlier text start) ++ between) ++ closing ss) (sym (open-taken earlier text start len))
+    ]
   where
     resumed : List Text
     resumed = opened (open_after (flat_map parts earlier)) (parts_before start (parts text))
@@ -226,13 +224,6 @@ line_text-written earlier text start len = by_test (len == 0)
 
     same : resumed ≡ active earlier text start
     same = sym (opened-append [] (flat_map parts earlier) (parts_before start (parts text)))
-
-    by_test : (b : Bool) → (if b then [] else concat resumed ++ (between ++ closing (opened resumed taken))) ≡ (if b then [] else closed (concat (active earlier text start) ++ between))
-    by_test true = refl
-    by_test false =
-        ap (λ ss. concat ss ++ (between ++ closing (opened ss taken))) same
-        ∙ sym (append_assoc (concat (active earlier text start)) between (closing (opened (active earlier text start) taken)))
-        ∙ ap (λ ss. (concat (active earlier text start) ++ between) ++ closing ss) (sym (open-taken earlier text start len))
 
 -- so it is with all lines of a text line
 text_lines-written : (w d : ℕ) (earlier : List Text) (text : Text)
@@ -267,28 +258,25 @@ cell-written w d texts = past-written w d [] texts
 pub text_at : {X : Type 0} (f : X → Text) (xs : List X) (place : ℕ) (x : X) → place < length xs → x ≡ slice_index_or xs place x → slice_index_or (map f xs) place [] ≡ f x
 text_at f xs place x below is = get_or-map f xs place x [] below ∙ ap f (sym is)
 
--- what is visible of a text line is the text at the same place of those
+as_many : {X : Type 0} (f : X → Text) (texts seens : List X) → map f seens ≡ map visible_text (map f texts) → length seens ≡ length texts
+as_many f texts seens same = sym (length-map seens f) ∙ ap length same ∙ length-map (map f texts) visible_text ∙ length-map texts f
+
+-- what is visible of a text line is the text at the same position of those
 pub seen_at : {X : Type 0} (f : X → Text) (texts seens : List X) (place : ℕ) (text seen : X) → map f seens ≡ map visible_text (map f texts) → place < length texts
     → text ≡ slice_index_or texts place text → seen ≡ slice_index_or seens place seen → f seen ≡ visible_text (f text)
 seen_at f texts seens place text seen same below is is' =
-    sym (text_at f seens place seen (omega (arith, as_many, below)) is')
+    sym (text_at f seens place seen (omega (arith, as_many f texts seens same, below)) is')
     ∙ ap (λ (ts : List Text). slice_index_or ts place []) same
     ∙ get_or-map visible_text (map f texts) place [] [] (omega (arith, length-map texts f, below))
     ∙ ap visible_text (text_at f texts place text below is)
-  where
-    as_many : length seens ≡ length texts
-    as_many = sym (length-map seens f) ∙ ap length same ∙ length-map (map f texts) visible_text ∙ length-map texts f
 
 -- and its measure is kept there
 pub width_at : {X : Type 0} (f : X → Text) (texts seens : List X) (widths : List ℕ) (place : ℕ) (seen : X) → map f seens ≡ map visible_text (map f texts) → widths ≡ map measure (map f seens)
     → place < length texts → seen ≡ slice_index_or seens place seen → slice_index_or widths place 0 ≡ measure (f seen)
 width_at f texts seens widths place seen same measured below is =
     ap (λ ws. slice_index_or ws place 0) measured
-    ∙ get_or-map measure (map f seens) place [] 0 (omega (arith, length-map seens f, as_many, below))
-    ∙ ap measure (text_at f seens place seen (omega (arith, as_many, below)) is)
-  where
-    as_many : length seens ≡ length texts
-    as_many = sym (length-map seens f) ∙ ap length same ∙ length-map (map f texts) visible_text ∙ length-map texts f
+    ∙ get_or-map measure (map f seens) place [] 0 (omega (arith, length-map seens f, as_many f texts seens same, below))
+    ∙ ap measure (text_at f seens place seen (omega (arith, as_many f texts seens same, below)) is)
 
 -- a text line more is written
 pub next_text : (w d : ℕ) (texts done more : List Text) (place : ℕ) (text : Text) (old mid new : CursorValue) → place < length texts → slice_index_or texts place [] ≡ text
@@ -302,10 +290,4 @@ next_text w d texts done more place text old mid new below is begins writes stay
 
 -- behind the last one nothing is
 pub texts_written : (w d : ℕ) (texts done : List Text) (place : ℕ) (ss : List Text) → length texts ≤ place → done ++ written_past w d ss (drop place texts) ≡ done
-texts_written w d texts done place ss past = ap (λ (ts : List Text). done ++ written_past w d ss ts) (drop_past place texts past) ∙ append-nil done
-  where
-    drop_past : (n : ℕ) (xs : List Text) → length xs ≤ n → drop n xs ≡ []
-    drop_past zero [] few = refl
-    drop_past (suc n) [] few = refl
-    drop_past zero (x ∷ xs) few = absurd (omega (arith, few))
-    drop_past (suc n) (x ∷ xs) few = drop_past n xs (omega (arith, few))
+texts_written w d texts done place ss past = ap (λ (ts : List Text). done ++ written_past w d ss ts) (drop_all place texts past) ∙ append-nil done

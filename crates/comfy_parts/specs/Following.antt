@@ -1,14 +1,14 @@
--- An element at a text's front, what follows it, and how much of that a line takes.
-use Rattle.std.specs.Prelude.{◌≡◌, ◌⊎◌, ℕ, ◌+◌, ◌-◌, ◌<◌, ◌≤◌, nat_lt, nat_le, ◌&&◌, List, [], ◌∷◌, ◌++◌, length, take, drop, false, encode_utf8, if◌then◌else◌, IsUtf8}
+-- An element at a text's front, and what follows it.
+use Rattle.std.specs.Prelude.{◌≡◌, ◌⊎◌, ℕ, ◌<◌, ◌≤◌, List, [], ◌∷◌, ◌++◌, length, take, drop, false, encode_utf8, IsUtf8}
 use Rattle.std.specs.Str.{IsCharBoundary}
-use Rattle.comfy_parts.specs.Text.{Text, measure, head, elements, begins_with}
+use Rattle.comfy_parts.specs.Text.{Text, measure, elements, begins_with}
 
 -- what follows an element: a delimiter and a text of these elements, or nothing where there are none
 abbrev pub Follow : ℕ → List Text → Text → Type 0
 Follow d [] rest = rest ≡ []
 Follow d (e ∷ es) rest = (more : Text) × (rest ≡ encode_utf8 d ++ more) × (elements d more ≡ e ∷ es)
 
--- nothing stands behind an element, or a delimiter
+-- nothing stands after an element, or a delimiter
 abbrev pub EndsElement : ℕ → Text → Type 0
 EndsElement d behind = (behind ≡ []) ⊎ ((more : Text) × (behind ≡ encode_utf8 d ++ more))
 
@@ -21,16 +21,16 @@ pub record IsFirstElement (d : ℕ) (text first behind : Text) : Type 0 where
   pub whole_first : IsUtf8 first
   pub whole_behind : IsUtf8 behind
 
--- each end of a word that has at least so many bytes is wider than w places
+-- each end of a word that has at least so many bytes is wider than w terminal columns
 abbrev pub IsWideFrom : ℕ → ℕ → Text → Type 0
 IsWideFrom w bytes word = (front tail : Text) → word ≡ front ++ tail → IsUtf8 front → IsUtf8 tail → bytes ≤ length tail → w < measure tail
 
--- the places of a word: exact where they are at most w, and otherwise the word is wider than w
+-- the terminal columns of a word: exact where they are at most w, and otherwise the word is wider than w
 pub record ArePlacesUpTo (w places : ℕ) (word : Text) : Type 0 where
   pub fits : places ≤ w → places ≡ measure word
   pub wider : w < places → w < measure word
 
--- a text at the first character of a line of w places: its first element has so many bytes and places, and each of its ends with at least `shown` bytes is wider than the line
+-- a text at the first character of a line of w terminal columns: its first element has so many bytes and columns, and each of its ends with at least `shown` bytes is wider than the line
 pub record IsAtLine (w d : ℕ) (text : Text) (first places shown : ℕ) : Type 0 where
   pub narrow : w ≤ 65535
   pub whole : IsUtf8 text
@@ -39,16 +39,3 @@ pub record IsAtLine (w d : ℕ) (text : Text) (first places shown : ℕ) : Type 
   pub element : IsFirstElement d text (take first text) (drop first text)
   pub places_are : ArePlacesUpTo w places (take first text)
   pub wide_from : IsWideFrom w shown (take first text)
-
--- the bytes of the next element that a line of w places takes, with the delimiter before it, where not the whole element has room
-abbrev pub part_taken : ℕ → ℕ → ℕ → Text → ℕ
-part_taken w d filled next =
-    if nat_lt w (measure next) && nat_le (filled + 4) w then length (encode_utf8 d) + length (head (w - filled - 1) next) else 0
-
--- the bytes that a line of w places takes behind an element up to which it has filled so many places, where these elements follow
-abbrev pub bytes_taken : ℕ → ℕ → ℕ → List Text → ℕ
-bytes_taken w d filled [] = 0
-bytes_taken w d filled (next ∷ others) =
-    if nat_lt (w - 2) filled then 0
-    else if nat_lt w (filled + 1 + measure next) then part_taken w d filled next
-    else length (encode_utf8 d) + length next + bytes_taken w d (filled + measure next + measure (encode_utf8 d)) others

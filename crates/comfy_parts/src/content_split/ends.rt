@@ -3,9 +3,9 @@
 ghost use Rattle.std.specs.Prelude.{◌≡◌, ℕ, ◌+◌, ◌*◌, ◌==◌, ◌≤◌, List, length, take, drop, true, false};
 ghost use Rattle.std.specs.List.{list_any};
 ghost use Rattle.std.specs.Str.{IsCharBoundary};
-ghost use Rattle.comfy_parts.specs.Following.{ArePlacesUpTo, EndsElement, Follow, IsFirstElement, bytes_taken, part_taken};
+ghost use Rattle.comfy_parts.specs.Following.{ArePlacesUpTo, EndsElement, Follow, IsFirstElement};
 ghost use Rattle.comfy_parts.specs.Text.{Text, begins_with, is_printable_ascii, measure};
-ghost use Rattle.comfy_parts.specs.Wrapping.{head_or_first, line_end, wrapped};
+ghost use Rattle.comfy_parts.specs.Wrapping.{bytes_taken, head_or_first, line_end, part_taken, wrapped};
 
 use crate::content_split::prefix::split_long_word;
 use crate::content_split::width::{char_width, measure_text_width};

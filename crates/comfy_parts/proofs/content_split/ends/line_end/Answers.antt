@@ -1,8 +1,7 @@
 use Rattle.std.proofs.Common.{◌≡◌, ◌+◌, ◌∙◌, length, take, drop, nat_lt, true, false, sym, ap, ap₂, arith}
 use Rattle.std.proofs.lemmas.Bool.Decides.{nat_tests}
-use Rattle.comfy_parts.specs.Following.{bytes_taken}
 use Rattle.comfy_parts.specs.Text.{measure}
-use Rattle.comfy_parts.specs.Wrapping.{head_or_first}
+use Rattle.comfy_parts.specs.Wrapping.{bytes_taken, head_or_first}
 use Rattle.comfy_parts.proofs.FollowingLemmas.{line_end-wide, line_end-narrow}
 use Rattle.comfy_parts.proofs.content_split.ends.line_end.Goals as goal
 

@@ -1,6 +1,6 @@
 use Rattle.std.proofs.Common.{◌≡◌, ◌+◌, ◌∙◌, length, ap, arith, length-append}
 use Rattle.std.specs.Prelude.{encode_utf8}
-use Rattle.comfy_parts.specs.Following.{bytes_taken}
+use Rattle.comfy_parts.specs.Wrapping.{bytes_taken}
 use Rattle.comfy_parts.specs.Text.{measure}
 use Rattle.comfy_parts.proofs.FollowingLemmas.{follow-next, stripped, taken-more, taken-part}
 use Rattle.comfy_parts.proofs.content_split.ends.taken_behind.Goals as goal

@@ -1,7 +1,8 @@
 use Rattle.std.proofs.Common.{◌≡◌, ◌+◌, ◌≤◌, List, length}
 use denote.Text.{Utf8}
 use denote.Shadow.{shadow}
-use Rattle.comfy_parts.specs.Following.{Follow, bytes_taken}
+use Rattle.comfy_parts.specs.Following.{Follow}
+use Rattle.comfy_parts.specs.Wrapping.{bytes_taken}
 use Rattle.comfy_parts.specs.Text.{Text}
 use Rattle.comfy_parts.proofs.content_split.ends.taken_behind.Given as goal
 
