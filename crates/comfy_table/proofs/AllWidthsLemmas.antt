@@ -43,13 +43,7 @@ length-dynamic room columns full widths dynamic =
 -- one width for each column
 length-given_in_order : (table : TableValue) (widths : List ℕ) (columns : List (ℕ × ColumnValue)) → length (given_in_order table widths columns) ≡ length columns
 length-given_in_order table widths [] = refl
-length-given_in_order table widths (p ∷ columns) =
-    by_test (is_hidden_column p.1) (length-given_in_order table widths columns) (length-given_in_order table (drop 1 widths) columns)
-  where
-    by_test : (b : Bool) → length (given_in_order table widths columns) ≡ length columns → length (given_in_order table (drop 1 widths) columns) ≡ length columns
-        → length (cond b (max 1 (column_content_width table p.0) ∷ given_in_order table widths columns) (slice_index_or widths 0 1 ∷ given_in_order table (drop 1 widths) columns)) ≡ suc (length columns)
-    by_test true hidden visible = ap suc hidden
-    by_test false hidden visible = ap suc visible
+length-given_in_order table widths (p ∷ columns) = grind (arith, length-given_in_order table widths columns, length-given_in_order table (drop 1 widths) columns)
 
 -- the columns from a position on that pass a test
 abbrev passing : (ColumnValue → Bool) → ℕ → List ColumnValue → List (ℕ × ColumnValue)

@@ -1,6 +1,5 @@
 -- The steps by which the widths are decided lead to a dynamic arrangement, and its room and widths are small.
-use Rattle.std.proofs.Common.{◌≡◌, ◌<◌, ◌≤◌, ℕ, ◌+◌, ◌-◌, Bool, true, false, ◌==◌, ◌&&◌, List, [], ◌++◌, length, map, max, Option, sum_by, unwrap_or, refl, sym, ap, ◌∙◌, subst, arith}
-use Rattle.std.specs.Prelude.{if◌then◌else◌}
+use Rattle.std.proofs.Common.{◌≡◌, ◌<◌, ◌≤◌, ℕ, ◌+◌, ◌-◌, Bool, List, [], ◌++◌, length, map, max, Option, sum_by, unwrap_or, sym, ap, ◌∙◌, subst, arith}
 use Rattle.std.specs.List.{All}
 use Rattle.std.proofs.lemmas.Bool.{eqb-true}
 use Rattle.std.proofs.lemmas.List.{append_assoc, length-map}
@@ -139,16 +138,7 @@ module _ (room : ℕ) (needs : List ColumnNeeds) (start lower settled shrunk : B
 
   -- the widths at the end
   final_is : (full : Bool) → final_widths full shrunk ≡ widened_by_steps room needs full steps
-  final_is full =
-      by_test (undecided_count shrunk.widths.items == 0) refl full
-      ∙ ap (λ (n : ℕ). if full && (n == 0) then added (contents_after room needs steps) (even_spread (room_left room needs steps) (length needs)) else contents_after room needs steps) count_left
-    where
-      by_test : (b : Bool) → (undecided_count shrunk.widths.items == 0) ≡ b → (f : Bool) → (if f && b then widened shrunk else shared_evenly shrunk)
-          ≡ (if f && b then added (contents_after room needs steps) (even_spread (room_left room needs steps) (length needs)) else contents_after room needs steps)
-      by_test true none true = widened_is (eqb-true (undecided_count shrunk.widths.items) 0 none)
-      by_test true none false = shared_is
-      by_test false some true = shared_is
-      by_test false some false = shared_is
+  final_is full = grind (arith, count_left, widened_is, eqb-true, shared_is)
 
   -- the steps lead to a dynamic arrangement
   pub decided_is_dynamic : (full : Bool) → IsDynamic room needs full (final_widths full shrunk)

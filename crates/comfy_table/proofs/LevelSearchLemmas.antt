@@ -22,12 +22,7 @@ need_at level other column = unwrap_or (settled_at (Some level) column) other
 -- a boundary that is taken is within both
 upper_taken : (level : ℕ) (column : ColumnNeeds) (u : ℕ) → (nat_le u (level + column.padding) && nat_le u (column.content + column.padding)) ≡ true
     → (u ≤ level + column.padding) × (u ≤ column.content + column.padding)
-upper_taken level column u passes = by_tests (nat_le u (level + column.padding)) refl (nat_le u (column.content + column.padding)) refl passes
-  where
-    by_tests : (a : Bool) → nat_le u (level + column.padding) ≡ a → (b : Bool) → nat_le u (column.content + column.padding) ≡ b → (a && b) ≡ true → (u ≤ level + column.padding) × (u ≤ column.content + column.padding)
-    by_tests true first true second yes' = (leb-true u (level + column.padding) first, leb-true u (column.content + column.padding) second)
-    by_tests true first false second yes' = absurd (cc yes')
-    by_tests false first b second yes' = absurd (cc yes')
+upper_taken level column u passes = grind (arith, leb-true)
 
 -- A width of at least 1 that is at most the level and at most the content, where these are at least 1.
 record Settles (level : ℕ) (column : ColumnNeeds) (width : ℕ) : Type 0 where
@@ -107,11 +102,7 @@ settled_higher level higher column width above is = by_upper column.upper is
 
 -- a column needs no more at a higher level than where the lower one settles it and it else has the higher
 need_higher : (level higher : ℕ) (column : ColumnNeeds) → 1 ≤ higher → level ≤ higher → need_at higher higher column ≤ need_at level higher column
-need_higher level higher column one above = by_settled (settled_at (Some level) column) refl
-  where
-    by_settled : (o : Option ℕ) → settled_at (Some level) column ≡ o → need_at higher higher column ≤ unwrap_or o higher
-    by_settled None is = need_within higher column one
-    by_settled (Some width) is = settled_higher level higher column width above is
+need_higher level higher column one above = grind (arith, need_within, settled_higher)
 
 -- ---- all columns
 

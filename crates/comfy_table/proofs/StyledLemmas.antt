@@ -1,8 +1,8 @@
 -- The sequences round a styled text show nothing, so a styled piece shows its plain piece.
-use Rattle.std.proofs.Common.{◌≡◌, ◌<◌, ℕ, zero, suc, ◌+◌, ◌/◌, ◌%◌, Bool, true, false, cond, ◌&&◌, ◌==◌, nat_lt, List, [], ◌∷◌, ◌++◌, Option, Some, None, length, refl, ap, ap₂, ◌∙◌, subst, arith, append-nil}
+use Rattle.std.proofs.Common.{◌≡◌, ◌<◌, ℕ, zero, suc, ◌+◌, ◌/◌, ◌%◌, Bool, true, false, cond, ◌&&◌, ◌==◌, nat_lt, List, [], ◌∷◌, ◌++◌, Option, Some, None, refl, ap, ap₂, ◌∙◌, subst, arith, append-nil}
 use Rattle.std.specs.List.{list_all, flat_map, filter}
 use Rattle.std.specs.Fmt.{digits, digits_onto, digit_glyph, decimal}
-use Rattle.std.specs.Prelude.{if◌then◌else◌, codes, is_some}
+use Rattle.std.specs.Prelude.{if◌then◌else◌, codes}
 use Rattle.std.proofs.lemmas.Bool.{and_parts}
 use Rattle.std.proofs.lemmas.Bool.Decides.{nat_tests}
 use Rattle.std.proofs.lemmas.List.Folds.{list_all-append}
@@ -14,7 +14,7 @@ use Rattle.comfy_parts.specs.declared.style.attribute.Attribute.{Attribute}
 use Rattle.comfy_parts.specs.declared.style.color.Color.{Color}
 use Rattle.comfy_parts.specs.declared.style.color.Color.TheVariants as colors
 use Rattle.comfy_table.specs.Pieces.{padded, plain_piece, spaces_before, spaces_after, written_piece}
-use Rattle.comfy_table.specs.Styling.{sequence, color_code, foreground_code, background_code, attribute_code, all_attributes, has_attribute, attribute_sequences, optional_sequence, style_begin, style_end_without_attributes, style_end, styled}
+use Rattle.comfy_table.specs.Styling.{sequence, color_code, foreground_code, background_code, attribute_code, all_attributes, has_attribute, attribute_sequences, optional_sequence, style_begin, style_end, styled}
 use Rattle.comfy_table.specs.TableValue.{TableValue, should_style}
 
 -- ---- codes are parameters
@@ -105,13 +105,7 @@ Shows-when false text shows = Shows-nil
 
 -- what stands behind a styled text shows nothing
 Shows-style_end : (cell : CellValue) → Shows [] (style_end cell)
-Shows-style_end cell = by_test (length cell.attributes == 0)
-  where
-    by_test : (b : Bool) → Shows [] (if b then style_end_without_attributes cell.background cell.foreground else sequence (codes "0"))
-    by_test true =
-        Shows-append [] [] (if is_some cell.background then sequence (codes "49") else []) (if is_some cell.foreground then sequence (codes "39") else [])
-        (Shows-when (is_some cell.background) (sequence (codes "49")) (Shows-sequence (codes "49") refl)) (Shows-when (is_some cell.foreground) (sequence (codes "39")) (Shows-sequence (codes "39") refl))
-    by_test false = Shows-sequence (codes "0") refl
+Shows-style_end cell = grind (arith, Shows, Shows-append, Shows-when, Shows-sequence)
 
 -- a styled text shows what the text shows
 pub Shows-styled : (cell : CellValue) (shown text : Text) → Shows shown text → Shows shown (styled cell text)

@@ -39,19 +39,7 @@ behind_one_more n place passed i within = by_end (nat_lt (place + 1) n) refl
 
 -- what was behind the place, and the place itself, are behind the next one
 behind_next : (n place passed i : ℕ) → place < n → passed < n → IsBehind n place passed i ⊎ (place ≡ i) → IsBehind n (place_behind n place) (passed + 1) i
-behind_next n place passed i within fewer behind = by_end (nat_lt (place + 1) n) refl
-  where
-    by_end : (b : Bool) → nat_lt (place + 1) n ≡ b → IsBehind n (if b then place + 1 else 0) (passed + 1) i
-    by_end true more =
-        ⊎_elim
-        (λ b.
-        ⊎_elim (λ close. (b.0, inl (omega (arith, close.0), omega (arith, close.1)))) (λ far. (b.0, inr (omega (arith, far.0, far.1, fewer), omega (arith, far.1)))) b.1)
-        (λ same. (omega (arith, same, within), inl (omega (arith, same), omega (arith, same)))) behind
-    by_end false last =
-        let end = ltb-false (place + 1) n last in
-        ⊎_elim
-        (λ b. ⊎_elim (λ close. (b.0, inr (omega arith, omega (arith, close.1, end)))) (λ far. absurd (omega (arith, far.0, far.1, fewer, b.0, end))) b.1)
-        (λ same. (omega (arith, same, within), inr (omega arith, omega (arith, same, end)))) behind
+behind_next n place passed i within fewer behind = grind (arith, within, ltb-false)
 
 -- all places are behind where as many were passed
 all_behind : (n place passed i : ℕ) → place < n → n ≤ passed → i < n → IsBehind n place passed i
@@ -190,11 +178,7 @@ module _ (rule : Rule) (needs : List ColumnNeeds) (old : Budget) where
         }
       where
         place_within : place < length needs → place_behind (length needs) place < length needs
-        place_within within = by_end (nat_lt (place + 1) (length needs)) refl
-          where
-            by_end : (b : Bool) → nat_lt (place + 1) (length needs) ≡ b → (if b then place + 1 else 0) < length needs
-            by_end true more = ltb-true (place + 1) (length needs) more
-            by_end false last = omega (arith, within)
+        place_within within = grind (arith, ltb-true, within)
 
     -- where as many places were passed as there are columns, none takes anything any more
     pub turn_ends : length needs ≤ passed → HasTakenInTurn rule needs old now
@@ -236,11 +220,7 @@ module _ (rule : Rule) (needs : List ColumnNeeds) (old : Budget) where
         }
       where
         place_within : place < length needs → place_behind (length needs) place < length needs
-        place_within below = by_end (nat_lt (place + 1) (length needs)) refl
-          where
-            by_end : (b : Bool) → nat_lt (place + 1) (length needs) ≡ b → (if b then place + 1 else 0) < length needs
-            by_end true more = ltb-true (place + 1) (length needs) more
-            by_end false last = omega (arith, below)
+        place_within below = grind (arith, ltb-true)
 
         here_behind : place < length needs → IsBehind (length needs) (place_behind (length needs) place) passed' place
         here_behind below =

@@ -1,5 +1,5 @@
 -- The lines of a cell with the texts that are written for them: which are seen, which sequences are open, and what they show.
-use Rattle.std.proofs.Common.{◌≡◌, ℕ, zero, suc, ◌-◌, Bool, true, false, List, [], ◌∷◌, ◌++◌, Option, Some, None, length, map, take, drop, nat_le, refl, sym, ap, ap₂, ◌∙◌, subst, slice_index_or, arith, ◌≤◌}
+use Rattle.std.proofs.Common.{◌≡◌, ℕ, zero, suc, ◌-◌, Bool, true, false, List, [], ◌∷◌, ◌++◌, Option, Some, None, length, map, take, drop, nat_le, refl, sym, ap, ◌∙◌, subst, slice_index_or, arith, ◌≤◌}
 use Rattle.std.specs.List.{All, AllByRecursion, flat_map}
 use Rattle.std.specs.Prelude.{if◌then◌else◌}
 use Rattle.std.specs.Str.{IsUtf8}
@@ -49,16 +49,7 @@ seen_take (suc n) (line ∷ lines) = ap (λ (xs : List Text). line.seen ∷ xs) 
 -- lines are cut by what is seen of them
 seen_cut : (height : Option ℕ) (w : ℕ) (indicator : Text) (lines : List CellLine) → seen_of (cut_cell_lines_to_limit height w indicator lines) ≡ cut_to_limit height w indicator (seen_of lines)
 seen_cut None w indicator lines = refl
-seen_cut (Some h) w indicator lines =
-    by_test (nat_le (length lines) h)
-    ∙ ap (λ n. if nat_le n h then seen_of lines else take (h - 1) (seen_of lines) ++ cut_line w indicator (slice_index_or (seen_of lines) (h - 1) []) ∷ []) (sym (length-map lines (λ (line : CellLine). line.seen)))
-  where
-    by_test : (b : Bool) → seen_of (if b then lines else take (h - 1) lines ++ cut_cell_line w indicator (slice_index_or lines (h - 1) no_line) ∷ [])
-        ≡ (if b then seen_of lines else take (h - 1) (seen_of lines) ++ cut_line w indicator (slice_index_or (seen_of lines) (h - 1) []) ∷ [])
-    by_test true = refl
-    by_test false =
-        map-append (λ (line : CellLine). line.seen) (take (h - 1) lines) (cut_cell_line w indicator (slice_index_or lines (h - 1) no_line) ∷ [])
-        ∙ ap₂ (λ (xs : List Text) (x : Text). xs ++ x ∷ []) (seen_take (h - 1) lines) (ap (cut_line w indicator) (seen_at lines (h - 1)))
+seen_cut (Some h) w indicator lines = grind (arith, lines, w, length-map, map-append, seen_take, seen_at)
 
 -- what holds of each line and of those that are cut
 pub each_cut : (P : CellLine → Type 0) (height : Option ℕ) (w : ℕ) (indicator : Text) (lines : List CellLine) → AllByRecursion P lines → ((k : ℕ) → P (cut_cell_line w indicator (slice_index_or lines k no_line)))
