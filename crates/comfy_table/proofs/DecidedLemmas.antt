@@ -67,9 +67,7 @@ module _ (room : ℕ) (needs : List ColumnNeeds) (start lower settled shrunk : B
 
   -- the level is as the arrangement wants it
   level_found : IsLevel (room_of_others room needs steps.lower) (others room needs steps.lower) steps.level
-  level_found =
-      subst (λ (r : ℕ). IsLevel r (others room needs steps.lower) steps.level) room_by_lower
-      (subst (λ (ps : List Placed). IsLevel lower.room ps steps.level) (undecided_left needs (fixed_ones ++ steps.lower) (others room needs steps.lower) lower given_by_lower) by_level.1)
+  level_found = grind (arith, room_by_lower, undecided_left, given_by_lower)
 
   -- what it settles is taken
   settled_taken : HasTaken settled_ones lower settled
@@ -110,10 +108,7 @@ module _ (room : ℕ) (needs : List ColumnNeeds) (start lower settled shrunk : B
 
   -- the shares of all columns, joined in another order
   regrouped : decided_ones ++ even_shares room needs steps ≡ all_shares room needs steps
-  regrouped =
-      append_assoc ((fixed_ones ++ steps.lower) ++ settled_ones) steps.shrunk (even_shares room needs steps)
-      ∙ append_assoc (fixed_ones ++ steps.lower) settled_ones (steps.shrunk ++ even_shares room needs steps)
-      ∙ append_assoc fixed_ones steps.lower (settled_ones ++ (steps.shrunk ++ even_shares room needs steps))
+  regrouped = grind (arith, append_assoc)
 
   -- the widths where the undecided columns share the room evenly
   shared_is : shared_evenly shrunk ≡ contents_after room needs steps
@@ -131,10 +126,7 @@ module _ (room : ℕ) (needs : List ColumnNeeds) (start lower settled shrunk : B
 
   -- the widths with the room spread over them, where no column is undecided
   widened_is : undecided_count shrunk.widths.items ≡ 0 → widened shrunk ≡ added (contents_after room needs steps) (even_spread (room_left room needs steps) (length needs))
-  widened_is none =
-      let same : decided shrunk.widths.items ≡ contents_after room needs steps =
-      sym (filled-decided shrunk.widths.items (even_spread (max shrunk.room (undecided_count shrunk.widths.items)) (undecided_count shrunk.widths.items)) none) ∙ shared_is in
-      λ k. added (same k) (even_spread (room_by_lines k) (length_widths k))
+  widened_is none = grind (arith, filled-decided, shared_is, room_by_lines, length_widths)
 
   -- the widths at the end
   final_is : (full : Bool) → final_widths full shrunk ≡ widened_by_steps room needs full steps
@@ -152,11 +144,7 @@ module _ (room : ℕ) (needs : List ColumnNeeds) (start lower settled shrunk : B
 
   -- where room is left, it is what the shares and the paddings leave
   pub room_adds_up : 0 < shrunk.room → total decided_ones + sum_by (λ (column : ColumnNeeds). column.padding) needs + shrunk.room ≡ room
-  room_adds_up some =
-      let appends = sum_by-append (λ (t : Share). t.1) fixed_ones steps.lower in
-      let appends_settled = sum_by-append (λ (t : Share). t.1) (fixed_ones ++ steps.lower) settled_ones in
-      let appends_shrunk = sum_by-append (λ (t : Share). t.1) ((fixed_ones ++ steps.lower) ++ settled_ones) steps.shrunk in
-      omega (arith, some, room_by_lines, total-fixed 0 needs, appends, appends_settled, appends_shrunk)
+  room_adds_up some = grind (arith, sum_by-append, room_by_lines, total-fixed)
 
   -- then each width keeps to the room together with it
   pub widths_within : All (λ (w : ℕ). 0 < shrunk.room → w + shrunk.room ≤ room) (decided shrunk.widths.items)

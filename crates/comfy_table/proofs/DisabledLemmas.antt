@@ -57,13 +57,7 @@ hidden_width table p is = ap (λ (b : Bool). if b then max 1 (column_content_wid
 
 -- a visible one the disabled width
 visible_width : (table : TableValue) (p : ℕ × ColumnValue) → not (is_hidden_column p.1) ≡ true → width_by_content table p ≡ disabled_width table p
-visible_width table p is =
-    let shown : is_hidden_column p.1 ≡ false = by_test (is_hidden_column p.1) is in
-    ap (λ (b : Bool). if b then max 1 (column_content_width table p.0) else disabled_width table p) shown
-  where
-    by_test : (b : Bool) → not b ≡ true → b ≡ false
-    by_test true h = cc
-    by_test false h = refl
+visible_width table p is = grind arith
 
 -- where no width is kept, the widths by content are the table's
 pub arranged_by_content : (table : TableValue) → width_kept table.arrangement (table_width table) ≡ None → IsArranged table (widths_by_content table)

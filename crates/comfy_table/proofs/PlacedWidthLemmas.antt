@@ -1,5 +1,5 @@
 -- The widths that shares give to columns at their places, and how they change where more shares are taken.
-use Rattle.std.proofs.Common.{◌≡◌, ◌≤◌, ℕ, ◌+◌, Bool, true, false, cond, not, ◌==◌, List, [], ◌∷◌, ◌++◌, length, map, Option, Some, None, option_map, find, filter, is_none, refl, sym, ap, ◌∙◌, subst, arith, append-nil, ⊎_elim, eq-zero-or-pos}
+use Rattle.std.proofs.Common.{◌≡◌, ◌≤◌, ℕ, ◌+◌, Bool, false, cond, not, ◌==◌, List, [], ◌∷◌, ◌++◌, length, map, Option, Some, None, option_map, find, filter, is_none, refl, sym, ap, ◌∙◌, subst, arith, append-nil, ⊎_elim, eq-zero-or-pos}
 use Rattle.std.specs.Option.{option_or}
 use Rattle.std.proofs.lemmas.Bool.{eq-eqb}
 use Rattle.std.proofs.lemmas.List.{append_assoc}
@@ -7,7 +7,7 @@ use Rattle.std.proofs.lemmas.List.Folds.{list_any-append}
 use Rattle.comfy_table.specs.Deciding.{is_undecided, undecided_among, undecided_count, with_shares}
 use Rattle.comfy_table.specs.Dynamic.{Placed, Share, places_of, without_shares}
 use Rattle.comfy_table.specs.Widths.{ColumnNeeds}
-use Rattle.comfy_table.proofs.ShareLemmas.{count_at, has_share, one_if, IsOneEach, IsAmong, count_at-append, count_at-without_none, count_at-without_some}
+use Rattle.comfy_table.proofs.ShareLemmas.{count_at, has_share, IsOneEach, IsAmong, count_at-append, count_at-without_none, count_at-without_some}
 use Rattle.comfy_table.proofs.PlaceLemmas.{map-places, filter-places, index-places, set-places, length-filter_places}
 
 -- ---- the width at a place
@@ -41,17 +41,7 @@ width_at-other t more i other = ap (λ (b : Bool). option_map (λ (s : Share). s
 
 -- one share more, where each place has at most one
 pub width_at-push : (t : Share) (before : List Share) (i : ℕ) → count_at i (before ++ t ∷ []) ≤ 1 → cond (t.0 == i) (Some t.1) (width_at before i) ≡ width_at (before ++ t ∷ []) i
-width_at-push t before i one = by_test (t.0 == i) refl ∙ sym (width_at-append i before (t ∷ []))
-  where
-    or_none : (o : Option ℕ) → o ≡ option_or o None
-    or_none None = refl
-    or_none (Some w) = refl
-
-    by_test : (b : Bool) → (t.0 == i) ≡ b → cond b (Some t.1) (width_at before i) ≡ option_or (width_at before i) (option_map (λ (s : Share). s.1) (cond b (Some t) None))
-    by_test true same =
-        let adds : one_if (t.0 == i) ≡ 1 = ap one_if same in
-        sym (ap (λ (o : Option ℕ). option_or o (Some t.1)) (width_at-none i before (omega (arith, one, adds, count_at-append i before (t ∷ [])))))
-    by_test false same = or_none (width_at before i)
+width_at-push t before i one = grind (arith, width_at-append, option_map, width_at-none, count_at-append)
 
 -- ---- the widths that shares give
 
@@ -92,6 +82,4 @@ without_shares-append before order (p ∷ more) = grind (arith, list_any-append,
 
 -- shares of columns that have none yet keep at most one for each place
 pub one_each-more : (before order : List Share) (columns : List Placed) → IsOneEach columns → IsOneEach before → IsAmong order (without_shares before columns) → IsOneEach (before ++ order)
-one_each-more before order columns one each among i =
-    ⊎_elim (λ none. omega (arith, none, among i, one i, count_at-without_none i before columns none, count_at-append i before order))
-    (λ some. omega (arith, some, among i, each i, count_at-without_some i before columns some, count_at-append i before order)) (eq-zero-or-pos (count_at i before))
+one_each-more before order columns one each among i = grind (arith, ⊎_elim, count_at-without_none, count_at-append, count_at-without_some, eq-zero-or-pos)

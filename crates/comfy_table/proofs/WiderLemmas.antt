@@ -1,6 +1,6 @@
 -- Under every constraint each dynamic width is at least 1, so the lines of a table keep to the wider bound.
 use Rattle.std.proofs.Common.{◌≡◌, ◌<◌, ◌≤◌, ℕ, ◌+◌, ◌-◌, ◌/◌, Bool, true, false, List, [], ◌∷◌, ◌++◌, length, map, max, sum, Option, Some, None, option_map, nat_le, refl, arith}
-use Rattle.std.specs.Prelude.{if◌then◌else◌, sum_by, ⊤}
+use Rattle.std.specs.Prelude.{sum_by, ⊤}
 use Rattle.std.specs.List.{AllByRecursion, enumerate_from}
 use Rattle.std.proofs.lemmas.Nat.{le-div}
 use Rattle.comfy_parts.specs.CellValue.{ColumnValue, column_padding}
@@ -17,7 +17,7 @@ use Rattle.comfy_table.proofs.TakenShareLemmas.{every_stands}
 use Rattle.comfy_table.proofs.TakingLemmas.{next_taken-where, every-shares_of}
 use Rattle.std.proofs.lemmas.List.{length-map}
 use Rattle.comfy_table.specs.Arrangement.{IsArranged, room_beside_borders}
-use Rattle.comfy_table.specs.Dynamic.{Placed, Share, Steps, IsArrangedBy, IsTakenAfter, lower_of_boundary, shrunk_at, settled_at, fit_at, upper_at, settled_shares, fixed_shares, places_of, without_shares, share_at, undecided, others, unsettled, even_columns, even_shares, all_shares, contents_after, room_left, content_room, room_of_unsettled, average}
+use Rattle.comfy_table.specs.Dynamic.{Placed, Share, Steps, IsArrangedBy, IsTakenAfter, lower_of_boundary, shrunk_at, settled_at, upper_at, settled_shares, fixed_shares, places_of, without_shares, share_at, undecided, others, unsettled, even_columns, even_shares, all_shares, contents_after, room_left, content_room, room_of_unsettled, average}
 use Rattle.comfy_table.specs.Frame.{border_count}
 use Rattle.comfy_table.specs.Laws.{line_total, least_with_steps}
 use Rattle.comfy_table.specs.TableLaws.{KeepsToWiderTotal, KeepsToWiderTotalInFull, FillsWiderTotal, visible_contents}
@@ -51,15 +51,7 @@ upper-some level column (Some u) width is = grind arith
 -- by a level
 settled-some : (level : Option ℕ) (column : ColumnNeeds) (width : ℕ) → settled_at level column ≡ Some width → 1 ≤ width
 settled-some None column width is = absurd (cc is)
-settled-some (Some level) column width is = by_upper (upper_at level column column.upper) (upper-some level column column.upper) is
-  where
-    by_test : (t : Bool) → (if t then Some (max 1 column.content) else None) ≡ Some width → 1 ≤ width
-    by_test true is = let same : max 1 column.content ≡ width = cc is in omega (arith, same)
-    by_test false is = absurd (cc is)
-
-    by_upper : (o : Option ℕ) → ((w : ℕ) → o ≡ Some w → 1 ≤ w) → fit_at level column o ≡ Some width → 1 ≤ width
-    by_upper (Some upper) some is = some width is
-    by_upper None some is = by_test (nat_le column.content level) is
+settled-some (Some level) column width is = grind (arith, upper-some, nat_le)
 
 -- fixed, by a boundary that the content does not pass
 boundary-some : (content padding : ℕ) (o : Option ℕ) (width : ℕ) → fixed_by_boundary content padding o ≡ Some width → 1 ≤ width
