@@ -1,4 +1,5 @@
 -- The steps by which the widths are decided lead to a dynamic arrangement, and its room and widths are small.
+use Rattle.std.proofs.lemmas.Bool.Decides.{nat_tests}
 use Rattle.std.proofs.Common.{◌≡◌, ◌<◌, ◌≤◌, ℕ, ◌+◌, ◌-◌, Bool, List, [], ◌++◌, length, map, max, Option, sum_by, unwrap_or, sym, ap, ◌∙◌, subst, arith}
 use Rattle.std.specs.List.{All}
 use Rattle.std.proofs.lemmas.Bool.{eqb-true}
@@ -159,7 +160,4 @@ module _ (room : ℕ) (needs : List ColumnNeeds) (start lower settled shrunk : B
 
   -- in a room of sixteen bits they are numbers of sixteen bits
   pub has_room_to_spread : room ≤ 65535 → HasRoomToSpread shrunk
-  has_room_to_spread small = record {
-    room = omega (arith, small, room_within);
-    each = All-weaker (λ (w : ℕ). 0 < shrunk.room → w + shrunk.room ≤ room) (λ (w : ℕ). 0 < shrunk.room → w + shrunk.room ≤ 65535) (λ w within some. omega (arith, small, within some)) (decided shrunk.widths.items) widths_within;
-  }
+  has_room_to_spread small = grind (arith, nat_tests, room_within, All-weaker, widths_within)

@@ -1,4 +1,5 @@
 -- The search for a level: what the columns need at a level grows no more than the room, and where the average no longer passes it the level is found.
+use Rattle.std.proofs.lemmas.Bool.Decides.{nat_tests}
 use Rattle.std.proofs.Common.{◌≡◌, ◌<◌, ◌≤◌, ℕ, suc, ◌+◌, ◌-◌, ◌*◌, ◌/◌, Bool, true, false, cond, ◌==◌, List, [], ◌∷◌, length, max, slice_index_or, sum_by, Option, Some, None, option_map, is_none, unwrap_or, filter, nat_le, refl, ap, ◌∙◌, arith, suc-mul, mul_comm, div-mul-le_self}
 use Rattle.std.specs.Prelude.{◌&&◌, if◌then◌else◌}
 use Rattle.std.specs.List.{enumerate_from, cons_option}
@@ -32,38 +33,15 @@ record Settles (level : ℕ) (column : ColumnNeeds) (width : ℕ) : Type 0 where
 
 -- what a level settles is such a width
 settles : (level : ℕ) (column : ColumnNeeds) (width : ℕ) → settled_at (Some level) column ≡ Some width → Settles level column width
-settles level column width is = by_upper column.upper is
-  where
-    by_content : (b : Bool) → nat_le column.content level ≡ b → (if b then Some (max 1 column.content) else None) ≡ Some width → Settles level column width
-    by_content true fits same = let here : max 1 column.content ≡ width = cc same in let below = leb-true column.content level fits in record { some = omega (arith, here); of_level = omega (arith, here, below); of_content = omega (arith, here) }
-    by_content false passes same = absurd (cc same)
-
-    by_boundary : (u : ℕ) (b : Bool) → (nat_le u (level + column.padding) && nat_le u (column.content + column.padding)) ≡ b
-        → fit_at level column (if b then Some (without_padding column.padding u) else None) ≡ Some width → Settles level column width
-    by_boundary u true taken same =
-        let here : max 1 (u - column.padding) ≡ width = cc same in let within = upper_taken level column u taken in
-        record { some = omega (arith, here); of_level = omega (arith, here, within.0); of_content = omega (arith, here, within.1) }
-    by_boundary u false taken same = by_content (nat_le column.content level) refl same
-
-    by_upper : (o : Option ℕ) → fit_at level column (upper_at level column o) ≡ Some width → Settles level column width
-    by_upper None same = by_content (nat_le column.content level) refl same
-    by_upper (Some u) same = by_boundary u (nat_le u (level + column.padding) && nat_le u (column.content + column.padding)) refl same
+settles level column width is = grind (arith, nat_tests, leb-true, upper_taken)
 
 -- what is needed at a level is at most the level
 need_within : (level : ℕ) (column : ColumnNeeds) → 1 ≤ level → need_at level level column ≤ level
-need_within level column one = by_settled (settled_at (Some level) column) refl
-  where
-    by_settled : (o : Option ℕ) → settled_at (Some level) column ≡ o → unwrap_or o level ≤ level
-    by_settled None is = omega arith
-    by_settled (Some width) is = omega (arith, one, (settles level column width is).of_level)
+need_within level column one = grind (arith, nat_tests, settles)
 
 -- and at least 1
 need_some : (level : ℕ) (column : ColumnNeeds) → 1 ≤ level → 1 ≤ need_at level level column
-need_some level column one = by_settled (settled_at (Some level) column) refl
-  where
-    by_settled : (o : Option ℕ) → settled_at (Some level) column ≡ o → 1 ≤ unwrap_or o level
-    by_settled None is = one
-    by_settled (Some width) is = (settles level column width is).some
+need_some level column one = grind (arith, nat_tests, settles)
 
 -- what a level settles, a higher one settles with at most the same width
 settled_higher : (level higher : ℕ) (column : ColumnNeeds) (width : ℕ) → level ≤ higher → settled_at (Some level) column ≡ Some width → need_at higher higher column ≤ width
@@ -146,24 +124,7 @@ module _ (room : ℕ) (columns : List Placed) (one : IsOneEach columns) where
 
   -- where it is not, the level is found
   pub level_found : (level raised : ℕ) → 0 < level → raised ≤ level → raised ≡ raised_from room columns level → needed level level columns ≤ room → IsLevel room columns (Some level)
-  level_found level raised some below is enough = (
-    omega (arith, needed_some level columns some, enough),
-    some,
-    omega (arith, needed-is level level columns, enough),
-    same,
-  )
-    where
-      left : ℕ
-      left = length (without_shares (settled_shares (Some level) columns) columns)
-
-      left_room : ℕ
-      left_room = room - total (settled_shares (Some level) columns)
-
-      same : 0 < left → level ≡ left_room / left
-      same there =
-          let fits : left * level ≤ left_room = omega (arith, needed-is level level columns, enough, ap (λ (n : ℕ). n * level) (left_count-is level columns one)) in
-          let least : level ≤ left_room / left = le-div level left_room left there (omega (arith, fits, mul_comm left level)) in
-          omega (arith, least, below, is)
+  level_found level raised some below is enough = grind (arith, nat_tests, needed_some, needed-is, left_count-is, le-div, mul_comm)
 
 -- columns that have no room on average have a level that settles nothing
 pub level_without_average : (room : ℕ) (columns : List Placed) → room / length columns ≡ 0 → (level : Option ℕ) × IsLevel room columns level × (settled_shares level columns ≡ [])

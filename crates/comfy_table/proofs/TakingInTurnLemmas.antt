@@ -1,4 +1,5 @@
 -- The loop in which columns take a width in turn: what it keeps, and what it leads to.
+use Rattle.std.proofs.lemmas.Bool.Decides.{nat_tests}
 use Rattle.std.proofs.Common.{◌≡◌, ◌<◌, ◌≤◌, ℕ, zero, suc, ◌+◌, ◌-◌, ◌*◌, ◌/◌, Bool, true, false, List, [], ◌∷◌, ◌++◌, length, Option, Some, None, slice_get, nat_lt, not, ◌&&◌, ◌==◌, refl, sym, ap, ap₂, ◌∙◌, subst, arith, inl, inr, ⊎_elim, suc-mul}
 use Rattle.std.specs.Prelude.{◌⊎◌, slice_set, if◌then◌else◌, option_and_then}
 use Rattle.std.proofs.lemmas.Bool.{cases_lt, ltb-true, ltb-false, eq-eqb}
@@ -68,15 +69,7 @@ pub record Takes (rule : Rule) (average : ℕ) (needs : List ColumnNeeds) (width
 module _ (rule : Rule) (average : ℕ) (needs : List ColumnNeeds) (widths : List (Option ℕ)) (place : ℕ) where
   -- the width at a place
   pub width_at-some : (width : ℕ) → width_at rule average needs widths place ≡ Some width → Takes rule average needs widths place width
-  width_at-some width is = by_left (is_undecided widths place) refl is
-    where
-      by_column : is_undecided widths place ≡ true → (o : Option ColumnNeeds) → slice_get needs place ≡ o → option_and_then (width_by_rule rule average) o ≡ Some width → Takes rule average needs widths place width
-      by_column left None found is = absurd (cc is)
-      by_column left (Some column) found is = record { column = column; found = found; left = left; takes = is }
-
-      by_left : (b : Bool) → is_undecided widths place ≡ b → (if b then option_and_then (width_by_rule rule average) (slice_get needs place) else None) ≡ Some width → Takes rule average needs widths place width
-      by_left true left is = by_column left (slice_get needs place) refl is
-      by_left false left is = absurd (cc is)
+  width_at-some width is = grind (arith, nat_tests)
 
   -- without one, an undecided column takes nothing
   pub width_at-none : width_at rule average needs widths place ≡ None → (d : ColumnNeeds) → slice_get needs place ≡ Some d → is_undecided widths place ≡ true → width_by_rule rule average d ≡ None
