@@ -1,15 +1,15 @@
 -- The widths of all columns, where the dynamic widths of the visible ones are given.
 use Rattle.std.proofs.Common.{◌≡◌, ℕ, suc, ◌+◌, ◌<◌, ◌≤◌, Bool, true, false, not, cond, List, [], ◌∷◌, ◌++◌, drop, length, map, max, arith, refl, sym, ap, ap₂, ◌∙◌, subst, slice_index, slice_index_or, append-nil, Option, Some}
 use Rattle.std.specs.List.{enumerate_from, filter}
-use Rattle.std.specs.Prelude.{if◌then◌else◌, zip, MatchOption, ◌&&◌, ◌==◌}
+use Rattle.std.specs.Prelude.{if◌then◌else◌, zip, MatchOption}
 use Rattle.std.proofs.lemmas.List.{append_assoc, drop-drop, drop_all, drop_more, get_or-drop, length-map}
 use Rattle.std.proofs.lemmas.List.FromFn.{length-enumerate_from}
 use Rattle.comfy_parts.specs.CellValue.{ColumnInfo, ColumnValue, info_of, is_hidden_column}
 use Rattle.comfy_table.specs.AllWidths.{all_widths, given_in_order}
 use Rattle.comfy_table.specs.Arrangement.{IsArranged, is_full_width, room_beside_borders, widths_at, width_kept}
-use Rattle.comfy_table.specs.Dynamic.{IsDynamic, added, contents_after, even_columns, room_left}
+use Rattle.comfy_table.specs.Dynamic.{IsDynamic, added}
 use Rattle.comfy_table.specs.TableValue.{TableValue, column_content_width, table_width, visible_columns}
-use Rattle.comfy_table.specs.Widths.{ColumnNeeds, disabled_width, even_spread, needs_of, visible_count, visible_needs}
+use Rattle.comfy_table.specs.Widths.{ColumnNeeds, disabled_width, needs_of, visible_count, visible_needs}
 use Rattle.comfy_table.proofs.BudgetLemmas.{length-contents_after}
 use Rattle.comfy_table.proofs.SpreadLemmas.{length-even_spread}
 
@@ -23,20 +23,7 @@ length-added (x ∷ xs) (y ∷ ys) same = ap suc (length-added xs ys (omega arit
 
 -- one dynamic width for each column
 pub length-dynamic : (room : ℕ) (columns : List ColumnNeeds) (full : Bool) (widths : List ℕ) → IsDynamic room columns full widths → length widths ≡ length columns
-length-dynamic room columns full widths dynamic =
-    ap length dynamic.1.widths_are ∙ by_test (full && (length (even_columns room columns dynamic.0) == 0))
-  where
-    contents : List ℕ
-    contents = contents_after room columns dynamic.0
-
-    spread : List ℕ
-    spread = even_spread (room_left room columns dynamic.0) (length columns)
-
-    by_test : (b : Bool) → length (if b then added contents spread else contents) ≡ length columns
-    by_test true =
-        length-added contents spread (length-contents_after room columns dynamic.0 ∙ sym (length-even_spread (room_left room columns dynamic.0) (length columns)))
-        ∙ length-contents_after room columns dynamic.0
-    by_test false = length-contents_after room columns dynamic.0
+length-dynamic room columns full widths dynamic = grind (arith, length-added, length-contents_after, length-even_spread)
 
 -- ---- the given widths
 
@@ -44,12 +31,7 @@ length-dynamic room columns full widths dynamic =
 length-given_in_order : (table : TableValue) (widths : List ℕ) (columns : List (ℕ × ColumnValue)) → length (given_in_order table widths columns) ≡ length columns
 length-given_in_order table widths [] = refl
 length-given_in_order table widths (p ∷ columns) =
-    by_test (is_hidden_column p.1) (length-given_in_order table widths columns) (length-given_in_order table (drop 1 widths) columns)
-  where
-    by_test : (b : Bool) → length (given_in_order table widths columns) ≡ length columns → length (given_in_order table (drop 1 widths) columns) ≡ length columns
-        → length (cond b (max 1 (column_content_width table p.0) ∷ given_in_order table widths columns) (slice_index_or widths 0 1 ∷ given_in_order table (drop 1 widths) columns)) ≡ suc (length columns)
-    by_test true hidden visible = ap suc hidden
-    by_test false hidden visible = ap suc visible
+    grind (arith, length-given_in_order table widths columns, length-given_in_order table (drop 1 widths) columns)
 
 -- the columns from a position on that pass a test
 abbrev passing : (ColumnValue → Bool) → ℕ → List ColumnValue → List (ℕ × ColumnValue)

@@ -1,30 +1,21 @@
 -- Lines of a cell that are borrowed from its text.
-use Rattle.std.proofs.Common.{◌≡◌, ◌<◌, ℕ, ◌+◌, zero, suc, Bool, true, false, ◌&&◌, List, [], ◌∷◌, ◌++◌, Option, Some, None, length, map, take, refl, ap, ap₂, sym, subst, ◌∙◌, arith, nat_le}
+use Rattle.std.proofs.Common.{◌≡◌, ◌<◌, ℕ, ◌+◌, zero, suc, true, List, [], ◌∷◌, ◌++◌, Option, Some, None, length, map, take, refl, arith, nat_le}
 use Rattle.std.proofs.lemmas.Option.{slice_get-map}
 use Rattle.std.specs.List.{flat_map, list_all, slice_get}
-use Rattle.std.specs.Prelude.{if◌then◌else◌, option_map}
 use Rattle.comfy_parts.specs.Text.{Text, measure}
-use Rattle.comfy_parts.specs.Wrapping.{lines_of_text, wrapped}
+use Rattle.comfy_parts.specs.Wrapping.{lines_of_text}
 use Rattle.comfy_table.specs.BorrowedLines.{IsKnownWidth}
 
 -- ---- widths that were kept
 
 -- the width beside a text
 pub known_width : (texts : List Text) (widths : List ℕ) (place : ℕ) (text : Text) (width : Option ℕ) → widths ≡ map measure texts → slice_get texts place ≡ Some text → width ≡ slice_get widths place → IsKnownWidth width text
-known_width texts widths place text width are found is =
-    let beside : width ≡ Some (measure text) = is ∙ ap (λ (ws : List ℕ). slice_get ws place) are ∙ slice_get-map measure texts place ∙ ap (option_map measure) found in
-    subst (λ (w : Option ℕ). IsKnownWidth w text) (sym beside) refl
+known_width texts widths place text width are found is = grind (arith, slice_get-map)
 
 -- where each text fits, the lines are the texts
 pub all_fit : (w d : ℕ) (texts : List Text) → list_all (λ width. nat_le width w) (map measure texts) ≡ true → flat_map (lines_of_text w d) texts ≡ texts
 all_fit w d [] fit = refl
-all_fit w d (text ∷ texts) fit = by_test (nat_le (measure text) w) refl fit (all_fit w d texts)
-  where
-    by_test : (b : Bool) → nat_le (measure text) w ≡ b → (b && list_all (λ width. nat_le width w) (map measure texts)) ≡ true
-        → (list_all (λ width. nat_le width w) (map measure texts) ≡ true → flat_map (lines_of_text w d) texts ≡ texts)
-        → (if nat_le (measure text) w then text ∷ [] else wrapped w d text) ++ flat_map (lines_of_text w d) texts ≡ text ∷ texts
-    by_test true is rest more = ap₂ (λ (b : Bool) (ts : List Text). (if b then text ∷ [] else wrapped w d text) ++ ts) is (more rest)
-    by_test false is rest more = absurd (cc rest)
+all_fit w d (text ∷ texts) fit = grind (arith, all_fit w d texts)
 
 -- ---- a cut line behind others
 

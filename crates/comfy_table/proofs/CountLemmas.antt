@@ -27,10 +27,7 @@ pub record HasCount (n : ℕ) (text : Text) : Type 0 where
 
 -- so it has n characters
 pub count-is : (n : ℕ) (text : Text) → HasCount n text → count text ≡ n
-count-is n text has =
-    let none = ap length chars-nil in
-    let all = has.counts [] in
-    ap (λ t. length (chars t)) (sym (append-nil text)) ∙ omega (arith, none, all)
+count-is n text has = grind (arith, nat_tests, chars-nil, append-nil)
 
 -- a number that equals n is the same count
 pub HasCount-same : (m n : ℕ) (text : Text) → m ≡ n → HasCount m text → HasCount n text
@@ -78,13 +75,7 @@ HasCount-nil = record { counts = λ rest. omega arith }
 
 -- two texts add what both add
 pub HasCount-append : (m n : ℕ) (xs ys : Text) → HasCount m xs → HasCount n ys → HasCount (m + n) (xs ++ ys)
-HasCount-append m n xs ys front back = record { counts = λ rest. both rest }
-  where
-    both : (rest : Text) → length (chars ((xs ++ ys) ++ rest)) ≡ (m + n) + length (chars rest)
-    both rest =
-        let first = front.counts (ys ++ rest) in
-        let second = back.counts rest in
-        ap (λ t. length (chars t)) (append_assoc xs ys rest) ∙ omega (arith, first, second)
+HasCount-append m n xs ys front back = grind (arith, nat_tests, append_assoc)
 
 -- every text that is UTF-8 has its own characters
 pub HasCount-utf8 : (text : Text) → IsUtf8 text → HasCount (count text) text

@@ -1,6 +1,6 @@
 -- The steps by which the widths are decided lead to a dynamic arrangement, and its room and widths are small.
-use Rattle.std.proofs.Common.{◌≡◌, ◌<◌, ◌≤◌, ℕ, ◌+◌, ◌-◌, Bool, true, false, ◌==◌, ◌&&◌, List, [], ◌++◌, length, map, max, Option, sum_by, unwrap_or, refl, sym, ap, ◌∙◌, subst, arith}
-use Rattle.std.specs.Prelude.{if◌then◌else◌}
+use Rattle.std.proofs.lemmas.Bool.Decides.{nat_tests}
+use Rattle.std.proofs.Common.{◌≡◌, ◌<◌, ◌≤◌, ℕ, ◌+◌, ◌-◌, Bool, List, [], ◌++◌, length, map, max, Option, sum_by, unwrap_or, sym, ap, ◌∙◌, subst, arith}
 use Rattle.std.specs.List.{All}
 use Rattle.std.proofs.lemmas.Bool.{eqb-true}
 use Rattle.std.proofs.lemmas.List.{append_assoc, length-map}
@@ -68,9 +68,7 @@ module _ (room : ℕ) (needs : List ColumnNeeds) (start lower settled shrunk : B
 
   -- the level is as the arrangement wants it
   level_found : IsLevel (room_of_others room needs steps.lower) (others room needs steps.lower) steps.level
-  level_found =
-      subst (λ (r : ℕ). IsLevel r (others room needs steps.lower) steps.level) room_by_lower
-      (subst (λ (ps : List Placed). IsLevel lower.room ps steps.level) (undecided_left needs (fixed_ones ++ steps.lower) (others room needs steps.lower) lower given_by_lower) by_level.1)
+  level_found = grind (arith, room_by_lower, undecided_left, given_by_lower)
 
   -- what it settles is taken
   settled_taken : HasTaken settled_ones lower settled
@@ -111,10 +109,7 @@ module _ (room : ℕ) (needs : List ColumnNeeds) (start lower settled shrunk : B
 
   -- the shares of all columns, joined in another order
   regrouped : decided_ones ++ even_shares room needs steps ≡ all_shares room needs steps
-  regrouped =
-      append_assoc ((fixed_ones ++ steps.lower) ++ settled_ones) steps.shrunk (even_shares room needs steps)
-      ∙ append_assoc (fixed_ones ++ steps.lower) settled_ones (steps.shrunk ++ even_shares room needs steps)
-      ∙ append_assoc fixed_ones steps.lower (settled_ones ++ (steps.shrunk ++ even_shares room needs steps))
+  regrouped = grind (arith, append_assoc)
 
   -- the widths where the undecided columns share the room evenly
   shared_is : shared_evenly shrunk ≡ contents_after room needs steps
@@ -132,23 +127,11 @@ module _ (room : ℕ) (needs : List ColumnNeeds) (start lower settled shrunk : B
 
   -- the widths with the room spread over them, where no column is undecided
   widened_is : undecided_count shrunk.widths.items ≡ 0 → widened shrunk ≡ added (contents_after room needs steps) (even_spread (room_left room needs steps) (length needs))
-  widened_is none =
-      let same : decided shrunk.widths.items ≡ contents_after room needs steps =
-      sym (filled-decided shrunk.widths.items (even_spread (max shrunk.room (undecided_count shrunk.widths.items)) (undecided_count shrunk.widths.items)) none) ∙ shared_is in
-      λ k. added (same k) (even_spread (room_by_lines k) (length_widths k))
+  widened_is none = grind (arith, filled-decided, shared_is, room_by_lines, length_widths)
 
   -- the widths at the end
   final_is : (full : Bool) → final_widths full shrunk ≡ widened_by_steps room needs full steps
-  final_is full =
-      by_test (undecided_count shrunk.widths.items == 0) refl full
-      ∙ ap (λ (n : ℕ). if full && (n == 0) then added (contents_after room needs steps) (even_spread (room_left room needs steps) (length needs)) else contents_after room needs steps) count_left
-    where
-      by_test : (b : Bool) → (undecided_count shrunk.widths.items == 0) ≡ b → (f : Bool) → (if f && b then widened shrunk else shared_evenly shrunk)
-          ≡ (if f && b then added (contents_after room needs steps) (even_spread (room_left room needs steps) (length needs)) else contents_after room needs steps)
-      by_test true none true = widened_is (eqb-true (undecided_count shrunk.widths.items) 0 none)
-      by_test true none false = shared_is
-      by_test false some true = shared_is
-      by_test false some false = shared_is
+  final_is full = grind (arith, count_left, widened_is, eqb-true, shared_is)
 
   -- the steps lead to a dynamic arrangement
   pub decided_is_dynamic : (full : Bool) → IsDynamic room needs full (final_widths full shrunk)
@@ -162,11 +145,7 @@ module _ (room : ℕ) (needs : List ColumnNeeds) (start lower settled shrunk : B
 
   -- where room is left, it is what the shares and the paddings leave
   pub room_adds_up : 0 < shrunk.room → total decided_ones + sum_by (λ (column : ColumnNeeds). column.padding) needs + shrunk.room ≡ room
-  room_adds_up some =
-      let appends = sum_by-append (λ (t : Share). t.1) fixed_ones steps.lower in
-      let appends_settled = sum_by-append (λ (t : Share). t.1) (fixed_ones ++ steps.lower) settled_ones in
-      let appends_shrunk = sum_by-append (λ (t : Share). t.1) ((fixed_ones ++ steps.lower) ++ settled_ones) steps.shrunk in
-      omega (arith, some, room_by_lines, total-fixed 0 needs, appends, appends_settled, appends_shrunk)
+  room_adds_up some = grind (arith, sum_by-append, room_by_lines, total-fixed)
 
   -- then each width keeps to the room together with it
   pub widths_within : All (λ (w : ℕ). 0 < shrunk.room → w + shrunk.room ≤ room) (decided shrunk.widths.items)
@@ -181,7 +160,4 @@ module _ (room : ℕ) (needs : List ColumnNeeds) (start lower settled shrunk : B
 
   -- in a room of sixteen bits they are numbers of sixteen bits
   pub has_room_to_spread : room ≤ 65535 → HasRoomToSpread shrunk
-  has_room_to_spread small = record {
-    room = omega (arith, small, room_within);
-    each = All-weaker (λ (w : ℕ). 0 < shrunk.room → w + shrunk.room ≤ room) (λ (w : ℕ). 0 < shrunk.room → w + shrunk.room ≤ 65535) (λ w within some. omega (arith, small, within some)) (decided shrunk.widths.items) widths_within;
-  }
+  has_room_to_spread small = grind (arith, nat_tests, room_within, All-weaker, widths_within)

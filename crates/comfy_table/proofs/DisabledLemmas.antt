@@ -17,13 +17,7 @@ use Rattle.comfy_table.specs.Widths.{disabled_width, visible_count, visible_need
 pub visible_from-count : (n : ℕ) (columns : List ColumnValue)
     → length (filter (λ (p : ℕ × ColumnValue). not (is_hidden_column p.1)) (enumerate_from n columns)) ≡ visible_among columns
 visible_from-count n [] = refl
-visible_from-count n (column ∷ columns) = by_test (is_hidden_column column) (visible_from-count (n + 1) columns)
-  where
-    by_test : (b : Bool) → length (filter (λ (p : ℕ × ColumnValue). not (is_hidden_column p.1)) (enumerate_from (n + 1) columns)) ≡ visible_among columns
-        → length (cond (not b) ((n, column) ∷ filter (λ (p : ℕ × ColumnValue). not (is_hidden_column p.1)) (enumerate_from (n + 1) columns)) (filter (λ (p : ℕ × ColumnValue). not (is_hidden_column p.1)) (enumerate_from (n + 1) columns)))
-        ≡ length (cond (not b) (column ∷ filter (λ (c : ColumnValue). not (is_hidden_column c)) columns) (filter (λ (c : ColumnValue). not (is_hidden_column c)) columns))
-    by_test true same = same
-    by_test false same = ap suc same
+visible_from-count n (column ∷ columns) = grind (arith, visible_from-count (n + 1) columns)
 
 -- a table's visible columns are counted by either
 pub visible_count-among : (table : TableValue) → visible_count table ≡ visible_among table.columns
@@ -63,13 +57,7 @@ hidden_width table p is = ap (λ (b : Bool). if b then max 1 (column_content_wid
 
 -- a visible one the disabled width
 visible_width : (table : TableValue) (p : ℕ × ColumnValue) → not (is_hidden_column p.1) ≡ true → width_by_content table p ≡ disabled_width table p
-visible_width table p is =
-    let shown : is_hidden_column p.1 ≡ false = by_test (is_hidden_column p.1) is in
-    ap (λ (b : Bool). if b then max 1 (column_content_width table p.0) else disabled_width table p) shown
-  where
-    by_test : (b : Bool) → not b ≡ true → b ≡ false
-    by_test true h = cc
-    by_test false h = refl
+visible_width table p is = grind arith
 
 -- where no width is kept, the widths by content are the table's
 pub arranged_by_content : (table : TableValue) → width_kept table.arrangement (table_width table) ≡ None → IsArranged table (widths_by_content table)

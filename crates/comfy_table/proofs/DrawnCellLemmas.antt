@@ -1,14 +1,13 @@
 -- The lines of a row are made of the cells that its visible columns draw.
-use Rattle.std.specs.Prelude.{if◌then◌else◌}
 use Rattle.comfy_parts.specs.VisibleLines.{CellLine}
-use Rattle.std.proofs.Common.{◌≡◌, Bool, true, false, ℕ, List, [], ◌∷◌, Option, Some, None, length, map, max, refl, ap, ap₂, ◌∙◌, sym, slice_index_or, zero, suc}
+use Rattle.std.proofs.Common.{◌≡◌, ℕ, List, [], ◌∷◌, Option, Some, None, length, map, max, refl, ap, ap₂, ◌∙◌, sym, slice_index_or, zero, suc, arith}
 use Rattle.std.specs.List.{range_with_len, slice_get}
 use Rattle.std.proofs.lemmas.List.{length-map}
 use Rattle.comfy_parts.specs.CellValue.{CellValue, RowValue, ColumnInfo}
 use Rattle.comfy_parts.specs.Text.{Text, greatest}
 use Rattle.comfy_table.proofs.DrawnTextLemmas.{length-with_texts, lines_are_drawn}
 use Rattle.comfy_table.specs.DrawnCells.{as_seen, drawn_cell, greatest_height, height_of_lines, lines_of_cell, lines_of_optional, piece_at, piece_of_line, piece_of_lines, seen_of_optional, texts_of_optional}
-use Rattle.comfy_table.specs.Pieces.{cell_pieces, blank_piece, piece, row_cell_texts, pieces_at, pieces_of_optional, row_cell_lines, row_lines, visible_infos}
+use Rattle.comfy_table.specs.Pieces.{cell_pieces, blank_piece, piece, pieces_at, pieces_of_optional, row_cell_lines, row_lines, visible_infos}
 use Rattle.comfy_table.specs.TableValue.{TableValue}
 
 -- a blank_piece, whatever the line
@@ -24,12 +23,7 @@ module _ (table : TableValue) (row : RowValue) where
 
   -- the pieces of a cell
   pieces_of_cell : (info : ColumnInfo) (cell : CellValue) → map (piece_of_line table cell info) (lines_of_cell table row info cell) ≡ cell_pieces table row info cell
-  pieces_of_cell info cell = by_setting table.custom_styling
-    where
-      by_setting : (custom : Bool) → map (piece_of_line table cell info) (if custom then row_cell_texts table row info cell else map as_seen (row_cell_lines table row info cell))
-          ≡ (if custom then map (piece_of_line table cell info) (row_cell_texts table row info cell) else map (piece table cell info) (row_cell_lines table row info cell))
-      by_setting true = refl
-      by_setting false = pieces_as_seen info cell (row_cell_lines table row info cell)
+  pieces_of_cell info cell = grind (arith, pieces_as_seen)
 
   -- the piece of an optional cell
   piece_of_optional : (info : ColumnInfo) (cell : Option CellValue) (k : ℕ)

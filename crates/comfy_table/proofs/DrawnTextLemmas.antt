@@ -1,6 +1,6 @@
 -- The lines that a drawn cell keeps, with the texts that it keeps for some of them, are the lines of the cell.
-use Rattle.std.proofs.Common.{◌≡◌, ◌<◌, ◌≤◌, ℕ, zero, suc, ◌-◌, Bool, true, false, List, [], ◌∷◌, ◌++◌, ◌&&◌, Option, Some, None, length, map, take, drop, nat_le, refl, sym, ap, ap₂, ◌∙◌, arith, slice_index_or, String, string_bytes}
-use Rattle.std.specs.List.{AllByRecursion, flat_map, list_any, slice_get}
+use Rattle.std.proofs.Common.{◌≡◌, ◌<◌, ◌≤◌, ℕ, zero, suc, ◌-◌, Bool, true, false, List, [], ◌∷◌, ◌++◌, ◌&&◌, Option, Some, None, length, map, take, drop, nat_le, refl, sym, ap, ◌∙◌, arith, slice_index_or, String, string_bytes}
+use Rattle.std.specs.List.{AllByRecursion, list_any, slice_get}
 use Rattle.std.specs.Prelude.{if◌then◌else◌, option_map}
 use Rattle.std.proofs.Math.Seq.{take-length}
 use Rattle.std.proofs.lemmas.Bool.Decides.{nat_tests}
@@ -9,11 +9,10 @@ use Rattle.comfy_parts.proofs.ClearLineLemmas.{IsClosedLine, clear_written}
 use Rattle.comfy_parts.specs.CellValue.{CellValue, ColumnInfo, RowValue}
 use Rattle.comfy_parts.specs.Text.{Text}
 use Rattle.comfy_parts.specs.VisibleLines.{CellLine, line_texts}
-use Rattle.comfy_parts.specs.VisibleText.{has_escape, visible_text}
-use Rattle.comfy_parts.specs.Wrapping.{lines_of_text}
+use Rattle.comfy_parts.specs.VisibleText.{has_escape}
 use Rattle.comfy_table.proofs.WrittenLemmas.{cut_lines_are_closed, each_cut, no_line, seen_of, texts_seen}
 use Rattle.comfy_table.specs.DrawnCells.{as_seen, lines_of_optional, lines_with_texts, seen_of_optional, text_of_line, texts_of_optional, uncut_texts}
-use Rattle.comfy_table.specs.Lines.{cell_delimiter, cut_cell_line, cut_cell_lines_to_limit, cut_to_limit, uncut_count}
+use Rattle.comfy_table.specs.Lines.{cell_delimiter, cut_cell_line, cut_cell_lines_to_limit, uncut_count}
 use Rattle.comfy_table.specs.Pieces.{row_cell_lines, row_cell_texts}
 use Rattle.comfy_table.specs.TableValue.{TableValue}
 
@@ -88,9 +87,7 @@ module _ (table : TableValue) (row : RowValue) (info : ColumnInfo) (cell : CellV
 
   -- with custom styling the lines are seen as those with their texts
   seen_with_custom : table.custom_styling ≡ true → row_cell_lines table row info cell ≡ seen_of (row_cell_texts table row info cell)
-  seen_with_custom on =
-      ap (λ (custom : Bool). cut_to_limit row.max_height info.content_width table.indicator (flat_map (lines_of_text info.content_width (cell_delimiter table info.delimiter cell)) (if custom then map visible_text cell.text_lines else cell.text_lines))) on
-      ∙ sym (texts_seen table row info cell)
+  seen_with_custom on = grind (arith, texts_seen)
 
   -- where ESC stands in the cell, or not
   custom_lines : (escaped : Bool) → list_any has_escape cell.text_lines ≡ escaped
@@ -107,9 +104,7 @@ module _ (table : TableValue) (row : RowValue) (info : ColumnInfo) (cell : CellV
       → lines_with_texts custom (if custom && list_any has_escape cell.text_lines then uncut_texts row.max_height (map written_of whole_lines) else []) (row_cell_lines table row info cell)
       ≡ (if custom then row_cell_texts table row info cell else map as_seen (row_cell_lines table row info cell))
   by_setting false is = plain_texts (row_cell_lines table row info cell)
-  by_setting true is =
-      ap (lines_with_texts true (if list_any has_escape cell.text_lines then uncut_texts row.max_height (map written_of whole_lines) else [])) (seen_with_custom is)
-      ∙ custom_lines (list_any has_escape cell.text_lines) refl
+  by_setting true is = grind (arith, seen_with_custom, custom_lines)
 
 -- the lines of a cell that may be missing
 pub lines_are_drawn : (table : TableValue) (row : RowValue) (info : ColumnInfo) (cell : Option CellValue)
@@ -139,9 +134,4 @@ pub texts_kept : (table : TableValue) (row : RowValue) (info : ColumnInfo) (o : 
     → o ≡ Some cell → table.custom_styling ≡ true → list_any has_escape cell.text_lines ≡ true → d ≡ cell_delimiter table info.delimiter cell → height ≡ row.max_height
     → texts ≡ map written_of (line_texts info.content_width d cell.text_lines)
     → uncut_texts height texts ≡ texts_of_optional table row info o
-texts_kept table row info o cell d height texts is on escaped of_cell of_row are =
-    ap (uncut_texts height) are
-    ∙ ap (λ (h : Option ℕ). uncut_texts h (map written_of (line_texts info.content_width d cell.text_lines))) of_row
-    ∙ ap (λ n. uncut_texts row.max_height (map written_of (line_texts info.content_width n cell.text_lines))) of_cell
-    ∙ ap₂ (λ (b e : Bool). if b && e then uncut_texts row.max_height (map written_of (line_texts info.content_width (cell_delimiter table info.delimiter cell) cell.text_lines)) else []) (sym on) (sym escaped)
-    ∙ ap (texts_of_optional table row info) (sym is)
+texts_kept table row info o cell d height texts is on escaped of_cell of_row are = grind arith

@@ -1,5 +1,5 @@
 -- What a line of a table without constraints adds up to: it keeps to the width, or has it.
-use Rattle.std.proofs.Common.{◌≡◌, ◌≤◌, ℕ, suc, ◌+◌, Bool, true, false, cond, not, ◌==◌, List, [], ◌∷◌, length, map, sum, sum_by, zip, get_or, Option, Some, None, filter, MatchOption, refl, sym, ap, ◌∙◌, subst, arith, ◌&&◌}
+use Rattle.std.proofs.Common.{◌≡◌, ◌≤◌, ℕ, suc, ◌+◌, Bool, true, false, cond, not, ◌==◌, List, [], ◌∷◌, length, map, sum, sum_by, zip, get_or, Option, Some, None, filter, refl, sym, ap, ◌∙◌, subst, arith, ◌&&◌}
 use Rattle.std.specs.Prelude.{if◌then◌else◌}
 use Rattle.std.specs.List.{AllByRecursion, AllZip, enumerate_from}
 use Rattle.std.proofs.lemmas.List.{length-map}
@@ -15,7 +15,7 @@ use Rattle.comfy_table.specs.Frame.{border_count}
 use Rattle.comfy_table.specs.Laws.{NoConstraints, KeepsToWidth, FillsWidth, line_total, least_total, least_with_steps}
 use Rattle.comfy_table.specs.Levels.{IsUnconstrained}
 use Rattle.comfy_table.specs.TableValue.{TableValue, table_width, visible_columns, column_content_width}
-use Rattle.comfy_table.specs.Widths.{ColumnNeeds, needs_of, visible_needs, visible_count, disabled_width, even_spread, lower_boundary, upper_boundary, fixed_by_constraint}
+use Rattle.comfy_table.specs.Widths.{ColumnNeeds, needs_of, visible_needs, visible_count, even_spread, lower_boundary, upper_boundary, fixed_by_constraint}
 use Rattle.comfy_table.proofs.BudgetLemmas.{keeps_to_wider_bound, fills_wider_bound}
 use Rattle.comfy_table.proofs.ContentLemmas.{each_content, each_content_short, steps_with}
 use Rattle.comfy_table.proofs.UnconstrainedLemmas.{least_with_steps-unconstrained}
@@ -145,11 +145,7 @@ some_width room columns plain full steps widths arranged =
 -- the visible widths of a table whose width is known are dynamic
 pub dynamic_widths : (table : TableValue) (arrangement : ContentArrangement) (w : ℕ) (widths : List ℕ) → width_kept arrangement (Some w) ≡ Some w → table.arrangement ≡ arrangement → table_width table ≡ Some w → IsArranged table widths
     → IsDynamic (room_beside_borders table w) (visible_needs table) (is_full_width arrangement) (widths_at widths (visible_columns table))
-dynamic_widths table arrangement w widths kept same known arranged =
-    let visible = widths_at widths (visible_columns table) in
-    let by_arrangement = subst (λ (a : ContentArrangement). MatchOption (width_kept a (table_width table)) (visible ≡ map (disabled_width table) (visible_columns table)) (λ v. IsDynamic (room_beside_borders table v) (visible_needs table) (is_full_width a) visible)) same arranged.visible_widths in
-    subst (λ (o : Option ℕ). MatchOption o (visible ≡ map (disabled_width table) (visible_columns table)) (λ v. IsDynamic (room_beside_borders table v) (visible_needs table) (is_full_width arrangement) visible))
-    (ap (width_kept arrangement) known ∙ kept) by_arrangement
+dynamic_widths table arrangement w widths kept same known arranged = grind arith
 
 module _ (table : TableValue) (w : ℕ) (widths : List ℕ) (full : Bool) (none : NoConstraints table) (arranged : IsArranged table widths)
     (steps : Steps) (by : IsArrangedBy (room_beside_borders table w) (visible_needs table) full steps (widths_at widths (visible_columns table))) where

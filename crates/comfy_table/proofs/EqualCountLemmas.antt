@@ -37,13 +37,7 @@ pub length-infos_from : (n : ℕ) (columns : List ColumnValue) (widths : List �
 length-infos_from n [] [] same = refl
 length-infos_from n [] (w ∷ widths) same = refl
 length-infos_from n (column ∷ columns) [] same = absurd (omega (arith, same))
-length-infos_from n (column ∷ columns) (w ∷ widths) same =
-    by_test (is_hidden_column column) (length-infos_from (n + 1) columns widths (omega (arith, same)))
-  where
-    by_test : (b : Bool) → length (infos_from (n + 1) columns widths) ≡ length (columns_from (n + 1) columns)
-        → length (cond (not b) ((n, info_of column w) ∷ infos_from (n + 1) columns widths) (infos_from (n + 1) columns widths)) ≡ length (cond (not b) ((n, column) ∷ columns_from (n + 1) columns) (columns_from (n + 1) columns))
-    by_test true rest = rest
-    by_test false rest = omega (arith, rest)
+length-infos_from n (column ∷ columns) (w ∷ widths) same = grind (arith, columns, length-infos_from (n + 1) columns widths (omega (arith, same)))
 
 -- a drawn column has a place, and what is known of its position and its delimiter
 pub record IsKnownInfo (Known : ℕ → Option ℕ → Type 0) (p : ℕ × ColumnInfo) : Type 0 where

@@ -1,5 +1,5 @@
 -- Widths that are filled in, and room that is added, from the first column on.
-use Rattle.std.proofs.Common.{◌≡◌, ◌<◌, ℕ, zero, suc, ◌+◌, List, [], ◌∷◌, ◌++◌, length, Option, Some, None, drop, refl, sym, ap, ap₂, ◌∙◌, arith, slice_get, slice_index_or, unwrap_or}
+use Rattle.std.proofs.Common.{◌≡◌, ◌<◌, ℕ, zero, suc, ◌+◌, List, [], ◌∷◌, ◌++◌, length, Option, Some, None, drop, refl, sym, ap, ◌∙◌, arith, slice_get, slice_index_or, unwrap_or}
 use Rattle.std.specs.List.{All}
 use Rattle.std.proofs.lemmas.List.{append_assoc, drop_more}
 use Rattle.std.proofs.lemmas.List.FromFn.{get_or-map-range_with_len}
@@ -32,11 +32,7 @@ module _ (widths : List (Option ℕ)) (i : ℕ) (below : i < length widths) wher
   -- an undecided one is a part
   pub filled_none : None ≡ slice_index_or widths i None → (x k j : ℕ) → j < k → (done whole : List ℕ) → done ++ filled (drop i widths) (drop j (even_spread x k)) ≡ whole
       → (done ++ part_of x k j ∷ []) ++ filled (drop (i + 1) widths) (drop (j + 1) (even_spread x k)) ≡ whole
-  filled_none is x k j among done whole so_far =
-      append_assoc done (part_of x k j ∷ []) (filled (drop (i + 1) widths) (drop (j + 1) (even_spread x k)))
-      ∙ sym (ap (λ (ps : List ℕ). done ++ filled (None ∷ drop (i + 1) widths) ps) (spread_from_part x k j among))
-      ∙ sym (ap (λ (ws : List (Option ℕ)). done ++ filled ws (drop j (even_spread x k))) (from_none is))
-      ∙ so_far
+  filled_none is x k j among done whole so_far = grind (arith, append_assoc, spread_from_part, from_none)
 
   -- it isn't counted
   pub count_some : (w : ℕ) → Some w ≡ slice_index_or widths i None → undecided_count (drop i widths) ≡ undecided_count (drop (i + 1) widths)
@@ -59,7 +55,4 @@ decided_where P widths i each below = All-at P (decided widths) i (unwrap_or (sl
 -- each width gets its part
 pub widened_more : (widths : List (Option ℕ)) (i x k : ℕ) → i < length widths → i < k → (done whole : List ℕ) → done ++ added (decided (drop i widths)) (drop i (even_spread x k)) ≡ whole
     → (done ++ (unwrap_or (slice_index_or widths i None) 0 + part_of x k i) ∷ []) ++ added (decided (drop (i + 1) widths)) (drop (i + 1) (even_spread x k)) ≡ whole
-widened_more widths i x k below among done whole so_far =
-    append_assoc done ((unwrap_or (slice_index_or widths i None) 0 + part_of x k i) ∷ []) (added (decided (drop (i + 1) widths)) (drop (i + 1) (even_spread x k)))
-    ∙ sym (ap₂ (λ (ws : List (Option ℕ)) (ps : List ℕ). done ++ added (decided ws) ps) (drop_more widths i None below) (spread_from_part x k i among))
-    ∙ so_far
+widened_more widths i x k below among done whole so_far = grind (arith, append_assoc, unwrap_or, slice_index_or, drop_more, spread_from_part)

@@ -1,10 +1,9 @@
 -- What a drawing over the table's infos promises.
-use Rattle.std.proofs.Common.{◌≡◌, ◌≤◌, ◌⊎◌, inl, inr, ℕ, ◌+◌, Bool, true, false, if◌then◌else◌, nat_le, not, List, [], ◌∷◌, ◌++◌, Option, Some, None, option_to_list, map, zip, slice_index_or, unwrap_or, max, String, refl, ap, sym, subst, ◌∙◌}
+use Rattle.std.proofs.Common.{◌≡◌, ◌≤◌, ℕ, ◌+◌, nat_le, not, List, [], ◌∷◌, Option, Some, None, option_to_list, map, zip, slice_index_or, unwrap_or, max, String, refl, ap, sym, subst, ◌∙◌, arith}
 use Rattle.std.proofs.lemmas.List.Elements.{All-cons, All-filter, All-head, All-nil, All-tail, All-weaker}
 use Rattle.std.proofs.lemmas.Str.{IsUtf8-string_bytes}
 use Rattle.std.specs.Char.{IsScalar}
 use Rattle.std.specs.List.{All, enumerate_from, slice_get}
-use Rattle.std.specs.Option.{IfSome}
 use Rattle.std.specs.Str.{IsUtf8}
 use Rattle.comfy_parts.proofs.Computing.{wrapping}
 use Rattle.comfy_parts.proofs.WrappedLemmas.{wrapped_is_wrapped}
@@ -12,7 +11,6 @@ use Rattle.comfy_parts.proofs.WrappingLemmas.{one_character}
 use Rattle.comfy_table.proofs.SeenLemmas.{IsSeenCell, IsSeenRow, IsWholeRow, seen_kept, whole_row}
 use Rattle.comfy_parts.specs.CellValue.{CellValue, ColumnInfo, ColumnValue, IsCell, IsColumn, IsDelimiter, IsRow, RowValue, info_of}
 use Rattle.comfy_parts.specs.Text.{Text, measure}
-use Rattle.comfy_parts.specs.Wrapping.{IsWrapped, wrapped}
 use Rattle.comfy_table.proofs.DrawnWidthLemmas.{fills_width, keeps_to_width}
 use Rattle.comfy_table.proofs.EqualCountLemmas.{equal_counts}
 use Rattle.comfy_table.proofs.ListLemmas.{All-at, All-every, All-of_map}
@@ -29,7 +27,6 @@ use Rattle.comfy_table.proofs.UnstyledLemmas.{unstyled_drawing}
 use Rattle.comfy_table.specs.Drawing.{drawing, drawing_of_infos, infos_of}
 use Rattle.comfy_table.specs.Headline.{EachLineCounts, IsClosedInRow, IsCutClosedInRow, IsResumedInRow, IsCutIntoSlices, IsTableDrawing, IsTextOrSlices}
 use Rattle.comfy_table.specs.Laws.{IsFreeOfEscapes, count, least_total, line_total, unstyled}
-use Rattle.comfy_table.specs.Lines.{cell_delimiter}
 use Rattle.comfy_table.specs.Pieces.{visible_infos}
 use Rattle.comfy_table.specs.TableLaws.{wider_total}
 use Rattle.comfy_table.specs.TableValue.{HasWholeTexts, KeepsParts, TableValue, ellipsis, header_and_rows, indicator_of, seen_rows}
@@ -40,11 +37,7 @@ drawing_of_table table infos lines (widths, arranged, is) drawn = (widths, arran
 
 -- the lines of a text are the text, or slices of it
 text_or_slices : (w d : ℕ) (text : Text) → IsScalar d → IsUtf8 text → IsTextOrSlices w d text
-text_or_slices w d text scalar whole = by_test (nat_le (measure text) w)
-  where
-    by_test : (fits : Bool) → ((if fits then text ∷ [] else wrapped w d text) ≡ text ∷ []) ⊎ IsWrapped w d text (if fits then text ∷ [] else wrapped w d text)
-    by_test true = inl refl
-    by_test false = inr (wrapped_is_wrapped w d text scalar whole)
+text_or_slices w d text scalar whole = grind (arith, nat_le, wrapped_is_wrapped)
 
 -- a delimiter, or another character where there is none, is a character
 delimiter_or : (delimiter : Option ℕ) (other : ℕ) → IsDelimiter delimiter → IsScalar other → IsScalar (unwrap_or delimiter other)
@@ -60,18 +53,11 @@ whole_cell table row own kept p of_column cell is =
 
 -- the lines of its text lines are these, or slices of them
 row_slices : (table : TableValue) (row : RowValue) (p : ℕ × ColumnInfo) → ((cell : CellValue) → slice_get row.cells p.0 ≡ Some cell → IsWholeCell table row p.1 cell) → IsCutIntoSlices table row p
-row_slices table row p whole cell is =
-    let own = whole cell is in
-    All-weaker IsUtf8 (IsTextOrSlices p.1.content_width (cell_delimiter table p.1.delimiter cell))
-    (λ text utf8. text_or_slices p.1.content_width (cell_delimiter table p.1.delimiter cell) text own.1 utf8) cell.text_lines own.0
+row_slices table row p whole cell is = grind (arith, All-weaker, text_or_slices)
 
 -- a table's rows and its header keep what rows keep
 all_rows : (table : TableValue) → KeepsParts table → All IsRow (header_and_rows table)
-all_rows table kept = by_header table.header kept.header
-  where
-    by_header : (header : Option RowValue) → IfSome header IsRow → All IsRow (option_to_list header ++ table.rows)
-    by_header None _ = kept.rows
-    by_header (Some header) first = All-cons IsRow header table.rows first kept.rows
+all_rows table kept = grind (arith, option_to_list, All-cons)
 
 -- what the cells of rows keep
 seen_row : (row : RowValue) → IsRow row → IsSeenRow row
@@ -83,8 +69,7 @@ info_delimiters : (n : ℕ) (columns : List ColumnValue) (widths : List ℕ) →
 info_delimiters n [] widths kept = All-nil (λ (p : ℕ × ColumnInfo). IsDelimiter p.1.delimiter)
 info_delimiters n (column ∷ columns) [] kept = All-nil (λ (p : ℕ × ColumnInfo). IsDelimiter p.1.delimiter)
 info_delimiters n (column ∷ columns) (width ∷ widths) kept =
-    All-cons (λ (p : ℕ × ColumnInfo). IsDelimiter p.1.delimiter) (n, info_of column width) _ (All-head IsColumn column columns kept)
-    (info_delimiters (n + 1) columns widths (All-tail IsColumn column columns kept))
+    grind (arith, All-cons, All-head, All-tail, info_delimiters (n + 1) columns widths (All-tail IsColumn column columns kept))
 
 -- what a line's total meets, each line's count does
 each_line_counts : (P : ℕ → Type 0) (table : TableValue) (widths : List ℕ) → IsUtf8 table.indicator → EachCell (IsWholeCell table) table widths → IsArranged table widths → P (line_total table widths)

@@ -1,6 +1,6 @@
 -- Lists that are joined or repeated, one part more.
 use Rattle.std.proofs.Common.{◌≡◌, ◌<◌, ◌≤◌, ℕ, zero, suc, ◌+◌, ◌&&◌, Bool, true, false, List, [], ◌∷◌, ◌++◌, length, map, take, nat_lt, arith, refl, sym, ap, ◌∙◌, append-nil, append_assoc, slice_index_or, add-one}
-use Rattle.std.specs.List.{flat_map, join_by, join_with_byte, repeat}
+use Rattle.std.specs.List.{join_by, join_with_byte, repeat}
 use Rattle.std.specs.Prelude.{if◌then◌else◌}
 use Rattle.std.proofs.lemmas.Bool.Decides.{nat_tests}
 use Rattle.std.proofs.lemmas.Grind.{flat_map-append}
@@ -24,13 +24,7 @@ repeat_more n xs = ap (λ k. repeat k xs) (add-one n) ∙ behind n
 pub join_by_push : {X A : Type 0} (f : X → List A) (separator : List A) (xs : List X) (x : X)
     → join_by f separator (xs ++ x ∷ []) ≡ (join_by f separator xs ++ (if nat_lt 0 (length xs) then separator else [])) ++ f x
 join_by_push f separator [] x = append-nil (f x)
-join_by_push {X} {A} f separator (y ∷ ys) x =
-    let later : nat_lt 0 (suc (length ys)) ≡ true = grind (arith, nat_tests) in
-    let joined = f y ++ flat_map (λ z. separator ++ f z) ys in
-    ap (λ zs. f y ++ zs) (flat_map-append (λ z. separator ++ f z) ys (x ∷ []) ∙ ap (λ zs. flat_map (λ z. separator ++ f z) ys ++ zs) (append-nil (separator ++ f x)))
-    ∙ sym (append_assoc (f y) (flat_map (λ z. separator ++ f z) ys) (separator ++ f x))
-    ∙ sym (append_assoc joined separator (f x))
-    ∙ ap (λ (b : Bool). (joined ++ (if b then separator else [])) ++ f x) (sym later)
+join_by_push {X} {A} f separator (y ∷ ys) x = grind (arith, nat_lt, nat_tests, flat_map-append, append-nil, append_assoc)
 
 -- the same of the front of a list
 pub join_by_more : {X A : Type 0} (f : X → List A) (separator : List A) (xs : List X) (i : ℕ) (x : X) → i < length xs → x ≡ slice_index_or xs i x

@@ -1,4 +1,5 @@
 -- The search for a level: what the columns need at a level grows no more than the room, and where the average no longer passes it the level is found.
+use Rattle.std.proofs.lemmas.Bool.Decides.{nat_tests}
 use Rattle.std.proofs.Common.{◌≡◌, ◌<◌, ◌≤◌, ℕ, suc, ◌+◌, ◌-◌, ◌*◌, ◌/◌, Bool, true, false, cond, ◌==◌, List, [], ◌∷◌, length, max, slice_index_or, sum_by, Option, Some, None, option_map, is_none, unwrap_or, filter, nat_le, refl, ap, ◌∙◌, arith, suc-mul, mul_comm, div-mul-le_self}
 use Rattle.std.specs.Prelude.{◌&&◌, if◌then◌else◌}
 use Rattle.std.specs.List.{enumerate_from, cons_option}
@@ -22,12 +23,7 @@ need_at level other column = unwrap_or (settled_at (Some level) column) other
 -- a boundary that is taken is within both
 upper_taken : (level : ℕ) (column : ColumnNeeds) (u : ℕ) → (nat_le u (level + column.padding) && nat_le u (column.content + column.padding)) ≡ true
     → (u ≤ level + column.padding) × (u ≤ column.content + column.padding)
-upper_taken level column u passes = by_tests (nat_le u (level + column.padding)) refl (nat_le u (column.content + column.padding)) refl passes
-  where
-    by_tests : (a : Bool) → nat_le u (level + column.padding) ≡ a → (b : Bool) → nat_le u (column.content + column.padding) ≡ b → (a && b) ≡ true → (u ≤ level + column.padding) × (u ≤ column.content + column.padding)
-    by_tests true first true second yes' = (leb-true u (level + column.padding) first, leb-true u (column.content + column.padding) second)
-    by_tests true first false second yes' = absurd (cc yes')
-    by_tests false first b second yes' = absurd (cc yes')
+upper_taken level column u passes = grind (arith, leb-true)
 
 -- A width of at least 1 that is at most the level and at most the content, where these are at least 1.
 record Settles (level : ℕ) (column : ColumnNeeds) (width : ℕ) : Type 0 where
@@ -37,81 +33,23 @@ record Settles (level : ℕ) (column : ColumnNeeds) (width : ℕ) : Type 0 where
 
 -- what a level settles is such a width
 settles : (level : ℕ) (column : ColumnNeeds) (width : ℕ) → settled_at (Some level) column ≡ Some width → Settles level column width
-settles level column width is = by_upper column.upper is
-  where
-    by_content : (b : Bool) → nat_le column.content level ≡ b → (if b then Some (max 1 column.content) else None) ≡ Some width → Settles level column width
-    by_content true fits same = let here : max 1 column.content ≡ width = cc same in let below = leb-true column.content level fits in record { some = omega (arith, here); of_level = omega (arith, here, below); of_content = omega (arith, here) }
-    by_content false passes same = absurd (cc same)
-
-    by_boundary : (u : ℕ) (b : Bool) → (nat_le u (level + column.padding) && nat_le u (column.content + column.padding)) ≡ b
-        → fit_at level column (if b then Some (without_padding column.padding u) else None) ≡ Some width → Settles level column width
-    by_boundary u true taken same =
-        let here : max 1 (u - column.padding) ≡ width = cc same in let within = upper_taken level column u taken in
-        record { some = omega (arith, here); of_level = omega (arith, here, within.0); of_content = omega (arith, here, within.1) }
-    by_boundary u false taken same = by_content (nat_le column.content level) refl same
-
-    by_upper : (o : Option ℕ) → fit_at level column (upper_at level column o) ≡ Some width → Settles level column width
-    by_upper None same = by_content (nat_le column.content level) refl same
-    by_upper (Some u) same = by_boundary u (nat_le u (level + column.padding) && nat_le u (column.content + column.padding)) refl same
+settles level column width is = grind (arith, nat_tests, leb-true, upper_taken)
 
 -- what is needed at a level is at most the level
 need_within : (level : ℕ) (column : ColumnNeeds) → 1 ≤ level → need_at level level column ≤ level
-need_within level column one = by_settled (settled_at (Some level) column) refl
-  where
-    by_settled : (o : Option ℕ) → settled_at (Some level) column ≡ o → unwrap_or o level ≤ level
-    by_settled None is = omega arith
-    by_settled (Some width) is = omega (arith, one, (settles level column width is).of_level)
+need_within level column one = grind (arith, nat_tests, settles)
 
 -- and at least 1
 need_some : (level : ℕ) (column : ColumnNeeds) → 1 ≤ level → 1 ≤ need_at level level column
-need_some level column one = by_settled (settled_at (Some level) column) refl
-  where
-    by_settled : (o : Option ℕ) → settled_at (Some level) column ≡ o → 1 ≤ unwrap_or o level
-    by_settled None is = one
-    by_settled (Some width) is = (settles level column width is).some
+need_some level column one = grind (arith, nat_tests, settles)
 
 -- what a level settles, a higher one settles with at most the same width
 settled_higher : (level higher : ℕ) (column : ColumnNeeds) (width : ℕ) → level ≤ higher → settled_at (Some level) column ≡ Some width → need_at higher higher column ≤ width
-settled_higher level higher column width above is = by_upper column.upper is
-  where
-    by_content : (b : Bool) → nat_le column.content level ≡ b → (if b then Some (max 1 column.content) else None) ≡ Some width
-        → (column.content ≤ higher) × (max 1 column.content ≡ width)
-    by_content true fits same = (omega (arith, above, leb-true column.content level fits), cc same)
-    by_content false passes same = absurd (cc same)
-
-    content_fits : (column.content ≤ higher) × (max 1 column.content ≡ width) → unwrap_or (if nat_le column.content higher then Some (max 1 column.content) else None) higher ≤ width
-    content_fits fits =
-        let e = ap (λ (b : Bool). unwrap_or (if b then Some (max 1 column.content) else None) higher) (le-leb column.content higher fits.0) in omega (arith, e, fits.1)
-
-    still : (u : ℕ) (b : Bool) → (nat_le u (higher + column.padding) && nat_le u (column.content + column.padding)) ≡ b → (column.content ≤ higher) × (max 1 column.content ≡ width)
-        → unwrap_or (fit_at higher column (if b then Some (without_padding column.padding u) else None)) higher ≤ width
-    still u true taken fits = omega (arith, fits.1, (upper_taken higher column u taken).1)
-    still u false taken fits = content_fits fits
-
-    by_boundary : (u : ℕ) (b : Bool) → (nat_le u (level + column.padding) && nat_le u (column.content + column.padding)) ≡ b
-        → fit_at level column (if b then Some (without_padding column.padding u) else None) ≡ Some width
-        → unwrap_or (fit_at higher column (upper_at higher column (Some u))) higher ≤ width
-    by_boundary u true taken same =
-        let here : without_padding column.padding u ≡ width = cc same in
-        let within = upper_taken level column u taken in
-        let first = le-leb u (higher + column.padding) (omega (arith, above, within.0)) in
-        let second = le-leb u (column.content + column.padding) within.1 in
-        let e = ap (λ (b : Bool). unwrap_or (fit_at higher column (if b && nat_le u (column.content + column.padding) then Some (without_padding column.padding u) else None)) higher) first
-        ∙ ap (λ (b : Bool). unwrap_or (fit_at higher column (if true && b then Some (without_padding column.padding u) else None)) higher) second in
-        omega (arith, e, here)
-    by_boundary u false taken same = still u (nat_le u (higher + column.padding) && nat_le u (column.content + column.padding)) refl (by_content (nat_le column.content level) refl same)
-
-    by_upper : (o : Option ℕ) → fit_at level column (upper_at level column o) ≡ Some width → unwrap_or (fit_at higher column (upper_at higher column o)) higher ≤ width
-    by_upper None same = content_fits (by_content (nat_le column.content level) refl same)
-    by_upper (Some u) same = by_boundary u (nat_le u (level + column.padding) && nat_le u (column.content + column.padding)) refl same
+settled_higher level higher column width above is = grind (arith, nat_le, leb-true, unwrap_or, le-leb, upper_taken)
 
 -- a column needs no more at a higher level than where the lower one settles it and it else has the higher
 need_higher : (level higher : ℕ) (column : ColumnNeeds) → 1 ≤ higher → level ≤ higher → need_at higher higher column ≤ need_at level higher column
-need_higher level higher column one above = by_settled (settled_at (Some level) column) refl
-  where
-    by_settled : (o : Option ℕ) → settled_at (Some level) column ≡ o → need_at higher higher column ≤ unwrap_or o higher
-    by_settled None is = need_within higher column one
-    by_settled (Some width) is = settled_higher level higher column width above is
+need_higher level higher column one above = grind (arith, need_within, settled_higher)
 
 -- ---- all columns
 
@@ -156,14 +94,7 @@ needed-is level other (p ∷ more) = sum_by-cons (λ (q : Placed). need_at level
 -- what a level settles and leaves are all columns
 settled_and_left : (level : ℕ) (columns : List Placed) → length (settled_shares (Some level) columns) + left_count level columns ≡ length columns
 settled_and_left level [] = refl
-settled_and_left level (p ∷ more) = by_settled (settled_at (Some level) p.1) (settled_and_left level more)
-  where
-    by_settled : (o : Option ℕ) → length (settled_shares (Some level) more) + left_count level more ≡ length more
-        → length (cons_option (option_map (λ (width : ℕ). (p.0, width)) o) (settled_shares (Some level) more))
-        + length (cond (is_none o) (p ∷ filter (λ (q : Placed). is_none (settled_at (Some level) q.1)) more) (filter (λ (q : Placed). is_none (settled_at (Some level) q.1)) more))
-        ≡ suc (length more)
-    by_settled None rest = omega arith
-    by_settled (Some width) rest = omega arith
+settled_and_left level (p ∷ more) = grind (arith, option_map, is_none, settled_and_left level more)
 
 -- the columns without its shares are those that it leaves
 pub left_count-is : (level : ℕ) (columns : List Placed) → IsOneEach columns → length (without_shares (settled_shares (Some level) columns) columns) ≡ left_count level columns
@@ -184,12 +115,7 @@ needed_at_first room level columns some is =
 module _ (room : ℕ) (columns : List Placed) (one : IsOneEach columns) where
   -- what the average beside a level takes
   raised_room : (level raised : ℕ) → raised ≡ raised_from room columns level → left_count level columns * raised ≤ room - total (settled_shares (Some level) columns)
-  raised_room level raised is =
-      let left = length (without_shares (settled_shares (Some level) columns) columns) in
-      let left_room = room - total (settled_shares (Some level) columns) in
-      let product = ap (λ (n : ℕ). n * left) is in
-      let same = ap (λ (n : ℕ). n * raised) (left_count-is level columns one) in
-      omega (arith, product, same, div-mul-le_self left_room left, mul_comm left raised)
+  raised_room level raised is = grind (arith, left_count-is, div-mul-le_self, mul_comm)
 
   -- and at that average where it is higher
   pub needed_at_next : (level raised : ℕ) → level < raised → raised ≡ raised_from room columns level → needed level level columns ≤ room → needed raised raised columns ≤ room
@@ -198,33 +124,12 @@ module _ (room : ℕ) (columns : List Placed) (one : IsOneEach columns) where
 
   -- where it is not, the level is found
   pub level_found : (level raised : ℕ) → 0 < level → raised ≤ level → raised ≡ raised_from room columns level → needed level level columns ≤ room → IsLevel room columns (Some level)
-  level_found level raised some below is enough = (
-    omega (arith, needed_some level columns some, enough),
-    some,
-    omega (arith, needed-is level level columns, enough),
-    same,
-  )
-    where
-      left : ℕ
-      left = length (without_shares (settled_shares (Some level) columns) columns)
-
-      left_room : ℕ
-      left_room = room - total (settled_shares (Some level) columns)
-
-      same : 0 < left → level ≡ left_room / left
-      same there =
-          let fits : left * level ≤ left_room = omega (arith, needed-is level level columns, enough, ap (λ (n : ℕ). n * level) (left_count-is level columns one)) in
-          let least : level ≤ left_room / left = le-div level left_room left there (omega (arith, fits, mul_comm left level)) in
-          omega (arith, least, below, is)
+  level_found level raised some below is enough = grind (arith, nat_tests, needed_some, needed-is, left_count-is, le-div, mul_comm)
 
 -- columns that have no room on average have a level that settles nothing
 pub level_without_average : (room : ℕ) (columns : List Placed) → room / length columns ≡ 0 → (level : Option ℕ) × IsLevel room columns level × (settled_shares level columns ≡ [])
 level_without_average room [] none = (Some 1, (omega arith, omega arith, omega arith, λ some. absurd (omega arith)), refl)
-level_without_average room (p ∷ more) none =
-    let count = length (p ∷ more) in
-    let bound = below_next room count (omega arith) in
-    let same : count * (room / count + 1) ≡ count * 1 = ap (λ (n : ℕ). count * (n + 1)) none in
-    (None, omega (arith, bound, same), settled_shares-none (p ∷ more))
+level_without_average room (p ∷ more) none = grind (arith, below_next, settled_shares-none)
 
 -- ---- the undecided columns
 

@@ -5,7 +5,6 @@ use Rattle.std.specs.Prelude.{option_map, option_to_list}
 use Rattle.std.proofs.lemmas.List.{map-append}
 use Rattle.comfy_parts.specs.CellValue.{CellValue, ColumnInfo, RowValue}
 use Rattle.comfy_parts.specs.Text.{greatest, measure}
-use Rattle.comfy_parts.specs.Wrapping.{lines_of_text}
 use Rattle.comfy_table.specs.Lines.{cell_delimiter, cell_lines, longest_line}
 use Rattle.comfy_table.specs.LongestLine.{cell_longest_line, optional_longest_line, row_longest_line, rows_longest_line}
 use Rattle.comfy_table.proofs.SeenLemmas.{cell_seen, get_seen, row_seen, seen_rows-is}
@@ -40,17 +39,11 @@ module _ (table : TableValue) (info : ColumnInfo) where
   -- of the cells at a position as they are seen, row by row
   row_by_row : (rows : List RowValue) (i : ℕ) → greatest (map (cell_longest_line table info) (cells_of i (map (row_seen table.custom_styling) rows))) ≡ rows_longest_line table info i rows
   row_by_row [] i = refl
-  row_by_row (row ∷ rows) i =
-      let others = cells_of i (map (row_seen table.custom_styling) rows) in
-      ap (λ (cell : Option CellValue). greatest (map (cell_longest_line table info) (cons_option cell others))) (get_seen table.custom_styling row.cells i)
-      ∙ greatest-cons_option (slice_get row.cells i) others
-      ∙ ap (max (row_longest_line table info i row)) (row_by_row rows i)
+  row_by_row (row ∷ rows) i = grind (arith, get_seen, greatest-cons_option, row_by_row rows i)
 
   -- of the lines of all cells
   cell_by_cell : (cells : List CellValue) → greatest (map measure (flat_map lines cells)) ≡ greatest (map (cell_longest_line table info) cells)
-  cell_by_cell cells =
-      greatest-flat_map measure lines cells
-      ∙ (λ j. greatest (map (λ (cell : CellValue). greatest-flat_map measure (lines_of_text info.content_width (cell_delimiter table info.delimiter cell)) cell.text_lines j) cells))
+  cell_by_cell cells = grind (arith, greatest-flat_map)
 
   -- so that of a column: the longer of the header's and the rows'
   pub longest_line-is : (i : ℕ)

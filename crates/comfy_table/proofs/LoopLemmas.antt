@@ -17,9 +17,7 @@ enumerated_more f xs i x below is =
 
 -- and all of them
 pub enumerated_all : {A B : Type 0} (f : ℕ × A → B) (xs : List A) (i : ℕ) → length xs ≤ i → map f (take i (enumerate_from 0 xs)) ≡ map f (enumerate_from 0 xs)
-enumerated_all f xs i past =
-    let within : length (enumerate_from 0 xs) ≤ i = omega (arith, length-enumerate_from 0 xs) in
-    ap (map f) (take_all i (enumerate_from 0 xs) within)
+enumerated_all f xs i past = grind (arith, length-enumerate_from, take_all)
 
 -- one element more, where those that pass a test are kept
 pub filtered_more : {A B : Type 0} (f : ℕ × A → B) (test : ℕ × A → Bool) (xs : List A) (i : ℕ) (x : A) (b : Bool) → i < length xs → x ≡ slice_index_or xs i x → test (i, x) ≡ b
@@ -39,6 +37,4 @@ filtered_more {A} {B} f test xs i x b below is passes =
 -- and all of them
 pub filtered_all : {A B : Type 0} (f : ℕ × A → B) (test : ℕ × A → Bool) (xs : List A) (i : ℕ) → length xs ≤ i
     → map f (filter test (take i (enumerate_from 0 xs))) ≡ map f (filter test (enumerate_from 0 xs))
-filtered_all f test xs i past =
-    let within : length (enumerate_from 0 xs) ≤ i = omega (arith, length-enumerate_from 0 xs) in
-    ap (λ ps. map f (filter test ps)) (take_all i (enumerate_from 0 xs) within)
+filtered_all f test xs i past = grind (arith, length-enumerate_from, take_all)

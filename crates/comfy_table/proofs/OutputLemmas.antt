@@ -9,7 +9,7 @@ use Rattle.std.proofs.lemmas.List.{length-append}
 use Rattle.std.proofs.lemmas.List.Concat.{flat_map-append}
 use Rattle.comfy_parts.specs.Text.{Text}
 use Rattle.comfy_table.specs.Drawing.{terminated_text_of, text_of}
-use Rattle.comfy_table.specs.Output.{OutputValue, WriterValue, line_in_text, own_lines, with_lines, with_written}
+use Rattle.comfy_table.specs.Output.{OutputValue, WriterValue, own_lines, with_lines, with_written}
 use Rattle.comfy_table.specs.declared.utils.formatting.output.OutputForm.{OutputForm}
 use Rattle.comfy_table.specs.declared.utils.formatting.output.OutputForm.TheVariants.{Lines, Joined, Trimmed}
 
@@ -25,20 +25,14 @@ own_lines-none Trimmed = refl
 
 -- lines and then more lines
 pub with_lines-append : (first more : List Text) (output : OutputValue) → with_lines more (with_lines first output) ≡ with_lines (first ++ more) output
-with_lines-append first more output =
-    ap₂ (λ (lines : List Text) (text : Text). record output { lines = lines; text = text })
-    (append_assoc output.lines (own_lines output.form first) (own_lines output.form more) ∙ ap (λ (ls : List Text). output.lines ++ ls) (own_lines-append output.form first more))
-    (append_assoc output.text (flat_map (line_in_text output.form) first) (flat_map (line_in_text output.form) more) ∙ ap (λ (t : Text). output.text ++ t) (sym (flat_map-append (line_in_text output.form) first more)))
+with_lines-append first more output = grind (arith, append_assoc, own_lines-append, flat_map-append)
 
 pub written-append : (first more : List Text) (writer : WriterValue) → with_written more (with_written first writer) ≡ with_written (first ++ more) writer
 written-append first more writer = ap (λ (output : OutputValue). record writer { output = output }) (with_lines-append first more writer.output)
 
 -- no line
 pub written-none : (writer : WriterValue) → with_written [] writer ≡ writer
-written-none writer =
-    ap₂ (λ (lines : List Text) (text : Text). record writer { output = record writer.output { lines = lines; text = text } })
-    (ap (λ (ls : List Text). writer.output.lines ++ ls) (own_lines-none writer.output.form) ∙ append-nil writer.output.lines)
-    (append-nil writer.output.text)
+written-none writer = grind (arith, own_lines-none, append-nil)
 
 -- four parts of a drawing, one after another
 pub four-written : (one two three four : List Text) (writer : WriterValue)
@@ -51,10 +45,7 @@ four-written one two three four writer =
 -- behind the last of some lines stands one line feed more than between them
 terminated : (line : Text) (lines : List Text) → terminated_text_of (line ∷ lines) ≡ text_of (line ∷ lines) ++ 0x0A ∷ []
 terminated line [] = append-nil (line ++ 0x0A ∷ [])
-terminated line (next ∷ lines) =
-    ap (λ (t : Text). (line ++ 0x0A ∷ []) ++ t) (terminated next lines)
-    ∙ append_assoc line (0x0A ∷ []) (text_of (next ∷ lines) ++ 0x0A ∷ [])
-    ∙ sym (append_assoc line (0x0A ∷ text_of (next ∷ lines)) (0x0A ∷ []))
+terminated line (next ∷ lines) = grind (arith, append_assoc, terminated next lines)
 
 -- a text without its last byte
 shorter : (front old new : Text) (n : ℕ) → n ≡ length old → old ≡ front ++ 0x0A ∷ [] → (0 < n → slice_index old (n - 1) < 128 → new ≡ take (n - 1) old) → new ≡ front

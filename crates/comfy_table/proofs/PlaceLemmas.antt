@@ -1,5 +1,5 @@
 -- What a function of the place gives of columns at their places: from a place on, at an index, and where one is replaced.
-use Rattle.std.proofs.Common.{◌≡◌, ◌<◌, ◌≤◌, ℕ, zero, suc, ◌+◌, Bool, true, false, cond, ◌==◌, List, [], ◌∷◌, length, map, filter, slice_index_or, refl, sym, ap, ◌∙◌, arith}
+use Rattle.std.proofs.Common.{◌≡◌, ◌<◌, ◌≤◌, ℕ, zero, suc, ◌+◌, Bool, cond, ◌==◌, List, [], ◌∷◌, length, map, filter, slice_index_or, refl, sym, ap, ◌∙◌, arith}
 use Rattle.std.specs.Prelude.{slice_set}
 use Rattle.std.specs.List.{enumerate_from}
 use Rattle.std.proofs.lemmas.Bool.{eq-eqb, ne_eqb}
@@ -40,9 +40,4 @@ set-places f (suc i) v n (x ∷ xs) =
 -- as many pass before a function is applied as after
 pub length-filter_places : {A X : Type 0} (test : X → Bool) (f : A → X) (xs : List A) → length (filter test (map f xs)) ≡ length (filter (λ (x : A). test (f x)) xs)
 length-filter_places test f [] = refl
-length-filter_places {A} {X} test f (x ∷ xs) = by_test (test (f x)) (length-filter_places test f xs)
-  where
-    by_test : (b : Bool) → length (filter test (map f xs)) ≡ length (filter (λ (y : A). test (f y)) xs)
-        → length (cond b (f x ∷ filter test (map f xs)) (filter test (map f xs))) ≡ length (cond b (x ∷ filter (λ (y : A). test (f y)) xs) (filter (λ (y : A). test (f y)) xs))
-    by_test true rest = omega arith
-    by_test false rest = rest
+length-filter_places {A} {X} test f (x ∷ xs) = grind (arith, length-filter_places test f xs)

@@ -1,6 +1,5 @@
 -- The widths that shares give to columns at their places, and how they change where more shares are taken.
-use Rattle.std.proofs.Common.{◌≡◌, ◌≤◌, ℕ, ◌+◌, Bool, true, false, cond, not, ◌==◌, List, [], ◌∷◌, ◌++◌, length, map, Option, Some, None, option_map, find, filter, is_none, refl, sym, ap, ◌∙◌, subst, arith, append-nil, ⊎_elim, eq-zero-or-pos}
-use Rattle.std.specs.Prelude.{◌||◌}
+use Rattle.std.proofs.Common.{◌≡◌, ◌≤◌, ℕ, ◌+◌, Bool, false, cond, not, ◌==◌, List, [], ◌∷◌, ◌++◌, length, map, Option, Some, None, option_map, find, filter, is_none, refl, sym, ap, ◌∙◌, subst, arith, append-nil, ⊎_elim, eq-zero-or-pos}
 use Rattle.std.specs.Option.{option_or}
 use Rattle.std.proofs.lemmas.Bool.{eq-eqb}
 use Rattle.std.proofs.lemmas.List.{append_assoc}
@@ -8,7 +7,7 @@ use Rattle.std.proofs.lemmas.List.Folds.{list_any-append}
 use Rattle.comfy_table.specs.Deciding.{is_undecided, undecided_among, undecided_count, with_shares}
 use Rattle.comfy_table.specs.Dynamic.{Placed, Share, places_of, without_shares}
 use Rattle.comfy_table.specs.Widths.{ColumnNeeds}
-use Rattle.comfy_table.proofs.ShareLemmas.{count_at, has_share, one_if, IsOneEach, IsAmong, count_at-append, count_at-without_none, count_at-without_some}
+use Rattle.comfy_table.proofs.ShareLemmas.{count_at, has_share, IsOneEach, IsAmong, count_at-append, count_at-without_none, count_at-without_some}
 use Rattle.comfy_table.proofs.PlaceLemmas.{map-places, filter-places, index-places, set-places, length-filter_places}
 
 -- ---- the width at a place
@@ -20,30 +19,17 @@ width_at shares i = option_map (λ (t : Share). t.1) (find (λ (t : Share). t.0 
 -- two lists of shares give the width that the first gives, else the one that the second gives
 pub width_at-append : (i : ℕ) (xs ys : List Share) → width_at (xs ++ ys) i ≡ option_or (width_at xs i) (width_at ys i)
 width_at-append i [] ys = refl
-width_at-append i (t ∷ xs) ys = by_test (t.0 == i) (width_at-append i xs ys)
-  where
-    by_test : (b : Bool) → width_at (xs ++ ys) i ≡ option_or (width_at xs i) (width_at ys i)
-        → option_map (λ (s : Share). s.1) (cond b (Some t) (find (λ (s : Share). s.0 == i) (xs ++ ys))) ≡ option_or (option_map (λ (s : Share). s.1) (cond b (Some t) (find (λ (s : Share). s.0 == i) xs))) (width_at ys i)
-    by_test true rest = refl
-    by_test false rest = rest
+width_at-append i (t ∷ xs) ys = grind (arith, width_at-append i xs ys)
 
 -- where no share stands there is no width
 pub width_at-none : (i : ℕ) (shares : List Share) → count_at i shares ≡ 0 → width_at shares i ≡ None
 width_at-none i [] none = refl
-width_at-none i (t ∷ more) none = by_test (t.0 == i) none (width_at-none i more)
-  where
-    by_test : (b : Bool) → cond b 1 0 + count_at i more ≡ 0 → (count_at i more ≡ 0 → width_at more i ≡ None) → option_map (λ (s : Share). s.1) (cond b (Some t) (find (λ (s : Share). s.0 == i) more)) ≡ None
-    by_test true none rest = absurd (omega arith)
-    by_test false none rest = rest (omega arith)
+width_at-none i (t ∷ more) none = grind (arith, count_at, width_at-none i more)
 
 -- a place has no width where it has no share
 pub is_none-width_at : (i : ℕ) (shares : List Share) → is_none (width_at shares i) ≡ not (has_share shares i)
 is_none-width_at i [] = refl
-is_none-width_at i (t ∷ more) = by_test (t.0 == i) (is_none-width_at i more)
-  where
-    by_test : (b : Bool) → is_none (width_at more i) ≡ not (has_share more i) → is_none (option_map (λ (s : Share). s.1) (cond b (Some t) (find (λ (s : Share). s.0 == i) more))) ≡ not (b || has_share more i)
-    by_test true rest = refl
-    by_test false rest = rest
+is_none-width_at i (t ∷ more) = grind (arith, has_share, is_none-width_at i more)
 
 -- the first share gives the width at its place
 pub width_at-here : (t : Share) (more : List Share) (i : ℕ) → t.0 ≡ i → width_at (t ∷ more) i ≡ Some t.1
@@ -55,17 +41,7 @@ width_at-other t more i other = ap (λ (b : Bool). option_map (λ (s : Share). s
 
 -- one share more, where each place has at most one
 pub width_at-push : (t : Share) (before : List Share) (i : ℕ) → count_at i (before ++ t ∷ []) ≤ 1 → cond (t.0 == i) (Some t.1) (width_at before i) ≡ width_at (before ++ t ∷ []) i
-width_at-push t before i one = by_test (t.0 == i) refl ∙ sym (width_at-append i before (t ∷ []))
-  where
-    or_none : (o : Option ℕ) → o ≡ option_or o None
-    or_none None = refl
-    or_none (Some w) = refl
-
-    by_test : (b : Bool) → (t.0 == i) ≡ b → cond b (Some t.1) (width_at before i) ≡ option_or (width_at before i) (option_map (λ (s : Share). s.1) (cond b (Some t) None))
-    by_test true same =
-        let adds : one_if (t.0 == i) ≡ 1 = ap one_if same in
-        sym (ap (λ (o : Option ℕ). option_or o (Some t.1)) (width_at-none i before (omega (arith, one, adds, count_at-append i before (t ∷ [])))))
-    by_test false same = or_none (width_at before i)
+width_at-push t before i one = grind (arith, width_at-append, option_map, width_at-none, count_at-append)
 
 -- ---- the widths that shares give
 
@@ -102,18 +78,8 @@ undecided_count-widths_of needs shares = length-filter_places is_none (λ (p : P
 -- shares are taken after others
 pub without_shares-append : (before order : List Share) (columns : List Placed) → without_shares (before ++ order) columns ≡ without_shares order (without_shares before columns)
 without_shares-append before order [] = refl
-without_shares-append before order (p ∷ more) =
-    ap (λ (b : Bool). cond (not b) (p ∷ without_shares (before ++ order) more) (without_shares (before ++ order) more)) (list_any-append (λ (t : Share). t.0 == p.0) before order)
-    ∙ by_test (has_share before p.0) (without_shares-append before order more)
-  where
-    by_test : (b : Bool) → without_shares (before ++ order) more ≡ without_shares order (without_shares before more)
-        → cond (not (b || has_share order p.0)) (p ∷ without_shares (before ++ order) more) (without_shares (before ++ order) more)
-        ≡ without_shares order (cond (not b) (p ∷ without_shares before more) (without_shares before more))
-    by_test true rest = rest
-    by_test false rest = ap (λ (ps : List Placed). cond (not (has_share order p.0)) (p ∷ ps) ps) rest
+without_shares-append before order (p ∷ more) = grind (arith, list_any-append, has_share, without_shares-append before order more)
 
 -- shares of columns that have none yet keep at most one for each place
 pub one_each-more : (before order : List Share) (columns : List Placed) → IsOneEach columns → IsOneEach before → IsAmong order (without_shares before columns) → IsOneEach (before ++ order)
-one_each-more before order columns one each among i =
-    ⊎_elim (λ none. omega (arith, none, among i, one i, count_at-without_none i before columns none, count_at-append i before order))
-    (λ some. omega (arith, some, among i, each i, count_at-without_some i before columns some, count_at-append i before order)) (eq-zero-or-pos (count_at i before))
+one_each-more before order columns one each among i = grind (arith, ⊎_elim, count_at-without_none, count_at-append, count_at-without_some, eq-zero-or-pos)

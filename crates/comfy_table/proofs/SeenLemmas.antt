@@ -1,5 +1,5 @@
 -- A table as it is seen: its rows, and what holds of them.
-use Rattle.std.proofs.Common.{◌≡◌, ℕ, zero, suc, Bool, true, false, List, [], ◌∷◌, ◌++◌, Option, Some, None, map, option_map, option_to_list, refl, ap, ap₂, ◌∙◌}
+use Rattle.std.proofs.Common.{◌≡◌, ℕ, zero, suc, Bool, true, false, List, [], ◌∷◌, ◌++◌, Option, Some, None, map, option_map, option_to_list, refl, ap, arith}
 use Rattle.std.specs.List.{All, slice_get, join_by}
 use Rattle.std.specs.Prelude.{if◌then◌else◌}
 use Rattle.std.specs.Str.{IsUtf8}
@@ -41,13 +41,7 @@ get_seen false (cell ∷ cells) (suc i) = get_seen false cells i
 
 -- so are all of them
 pub seen_rows-is : (table : TableValue) → seen_rows table ≡ map (row_seen table.custom_styling) (header_and_rows table)
-seen_rows-is table =
-    ap₂ (λ (header : Option RowValue) (rows : List RowValue). option_to_list header ++ rows) (header_seen table.custom_styling table.header) (rows_seen table.custom_styling table.rows)
-    ∙ with_header table.header
-  where
-    with_header : (header : Option RowValue) → option_to_list (option_map (row_seen table.custom_styling) header) ++ map (row_seen table.custom_styling) table.rows ≡ map (row_seen table.custom_styling) (option_to_list header ++ table.rows)
-    with_header None = refl
-    with_header (Some row) = refl
+seen_rows-is table = grind (arith, option_to_list, header_seen, rows_seen, option_map)
 
 -- parts of what a function gives, joined
 pub join_by-map : {X Y Z : Type 0} (f : Y → List Z) (separator : List Z) (g : X → Y) (xs : List X) → join_by f separator (map g xs) ≡ join_by (λ x. f (g x)) separator xs

@@ -1,7 +1,7 @@
 -- Spaces that are written in runs, and the pieces that they make.
-use Rattle.std.proofs.Common.{◌≡◌, Bool, true, false, ℕ, ◌+◌, ◌-◌, ◌<◌, ◌≤◌, ◌++◌, length, take, ap, ap₂, sym, ◌∙◌, arith, append_assoc, slice_index_or}
+use Rattle.std.proofs.Common.{◌≡◌, true, false, ℕ, ◌+◌, ◌-◌, ◌<◌, ◌≤◌, ◌++◌, length, take, ap, sym, ◌∙◌, arith, append_assoc, slice_index_or}
 use Rattle.std.proofs.lemmas.List.{get_or-replicate, length-replicate, replicate-append-replicate, take-replicate}
-use Rattle.std.specs.Prelude.{if◌then◌else◌, Result, Ok, Err, OnOk}
+use Rattle.std.specs.Prelude.{Result, Ok, Err, OnOk}
 use Rattle.comfy_parts.specs.CellValue.{CellValue, ColumnInfo}
 use Rattle.comfy_parts.specs.Text.{Text, spaces}
 use Rattle.comfy_table.specs.Pieces.{cell_alignment, free_before, free_places, padded, written_piece}
@@ -14,24 +14,15 @@ spaces-append m n = replicate-append-replicate m n 0x20
 
 -- a run of n, and what is left of more than n
 pub spaces-taken : (text run : Text) (n left : ℕ) → run ≡ spaces n → n < left → (text ++ run) ++ spaces (left - length run) ≡ text ++ spaces left
-spaces-taken text run n left is more =
-    let size : length run ≡ n = ap length is ∙ length-replicate n 0x20 in
-    let all : n + (left - length run) ≡ left = omega (arith, size, more) in
-    append_assoc text run (spaces (left - length run))
-    ∙ ap (λ (t : Text). text ++ (t ++ spaces (left - length run))) is
-    ∙ ap (λ (t : Text). text ++ t) (spaces-append n (left - length run) ∙ ap spaces all)
+spaces-taken text run n left is more = grind (arith, length-replicate, append_assoc, spaces-append)
 
 -- the front of a run
 pub spaces-front : (run : Text) (n left : ℕ) → run ≡ spaces n → left ≤ length run → take left run ≡ spaces left
-spaces-front run n left is within =
-    let size : length run ≡ n = ap length is ∙ length-replicate n 0x20 in
-    ap (take left) is ∙ take-replicate left n 0x20 (omega (arith, size, within))
+spaces-front run n left is within = grind (arith, length-replicate, take-replicate)
 
 -- each byte of a run is a space
 pub space-at : (run : Text) (n i d : ℕ) → run ≡ spaces n → i < length run → slice_index_or run i d ≡ 0x20
-space-at run n i d is below =
-    let size : length run ≡ n = ap length is ∙ length-replicate n 0x20 in
-    ap (λ (t : Text). slice_index_or t i d) is ∙ get_or-replicate n i 0x20 d (omega (arith, size, below))
+space-at run n i d is below = grind (arith, length-replicate, slice_index_or, get_or-replicate)
 
 module _ (cell : CellValue) (info : ColumnInfo) (line : Text) (left right : ℕ)
     (is_left : left ≡ info.padding.0 + free_before (cell_alignment cell info) (free_places info line))
@@ -48,19 +39,13 @@ module _ (cell : CellValue) (info : ColumnInfo) (line : Text) (left right : ℕ)
 
   -- the piece of a line with its text without styling, with its text styled, and styled as a whole
   pub plain-made : (table : TableValue) (text : Text) → should_style table ≡ false → spaces left ++ (text ++ spaces right) ≡ written_piece table cell info line text
-  plain-made table text off =
-      padded-made text
-      ∙ ap (λ (b : Bool). if b then (if table.style_text_only then padded cell info line (styled cell text) else styled cell (padded cell info line text)) else padded cell info line text) (sym off)
+  plain-made table text off = grind (arith, padded-made)
 
   pub line-styled : (table : TableValue) (text : Text) → should_style table ≡ true → table.style_text_only ≡ true → spaces left ++ (styled cell text ++ spaces right) ≡ written_piece table cell info line text
-  line-styled table text on alone =
-      padded-made (styled cell text)
-      ∙ ap₂ (λ (b c : Bool). if b then (if c then padded cell info line (styled cell text) else styled cell (padded cell info line text)) else padded cell info line text) (sym on) (sym alone)
+  line-styled table text on alone = grind (arith, padded-made)
 
   pub all-styled : (table : TableValue) (text : Text) → should_style table ≡ true → table.style_text_only ≡ false → styled cell (spaces left ++ (text ++ spaces right)) ≡ written_piece table cell info line text
-  all-styled table text on whole =
-      ap (styled cell) (padded-made text)
-      ∙ ap₂ (λ (b c : Bool). if b then (if c then padded cell info line (styled cell text) else styled cell (padded cell info line text)) else padded cell info line text) (sym on) (sym whole)
+  all-styled table text on whole = grind (arith, padded-made)
 
 -- what a call appends, said in another way
 pub pushed-as : {T E : Type 0} (r : Result T E) (new old made wanted : Text) → made ≡ wanted → OnOk r (new ≡ old ++ made) → OnOk r (new ≡ old ++ wanted)
@@ -70,20 +55,11 @@ pushed-as (Err e) new old made wanted same pushed = pushed
 -- five texts appended in turn
 pub five-pushed : (old a b c d one two three four new : Text) (e : Text)
     → one ≡ old ++ a → two ≡ one ++ b → three ≡ two ++ c → four ≡ three ++ d → new ≡ four ++ e → new ≡ old ++ (a ++ ((b ++ (c ++ d)) ++ e))
-five-pushed old a b c d one two three four new e first second third fourth fifth =
-    fifth
-    ∙ ap (λ (t : Text). t ++ e) (fourth ∙ ap (λ (t : Text). t ++ d) (third ∙ ap (λ (t : Text). t ++ c) (second ∙ ap (λ (t : Text). t ++ b) first)))
-    ∙ ap (λ (t : Text). t ++ e) (append_assoc ((old ++ a) ++ b) c d ∙ append_assoc (old ++ a) b (c ++ d))
-    ∙ append_assoc (old ++ a) (b ++ (c ++ d)) e
-    ∙ append_assoc old a ((b ++ (c ++ d)) ++ e)
+five-pushed old a b c d one two three four new e first second third fourth fifth = grind (arith, append_assoc)
 
 -- three texts appended in turn
 pub three-pushed : (old a b one two new : Text) (c : Text) → one ≡ old ++ a → two ≡ one ++ b → new ≡ two ++ c → new ≡ old ++ (a ++ (b ++ c))
-three-pushed old a b one two new c first second third =
-    third
-    ∙ ap (λ (t : Text). t ++ c) (second ∙ ap (λ (t : Text). t ++ b) first)
-    ∙ append_assoc (old ++ a) b c
-    ∙ append_assoc old a (b ++ c)
+three-pushed old a b one two new c first second third = grind (arith, append_assoc)
 
 -- the last text appended on success
 pub last-pushed : {T E : Type 0} (r : Result T E) (new before c : Text) (wanted : Text) → (new ≡ before ++ c → new ≡ wanted) → OnOk r (new ≡ before ++ c) → OnOk r (new ≡ wanted)

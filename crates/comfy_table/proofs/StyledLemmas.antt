@@ -1,8 +1,8 @@
 -- The sequences round a styled text show nothing, so a styled piece shows its plain piece.
-use Rattle.std.proofs.Common.{◌≡◌, ◌<◌, ℕ, zero, suc, ◌+◌, ◌/◌, ◌%◌, Bool, true, false, cond, ◌&&◌, ◌==◌, nat_lt, List, [], ◌∷◌, ◌++◌, Option, Some, None, length, refl, ap, ap₂, ◌∙◌, subst, arith, append-nil}
+use Rattle.std.proofs.Common.{◌≡◌, ℕ, zero, suc, ◌/◌, ◌%◌, Bool, true, false, cond, ◌&&◌, ◌==◌, nat_lt, List, [], ◌∷◌, ◌++◌, Option, Some, None, refl, ap₂, ◌∙◌, subst, arith, append-nil}
 use Rattle.std.specs.List.{list_all, flat_map, filter}
 use Rattle.std.specs.Fmt.{digits, digits_onto, digit_glyph, decimal}
-use Rattle.std.specs.Prelude.{if◌then◌else◌, codes, is_some}
+use Rattle.std.specs.Prelude.{if◌then◌else◌, codes}
 use Rattle.std.proofs.lemmas.Bool.{and_parts}
 use Rattle.std.proofs.lemmas.Bool.Decides.{nat_tests}
 use Rattle.std.proofs.lemmas.List.Folds.{list_all-append}
@@ -13,18 +13,15 @@ use Rattle.comfy_parts.specs.VisibleText.{is_parameter}
 use Rattle.comfy_parts.specs.declared.style.attribute.Attribute.{Attribute}
 use Rattle.comfy_parts.specs.declared.style.color.Color.{Color}
 use Rattle.comfy_parts.specs.declared.style.color.Color.TheVariants as colors
-use Rattle.comfy_table.specs.Pieces.{padded, plain_piece, spaces_before, spaces_after, written_piece}
-use Rattle.comfy_table.specs.Styling.{sequence, color_code, foreground_code, background_code, attribute_code, all_attributes, has_attribute, attribute_sequences, optional_sequence, style_begin, style_end_without_attributes, style_end, styled}
+use Rattle.comfy_table.specs.Pieces.{padded, plain_piece, written_piece}
+use Rattle.comfy_table.specs.Styling.{sequence, color_code, foreground_code, background_code, attribute_code, all_attributes, has_attribute, attribute_sequences, optional_sequence, style_begin, style_end, styled}
 use Rattle.comfy_table.specs.TableValue.{TableValue, should_style}
 
 -- ---- codes are parameters
 
 -- a digit is a parameter
 parameter-glyph : (n : ℕ) → is_parameter (digit_glyph false (n % 10)) ≡ true
-parameter-glyph n =
-    let low : n % 10 < 10 = omega arith in
-    let small : nat_lt (n % 10) 10 ≡ true = grind (arith, nat_tests) in
-    ap (λ t. is_parameter (if t then 48 + n % 10 else 87 + n % 10)) small ∙ grind (arith, nat_tests)
+parameter-glyph n = grind (arith, nat_lt, nat_tests)
 
 -- digits before parameters are parameters
 digits_onto-parameters : (k n : ℕ) (acc : Text) → list_all is_parameter acc ≡ true → list_all is_parameter (digits_onto k 10 false n acc) ≡ true
@@ -52,11 +49,7 @@ both_parameters xs ys front back = list_all-append is_parameter xs ys ∙ ap₂ 
 -- the number of a colour is parameters
 color_code-parameters : (color : Color) → list_all is_parameter (color_code color) ≡ true
 color_code-parameters (colors.AnsiValue v) = both_parameters (codes "5;") (decimal v) refl (decimal-parameters v)
-color_code-parameters (colors.Rgb r g b) =
-    both_parameters (codes "2;") (decimal r ++ (codes ";" ++ (decimal g ++ (codes ";" ++ decimal b)))) refl
-    (both_parameters (decimal r) (codes ";" ++ (decimal g ++ (codes ";" ++ decimal b))) (decimal-parameters r)
-    (both_parameters (codes ";") (decimal g ++ (codes ";" ++ decimal b)) refl
-    (both_parameters (decimal g) (codes ";" ++ decimal b) (decimal-parameters g) (both_parameters (codes ";") (decimal b) refl (decimal-parameters b)))))
+color_code-parameters (colors.Rgb r g b) = grind (arith, both_parameters, decimal-parameters)
 color_code-parameters _ = refl
 
 -- so is the code of a foreground
@@ -105,13 +98,7 @@ Shows-when false text shows = Shows-nil
 
 -- what stands behind a styled text shows nothing
 Shows-style_end : (cell : CellValue) → Shows [] (style_end cell)
-Shows-style_end cell = by_test (length cell.attributes == 0)
-  where
-    by_test : (b : Bool) → Shows [] (if b then style_end_without_attributes cell.background cell.foreground else sequence (codes "0"))
-    by_test true =
-        Shows-append [] [] (if is_some cell.background then sequence (codes "49") else []) (if is_some cell.foreground then sequence (codes "39") else [])
-        (Shows-when (is_some cell.background) (sequence (codes "49")) (Shows-sequence (codes "49") refl)) (Shows-when (is_some cell.foreground) (sequence (codes "39")) (Shows-sequence (codes "39") refl))
-    by_test false = Shows-sequence (codes "0") refl
+Shows-style_end cell = grind (arith, Shows, Shows-append, Shows-when, Shows-sequence)
 
 -- a styled text shows what the text shows
 pub Shows-styled : (cell : CellValue) (shown text : Text) → Shows shown text → Shows shown (styled cell text)
@@ -129,11 +116,7 @@ Shows-spaces (suc n) =
 
 -- a padded text shows what the text shows, padded
 Shows-padded : (cell : CellValue) (info : ColumnInfo) (line shown text : Text) → Shows shown text → Shows (padded cell info line shown) (padded cell info line text)
-Shows-padded cell info line shown text shows =
-    Shows-append _ _ (spaces info.padding.0) (spaces_before cell info line ++ (text ++ (spaces_after cell info line ++ spaces info.padding.1))) (Shows-spaces info.padding.0)
-    (Shows-append _ _ (spaces_before cell info line) (text ++ (spaces_after cell info line ++ spaces info.padding.1)) (Shows-spaces _)
-    (Shows-append _ _ text (spaces_after cell info line ++ spaces info.padding.1) shows
-    (Shows-append _ _ (spaces_after cell info line) (spaces info.padding.1) (Shows-spaces _) (Shows-spaces info.padding.1))))
+Shows-padded cell info line shown text shows = grind (arith, Shows-append, Shows-spaces)
 
 -- the piece of a line that is written as a text which shows it shows the plain piece
 pub Shows-written_piece : (table : TableValue) (cell : CellValue) (info : ColumnInfo) (line text : Text) → Shows line text → Shows (plain_piece cell info line) (written_piece table cell info line text)

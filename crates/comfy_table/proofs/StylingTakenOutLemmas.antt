@@ -88,9 +88,7 @@ Shows-separated : (separator : Text) (shown texts : List Text) → Shows separat
 Shows-separated separator [] [] between each = Shows-nil
 Shows-separated separator [] (text ∷ texts) between each = absurd each
 Shows-separated separator (s ∷ shown) [] between each = absurd each
-Shows-separated separator (s ∷ shown) (text ∷ texts) between each =
-    Shows-append (separator ++ s) (flat_map (λ (piece : Text). separator ++ piece) shown) (separator ++ text) (flat_map (λ (piece : Text). separator ++ piece) texts)
-    (Shows-append separator s separator text between each.0) (Shows-separated separator shown texts between each.1)
+Shows-separated separator (s ∷ shown) (text ∷ texts) between each = grind (arith, Shows-append, Shows-separated separator shown texts between each.1)
 
 -- pieces with a separator between each two
 Shows-between : (separator : Text) (shown texts : List Text) → Shows separator separator → AllZip Shows shown texts

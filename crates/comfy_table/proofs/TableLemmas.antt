@@ -1,5 +1,5 @@
 -- The laws of frame lines and of widths, for whole tables.
-use Rattle.std.proofs.Common.{◌≡◌, ℕ, ◌+◌, List, length, sum, refl, ap, ◌∙◌, arith}
+use Rattle.std.proofs.Common.{◌≡◌, ℕ, List, length, refl, ◌∙◌, arith}
 use Rattle.std.proofs.lemmas.List.{length-map}
 use Rattle.std.specs.List.{All}
 use Rattle.std.proofs.lemmas.List.Elements.{All-from_recursion}
@@ -12,8 +12,6 @@ use Rattle.comfy_table.proofs.FitLemmas.{contents_that_fit_are_kept}
 use Rattle.comfy_table.proofs.LevelLemmas.{level_is_best}
 use Rattle.comfy_table.proofs.LevelledLemmas.{dynamic_is_levelled, dynamic_is_full}
 use Rattle.comfy_table.specs.Arrangement.{room_beside_borders}
-use Rattle.comfy_table.specs.Drawing.{infos_of, visible_widths}
-use Rattle.comfy_table.specs.Frame.{border_count}
 use Rattle.comfy_table.specs.Laws.{NoConstraints}
 use Rattle.comfy_table.specs.Levels.{IsUnconstrained}
 use Rattle.comfy_table.specs.TableLaws.{FrameCounts, FrameKeepsToWidth, FrameFillsWidth, TableIsLevelled, TableIsFull, TableKeepsContents, TableLevelIsBest, visible_contents}
@@ -22,9 +20,7 @@ use Rattle.comfy_table.specs.Widths.{visible_count, visible_needs, needs_of}
 
 -- a table's frame lines have the line's total
 pub frame_counts : (table : TableValue) (widths : List ℕ) (line : LineStyle) → FrameCounts table widths line
-frame_counts table widths line same =
-    frame_lines_count table.style line (infos_of table widths)
-    ∙ ap (λ n. border_count table.style n + sum (visible_widths (infos_of table widths))) (length-infos_from 0 table.columns widths same)
+frame_counts table widths line same = grind (arith, frame_lines_count, length-infos_from)
 
 -- under `Dynamic` they keep to the width, or to the least total
 pub frame_keeps_to_width : (table : TableValue) (w : ℕ) (widths : List ℕ) (line : LineStyle) → FrameKeepsToWidth table w widths line
@@ -46,9 +42,7 @@ length-visible_needs table = length-map (visible_columns table) (needs_of table)
 
 -- under `Dynamic` the visible columns keep to a level
 pub table_is_levelled : (table : TableValue) (w : ℕ) (widths : List ℕ) → TableIsLevelled table w widths
-table_is_levelled table w widths none dynamic known some arranged =
-    dynamic_is_levelled (room_beside_borders table w) (visible_needs table) (visible_contents table widths) (all_unconstrained table none) (omega (arith, some, length-visible_needs table))
-    (dynamic_widths table Dynamic w widths refl dynamic known arranged)
+table_is_levelled table w widths none dynamic known some arranged = grind (arith, dynamic_is_levelled, all_unconstrained, length-visible_needs, dynamic_widths)
 
 -- under `DynamicFullWidth` they fill the room too
 pub table_is_full : (table : TableValue) (w : ℕ) (widths : List ℕ) → TableIsFull table w widths

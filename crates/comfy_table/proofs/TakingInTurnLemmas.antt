@@ -1,4 +1,5 @@
 -- The loop in which columns take a width in turn: what it keeps, and what it leads to.
+use Rattle.std.proofs.lemmas.Bool.Decides.{nat_tests}
 use Rattle.std.proofs.Common.{◌≡◌, ◌<◌, ◌≤◌, ℕ, zero, suc, ◌+◌, ◌-◌, ◌*◌, ◌/◌, Bool, true, false, List, [], ◌∷◌, ◌++◌, length, Option, Some, None, slice_get, nat_lt, not, ◌&&◌, ◌==◌, refl, sym, ap, ap₂, ◌∙◌, subst, arith, inl, inr, ⊎_elim, suc-mul}
 use Rattle.std.specs.Prelude.{◌⊎◌, slice_set, if◌then◌else◌, option_and_then}
 use Rattle.std.proofs.lemmas.Bool.{cases_lt, ltb-true, ltb-false, eq-eqb}
@@ -21,37 +22,11 @@ IsBehind n place passed i = (i < n) × (((i < place) × (place ≤ i + passed)) 
 
 -- one place on, it is the place itself or was behind it before
 behind_one_more : (n place passed i : ℕ) → place < n → IsBehind n (place_behind n place) (passed + 1) i → (place ≡ i) ⊎ IsBehind n place passed i
-behind_one_more n place passed i within = by_end (nat_lt (place + 1) n) refl
-  where
-    before : i < n → i < place → place ≤ i + passed → (place ≡ i) ⊎ IsBehind n place passed i
-    before below earlier near = inr (below, inl (earlier, near))
-
-    here_or_before : i < n → i < place + 1 → place ≤ i + passed → (place ≡ i) ⊎ IsBehind n place passed i
-    here_or_before below up_to near =
-        ⊎_elim (λ same. inl (sym same)) (λ earlier. before below earlier near) (eq-or-lt_of_le (omega (arith, up_to)))
-
-    by_end : (b : Bool) → nat_lt (place + 1) n ≡ b → IsBehind n (if b then place + 1 else 0) (passed + 1) i → (place ≡ i) ⊎ IsBehind n place passed i
-    by_end true more (below, behind) =
-        ⊎_elim (λ near. here_or_before below near.0 (omega (arith, near.1))) (λ far. inr (below, inr (omega (arith, far.0), omega (arith, far.1)))) behind
-    by_end false last (below, behind) =
-        let end : n ≤ place + 1 = ltb-false (place + 1) n last in
-        ⊎_elim (λ near. absurd (omega (arith, near.0))) (λ far. here_or_before below (omega (arith, below, end)) (omega (arith, far.1, within, end))) behind
+behind_one_more n place passed i within = grind (arith, nat_lt, ⊎_elim, eq-or-lt_of_le, ltb-false)
 
 -- what was behind the place, and the place itself, are behind the next one
 behind_next : (n place passed i : ℕ) → place < n → passed < n → IsBehind n place passed i ⊎ (place ≡ i) → IsBehind n (place_behind n place) (passed + 1) i
-behind_next n place passed i within fewer behind = by_end (nat_lt (place + 1) n) refl
-  where
-    by_end : (b : Bool) → nat_lt (place + 1) n ≡ b → IsBehind n (if b then place + 1 else 0) (passed + 1) i
-    by_end true more =
-        ⊎_elim
-        (λ b.
-        ⊎_elim (λ close. (b.0, inl (omega (arith, close.0), omega (arith, close.1)))) (λ far. (b.0, inr (omega (arith, far.0, far.1, fewer), omega (arith, far.1)))) b.1)
-        (λ same. (omega (arith, same, within), inl (omega (arith, same), omega (arith, same)))) behind
-    by_end false last =
-        let end = ltb-false (place + 1) n last in
-        ⊎_elim
-        (λ b. ⊎_elim (λ close. (b.0, inr (omega arith, omega (arith, close.1, end)))) (λ far. absurd (omega (arith, far.0, far.1, fewer, b.0, end))) b.1)
-        (λ same. (omega (arith, same, within), inr (omega arith, omega (arith, same, end)))) behind
+behind_next n place passed i within fewer behind = grind (arith, within, ltb-false)
 
 -- all places are behind where as many were passed
 all_behind : (n place passed i : ℕ) → place < n → n ≤ passed → i < n → IsBehind n place passed i
@@ -60,16 +35,7 @@ all_behind n place passed i within all below =
 
 -- the places since one that is behind are behind
 between_behind : (n place passed from i : ℕ) → place < n → i < n → IsBehind n place passed from ⊎ (place ≡ from) → IsBetween from place i → IsBehind n place passed i
-between_behind n place passed from i within below since between =
-    ⊎_elim
-    (λ behind.
-    ⊎_elim
-    (λ close. ⊎_elim (λ after. (below, inl (after.1, omega (arith, after.0, close.1)))) (λ round. absurd (omega (arith, round.0, close.0))) between)
-    (λ far.
-    ⊎_elim (λ after. absurd (omega (arith, after.0, after.1, far.0)))
-    (λ round. ⊎_elim (λ later. (below, inr (omega (arith, later, round.0), omega (arith, later, far.1)))) (λ earlier. (below, inl (earlier, omega (arith, far.1, behind.0)))) round.1) between)
-    behind.1)
-    (λ same. ⊎_elim (λ after. absurd (omega (arith, after.0, after.1, same))) (λ round. absurd (omega (arith, round.0, same))) between) since
+between_behind n place passed from i within below since between = grind (arith, ⊎_elim)
 
 -- the last one taken is that from which the next is looked for
 place_after-push : (candidates : List Placed) (offer : List Share → Placed → Option ℕ) (from : ℕ) (order : List Share) (t : Share) → place_after candidates offer from (order ++ t ∷ []) ≡ t.0
@@ -91,9 +57,7 @@ count-set (Some w ∷ widths) (suc i) width left = count-set widths i width left
 
 -- one undecided column fewer outweighs the places that are passed
 pub fewer_undecided : (count count' n passed passed' : ℕ) → count' + 1 ≡ count → passed < n → count' * (n + 1) + (n - passed') < count * (n + 1) + (n - passed)
-fewer_undecided count count' n passed passed' fewer below =
-    let whole : count * (n + 1) ≡ suc count' * (n + 1) = ap (λ (m : ℕ). m * (n + 1)) (omega (arith, fewer)) in
-    omega (arith, whole, suc-mul count' (n + 1), below)
+fewer_undecided count count' n passed passed' fewer below = grind (arith, suc-mul)
 
 -- a column that takes a width is undecided
 pub record Takes (rule : Rule) (average : ℕ) (needs : List ColumnNeeds) (widths : List (Option ℕ)) (place width : ℕ) : Type 0 where
@@ -105,22 +69,11 @@ pub record Takes (rule : Rule) (average : ℕ) (needs : List ColumnNeeds) (width
 module _ (rule : Rule) (average : ℕ) (needs : List ColumnNeeds) (widths : List (Option ℕ)) (place : ℕ) where
   -- the width at a place
   pub width_at-some : (width : ℕ) → width_at rule average needs widths place ≡ Some width → Takes rule average needs widths place width
-  width_at-some width is = by_left (is_undecided widths place) refl is
-    where
-      by_column : is_undecided widths place ≡ true → (o : Option ColumnNeeds) → slice_get needs place ≡ o → option_and_then (width_by_rule rule average) o ≡ Some width → Takes rule average needs widths place width
-      by_column left None found is = absurd (cc is)
-      by_column left (Some column) found is = record { column = column; found = found; left = left; takes = is }
-
-      by_left : (b : Bool) → is_undecided widths place ≡ b → (if b then option_and_then (width_by_rule rule average) (slice_get needs place) else None) ≡ Some width → Takes rule average needs widths place width
-      by_left true left is = by_column left (slice_get needs place) refl is
-      by_left false left is = absurd (cc is)
+  width_at-some width is = grind (arith, nat_tests)
 
   -- without one, an undecided column takes nothing
   pub width_at-none : width_at rule average needs widths place ≡ None → (d : ColumnNeeds) → slice_get needs place ≡ Some d → is_undecided widths place ≡ true → width_by_rule rule average d ≡ None
-  width_at-none is d found left =
-      sym (ap (λ (o : Option ColumnNeeds). option_and_then (width_by_rule rule average) o) found)
-      ∙ sym (ap (λ (b : Bool). if b then option_and_then (width_by_rule rule average) (slice_get needs place) else None) left)
-      ∙ is
+  width_at-none is d found left = grind (arith, slice_get)
 
 module _ (rule : Rule) (needs : List ColumnNeeds) (old : Budget) where
   -- the columns that may take a width
@@ -143,16 +96,7 @@ module _ (rule : Rule) (needs : List ColumnNeeds) (old : Budget) where
 
   -- at first nothing is taken and nothing passed
   pub turn_starts : (average : ℕ) → average ≡ average_room old → IsTurn old 0 0 average
-  turn_starts average is =
-      record {
-        order = [];
-        so_far = tt;
-        taken = record { widths = refl; room = omega arith };
-        within = λ some. some;
-        average_is = is;
-        nothing = λ i d found behind left. absurd (⊎_elim (λ near. omega (arith, near.0)) (λ far. omega (arith, far.1, behind.0)) behind.1);
-        since = inr refl;
-      }
+  turn_starts average is = grind (arith, ⊎_elim)
 
   module _ (same_length : length old.widths.items ≡ length needs) (now : Budget) (place passed average : ℕ) (turn : IsTurn now place passed average) where
     -- the columns that are left
@@ -190,11 +134,7 @@ module _ (rule : Rule) (needs : List ColumnNeeds) (old : Budget) where
         }
       where
         place_within : place < length needs → place_behind (length needs) place < length needs
-        place_within within = by_end (nat_lt (place + 1) (length needs)) refl
-          where
-            by_end : (b : Bool) → nat_lt (place + 1) (length needs) ≡ b → (if b then place + 1 else 0) < length needs
-            by_end true more = ltb-true (place + 1) (length needs) more
-            by_end false last = omega (arith, within)
+        place_within within = grind (arith, ltb-true, within)
 
     -- where as many places were passed as there are columns, none takes anything any more
     pub turn_ends : length needs ≤ passed → HasTakenInTurn rule needs old now
@@ -236,11 +176,7 @@ module _ (rule : Rule) (needs : List ColumnNeeds) (old : Budget) where
         }
       where
         place_within : place < length needs → place_behind (length needs) place < length needs
-        place_within below = by_end (nat_lt (place + 1) (length needs)) refl
-          where
-            by_end : (b : Bool) → nat_lt (place + 1) (length needs) ≡ b → (if b then place + 1 else 0) < length needs
-            by_end true more = ltb-true (place + 1) (length needs) more
-            by_end false last = omega (arith, below)
+        place_within below = grind (arith, ltb-true)
 
         here_behind : place < length needs → IsBehind (length needs) (place_behind (length needs) place) passed' place
         here_behind below =

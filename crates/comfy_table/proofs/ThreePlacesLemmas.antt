@@ -1,5 +1,5 @@
 -- No column of a plain table without constraints is more than three places wider than its content.
-use Rattle.std.proofs.Common.{◌≡◌, ◌≤◌, ℕ, ◌+◌, Bool, true, false, List, [], ◌∷◌, ◌++◌, length, map, flat_map, min, max, Option, Some, None, unwrap_or, nat_le, MatchOption, refl, sym, ap, ◌∙◌, subst, arith, length-append, le_trans}
+use Rattle.std.proofs.Common.{◌≡◌, ◌≤◌, ℕ, ◌+◌, Bool, true, false, List, [], ◌∷◌, length, map, flat_map, min, max, Option, Some, None, unwrap_or, nat_le, MatchOption, refl, sym, ap, ◌∙◌, subst, arith, length-append, le_trans}
 use Rattle.std.specs.Prelude.{if◌then◌else◌}
 use Rattle.std.specs.Int.{is_in_range}
 use Rattle.std.specs.List.{All, AllByRecursion, AllZip}
@@ -30,12 +30,7 @@ use Rattle.comfy_table.proofs.EveryLemmas.{every-both, every-flat_map, every-wea
 -- slices are no longer than their text
 slices-short : (Ends : Text → Text → Type 0) (d : ℕ) (text : Text) (lines : List Text) → IsSlicesWhere Ends d text lines → AllByRecursion (λ (line : Text). length line ≤ length text) lines
 slices-short Ends d text [] slices = tt
-slices-short Ends d text (line ∷ lines) (tail, slice, ends, more) =
-    let whole = ap length slice.splits ∙ length-append slice.gap (line ++ tail) in
-    let parts = length-append line tail in (
-      omega (arith, whole, parts),
-      every-weaker (λ (other : Text). length other ≤ length tail) (λ (other : Text). length other ≤ length text) lines (λ other short. omega (arith, whole, parts, short)) (slices-short Ends d tail lines more),
-    )
+slices-short Ends d text (line ∷ lines) (tail, slice, ends, more) = grind (arith, length-append, every-weaker, slices-short Ends d tail lines more)
 
 -- the lines of a plain text measure no more than the text
 lines_of_text-le : (w d : ℕ) (text : Text) → is_in_range 0x20 0x7E d ≡ true → is_printable_ascii text ≡ true → AllByRecursion (λ (line : Text). measure line ≤ measure text) (lines_of_text w d text)

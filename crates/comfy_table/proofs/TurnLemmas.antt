@@ -1,5 +1,5 @@
 -- The column that takes a width next, going round the list.
-use Rattle.std.proofs.Common.{◌≡◌, ◌<◌, ◌≤◌, ℕ, zero, suc, ◌+◌, Bool, true, false, cond, List, [], ◌∷◌, ◌++◌, Option, Some, None, option_map, filter, slice_get, nat_le, nat_lt, refl, sym, ap, ap₂, ◌∙◌, arith, inl, inr}
+use Rattle.std.proofs.Common.{◌≡◌, ◌<◌, ◌≤◌, ℕ, zero, suc, ◌+◌, Bool, true, false, cond, List, [], ◌∷◌, ◌++◌, Option, Some, None, option_map, filter, slice_get, nat_le, nat_lt, refl, ap, ap₂, ◌∙◌, arith, inl, inr}
 use Rattle.std.specs.Prelude.{◌⊎◌}
 use Rattle.std.specs.List.{cons_option, enumerate_from}
 use Rattle.std.proofs.lemmas.Bool.{leb-true, leb-false, lt-ltb}
@@ -25,15 +25,7 @@ module _ (offer : Placed → Option ℕ) (test left : ℕ → Bool) where
 
   -- a column in front of them to which nothing is offered
   passing_over : (k : ℕ) (x : ColumnNeeds) (more : List Placed) (shares : List Share) → (test k ≡ true → left k ≡ true → offer (k, x) ≡ None) → shares_of offer (passing more) ≡ shares → shares_of offer (passing ((k, x) ∷ more)) ≡ shares
-  passing_over k x more shares none rest = by_left (left k) refl
-    where
-      by_test : (b : Bool) → test k ≡ b → left k ≡ true → shares_of offer (cond b ((k, x) ∷ passing more) (passing more)) ≡ shares
-      by_test true tests is = ap (λ (o : Option ℕ). cons_option (option_map (λ (width : ℕ). (k, width)) o) (shares_of offer (passing more))) (none tests is) ∙ rest
-      by_test false tests is = rest
-
-      by_left : (b : Bool) → left k ≡ b → shares_of offer (filter (λ (p : Placed). test p.0) (cond b ((k, x) ∷ filter (λ (p : Placed). left p.0) more) (filter (λ (p : Placed). left p.0) more))) ≡ shares
-      by_left true is = by_test (test k) refl is
-      by_left false is = rest
+  passing_over k x more shares none rest = grind (arith, option_map)
 
   -- where nothing is offered to any of them, there is no share
   none_among : (k : ℕ) (columns : List ColumnNeeds) → ((j q : ℕ) (d : ColumnNeeds) → slice_get columns j ≡ Some d → k + j ≡ q → test q ≡ true → left q ≡ true → offer (q, d) ≡ None)
@@ -71,14 +63,7 @@ module _ (needs : List ColumnNeeds) (widths : List (Option ℕ)) (offer : Placed
   -- where nothing is offered to any, none is next
   pub none_next : (from : ℕ) → ((i : ℕ) (d : ColumnNeeds) → slice_get needs i ≡ Some d → is_undecided widths i ≡ true → offer (i, d) ≡ None)
       → slice_get (shares_of offer (going_round from (undecided_among needs widths))) 0 ≡ None
-  none_next from none =
-      ap (λ (ts : List Share). slice_get ts 0)
-      (shares_round from ∙ ap₂ (λ (ts us : List Share). ts ++ us) (none_by (λ n. nat_le from n)) (none_by (λ n. nat_lt n from)))
-    where
-      none_by : (test : ℕ → Bool) → shares_of offer (passing offer test (is_undecided widths) (places_of needs)) ≡ []
-      none_by test =
-          none_among offer test (is_undecided widths) 0 needs
-          (λ j q d found at _ left. let same : j ≡ q = omega (arith, at) in none q d (ap (slice_get needs) (sym same) ∙ found) left)
+  none_next from none = grind (arith, slice_get, shares_round, nat_le, nat_lt, none_among)
 
   -- the first to which a width is offered is next
   pub some_next : (from p : ℕ) (c : ColumnNeeds) (width : ℕ) → slice_get needs p ≡ Some c → is_undecided widths p ≡ true → offer (p, c) ≡ Some width

@@ -1,6 +1,6 @@
 -- The undecided columns: how they are counted, and that a width that is taken takes its column from them.
 use Rattle.std.proofs.Common.{◌≡◌, ℕ, zero, suc, ◌+◌, Bool, true, false, cond, not, ◌==◌, List, [], ◌∷◌, ◌++◌, length, Option, Some, filter, is_none, slice_index_or, refl, sym, ap, ◌∙◌, arith, length-append}
-use Rattle.std.specs.Prelude.{◌&&◌, ◌||◌, slice_set}
+use Rattle.std.specs.Prelude.{◌&&◌, slice_set}
 use Rattle.std.specs.List.{enumerate_from}
 use Rattle.std.proofs.lemmas.Bool.Decides.{nat_tests}
 use Rattle.std.proofs.lemmas.List.{append_assoc, length-set}
@@ -34,19 +34,7 @@ is_undecided-set (w ∷ widths) (suc i) (suc j) width =
 -- of any columns, those without a width then are those without one before, but for the one at that place
 undecided_set : (widths : List (Option ℕ)) (t : Share) (columns : List Placed) → filter (λ (p : Placed). is_undecided (slice_set widths t.0 (Some t.1)) p.0) columns ≡ without_shares (t ∷ []) (filter (λ (p : Placed). is_undecided widths p.0) columns)
 undecided_set widths t [] = refl
-undecided_set widths t (p ∷ more) =
-    ap (λ (b : Bool). cond b (p ∷ filter (λ (q : Placed). is_undecided (slice_set widths t.0 (Some t.1)) q.0) more) (filter (λ (q : Placed). is_undecided (slice_set widths t.0 (Some t.1)) q.0) more)) (is_undecided-set widths t.0 p.0 t.1)
-    ∙ by_tests (is_undecided widths p.0) (t.0 == p.0) refl (undecided_set widths t more)
-  where
-    by_tests : (b c : Bool) → (t.0 == p.0) ≡ c → filter (λ (q : Placed). is_undecided (slice_set widths t.0 (Some t.1)) q.0) more ≡ without_shares (t ∷ []) (filter (λ (q : Placed). is_undecided widths q.0) more)
-        → cond (b && not c) (p ∷ filter (λ (q : Placed). is_undecided (slice_set widths t.0 (Some t.1)) q.0) more) (filter (λ (q : Placed). is_undecided (slice_set widths t.0 (Some t.1)) q.0) more)
-        ≡ without_shares (t ∷ []) (cond b (p ∷ filter (λ (q : Placed). is_undecided widths q.0) more) (filter (λ (q : Placed). is_undecided widths q.0) more))
-    by_tests false c same rest = rest
-    by_tests true true same rest =
-        rest ∙ sym (ap (λ (b : Bool). cond (not (b || false)) (p ∷ without_shares (t ∷ []) (filter (λ (q : Placed). is_undecided widths q.0) more)) (without_shares (t ∷ []) (filter (λ (q : Placed). is_undecided widths q.0) more))) same)
-    by_tests true false same rest =
-        ap (λ (ps : List Placed). p ∷ ps) rest
-        ∙ sym (ap (λ (b : Bool). cond (not (b || false)) (p ∷ without_shares (t ∷ []) (filter (λ (q : Placed). is_undecided widths q.0) more)) (without_shares (t ∷ []) (filter (λ (q : Placed). is_undecided widths q.0) more))) same)
+undecided_set widths t (p ∷ more) = grind (arith, is_undecided-set, undecided_set widths t more)
 
 -- the same of all columns
 pub undecided_among-set : (needs : List ColumnNeeds) (widths : List (Option ℕ)) (t : Share) → undecided_among needs (slice_set widths t.0 (Some t.1)) ≡ without_shares (t ∷ []) (undecided_among needs widths)

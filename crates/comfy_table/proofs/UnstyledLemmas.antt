@@ -1,5 +1,5 @@
 -- Where no styles are written and cells have no styling of their own, a drawing is the unstyled one.
-use Rattle.std.proofs.Common.{◌≡◌, ℕ, Bool, false, if◌then◌else◌, List, ◌++◌, Option, Some, None, map, length, slice_get, slice_index_or, option_map, refl, ap, sym, ◌∙◌}
+use Rattle.std.proofs.Common.{◌≡◌, ℕ, Bool, false, if◌then◌else◌, List, ◌++◌, Option, Some, None, map, length, slice_get, slice_index_or, option_map, refl, ap, sym, arith}
 use Rattle.std.specs.List.{join_by, range_with_len}
 use Rattle.comfy_parts.specs.CellValue.{CellValue, ColumnInfo, RowValue}
 use Rattle.comfy_parts.specs.Text.{Text, greatest}
@@ -7,12 +7,9 @@ use Rattle.comfy_parts.specs.declared.style.table_style.ContentLineStyle.{Conten
 use Rattle.comfy_table.specs.Drawing.{drawing_of_infos, drawn_header, drawn_row, drawn_rows, visible_widths}
 use Rattle.comfy_table.specs.Frame.{content_line, optional_frame_line}
 use Rattle.comfy_table.specs.Laws.{unstyled}
-use Rattle.comfy_table.specs.Pieces.{blank_piece, padded, piece, pieces_of_optional, plain_piece, row_cell_lines, row_cell_texts, written_piece, row_height, row_line, row_lines, visible_infos}
+use Rattle.comfy_table.specs.Pieces.{blank_piece, padded, piece, pieces_of_optional, plain_piece, row_height, row_line, row_lines, visible_infos}
 use Rattle.comfy_table.specs.Styling.{styled}
-use Rattle.comfy_table.specs.Lines.{cell_delimiter, cell_lines, cut_to_limit}
 use Rattle.comfy_table.specs.TableValue.{TableValue, should_style, visible_row}
-use Rattle.comfy_parts.specs.VisibleLines.{CellLine}
-use Rattle.comfy_parts.specs.VisibleText.{visible_text}
 
 module _ (table : TableValue) (infos : List ColumnInfo) (off : should_style table ≡ false) (plain : table.custom_styling ≡ false) where
   same_piece : (cell : CellValue) (info : ColumnInfo) (line : Text) → piece (unstyled table) cell info line ≡ piece table cell info line
@@ -21,14 +18,7 @@ module _ (table : TableValue) (infos : List ColumnInfo) (off : should_style tabl
 
   same_pieces : (row : RowValue) (info : ColumnInfo) (cell : Option CellValue) → pieces_of_optional (unstyled table) row info cell ≡ pieces_of_optional table row info cell
   same_pieces row info None = refl
-  same_pieces row info (Some cell) =
-      (λ i. map (λ line. same_piece cell info line i) (row_cell_lines (unstyled table) row info cell)) ∙ ap by_setting (sym plain)
-    where
-      by_setting : Bool → List Text
-      by_setting custom =
-          if custom
-          then map (λ (line : CellLine). written_piece table cell info line.seen line.written) (row_cell_texts table row info cell)
-          else map (piece table cell info) (cut_to_limit row.max_height info.content_width table.indicator (cell_lines info.content_width (cell_delimiter table info.delimiter cell) (record cell { text_lines = if custom then map visible_text cell.text_lines else cell.text_lines })))
+  same_pieces row info (Some cell) = grind (arith, same_piece)
 
   same_height : (row : RowValue) → row_height (unstyled table) infos row ≡ row_height table infos row
   same_height row = λ i. greatest (map (λ (p : ℕ × ColumnInfo). length (same_pieces row p.1 (slice_get row.cells p.0) i)) (visible_infos infos))
@@ -58,8 +48,4 @@ module _ (table : TableValue) (infos : List ColumnInfo) (off : should_style tabl
 
   -- the whole drawing
   pub unstyled_drawing : drawing_of_infos (unstyled table) infos ≡ drawing_of_infos table infos
-  unstyled_drawing =
-      (λ i. optional_frame_line table.style table.style.top_border (visible_widths infos)
-      ++ (drawn_header (unstyled table) infos (same_seen_header i) ++ (drawn_rows (unstyled table) infos (same_seen_rows i) ++ optional_frame_line table.style table.style.bottom_border (visible_widths infos))))
-      ∙ (λ i. optional_frame_line table.style table.style.top_border (visible_widths infos)
-      ++ (same_header table.header i ++ (same_rows table.rows i ++ optional_frame_line table.style table.style.bottom_border (visible_widths infos))))
+  unstyled_drawing = grind (arith, same_seen_header, same_seen_rows, same_header, same_rows)

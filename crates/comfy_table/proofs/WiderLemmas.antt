@@ -1,6 +1,6 @@
 -- Under every constraint each dynamic width is at least 1, so the lines of a table keep to the wider bound.
-use Rattle.std.proofs.Common.{◌≡◌, ◌<◌, ◌≤◌, ℕ, ◌+◌, ◌-◌, ◌/◌, Bool, true, false, ◌&&◌, ◌==◌, List, [], ◌∷◌, ◌++◌, length, map, max, sum, Option, Some, None, option_map, nat_lt, nat_le, refl, sym, subst, arith}
-use Rattle.std.specs.Prelude.{if◌then◌else◌, sum_by, ⊤}
+use Rattle.std.proofs.Common.{◌≡◌, ◌<◌, ◌≤◌, ℕ, ◌+◌, ◌-◌, ◌/◌, Bool, true, false, List, [], ◌∷◌, ◌++◌, length, map, max, sum, Option, Some, None, option_map, nat_le, refl, arith}
+use Rattle.std.specs.Prelude.{sum_by, ⊤}
 use Rattle.std.specs.List.{AllByRecursion, enumerate_from}
 use Rattle.std.proofs.lemmas.Nat.{le-div}
 use Rattle.comfy_parts.specs.CellValue.{ColumnValue, column_padding}
@@ -17,7 +17,7 @@ use Rattle.comfy_table.proofs.TakenShareLemmas.{every_stands}
 use Rattle.comfy_table.proofs.TakingLemmas.{next_taken-where, every-shares_of}
 use Rattle.std.proofs.lemmas.List.{length-map}
 use Rattle.comfy_table.specs.Arrangement.{IsArranged, room_beside_borders}
-use Rattle.comfy_table.specs.Dynamic.{Placed, Share, Steps, IsArrangedBy, IsTakenAfter, lower_of_boundary, shrunk_at, settled_at, fit_at, upper_at, settled_shares, fixed_shares, places_of, without_shares, share_at, added, undecided, others, unsettled, even_columns, even_shares, all_shares, contents_after, room_left, content_room, room_of_unsettled, average}
+use Rattle.comfy_table.specs.Dynamic.{Placed, Share, Steps, IsArrangedBy, IsTakenAfter, lower_of_boundary, shrunk_at, settled_at, upper_at, settled_shares, fixed_shares, places_of, without_shares, share_at, undecided, others, unsettled, even_columns, even_shares, all_shares, contents_after, room_left, content_room, room_of_unsettled, average}
 use Rattle.comfy_table.specs.Frame.{border_count}
 use Rattle.comfy_table.specs.Laws.{line_total, least_with_steps}
 use Rattle.comfy_table.specs.TableLaws.{KeepsToWiderTotal, KeepsToWiderTotalInFull, FillsWiderTotal, visible_contents}
@@ -37,50 +37,26 @@ HasEarlyPlace column = (width : ℕ) → column.fixed ≡ Some width → 1 ≤ w
 -- by a lower boundary
 lower-some : (b padding : ℕ) (o : Option ℕ) (width : ℕ) → lower_of_boundary b padding o ≡ Some width → 1 ≤ width
 lower-some b padding None width is = absurd (cc is)
-lower-some b padding (Some l) width is = by_test (nat_lt b l) is
-  where
-    by_test : (t : Bool) → (if t then Some (without_padding padding l) else None) ≡ Some width → 1 ≤ width
-    by_test true is = let same : max 1 (l - padding) ≡ width = cc is in omega (arith, same)
-    by_test false is = absurd (cc is)
+lower-some b padding (Some l) width is = grind arith
 
 -- by shrinking
 shrunk-some : (b : ℕ) (column : ColumnNeeds) (width : ℕ) → shrunk_at b column ≡ Some width → 1 ≤ width
-shrunk-some b column width is = by_test (nat_le (column.longest b + 3) b) is
-  where
-    by_test : (t : Bool) → (if t then Some (max 1 (column.longest b)) else None) ≡ Some width → 1 ≤ width
-    by_test true is = let same : max 1 (column.longest b) ≡ width = cc is in omega (arith, same)
-    by_test false is = absurd (cc is)
+shrunk-some b column width is = grind arith
 
 -- by an upper boundary
 upper-some : (level : ℕ) (column : ColumnNeeds) (o : Option ℕ) (width : ℕ) → upper_at level column o ≡ Some width → 1 ≤ width
 upper-some level column None width is = absurd (cc is)
-upper-some level column (Some u) width is = by_test (nat_le u (level + column.padding) && nat_le u (column.content + column.padding)) is
-  where
-    by_test : (t : Bool) → (if t then Some (without_padding column.padding u) else None) ≡ Some width → 1 ≤ width
-    by_test true is = let same : max 1 (u - column.padding) ≡ width = cc is in omega (arith, same)
-    by_test false is = absurd (cc is)
+upper-some level column (Some u) width is = grind arith
 
 -- by a level
 settled-some : (level : Option ℕ) (column : ColumnNeeds) (width : ℕ) → settled_at level column ≡ Some width → 1 ≤ width
 settled-some None column width is = absurd (cc is)
-settled-some (Some level) column width is = by_upper (upper_at level column column.upper) (upper-some level column column.upper) is
-  where
-    by_test : (t : Bool) → (if t then Some (max 1 column.content) else None) ≡ Some width → 1 ≤ width
-    by_test true is = let same : max 1 column.content ≡ width = cc is in omega (arith, same)
-    by_test false is = absurd (cc is)
-
-    by_upper : (o : Option ℕ) → ((w : ℕ) → o ≡ Some w → 1 ≤ w) → fit_at level column o ≡ Some width → 1 ≤ width
-    by_upper (Some upper) some is = some width is
-    by_upper None some is = by_test (nat_le column.content level) is
+settled-some (Some level) column width is = grind (arith, upper-some, nat_le)
 
 -- fixed, by a boundary that the content does not pass
 boundary-some : (content padding : ℕ) (o : Option ℕ) (width : ℕ) → fixed_by_boundary content padding o ≡ Some width → 1 ≤ width
 boundary-some content padding None width is = absurd (cc is)
-boundary-some content padding (Some l) width is = by_test (nat_le (content + padding) l) is
-  where
-    by_test : (t : Bool) → (if t then Some (without_padding padding l) else None) ≡ Some width → 1 ≤ width
-    by_test true is = let same : max 1 (l - padding) ≡ width = cc is in omega (arith, same)
-    by_test false is = absurd (cc is)
+boundary-some content padding (Some l) width is = grind arith
 
 -- fixed, by a resolved width
 absolute-some : (padding : ℕ) (o : Option ℕ) (width : ℕ) → option_map (without_padding padding) o ≡ Some width → 1 ≤ width
@@ -158,11 +134,7 @@ module _ (room : ℕ) (columns : List ColumnNeeds) (fair : AllByRecursion HasEar
 
   -- and each width, under every constraint
   every_width_has_place : AllByRecursion (λ (w : ℕ). 1 ≤ w) widths
-  every_width_has_place = subst (AllByRecursion (λ (w : ℕ). 1 ≤ w)) (sym arranged.widths_are) (by_test (full && (length (even_columns room columns steps) == 0)))
-    where
-      by_test : (b : Bool) → AllByRecursion (λ (w : ℕ). 1 ≤ w) (if b then added (contents_after room columns steps) (even_spread (room_left room columns steps) (length columns)) else contents_after room columns steps)
-      by_test true = every_added (contents_after room columns steps) (even_spread (room_left room columns steps) (length columns)) every_content
-      by_test false = every_content
+  every_width_has_place = grind (arith, every_added, every_content)
 
 -- ---- the wider bound
 
@@ -174,12 +146,7 @@ KeepsToWiderBoundInFull room columns steps widths =
 
 -- with full width the widths keep to it too
 pub keeps_to_wider_bound_in_full : (room : ℕ) (columns : List ColumnNeeds) (steps : Steps) (widths : List ℕ) → KeepsToWiderBoundInFull room columns steps widths
-keeps_to_wider_bound_in_full room [] steps widths arranged =
-    subst (λ (ws : List ℕ). sum_by (λ (column : ColumnNeeds). column.padding) [] + sum ws ≤ max room (least_with_steps [] steps)) (sym arranged.widths_are) (by_test (length (even_columns room [] steps) == 0))
-  where
-    by_test : (b : Bool) → sum_by (λ (column : ColumnNeeds). column.padding) [] + sum (if b then added [] (even_spread (room_left room [] steps) 0) else []) ≤ max room (least_with_steps [] steps)
-    by_test true = omega arith
-    by_test false = omega arith
+keeps_to_wider_bound_in_full room [] steps widths arranged = grind arith
 keeps_to_wider_bound_in_full room (column ∷ more) steps widths arranged =
     omega (arith, fills_wider_bound room (column ∷ more) steps widths (omega arith) arranged)
 

@@ -1,5 +1,5 @@
 -- The lines of a cell with the texts that are written for them: which are seen, which sequences are open, and what they show.
-use Rattle.std.proofs.Common.{◌≡◌, ℕ, zero, suc, ◌-◌, Bool, true, false, List, [], ◌∷◌, ◌++◌, Option, Some, None, length, map, take, drop, nat_le, refl, sym, ap, ap₂, ◌∙◌, subst, slice_index_or, arith, ◌≤◌}
+use Rattle.std.proofs.Common.{◌≡◌, ℕ, zero, suc, ◌-◌, Bool, true, false, List, [], ◌∷◌, ◌++◌, Option, Some, None, length, map, take, drop, nat_le, refl, sym, ap, subst, slice_index_or, arith, ◌≤◌}
 use Rattle.std.specs.List.{All, AllByRecursion, flat_map}
 use Rattle.std.specs.Prelude.{if◌then◌else◌}
 use Rattle.std.specs.Str.{IsUtf8}
@@ -15,7 +15,7 @@ use Rattle.comfy_parts.specs.Laws.{IsResumedLine}
 use Rattle.comfy_parts.specs.Text.{Text}
 use Rattle.std.proofs.lemmas.Bool.Decides.{nat_tests}
 use Rattle.comfy_parts.specs.VisibleLines.{CellLine, line_texts}
-use Rattle.comfy_parts.specs.VisibleText.{closed, open_after, parts, visible_text}
+use Rattle.comfy_parts.specs.VisibleText.{closed, visible_text}
 use Rattle.comfy_parts.specs.Wrapping.{lines_of_text}
 use Rattle.comfy_table.proofs.EscapeLemmas.{cut_line-clear, lines_of_text-clear}
 use Rattle.comfy_table.proofs.ListLemmas.{All-flat_map, At-or}
@@ -49,16 +49,7 @@ seen_take (suc n) (line ∷ lines) = ap (λ (xs : List Text). line.seen ∷ xs) 
 -- lines are cut by what is seen of them
 seen_cut : (height : Option ℕ) (w : ℕ) (indicator : Text) (lines : List CellLine) → seen_of (cut_cell_lines_to_limit height w indicator lines) ≡ cut_to_limit height w indicator (seen_of lines)
 seen_cut None w indicator lines = refl
-seen_cut (Some h) w indicator lines =
-    by_test (nat_le (length lines) h)
-    ∙ ap (λ n. if nat_le n h then seen_of lines else take (h - 1) (seen_of lines) ++ cut_line w indicator (slice_index_or (seen_of lines) (h - 1) []) ∷ []) (sym (length-map lines (λ (line : CellLine). line.seen)))
-  where
-    by_test : (b : Bool) → seen_of (if b then lines else take (h - 1) lines ++ cut_cell_line w indicator (slice_index_or lines (h - 1) no_line) ∷ [])
-        ≡ (if b then seen_of lines else take (h - 1) (seen_of lines) ++ cut_line w indicator (slice_index_or (seen_of lines) (h - 1) []) ∷ [])
-    by_test true = refl
-    by_test false =
-        map-append (λ (line : CellLine). line.seen) (take (h - 1) lines) (cut_cell_line w indicator (slice_index_or lines (h - 1) no_line) ∷ [])
-        ∙ ap₂ (λ (xs : List Text) (x : Text). xs ++ x ∷ []) (seen_take (h - 1) lines) (ap (cut_line w indicator) (seen_at lines (h - 1)))
+seen_cut (Some h) w indicator lines = grind (arith, lines, w, length-map, map-append, seen_take, seen_at)
 
 -- what holds of each line and of those that are cut
 pub each_cut : (P : CellLine → Type 0) (height : Option ℕ) (w : ℕ) (indicator : Text) (lines : List CellLine) → AllByRecursion P lines → ((k : ℕ) → P (cut_cell_line w indicator (slice_index_or lines k no_line)))
@@ -84,17 +75,12 @@ each_cut P (Some h) w indicator lines each cut = by_test (nat_le (length lines) 
 
 -- no sequence is open at the end of one, cut or not
 pub none_is_open_at_the_end : (table : TableValue) (row : RowValue) (info : ColumnInfo) (cell : CellValue) → NoneIsOpenAtTheEnd table row info cell
-none_is_open_at_the_end table row info cell =
-    each_cut (λ (line : CellLine). open_after (parts line.written) ≡ []) row.max_height info.content_width table.indicator (line_texts info.content_width (cell_delimiter table info.delimiter cell) cell.text_lines)
-    (lines_closed info.content_width (cell_delimiter table info.delimiter cell) cell.text_lines)
-    (λ k. none_open (cut_line info.content_width table.indicator (slice_index_or (line_texts info.content_width (cell_delimiter table info.delimiter cell) cell.text_lines) k no_line).seen))
+none_is_open_at_the_end table row info cell = grind (arith, each_cut, lines_closed, none_open, slice_index_or)
 
 -- they are seen as the lines of the visible texts
 pub texts_seen : (table : TableValue) (row : RowValue) (info : ColumnInfo) (cell : CellValue)
     → seen_of (row_cell_texts table row info cell) ≡ cut_to_limit row.max_height info.content_width table.indicator (flat_map (lines_of_text info.content_width (cell_delimiter table info.delimiter cell)) (map visible_text cell.text_lines))
-texts_seen table row info cell =
-    seen_cut row.max_height info.content_width table.indicator (line_texts info.content_width (cell_delimiter table info.delimiter cell) cell.text_lines)
-    ∙ ap (cut_to_limit row.max_height info.content_width table.indicator) (seen_lines info.content_width (cell_delimiter table info.delimiter cell) cell.text_lines)
+texts_seen table row info cell = grind (arith, seen_cut, seen_lines)
 
 -- what is written shows what is seen, where that has no ESC
 pub texts_show : (table : TableValue) (row : RowValue) (info : ColumnInfo) (cell : CellValue) → HasNoEscape table.indicator → All IsUtf8 (map visible_text cell.text_lines) → All HasNoEscape (map visible_text cell.text_lines)

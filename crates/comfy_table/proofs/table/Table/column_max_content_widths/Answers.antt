@@ -1,3 +1,4 @@
+use Rattle.std.proofs.lemmas.Grind.{common_steps}
 use Rattle.std.proofs.Common.{◌≡◌, ℕ, ◌+◌, List, [], ◌∷◌, ◌++◌, length, map, ap, ap₂, arith, sym, ◌∙◌}
 use Rattle.std.proofs.lemmas.List.FromFn.{map-range_with_len_more}
 use Rattle.std.specs.List.{range_with_len}
@@ -12,7 +13,4 @@ loop-position-preserved c =
     ∙ sym (map-range_with_len_more (column_content_width c.args.self.now) 0 c.loop-position.position c.loop-position.position at)
 
 pub returns : goal.returns
-returns c =
-    let all : c.loop-position.position ≡ c.len-count.result = omega arith in
-    c.loop-position.invariant
-    ∙ ap (λ n. map (column_content_width c.args.self.now) (range_with_len 0 n)) (all ∙ c.len-count.ensures ∙ c.self.inside.columns.ok.0 ∙ ap (λ (t : TableValue). length t.columns) c.self.view_is)
+returns c = grind (arith, common_steps)

@@ -1,3 +1,4 @@
+use Rattle.std.proofs.lemmas.Grind.{common_steps}
 use Rattle.std.proofs.Common.{◌≡◌, ◌++◌, ◌∷◌, [], ℕ, List, Some, length, slice_index_or, slice_set, arith, ap, sym, ◌∙◌}
 use Rattle.std.proofs.lemmas.List.{length-append}
 use Rattle.comfy_parts.specs.CellValue.{ColumnValue, new_column}
@@ -22,14 +23,7 @@ loop-constraint-preserved-then-position-columns g c =
     record { set = set; position = omega (arith, within, as_many, at, counted, all, ap length set) }
 
 pub loop-constraint-preserved : goal.loop-constraint-preserved
-loop-constraint-preserved g c =
-    let taken = c.loop-constraint.yielded in
-    let columns = c.args.columns.now in
-    let as_many = ap length c.loop-constraint.invariant.set ∙ length-constrained taken columns in
-    let past = c.if-position-columns.false in
-    let more = constrained-past taken c.in-Some.constraint columns (omega (arith, past, as_many, c.loop-constraint.invariant.position)) in
-    let counted = length-append taken (c.in-Some.constraint ∷ []) in
-    record { set = c.loop-constraint.invariant.set ∙ sym more; position = omega (arith, past, counted, c.loop-constraint.invariant.position) }
+loop-constraint-preserved g c = grind (arith, common_steps, length-constrained, constrained-past, length-append)
 
 pub returns : goal.returns
 returns g c =

@@ -1,4 +1,5 @@
-use Rattle.std.proofs.Common.{◌≡◌, List, [], ◌∷◌, ◌++◌, map, ap, ap₂, sym, ◌∙◌}
+use Rattle.std.proofs.lemmas.Grind.{common_steps}
+use Rattle.std.proofs.Common.{◌≡◌, List, [], ◌∷◌, ◌++◌, map, ap, ap₂, sym, ◌∙◌, arith}
 use Rattle.std.specs.List.{enumerate_from}
 use Rattle.comfy_parts.specs.CellValue.{ColumnInfo, info_of, visible_among}
 use Rattle.comfy_table.proofs.DisabledLemmas.{info_by_content, infos-by_content, visible_count-among}
@@ -21,10 +22,4 @@ loop-position-preserved c =
     ∙ sym (enumerated_more f c.as_slice-columns.result.now c.loop-position.position column c.loop-position-test.true c.index-columns-position.is)
 
 pub returns : goal.returns
-returns c =
-    let f = info_by_content c.args.table.now in
-    let columns : c.as_slice-columns.result.now ≡ c.args.table.now.columns = c.as_slice-columns.ensures.value ∙ ap (λ (t : TableValue). t.columns) c.table.view_is in
-    c.loop-position.invariant
-    ∙ enumerated_all f c.as_slice-columns.result.now c.loop-position.position c.loop-position-test.false
-    ∙ ap (λ columns. map f (enumerate_from 0 columns)) columns
-    ∙ infos-by_content c.args.table.now
+returns c = grind (arith, common_steps, enumerated_all, infos-by_content)

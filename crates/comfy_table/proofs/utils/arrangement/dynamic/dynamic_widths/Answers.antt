@@ -1,3 +1,4 @@
+use Rattle.std.proofs.lemmas.Grind.{common_steps}
 use Rattle.std.proofs.Common.{◌≡◌, Bool, List, length, ap, sym, subst, ◌∙◌, arith}
 use Rattle.std.proofs.lemmas.List.{length-map}
 use Rattle.std.proofs.lemmas.Result.{IfOk-weaker}
@@ -10,14 +11,7 @@ use Rattle.comfy_table.proofs.UndecidedLemmas.{length-with_shares}
 use Rattle.comfy_table.proofs.utils.arrangement.dynamic.dynamic_widths.Goals as goal
 
 pub settle-requires : goal.settle-requires
-settle-requires c =
-    let taken = c.take_in_turn.ensures in
-    let columns = c.as_slice-columns.result.now in
-    ap length taken.2.widths
-    ∙ length-with_shares taken.0 c.in_ok-budget.budget.widths.items
-    ∙ ap length c.in_ok-budget.ensures.widths
-    ∙ length-map (all_needs c.args.table.now columns) (λ (n : ColumnNeeds). n.fixed)
-    ∙ length-map columns (needs_in c.args.table.now)
+settle-requires c = grind (arith, common_steps, length-with_shares, length-map)
 
 pub take_in_turn-requires-2-clause-widths : goal.take_in_turn-requires-2-clause-widths
 take_in_turn-requires-2-clause-widths c =

@@ -1,3 +1,4 @@
+use Rattle.std.proofs.lemmas.Grind.{common_steps}
 use Rattle.std.proofs.Common.{◌≡◌, ap, ◌∙◌, arith}
 use Rattle.comfy_table.proofs.LongestLineLemmas.{longest_line-is}
 use Rattle.comfy_table.specs.LongestLine.{rows_longest_line}
@@ -10,9 +11,4 @@ returns-then-of_header-limit-clause-at_most c =
     omega (arith, longest_line-is table c.args.info.now c.args.position, c.header_longest_line-of_header.ensures)
 
 pub returns : goal.returns
-returns c =
-    let table = c.args.table.now in
-    let rows : c.as_slice-rows.result.now ≡ table.rows = c.as_slice-rows.ensures.value ∙ ap (λ (t : TableValue). t.rows) c.table.view_is in
-    let whole = longest_line-is table c.args.info.now c.args.position in
-    let below = ap (rows_longest_line table c.args.info.now c.args.position) rows in
-    record { at_most = omega (arith, whole, below); exact = λ within. omega (arith, whole, below) }
+returns c = grind (arith, common_steps, longest_line-is)

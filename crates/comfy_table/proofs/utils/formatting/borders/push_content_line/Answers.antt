@@ -1,4 +1,5 @@
-use Rattle.std.proofs.Common.{◌≡◌, [], ◌++◌, ◌&&◌, Bool, string_bytes, ap, ◌∙◌, nat_lt}
+use Rattle.std.proofs.lemmas.Grind.{common_steps}
+use Rattle.std.proofs.Common.{◌≡◌, [], ◌++◌, ◌&&◌, Bool, string_bytes, ap, ◌∙◌, nat_lt, arith}
 use Rattle.std.specs.Prelude.{if◌then◌else◌}
 use Rattle.comfy_parts.specs.Borders.{draws_left_border, draws_right_border, draws_vertical_lines}
 use Rattle.comfy_parts.specs.Text.{Text}
@@ -23,14 +24,4 @@ loop-position-preserved c =
     ∙ joined_more drawn vertical junction c.args.cells.now c.loop-position.position cell (string_bytes c.push_border.new.text) (string_bytes c.loop-position.text) c.loop-position-test.true c.index-cells-position.is c.loop-position.invariant
 
 pub returns : goal.returns
-returns c =
-    let of_table : (asks : TableStyle → Bool) → asks c.table.inside.style ≡ asks c.args.table.now.style = λ asks. ap (λ (t : TableValue). asks t.style) c.table.view_is in
-    let vertical = c.draws_vertical_lines-vertical.result in
-    let style = c.args.style.now in
-    let drawn = piece_at c.args.table.now c.args.line in
-    let inside = joined_all drawn (if vertical then character style.junction else []) c.args.cells.now c.loop-position.position (string_bytes c.push_border.new.text) (string_bytes c.loop-position.text) c.loop-position-test.false c.loop-position.invariant in
-    between_borders-pushed c.push_border-2.result c.args.table.now.style style.left style.junction style.right drawn c.args.cells.now
-    c.draws_left_border.result vertical c.draws_right_border.result
-    (string_bytes c.args.text.now) (string_bytes c.push_border.new.text) (string_bytes c.loop-position.text) (string_bytes c.push_border-2.new.text)
-    (c.draws_left_border.ensures ∙ of_table draws_left_border) (c.draws_vertical_lines-vertical.ensures ∙ of_table draws_vertical_lines) (c.draws_right_border.ensures ∙ of_table draws_right_border)
-    c.in_ok-push_border.ensures inside c.push_border-2.ensures
+returns c = grind (arith, common_steps, joined_all, between_borders-pushed)

@@ -1,3 +1,4 @@
+use Rattle.std.proofs.lemmas.Grind.{common_steps}
 use Rattle.std.proofs.Common.{◌≡◌, ℕ, ◌+◌, List, [], ◌∷◌, ◌++◌, map, string_bytes, ap, ap₂, sym, ◌∙◌, arith}
 use Rattle.std.proofs.lemmas.List.{map-append}
 use Rattle.std.proofs.lemmas.List.FromFn.{map-range_with_len_more}
@@ -16,10 +17,4 @@ loop-line-preserved c =
     ∙ sym (map-range_with_len_more line 0 c.loop-line.line c.loop-line.line at)
 
 pub returns : goal.returns
-returns c =
-    let cells = c.as_slice-cells.result.now in
-    let all : c.loop-line.line ≡ greatest_height cells = let e : c.loop-line.line ≡ c.greatest_height-line-end.result = omega arith in e ∙ c.greatest_height-line-end.ensures in
-    c.loop-line.invariant
-    ∙ ap (λ n. map (λ k. map (piece_at c.args.table.now k) cells) (range_with_len 0 n)) all
-    ∙ ap (λ (ds : List DrawnCell). map (λ k. map (piece_at c.args.table.now k) ds) (range_with_len 0 (greatest_height ds))) c.as_slice-cells.ensures.value
-    ∙ c.in_ok-drawn.ensures.lines
+returns c = grind (arith, common_steps)

@@ -1,4 +1,5 @@
-use Rattle.std.proofs.Common.{rules, ◌≡◌, ℕ, Bool, true, false, not, List, [], ◌∷◌, ◌++◌, map, ap, ap₂, sym, ◌∙◌, append-nil}
+use Rattle.std.proofs.lemmas.Grind.{common_steps}
+use Rattle.std.proofs.Common.{rules, ◌≡◌, ℕ, Bool, true, false, not, List, [], ◌∷◌, ◌++◌, map, ap, ap₂, sym, ◌∙◌, append-nil, arith}
 use Rattle.comfy_parts.specs.CellValue.{ColumnInfo}
 use Rattle.comfy_table.proofs.LoopLemmas.{filtered_all, filtered_more}
 use Rattle.std.specs.List.{range_with_len}
@@ -34,9 +35,4 @@ returns-clause-cells c =
     c.loop-position.invariant ∙ filtered_all f (λ (p : ℕ × ColumnInfo). not p.1.is_hidden) c.args.infos.now c.loop-position.position c.loop-position-test.false
 
 pub returns-clause-lines : goal.returns-clause-lines
-returns-clause-lines c =
-    let table = c.args.table.now in
-    let f = drawn_cell table c.args.row.now in
-    let drawn = c.loop-position.invariant ∙ filtered_all f (λ (p : ℕ × ColumnInfo). not p.1.is_hidden) c.args.infos.now c.loop-position.position c.loop-position-test.false in
-    ap (λ (ds : List DrawnCell). map (λ k. map (piece_at table k) ds) (range_with_len 0 (greatest_height ds))) drawn
-    ∙ drawn_lines table c.args.row.now c.args.infos.now
+returns-clause-lines c = grind (arith, common_steps, filtered_all, drawn_lines)

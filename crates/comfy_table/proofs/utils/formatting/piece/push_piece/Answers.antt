@@ -1,4 +1,5 @@
-use Rattle.std.proofs.Common.{rules, ◌≡◌, ◌++◌, true, false, ap, sym, ◌∙◌, string_bytes}
+use Rattle.std.proofs.lemmas.Grind.{common_steps}
+use Rattle.std.proofs.Common.{rules, ◌≡◌, ◌++◌, true, false, ap, sym, ◌∙◌, string_bytes, arith}
 use Rattle.comfy_parts.specs.Text.{Text, spaces}
 use Rattle.comfy_table.proofs.SpaceLemmas.{all-styled, five-pushed, last-pushed, line-styled, plain-made, pushed-as, pushed-behind, three-pushed}
 use Rattle.comfy_table.specs.Styling.{style_begin, style_end}
@@ -6,11 +7,7 @@ use Rattle.comfy_table.specs.TableValue.{TableValue, should_style}
 use Rattle.comfy_table.proofs.utils.formatting.piece.push_piece.Goals as goal
 
 pub returns-then-not-should_style : goal.returns-then-not-should_style
-returns-then-not-should_style c =
-    let off : should_style c.args.table.now ≡ false = search rules in
-    let left = rw c.in_ok-width.ensures.value at c.spaces_beside-left.ensures.left in
-    let right = rw c.in_ok-width.ensures.value at c.spaces_beside-left.ensures.right in
-    pushed-behind c.push_padded.result _ (string_bytes c.width.new.text) _ _ c.in_ok-width.ensures.stays (pushed-as c.push_padded.result _ _ _ _ (plain-made c.args.cell.now c.args.info.now c.args.line.now.seen _ _ left right c.args.table.now c.args.line.now.written off) c.push_padded.ensures)
+returns-then-not-should_style c = grind (arith, common_steps, pushed-behind, pushed-as, plain-made)
 
 pub returns-then-table : goal.returns-then-table
 returns-then-table c =

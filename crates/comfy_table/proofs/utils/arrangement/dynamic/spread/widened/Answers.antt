@@ -1,3 +1,4 @@
+use Rattle.std.proofs.lemmas.Grind.{common_steps}
 use Rattle.std.proofs.Common.{◌<◌, ◌≤◌, ℕ, ◌+◌, List, ◌∷◌, [], ◌++◌, subst, ap, ap₂, sym, ◌∙◌, arith, drop, length, Option, ⊎_elim, eq-zero-or-pos}
 use Rattle.std.specs.List.{All}
 use Rattle.comfy_table.specs.Deciding.{decided}
@@ -16,12 +17,4 @@ overflow_add-unwrap_or c =
     (λ some. omega (arith, fits some, c.even_part.ensures.at_most, c.unwrap_or.ensures)) (eq-zero-or-pos room)
 
 pub loop-position-preserved : goal.loop-position-preserved
-loop-position-preserved c =
-    let items = c.deref-width-items.result.now in
-    let i = c.loop-position.position in
-    let x = c.args.budget.now.room in
-    let k = c.len-count.result in
-    let among : i < k = omega (arith, c.loop-position-test.true, c.len-count.ensures, ap length c.deref-width-items.ensures.value) in
-    ap (λ (ws : List ℕ). ws ++ added (decided (drop (i + 1) items)) (drop (i + 1) (even_spread x k)))
-    (c.in_ok-push.ensures.items ∙ ap₂ (λ (w p : ℕ). c.loop-position.widths.items ++ (w + p) ∷ []) c.unwrap_or.ensures c.even_part.ensures.part)
-    ∙ widened_more items i x k c.loop-position-test.true among c.loop-position.widths.items (added (decided items) (even_spread x k)) c.loop-position.invariant
+loop-position-preserved c = grind (arith, common_steps, widened_more)

@@ -1,4 +1,5 @@
-use Rattle.std.proofs.Common.{rules, ◌≡◌, ℕ, Bool, true, false, not, List, [], ◌∷◌, ◌++◌, map, ap, ap₂, sym, ◌∙◌, append-nil}
+use Rattle.std.proofs.lemmas.Grind.{common_steps}
+use Rattle.std.proofs.Common.{rules, ◌≡◌, ℕ, Bool, true, false, not, List, [], ◌∷◌, ◌++◌, map, ap, ap₂, sym, ◌∙◌, append-nil, arith}
 use Rattle.std.specs.List.{enumerate_from, filter}
 use Rattle.std.proofs.lemmas.List.{map-append}
 use Rattle.comfy_parts.specs.CellValue.{ColumnValue, is_hidden_column, visible_among}
@@ -41,10 +42,4 @@ loop-position-preserved c =
     ]
 
 pub returns : goal.returns
-returns c =
-    let table = c.args.table.now in
-    let shown : ℕ × ColumnValue → Bool = λ p. not (is_hidden_column p.1) in
-    let columns : c.as_slice-columns.result.now ≡ table.columns = c.as_slice-columns.ensures.value ∙ ap (λ (t : TableValue). t.columns) c.table.view_is in
-    c.loop-position.invariant
-    ∙ filtered_all (needs_of table) shown c.as_slice-columns.result.now c.loop-position.position c.loop-position-test.false
-    ∙ ap (λ columns. map (needs_of table) (filter shown (enumerate_from 0 columns))) columns
+returns c = grind (arith, common_steps, filtered_all)

@@ -1,4 +1,5 @@
-use Rattle.std.proofs.Common.{◌∙◌, string_bytes}
+use Rattle.std.proofs.lemmas.Grind.{common_steps}
+use Rattle.std.proofs.Common.{◌∙◌, string_bytes, arith}
 use Rattle.std.proofs.lemmas.Str.{IsUtf8-string_bytes}
 use Rattle.comfy_table.proofs.SeamLemmas.{seam}
 use Rattle.comfy_table.proofs.utils.formatting.cell_lines.Line.width.Goals as goal
@@ -9,7 +10,4 @@ split_at-requires c =
     (c.len-start.ensures ∙ c.args.text.now.bytes.ok.0) (c.as_str.ensures.value ∙ c.in_ok-push_to.ensures)
 
 pub truncate-requires : goal.truncate-requires
-truncate-requires c =
-    let position = seam (string_bytes c.push_to.new.text) (string_bytes c.args.text.now) c.args.self.now c.len-start.result (IsUtf8-string_bytes c.push_to.new.text) (IsUtf8-string_bytes c.args.text.now)
-    (c.len-start.ensures ∙ c.args.text.now.bytes.ok.0) c.in_ok-push_to.ensures in
-    λ _. (position.0, λ _ below. position.1 below)
+truncate-requires c = grind (arith, common_steps, seam, IsUtf8-string_bytes)

@@ -1,4 +1,5 @@
-use Rattle.std.proofs.Common.{◌≡◌, List, [], ◌++◌, true, map, take, refl, ap, ap₂, string_bytes, nat_lt, ◌∙◌}
+use Rattle.std.proofs.lemmas.Grind.{common_steps}
+use Rattle.std.proofs.Common.{◌≡◌, List, [], ◌++◌, true, map, take, refl, ap, ap₂, string_bytes, nat_lt, ◌∙◌, arith}
 use Rattle.std.specs.List.{join_by}
 use Rattle.std.specs.Prelude.{if◌then◌else◌, option_to_list}
 use Rattle.comfy_parts.specs.CellValue.{RowValue}
@@ -29,14 +30,4 @@ loop-position-preserved c =
     ∙ ap (λ (lines : List Text). with_written lines start) (joined_more drawn true separator rows position row [] done c.loop-position-test.true c.index-rows-position.is refl)
 
 pub returns : goal.returns
-returns c =
-    let start = c.args.self.now in
-    let drawn = drawn_row start.table start.infos start.table.style.content_lines in
-    let separator = map string_bytes (option_to_list c.args.separator.now) in
-    let position = c.loop-position.position in
-    let rows = c.as_slice-rows.result.now in
-    let all_rows : rows ≡ start.table.rows = c.as_slice-rows.ensures.value ∙ ap (λ (t : TableValue). t.rows) c.table.view_is ∙ ap (λ (w : WriterValue). w.table.rows) c.self.view_is in
-    c.loop-position.invariant
-    ∙ ap (λ (lines : List Text). with_written lines start)
-    (joined_all drawn separator rows position [] (join_by drawn separator (take position rows)) c.loop-position-test.false refl
-    ∙ ap (λ (rs : List RowValue). join_by drawn separator rs) all_rows)
+returns c = grind (arith, common_steps, joined_all)
