@@ -76,7 +76,7 @@ pub record IsCut (Word : Text → Type 0) (k : ℕ) (front word : Text) : Type 0
   pub fits : measure front ≤ k
   pub keeps : Word rest
 
--- wherever a line may end within such a word that is wider than w places, what stands before fits
+-- wherever a line may end within such a word that is wider than w columns, what stands before fits
 pub record BreaksWell (w : ℕ) (Word : Text → Type 0) : Type 0 where
   pub empty : Word []
   pub part : (k : ℕ) (word : Text) → Word word → IsUtf8 word → w < measure word → IsCut Word k (head k word) word

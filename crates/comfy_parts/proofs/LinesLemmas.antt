@@ -4,7 +4,7 @@ use Rattle.std.specs.Borrow.{Bor}
 use Rattle.std.specs.Iterator.{MakesProgress, item_count}
 use Rattle.std.specs.Str.{IsCharBoundary, IsUtf8}
 use Rattle.std.proofs.lemmas.Str.{IsUtf8-drop}
-use Rattle.comfy_parts.specs.Following.{ArePlacesUpTo, IsAtLine, IsFirstElement, IsWideFrom}
+use Rattle.comfy_parts.specs.Following.{AreColumnsUpTo, IsAtLine, IsFirstElement, IsWideFrom}
 use Rattle.comfy_parts.specs.Text.{Text, begins_with}
 use Rattle.comfy_parts.specs.Wrapping.{wrapped, line_end}
 use Rattle.comfy_parts.proofs.FollowingLemmas.{first-inside}
@@ -12,15 +12,15 @@ use Rattle.comfy_parts.proofs.WideEndLemmas.{rest-wide}
 use Rattle.comfy_parts.proofs.StartLemmas.{line-cut}
 
 -- a text that isn't empty, at a line's first character, has that line and those behind it
-pub line-then : (w d : ℕ) (text : Text) (first places shown : ℕ) → IsAtLine w d text first places shown → 0 < length text → (end : ℕ) (line behind : Text)
+pub line-then : (w d : ℕ) (text : Text) (first columns shown : ℕ) → IsAtLine w d text first columns shown → 0 < length text → (end : ℕ) (line behind : Text)
     → end ≡ line_end w d text → line ≡ take end text → behind ≡ drop end text → wrapped w d text ≡ line ∷ wrapped w d behind
-line-then w d text first places shown at some end line behind ends front back =
+line-then w d text first columns shown at some end line behind ends front back =
     let front_is = front ∙ ap₂ (λ (n : ℕ) (t : Text). take n t) ends refl in
     let back_is = back ∙ ap₂ (λ (n : ℕ) (t : Text). drop n t) ends refl in
     (line-cut w d text at.whole some at.begins_otherwise).lines ∙ ap₂ (λ l b. l ∷ wrapped w d b) (sym front_is) (sym back_is)
 
-pub line-place : (w d : ℕ) (text : Text) (first places shown : ℕ) → IsAtLine w d text first places shown → 0 < length text → (end : ℕ) → end ≡ line_end w d text → IsCharBoundary text end
-line-place w d text first places shown at some end ends = subst (IsCharBoundary text) (sym ends) (line-cut w d text at.whole some at.begins_otherwise).place
+pub line-place : (w d : ℕ) (text : Text) (first columns shown : ℕ) → IsAtLine w d text first columns shown → 0 < length text → (end : ℕ) → end ≡ line_end w d text → IsCharBoundary text end
+line-place w d text first columns shown at some end ends = subst (IsCharBoundary text) (sym ends) (line-cut w d text at.whole some at.begins_otherwise).place
 
 -- a call that took the first line has fewer behind it
 pub goes : (can : List Text → Type 0) → ((l : List Text) → can l) → (all behind : List Text) (line : Bor Text) → all ≡ line.now ∷ behind
@@ -32,23 +32,23 @@ goes can always all behind line first = record {
 }
 
 -- a line that ends within the first element leaves the rest of that element, and what shows that it is wide
-pub rest-shown : (w d : ℕ) (text : Text) (first places shown : ℕ) → IsAtLine w d text first places shown → (end : ℕ) → IsCharBoundary text end → end < first → (word behind : Text)
+pub rest-shown : (w d : ℕ) (text : Text) (first columns shown : ℕ) → IsAtLine w d text first columns shown → (end : ℕ) → IsCharBoundary text end → end < first → (word behind : Text)
     → behind ≡ drop end text → word ≡ take (first - end) behind → IsWideFrom w shown word
-rest-shown w d text first places shown at end place inside word behind back part =
+rest-shown w d text first columns shown at end place inside word behind back part =
     let same : word ≡ take (first - end) (drop end text) = part ∙ ap (take (first - end)) back in
     subst (IsWideFrom w shown) (sym same) (rest-wide text first end at.whole place inside w shown at.wide_from)
 
 -- and the next line begins with that rest
-pub rest-at : (w d : ℕ) (text : Text) (first places shown : ℕ) → IsAtLine w d text first places shown → (end : ℕ) → IsCharBoundary text end → end < first → (word behind : Text)
-    → behind ≡ drop end text → word ≡ take (first - end) behind → (p s : ℕ) → ArePlacesUpTo w p word → IsWideFrom w s word → IsAtLine w d behind (first - end) p s
-rest-at w d text first places shown at end place inside word behind back part p s are wide =
-    let after = first-inside d text first end at.whole at.element at.place place inside in
+pub rest-at : (w d : ℕ) (text : Text) (first columns shown : ℕ) → IsAtLine w d text first columns shown → (end : ℕ) → IsCharBoundary text end → end < first → (word behind : Text)
+    → behind ≡ drop end text → word ≡ take (first - end) behind → (p s : ℕ) → AreColumnsUpTo w p word → IsWideFrom w s word → IsAtLine w d behind (first - end) p s
+rest-at w d text first columns shown at end place inside word behind back part p s are wide =
+    let after = first-inside d text first end at.whole at.element at.boundary place inside in
     record {
       narrow = at.narrow;
       whole = subst IsUtf8 (sym back) (IsUtf8-drop text end at.whole place);
       begins_otherwise = ap (begins_with d) back ∙ after.2;
-      place = subst (λ (t : Text). IsCharBoundary t (first - end)) (sym back) after.0;
+      boundary = subst (λ (t : Text). IsCharBoundary t (first - end)) (sym back) after.0;
       element = subst (λ (t : Text). IsFirstElement d t (take (first - end) t) (drop (first - end) t)) (sym back) after.1;
-      places_are = subst (ArePlacesUpTo w p) part are;
+      columns_are = subst (AreColumnsUpTo w p) part are;
       wide_from = subst (IsWideFrom w s) part wide;
     }

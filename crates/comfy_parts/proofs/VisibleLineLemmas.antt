@@ -56,7 +56,7 @@ lines_stand w d whole at zero (b ∷ rest) is =
     (ap (take (length line)) is ∙ take-front (line_end w d (b ∷ rest)) (b ∷ rest))
     (lines_stand w d whole (at + 1) (part_end w d (b ∷ rest) - 1) rest (drop_next at whole b rest is))
 
--- there are as many places as lines
+-- there are as many positions as lines
 as_many : (w d at skip : ℕ) (text : Text) → map (λ (p : ℕ × Text). p.1) (zip (starts_past w d at skip text) (lines_past w d skip text)) ≡ lines_past w d skip text
 unfolding lines_past
 as_many w d at zero [] = refl
@@ -66,7 +66,7 @@ as_many w d at zero (b ∷ rest) =
     seconds-one (begins_with d (b ∷ rest)) at (take (line_end w d (b ∷ rest)) (b ∷ rest)) (starts_past w d (at + 1) (part_end w d (b ∷ rest) - 1) rest) (lines_past w d (part_end w d (b ∷ rest) - 1) rest)
     (as_many w d (at + 1) (part_end w d (b ∷ rest) - 1) rest)
 
--- the lines of a text stand at their places
+-- the lines of a text stand at their positions
 pub text_lines_stand : (w d : ℕ) (text : Text) → AllByRecursion (StandsIn text) (zip (starts_of_text w d text) (lines_of_text w d text))
 text_lines_stand w d text =
     elim (nat_le (measure text) w) as (λ b. AllByRecursion (StandsIn text) (zip (if b then 0 ∷ [] else starts_past w d 0 0 text) (if b then text ∷ [] else wrapped w d text)))
@@ -154,7 +154,7 @@ lines_show w d text_lines each =
 resumed_of_text : (w d : ℕ) (text_lines earlier : List Text) (text : Text) (later : List Text) → text_lines ≡ earlier ++ text ∷ later → AllByRecursion (IsResumedLine text_lines) (line_texts_of_text w d earlier text)
 resumed_of_text w d text_lines earlier text later is =
     each_slice w d (IsResumedLine text_lines) earlier text
-    (λ start line stands. record { earlier = earlier; text = text; later = later; in_cell = is; start = start; place = stands; resumed = λ k below. line_resumes earlier text start (length line) k (within start line stands k below) below })
+    (λ start line stands. record { earlier = earlier; text = text; later = later; in_cell = is; start = start; stands = stands; resumed = λ k below. line_resumes earlier text start (length line) k (within start line stands k below) below })
   where
     within : (start : ℕ) (line : Text) → StandsIn (visible_text text) (start, line) → (k : ℕ) → k < length line → start + length line ≤ length (visible_text text)
     within start line stands k below =

@@ -5,7 +5,7 @@ use Rattle.std.proofs.lemmas.List.{append_assoc, take-append-drop}
 use Rattle.std.proofs.lemmas.Str.{IsCharBoundary-from_drop, IsUtf8-append, IsUtf8-nil, IsUtf8-take}
 use Rattle.std.specs.Str.{IsCharBoundary, IsUtf8}
 use Rattle.comfy_parts.proofs.TailLemmas.{measure-tail}
-use Rattle.comfy_parts.specs.Following.{ArePlacesUpTo, IsFirstElement, IsWideFrom}
+use Rattle.comfy_parts.specs.Following.{AreColumnsUpTo, IsFirstElement, IsWideFrom}
 use Rattle.comfy_parts.specs.Text.{Text, measure}
 
 pub wide-from : (w : ℕ) (word front end : Text) → word ≡ front ++ end → IsUtf8 end → w + 1 < measure end → IsWideFrom w (length end) word
@@ -48,5 +48,5 @@ pub first-is : (d : ℕ) (text first behind : Text) → IsFirstElement d text fi
 first-is d text first behind is = ap (λ t. take (length first) t) (sym is.joined) ∙ take-append_seam first behind
 
 -- what a word measures is exact
-pub exact-places : (w places : ℕ) (word : Text) → places ≡ measure word → ArePlacesUpTo w places word
-exact-places w places word exact = record { fits = λ _. exact; wider = λ wide. omega (arith, exact, wide) }
+pub exact-columns : (w columns : ℕ) (word : Text) → columns ≡ measure word → AreColumnsUpTo w columns word
+exact-columns w columns word exact = record { fits = λ _. exact; wider = λ wide. omega (arith, exact, wide) }

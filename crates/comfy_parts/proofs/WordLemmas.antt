@@ -83,7 +83,7 @@ module _ (kind : ℕ → Bool) (add_up : AddUp kind) where
         keeps = record { characters = head.back; scalars = whole.1; spelt = refl; each = kinds.1 };
       }
 
-  -- the first character of such a text fits two places
+  -- the first character of such a text fits two columns
   first-fits : (w : ℕ) (cs : List ℕ) → 2 ≤ w → all_scalars cs ≡ true → list_all kind cs ≡ true → IsFitHead w cs (first_character (encode_utf8_all cs))
   first-fits w cs two scalars each =
       subst (λ xs. IsFitHead w cs (encode_utf8_all (take 1 xs))) (sym (chars-encodes cs scalars)) (by_characters cs each)

@@ -12,26 +12,26 @@ use Rattle.comfy_parts.specs.Text.{Text, IsOnly, begins_with, measure}
 use Rattle.comfy_parts.specs.VisibleLines.{CellLine, line_texts, line_texts_of_text, line_texts_past, starts_of_text, starts_past}
 use Rattle.comfy_parts.specs.VisibleText.{Part, active, closed, closing, line_text, open_after, parts, parts_before, parts_from, parts_up_to, opened, text_between, visible_text}
 use Rattle.comfy_parts.specs.Wrapping.{line_end, lines_of_text, lines_past, part_end, wrapped}
-use Rattle.comfy_parts.specs.Written.{wrapped_places, written, written_at, written_of_text, written_past}
+use Rattle.comfy_parts.specs.Written.{wrapped_positions, written, written_at, written_of_text, written_past}
 use Rattle.comfy_parts.proofs.CursorLemmas.{at, at_further}
 use Rattle.comfy_parts.proofs.LineTextLemmas.{parts-written}
 use Rattle.comfy_parts.proofs.OpenLemmas.{open_after-again, opened-append}
 use Rattle.comfy_parts.proofs.StartLemmas.{IsLineCut, line-cut}
 use Rattle.comfy_parts.proofs.WrappingLemmas.{whole-past_gap, begins_with-delimiter, lines_past-delimiter, lines_past-gap, lines_past-line}
 
--- ---- places of lines
+-- ---- positions of lines
 
 -- a place so many bytes further on
 abbrev pub further : ℕ → ℕ × ℕ → ℕ × ℕ
 further n p = (n + p.0, p.1)
 
-further-none : (places : List (ℕ × ℕ)) → map (further 0) places ≡ places
+further-none : (positions : List (ℕ × ℕ)) → map (further 0) positions ≡ positions
 further-none [] = refl
 further-none (p ∷ ps) =
     let plain : 0 + p.0 ≡ p.0 = omega arith in
     ap₂ (λ n (qs : List (ℕ × ℕ)). (n, p.1) ∷ qs) plain (further-none ps)
 
-further-twice : (n k : ℕ) (places : List (ℕ × ℕ)) → map (further n) (map (further k) places) ≡ map (further (n + k)) places
+further-twice : (n k : ℕ) (positions : List (ℕ × ℕ)) → map (further n) (map (further k) positions) ≡ map (further (n + k)) positions
 further-twice n k [] = refl
 further-twice n k (p ∷ ps) =
     let sum : n + (k + p.0) ≡ n + k + p.0 = omega arith in
@@ -43,7 +43,7 @@ zip-further n [] lens = refl
 zip-further n (s ∷ ss) [] = refl
 zip-further n (s ∷ ss) (l ∷ ls) = ap (λ (ps : List (ℕ × ℕ)). (n + s, l) ∷ ps) (zip-further n ss ls)
 
--- without lines there are no places
+-- without lines there are no positions
 pub zip-none : (starts : List ℕ) → zip starts (map (λ (line : Text). length line) []) ≡ []
 zip-none [] = refl
 zip-none (s ∷ ss) = refl
@@ -82,8 +82,8 @@ module _ (w d : ℕ) where
       ∙ ap (λ xs. (if t then [] else 0 ∷ []) ++ xs) (starts-skip (0 + 1) bs rest ∙ ap (λ m. starts_past w d m 0 rest) sum ∙ starts-further (suc (length bs)) 0 0 rest)
 
   -- behind a delimiter the lines begin further on
-  places-delimiter : (rest : Text) → IsScalar d → wrapped_places w d (encode_utf8 d ++ rest) ≡ map (further (length (encode_utf8 d))) (wrapped_places w d rest)
-  places-delimiter rest scalar =
+  positions-delimiter : (rest : Text) → IsScalar d → wrapped_positions w d (encode_utf8 d ++ rest) ≡ map (further (length (encode_utf8 d))) (wrapped_positions w d rest)
+  positions-delimiter rest scalar =
       let some = encode_utf8_nonempty d in
       let begins = begins_with-delimiter d rest scalar in
       let ends : part_end w d (encode_utf8 d ++ rest) ≡ length (encode_utf8 d) = ap (λ t. if t then length (encode_utf8 d) else line_end w d (encode_utf8 d ++ rest)) begins in
@@ -91,23 +91,23 @@ module _ (w d : ℕ) where
       ∙ zip-further (length (encode_utf8 d)) (starts_past w d 0 0 rest) (map length (wrapped w d rest))
 
   -- and so they do behind a gap
-  places-gap : (gap rest : Text) → IsScalar d → IsOnly d gap → wrapped_places w d (gap ++ rest) ≡ map (further (length gap)) (wrapped_places w d rest)
-  places-gap gap rest scalar (n, only) = subst (λ g. wrapped_places w d (g ++ rest) ≡ map (further (length g)) (wrapped_places w d rest)) (sym only) (delimiters n)
+  positions-gap : (gap rest : Text) → IsScalar d → IsOnly d gap → wrapped_positions w d (gap ++ rest) ≡ map (further (length gap)) (wrapped_positions w d rest)
+  positions-gap gap rest scalar (n, only) = subst (λ g. wrapped_positions w d (g ++ rest) ≡ map (further (length g)) (wrapped_positions w d rest)) (sym only) (delimiters n)
     where
-      delimiters : (n : ℕ) → wrapped_places w d (encode_utf8_all (replicate n d) ++ rest) ≡ map (further (length (encode_utf8_all (replicate n d)))) (wrapped_places w d rest)
-      delimiters zero = sym (further-none (wrapped_places w d rest))
+      delimiters : (n : ℕ) → wrapped_positions w d (encode_utf8_all (replicate n d) ++ rest) ≡ map (further (length (encode_utf8_all (replicate n d)))) (wrapped_positions w d rest)
+      delimiters zero = sym (further-none (wrapped_positions w d rest))
       delimiters (suc n) =
           let more = encode_utf8_all (replicate n d) in
-          ap (wrapped_places w d) (append_assoc (encode_utf8 d) more rest)
-          ∙ places-delimiter (more ++ rest) scalar
+          ap (wrapped_positions w d) (append_assoc (encode_utf8 d) more rest)
+          ∙ positions-delimiter (more ++ rest) scalar
           ∙ ap (map (further (length (encode_utf8 d)))) (delimiters n)
-          ∙ further-twice (length (encode_utf8 d)) (length more) (wrapped_places w d rest)
-          ∙ ap (λ m. map (further m) (wrapped_places w d rest)) (sym (length-append (encode_utf8 d) more))
+          ∙ further-twice (length (encode_utf8 d)) (length more) (wrapped_positions w d rest)
+          ∙ ap (λ m. map (further m) (wrapped_positions w d rest)) (sym (length-append (encode_utf8 d) more))
 
   -- a line at the front begins there
-  places-line : (line tail : Text) → 0 < length line → begins_with d (line ++ tail) ≡ false → length line ≡ line_end w d (line ++ tail)
-      → wrapped_places w d (line ++ tail) ≡ (0, length line) ∷ map (further (length line)) (wrapped_places w d tail)
-  places-line line tail some begins ends =
+  positions-line : (line tail : Text) → 0 < length line → begins_with d (line ++ tail) ≡ false → length line ≡ line_end w d (line ++ tail)
+      → wrapped_positions w d (line ++ tail) ≡ (0, length line) ∷ map (further (length line)) (wrapped_positions w d tail)
+  positions-line line tail some begins ends =
       let part : part_end w d (line ++ tail) ≡ length line = ap (λ t. if t then length (encode_utf8 d) else line_end w d (line ++ tail)) begins ∙ sym ends in
       ap₂ (λ starts (lines : List Text). zip starts (map length lines)) (starts-part line tail false some part begins) (lines_past-line w d line tail some begins ends)
       ∙ ap (λ (ps : List (ℕ × ℕ)). (0, length line) ∷ ps) (zip-further (length line) (starts_past w d 0 0 tail) (map length (wrapped w d tail)))
@@ -115,7 +115,7 @@ module _ (w d : ℕ) where
 -- ---- what is written at them
 
 -- from a cursor that stands further on
-written-further : (n : ℕ) (old new : CursorValue) (places : List (ℕ × ℕ)) → StandsAt new n old → written_at old (map (further n) places) ≡ written_at new places
+written-further : (n : ℕ) (old new : CursorValue) (positions : List (ℕ × ℕ)) → StandsAt new n old → written_at old (map (further n) positions) ≡ written_at new positions
 written-further n old new [] stands = refl
 written-further n old new (p ∷ ps) stands =
     let plain : 0 + p.0 ≡ p.0 = omega arith in
@@ -134,7 +134,7 @@ pub record IsNextLine (w d : ℕ) (old mid : CursorValue) (line : Text) (behind 
   pub rest_whole : IsUtf8 (drop (length line) (seen_ahead mid))
   pub lines : behind ≡ wrapped w d (drop (length line) (seen_ahead mid))
   pub written_is : (new : CursorValue) → StandsAt new (length line) mid → seen_ahead new ≡ drop (length line) (seen_ahead mid)
-      → written_at old (wrapped_places w d (seen_ahead old)) ≡ written (length line) (at_byte 0 mid) ∷ written_at new (wrapped_places w d (seen_ahead new))
+      → written_at old (wrapped_positions w d (seen_ahead old)) ≡ written (length line) (at_byte 0 mid) ∷ written_at new (wrapped_positions w d (seen_ahead new))
 
 pub next_line : (w d : ℕ) (old mid : CursorValue) (line : Text) (behind : List Text) → IsScalar d → IsUtf8 (seen_ahead old) → IsBehindGap d old mid → line ∷ behind ≡ wrapped w d (seen_ahead old)
     → IsNextLine w d old mid line behind
@@ -144,13 +144,13 @@ next_line w d old mid line behind scalar utf8 gap lines =
       rest_whole = subst (λ n. IsUtf8 (drop n seen)) (sym long) cut.whole_rest;
       lines = second ∙ ap (λ n. wrapped w d (drop n seen)) (sym long);
       written_is = λ new stands left.
-          ap (λ t. written_at old (wrapped_places w d t)) gap.seen
-          ∙ ap (written_at old) (places-gap w d gap.gap seen scalar gap.only)
-          ∙ written-further (length gap.gap) old mid (wrapped_places w d seen) gap.stands
-          ∙ ap (λ t. written_at mid (wrapped_places w d t)) (sym halves)
-          ∙ ap (written_at mid) (places-line w d line (drop end seen) (omega (arith, long, cut.some)) (ap (begins_with d) halves ∙ gap.begins_otherwise) (long ∙ ap (line_end w d) (sym halves)))
+          ap (λ t. written_at old (wrapped_positions w d t)) gap.seen
+          ∙ ap (written_at old) (positions-gap w d gap.gap seen scalar gap.only)
+          ∙ written-further (length gap.gap) old mid (wrapped_positions w d seen) gap.stands
+          ∙ ap (λ t. written_at mid (wrapped_positions w d t)) (sym halves)
+          ∙ ap (written_at mid) (positions-line w d line (drop end seen) (omega (arith, long, cut.some)) (ap (begins_with d) halves ∙ gap.begins_otherwise) (long ∙ ap (line_end w d) (sym halves)))
           ∙ ap (λ (ts : List Text). written (length line) (at_byte 0 mid) ∷ ts)
-          (written-further (length line) mid new (wrapped_places w d (drop end seen)) stands ∙ ap (λ t. written_at new (wrapped_places w d t)) (ap (λ n. drop n seen) (sym long) ∙ sym left));
+          (written-further (length line) mid new (wrapped_positions w d (drop end seen)) stands ∙ ap (λ t. written_at new (wrapped_positions w d t)) (ap (λ n. drop n seen) (sym long) ∙ sym left));
     }
   where
     seen : Text
@@ -188,7 +188,7 @@ next_line w d old mid line behind scalar utf8 gap lines =
     halves = ap (λ t. t ++ drop end seen) first ∙ take-append-drop end seen
 
 -- behind the last line nothing is written
-pub written-none : (w d : ℕ) (c : CursorValue) (text : Text) → [] ≡ wrapped w d text → written_at c (wrapped_places w d text) ≡ []
+pub written-none : (w d : ℕ) (c : CursorValue) (text : Text) → [] ≡ wrapped w d text → written_at c (wrapped_positions w d text) ≡ []
 written-none w d c text none =
     ap (λ (lines : List Text). written_at c (zip (starts_past w d 0 0 text) (map length lines))) (sym none) ∙ ap (written_at c) (zip-none (starts_past w d 0 0 text))
 

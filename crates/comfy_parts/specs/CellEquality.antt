@@ -14,7 +14,7 @@ use Rattle.comfy_parts.specs.contracts.style.cell.CellAlignmentHash.TheImpl.Laws
 use Rattle.comfy_parts.specs.contracts.style.color.ColorEq.TheImpl.Laws as color_equiv
 use Rattle.comfy_parts.specs.contracts.style.color.ColorHash.TheImpl.Laws as color_alike
 
--- what `==` answers at two cells
+-- what `==` returns for two cells
 abbrev pub cell_eq : CellValue → CellValue → Bool
 cell_eq a b =
     pointwise (pointwise nat_eq) a.text_lines b.text_lines

@@ -51,7 +51,7 @@ color_hash = (of_color_hash.ghosts).hash_input
 abbrev pub EqIsSame : {K : Type 0} → (K → K → Bool) → Type 0
 EqIsSame {K} eq = (a b : K) → (eq a b ≡ true) ↔ (a ≡ b)
 
--- the order answers `Equal` exactly of values that are the same
+-- the order returns `Equal` exactly for values that are the same
 abbrev pub EqualIsSame : {K : Type 0} → (K → K → Ordering) → Type 0
 EqualIsSame {K} cmp = (a b : K) → (cmp a b ≡ Equal) ↔ (a ≡ b)
 

@@ -30,7 +30,7 @@ parts_behind (suc n) (p ∷ ps) = parts_behind (if p.is_sequence then suc n else
 
 -- ---- a cursor
 
--- a place in a text line of a cell: the sequences that are open there, and the parts that come next
+-- a cursor in a text line of a cell: the sequences that are open there, and the parts that come next
 pub record CursorValue : Type 0 where
   pub sequences : List Text
   pub ahead : List Part
@@ -39,20 +39,20 @@ pub record CursorValue : Type 0 where
 abbrev pub seen_ahead : CursorValue → Text
 seen_ahead c = flat_map visible_bytes c.ahead
 
--- the cursor behind the first of these parts, which come next
+-- the cursor after the first of these parts, which come next
 abbrev pub stepped : CursorValue → List Part → CursorValue
 stepped c [] = c
 stepped c (p ∷ ps) = record { sequences = opened_by c.sequences p; ahead = ps }
 
--- the cursor behind the next part where that is a sequence
+-- the cursor after the next part where that is a sequence
 abbrev pub past_sequence : CursorValue → CursorValue
 past_sequence c = if begins_with_sequence c.ahead then stepped c c.ahead else c
 
--- before the visible byte at n of what comes, behind the sequences there
+-- before the visible byte at n of what comes, after the sequences there
 abbrev pub at_byte : ℕ → CursorValue → CursorValue
 at_byte n c = record { sequences = opened c.sequences (parts_before n c.ahead); ahead = parts_from n c.ahead }
 
--- behind the n-th visible byte, before the sequences there
+-- after the n-th visible byte, before the sequences there
 abbrev pub behind_bytes : ℕ → CursorValue → CursorValue
 behind_bytes n c = record { sequences = opened c.sequences (parts_up_to n c.ahead); ahead = parts_behind n c.ahead }
 
@@ -68,7 +68,7 @@ open_at_end c = opened c.sequences c.ahead
 abbrev pub StandsAt : CursorValue → ℕ → CursorValue → Type 0
 StandsAt new n old = at_byte 0 new ≡ at_byte n old
 
--- only delimiters are visible between two cursors, and something else, or nothing, behind the second
+-- only delimiters are visible between two cursors, and something else, or nothing, after the second
 pub record IsBehindGap (d : ℕ) (old new : CursorValue) : Type 0 where
   pub gap : Text
   pub only : IsOnly d gap

@@ -26,16 +26,16 @@ abbrev pub IsWideFrom : ℕ → ℕ → Text → Type 0
 IsWideFrom w bytes word = (front tail : Text) → word ≡ front ++ tail → IsUtf8 front → IsUtf8 tail → bytes ≤ length tail → w < measure tail
 
 -- the terminal columns of a word: exact where they are at most w, and otherwise the word is wider than w
-pub record ArePlacesUpTo (w places : ℕ) (word : Text) : Type 0 where
-  pub fits : places ≤ w → places ≡ measure word
-  pub wider : w < places → w < measure word
+pub record AreColumnsUpTo (w columns : ℕ) (word : Text) : Type 0 where
+  pub fits : columns ≤ w → columns ≡ measure word
+  pub wider : w < columns → w < measure word
 
 -- a text at the first character of a line of w terminal columns: its first element has so many bytes and columns, and each of its ends with at least `shown` bytes is wider than the line
-pub record IsAtLine (w d : ℕ) (text : Text) (first places shown : ℕ) : Type 0 where
+pub record IsAtLine (w d : ℕ) (text : Text) (first columns shown : ℕ) : Type 0 where
   pub narrow : w ≤ 65535
   pub whole : IsUtf8 text
   pub begins_otherwise : begins_with d text ≡ false
-  pub place : IsCharBoundary text first
+  pub boundary : IsCharBoundary text first
   pub element : IsFirstElement d text (take first text) (drop first text)
-  pub places_are : ArePlacesUpTo w places (take first text)
+  pub columns_are : AreColumnsUpTo w columns (take first text)
   pub wide_from : IsWideFrom w shown (take first text)

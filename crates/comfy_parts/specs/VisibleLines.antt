@@ -9,9 +9,9 @@ pub record CellLine : Type 0 where
   pub seen : Text
   pub written : Text
 
--- the places at which the lines of a text begin
+-- the positions at which the lines of a text begin
 module _ (w d : ℕ) where
-  -- those after the first `skip` bytes, which begin at place `at`
+  -- those after the first `skip` bytes, which begin at position `at`
   abbrev pub starts_past : ℕ → ℕ → Text → List ℕ
   starts_past at skip [] = []
   starts_past at zero (b ∷ rest) =

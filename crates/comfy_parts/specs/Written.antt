@@ -15,19 +15,19 @@ written len c =
 
 -- for lines that begin at these visible bytes and are so long
 abbrev pub written_at : CursorValue → List (ℕ × ℕ) → List Text
-written_at c places = map (λ (p : ℕ × ℕ). written p.1 (at_byte p.0 c)) places
+written_at c positions = map (λ (p : ℕ × ℕ). written p.1 (at_byte p.0 c)) positions
 
 -- where the lines of a wrapped text begin, and how long they are
-abbrev pub wrapped_places : ℕ → ℕ → Text → List (ℕ × ℕ)
-wrapped_places w d text = zip (starts_past w d 0 0 text) (map length (wrapped w d text))
+abbrev pub wrapped_positions : ℕ → ℕ → Text → List (ℕ × ℕ)
+wrapped_positions w d text = zip (starts_past w d 0 0 text) (map length (wrapped w d text))
 
 -- the same of any text
-abbrev pub places_of_text : ℕ → ℕ → Text → List (ℕ × ℕ)
-places_of_text w d text = zip (starts_of_text w d text) (map length (lines_of_text w d text))
+abbrev pub positions_of_text : ℕ → ℕ → Text → List (ℕ × ℕ)
+positions_of_text w d text = zip (starts_of_text w d text) (map length (lines_of_text w d text))
 
 -- for the lines of the text line that a cursor stands before
 abbrev pub written_of_text : ℕ → ℕ → CursorValue → List Text
-written_of_text w d c = written_at c (places_of_text w d (seen_ahead c))
+written_of_text w d c = written_at c (positions_of_text w d (seen_ahead c))
 
 -- for the lines of text lines, where these sequences are open
 abbrev pub written_past : ℕ → ℕ → List Text → List Text → List Text

@@ -123,7 +123,7 @@ impl Cell {
         self
     }
 
-    /// Adds an attribute behind those that the cell has. Attributes are written once each, in a fixed order, however
+    /// Adds an attribute after those that the cell has. Attributes are written once each, in a fixed order, however
     /// often they were added. After running out of memory the cell is dropped.
     pub fn add_attribute(mut self, attribute: Attribute) -> Result<Cell>
         ensures { IfOk result (λ cell. cell ≡ record self { attributes = self.attributes ++ attribute ∷ [] }) }

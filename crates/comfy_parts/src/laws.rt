@@ -88,7 +88,7 @@ pub fn printable_adds_one_column_each()
     ensures { (indicator : Text) → PrintableAddsOneColumnEach indicator }
 {}
 
-/// What is visible of a text: a sequence at its front is taken out, any other first byte stays, and so on behind it.
+/// What is visible of a text: a sequence at its front is taken out, any other first byte stays, and so on after it.
 pub fn sequences_are_taken_out_in_one_pass()
     ensures sequence { (code rest : Text) → SequencesAreTakenOut code rest }
     ensures visible { (b : ℕ) (rest : Text) → OtherBytesAreVisible b rest }

@@ -1,7 +1,7 @@
 -- The loop in which columns take a width in turn: what it keeps, and what it leads to.
 use Rattle.std.proofs.lemmas.Bool.Decides.{nat_tests}
 use Rattle.std.proofs.Common.{◌≡◌, ◌<◌, ◌≤◌, ℕ, zero, suc, ◌+◌, ◌-◌, ◌*◌, ◌/◌, Bool, true, false, List, [], ◌∷◌, ◌++◌, length, Option, Some, None, slice_get, nat_lt, not, ◌&&◌, ◌==◌, refl, sym, ap, ap₂, ◌∙◌, subst, arith, inl, inr, ⊎_elim, suc-mul}
-use Rattle.std.specs.Prelude.{◌⊎◌, slice_set, if◌then◌else◌, option_and_then}
+use Rattle.std.specs.Prelude.{◌⊎◌, slice_set}
 use Rattle.std.proofs.lemmas.Bool.{cases_lt, ltb-true, ltb-false, eq-eqb}
 use Rattle.std.proofs.lemmas.Option.{slice_get_within}
 use Rattle.std.proofs.lemmas.List.Sums.{sum_by_push}

@@ -12,7 +12,7 @@ use crate::error::Result;
 use std::alloc::Global;
 use std::marker::Model;
 
-/// A place in a text line of a cell, and the sequences that are open there.
+/// Where one stands in a text line of a cell, and the sequences that are open there.
 #[derive(Drop)]
 pub(crate) struct Cursor<'a> {
     rest: &'a str,

@@ -3,7 +3,7 @@
 ghost use Rattle.std.specs.Prelude.{◌≡◌, ℕ, ◌+◌, ◌*◌, ◌==◌, ◌≤◌, List, length, take, drop, true, false};
 ghost use Rattle.std.specs.List.{list_any};
 ghost use Rattle.std.specs.Str.{IsCharBoundary};
-ghost use Rattle.comfy_parts.specs.Following.{ArePlacesUpTo, EndsElement, Follow, IsFirstElement};
+ghost use Rattle.comfy_parts.specs.Following.{AreColumnsUpTo, EndsElement, Follow, IsFirstElement};
 ghost use Rattle.comfy_parts.specs.Text.{Text, begins_with, is_printable_ascii, measure};
 ghost use Rattle.comfy_parts.specs.Wrapping.{bytes_taken, head_or_first, line_end, part_taken, wrapped};
 
@@ -36,7 +36,7 @@ pub fn first_element(text: &str, delimiter: char) -> (&str, &str)
 /// The first element of a text, what follows it, and the terminal columns that it takes.
 pub fn measured_element(text: &str, delimiter: char) -> (&str, &str, usize)
     ensures element { IsFirstElement delimiter text.now result.0.now result.1.now }
-    ensures places { result.2 ≡ measure result.0.now }
+    ensures columns { result.2 ≡ measure result.0.now }
     ensures bound { result.2 ≤ 2 * length result.0.now }
 {
     // Where printable ASCII goes on to a delimiter or to the end, one walk over its bytes serves for both.
@@ -48,7 +48,7 @@ pub fn measured_element(text: &str, delimiter: char) -> (&str, &str, usize)
     (word, behind, measure_text_width(word))
 }
 
-// Whether nothing stands behind an element, or a delimiter.
+// Whether nothing stands after an element, or a delimiter.
 fn ends_element(behind: &str, delimiter: char) -> bool
     ensures { result ≡ true → EndsElement delimiter behind.now }
 {
@@ -75,26 +75,26 @@ fn printable_run(bytes: &[u8], delimiter: char) -> usize
     run
 }
 
-/// The end of the line that begins at the text's front. The text's first element has `first` bytes and takes `places`
-/// terminal columns; where it is wider than a line, any number above the line's width is passed for `places`.
+/// The end of the line that begins at the text's front. The text's first element has `first` bytes and takes `columns`
+/// terminal columns; where it is wider than a line, any number above the line's width is passed for `columns`.
 pub(crate) fn line_end(
     text: &str,
     first: usize,
-    places: usize,
+    columns: usize,
     width: usize,
     delimiter: char,
 ) -> usize
-    requires place { IsCharBoundary text.now first }
+    requires boundary { IsCharBoundary text.now first }
     requires element { IsFirstElement delimiter text.now (take first text.now) (drop first text.now) }
-    requires places { ArePlacesUpTo width places (take first text.now) }
+    requires columns { AreColumnsUpTo width columns (take first text.now) }
     requires narrow { width ≤ 65535 }
     ensures { result ≡ line_end width delimiter text.now }
 {
     let (word, behind) = text.split_at(first);
-    if places > width {
+    if columns > width {
         return end_within(word, width);
     }
-    first + taken_behind(places, behind, width, delimiter)
+    first + taken_behind(columns, behind, width, delimiter)
 }
 
 // The bytes of a word that is wider than a line which the line takes: its head, or at least its first character.
@@ -111,7 +111,7 @@ fn end_within(word: &str, width: usize) -> usize
     }
 }
 
-// The bytes that a line takes behind its first element, which fills so many terminal columns.
+// The bytes that a line takes after its first element, which fills so many terminal columns.
 fn taken_behind(first: usize, behind: &str, width: usize, delimiter: char) -> usize
     requires narrow { width ≤ 65535 }
     ensures value { (es : List Text) → Follow delimiter es behind.now → result ≡ bytes_taken width delimiter first es }
@@ -123,11 +123,12 @@ fn taken_behind(first: usize, behind: &str, width: usize, delimiter: char) -> us
         let Some(others) = rest.strip_prefix(delimiter) else {
             break;
         };
-        let (next, following, places) = measured_element(others, delimiter);
-        if places >= width.saturating_sub(filled) {
-            return behind.len() - rest.len() + part_of_next(next, places, filled, width, delimiter);
+        let (next, following, columns) = measured_element(others, delimiter);
+        if columns >= width.saturating_sub(filled) {
+            return behind.len() - rest.len()
+                + part_of_next(next, columns, filled, width, delimiter);
         }
-        filled += places + char_width(delimiter);
+        filled += columns + char_width(delimiter);
         rest = following;
     }
     behind.len() - rest.len()
@@ -135,13 +136,13 @@ fn taken_behind(first: usize, behind: &str, width: usize, delimiter: char) -> us
 
 // The bytes that a line takes of the next element, which takes so many terminal columns and has no room as a whole, and
 // of the delimiter before it.
-fn part_of_next(next: &str, places: usize, filled: usize, width: usize, delimiter: char) -> usize
-    requires places { places ≡ measure next.now }
+fn part_of_next(next: &str, columns: usize, filled: usize, width: usize, delimiter: char) -> usize
+    requires columns { columns ≡ measure next.now }
     requires narrow { filled ≤ 65535 }
     ensures value { result ≡ part_taken width delimiter filled next.now }
     ensures bound { result ≤ length next.now + 4 }
 {
-    if filled + 4 <= width && places > width {
+    if filled + 4 <= width && columns > width {
         let (front, _) = split_long_word(width - filled - 1, next);
         delimiter.len_utf8() + front.len()
     } else {

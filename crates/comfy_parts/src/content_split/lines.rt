@@ -2,7 +2,7 @@
 
 ghost use Rattle.std.specs.Prelude.{◌≡◌, ◌≤◌};
 ghost use Rattle.std.specs.Iterator.{YieldsFirstBy, item_count};
-ghost use Rattle.comfy_parts.specs.Following.{ArePlacesUpTo, IsWideFrom};
+ghost use Rattle.comfy_parts.specs.Following.{AreColumnsUpTo, IsWideFrom};
 ghost use Rattle.comfy_parts.specs.Wrapping.{IsWrapped, wrapped};
 
 use crate::content_split::display_info::ColumnDisplayInfo;
@@ -21,7 +21,7 @@ pub struct WrappedLines<'a> {
     // the bytes of its first element
     first: usize,
     // the columns of that element; where it is wider than a line, any number above the line's width
-    places: usize,
+    columns: usize,
     // how many bytes of that element's end show that it is wider than a line; more than it has where this isn't known
     wide: usize,
     width: usize,
@@ -37,7 +37,7 @@ impl<'a> Model for WrappedLines<'a> {
 
     ghost view = { λ s. wrapped s.width s.delimiter s.rest.now };
 
-    ghost invariant = { λ s. IsAtLine s.width s.delimiter s.rest.now s.first s.places s.wide };
+    ghost invariant = { λ s. IsAtLine s.width s.delimiter s.rest.now s.first s.columns s.wide };
 }
 
 /// The lines of a text that is wrapped at the column's content width, one after another. They are those of `split_line`.
@@ -52,7 +52,7 @@ pub fn wrapped_lines<'a>(
     lines_behind(line, usize::from(info.content_width), delimiter)
 }
 
-// The lines of a text behind the delimiters at its front.
+// The lines of a text after the delimiters at its front.
 fn lines_behind<'a>(text: &'a str, width: usize, delimiter: char) -> WrappedLines<'a>
     requires narrow { width ≤ 65535 }
     ensures { result ≡ wrapped width delimiter text.now }
@@ -64,17 +64,17 @@ fn lines_behind<'a>(text: &'a str, width: usize, delimiter: char) -> WrappedLine
         return WrappedLines {
             rest,
             first: word.len(),
-            places: places_up_to(word, wide, width),
+            columns: columns_up_to(word, wide, width),
             wide,
             width,
             delimiter,
         };
     }
-    let (word, _, places) = measured_element(rest, delimiter);
+    let (word, _, columns) = measured_element(rest, delimiter);
     WrappedLines {
         rest,
         first: word.len(),
-        places,
+        columns,
         wide: word.len() + 1,
         width,
         delimiter,
@@ -95,7 +95,7 @@ impl<'a> Iterator for WrappedLines<'a> {
         let end = line_end(
             self.rest,
             self.first,
-            self.places,
+            self.columns,
             self.width,
             self.delimiter,
         );
@@ -109,7 +109,7 @@ impl<'a> Iterator for WrappedLines<'a> {
         self.first -= end;
         let (word, _) = behind.split_at(self.first);
         self.wide = known_wide_end(word, self.wide, self.width);
-        self.places = places_up_to(word, self.wide, self.width);
+        self.columns = columns_up_to(word, self.wide, self.width);
         Some(line)
     }
 }
@@ -127,10 +127,10 @@ fn known_wide_end(word: &str, wide: usize, width: usize) -> usize
 }
 
 // The columns of a word, or more than a line has where the bytes of its end show that it is wider. Then it isn't measured.
-fn places_up_to(word: &str, wide: usize, width: usize) -> usize
+fn columns_up_to(word: &str, wide: usize, width: usize) -> usize
     requires wide { IsWideFrom width wide word.now }
     requires narrow { width ≤ 65535 }
-    ensures { ArePlacesUpTo width result word.now }
+    ensures { AreColumnsUpTo width result word.now }
 {
     if word.len() >= wide {
         width + 1

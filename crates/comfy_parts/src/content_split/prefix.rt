@@ -13,7 +13,7 @@ pub fn split_long_word(allowed_width: usize, word: &str) -> (&str, &str)
     ensures head { result.0.now ≡ head allowed_width word.now }
     ensures rest { result.0.now ++ result.1.now ≡ word.now }
 {
-    // Where a character of printable ASCII stands behind another, it begins a cluster of its own. So the second byte
+    // Where a character of printable ASCII stands after another, it begins a cluster of its own. So the second byte
     // past the head shows that nothing joins the first one.
     let looked_at = allowed_width.saturating_add(2).min(word.len());
     if is_printable(&word.as_bytes()[..looked_at]) {

@@ -63,7 +63,7 @@ pub fn leaves_sequence_open(text: &str) -> bool
     is_open
 }
 
-/// The sequence at a text's front, and what is behind it.
+/// The sequence at a text's front, and what is after it.
 pub(crate) fn split_sequence(text: &str) -> Option<(&str, &str)>
     ensures some { IfSome result (λ halves. parts text.now ≡ sequence_part halves.0.now ∷ parts halves.1.now) }
     ensures whole { IfSome result (λ halves. IsUtf8 halves.1.now) }
@@ -76,7 +76,7 @@ pub(crate) fn split_sequence(text: &str) -> Option<(&str, &str)>
     Some(text.split_at(len))
 }
 
-/// The visible text up to the next ESC, of a text that has no sequence at its front, and what is behind it.
+/// The visible text up to the next ESC, of a text that has no sequence at its front, and what is after it.
 pub(crate) fn split_visible(text: &str) -> (&str, &str)
     requires { sequence_len text.now ≡ 0 }
     ensures parts { parts text.now ≡ map visible_part result.0.now ++ parts result.1.now }

@@ -37,17 +37,17 @@ pub fn is_printable(bytes: &[u8]) -> bool
     printable
 }
 
-/// How many bytes of a word's end show that the word is wider than these places: each end of the word with at least so
+/// How many bytes of a word's end show that the word is wider than these columns: each end of the word with at least so
 /// many bytes is wider. Where none shows it, more bytes than the word has.
-pub fn wide_end(word: &str, places: usize) -> usize
-    ensures { IsWideFrom places result word.now }
+pub fn wide_end(word: &str, columns: usize) -> usize
+    ensures { IsWideFrom columns result word.now }
 {
-    let mut wide = first_wide_end(word, places);
+    let mut wide = first_wide_end(word, columns);
     let mut narrow = wide / 2;
     while wide <= word.len() && wide - narrow > CLOSE {
         let middle = narrow + (wide - narrow) / 2;
         let (_, end) = word.split_at(word.floor_char_boundary(word.len() - middle));
-        if end.len() < wide && shows_wide(end, places) {
+        if end.len() < wide && shows_wide(end, columns) {
             wide = end.len();
         } else {
             narrow = middle;
@@ -57,30 +57,30 @@ pub fn wide_end(word: &str, places: usize) -> usize
 }
 
 // The same, of ends that double.
-fn first_wide_end(word: &str, places: usize) -> usize
-    ensures { IsWideFrom places result word.now }
+fn first_wide_end(word: &str, columns: usize) -> usize
+    ensures { IsWideFrom columns result word.now }
 {
     let mut size = CLOSE;
     while size < word.len() {
         let (_, end) = word.split_at(word.floor_char_boundary(word.len() - size));
-        if shows_wide(end, places) {
+        if shows_wide(end, columns) {
             return end.len();
         }
         size *= 2;
     }
-    if shows_wide(word, places) {
+    if shows_wide(word, columns) {
         word.len()
     } else {
         word.len() + 1
     }
 }
 
-// What stands before an end takes at most one of its places away, so an end that is wider than one place more shows that
+// What stands before an end takes at most one of its columns away, so an end that is wider than one column more shows that
 // the whole is wide.
-fn shows_wide(end: &str, places: usize) -> bool
-    ensures { result ≡ nat_lt (places + 1) (measure end.now) }
+fn shows_wide(end: &str, columns: usize) -> bool
+    ensures { result ≡ nat_lt (columns + 1) (measure end.now) }
 {
-    measure_text_width(end) > places.saturating_add(1)
+    measure_text_width(end) > columns.saturating_add(1)
 }
 
 /// The terminal columns that a character takes as a text.

@@ -5,7 +5,7 @@ ghost use Rattle.comfy_parts.specs.Cursor.{open_at_end, seen_ahead};
 ghost use Rattle.comfy_parts.specs.Text.{measure};
 ghost use Rattle.comfy_parts.specs.VisibleLines.{CellLine, line_texts};
 ghost use Rattle.comfy_parts.specs.VisibleText.{visible_text};
-ghost use Rattle.comfy_parts.specs.Written.{wrapped_places, written_at, written_of_text};
+ghost use Rattle.comfy_parts.specs.Written.{wrapped_positions, written_at, written_of_text};
 
 use crate::content_split::cursor::Cursor;
 use crate::content_split::display_info::ColumnDisplayInfo;
@@ -29,13 +29,13 @@ pub(crate) fn written_lines(
 {
     let mut lines = Vec::new(alloc);
     let mut cursor = Cursor::new(alloc);
-    for place in 0..texts.len() {
-        cursor.begin(texts[place].as_str())?;
+    for position in 0..texts.len() {
+        cursor.begin(texts[position].as_str())?;
         push_lines(
             &mut lines,
             &mut cursor,
-            seen[place].as_str(),
-            widths[place],
+            seen[position].as_str(),
+            widths[position],
             info,
             delimiter,
         )?;
@@ -73,7 +73,7 @@ fn push_wrapped(
     delimiter: char,
 ) -> Result<()>
     requires { seen.now ≡ seen_ahead cursor.old }
-    ensures lines { OnOk result (map string_bytes lines.new.items ≡ map string_bytes lines.old.items ++ written_at cursor.old (wrapped_places info.now.content_width delimiter seen.now)) }
+    ensures lines { OnOk result (map string_bytes lines.new.items ≡ map string_bytes lines.old.items ++ written_at cursor.old (wrapped_positions info.now.content_width delimiter seen.now)) }
     ensures stays { OnOk result (open_at_end cursor.new ≡ open_at_end cursor.old) }
 {
     for line in wrapped_lines(seen, info, delimiter) {

@@ -5,19 +5,19 @@ use Rattle.comfy_parts.specs.Wrapping.{bytes_taken, head_or_first}
 use Rattle.comfy_parts.proofs.FollowingLemmas.{line_end-wide, line_end-narrow}
 use Rattle.comfy_parts.proofs.content_split.ends.line_end.Goals as goal
 
-pub returns-then-places-width : goal.returns-then-places-width
-returns-then-places-width c =
+pub returns-then-columns-width : goal.returns-then-columns-width
+returns-then-columns-width c =
     let word = take c.args.first c.args.text.now in
-    let wide : nat_lt c.args.width (measure word) ≡ true = grind (arith, nat_tests, c.requires.places.wider c.if-places-width.true) in
+    let wide : nat_lt c.args.width (measure word) ≡ true = grind (arith, nat_tests, c.requires.columns.wider c.if-columns-width.true) in
     c.end_within.ensures ∙ ap (λ t. length (head_or_first c.args.width t)) c.split_at.ensures.front
     ∙ sym (line_end-wide c.args.width c.args.delimiter c.args.text.now word (drop c.args.first c.args.text.now) c.requires.element wide)
 
 pub returns : goal.returns
 returns c =
     let word = take c.args.first c.args.text.now in
-    let places = c.requires.places.fits c.if-places-width.false in
-    let narrow : nat_lt c.args.width (measure word) ≡ false = grind (arith, nat_tests, places, c.if-places-width.false) in
+    let columns = c.requires.columns.fits c.if-columns-width.false in
+    let narrow : nat_lt c.args.width (measure word) ≡ false = grind (arith, nat_tests, columns, c.if-columns-width.false) in
     let long : length word ≡ c.args.first = ap length (sym c.split_at.ensures.front) ∙ c.split_at.ensures.front_len in
     let taken = c.taken_behind.ensures.value c.requires.element.others (rw c.split_at.ensures.back c.requires.element.follow) in
-    ap₂ (λ a b. a + b) (sym long) (taken ∙ ap (λ n. bytes_taken c.args.width c.args.delimiter n c.requires.element.others) places)
+    ap₂ (λ a b. a + b) (sym long) (taken ∙ ap (λ n. bytes_taken c.args.width c.args.delimiter n c.requires.element.others) columns)
     ∙ sym (line_end-narrow c.args.width c.args.delimiter c.args.text.now word (drop c.args.first c.args.text.now) c.requires.element narrow)

@@ -28,7 +28,7 @@ returns-then-ends_element-clause-element c =
     let whole : IsUtf8 c.split_at.result.1.now = subst IsUtf8 (sym c.split_at.ensures.back) (IsUtf8-drop text n c.utf8.text place) in
     first-printable d text c.split_at.result.0.now c.split_at.result.1.now c.ranges.delimiter.0 c.utf8.text splits whole printable none (c.ends_element.ensures c.if-ends_element.true)
 
-pub returns-then-ends_element-clause-places : goal.returns-then-ends_element-clause-places
-returns-then-ends_element-clause-places c =
+pub returns-then-ends_element-clause-columns : goal.returns-then-ends_element-clause-columns
+returns-then-ends_element-clause-columns c =
     let front_is = ap (take c.printable_run.result) (c.as_bytes.ensures.value) ∙ sym c.split_at.ensures.front in
     sym (measure-printable c.split_at.result.0.now (ap is_printable_ascii (sym front_is) ∙ c.printable_run.ensures.printable))

@@ -5,20 +5,20 @@ use Rattle.comfy_parts.specs.Text.{measure}
 use Rattle.comfy_parts.proofs.FollowingLemmas.{follow-next, stripped, taken-more, taken-part}
 use Rattle.comfy_parts.proofs.content_split.ends.taken_behind.Goals as goal
 
-pub returns-then-places-saturating_sub : goal.returns-then-places-saturating_sub
-returns-then-places-saturating_sub c =
+pub returns-then-columns-saturating_sub : goal.returns-then-columns-saturating_sub
+returns-then-columns-saturating_sub c =
     let d = c.args.delimiter in
     let rest = c.loop-filled.rest.now in
-    let next = c.measured_element-places.result.0.now in
+    let next = c.measured_element-columns.result.0.now in
     let splits = stripped d rest c.in-Some.others.now c.in-Some.ensures.cases in
     let bytes = ap length splits ∙ length-append (encode_utf8 d) c.in-Some.others.now in
-    let more = length-append next c.measured_element-places.result.1.now in
-    let joined = ap length c.measured_element-places.ensures.element.joined in
+    let more = length-append next c.measured_element-columns.result.1.now in
+    let joined = ap length c.measured_element-columns.ensures.element.joined in
     record {
       value = λ es follow.
           let before = c.loop-filled.invariant.taken es follow in
-          let step = follow-next d before.0 rest c.in-Some.others.now next c.measured_element-places.result.1.now before.1 splits c.measured_element-places.ensures.element in
-          let part = ap (bytes_taken c.args.width d c.loop-filled.filled) step.1 ∙ taken-part c.args.width d c.loop-filled.filled next step.0 (omega arith) (omega (arith, c.measured_element-places.ensures.places)) in
+          let step = follow-next d before.0 rest c.in-Some.others.now next c.measured_element-columns.result.1.now before.1 splits c.measured_element-columns.ensures.element in
+          let part = ap (bytes_taken c.args.width d c.loop-filled.filled) step.1 ∙ taken-part c.args.width d c.loop-filled.filled next step.0 (omega arith) (omega (arith, c.measured_element-columns.ensures.columns)) in
           let sum = before.2 in
           omega (arith, part, sum, c.part_of_next.ensures.value);
       bound = omega (arith, bytes, more, joined);
@@ -28,19 +28,19 @@ pub loop-filled-preserved : goal.loop-filled-preserved
 loop-filled-preserved c =
     let d = c.args.delimiter in
     let rest = c.loop-filled.rest.now in
-    let next = c.measured_element-places.result.0.now in
+    let next = c.measured_element-columns.result.0.now in
     let splits = stripped d rest c.in-Some.others.now c.in-Some.ensures.cases in
     let bytes = ap length splits ∙ length-append (encode_utf8 d) c.in-Some.others.now in
-    let more = length-append next c.measured_element-places.result.1.now in
-    let joined = ap length c.measured_element-places.ensures.element.joined in
+    let more = length-append next c.measured_element-columns.result.1.now in
+    let joined = ap length c.measured_element-columns.ensures.element.joined in
     record {
-      utf8 = c.measured_element-places.ensures.element.whole_behind;
+      utf8 = c.measured_element-columns.ensures.element.whole_behind;
       bound = omega (arith, bytes, more, joined);
       taken = λ es follow.
           let before = c.loop-filled.invariant.taken es follow in
-          let step = follow-next d before.0 rest c.in-Some.others.now next c.measured_element-places.result.1.now before.1 splits c.measured_element-places.ensures.element in
-          let all = ap (bytes_taken c.args.width d c.loop-filled.filled) step.1 ∙ taken-more c.args.width d c.loop-filled.filled next step.0 (omega arith) (omega (arith, c.measured_element-places.ensures.places)) in
-          let filled : c.loop-filled.filled + (c.measured_element-places.result.2 + c.char_width.result) ≡ c.loop-filled.filled + measure next + measure (encode_utf8 d) = omega (arith, c.measured_element-places.ensures.places, c.char_width.ensures.value) in
+          let step = follow-next d before.0 rest c.in-Some.others.now next c.measured_element-columns.result.1.now before.1 splits c.measured_element-columns.ensures.element in
+          let all = ap (bytes_taken c.args.width d c.loop-filled.filled) step.1 ∙ taken-more c.args.width d c.loop-filled.filled next step.0 (omega arith) (omega (arith, c.measured_element-columns.ensures.columns)) in
+          let filled : c.loop-filled.filled + (c.measured_element-columns.result.2 + c.char_width.result) ≡ c.loop-filled.filled + measure next + measure (encode_utf8 d) = omega (arith, c.measured_element-columns.ensures.columns, c.char_width.ensures.value) in
           let same = ap (λ n. bytes_taken c.args.width d n step.0) filled in
           let sum = before.2 in
           (step.0, step.2, omega (arith, all, same, sum, bytes, more, joined));

@@ -1,7 +1,7 @@
 use Rattle.std.proofs.Common.{◌+◌, length, sym, subst}
-use Rattle.comfy_parts.specs.Following.{ArePlacesUpTo, IsWideFrom}
+use Rattle.comfy_parts.specs.Following.{AreColumnsUpTo, IsWideFrom}
 use Rattle.comfy_parts.proofs.FollowingLemmas.{first-at}
-use Rattle.comfy_parts.proofs.WideEndLemmas.{exact-places, first-is, none-wider}
+use Rattle.comfy_parts.proofs.WideEndLemmas.{exact-columns, first-is, none-wider}
 use Rattle.comfy_parts.proofs.content_split.lines.lines_behind.Goals as goal
 
 pub invariant_of-result : goal.invariant_of-result
@@ -16,9 +16,9 @@ invariant_of-result c =
       narrow = c.requires.narrow;
       whole = c.line_start-rest.utf8;
       begins_otherwise = c.line_start-rest.ensures.begins;
-      place = at.0;
+      boundary = at.0;
       element = at.1;
-      places_are = subst (ArePlacesUpTo w c.places_up_to.result) same c.places_up_to.ensures;
+      columns_are = subst (AreColumnsUpTo w c.columns_up_to.result) same c.columns_up_to.ensures;
       wide_from = subst (IsWideFrom w c.wide_end-wide.result) same c.wide_end-wide.ensures;
     }
 
@@ -27,15 +27,15 @@ invariant_of-result-2 c =
     let w = c.args.width in
     let d = c.args.delimiter in
     let rest = c.line_start-rest.result.now in
-    let word = c.measured_element-places.result.0.now in
-    let at = first-at d rest word c.measured_element-places.result.1.now c.measured_element-places.ensures.element in
-    let same = sym (first-is d rest word c.measured_element-places.result.1.now c.measured_element-places.ensures.element) in
+    let word = c.measured_element-columns.result.0.now in
+    let at = first-at d rest word c.measured_element-columns.result.1.now c.measured_element-columns.ensures.element in
+    let same = sym (first-is d rest word c.measured_element-columns.result.1.now c.measured_element-columns.ensures.element) in
     record {
       narrow = c.requires.narrow;
       whole = c.line_start-rest.utf8;
       begins_otherwise = c.line_start-rest.ensures.begins;
-      place = at.0;
+      boundary = at.0;
       element = at.1;
-      places_are = subst (ArePlacesUpTo w c.measured_element-places.result.2) same (exact-places w c.measured_element-places.result.2 word c.measured_element-places.ensures.places);
+      columns_are = subst (AreColumnsUpTo w c.measured_element-columns.result.2) same (exact-columns w c.measured_element-columns.result.2 word c.measured_element-columns.ensures.columns);
       wide_from = subst (IsWideFrom w (length word + 1)) same (none-wider w word);
     }

@@ -14,5 +14,5 @@ returns-then-shows_wide c =
     let end = c.split_at.result.1.now in
     let joins = sym (take-append-drop at word) ∙ ap (λ t. take at word ++ t) (sym c.split_at.ensures.back) in
     let utf8 : IsUtf8 end = subst IsUtf8 (sym c.split_at.ensures.back) (IsUtf8-drop word at c.utf8.word c.floor_char_boundary.ensures.boundary) in
-    let wide : c.args.places + 1 < measure end = grind (arith, nat_tests, c.if-shows_wide.ensures) in
-    wide-from c.args.places word (take at word) end joins utf8 wide
+    let wide : c.args.columns + 1 < measure end = grind (arith, nat_tests, c.if-shows_wide.ensures) in
+    wide-from c.args.columns word (take at word) end joins utf8 wide

@@ -3,7 +3,7 @@ use Rattle.std.specs.Prelude.{IsUtf8}
 use Rattle.comfy_parts.specs.Text.{Text}
 use Rattle.comfy_parts.specs.Wrapping.{wrapped}
 use Rattle.comfy_parts.specs.Cursor.{IsBehindGap, seen_ahead}
-use Rattle.comfy_parts.specs.Written.{wrapped_places, written_at}
+use Rattle.comfy_parts.specs.Written.{wrapped_positions, written_at}
 use Rattle.comfy_parts.proofs.CursorLemmas.{end-stands}
 use Rattle.comfy_parts.proofs.StartLemmas.{pushed}
 use Rattle.comfy_parts.proofs.WrittenLemmas.{next_line, written-none}
@@ -28,7 +28,7 @@ loop-line-preserved c =
     let next = next_line w d old mid line c.next.new.self c.ranges.delimiter.0 c.loop-line.invariant.whole gap lines in
     let stands = c.in_ok-take_line.ensures.stands in
     let seen = c.in_ok-take_line.ensures.seen in
-    let later = written_at new (wrapped_places w d (seen_ahead new)) in
+    let later = written_at new (wrapped_positions w d (seen_ahead new)) in
     let one = next.written_is new stands seen ∙ ap (λ (t : Text). t ∷ later) (sym c.in_ok-take_line.ensures.written) in
     record {
       whole = subst IsUtf8 (sym seen) next.rest_whole;

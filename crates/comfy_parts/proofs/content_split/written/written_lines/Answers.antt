@@ -10,8 +10,8 @@ pub push_lines-requires-clause-seen : goal.push_lines-requires-clause-seen
 push_lines-requires-clause-seen c =
     let texts = c.args.texts.now in
     let seens = c.args.seen.now in
-    c.as_str-in-loop-place.ensures.value
-    ∙ seen_at string_bytes texts seens c.loop-place.place c.index-texts-place.result c.index-seen-place.result c.requires.seen c.loop-place-test.true c.index-texts-place.is c.index-seen-place.is
+    c.as_str-in-loop-position.ensures.value
+    ∙ seen_at string_bytes texts seens c.loop-position.position c.index-texts-position.result c.index-seen-position.result c.requires.seen c.loop-position-test.true c.index-texts-position.is c.index-seen-position.is
     ∙ ap visible_text (sym c.as_str.ensures.value)
     ∙ ap seen_ahead (sym c.in_ok-begin.ensures)
 
@@ -19,21 +19,21 @@ pub push_lines-requires-clause-width : goal.push_lines-requires-clause-width
 push_lines-requires-clause-width c =
     let texts = c.args.texts.now in
     let seens = c.args.seen.now in
-    width_at string_bytes texts seens c.args.widths.now c.loop-place.place c.index-seen-place.result c.requires.seen c.requires.widths c.loop-place-test.true c.index-seen-place.is
-    ∙ ap measure (sym c.as_str-in-loop-place.ensures.value)
+    width_at string_bytes texts seens c.args.widths.now c.loop-position.position c.index-seen-position.result c.requires.seen c.requires.widths c.loop-position-test.true c.index-seen-position.is
+    ∙ ap measure (sym c.as_str-in-loop-position.ensures.value)
 
-pub loop-place-preserved : goal.loop-place-preserved
-loop-place-preserved c =
+pub loop-position-preserved : goal.loop-position-preserved
+loop-position-preserved c =
     let w = c.args.info.now.content_width in
     let d = c.args.delimiter in
     let texts = c.args.texts.now in
-    let place = c.loop-place.place in
+    let position = c.loop-position.position in
     let many = length-map texts string_bytes in
-    next_text w d (map string_bytes texts) (map string_bytes c.loop-place.lines.items) (map string_bytes c.push_lines.new.lines.items) place c.as_str.result.now c.loop-place.cursor c.begin.new.self c.push_lines.new.cursor
-    (omega (arith, many, c.loop-place-test.true))
-    (text_at string_bytes texts place c.index-texts-place.result c.loop-place-test.true c.index-texts-place.is ∙ sym c.as_str.ensures.value)
+    next_text w d (map string_bytes texts) (map string_bytes c.loop-position.lines.items) (map string_bytes c.push_lines.new.lines.items) position c.as_str.result.now c.loop-position.cursor c.begin.new.self c.push_lines.new.cursor
+    (omega (arith, many, c.loop-position-test.true))
+    (text_at string_bytes texts position c.index-texts-position.result c.loop-position-test.true c.index-texts-position.is ∙ sym c.as_str.ensures.value)
     c.in_ok-begin.ensures c.in_ok-push_lines.ensures.lines c.in_ok-push_lines.ensures.stays
-    ∙ c.loop-place.invariant
+    ∙ c.loop-position.invariant
 
 pub returns : goal.returns
 returns c =
@@ -41,6 +41,6 @@ returns c =
     let d = c.args.delimiter in
     let texts = c.args.texts.now in
     let many = length-map texts string_bytes in
-    sym (texts_written w d (map string_bytes texts) (map string_bytes c.loop-place.lines.items) c.loop-place.place (open_at_end c.loop-place.cursor) (omega (arith, many, c.loop-place-test.false)))
-    ∙ c.loop-place.invariant
+    sym (texts_written w d (map string_bytes texts) (map string_bytes c.loop-position.lines.items) c.loop-position.position (open_at_end c.loop-position.cursor) (omega (arith, many, c.loop-position-test.false)))
+    ∙ c.loop-position.invariant
     ∙ cell-written w d (map string_bytes texts)

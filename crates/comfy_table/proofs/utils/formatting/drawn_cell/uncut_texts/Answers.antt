@@ -1,5 +1,5 @@
 use Rattle.std.proofs.lemmas.Grind.{common_steps}
-use Rattle.std.proofs.Common.{ap, arith, ◌∙◌, map, string_bytes, take}
+use Rattle.std.proofs.Common.{arith}
 use Rattle.comfy_table.proofs.DrawnTextLemmas.{truncated}
 use Rattle.comfy_table.proofs.utils.formatting.drawn_cell.uncut_texts.Goals as goal
 

@@ -2,7 +2,6 @@ use Rattle.std.proofs.lemmas.Grind.{common_steps}
 use Rattle.std.proofs.Common.{◌≡◌, List, [], ◌++◌, true, map, take, refl, ap, ap₂, string_bytes, nat_lt, ◌∙◌, arith}
 use Rattle.std.specs.List.{join_by}
 use Rattle.std.specs.Prelude.{if◌then◌else◌, option_to_list}
-use Rattle.comfy_parts.specs.CellValue.{RowValue}
 use Rattle.comfy_parts.specs.Text.{Text}
 use Rattle.comfy_parts.specs.declared.style.table_style.ContentLineStyle.{ContentLineStyle}
 use Rattle.comfy_table.proofs.JoinLemmas.{joined_all, joined_more}

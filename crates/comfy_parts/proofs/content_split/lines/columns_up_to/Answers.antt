@@ -1,6 +1,6 @@
 use Rattle.std.proofs.Common.{arith}
 use Rattle.comfy_parts.proofs.WideEndLemmas.{known-wide}
-use Rattle.comfy_parts.proofs.content_split.lines.places_up_to.Goals as goal
+use Rattle.comfy_parts.proofs.content_split.lines.columns_up_to.Goals as goal
 
 pub returns-then-word-wide : goal.returns-then-word-wide
 returns-then-word-wide c =
