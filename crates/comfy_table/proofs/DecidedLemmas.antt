@@ -68,7 +68,7 @@ module _ (room : ℕ) (needs : List ColumnNeeds) (start lower settled shrunk : B
 
   -- the level is as the arrangement wants it
   level_found : IsLevel (room_of_others room needs steps.lower) (others room needs steps.lower) steps.level
-  level_found = grind (arith, room_by_lower, undecided_left, given_by_lower)
+  level_found = grind (arith, undecided_left, given_by_lower)
 
   -- what it settles is taken
   settled_taken : HasTaken settled_ones lower settled
@@ -160,4 +160,4 @@ module _ (room : ℕ) (needs : List ColumnNeeds) (start lower settled shrunk : B
 
   -- in a room of sixteen bits they are numbers of sixteen bits
   pub has_room_to_spread : room ≤ 65535 → HasRoomToSpread shrunk
-  has_room_to_spread small = grind (arith, nat_tests, room_within, All-weaker, widths_within)
+  has_room_to_spread small = grind (arith, widths_within)

@@ -37,7 +37,7 @@ pub length-infos_from : (n : ℕ) (columns : List ColumnValue) (widths : List �
 length-infos_from n [] [] same = refl
 length-infos_from n [] (w ∷ widths) same = refl
 length-infos_from n (column ∷ columns) [] same = absurd (omega (arith, same))
-length-infos_from n (column ∷ columns) (w ∷ widths) same = grind (arith, columns, length-infos_from (n + 1) columns widths (omega (arith, same)))
+length-infos_from n (column ∷ columns) (w ∷ widths) same = grind (arith, length-infos_from (n + 1) columns widths (omega (arith, same)))
 
 -- a drawn column has a place, and what is known of its position and its delimiter
 pub record IsKnownInfo (Known : ℕ → Option ℕ → Type 0) (p : ℕ × ColumnInfo) : Type 0 where

@@ -41,7 +41,7 @@ get_seen false (cell ∷ cells) (suc i) = get_seen false cells i
 
 -- so are all of them
 pub seen_rows-is : (table : TableValue) → seen_rows table ≡ map (row_seen table.custom_styling) (header_and_rows table)
-seen_rows-is table = grind (arith, option_to_list, header_seen, rows_seen, option_map)
+seen_rows-is table = grind (arith, rows_seen)
 
 -- parts of what a function gives, joined
 pub join_by-map : {X Y Z : Type 0} (f : Y → List Z) (separator : List Z) (g : X → Y) (xs : List X) → join_by f separator (map g xs) ≡ join_by (λ x. f (g x)) separator xs

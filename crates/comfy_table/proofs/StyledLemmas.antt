@@ -21,7 +21,7 @@ use Rattle.comfy_table.specs.TableValue.{TableValue, should_style}
 
 -- a digit is a parameter
 parameter-glyph : (n : ℕ) → is_parameter (digit_glyph false (n % 10)) ≡ true
-parameter-glyph n = grind (arith, nat_lt, nat_tests)
+parameter-glyph n = grind arith
 
 -- digits before parameters are parameters
 digits_onto-parameters : (k n : ℕ) (acc : Text) → list_all is_parameter acc ≡ true → list_all is_parameter (digits_onto k 10 false n acc) ≡ true
@@ -98,7 +98,7 @@ Shows-when false text shows = Shows-nil
 
 -- what stands behind a styled text shows nothing
 Shows-style_end : (cell : CellValue) → Shows [] (style_end cell)
-Shows-style_end cell = grind (arith, Shows, Shows-append, Shows-when, Shows-sequence)
+Shows-style_end cell = grind arith
 
 -- a styled text shows what the text shows
 pub Shows-styled : (cell : CellValue) (shown text : Text) → Shows shown text → Shows shown (styled cell text)

@@ -22,11 +22,11 @@ IsBehind n place passed i = (i < n) × (((i < place) × (place ≤ i + passed)) 
 
 -- one place on, it is the place itself or was behind it before
 behind_one_more : (n place passed i : ℕ) → place < n → IsBehind n (place_behind n place) (passed + 1) i → (place ≡ i) ⊎ IsBehind n place passed i
-behind_one_more n place passed i within = grind (arith, nat_lt, ⊎_elim, eq-or-lt_of_le, ltb-false)
+behind_one_more n place passed i within = grind arith
 
 -- what was behind the place, and the place itself, are behind the next one
 behind_next : (n place passed i : ℕ) → place < n → passed < n → IsBehind n place passed i ⊎ (place ≡ i) → IsBehind n (place_behind n place) (passed + 1) i
-behind_next n place passed i within fewer behind = grind (arith, within, ltb-false)
+behind_next n place passed i within fewer behind = grind arith
 
 -- all places are behind where as many were passed
 all_behind : (n place passed i : ℕ) → place < n → n ≤ passed → i < n → IsBehind n place passed i
@@ -35,7 +35,7 @@ all_behind n place passed i within all below =
 
 -- the places since one that is behind are behind
 between_behind : (n place passed from i : ℕ) → place < n → i < n → IsBehind n place passed from ⊎ (place ≡ from) → IsBetween from place i → IsBehind n place passed i
-between_behind n place passed from i within below since between = grind (arith, ⊎_elim)
+between_behind n place passed from i within below since between = grind arith
 
 -- the last one taken is that from which the next is looked for
 place_after-push : (candidates : List Placed) (offer : List Share → Placed → Option ℕ) (from : ℕ) (order : List Share) (t : Share) → place_after candidates offer from (order ++ t ∷ []) ≡ t.0
@@ -57,7 +57,7 @@ count-set (Some w ∷ widths) (suc i) width left = count-set widths i width left
 
 -- one undecided column fewer outweighs the places that are passed
 pub fewer_undecided : (count count' n passed passed' : ℕ) → count' + 1 ≡ count → passed < n → count' * (n + 1) + (n - passed') < count * (n + 1) + (n - passed)
-fewer_undecided count count' n passed passed' fewer below = grind (arith, suc-mul)
+fewer_undecided count count' n passed passed' fewer below = grind arith
 
 -- a column that takes a width is undecided
 pub record Takes (rule : Rule) (average : ℕ) (needs : List ColumnNeeds) (widths : List (Option ℕ)) (place width : ℕ) : Type 0 where
@@ -69,11 +69,11 @@ pub record Takes (rule : Rule) (average : ℕ) (needs : List ColumnNeeds) (width
 module _ (rule : Rule) (average : ℕ) (needs : List ColumnNeeds) (widths : List (Option ℕ)) (place : ℕ) where
   -- the width at a place
   pub width_at-some : (width : ℕ) → width_at rule average needs widths place ≡ Some width → Takes rule average needs widths place width
-  width_at-some width is = grind (arith, nat_tests)
+  width_at-some width is = grind arith
 
   -- without one, an undecided column takes nothing
   pub width_at-none : width_at rule average needs widths place ≡ None → (d : ColumnNeeds) → slice_get needs place ≡ Some d → is_undecided widths place ≡ true → width_by_rule rule average d ≡ None
-  width_at-none is d found left = grind (arith, slice_get)
+  width_at-none is d found left = grind arith
 
 module _ (rule : Rule) (needs : List ColumnNeeds) (old : Budget) where
   -- the columns that may take a width
@@ -96,7 +96,7 @@ module _ (rule : Rule) (needs : List ColumnNeeds) (old : Budget) where
 
   -- at first nothing is taken and nothing passed
   pub turn_starts : (average : ℕ) → average ≡ average_room old → IsTurn old 0 0 average
-  turn_starts average is = grind (arith, ⊎_elim)
+  turn_starts average is = grind arith
 
   module _ (same_length : length old.widths.items ≡ length needs) (now : Budget) (place passed average : ℕ) (turn : IsTurn now place passed average) where
     -- the columns that are left
@@ -134,7 +134,7 @@ module _ (rule : Rule) (needs : List ColumnNeeds) (old : Budget) where
         }
       where
         place_within : place < length needs → place_behind (length needs) place < length needs
-        place_within within = grind (arith, ltb-true, within)
+        place_within within = grind arith
 
     -- where as many places were passed as there are columns, none takes anything any more
     pub turn_ends : length needs ≤ passed → HasTakenInTurn rule needs old now
@@ -176,7 +176,7 @@ module _ (rule : Rule) (needs : List ColumnNeeds) (old : Budget) where
         }
       where
         place_within : place < length needs → place_behind (length needs) place < length needs
-        place_within below = grind (arith, ltb-true)
+        place_within below = grind arith
 
         here_behind : place < length needs → IsBehind (length needs) (place_behind (length needs) place) passed' place
         here_behind below =

@@ -51,7 +51,7 @@ upper-some level column (Some u) width is = grind arith
 -- by a level
 settled-some : (level : Option ℕ) (column : ColumnNeeds) (width : ℕ) → settled_at level column ≡ Some width → 1 ≤ width
 settled-some None column width is = absurd (cc is)
-settled-some (Some level) column width is = grind (arith, upper-some, nat_le)
+settled-some (Some level) column width is = grind arith
 
 -- fixed, by a boundary that the content does not pass
 boundary-some : (content padding : ℕ) (o : Option ℕ) (width : ℕ) → fixed_by_boundary content padding o ≡ Some width → 1 ≤ width

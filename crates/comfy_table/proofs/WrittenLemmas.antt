@@ -49,7 +49,7 @@ seen_take (suc n) (line ∷ lines) = ap (λ (xs : List Text). line.seen ∷ xs) 
 -- lines are cut by what is seen of them
 seen_cut : (height : Option ℕ) (w : ℕ) (indicator : Text) (lines : List CellLine) → seen_of (cut_cell_lines_to_limit height w indicator lines) ≡ cut_to_limit height w indicator (seen_of lines)
 seen_cut None w indicator lines = refl
-seen_cut (Some h) w indicator lines = grind (arith, lines, w, length-map, map-append, seen_take, seen_at)
+seen_cut (Some h) w indicator lines = grind (arith, length-map, map-append, seen_take, seen_at)
 
 -- what holds of each line and of those that are cut
 pub each_cut : (P : CellLine → Type 0) (height : Option ℕ) (w : ℕ) (indicator : Text) (lines : List CellLine) → AllByRecursion P lines → ((k : ℕ) → P (cut_cell_line w indicator (slice_index_or lines k no_line)))

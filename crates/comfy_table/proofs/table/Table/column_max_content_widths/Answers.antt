@@ -13,4 +13,4 @@ loop-position-preserved c =
     ∙ sym (map-range_with_len_more (column_content_width c.args.self.now) 0 c.loop-position.position c.loop-position.position at)
 
 pub returns : goal.returns
-returns c = grind (arith, common_steps)
+returns c = grind arith

@@ -5,4 +5,4 @@ use Rattle.comfy_parts.specs.CellValue.{ColumnValue}
 use Rattle.comfy_table.proofs.table.columns.set_at.Goals as goal
 
 pub returns : goal.returns
-returns c = grind (arith, common_steps, get_or_default, set-set, slice_set)
+returns c = grind (arith, get_or_default, set-set, slice_set)

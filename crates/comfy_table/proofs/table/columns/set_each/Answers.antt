@@ -23,7 +23,7 @@ loop-constraint-preserved-then-position-columns g c =
     record { set = set; position = omega (arith, within, as_many, at, counted, all, ap length set) }
 
 pub loop-constraint-preserved : goal.loop-constraint-preserved
-loop-constraint-preserved g c = grind (arith, common_steps, length-constrained, constrained-past, length-append)
+loop-constraint-preserved g c = grind (arith, constrained-past, length-append)
 
 pub returns : goal.returns
 returns g c =

@@ -22,4 +22,4 @@ loop-position-preserved c =
     ∙ sym (enumerated_more f c.as_slice-columns.result.now c.loop-position.position column c.loop-position-test.true c.index-columns-position.is)
 
 pub returns : goal.returns
-returns c = grind (arith, common_steps, enumerated_all, infos-by_content)
+returns c = grind (arith, enumerated_all, infos-by_content)

@@ -11,7 +11,7 @@ use Rattle.comfy_table.proofs.UndecidedLemmas.{length-with_shares}
 use Rattle.comfy_table.proofs.utils.arrangement.dynamic.dynamic_widths.Goals as goal
 
 pub settle-requires : goal.settle-requires
-settle-requires c = grind (arith, common_steps, length-with_shares, length-map)
+settle-requires c = grind (arith, length-with_shares, length-map)
 
 pub take_in_turn-requires-2-clause-widths : goal.take_in_turn-requires-2-clause-widths
 take_in_turn-requires-2-clause-widths c =

@@ -11,4 +11,4 @@ returns-then-of_header-limit-clause-at_most c =
     omega (arith, longest_line-is table c.args.info.now c.args.position, c.header_longest_line-of_header.ensures)
 
 pub returns : goal.returns
-returns c = grind (arith, common_steps, longest_line-is)
+returns c = grind (arith, longest_line-is)

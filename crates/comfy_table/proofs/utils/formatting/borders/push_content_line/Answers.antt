@@ -24,4 +24,4 @@ loop-position-preserved c =
     ∙ joined_more drawn vertical junction c.args.cells.now c.loop-position.position cell (string_bytes c.push_border.new.text) (string_bytes c.loop-position.text) c.loop-position-test.true c.index-cells-position.is c.loop-position.invariant
 
 pub returns : goal.returns
-returns c = grind (arith, common_steps, joined_all, between_borders-pushed)
+returns c = grind (arith, common_steps, between_borders-pushed)

@@ -11,7 +11,7 @@ use Rattle.comfy_table.specs.TableValue.{seen_cell}
 use Rattle.comfy_table.proofs.utils.formatting.cell_lines.cell_lines.Goals as goal
 
 pub returns-then-all_fit : goal.returns-then-all_fit
-returns-then-all_fit c = grind (arith, common_steps, all_fit)
+returns-then-all_fit c = grind (arith, all_fit)
 
 pub returns : goal.returns
-returns c = grind (arith, common_steps, flat_map-map)
+returns c = grind (arith, flat_map-map)

@@ -6,4 +6,4 @@ use Rattle.comfy_parts.specs.Text.{measure}
 use Rattle.comfy_table.proofs.utils.formatting.cell_lines.push_lines.Goals as goal
 
 pub push_lines_of_text-requires : goal.push_lines_of_text-requires
-push_lines_of_text-requires c = grind (arith, common_steps, map-map, get_or-map)
+push_lines_of_text-requires c = grind (arith, map-map, get_or-map)

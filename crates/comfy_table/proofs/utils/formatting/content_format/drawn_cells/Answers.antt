@@ -35,4 +35,4 @@ returns-clause-cells c =
     c.loop-position.invariant ∙ filtered_all f (λ (p : ℕ × ColumnInfo). not p.1.is_hidden) c.args.infos.now c.loop-position.position c.loop-position-test.false
 
 pub returns-clause-lines : goal.returns-clause-lines
-returns-clause-lines c = grind (arith, common_steps, filtered_all, drawn_lines)
+returns-clause-lines c = grind (arith, filtered_all, drawn_lines)

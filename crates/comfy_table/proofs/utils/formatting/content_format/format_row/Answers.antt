@@ -17,4 +17,4 @@ loop-line-preserved c =
     ∙ sym (map-range_with_len_more line 0 c.loop-line.line c.loop-line.line at)
 
 pub returns : goal.returns
-returns c = grind (arith, common_steps)
+returns c = grind arith

@@ -8,4 +8,4 @@ use Rattle.comfy_table.specs.TableValue.{TableValue}
 use Rattle.comfy_table.proofs.utils.formatting.content_format.row_cell_texts.Goals as goal
 
 pub returns : goal.returns
-returns c = grind (arith, common_steps, texts_kept)
+returns c = grind (arith, texts_kept)

@@ -4,4 +4,4 @@ use Rattle.comfy_table.proofs.DrawnTextLemmas.{truncated}
 use Rattle.comfy_table.proofs.utils.formatting.content_format.uncut_texts.Goals as goal
 
 pub returns-then-len-height : goal.returns-then-len-height
-returns-then-len-height c = grind (arith, common_steps, truncated)
+returns-then-len-height c = grind (arith, truncated)

@@ -7,7 +7,7 @@ use Rattle.comfy_table.specs.TableValue.{TableValue, should_style}
 use Rattle.comfy_table.proofs.utils.formatting.piece.push_piece.Goals as goal
 
 pub returns-then-not-should_style : goal.returns-then-not-should_style
-returns-then-not-should_style c = grind (arith, common_steps, pushed-behind, pushed-as, plain-made)
+returns-then-not-should_style c = grind (arith, plain-made)
 
 pub returns-then-table : goal.returns-then-table
 returns-then-table c =

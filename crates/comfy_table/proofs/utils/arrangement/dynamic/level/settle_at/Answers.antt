@@ -7,4 +7,4 @@ use Rattle.comfy_table.proofs.SettlingLemmas.{undecided_past-none}
 use Rattle.comfy_table.proofs.utils.arrangement.dynamic.level.settle_at.Goals as goal
 
 pub returns : goal.returns
-returns c = grind (arith, common_steps, undecided_past-none)
+returns c = grind (arith, undecided_past-none)

@@ -7,4 +7,4 @@ use Rattle.comfy_table.proofs.utils.arrangement.dynamic.spread.shared_evenly.Goa
 use Rattle.comfy_table.proofs.utils.arrangement.dynamic.spread.shared_evenly.Goals as goal
 
 pub loop-width-preserved : goal.loop-width-preserved
-loop-width-preserved c = grind (arith, common_steps, filled_some, count_some, count_none, filled_none)
+loop-width-preserved c = grind (arith, filled_some, count_some, count_none, filled_none)

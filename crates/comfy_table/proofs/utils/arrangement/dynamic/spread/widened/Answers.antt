@@ -17,4 +17,4 @@ overflow_add-unwrap_or c =
     (λ some. omega (arith, fits some, c.even_part.ensures.at_most, c.unwrap_or.ensures)) (eq-zero-or-pos room)
 
 pub loop-place-preserved : goal.loop-place-preserved
-loop-place-preserved c = grind (arith, common_steps, widened_more)
+loop-place-preserved c = grind (arith, widened_more)

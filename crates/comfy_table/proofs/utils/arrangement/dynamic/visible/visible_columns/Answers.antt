@@ -42,4 +42,4 @@ loop-position-preserved c =
     ]
 
 pub returns : goal.returns
-returns c = grind (arith, common_steps, filtered_all)
+returns c = grind (arith, filtered_all)

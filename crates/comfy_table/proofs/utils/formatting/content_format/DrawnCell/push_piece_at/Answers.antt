@@ -13,7 +13,7 @@ use Rattle.comfy_table.proofs.utils.formatting.content_format.DrawnCell.push_pie
 
 -- there is no line
 pub returns-in_default-get : goal.returns-in_default-get
-returns-in_default-get c = grind (arith, common_steps, get-with_texts, piece_missing, pushed-as)
+returns-in_default-get c = grind (arith, get-with_texts, piece_missing, pushed-as)
 
 pub returns : goal.returns
-returns c = grind (arith, common_steps, get-with_texts, piece_found, pushed-as)
+returns c = grind (arith, get-with_texts, piece_found, pushed-as)

@@ -30,4 +30,4 @@ loop-position-preserved c =
     ∙ ap (λ (lines : List Text). with_written lines start) (joined_more drawn true separator rows position row [] done c.loop-position-test.true c.index-rows-position.is refl)
 
 pub returns : goal.returns
-returns c = grind (arith, common_steps, joined_all)
+returns c = grind (arith, common_steps)

@@ -8,10 +8,10 @@ use Rattle.comfy_table.proofs.utils.arrangement.dynamic.taking.Takers.take_in_tu
 use Rattle.comfy_table.proofs.utils.arrangement.dynamic.taking.Takers.take_in_turn.Goals as goal
 
 pub loop-passed-smaller : goal.loop-passed-smaller
-loop-passed-smaller c = grind (arith, common_steps, slice_set, fewer_undecided, count-set, width_at-some)
+loop-passed-smaller c = grind (arith, fewer_undecided, count-set, width_at-some)
 
 pub loop-passed-preserved : goal.loop-passed-preserved
-loop-passed-preserved c = grind (arith, common_steps, length-map, IsTurn, turn_takes, turn_passes)
+loop-passed-preserved c = grind (arith, length-map, turn_takes, turn_passes)
 
 pub returns : goal.returns
 returns c =
