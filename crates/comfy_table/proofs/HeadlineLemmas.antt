@@ -1,6 +1,6 @@
 -- What a drawing over the table's infos promises.
-use Rattle.std.proofs.Common.{◌≡◌, ◌≤◌, ℕ, ◌+◌, nat_le, not, List, [], ◌∷◌, Option, Some, None, option_to_list, map, zip, slice_index_or, unwrap_or, max, String, refl, ap, sym, subst, ◌∙◌, arith}
-use Rattle.std.proofs.lemmas.List.Elements.{All-cons, All-filter, All-head, All-nil, All-tail, All-weaker}
+use Rattle.std.proofs.Common.{◌≡◌, ◌≤◌, ℕ, ◌+◌, not, List, [], ◌∷◌, Option, Some, None, map, zip, slice_index_or, unwrap_or, max, String, refl, ap, sym, subst, ◌∙◌, arith}
+use Rattle.std.proofs.lemmas.List.Elements.{All-filter, All-head, All-nil, All-tail, All-weaker}
 use Rattle.std.proofs.lemmas.Str.{IsUtf8-string_bytes}
 use Rattle.std.specs.Char.{IsScalar}
 use Rattle.std.specs.List.{All, enumerate_from, slice_get}
@@ -17,7 +17,7 @@ use Rattle.comfy_table.proofs.ListLemmas.{All-at, All-every, All-of_map}
 use Rattle.comfy_table.proofs.StraightLemmas.{straight}
 use Rattle.comfy_table.proofs.CellFitLemmas.{IsWholeCell}
 use Rattle.comfy_table.specs.Straight.{EachCell}
-use Rattle.comfy_table.specs.Arrangement.{AreInfosOf, IsArranged, IsDrawingOf}
+use Rattle.comfy_table.specs.Arrangement.{AreInfosOf, IsArranged}
 use Rattle.comfy_table.proofs.StylingTakenOutLemmas.{styling_taken_out}
 use Rattle.comfy_table.proofs.TableLemmas.{frame_counts}
 use Rattle.comfy_table.proofs.WiderLemmas.{fills_wider_total, keeps_to_wider_total, keeps_to_wider_total_in_full}
@@ -30,10 +30,6 @@ use Rattle.comfy_table.specs.Laws.{IsFreeOfEscapes, count, least_total, line_tot
 use Rattle.comfy_table.specs.Pieces.{visible_infos}
 use Rattle.comfy_table.specs.TableLaws.{wider_total}
 use Rattle.comfy_table.specs.TableValue.{HasWholeTexts, KeepsParts, TableValue, ellipsis, header_and_rows, indicator_of, seen_rows}
-
--- lines that are drawn over the table's infos are its drawing
-pub drawing_of_table : (table : TableValue) (infos : List ColumnInfo) (lines : List Text) → AreInfosOf table infos → lines ≡ drawing_of_infos table infos → IsDrawingOf table lines
-drawing_of_table table infos lines (widths, arranged, is) drawn = (widths, arranged, drawn ∙ ap (drawing_of_infos table) is)
 
 -- the lines of a text are the text, or slices of it
 text_or_slices : (w d : ℕ) (text : Text) → IsScalar d → IsUtf8 text → IsTextOrSlices w d text

@@ -1,15 +1,12 @@
 -- The search for a level: what the columns need at a level grows no more than the room, and where the average no longer passes it the level is found.
-use Rattle.std.proofs.lemmas.Bool.Decides.{nat_tests}
 use Rattle.std.proofs.Common.{◌≡◌, ◌<◌, ◌≤◌, ℕ, suc, ◌+◌, ◌-◌, ◌*◌, ◌/◌, Bool, true, false, cond, ◌==◌, List, [], ◌∷◌, length, max, slice_index_or, sum_by, Option, Some, None, option_map, is_none, unwrap_or, filter, nat_le, refl, ap, ◌∙◌, arith, suc-mul, mul_comm, div-mul-le_self}
-use Rattle.std.specs.Prelude.{◌&&◌, if◌then◌else◌}
+use Rattle.std.specs.Prelude.{◌&&◌}
 use Rattle.std.specs.List.{enumerate_from, cons_option}
-use Rattle.std.proofs.lemmas.Bool.{leb-true, le-leb}
 use Rattle.std.proofs.lemmas.List.Sums.{sum_by-cons}
 use Rattle.std.proofs.lemmas.Nat.{le-div}
 use Rattle.comfy_table.specs.Deciding.{is_undecided, undecided_among, undecided_count}
-use Rattle.comfy_table.specs.Dynamic.{Placed, Share, IsLevel, average, fit_at, places_of, settled_at, settled_shares, total, upper_at, without_shares}
-use Rattle.comfy_table.specs.Widths.{ColumnNeeds, without_padding}
-use Rattle.comfy_table.proofs.LevelLemmas.{below_next}
+use Rattle.comfy_table.specs.Dynamic.{Placed, Share, IsLevel, average, places_of, settled_at, settled_shares, total, without_shares}
+use Rattle.comfy_table.specs.Widths.{ColumnNeeds}
 use Rattle.comfy_table.proofs.ShareLemmas.{count_at, IsOneEach, length-without}
 use Rattle.comfy_table.proofs.StepLemmas.{one_each-places, settled_shares-none}
 use Rattle.comfy_table.proofs.TakingLemmas.{count_at-shares_of}

@@ -1,11 +1,9 @@
 -- The loop in which columns take a width in turn: what it keeps, and what it leads to.
-use Rattle.std.proofs.lemmas.Bool.Decides.{nat_tests}
-use Rattle.std.proofs.Common.{◌≡◌, ◌<◌, ◌≤◌, ℕ, zero, suc, ◌+◌, ◌-◌, ◌*◌, ◌/◌, Bool, true, false, List, [], ◌∷◌, ◌++◌, length, Option, Some, None, slice_get, nat_lt, not, ◌&&◌, ◌==◌, refl, sym, ap, ap₂, ◌∙◌, subst, arith, inl, inr, ⊎_elim, suc-mul}
-use Rattle.std.specs.Prelude.{◌⊎◌, slice_set, if◌then◌else◌, option_and_then}
-use Rattle.std.proofs.lemmas.Bool.{cases_lt, ltb-true, ltb-false, eq-eqb}
+use Rattle.std.proofs.Common.{◌≡◌, ◌<◌, ◌≤◌, ℕ, zero, suc, ◌+◌, ◌-◌, ◌*◌, ◌/◌, true, List, [], ◌∷◌, ◌++◌, length, Option, Some, None, slice_get, not, ◌&&◌, ◌==◌, refl, sym, ap, ap₂, ◌∙◌, subst, arith, inl, inr, ⊎_elim}
+use Rattle.std.specs.Prelude.{◌⊎◌, slice_set}
+use Rattle.std.proofs.lemmas.Bool.{cases_lt, eq-eqb, and_parts}
 use Rattle.std.proofs.lemmas.Option.{slice_get_within}
 use Rattle.std.proofs.lemmas.List.Sums.{sum_by_push}
-use Rattle.std.proofs.Math.Nat.{eq-or-lt_of_le}
 use Rattle.comfy_table.specs.Deciding.{HasTaken, HasTakenInTurn, average_room, is_undecided, offer_by_rule, place_behind, undecided_among, undecided_count, width_at, width_by_rule, with_shares}
 use Rattle.comfy_table.specs.Dynamic.{Placed, Share, going_round, next_taken, total, without_shares}
 use Rattle.comfy_table.specs.Widths.{ColumnNeeds}
@@ -93,10 +91,6 @@ module _ (rule : Rule) (needs : List ColumnNeeds) (old : Budget) where
     pub average_is : average ≡ average_room now
     pub nothing : (i : ℕ) (d : ColumnNeeds) → slice_get needs i ≡ Some d → IsBehind (length needs) place passed i → is_undecided now.widths.items i ≡ true → width_by_rule rule average d ≡ None
     pub since : IsBehind (length needs) place passed (place_after candidates offer 0 order) ⊎ (place ≡ place_after candidates offer 0 order)
-
-  -- at first nothing is taken and nothing passed
-  pub turn_starts : (average : ℕ) → average ≡ average_room old → IsTurn old 0 0 average
-  turn_starts average is = grind arith
 
   module _ (same_length : length old.widths.items ≡ length needs) (now : Budget) (place passed average : ℕ) (turn : IsTurn now place passed average) where
     -- the columns that are left
@@ -188,7 +182,7 @@ module _ (rule : Rule) (needs : List ColumnNeeds) (old : Budget) where
             → (i : ℕ) (d : ColumnNeeds) → slice_get needs i ≡ Some d → IsBehind (length needs) (place_behind (length needs) place) passed' i → is_undecided new.widths.items i ≡ true → width_by_rule rule average' d ≡ None
         nothing_new set i d found behind left =
             let both : (is_undecided now.widths.items i && not (place == i)) ≡ true = sym (set i width) ∙ ap (λ (ws : List (Option ℕ)). is_undecided ws i) (sym widths_are) ∙ left in
-            let parts = both_parts (is_undecided now.widths.items i) (not (place == i)) both in
+            let parts = and_parts (is_undecided now.widths.items i) (not (place == i)) both in
             let other : place ≡ i → width_by_rule rule average' d ≡ None = λ same. let is : (place == i) ≡ true = eq-eqb place i same in absurd (cc (parts.1, is)) in
             ⊎_elim
             (λ one.
@@ -201,8 +195,3 @@ module _ (rule : Rule) (needs : List ColumnNeeds) (old : Budget) where
           where
             place_now : slice_get needs i ≡ Some d → place < length needs
             place_now found = turn.within (omega (arith, slice_get_within needs i d found))
-
-            both_parts : (a b : Bool) → (a && b) ≡ true → (a ≡ true) × (b ≡ true)
-            both_parts true true is = (refl, refl)
-            both_parts true false is = absurd (cc is)
-            both_parts false b is = absurd (cc is)

@@ -1,8 +1,6 @@
-use Rattle.std.proofs.lemmas.Grind.{common_steps}
-use Rattle.std.proofs.Common.{◌≡◌, ℕ, ◌+◌, List, [], ◌∷◌, ◌++◌, length, map, ap, ap₂, arith, sym, ◌∙◌}
+use Rattle.std.proofs.Common.{◌≡◌, ℕ, ◌+◌, List, [], ◌∷◌, ◌++◌, ap₂, arith, sym, ◌∙◌}
 use Rattle.std.proofs.lemmas.List.FromFn.{map-range_with_len_more}
-use Rattle.std.specs.List.{range_with_len}
-use Rattle.comfy_table.specs.TableValue.{TableValue, column_content_width}
+use Rattle.comfy_table.specs.TableValue.{column_content_width}
 use Rattle.comfy_table.proofs.table.Table.column_max_content_widths.Goals as goal
 
 pub loop-position-preserved : goal.loop-position-preserved

@@ -1,4 +1,3 @@
-use Rattle.std.proofs.lemmas.Grind.{common_steps}
 use Rattle.std.proofs.Common.{◌≡◌, ◌++◌, ◌∷◌, [], ℕ, List, Some, length, slice_index_or, slice_set, arith, ap, sym, ◌∙◌}
 use Rattle.std.proofs.lemmas.List.{length-append}
 use Rattle.comfy_parts.specs.CellValue.{ColumnValue, new_column}

@@ -1,6 +1,4 @@
-use Rattle.std.proofs.lemmas.Grind.{common_steps}
-use Rattle.std.proofs.Common.{◌≡◌, List, [], ◌∷◌, ◌++◌, map, ap, ap₂, sym, ◌∙◌, arith}
-use Rattle.std.specs.List.{enumerate_from}
+use Rattle.std.proofs.Common.{◌≡◌, List, [], ◌∷◌, ◌++◌, ap, ap₂, sym, ◌∙◌, arith}
 use Rattle.comfy_parts.specs.CellValue.{ColumnInfo, info_of, visible_among}
 use Rattle.comfy_table.proofs.DisabledLemmas.{info_by_content, infos-by_content, visible_count-among}
 use Rattle.comfy_table.proofs.LoopLemmas.{enumerated_all, enumerated_more}

@@ -1,8 +1,5 @@
-use Rattle.std.proofs.lemmas.Grind.{common_steps}
-use Rattle.std.proofs.Common.{◌≡◌, ap, ◌∙◌, arith}
+use Rattle.std.proofs.Common.{arith}
 use Rattle.comfy_table.proofs.LongestLineLemmas.{longest_line-is}
-use Rattle.comfy_table.specs.LongestLine.{rows_longest_line}
-use Rattle.comfy_table.specs.TableValue.{TableValue}
 use Rattle.comfy_table.proofs.utils.arrangement.longest.column_longest_line.Goals as goal
 
 pub returns-then-of_header-limit-clause-at_most : goal.returns-then-of_header-limit-clause-at_most

@@ -1,14 +1,11 @@
 use Rattle.std.proofs.lemmas.Grind.{common_steps}
 use Rattle.std.proofs.Common.{◌≡◌, [], ◌++◌, ◌&&◌, Bool, string_bytes, ap, ◌∙◌, nat_lt, arith}
 use Rattle.std.specs.Prelude.{if◌then◌else◌}
-use Rattle.comfy_parts.specs.Borders.{draws_left_border, draws_right_border, draws_vertical_lines}
 use Rattle.comfy_parts.specs.Text.{Text}
-use Rattle.comfy_parts.specs.declared.style.table_style.TableStyle.{TableStyle}
 use Rattle.comfy_table.proofs.FrameLemmas.{between_borders-pushed}
-use Rattle.comfy_table.proofs.JoinLemmas.{joined_all, joined_more}
+use Rattle.comfy_table.proofs.JoinLemmas.{joined_more}
 use Rattle.comfy_table.specs.DrawnCells.{piece_at}
 use Rattle.comfy_table.specs.Frame.{character}
-use Rattle.comfy_table.specs.TableValue.{TableValue}
 use Rattle.comfy_table.proofs.utils.formatting.borders.push_content_line.Goals as goal
 
 pub loop-position-preserved : goal.loop-position-preserved

@@ -1,6 +1,4 @@
-use Rattle.std.proofs.lemmas.Grind.{common_steps}
-use Rattle.std.proofs.Common.{◌<◌, ap, sym, ◌∙◌, arith}
-use Rattle.comfy_parts.specs.Text.{head, measure}
+use Rattle.std.proofs.Common.{arith}
 use Rattle.comfy_table.proofs.CutLemmas.{cut_line-wide}
 use Rattle.comfy_table.proofs.utils.formatting.cell_lines.cut_line.Goals as goal
 

@@ -1,8 +1,6 @@
-use Rattle.std.proofs.lemmas.Grind.{common_steps}
-use Rattle.std.proofs.Common.{ℕ, List, slice_index_or, ap, sym, ◌∙◌, string_bytes, String, Global, arith}
+use Rattle.std.proofs.Common.{arith}
 use Rattle.std.proofs.lemmas.List.{get_or-map}
 use Rattle.comfy_table.proofs.JoinLemmas.{map-map}
-use Rattle.comfy_parts.specs.Text.{measure}
 use Rattle.comfy_table.proofs.utils.formatting.cell_lines.push_lines.Goals as goal
 
 pub push_lines_of_text-requires : goal.push_lines_of_text-requires

@@ -1,10 +1,8 @@
-use Rattle.std.proofs.lemmas.Grind.{common_steps}
-use Rattle.std.proofs.Common.{rules, ◌≡◌, ℕ, Bool, true, false, not, List, [], ◌∷◌, ◌++◌, map, ap, ap₂, sym, ◌∙◌, append-nil, arith}
+use Rattle.std.proofs.Common.{rules, ◌≡◌, ℕ, Bool, true, false, not, List, [], ◌∷◌, ◌++◌, ap, ap₂, sym, ◌∙◌, append-nil, arith}
 use Rattle.comfy_parts.specs.CellValue.{ColumnInfo}
 use Rattle.comfy_table.proofs.LoopLemmas.{filtered_all, filtered_more}
-use Rattle.std.specs.List.{range_with_len}
 use Rattle.comfy_table.proofs.DrawnCellLemmas.{drawn_lines}
-use Rattle.comfy_table.specs.DrawnCells.{DrawnCell, drawn_cell, greatest_height, piece_at}
+use Rattle.comfy_table.specs.DrawnCells.{DrawnCell, drawn_cell}
 use Rattle.comfy_table.proofs.utils.formatting.content_format.drawn_cells.Goals.{then-not-is_hidden+in_ok-drawn_cell+in_ok-push, else-not-is_hidden}
 use Rattle.comfy_table.proofs.utils.formatting.content_format.drawn_cells.Goals as goal
 

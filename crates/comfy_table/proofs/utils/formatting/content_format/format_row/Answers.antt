@@ -1,10 +1,8 @@
-use Rattle.std.proofs.lemmas.Grind.{common_steps}
 use Rattle.std.proofs.Common.{◌≡◌, ℕ, ◌+◌, List, [], ◌∷◌, ◌++◌, map, string_bytes, ap, ap₂, sym, ◌∙◌, arith}
 use Rattle.std.proofs.lemmas.List.{map-append}
 use Rattle.std.proofs.lemmas.List.FromFn.{map-range_with_len_more}
-use Rattle.std.specs.List.{range_with_len}
 use Rattle.comfy_parts.specs.Text.{Text}
-use Rattle.comfy_table.specs.DrawnCells.{DrawnCell, greatest_height, piece_at}
+use Rattle.comfy_table.specs.DrawnCells.{piece_at}
 use Rattle.comfy_table.proofs.utils.formatting.content_format.format_row.Goals as goal
 
 pub loop-line-preserved : goal.loop-line-preserved

@@ -1,5 +1,4 @@
-use Rattle.std.proofs.lemmas.Grind.{common_steps}
-use Rattle.std.proofs.Common.{ap, arith, ◌∙◌, map, string_bytes, take}
+use Rattle.std.proofs.Common.{arith}
 use Rattle.comfy_table.proofs.DrawnTextLemmas.{truncated}
 use Rattle.comfy_table.proofs.utils.formatting.content_format.uncut_texts.Goals as goal
 

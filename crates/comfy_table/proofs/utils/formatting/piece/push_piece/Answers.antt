@@ -1,7 +1,6 @@
-use Rattle.std.proofs.lemmas.Grind.{common_steps}
 use Rattle.std.proofs.Common.{rules, ◌≡◌, ◌++◌, true, false, ap, sym, ◌∙◌, string_bytes, arith}
 use Rattle.comfy_parts.specs.Text.{Text, spaces}
-use Rattle.comfy_table.proofs.SpaceLemmas.{all-styled, five-pushed, last-pushed, line-styled, plain-made, pushed-as, pushed-behind, three-pushed}
+use Rattle.comfy_table.proofs.SpaceLemmas.{all-styled, five-pushed, last-pushed, line-styled, plain-made, pushed-behind, three-pushed}
 use Rattle.comfy_table.specs.Styling.{style_begin, style_end}
 use Rattle.comfy_table.specs.TableValue.{TableValue, should_style}
 use Rattle.comfy_table.proofs.utils.formatting.piece.push_piece.Goals as goal

@@ -1,7 +1,6 @@
-use Rattle.std.proofs.lemmas.Grind.{common_steps}
-use Rattle.std.proofs.Common.{◌/◌, ℕ, sym, ap, ◌∙◌, arith}
+use Rattle.std.proofs.Common.{arith}
 use Rattle.std.proofs.lemmas.List.{length-map}
-use Rattle.comfy_table.specs.Deciding.{all_needs, needs_in, undecided_among}
+use Rattle.comfy_table.specs.Deciding.{all_needs, undecided_among}
 use Rattle.comfy_table.specs.TableValue.{TableValue}
 use Rattle.comfy_table.proofs.LevelSearchLemmas.{level_found, needed_at_first, needed_at_next, one_each-undecided, undecided_among-count}
 use Rattle.comfy_table.proofs.utils.arrangement.dynamic.level.level_from.Goals as goal

@@ -1,7 +1,4 @@
-use Rattle.std.proofs.lemmas.Grind.{common_steps}
-use Rattle.std.proofs.Common.{◌<◌, ℕ, ◌+◌, List, [], ◌∷◌, ◌++◌, ap, ap₂, sym, ◌∙◌, arith, drop}
-use Rattle.comfy_table.specs.Deciding.{filled}
-use Rattle.comfy_table.specs.Widths.{even_spread}
+use Rattle.std.proofs.Common.{arith}
 use Rattle.comfy_table.proofs.FilledLemmas.{count_none, count_some, filled_none, filled_some}
 use Rattle.comfy_table.proofs.utils.arrangement.dynamic.spread.shared_evenly.Goals.{in-Some+in_ok-push-in-Some, in-None+in_ok-push-in-None}
 use Rattle.comfy_table.proofs.utils.arrangement.dynamic.spread.shared_evenly.Goals as goal

@@ -1,9 +1,6 @@
-use Rattle.std.proofs.lemmas.Grind.{common_steps}
-use Rattle.std.proofs.Common.{◌<◌, ◌≤◌, ℕ, ◌+◌, List, ◌∷◌, [], ◌++◌, subst, ap, ap₂, sym, ◌∙◌, arith, drop, length, Option, ⊎_elim, eq-zero-or-pos}
+use Rattle.std.proofs.Common.{◌<◌, ◌≤◌, ℕ, ◌+◌, List, subst, sym, arith, Option, ⊎_elim, eq-zero-or-pos}
 use Rattle.std.specs.List.{All}
 use Rattle.comfy_table.specs.Deciding.{decided}
-use Rattle.comfy_table.specs.Dynamic.{added}
-use Rattle.comfy_table.specs.Widths.{even_spread}
 use Rattle.comfy_table.proofs.FilledLemmas.{decided_where, widened_more}
 use Rattle.comfy_table.proofs.utils.arrangement.dynamic.spread.widened.Goals as goal
 

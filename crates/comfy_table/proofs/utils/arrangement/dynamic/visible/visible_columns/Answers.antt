@@ -1,6 +1,4 @@
-use Rattle.std.proofs.lemmas.Grind.{common_steps}
-use Rattle.std.proofs.Common.{rules, ◌≡◌, ℕ, Bool, true, false, not, List, [], ◌∷◌, ◌++◌, map, ap, ap₂, sym, ◌∙◌, append-nil, arith}
-use Rattle.std.specs.List.{enumerate_from, filter}
+use Rattle.std.proofs.Common.{rules, ◌≡◌, ℕ, Bool, true, false, not, List, [], ◌∷◌, ◌++◌, ap, ap₂, sym, ◌∙◌, append-nil, arith}
 use Rattle.std.proofs.lemmas.List.{map-append}
 use Rattle.comfy_parts.specs.CellValue.{ColumnValue, is_hidden_column, visible_among}
 use Rattle.comfy_table.specs.Deciding.{all_needs, needs_in}

@@ -2,10 +2,9 @@ use Rattle.std.proofs.lemmas.Grind.{common_steps}
 use Rattle.std.proofs.Common.{◌≡◌, List, [], ◌++◌, true, map, take, refl, ap, ap₂, string_bytes, nat_lt, ◌∙◌, arith}
 use Rattle.std.specs.List.{join_by}
 use Rattle.std.specs.Prelude.{if◌then◌else◌, option_to_list}
-use Rattle.comfy_parts.specs.CellValue.{RowValue}
 use Rattle.comfy_parts.specs.Text.{Text}
 use Rattle.comfy_parts.specs.declared.style.table_style.ContentLineStyle.{ContentLineStyle}
-use Rattle.comfy_table.proofs.JoinLemmas.{joined_all, joined_more}
+use Rattle.comfy_table.proofs.JoinLemmas.{joined_more}
 use Rattle.comfy_table.proofs.OutputLemmas.{written-append}
 use Rattle.comfy_table.specs.Drawing.{drawn_row}
 use Rattle.comfy_table.specs.Output.{WriterValue, with_written}

@@ -1,9 +1,7 @@
-use Rattle.std.proofs.lemmas.Grind.{common_steps}
-use Rattle.std.proofs.Common.{◌≡◌, ◌<◌, ℕ, ◌+◌, ◌*◌, Some, length, slice_set, ap, sym, subst, ◌∙◌, arith, inl, inr}
+use Rattle.std.proofs.Common.{◌≡◌, length, sym, ◌∙◌, arith}
 use Rattle.std.proofs.lemmas.List.{length-map}
-use Rattle.comfy_table.specs.Deciding.{all_needs, average_room, needs_in, place_behind, undecided_count}
-use Rattle.comfy_table.specs.declared.utils.arrangement.dynamic.budget.Budget.{Budget}
-use Rattle.comfy_table.proofs.TakingInTurnLemmas.{IsTurn, count-set, fewer_undecided, turn_ends, turn_passes, turn_takes, width_at-some}
+use Rattle.comfy_table.specs.Deciding.{all_needs, needs_in}
+use Rattle.comfy_table.proofs.TakingInTurnLemmas.{count-set, fewer_undecided, turn_ends, turn_passes, turn_takes, width_at-some}
 use Rattle.comfy_table.proofs.utils.arrangement.dynamic.taking.Takers.take_in_turn.Goals.{in-Some+then-average_now-average, in-Some+else-average_now-average, in_default}
 use Rattle.comfy_table.proofs.utils.arrangement.dynamic.taking.Takers.take_in_turn.Goals as goal
 
