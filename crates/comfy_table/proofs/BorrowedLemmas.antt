@@ -1,16 +1,10 @@
 -- Lines of a cell that are borrowed from its text.
-use Rattle.std.proofs.Common.{◌≡◌, ◌<◌, ℕ, ◌+◌, zero, suc, true, List, [], ◌∷◌, ◌++◌, Option, Some, None, length, map, take, refl, arith, nat_le}
-use Rattle.std.proofs.lemmas.Option.{slice_get-map}
+use Rattle.std.proofs.Common.{◌≡◌, ◌<◌, ℕ, ◌+◌, zero, suc, true, List, [], ◌∷◌, ◌++◌, Some, None, length, map, take, refl, arith, nat_le}
 use Rattle.std.specs.List.{flat_map, list_all, slice_get}
 use Rattle.comfy_parts.specs.Text.{Text, measure}
 use Rattle.comfy_parts.specs.Wrapping.{lines_of_text}
-use Rattle.comfy_table.specs.BorrowedLines.{IsKnownWidth}
 
 -- ---- widths that were kept
-
--- the width beside a text
-pub known_width : (texts : List Text) (widths : List ℕ) (place : ℕ) (text : Text) (width : Option ℕ) → widths ≡ map measure texts → slice_get texts place ≡ Some text → width ≡ slice_get widths place → IsKnownWidth width text
-known_width texts widths place text width are found is = grind (arith, slice_get-map)
 
 -- where each text fits, the lines are the texts
 pub all_fit : (w d : ℕ) (texts : List Text) → list_all (λ width. nat_le width w) (map measure texts) ≡ true → flat_map (lines_of_text w d) texts ≡ texts

@@ -1,7 +1,7 @@
 -- Each line of a plain cell fits its column, and its piece is as wide as the column.
-use Rattle.std.proofs.Common.{◌≡◌, ◌<◌, ◌≤◌, ℕ, ◌+◌, ◌-◌, Bool, true, false, List, [], ◌∷◌, ◌++◌, length, take, Option, Some, None, nat_le, nat_lt, refl, sym, ap, subst, arith, slice_index_or}
+use Rattle.std.proofs.lemmas.Bool.{cond_both}
+use Rattle.std.proofs.Common.{◌≡◌, ◌<◌, ◌≤◌, ℕ, ◌+◌, ◌-◌, true, List, [], ◌∷◌, ◌++◌, length, take, Option, Some, None, nat_le, nat_lt, refl, sym, ap, subst, arith, slice_index_or}
 use Rattle.std.specs.List.{All}
-use Rattle.std.specs.Prelude.{if◌then◌else◌}
 use Rattle.std.specs.Str.{IsUtf8}
 use Rattle.std.proofs.lemmas.Bool.Decides.{nat_tests}
 use Rattle.std.proofs.lemmas.List.{length-take}
@@ -14,7 +14,7 @@ use Rattle.comfy_parts.specs.Text.{Text, measure, is_printable_ascii, AddsOneCol
 use Rattle.comfy_parts.specs.Wrapping.{lines_of_text}
 use Rattle.comfy_parts.specs.declared.style.cell.CellAlignment.{CellAlignment}
 use Rattle.comfy_parts.specs.declared.style.cell.CellAlignment.TheVariants.{Left, Right, Center}
-use Rattle.comfy_table.proofs.CountLemmas.{HasCount, count-is, HasCount-same, HasCount-append, HasCount-printable, HasCount-utf8, HasCount-spaces}
+use Rattle.comfy_table.proofs.CountLemmas.{HasCount, HasCount-same, HasCount-append, HasCount-printable, HasCount-utf8, HasCount-spaces}
 use Rattle.comfy_table.proofs.ListLemmas.{All-flat_map}
 use Rattle.comfy_table.specs.Laws.{count, IsPlainCell}
 use Rattle.comfy_table.specs.Lines.{cell_lines, cell_delimiter, fitting_indicator, cut_line, cut_to_height, cut_to_limit}
@@ -43,22 +43,13 @@ cell_lines-plain table delimiter w cell places plain =
 
 -- an indicator that is UTF-8 is so as it is written
 fitting_indicator-utf8 : (w : ℕ) (indicator : Text) → IsUtf8 indicator → IsUtf8 (fitting_indicator w indicator)
-fitting_indicator-utf8 w indicator utf8 = by_test (nat_lt w (measure indicator))
-  where
-    by_test : (b : Bool) → IsUtf8 (if b then [] else indicator)
-    by_test true = IsUtf8-nil
-    by_test false = utf8
+fitting_indicator-utf8 w indicator utf8 = cond_both (nat_lt w (measure indicator)) [] indicator IsUtf8 (λ _. IsUtf8-nil) (λ _. utf8)
 
 -- an indicator that is written, and adds one column for each character, measures at most w
 fitting_indicator-le : (w : ℕ) (indicator : Text) → AddsOneColumnEach (fitting_indicator w indicator) → measure (fitting_indicator w indicator) ≤ w
-fitting_indicator-le w indicator = by_test (nat_lt w (measure indicator)) refl
-  where
-    by_test : (b : Bool) → nat_lt w (measure indicator) ≡ b → AddsOneColumnEach (if b then [] else indicator) → measure (if b then [] else indicator) ≤ w
-    by_test true wider even =
-        let none = ap length chars-nil in
-        let measured = even [] refl in
-        omega (arith, none, measured)
-    by_test false fits even = grind (arith, nat_tests)
+fitting_indicator-le w indicator =
+    cond_both (nat_lt w (measure indicator)) [] indicator (λ (text : Text). AddsOneColumnEach text → measure text ≤ w)
+    (λ _ even. let none = ap length chars-nil in let measured = even [] refl in omega (arith, none, measured)) (λ narrow even. grind (arith, nat_tests))
 
 -- a plain line that is cut is counted
 cut_line-counted : (w : ℕ) (indicator line : Text) → IsUtf8 indicator → AddsOneColumnEach (fitting_indicator w indicator) → is_printable_ascii line ≡ true → IsCountedLine w (cut_line w indicator line)
@@ -90,18 +81,14 @@ cut_line-counted w indicator line utf8 even printable =
 -- so are all lines of which some may be cut
 cut_to_height-counted : (h w : ℕ) (indicator : Text) (lines : List Text) → IsUtf8 indicator → (h < length lines → AddsOneColumnEach (fitting_indicator w indicator)) → All (IsPlainLine w) lines
     → All (IsCountedLine w) (cut_to_height h w indicator lines)
-cut_to_height-counted h w indicator lines utf8 even plain = by_test (nat_le (length lines) h) refl
-  where
-    counted : All (IsCountedLine w) lines
-    counted = All-weaker (IsPlainLine w) (IsCountedLine w) (counted-plain w) lines plain
-
-    by_test : (b : Bool) → nat_le (length lines) h ≡ b → All (IsCountedLine w) (if b then lines else take (h - 1) lines ++ cut_line w indicator (slice_index_or lines (h - 1) []) ∷ [])
-    by_test true fits = counted
-    by_test false taller =
-        let below : h < length lines = grind (arith, nat_tests) in
-        let last : IsPlainLine w (slice_index_or lines (h - 1) []) = plain (h - 1) [] (omega (arith, below)) in
-        All-append (IsCountedLine w) (take (h - 1) lines) (cut_line w indicator (slice_index_or lines (h - 1) []) ∷ []) (All-take (IsCountedLine w) (h - 1) lines counted)
-        (All-cons (IsCountedLine w) (cut_line w indicator (slice_index_or lines (h - 1) [])) [] (cut_line-counted w indicator _ utf8 (even below) last.printable) (All-nil (IsCountedLine w)))
+cut_to_height-counted h w indicator lines utf8 even plain =
+    let counted : All (IsCountedLine w) lines = All-weaker (IsPlainLine w) (IsCountedLine w) (counted-plain w) lines plain in
+    cond_both (nat_le (length lines) h) lines _ (All (IsCountedLine w)) (λ _. counted)
+    (λ taller.
+    let below : h < length lines = grind (arith, nat_tests) in
+    let last : IsPlainLine w (slice_index_or lines (h - 1) []) = plain (h - 1) [] (omega (arith, below)) in
+    All-append (IsCountedLine w) (take (h - 1) lines) (cut_line w indicator (slice_index_or lines (h - 1) []) ∷ []) (All-take (IsCountedLine w) (h - 1) lines counted)
+    (All-cons (IsCountedLine w) (cut_line w indicator (slice_index_or lines (h - 1) [])) [] (cut_line-counted w indicator _ utf8 (even below) last.printable) (All-nil (IsCountedLine w))))
 
 -- the lines of a plain cell in a row are counted, where the indicator adds one column for each character if a line is cut
 pub row_cell_lines-counted : (table : TableValue) (row : RowValue) (info : ColumnInfo) (cell : CellValue) → 1 ≤ info.content_width → IsUtf8 table.indicator
@@ -137,8 +124,3 @@ HasCount-plain_piece cell info line counted =
   where
     whole : (left before m free right w : ℕ) → before ≤ free → m ≤ w → free ≡ w - m → left + (before + (m + ((free - before) + right))) ≡ left + w + right
     whole left before m free right w among fits is = omega arith
-
--- so the plain piece has as many characters as the whole width
-pub count-plain_piece : (cell : CellValue) (info : ColumnInfo) (line : Text) → IsCountedLine info.content_width line → count (plain_piece cell info line) ≡ info_width info
-count-plain_piece cell info line counted =
-    count-is (info_width info) (plain_piece cell info line) (HasCount-plain_piece cell info line counted)

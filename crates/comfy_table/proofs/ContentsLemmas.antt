@@ -22,7 +22,7 @@ module _ (table : TableValue) (i : ℕ) where
   -- of the cells at a position as they are seen, row by row
   rows_content_width-is : (rows : List RowValue) → greatest (map cell_content_width (cells_of (map (row_seen table.custom_styling) rows))) ≡ rows_content_width table i rows
   rows_content_width-is [] = refl
-  rows_content_width-is (row ∷ rows) = grind (arith, get_seen, greatest-cons_option, rows_content_width-is rows)
+  rows_content_width-is (row ∷ rows) = grind (arith, get_seen, rows_content_width-is rows)
 
   -- so that of a column, where this is the header
   pub column_content_width-is : (header : Option RowValue) → table.header ≡ header → column_content_width table i ≡ rows_content_width table i (option_to_list header ++ table.rows)

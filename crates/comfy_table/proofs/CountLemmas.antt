@@ -27,7 +27,7 @@ pub record HasCount (n : ℕ) (text : Text) : Type 0 where
 
 -- so it has n characters
 pub count-is : (n : ℕ) (text : Text) → HasCount n text → count text ≡ n
-count-is n text has = grind (arith, nat_tests, chars-nil, append-nil)
+count-is n text has = grind (arith, chars-nil, append-nil)
 
 -- a number that equals n is the same count
 pub HasCount-same : (m n : ℕ) (text : Text) → m ≡ n → HasCount m text → HasCount n text
@@ -75,7 +75,7 @@ HasCount-nil = record { counts = λ rest. omega arith }
 
 -- two texts add what both add
 pub HasCount-append : (m n : ℕ) (xs ys : Text) → HasCount m xs → HasCount n ys → HasCount (m + n) (xs ++ ys)
-HasCount-append m n xs ys front back = grind (arith, nat_tests, append_assoc)
+HasCount-append m n xs ys front back = grind (arith, append_assoc)
 
 -- every text that is UTF-8 has its own characters
 pub HasCount-utf8 : (text : Text) → IsUtf8 text → HasCount (count text) text

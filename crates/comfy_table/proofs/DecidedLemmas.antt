@@ -1,10 +1,9 @@
 -- The steps by which the widths are decided lead to a dynamic arrangement, and its room and widths are small.
-use Rattle.std.proofs.lemmas.Bool.Decides.{nat_tests}
 use Rattle.std.proofs.Common.{◌≡◌, ◌<◌, ◌≤◌, ℕ, ◌+◌, ◌-◌, Bool, List, [], ◌++◌, length, map, max, Option, sum_by, unwrap_or, sym, ap, ◌∙◌, subst, arith}
 use Rattle.std.specs.List.{All}
 use Rattle.std.proofs.lemmas.Bool.{eqb-true}
 use Rattle.std.proofs.lemmas.List.{append_assoc, length-map}
-use Rattle.std.proofs.lemmas.List.Elements.{All-map, All-weaker}
+use Rattle.std.proofs.lemmas.List.Elements.{All-map}
 use Rattle.std.proofs.lemmas.List.FromFn.{length-enumerate_from}
 use Rattle.std.proofs.lemmas.List.Sums.{sum_by-append}
 use Rattle.comfy_table.specs.Deciding.{HasRoomToSpread, HasSettled, HasTaken, HasTakenInTurn, decided, filled, final_widths, offer_by_rule, shared_evenly, undecided_count, widened}
@@ -68,7 +67,7 @@ module _ (room : ℕ) (needs : List ColumnNeeds) (start lower settled shrunk : B
 
   -- the level is as the arrangement wants it
   level_found : IsLevel (room_of_others room needs steps.lower) (others room needs steps.lower) steps.level
-  level_found = grind (arith, room_by_lower, undecided_left, given_by_lower)
+  level_found = grind (arith, undecided_left, given_by_lower)
 
   -- what it settles is taken
   settled_taken : HasTaken settled_ones lower settled
@@ -160,4 +159,4 @@ module _ (room : ℕ) (needs : List ColumnNeeds) (start lower settled shrunk : B
 
   -- in a room of sixteen bits they are numbers of sixteen bits
   pub has_room_to_spread : room ≤ 65535 → HasRoomToSpread shrunk
-  has_room_to_spread small = grind (arith, nat_tests, room_within, All-weaker, widths_within)
+  has_room_to_spread small = grind (arith, widths_within)

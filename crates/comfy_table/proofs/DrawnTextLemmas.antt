@@ -1,18 +1,17 @@
 -- The lines that a drawn cell keeps, with the texts that it keeps for some of them, are the lines of the cell.
-use Rattle.std.proofs.Common.{◌≡◌, ◌<◌, ◌≤◌, ℕ, zero, suc, ◌-◌, Bool, true, false, List, [], ◌∷◌, ◌++◌, ◌&&◌, Option, Some, None, length, map, take, drop, nat_le, refl, sym, ap, ◌∙◌, arith, slice_index_or, String, string_bytes}
+use Rattle.std.proofs.Common.{◌≡◌, ◌<◌, ℕ, zero, suc, ◌-◌, Bool, true, false, List, [], ◌∷◌, ◌&&◌, Option, Some, None, length, map, take, drop, refl, sym, ap, ◌∙◌, arith, String, string_bytes}
 use Rattle.std.specs.List.{AllByRecursion, list_any, slice_get}
 use Rattle.std.specs.Prelude.{if◌then◌else◌, option_map}
-use Rattle.std.proofs.Math.Seq.{take-length}
 use Rattle.std.proofs.lemmas.Bool.Decides.{nat_tests}
-use Rattle.std.proofs.lemmas.List.{length-map}
+use Rattle.std.proofs.lemmas.List.{length-map, take-map, take_all}
 use Rattle.comfy_parts.proofs.ClearLineLemmas.{IsClosedLine, clear_written}
 use Rattle.comfy_parts.specs.CellValue.{CellValue, ColumnInfo, RowValue}
 use Rattle.comfy_parts.specs.Text.{Text}
 use Rattle.comfy_parts.specs.VisibleLines.{CellLine, line_texts}
 use Rattle.comfy_parts.specs.VisibleText.{has_escape}
-use Rattle.comfy_table.proofs.WrittenLemmas.{cut_lines_are_closed, each_cut, no_line, seen_of, texts_seen}
+use Rattle.comfy_table.proofs.WrittenLemmas.{cut_lines_are_closed, each_cut, seen_of, texts_seen, uncut-are}
 use Rattle.comfy_table.specs.DrawnCells.{as_seen, lines_of_optional, lines_with_texts, seen_of_optional, text_of_line, texts_of_optional, uncut_texts}
-use Rattle.comfy_table.specs.Lines.{cell_delimiter, cut_cell_line, cut_cell_lines_to_limit, uncut_count}
+use Rattle.comfy_table.specs.Lines.{cell_delimiter, cut_cell_lines_to_limit, uncut_count}
 use Rattle.comfy_table.specs.Pieces.{row_cell_lines, row_cell_texts}
 use Rattle.comfy_table.specs.TableValue.{TableValue}
 
@@ -59,26 +58,11 @@ with_front (suc n) (line ∷ lines) each = ap (λ (more : List CellLine). line �
 -- the texts of the lines that aren't cut
 uncut_texts-are : (height : Option ℕ) (w : ℕ) (indicator : Text) (lines : List CellLine)
     → uncut_texts height (map written_of lines) ≡ take (uncut_count height lines) (map written_of (cut_cell_lines_to_limit height w indicator lines))
-uncut_texts-are None w indicator lines = sym (all_of lines)
-  where
-    all_of : (xs : List CellLine) → take (length xs) (map written_of xs) ≡ map written_of xs
-    all_of xs = ap (λ n. take n (map written_of xs)) (sym (length-map xs written_of)) ∙ take-length (map written_of xs)
+uncut_texts-are None w indicator lines = grind (arith, length-map, take_all)
 uncut_texts-are (Some h) w indicator lines =
-    ap (λ n. if nat_le n h then map written_of lines else take (h - 1) (map written_of lines)) (length-map lines written_of) ∙ by_test (nat_le (length lines) h) refl
-  where
-    all_of : (xs : List CellLine) → take (length xs) (map written_of xs) ≡ map written_of xs
-    all_of xs = ap (λ n. take n (map written_of xs)) (sym (length-map xs written_of)) ∙ take-length (map written_of xs)
-
-    front : (n : ℕ) (xs : List CellLine) (x : CellLine) → n ≤ length xs → take n (map written_of (take n xs ++ x ∷ [])) ≡ take n (map written_of xs)
-    front zero xs x enough = refl
-    front (suc n) [] x enough = absurd (omega (arith, enough))
-    front (suc n) (y ∷ ys) x enough = ap (λ (ts : List Text). written_of y ∷ ts) (front n ys x (omega (arith, enough)))
-
-    by_test : (b : Bool) → nat_le (length lines) h ≡ b
-        → (if b then map written_of lines else take (h - 1) (map written_of lines))
-        ≡ take (if b then length lines else h - 1) (map written_of (if b then lines else take (h - 1) lines ++ cut_cell_line w indicator (slice_index_or lines (h - 1) no_line) ∷ []))
-    by_test true is = sym (all_of lines)
-    by_test false is = sym (front (h - 1) lines (cut_cell_line w indicator (slice_index_or lines (h - 1) no_line)) (grind (arith, nat_tests, is)))
+    let uncut = ap (map written_of) (uncut-are (Some h) w indicator lines) in
+    let texts = take-map written_of (uncut_count (Some h) lines) (cut_cell_lines_to_limit (Some h) w indicator lines) ∙ uncut ∙ sym (take-map written_of (uncut_count (Some h) lines) lines) in
+    grind (arith, nat_tests, length-map, take_all, texts)
 
 module _ (table : TableValue) (row : RowValue) (info : ColumnInfo) (cell : CellValue) where
   -- all lines of the cell
@@ -116,18 +100,7 @@ lines_are_drawn table row info (Some cell) = by_setting table row info cell tabl
 
 -- of more texts than the height the first ones
 pub truncated : {A : Type 0} (texts : List (String A)) (height : Option ℕ) (h : ℕ) → height ≡ Some h → h < length texts → map string_bytes (take (h - 1) texts) ≡ uncut_texts height (map string_bytes texts)
-truncated texts height h is more =
-    map-take string_bytes (h - 1) texts
-    ∙ ap (λ (b : Bool). if b then map string_bytes texts else take (h - 1) (map string_bytes texts)) (sym too_many)
-    ∙ ap (λ (o : Option ℕ). uncut_texts o (map string_bytes texts)) (sym is)
-  where
-    too_many : nat_le (length (map string_bytes texts)) h ≡ false
-    too_many = let as_many = length-map texts string_bytes in grind (arith, nat_tests, as_many, more)
-
-    map-take : {X Y : Type 0} (f : X → Y) (n : ℕ) (xs : List X) → map f (take n xs) ≡ take n (map f xs)
-    map-take f zero xs = refl
-    map-take f (suc n) [] = refl
-    map-take f (suc n) (x ∷ xs) = ap (λ ys. f x ∷ ys) (map-take f n xs)
+truncated texts height h is more = grind (arith, nat_tests, take-map, length-map)
 
 -- with custom styling, of a cell in which ESC stands
 pub texts_kept : (table : TableValue) (row : RowValue) (info : ColumnInfo) (o : Option CellValue) (cell : CellValue) (d : ℕ) (height : Option ℕ) (texts : List Text)

@@ -1,6 +1,6 @@
 -- What a line of a table without constraints adds up to: it keeps to the width, or has it.
+use Rattle.std.proofs.lemmas.Bool.{cond_both}
 use Rattle.std.proofs.Common.{◌≡◌, ◌≤◌, ℕ, suc, ◌+◌, Bool, true, false, cond, not, ◌==◌, List, [], ◌∷◌, length, map, sum, sum_by, zip, get_or, Option, Some, None, filter, refl, sym, ap, ◌∙◌, subst, arith, ◌&&◌}
-use Rattle.std.specs.Prelude.{if◌then◌else◌}
 use Rattle.std.specs.List.{AllByRecursion, AllZip, enumerate_from}
 use Rattle.std.proofs.lemmas.List.{length-map}
 use Rattle.std.proofs.lemmas.List.Elements.{recursion_from_All}
@@ -131,14 +131,11 @@ every_added (x ∷ xs) (y ∷ ys) each = (omega (arith, each.0), every_added xs 
 -- each dynamic width without constraints is at least 1
 pub some_width : (room : ℕ) (columns : List ColumnNeeds) → AllByRecursion IsUnconstrained columns → (full : Bool) (steps : Steps) (widths : List ℕ) → IsArrangedBy room columns full steps widths → AllByRecursion (λ (w : ℕ). 1 ≤ w) widths
 some_width room columns plain full steps widths arranged =
-    subst (AllByRecursion (λ (w : ℕ). 1 ≤ w)) (sym arranged.widths_are) (by_test (full && (length (even_columns room columns steps) == 0)))
-  where
-    contents : AllByRecursion (λ (w : ℕ). 1 ≤ w) (contents_after room columns steps)
-    contents = every_width (λ (w : ℕ). 1 ≤ w) columns (contents_after room columns steps) (some_content room columns plain full steps.lower steps.level steps.shrunk widths arranged)
-
-    by_test : (b : Bool) → AllByRecursion (λ (w : ℕ). 1 ≤ w) (if b then added (contents_after room columns steps) (even_spread (room_left room columns steps) (length columns)) else contents_after room columns steps)
-    by_test true = every_added (contents_after room columns steps) (even_spread (room_left room columns steps) (length columns)) contents
-    by_test false = contents
+    let contents : AllByRecursion (λ (w : ℕ). 1 ≤ w) (contents_after room columns steps) =
+    every_width (λ (w : ℕ). 1 ≤ w) columns (contents_after room columns steps) (some_content room columns plain full steps.lower steps.level steps.shrunk widths arranged) in
+    subst (AllByRecursion (λ (w : ℕ). 1 ≤ w)) (sym arranged.widths_are)
+    (cond_both (full && (length (even_columns room columns steps) == 0)) _ _ (AllByRecursion (λ (w : ℕ). 1 ≤ w))
+    (λ _. every_added (contents_after room columns steps) (even_spread (room_left room columns steps) (length columns)) contents) (λ _. contents))
 
 -- ---- a table's lines
 

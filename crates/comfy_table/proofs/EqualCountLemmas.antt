@@ -1,65 +1,41 @@
 -- All lines of a plain table have the same number of characters.
-use Rattle.std.proofs.Common.{◌≡◌, ◌<◌, ◌≤◌, ℕ, ◌+◌, Bool, true, false, not, cond, List, [], ◌∷◌, ◌++◌, Option, Some, None, length, map, sum, refl, ap, ◌∙◌, arith, slice_index_or}
-use Rattle.std.specs.List.{All, filter, enumerate_from, range_with_len, slice_get}
-use Rattle.std.specs.Prelude.{if◌then◌else◌, zip, option_to_list}
+use Rattle.std.proofs.lemmas.Bool.{cond_both}
+use Rattle.std.proofs.Common.{◌≡◌, ◌<◌, ◌≤◌, ℕ, ◌+◌, List, [], ◌∷◌, ◌++◌, Option, Some, None, length, sum, refl, ap, ◌∙◌, arith, slice_index_or}
+use Rattle.std.specs.List.{All, range_with_len, slice_get}
+use Rattle.std.specs.Prelude.{option_to_list}
 use Rattle.std.specs.Str.{IsUtf8}
 use Rattle.std.proofs.lemmas.List.{length-map}
 use Rattle.std.proofs.lemmas.List.Elements.{All-cons, All-nil, All-head, All-tail, All-append, All-weaker, All-map}
-use Rattle.comfy_parts.specs.CellValue.{CellValue, RowValue, ColumnValue, ColumnInfo, info_of, info_width, is_hidden_column}
-use Rattle.comfy_parts.specs.Text.{AddsOneColumnEach}
+use Rattle.comfy_parts.specs.CellValue.{CellValue, RowValue, ColumnValue, ColumnInfo, info_width}
+use Rattle.comfy_parts.specs.Text.{AddsOneColumnEach, Text}
 use Rattle.comfy_parts.specs.declared.style.table_style.ContentLineStyle.{ContentLineStyle}
 use Rattle.comfy_parts.specs.declared.style.table_style.LineStyle.{LineStyle}
 use Rattle.comfy_table.proofs.CellCountLemmas.{IsCountedLine, row_cell_lines-counted, HasCount-plain_piece}
 use Rattle.comfy_table.proofs.CountLemmas.{HasCount, HasCount-spaces, HasCount-joined, HasCount-frame_line, count-is}
 use Rattle.comfy_table.proofs.ListLemmas.{All-every, At-or, All-join_by, All-given, AllZip-map}
+use Rattle.comfy_table.proofs.InfoLemmas.{columns_from, infos_from, infos-known}
 use Rattle.comfy_table.specs.Drawing.{infos_of, visible_widths, drawn_row, drawn_header, drawn_rows, drawing_of_infos, drawing}
 use Rattle.comfy_table.specs.Frame.{border_count, content_line, frame_line, is_drawn, optional_frame_line}
 use Rattle.comfy_table.specs.Laws.{count, unstyled, line_total, IsPlainCell, AddsOneColumnEachWhereWritten, IsPlainTable}
 use Rattle.comfy_table.specs.Lines.{cell_lines, cell_delimiter, fitting_indicator}
 use Rattle.comfy_table.specs.Pieces.{blank_piece, pieces_of_optional, pieces_at, piece, row_cell_lines, row_line, row_lines, row_height, visible_infos}
-use Rattle.comfy_table.specs.TableValue.{TableValue, column_cells, seen_table, seen_rows}
+use Rattle.comfy_table.specs.TableValue.{TableValue, column_cells, seen_rows}
 use Rattle.comfy_table.specs.Widths.{visible_count}
 use Rattle.comfy_table.specs.Arrangement.{IsArranged}
 
 -- ---- columns
-
--- the visible ones of some columns that begin at position n
-abbrev columns_from : ℕ → List ColumnValue → List (ℕ × ColumnValue)
-columns_from n columns = filter (λ (p : ℕ × ColumnValue). not (is_hidden_column p.1)) (enumerate_from n columns)
-
--- the same as they are drawn with some widths
-abbrev infos_from : ℕ → List ColumnValue → List ℕ → List (ℕ × ColumnInfo)
-infos_from n columns widths =
-    filter (λ (p : ℕ × ColumnInfo). not p.1.is_hidden) (enumerate_from n (map (λ (p : ColumnValue × ℕ). info_of p.0 p.1) (zip columns widths)))
 
 -- as many columns are drawn as are visible
 pub length-infos_from : (n : ℕ) (columns : List ColumnValue) (widths : List ℕ) → length widths ≡ length columns → length (infos_from n columns widths) ≡ length (columns_from n columns)
 length-infos_from n [] [] same = refl
 length-infos_from n [] (w ∷ widths) same = refl
 length-infos_from n (column ∷ columns) [] same = absurd (omega (arith, same))
-length-infos_from n (column ∷ columns) (w ∷ widths) same = grind (arith, columns, length-infos_from (n + 1) columns widths (omega (arith, same)))
+length-infos_from n (column ∷ columns) (w ∷ widths) same = grind (arith, length-infos_from (n + 1) columns widths (omega (arith, same)))
 
 -- a drawn column has a place, and what is known of its position and its delimiter
 pub record IsKnownInfo (Known : ℕ → Option ℕ → Type 0) (p : ℕ × ColumnInfo) : Type 0 where
   pub places : 1 ≤ p.1.content_width
   pub known : Known p.0 p.1.delimiter
-
--- what is known of each visible column is known of each that is drawn
-known_from : (Known : ℕ → Option ℕ → Type 0) (n : ℕ) (columns : List ColumnValue) (widths : List ℕ)
-    → All (λ (p : ℕ × ColumnValue). Known p.0 p.1.delimiter) (columns_from n columns) → All (IsKnownInfo Known) (infos_from n columns widths)
-known_from Known n [] [] each = All-nil (IsKnownInfo Known)
-known_from Known n [] (w ∷ widths) each = All-nil (IsKnownInfo Known)
-known_from Known n (column ∷ columns) [] each = All-nil (IsKnownInfo Known)
-known_from Known n (column ∷ columns) (w ∷ widths) each = by_test (is_hidden_column column) each (known_from Known (n + 1) columns widths)
-  where
-    by_test : (b : Bool) → All (λ (p : ℕ × ColumnValue). Known p.0 p.1.delimiter) (cond (not b) ((n, column) ∷ columns_from (n + 1) columns) (columns_from (n + 1) columns))
-        → (All (λ (p : ℕ × ColumnValue). Known p.0 p.1.delimiter) (columns_from (n + 1) columns) → All (IsKnownInfo Known) (infos_from (n + 1) columns widths))
-        → All (IsKnownInfo Known) (cond (not b) ((n, info_of column w) ∷ infos_from (n + 1) columns widths) (infos_from (n + 1) columns widths))
-    by_test true each rest = rest each
-    by_test false each rest =
-        All-cons (IsKnownInfo Known) (n, info_of column w) (infos_from (n + 1) columns widths)
-        (record { places = omega arith; known = All-head (λ (p : ℕ × ColumnValue). Known p.0 p.1.delimiter) (n, column) (columns_from (n + 1) columns) each })
-        (rest (All-tail (λ (p : ℕ × ColumnValue). Known p.0 p.1.delimiter) (n, column) (columns_from (n + 1) columns) each))
 
 -- ---- rows
 
@@ -84,6 +60,36 @@ pieces-counted table row p utf8 places plain even = by_option (slice_get row.cel
 
 -- ---- the drawing
 
+-- what holds of each line that a row's pieces make holds of each of its lines
+pub All-row : (P : Text → Type 0) (table : TableValue) (infos : List ColumnInfo) (line : ContentLineStyle) (row : RowValue) → ((k : ℕ) → P (content_line table.style line (row_line table infos row k)))
+    → All P (drawn_row table infos line row)
+All-row P table infos line row each =
+    All-map P (content_line table.style line) (row_lines table infos row)
+    (All-map (λ pieces. P (content_line table.style line pieces)) (row_line table infos row) (range_with_len 0 (row_height table infos row))
+    (All-every (λ k. P (content_line table.style line (row_line table infos row k))) (range_with_len 0 (row_height table infos row)) each))
+
+-- what holds of the frame lines and of the lines of each row holds of each line of the drawing
+pub All-drawing : (P : Text → Type 0) (table : TableValue) (infos : List ColumnInfo) (Known : RowValue → Type 0)
+    → All P (optional_frame_line table.style table.style.top_border (visible_widths infos)) → All P (optional_frame_line table.style table.style.header_separator (visible_widths infos))
+    → All P (optional_frame_line table.style table.style.row_separator (visible_widths infos)) → All P (optional_frame_line table.style table.style.bottom_border (visible_widths infos))
+    → ((row : RowValue) → Known row → All P (drawn_row table infos table.style.header_lines row)) → ((row : RowValue) → Known row → All P (drawn_row table infos table.style.content_lines row))
+    → All Known (option_to_list table.header ++ table.rows) → All P (drawing_of_infos table infos)
+All-drawing P table infos Known top below_header between bottom as_header as_content each =
+    All-append P _ _ top
+    (All-append P (drawn_header table infos table.header) _ (header_lines table.header each)
+    (All-append P (drawn_rows table infos table.rows) _
+    (All-join_by P (drawn_row table infos table.style.content_lines) (optional_frame_line table.style table.style.row_separator (visible_widths infos)) table.rows between
+    (All-weaker Known (λ row. All P (drawn_row table infos table.style.content_lines row)) as_content table.rows (rows_of table.header each)))
+    bottom))
+  where
+    rows_of : (header : Option RowValue) → All Known (option_to_list header ++ table.rows) → All Known table.rows
+    rows_of None each = each
+    rows_of (Some row) each = All-tail Known row table.rows each
+
+    header_lines : (header : Option RowValue) → All Known (option_to_list header ++ table.rows) → All P (drawn_header table infos header)
+    header_lines None each = All-nil P
+    header_lines (Some row) each = All-append P (drawn_row table infos table.style.header_lines row) _ (as_header row (All-head Known row table.rows each)) below_header
+
 module _ (table : TableValue) (infos : List ColumnInfo) where
   -- the characters of a line
   abbrev total_of : ℕ
@@ -92,55 +98,24 @@ module _ (table : TableValue) (infos : List ColumnInfo) where
   -- each line of a row has them
   row_counted : (line : ContentLineStyle) (row : RowValue) → All (ArePiecesCounted table row) (visible_infos infos) → All (HasCount total_of) (drawn_row (unstyled table) infos line row)
   row_counted line row each =
-      All-map (HasCount total_of) (content_line table.style line) (row_lines (unstyled table) infos row)
-      (All-map (λ pieces. HasCount total_of (content_line table.style line pieces)) (row_line (unstyled table) infos row) (range_with_len 0 (row_height (unstyled table) infos row))
-      (All-every (λ k. HasCount total_of (content_line table.style line (row_line (unstyled table) infos row k))) (range_with_len 0 (row_height (unstyled table) infos row)) at))
-    where
-      at : (k : ℕ) → HasCount total_of (content_line table.style line (row_line (unstyled table) infos row k))
-      at k =
-          HasCount-joined table.style line.left line.junction line.right (visible_widths infos) (row_line (unstyled table) infos row k)
-          (AllZip-map HasCount (λ (p : ℕ × ColumnInfo). info_width p.1) (λ (p : ℕ × ColumnInfo). slice_index_or (pieces_at (unstyled table) row p) k (blank_piece p.1)) (visible_infos infos)
-          (All-weaker (ArePiecesCounted table row) (λ (p : ℕ × ColumnInfo). HasCount (info_width p.1) (slice_index_or (pieces_at (unstyled table) row p) k (blank_piece p.1)))
-          (λ p counted. At-or (HasCount (info_width p.1)) (pieces_at (unstyled table) row p) k (blank_piece p.1) counted (HasCount-spaces (info_width p.1))) (visible_infos infos) each))
+      All-row (HasCount total_of) (unstyled table) infos line row
+      (λ k.
+      HasCount-joined table.style line.left line.junction line.right (visible_widths infos) (row_line (unstyled table) infos row k)
+      (AllZip-map HasCount (λ (p : ℕ × ColumnInfo). info_width p.1) (λ (p : ℕ × ColumnInfo). slice_index_or (pieces_at (unstyled table) row p) k (blank_piece p.1)) (visible_infos infos)
+      (All-weaker (ArePiecesCounted table row) (λ (p : ℕ × ColumnInfo). HasCount (info_width p.1) (slice_index_or (pieces_at (unstyled table) row p) k (blank_piece p.1)))
+      (λ p counted. At-or (HasCount (info_width p.1)) (pieces_at (unstyled table) row p) k (blank_piece p.1) counted (HasCount-spaces (info_width p.1))) (visible_infos infos) each)))
 
   -- a frame line that is drawn has them
   frame_counted : (line : LineStyle) → All (HasCount total_of) (optional_frame_line table.style line (visible_widths infos))
-  frame_counted line = by_test (is_drawn line)
-    where
-      by_test : (b : Bool) → All (HasCount total_of) (if b then frame_line table.style line (visible_widths infos) ∷ [] else [])
-      by_test true =
-          All-cons (HasCount total_of) (frame_line table.style line (visible_widths infos)) [] (HasCount-frame_line table.style line (visible_widths infos)) (All-nil (HasCount total_of))
-      by_test false = All-nil (HasCount total_of)
+  frame_counted line =
+      cond_both (is_drawn line) _ [] (All (HasCount total_of))
+      (λ _. All-cons (HasCount total_of) (frame_line table.style line (visible_widths infos)) [] (HasCount-frame_line table.style line (visible_widths infos)) (All-nil (HasCount total_of))) (λ _. All-nil (HasCount total_of))
 
   -- all lines have them
   drawing_counted : All (λ row. All (ArePiecesCounted table row) (visible_infos infos)) (seen_rows table) → All (HasCount total_of) (drawing_of_infos (unstyled table) infos)
-  drawing_counted each = by_header (seen_table table).header each
-    where
-      by_header : (header : Option RowValue) → All (λ row. All (ArePiecesCounted table row) (visible_infos infos)) (option_to_list header ++ (seen_table table).rows)
-          → All (HasCount total_of) (optional_frame_line table.style table.style.top_border (visible_widths infos) ++ (drawn_header (unstyled table) infos header ++ (drawn_rows (unstyled table) infos (seen_table table).rows ++ optional_frame_line table.style table.style.bottom_border (visible_widths infos))))
-      by_header header each =
-          All-append (HasCount total_of) _ _ (frame_counted table.style.top_border)
-          (All-append (HasCount total_of) (drawn_header (unstyled table) infos header) _ (header_lines header each)
-          (All-append (HasCount total_of) (drawn_rows (unstyled table) infos (seen_table table).rows) _ (rows_lines (rows_of header each)) (frame_counted table.style.bottom_border)))
-        where
-          rows_of : (header : Option RowValue) → All (λ row. All (ArePiecesCounted table row) (visible_infos infos)) (option_to_list header ++ (seen_table table).rows)
-              → All (λ row. All (ArePiecesCounted table row) (visible_infos infos)) (seen_table table).rows
-          rows_of None each = each
-          rows_of (Some row) each = All-tail (λ row. All (ArePiecesCounted table row) (visible_infos infos)) row (seen_table table).rows each
-
-          header_lines : (header : Option RowValue) → All (λ row. All (ArePiecesCounted table row) (visible_infos infos)) (option_to_list header ++ (seen_table table).rows)
-              → All (HasCount total_of) (drawn_header (unstyled table) infos header)
-          header_lines None each = All-nil (HasCount total_of)
-          header_lines (Some row) each =
-              All-append (HasCount total_of) (drawn_row (unstyled table) infos table.style.header_lines row) _
-              (row_counted table.style.header_lines row (All-head (λ row. All (ArePiecesCounted table row) (visible_infos infos)) row (seen_table table).rows each)) (frame_counted table.style.header_separator)
-
-          rows_lines : All (λ row. All (ArePiecesCounted table row) (visible_infos infos)) (seen_table table).rows → All (HasCount total_of) (drawn_rows (unstyled table) infos (seen_table table).rows)
-          rows_lines each =
-              All-join_by (HasCount total_of) (drawn_row (unstyled table) infos table.style.content_lines) (optional_frame_line table.style table.style.row_separator (visible_widths infos)) (seen_table table).rows
-              (frame_counted table.style.row_separator)
-              (All-weaker (λ row. All (ArePiecesCounted table row) (visible_infos infos)) (λ row. All (HasCount total_of) (drawn_row (unstyled table) infos table.style.content_lines row))
-              (row_counted table.style.content_lines) (seen_table table).rows each)
+  drawing_counted each =
+      All-drawing (HasCount total_of) (unstyled table) infos (λ row. All (ArePiecesCounted table row) (visible_infos infos)) (frame_counted table.style.top_border) (frame_counted table.style.header_separator)
+      (frame_counted table.style.row_separator) (frame_counted table.style.bottom_border) (row_counted table.style.header_lines) (row_counted table.style.content_lines) each
 
 -- all lines, frame lines too, have the same count, whatever the arrangement and the constraints; an indicator that ends inside a character would swallow what follows it
 abbrev pub EqualCounts : TableValue → List ℕ → Type 0
@@ -163,7 +138,9 @@ equal_counts table widths utf8 plain arranged =
     Known i delimiter = All (IsPlainCell table delimiter) (column_cells table i)
 
     known : All (IsKnownInfo Known) (visible_infos infos)
-    known = known_from Known 0 table.columns widths plain.plain_cells
+    known =
+        infos-known table widths (λ (p : ℕ × ColumnValue). Known p.0 p.1.delimiter) (IsKnownInfo Known) arranged.one_for_each plain.plain_cells
+        (λ i column w is. record { places = omega arith; known = is })
 
     each : All (λ row. All (ArePiecesCounted table row) (visible_infos infos)) (seen_rows table)
     each k default below j other low =

@@ -55,4 +55,4 @@ decided_where P widths i each below = All-at P (decided widths) i (unwrap_or (sl
 -- each width gets its part
 pub widened_more : (widths : List (Option ℕ)) (i x k : ℕ) → i < length widths → i < k → (done whole : List ℕ) → done ++ added (decided (drop i widths)) (drop i (even_spread x k)) ≡ whole
     → (done ++ (unwrap_or (slice_index_or widths i None) 0 + part_of x k i) ∷ []) ++ added (decided (drop (i + 1) widths)) (drop (i + 1) (even_spread x k)) ≡ whole
-widened_more widths i x k below among done whole so_far = grind (arith, append_assoc, unwrap_or, slice_index_or, drop_more, spread_from_part)
+widened_more widths i x k below among done whole so_far = grind (arith, append_assoc, drop_more, spread_from_part)

@@ -14,7 +14,7 @@ use Rattle.comfy_table.proofs.PlacedWidthLemmas.{width_at, width_at-append, widt
 -- no fixed share stands before the first place
 fixed_before : (i n : ℕ) (needs : List ColumnNeeds) → i < n → width_at (fixed_shares (enumerate_from n needs)) i ≡ None
 fixed_before i n [] before = refl
-fixed_before i n (column ∷ more) before = grind (arith, width_at, width_at-other, ne_eqb, fixed_before i (n + 1) more (omega arith))
+fixed_before i n (column ∷ more) before = grind (arith, fixed_before i (n + 1) more (omega arith))
 
 -- the fixed widths are those that the fixed shares give
 fixed-places : (n : ℕ) (needs : List ColumnNeeds) → map (λ (c : ColumnNeeds). c.fixed) needs ≡ map (λ (p : Placed). width_at (fixed_shares (enumerate_from n needs)) p.0) (enumerate_from n needs)

@@ -1,6 +1,6 @@
 -- What a drawing over the table's infos promises.
-use Rattle.std.proofs.Common.{◌≡◌, ◌≤◌, ℕ, ◌+◌, nat_le, not, List, [], ◌∷◌, Option, Some, None, option_to_list, map, zip, slice_index_or, unwrap_or, max, String, refl, ap, sym, subst, ◌∙◌, arith}
-use Rattle.std.proofs.lemmas.List.Elements.{All-cons, All-filter, All-head, All-nil, All-tail, All-weaker}
+use Rattle.std.proofs.Common.{◌≡◌, ◌≤◌, ℕ, ◌+◌, not, List, [], ◌∷◌, Option, Some, None, map, zip, slice_index_or, unwrap_or, max, String, refl, ap, sym, subst, ◌∙◌, arith}
+use Rattle.std.proofs.lemmas.List.Elements.{All-filter, All-head, All-nil, All-tail, All-weaker}
 use Rattle.std.proofs.lemmas.Str.{IsUtf8-string_bytes}
 use Rattle.std.specs.Char.{IsScalar}
 use Rattle.std.specs.List.{All, enumerate_from, slice_get}
@@ -17,7 +17,7 @@ use Rattle.comfy_table.proofs.ListLemmas.{All-at, All-every, All-of_map}
 use Rattle.comfy_table.proofs.StraightLemmas.{straight}
 use Rattle.comfy_table.proofs.CellFitLemmas.{IsWholeCell}
 use Rattle.comfy_table.specs.Straight.{EachCell}
-use Rattle.comfy_table.specs.Arrangement.{AreInfosOf, IsArranged, IsDrawingOf}
+use Rattle.comfy_table.specs.Arrangement.{AreInfosOf, IsArranged}
 use Rattle.comfy_table.proofs.StylingTakenOutLemmas.{styling_taken_out}
 use Rattle.comfy_table.proofs.TableLemmas.{frame_counts}
 use Rattle.comfy_table.proofs.WiderLemmas.{fills_wider_total, keeps_to_wider_total, keeps_to_wider_total_in_full}
@@ -31,13 +31,9 @@ use Rattle.comfy_table.specs.Pieces.{visible_infos}
 use Rattle.comfy_table.specs.TableLaws.{wider_total}
 use Rattle.comfy_table.specs.TableValue.{HasWholeTexts, KeepsParts, TableValue, ellipsis, header_and_rows, indicator_of, seen_rows}
 
--- lines that are drawn over the table's infos are its drawing
-pub drawing_of_table : (table : TableValue) (infos : List ColumnInfo) (lines : List Text) → AreInfosOf table infos → lines ≡ drawing_of_infos table infos → IsDrawingOf table lines
-drawing_of_table table infos lines (widths, arranged, is) drawn = (widths, arranged, drawn ∙ ap (drawing_of_infos table) is)
-
 -- the lines of a text are the text, or slices of it
 text_or_slices : (w d : ℕ) (text : Text) → IsScalar d → IsUtf8 text → IsTextOrSlices w d text
-text_or_slices w d text scalar whole = grind (arith, nat_le, wrapped_is_wrapped)
+text_or_slices w d text scalar whole = grind (arith, wrapped_is_wrapped)
 
 -- a delimiter, or another character where there is none, is a character
 delimiter_or : (delimiter : Option ℕ) (other : ℕ) → IsDelimiter delimiter → IsScalar other → IsScalar (unwrap_or delimiter other)
@@ -53,11 +49,11 @@ whole_cell table row own kept p of_column cell is =
 
 -- the lines of its text lines are these, or slices of them
 row_slices : (table : TableValue) (row : RowValue) (p : ℕ × ColumnInfo) → ((cell : CellValue) → slice_get row.cells p.0 ≡ Some cell → IsWholeCell table row p.1 cell) → IsCutIntoSlices table row p
-row_slices table row p whole cell is = grind (arith, All-weaker, text_or_slices)
+row_slices table row p whole cell is = grind (arith, text_or_slices)
 
 -- a table's rows and its header keep what rows keep
 all_rows : (table : TableValue) → KeepsParts table → All IsRow (header_and_rows table)
-all_rows table kept = grind (arith, option_to_list, All-cons)
+all_rows table kept = grind arith
 
 -- what the cells of rows keep
 seen_row : (row : RowValue) → IsRow row → IsSeenRow row
@@ -69,7 +65,7 @@ info_delimiters : (n : ℕ) (columns : List ColumnValue) (widths : List ℕ) →
 info_delimiters n [] widths kept = All-nil (λ (p : ℕ × ColumnInfo). IsDelimiter p.1.delimiter)
 info_delimiters n (column ∷ columns) [] kept = All-nil (λ (p : ℕ × ColumnInfo). IsDelimiter p.1.delimiter)
 info_delimiters n (column ∷ columns) (width ∷ widths) kept =
-    grind (arith, All-cons, All-head, All-tail, info_delimiters (n + 1) columns widths (All-tail IsColumn column columns kept))
+    grind (arith, All-head, info_delimiters (n + 1) columns widths (All-tail IsColumn column columns kept))
 
 -- what a line's total meets, each line's count does
 each_line_counts : (P : ℕ → Type 0) (table : TableValue) (widths : List ℕ) → IsUtf8 table.indicator → EachCell (IsWholeCell table) table widths → IsArranged table widths → P (line_total table widths)

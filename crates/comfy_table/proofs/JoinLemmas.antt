@@ -2,7 +2,6 @@
 use Rattle.std.proofs.Common.{◌≡◌, ◌<◌, ◌≤◌, ℕ, zero, suc, ◌+◌, ◌&&◌, Bool, true, false, List, [], ◌∷◌, ◌++◌, length, map, take, nat_lt, arith, refl, sym, ap, ◌∙◌, append-nil, append_assoc, slice_index_or, add-one}
 use Rattle.std.specs.List.{join_by, join_with_byte, repeat}
 use Rattle.std.specs.Prelude.{if◌then◌else◌}
-use Rattle.std.proofs.lemmas.Bool.Decides.{nat_tests}
 use Rattle.std.proofs.lemmas.Grind.{flat_map-append}
 use Rattle.std.proofs.lemmas.List.Folds.{flat_map-map}
 use Rattle.std.proofs.lemmas.List.{length-take-le, take_all, take_more}
@@ -24,7 +23,7 @@ repeat_more n xs = ap (λ k. repeat k xs) (add-one n) ∙ behind n
 pub join_by_push : {X A : Type 0} (f : X → List A) (separator : List A) (xs : List X) (x : X)
     → join_by f separator (xs ++ x ∷ []) ≡ (join_by f separator xs ++ (if nat_lt 0 (length xs) then separator else [])) ++ f x
 join_by_push f separator [] x = append-nil (f x)
-join_by_push {X} {A} f separator (y ∷ ys) x = grind (arith, nat_lt, nat_tests, flat_map-append, append-nil, append_assoc)
+join_by_push {X} {A} f separator (y ∷ ys) x = grind (arith, flat_map-append, append-nil, append_assoc)
 
 -- the same of the front of a list
 pub join_by_more : {X A : Type 0} (f : X → List A) (separator : List A) (xs : List X) (i : ℕ) (x : X) → i < length xs → x ≡ slice_index_or xs i x

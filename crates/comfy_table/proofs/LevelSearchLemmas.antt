@@ -1,15 +1,12 @@
 -- The search for a level: what the columns need at a level grows no more than the room, and where the average no longer passes it the level is found.
-use Rattle.std.proofs.lemmas.Bool.Decides.{nat_tests}
 use Rattle.std.proofs.Common.{◌≡◌, ◌<◌, ◌≤◌, ℕ, suc, ◌+◌, ◌-◌, ◌*◌, ◌/◌, Bool, true, false, cond, ◌==◌, List, [], ◌∷◌, length, max, slice_index_or, sum_by, Option, Some, None, option_map, is_none, unwrap_or, filter, nat_le, refl, ap, ◌∙◌, arith, suc-mul, mul_comm, div-mul-le_self}
 use Rattle.std.specs.Prelude.{◌&&◌}
 use Rattle.std.specs.List.{enumerate_from, cons_option}
-use Rattle.std.proofs.lemmas.Bool.{leb-true, le-leb}
 use Rattle.std.proofs.lemmas.List.Sums.{sum_by-cons}
 use Rattle.std.proofs.lemmas.Nat.{le-div}
 use Rattle.comfy_table.specs.Deciding.{is_undecided, undecided_among, undecided_count}
 use Rattle.comfy_table.specs.Dynamic.{Placed, Share, IsLevel, average, places_of, settled_at, settled_shares, total, without_shares}
 use Rattle.comfy_table.specs.Widths.{ColumnNeeds}
-use Rattle.comfy_table.proofs.LevelLemmas.{below_next}
 use Rattle.comfy_table.proofs.ShareLemmas.{count_at, IsOneEach, length-without}
 use Rattle.comfy_table.proofs.StepLemmas.{one_each-places, settled_shares-none}
 use Rattle.comfy_table.proofs.TakingLemmas.{count_at-shares_of}
@@ -23,7 +20,7 @@ need_at level other column = unwrap_or (settled_at (Some level) column) other
 -- a boundary that is taken is within both
 upper_taken : (level : ℕ) (column : ColumnNeeds) (u : ℕ) → (nat_le u (level + column.padding) && nat_le u (column.content + column.padding)) ≡ true
     → (u ≤ level + column.padding) × (u ≤ column.content + column.padding)
-upper_taken level column u passes = grind (arith, leb-true)
+upper_taken level column u passes = grind arith
 
 -- A width of at least 1 that is at most the level and at most the content, where these are at least 1.
 record Settles (level : ℕ) (column : ColumnNeeds) (width : ℕ) : Type 0 where
@@ -33,23 +30,23 @@ record Settles (level : ℕ) (column : ColumnNeeds) (width : ℕ) : Type 0 where
 
 -- what a level settles is such a width
 settles : (level : ℕ) (column : ColumnNeeds) (width : ℕ) → settled_at (Some level) column ≡ Some width → Settles level column width
-settles level column width is = grind (arith, nat_tests, leb-true, upper_taken)
+settles level column width is = grind arith
 
 -- what is needed at a level is at most the level
 need_within : (level : ℕ) (column : ColumnNeeds) → 1 ≤ level → need_at level level column ≤ level
-need_within level column one = grind (arith, nat_tests, settles)
+need_within level column one = grind arith
 
 -- and at least 1
 need_some : (level : ℕ) (column : ColumnNeeds) → 1 ≤ level → 1 ≤ need_at level level column
-need_some level column one = grind (arith, nat_tests, settles)
+need_some level column one = grind arith
 
 -- what a level settles, a higher one settles with at most the same width
 settled_higher : (level higher : ℕ) (column : ColumnNeeds) (width : ℕ) → level ≤ higher → settled_at (Some level) column ≡ Some width → need_at higher higher column ≤ width
-settled_higher level higher column width above is = grind (arith, nat_le, leb-true, unwrap_or, le-leb, upper_taken)
+settled_higher level higher column width above is = grind arith
 
 -- a column needs no more at a higher level than where the lower one settles it and it else has the higher
 need_higher : (level higher : ℕ) (column : ColumnNeeds) → 1 ≤ higher → level ≤ higher → need_at higher higher column ≤ need_at level higher column
-need_higher level higher column one above = grind (arith, need_within, settled_higher)
+need_higher level higher column one above = grind arith
 
 -- ---- all columns
 
@@ -94,7 +91,7 @@ needed-is level other (p ∷ more) = sum_by-cons (λ (q : Placed). need_at level
 -- what a level settles and leaves are all columns
 settled_and_left : (level : ℕ) (columns : List Placed) → length (settled_shares (Some level) columns) + left_count level columns ≡ length columns
 settled_and_left level [] = refl
-settled_and_left level (p ∷ more) = grind (arith, option_map, is_none, settled_and_left level more)
+settled_and_left level (p ∷ more) = grind (arith, settled_and_left level more)
 
 -- the columns without its shares are those that it leaves
 pub left_count-is : (level : ℕ) (columns : List Placed) → IsOneEach columns → length (without_shares (settled_shares (Some level) columns) columns) ≡ left_count level columns
@@ -115,7 +112,7 @@ needed_at_first room level columns some is =
 module _ (room : ℕ) (columns : List Placed) (one : IsOneEach columns) where
   -- what the average beside a level takes
   raised_room : (level raised : ℕ) → raised ≡ raised_from room columns level → left_count level columns * raised ≤ room - total (settled_shares (Some level) columns)
-  raised_room level raised is = grind (arith, left_count-is, div-mul-le_self, mul_comm)
+  raised_room level raised is = grind (arith, left_count-is)
 
   -- and at that average where it is higher
   pub needed_at_next : (level raised : ℕ) → level < raised → raised ≡ raised_from room columns level → needed level level columns ≤ room → needed raised raised columns ≤ room
@@ -124,12 +121,12 @@ module _ (room : ℕ) (columns : List Placed) (one : IsOneEach columns) where
 
   -- where it is not, the level is found
   pub level_found : (level raised : ℕ) → 0 < level → raised ≤ level → raised ≡ raised_from room columns level → needed level level columns ≤ room → IsLevel room columns (Some level)
-  level_found level raised some below is enough = grind (arith, nat_tests, needed_some, needed-is, left_count-is, le-div, mul_comm)
+  level_found level raised some below is enough = grind (arith, needed_some, needed-is, left_count-is, le-div, mul_comm)
 
 -- columns that have no room on average have a level that settles nothing
 pub level_without_average : (room : ℕ) (columns : List Placed) → room / length columns ≡ 0 → (level : Option ℕ) × IsLevel room columns level × (settled_shares level columns ≡ [])
 level_without_average room [] none = (Some 1, (omega arith, omega arith, omega arith, λ some. absurd (omega arith)), refl)
-level_without_average room (p ∷ more) none = grind (arith, below_next, settled_shares-none)
+level_without_average room (p ∷ more) none = grind (arith, settled_shares-none)
 
 -- ---- the undecided columns
 

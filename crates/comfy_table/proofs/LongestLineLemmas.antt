@@ -39,7 +39,7 @@ module _ (table : TableValue) (info : ColumnInfo) where
   -- of the cells at a position as they are seen, row by row
   row_by_row : (rows : List RowValue) (i : ℕ) → greatest (map (cell_longest_line table info) (cells_of i (map (row_seen table.custom_styling) rows))) ≡ rows_longest_line table info i rows
   row_by_row [] i = refl
-  row_by_row (row ∷ rows) i = grind (arith, get_seen, greatest-cons_option, row_by_row rows i)
+  row_by_row (row ∷ rows) i = grind (arith, get_seen, row_by_row rows i)
 
   -- of the lines of all cells
   cell_by_cell : (cells : List CellValue) → greatest (map measure (flat_map lines cells)) ≡ greatest (map (cell_longest_line table info) cells)

@@ -1,5 +1,5 @@
 -- How a list grows that a loop makes, one element at a time.
-use Rattle.std.proofs.Common.{◌≡◌, ◌<◌, ◌≤◌, ℕ, ◌+◌, Bool, true, false, cond, List, [], ◌∷◌, ◌++◌, length, map, take, arith, sym, ap, ◌∙◌, slice_index_or}
+use Rattle.std.proofs.Common.{◌≡◌, ◌<◌, ◌≤◌, ℕ, ◌+◌, Bool, cond, List, [], ◌∷◌, ◌++◌, length, map, take, arith, sym, ap, ◌∙◌, slice_index_or}
 use Rattle.std.specs.List.{enumerate_from, filter}
 use Rattle.std.proofs.lemmas.List.{map-append, map-id, take_all, take_more}
 use Rattle.std.proofs.lemmas.List.Elements.{filter-append}
@@ -23,16 +23,13 @@ enumerated_all f xs i past = grind (arith, length-enumerate_from, take_all)
 pub filtered_more : {A B : Type 0} (f : ℕ × A → B) (test : ℕ × A → Bool) (xs : List A) (i : ℕ) (x : A) (b : Bool) → i < length xs → x ≡ slice_index_or xs i x → test (i, x) ≡ b
     → map f (filter test (take (i + 1) (enumerate_from 0 xs))) ≡ map f (filter test (take i (enumerate_from 0 xs))) ++ cond b (f (i, x) ∷ []) []
 filtered_more {A} {B} f test xs i x b below is passes =
+    let kept_here : map f (cond (test (i, x)) ((i, x) ∷ []) []) ≡ cond b (f (i, x) ∷ []) [] = grind arith in
     ap (map f) (ap (filter test) more ∙ filter-append test (take i (enumerate_from 0 xs)) ((i, x) ∷ []))
     ∙ map-append f (filter test (take i (enumerate_from 0 xs))) (filter test ((i, x) ∷ []))
-    ∙ ap (λ (kept : List B). map f (filter test (take i (enumerate_from 0 xs))) ++ kept) (by_test b passes)
+    ∙ ap (λ (kept : List B). map f (filter test (take i (enumerate_from 0 xs))) ++ kept) kept_here
   where
     more : take (i + 1) (enumerate_from 0 xs) ≡ take i (enumerate_from 0 xs) ++ (i, x) ∷ []
     more = sym (map-id (take (i + 1) (enumerate_from 0 xs))) ∙ enumerated_more (λ (p : ℕ × A). p) xs i x below is ∙ ap (λ (ps : List (ℕ × A)). ps ++ (i, x) ∷ []) (map-id (take i (enumerate_from 0 xs)))
-
-    by_test : (c : Bool) → test (i, x) ≡ c → map f (cond (test (i, x)) ((i, x) ∷ []) []) ≡ cond c (f (i, x) ∷ []) []
-    by_test true is = ap (λ (t : Bool). map f (cond t ((i, x) ∷ []) [])) is
-    by_test false is = ap (λ (t : Bool). map f (cond t ((i, x) ∷ []) [])) is
 
 -- and all of them
 pub filtered_all : {A B : Type 0} (f : ℕ × A → B) (test : ℕ × A → Bool) (xs : List A) (i : ℕ) → length xs ≤ i

@@ -1,5 +1,4 @@
 -- How many columns a text adds to what follows it, and so how many a framed line has.
-use Rattle.std.proofs.lemmas.Bool.Decides.{nat_tests}
 use Rattle.std.proofs.Common.{◌≡◌, ℕ, zero, suc, ◌+◌, ◌-◌, Bool, true, false, List, [], ◌∷◌, ◌++◌, length, sum, refl, ap, ◌∙◌, subst, arith, append_assoc, append-nil}
 use Rattle.std.specs.List.{repeat, join_by, flat_map, AllZip}
 use Rattle.std.specs.Prelude.{if◌then◌else◌, encode_utf8}
@@ -41,7 +40,7 @@ Fronts Follows text = (rest : Text) → Follows rest → Follows (text ++ rest)
 
 -- so the text measures n
 pub measure-is : (Follows : Text → Type 0) (n : ℕ) (text : Text) → IsFollowing Follows → HasMeasure Follows n text → measure text ≡ n
-measure-is Follows n text follows has = grind (arith, nat_tests, measure-nil, append-nil)
+measure-is Follows n text follows has = grind (arith, measure-nil, append-nil)
 
 -- a number that equals n is the same measure
 pub HasMeasure-same : (Follows : Text → Type 0) (m n : ℕ) (text : Text) → m ≡ n → HasMeasure Follows m text → HasMeasure Follows n text
@@ -72,11 +71,11 @@ HasMeasure-spaces n = record { measures = λ rest _. measure-spaces_before n res
 
 -- two texts add what both add, where the second may follow the first
 pub HasMeasure-append : (Follows : Text → Type 0) (m n : ℕ) (xs ys : Text) → HasMeasure Follows m xs → Fronts Follows ys → HasMeasure Follows n ys → HasMeasure Follows (m + n) (xs ++ ys)
-HasMeasure-append Follows m n xs ys front fronts back = grind (arith, nat_tests, append_assoc)
+HasMeasure-append Follows m n xs ys front fronts back = grind (arith, append_assoc)
 
 -- the same where the first adds its columns before every text
 pub HasMeasure-behind : (Follows : Text → Type 0) (m n : ℕ) (xs ys : Text) → HasMeasure IsAny m xs → HasMeasure Follows n ys → HasMeasure Follows (m + n) (xs ++ ys)
-HasMeasure-behind Follows m n xs ys front back = grind (arith, nat_tests, append_assoc)
+HasMeasure-behind Follows m n xs ys front back = grind (arith, append_assoc)
 
 -- a text of one character, n times, adds n
 pub HasMeasure-repeat : (n : ℕ) (text : Text) → HasMeasure IsAny 1 text → HasMeasure IsAny n (repeat n text)
@@ -111,7 +110,7 @@ module _ (Follows : Text → Type 0) (b : Bool) (separator : Text) (one : HasMea
   Fronts-separated [] [] each rest may = may
   Fronts-separated [] (piece ∷ pieces) each rest may = absurd each
   Fronts-separated (w ∷ widths) [] each rest may = absurd each
-  Fronts-separated (w ∷ widths) (piece ∷ pieces) (first, more) rest may = grind (arith, nat_tests, append_assoc, Fronts-separated widths pieces more rest may)
+  Fronts-separated (w ∷ widths) (piece ∷ pieces) (first, more) rest may = grind (arith, append_assoc, Fronts-separated widths pieces more rest may)
 
   HasMeasure-separated : (widths : List ℕ) (pieces : List Text) → AllZip (IsPiece Follows between) widths pieces
       → HasMeasure Follows ((if b then length widths else 0) + sum widths) (flat_map (λ (piece : Text). between ++ piece) pieces)

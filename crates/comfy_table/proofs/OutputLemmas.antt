@@ -25,14 +25,14 @@ own_lines-none Trimmed = refl
 
 -- lines and then more lines
 pub with_lines-append : (first more : List Text) (output : OutputValue) → with_lines more (with_lines first output) ≡ with_lines (first ++ more) output
-with_lines-append first more output = grind (arith, append_assoc, own_lines-append, flat_map-append)
+with_lines-append first more output = grind (arith, append_assoc, flat_map-append)
 
 pub written-append : (first more : List Text) (writer : WriterValue) → with_written more (with_written first writer) ≡ with_written (first ++ more) writer
 written-append first more writer = ap (λ (output : OutputValue). record writer { output = output }) (with_lines-append first more writer.output)
 
 -- no line
 pub written-none : (writer : WriterValue) → with_written [] writer ≡ writer
-written-none writer = grind (arith, own_lines-none, append-nil)
+written-none writer = grind (arith, append-nil)
 
 -- four parts of a drawing, one after another
 pub four-written : (one two three four : List Text) (writer : WriterValue)

@@ -10,7 +10,7 @@ use Rattle.comfy_parts.specs.declared.style.table_style.LineStyle.{LineStyle}
 use Rattle.comfy_parts.specs.declared.style.table_style.TableStyle.{TableStyle}
 use Rattle.comfy_table.specs.Frame.{border_count, character, between_borders, frame_line, draws_left_border, draws_right_border, draws_vertical_lines}
 use Rattle.comfy_table.specs.Pieces.{cell_alignment, free_before, free_places, plain_piece, spaces_after}
-use Rattle.comfy_table.proofs.MeasureLemmas.{IsAny, IsFollowing, apart_follows, HasMeasure, Fronts, HasMeasure-same, HasMeasure-any, HasMeasure-append, HasMeasure-behind, HasMeasure-spaces, HasMeasure-text, HasMeasure-repeat, HasMeasure-character, HasMeasure-when, HasMeasure-between, Fronts-when, IsPiece, any_follows, measure-is}
+use Rattle.comfy_table.proofs.MeasureLemmas.{IsAny, IsFollowing, apart_follows, HasMeasure, Fronts, HasMeasure-same, HasMeasure-any, HasMeasure-append, HasMeasure-behind, HasMeasure-spaces, HasMeasure-text, HasMeasure-repeat, HasMeasure-character, HasMeasure-when, HasMeasure-between, Fronts-when, IsPiece, any_follows}
 use Rattle.comfy_parts.proofs.LinesFitLemmas.{IsFittingLine}
 use Rattle.comfy_parts.specs.Columns.{AddsOneColumn, IsApart, IsOneColumn}
 
@@ -106,10 +106,6 @@ piece-any cell info line some fitting = HasMeasure-padded IsAny cell info line f
         let first = spaced-end (free_places info line - free_before (cell_alignment cell info) (free_places info line)) info.padding.1 rest some line fitting.whole in
         let second = (HasMeasure-behind_line cell info line).measures rest tt in
         ap measure (append_assoc line (behind cell info line) rest) ∙ first ∙ omega (arith, second)
-
--- so the plain piece measures the whole width
-pub measure-plain_piece : (cell : CellValue) (info : ColumnInfo) (line : Text) → IsFittingLine info.content_width line → measure (plain_piece cell info line) ≡ info_width info
-measure-plain_piece cell info line fitting = measure-is IsApart _ _ apart_follows (piece-apart cell info line fitting)
 
 -- ---- pieces beside one another
 

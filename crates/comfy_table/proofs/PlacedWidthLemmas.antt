@@ -1,5 +1,5 @@
 -- The widths that shares give to columns at their places, and how they change where more shares are taken.
-use Rattle.std.proofs.Common.{◌≡◌, ◌≤◌, ℕ, ◌+◌, Bool, false, cond, not, ◌==◌, List, [], ◌∷◌, ◌++◌, length, map, Option, Some, None, option_map, find, filter, is_none, refl, sym, ap, ◌∙◌, subst, arith, append-nil, ⊎_elim, eq-zero-or-pos}
+use Rattle.std.proofs.Common.{◌≡◌, ◌≤◌, ℕ, ◌+◌, Bool, false, cond, not, ◌==◌, List, [], ◌∷◌, ◌++◌, length, map, Option, Some, None, option_map, find, filter, is_none, refl, sym, ap, ◌∙◌, subst, arith, append-nil, eq-zero-or-pos}
 use Rattle.std.specs.Option.{option_or}
 use Rattle.std.proofs.lemmas.Bool.{eq-eqb}
 use Rattle.std.proofs.lemmas.List.{append_assoc}
@@ -24,12 +24,12 @@ width_at-append i (t ∷ xs) ys = grind (arith, width_at-append i xs ys)
 -- where no share stands there is no width
 pub width_at-none : (i : ℕ) (shares : List Share) → count_at i shares ≡ 0 → width_at shares i ≡ None
 width_at-none i [] none = refl
-width_at-none i (t ∷ more) none = grind (arith, count_at, width_at-none i more)
+width_at-none i (t ∷ more) none = grind (arith, width_at-none i more)
 
 -- a place has no width where it has no share
 pub is_none-width_at : (i : ℕ) (shares : List Share) → is_none (width_at shares i) ≡ not (has_share shares i)
 is_none-width_at i [] = refl
-is_none-width_at i (t ∷ more) = grind (arith, has_share, is_none-width_at i more)
+is_none-width_at i (t ∷ more) = grind (arith, is_none-width_at i more)
 
 -- the first share gives the width at its place
 pub width_at-here : (t : Share) (more : List Share) (i : ℕ) → t.0 ≡ i → width_at (t ∷ more) i ≡ Some t.1
@@ -41,7 +41,7 @@ width_at-other t more i other = ap (λ (b : Bool). option_map (λ (s : Share). s
 
 -- one share more, where each place has at most one
 pub width_at-push : (t : Share) (before : List Share) (i : ℕ) → count_at i (before ++ t ∷ []) ≤ 1 → cond (t.0 == i) (Some t.1) (width_at before i) ≡ width_at (before ++ t ∷ []) i
-width_at-push t before i one = grind (arith, width_at-append, option_map, width_at-none, count_at-append)
+width_at-push t before i one = grind (arith, width_at-append, width_at-none, count_at-append)
 
 -- ---- the widths that shares give
 
@@ -78,8 +78,8 @@ undecided_count-widths_of needs shares = length-filter_places is_none (λ (p : P
 -- shares are taken after others
 pub without_shares-append : (before order : List Share) (columns : List Placed) → without_shares (before ++ order) columns ≡ without_shares order (without_shares before columns)
 without_shares-append before order [] = refl
-without_shares-append before order (p ∷ more) = grind (arith, list_any-append, has_share, without_shares-append before order more)
+without_shares-append before order (p ∷ more) = grind (arith, list_any-append, without_shares-append before order more)
 
 -- shares of columns that have none yet keep at most one for each place
 pub one_each-more : (before order : List Share) (columns : List Placed) → IsOneEach columns → IsOneEach before → IsAmong order (without_shares before columns) → IsOneEach (before ++ order)
-one_each-more before order columns one each among i = grind (arith, ⊎_elim, count_at-without_none, count_at-append, count_at-without_some, eq-zero-or-pos)
+one_each-more before order columns one each among i = grind (arith, count_at-without_none, count_at-append, count_at-without_some, eq-zero-or-pos)

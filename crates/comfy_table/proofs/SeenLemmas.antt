@@ -1,15 +1,14 @@
 -- A table as it is seen: its rows, and what holds of them.
-use Rattle.std.proofs.Common.{◌≡◌, ℕ, zero, suc, Bool, true, false, List, [], ◌∷◌, ◌++◌, Option, Some, None, map, option_map, option_to_list, refl, ap, arith}
+use Rattle.std.proofs.Common.{◌≡◌, ℕ, zero, suc, Bool, true, false, List, [], ◌∷◌, ◌++◌, Option, Some, None, map, option_map, refl, ap, arith, subst, sym}
 use Rattle.std.specs.List.{All, slice_get, join_by}
 use Rattle.std.specs.Prelude.{if◌then◌else◌}
 use Rattle.std.specs.Str.{IsUtf8}
-use Rattle.std.proofs.lemmas.List.Elements.{All-cons, All-head, All-nil, All-tail, All-weaker}
+use Rattle.std.proofs.lemmas.List.Elements.{All-cons, All-head, All-nil, All-tail, All-weaker, All-map}
 use Rattle.std.proofs.lemmas.List.Folds.{flat_map-map}
 use Rattle.comfy_parts.proofs.VisibleWholeLemmas.{visible_text-whole}
 use Rattle.comfy_parts.specs.CellValue.{CellValue, IsDelimiter, RowValue}
 use Rattle.comfy_parts.specs.VisibleText.{visible_text}
-use Rattle.comfy_table.specs.TableValue.{TableValue, HasWholeTexts, header_and_rows, seen_rows, seen_table, visible_cell, visible_row}
-use Rattle.comfy_table.specs.Arrangement.{IsArranged}
+use Rattle.comfy_table.specs.TableValue.{TableValue, HasWholeTexts, header_and_rows, seen_rows, visible_cell, visible_row}
 
 -- a cell and a row as they are seen
 abbrev pub cell_seen : Bool → CellValue → CellValue
@@ -41,7 +40,7 @@ get_seen false (cell ∷ cells) (suc i) = get_seen false cells i
 
 -- so are all of them
 pub seen_rows-is : (table : TableValue) → seen_rows table ≡ map (row_seen table.custom_styling) (header_and_rows table)
-seen_rows-is table = grind (arith, option_to_list, header_seen, rows_seen, option_map)
+seen_rows-is table = grind (arith, rows_seen)
 
 -- parts of what a function gives, joined
 pub join_by-map : {X Y Z : Type 0} (f : Y → List Z) (separator : List Z) (g : X → Y) (xs : List X) → join_by f separator (map g xs) ≡ join_by (λ x. f (g x)) separator xs
@@ -50,20 +49,10 @@ join_by-map {X} {Y} {Z} f separator g (x ∷ xs) = ap (λ (more : List Z). f (g 
 
 -- what follows for each row as it is seen
 pub All-seen : (table : TableValue) (P : RowValue → Type 0) → ((row : RowValue) → P row → P (visible_row row)) → All P (header_and_rows table) → All P (seen_rows table)
-All-seen table P gives each = by_test table.custom_styling
-  where
-    every : (rows : List RowValue) → All P rows → All P (map visible_row rows)
-    every [] each = All-nil P
-    every (row ∷ rows) each = All-cons P (visible_row row) (map visible_row rows) (gives row (All-head P row rows each)) (every rows (All-tail P row rows each))
-
-    with_header : (header : Option RowValue) → All P (option_to_list header ++ table.rows) → All P (option_to_list (option_map visible_row header) ++ map visible_row table.rows)
-    with_header None each = every table.rows each
-    with_header (Some row) each =
-        All-cons P (visible_row row) (map visible_row table.rows) (gives row (All-head P row table.rows each)) (every table.rows (All-tail P row table.rows each))
-
-    by_test : (custom : Bool) → All P (option_to_list (if custom then option_map visible_row table.header else table.header) ++ (if custom then map visible_row table.rows else table.rows))
-    by_test true = with_header table.header each
-    by_test false = each
+All-seen table P gives each =
+    subst (All P) (sym (seen_rows-is table))
+    (All-map P (row_seen table.custom_styling) (header_and_rows table)
+    (All-weaker P (λ row. P (row_seen table.custom_styling row)) (λ row own. elim table.custom_styling as (λ custom. P (row_seen custom row)) [ true ↦ gives row own | false ↦ own ]) (header_and_rows table) each))
 
 -- the text lines of a row are whole characters
 abbrev pub IsWholeRow : RowValue → Type 0
@@ -106,13 +95,3 @@ seen_kept table each = All-seen table IsSeenRow (λ row seen. cells row.cells se
     cells (cell ∷ cs) each =
         All-cons IsSeenCell (visible_cell cell) (map visible_cell cs)
         (texts_whole cell.text_lines (All-head IsSeenCell cell cs each).0, (All-head IsSeenCell cell cs each).1) (cells cs (All-tail IsSeenCell cell cs each))
-
--- the widths of a table are those of the table as it is seen
-pub arranged_as_seen : (table : TableValue) (widths : List ℕ) → IsArranged table widths → IsArranged (seen_table table) widths
-arranged_as_seen table widths arranged =
-    record { one_for_each = arranged.one_for_each; hidden_widths = arranged.hidden_widths; visible_widths = arranged.visible_widths }
-
--- and the other way round
-pub seen_is_arranged : (table : TableValue) (widths : List ℕ) → IsArranged (seen_table table) widths → IsArranged table widths
-seen_is_arranged table widths arranged =
-    record { one_for_each = arranged.one_for_each; hidden_widths = arranged.hidden_widths; visible_widths = arranged.visible_widths }

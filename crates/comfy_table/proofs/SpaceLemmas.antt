@@ -22,7 +22,7 @@ spaces-front run n left is within = grind (arith, length-replicate, take-replica
 
 -- each byte of a run is a space
 pub space-at : (run : Text) (n i d : ℕ) → run ≡ spaces n → i < length run → slice_index_or run i d ≡ 0x20
-space-at run n i d is below = grind (arith, length-replicate, slice_index_or, get_or-replicate)
+space-at run n i d is below = grind (arith, length-replicate, get_or-replicate)
 
 module _ (cell : CellValue) (info : ColumnInfo) (line : Text) (left right : ℕ)
     (is_left : left ≡ info.padding.0 + free_before (cell_alignment cell info) (free_places info line))

@@ -1,20 +1,21 @@
 -- All lines of a table whose lines fit measure the same.
-use Rattle.std.proofs.Common.{◌≡◌, ◌<◌, ◌≤◌, ◌⊎◌, inl, inr, ℕ, ◌+◌, Bool, true, false, List, [], ◌∷◌, ◌++◌, Option, Some, None, length, sum, refl, ◌∙◌, subst, arith, slice_index_or}
-use Rattle.std.specs.List.{All, range_with_len, slice_get}
-use Rattle.std.specs.Prelude.{if◌then◌else◌, option_to_list, IsUtf8}
+use Rattle.std.proofs.lemmas.Bool.{cond_both}
+use Rattle.std.proofs.Common.{◌≡◌, ◌<◌, ◌≤◌, ◌⊎◌, inl, inr, ℕ, ◌+◌, Bool, List, [], Option, Some, None, length, sum, refl, ◌∙◌, subst, arith, slice_index_or}
+use Rattle.std.specs.List.{All, slice_get}
+use Rattle.std.specs.Prelude.{IsUtf8}
 use Rattle.std.proofs.lemmas.List.{length-map}
-use Rattle.std.proofs.lemmas.List.Elements.{All-cons, All-nil, All-head, All-tail, All-append, All-weaker, All-map}
+use Rattle.std.proofs.lemmas.List.Elements.{All-cons, All-nil, All-weaker, All-map}
 use Rattle.comfy_parts.specs.CellValue.{CellValue, RowValue, ColumnInfo, info_width}
 use Rattle.comfy_parts.specs.Text.{Text, measure}
 use Rattle.comfy_parts.specs.declared.style.table_style.ContentLineStyle.{ContentLineStyle}
 use Rattle.comfy_parts.specs.declared.style.table_style.LineStyle.{LineStyle}
-use Rattle.comfy_table.proofs.EqualCountLemmas.{length-infos_from}
-use Rattle.comfy_table.proofs.ListLemmas.{All-every, At-or, All-join_by, AllZip-map}
-use Rattle.comfy_table.specs.Drawing.{infos_of, visible_widths, drawn_row, drawn_header, drawn_rows, drawing_of_infos, drawing}
+use Rattle.comfy_table.proofs.EqualCountLemmas.{All-drawing, All-row, length-infos_from}
+use Rattle.comfy_table.proofs.ListLemmas.{At-or, AllZip-map}
+use Rattle.comfy_table.specs.Drawing.{infos_of, visible_widths, drawn_row, drawing_of_infos, drawing}
 use Rattle.comfy_table.specs.Frame.{border_count, content_line, draws_vertical_lines, frame_line, is_drawn, optional_frame_line}
 use Rattle.comfy_table.specs.Laws.{line_total, unstyled}
-use Rattle.comfy_table.specs.Pieces.{blank_piece, pieces_of_optional, pieces_at, piece, row_cell_lines, row_line, row_lines, row_height, visible_infos}
-use Rattle.comfy_table.specs.TableValue.{TableValue, seen_table, seen_rows}
+use Rattle.comfy_table.specs.Pieces.{blank_piece, pieces_of_optional, pieces_at, piece, row_cell_lines, row_line, visible_infos}
+use Rattle.comfy_table.specs.TableValue.{TableValue, seen_rows}
 use Rattle.comfy_table.specs.Widths.{visible_count}
 use Rattle.comfy_table.specs.Arrangement.{IsArranged}
 use Rattle.comfy_table.specs.Straight.{EachCell, IsShownWhole, IsStraightTable, LinesFit, TextsFit, TextsStandApart}
@@ -61,10 +62,7 @@ module _ (table : TableValue) (infos : List ColumnInfo) (Follows : Text → Type
   -- each line of a row has them
   row_measured : (line : ContentLineStyle) (row : RowValue) → IsOneColumn line.left → IsOneColumn line.junction → IsOneColumn line.right
       → All (ArePiecesGood Follows table row) (visible_infos infos) → All HasTotal (drawn_row (unstyled table) infos line row)
-  row_measured line row left junction right each =
-      All-map HasTotal (content_line table.style line) (row_lines (unstyled table) infos row)
-      (All-map (λ pieces. HasTotal (content_line table.style line pieces)) (row_line (unstyled table) infos row) (range_with_len 0 (row_height (unstyled table) infos row))
-      (All-every (λ k. HasTotal (content_line table.style line (row_line (unstyled table) infos row k))) (range_with_len 0 (row_height (unstyled table) infos row)) at))
+  row_measured line row left junction right each = All-row HasTotal (unstyled table) infos line row at
     where
       Good : ℕ × ColumnInfo → Text → Type 0
       Good p = IsGoodPiece Follows (draws_vertical_lines table.style) (info_width p.1)
@@ -80,49 +78,24 @@ module _ (table : TableValue) (infos : List ColumnInfo) (Follows : Text → Type
 
   -- a frame line that is drawn has them
   frame_measured : (line : LineStyle) → IsOneColumn line.left → IsOneColumn line.fill → IsOneColumn line.junction → IsOneColumn line.right → All HasTotal (optional_frame_line table.style line (visible_widths infos))
-  frame_measured line left fill junction right = by_test (is_drawn line)
-    where
-      by_test : (b : Bool) → All HasTotal (if b then frame_line table.style line (visible_widths infos) ∷ [] else [])
-      by_test true =
-          All-cons HasTotal (frame_line table.style line (visible_widths infos)) [] (HasMeasure-any Follows _ _ (HasMeasure-frame_line table.style line (visible_widths infos) left fill junction right)) (All-nil HasTotal)
-      by_test false = All-nil HasTotal
+  frame_measured line left fill junction right =
+      cond_both (is_drawn line) _ [] (All HasTotal)
+      (λ _. All-cons HasTotal (frame_line table.style line (visible_widths infos)) [] (HasMeasure-any Follows _ _ (HasMeasure-frame_line table.style line (visible_widths infos) left fill junction right)) (All-nil HasTotal))
+      (λ _. All-nil HasTotal)
 
   -- all lines have them
   drawing_measured : All (λ row. All (ArePiecesGood Follows table row) (visible_infos infos)) (seen_rows table) → All HasTotal (drawing_of_infos (unstyled table) infos)
-  drawing_measured each = by_header (seen_table table).header each
+  drawing_measured each =
+      All-drawing HasTotal (unstyled table) infos (λ row. All (ArePiecesGood Follows table row) (visible_infos infos))
+      (frame_measured table.style.top_border (at 0 (omega arith)) (at 1 (omega arith)) (at 2 (omega arith)) (at 3 (omega arith)))
+      (frame_measured table.style.header_separator (at 7 (omega arith)) (at 8 (omega arith)) (at 9 (omega arith)) (at 10 (omega arith)))
+      (frame_measured table.style.row_separator (at 14 (omega arith)) (at 15 (omega arith)) (at 16 (omega arith)) (at 17 (omega arith)))
+      (frame_measured table.style.bottom_border (at 18 (omega arith)) (at 19 (omega arith)) (at 20 (omega arith)) (at 21 (omega arith)))
+      (λ row own. row_measured table.style.header_lines row (at 4 (omega arith)) (at 5 (omega arith)) (at 6 (omega arith)) own)
+      (λ row own. row_measured table.style.content_lines row (at 11 (omega arith)) (at 12 (omega arith)) (at 13 (omega arith)) own) each
     where
       at : (k : ℕ) → k < 22 → IsOneColumn (slice_index_or (style_characters table.style) k None)
       at k below = characters k None below
-
-      header_separator : All HasTotal (optional_frame_line table.style table.style.header_separator (visible_widths infos))
-      header_separator = frame_measured table.style.header_separator (at 7 (omega arith)) (at 8 (omega arith)) (at 9 (omega arith)) (at 10 (omega arith))
-
-      header_lines : (header : Option RowValue) → All (λ row. All (ArePiecesGood Follows table row) (visible_infos infos)) (option_to_list header ++ (seen_table table).rows)
-          → All HasTotal (drawn_header (unstyled table) infos header)
-      header_lines None each = All-nil HasTotal
-      header_lines (Some row) each =
-          All-append HasTotal (drawn_row (unstyled table) infos table.style.header_lines row) _
-          (row_measured table.style.header_lines row (at 4 (omega arith)) (at 5 (omega arith)) (at 6 (omega arith)) (All-head (λ row. All (ArePiecesGood Follows table row) (visible_infos infos)) row (seen_table table).rows each)) header_separator
-
-      rows_of : (header : Option RowValue) → All (λ row. All (ArePiecesGood Follows table row) (visible_infos infos)) (option_to_list header ++ (seen_table table).rows)
-          → All (λ row. All (ArePiecesGood Follows table row) (visible_infos infos)) (seen_table table).rows
-      rows_of None each = each
-      rows_of (Some row) each = All-tail (λ row. All (ArePiecesGood Follows table row) (visible_infos infos)) row (seen_table table).rows each
-
-      rows_lines : All (λ row. All (ArePiecesGood Follows table row) (visible_infos infos)) (seen_table table).rows → All HasTotal (drawn_rows (unstyled table) infos (seen_table table).rows)
-      rows_lines each =
-          All-join_by HasTotal (drawn_row (unstyled table) infos table.style.content_lines) (optional_frame_line table.style table.style.row_separator (visible_widths infos)) (seen_table table).rows
-          (frame_measured table.style.row_separator (at 14 (omega arith)) (at 15 (omega arith)) (at 16 (omega arith)) (at 17 (omega arith)))
-          (All-weaker (λ row. All (ArePiecesGood Follows table row) (visible_infos infos)) (λ row. All HasTotal (drawn_row (unstyled table) infos table.style.content_lines row))
-          (λ row own. row_measured table.style.content_lines row (at 11 (omega arith)) (at 12 (omega arith)) (at 13 (omega arith)) own) (seen_table table).rows each)
-
-      by_header : (header : Option RowValue) → All (λ row. All (ArePiecesGood Follows table row) (visible_infos infos)) (option_to_list header ++ (seen_table table).rows)
-          → All HasTotal (optional_frame_line table.style table.style.top_border (visible_widths infos) ++ (drawn_header (unstyled table) infos header ++ (drawn_rows (unstyled table) infos (seen_table table).rows ++ optional_frame_line table.style table.style.bottom_border (visible_widths infos))))
-      by_header header each =
-          All-append HasTotal _ _ (frame_measured table.style.top_border (at 0 (omega arith)) (at 1 (omega arith)) (at 2 (omega arith)) (at 3 (omega arith)))
-          (All-append HasTotal (drawn_header (unstyled table) infos header) _ (header_lines header each)
-          (All-append HasTotal (drawn_rows (unstyled table) infos (seen_table table).rows) _ (rows_lines (rows_of header each))
-          (frame_measured table.style.bottom_border (at 18 (omega arith)) (at 19 (omega arith)) (at 20 (omega arith)) (at 21 (omega arith)))))
 
   -- so all lines measure them
   pub drawing_straight : All (λ row. All (ArePiecesGood Follows table row) (visible_infos infos)) (seen_rows table) → All (λ line. measure line ≡ total_of) (drawing_of_infos (unstyled table) infos)

@@ -1,10 +1,9 @@
 -- The sequences round a styled text show nothing, so a styled piece shows its plain piece.
-use Rattle.std.proofs.Common.{◌≡◌, ℕ, zero, suc, ◌/◌, ◌%◌, Bool, true, false, cond, ◌&&◌, ◌==◌, nat_lt, List, [], ◌∷◌, ◌++◌, Option, Some, None, refl, ap₂, ◌∙◌, subst, arith, append-nil}
+use Rattle.std.proofs.Common.{◌≡◌, ℕ, zero, suc, ◌/◌, ◌%◌, Bool, true, false, cond, ◌&&◌, ◌==◌, List, [], ◌∷◌, ◌++◌, Option, Some, None, refl, ap₂, ◌∙◌, subst, arith, append-nil}
 use Rattle.std.specs.List.{list_all, flat_map, filter}
 use Rattle.std.specs.Fmt.{digits, digits_onto, digit_glyph, decimal}
 use Rattle.std.specs.Prelude.{if◌then◌else◌, codes}
 use Rattle.std.proofs.lemmas.Bool.{and_parts}
-use Rattle.std.proofs.lemmas.Bool.Decides.{nat_tests}
 use Rattle.std.proofs.lemmas.List.Folds.{list_all-append}
 use Rattle.comfy_parts.proofs.ShownLemmas.{Shows, Shows-nil, Shows-append, Shows-byte, Shows-sequence}
 use Rattle.comfy_parts.specs.CellValue.{CellValue, ColumnInfo}
@@ -21,7 +20,7 @@ use Rattle.comfy_table.specs.TableValue.{TableValue, should_style}
 
 -- a digit is a parameter
 parameter-glyph : (n : ℕ) → is_parameter (digit_glyph false (n % 10)) ≡ true
-parameter-glyph n = grind (arith, nat_lt, nat_tests)
+parameter-glyph n = grind arith
 
 -- digits before parameters are parameters
 digits_onto-parameters : (k n : ℕ) (acc : Text) → list_all is_parameter acc ≡ true → list_all is_parameter (digits_onto k 10 false n acc) ≡ true
@@ -98,7 +97,7 @@ Shows-when false text shows = Shows-nil
 
 -- what stands behind a styled text shows nothing
 Shows-style_end : (cell : CellValue) → Shows [] (style_end cell)
-Shows-style_end cell = grind (arith, Shows, Shows-append, Shows-when, Shows-sequence)
+Shows-style_end cell = grind arith
 
 -- a styled text shows what the text shows
 pub Shows-styled : (cell : CellValue) (shown text : Text) → Shows shown text → Shows shown (styled cell text)

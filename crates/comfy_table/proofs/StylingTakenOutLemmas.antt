@@ -1,10 +1,12 @@
 -- The sequences taken out of the styled lines, the unstyled lines are left.
+use Rattle.comfy_table.proofs.EveryLemmas.{every-weaker}
+use Rattle.std.proofs.lemmas.Bool.{cond_both}
 use Rattle.std.proofs.Common.{◌≡◌, ◌<◌, ℕ, zero, suc, Bool, true, false, ◌==◌, List, [], ◌∷◌, ◌++◌, Option, Some, None, length, map, unwrap_or, refl, sym, ap₂, subst, arith, slice_index_or}
 use Rattle.std.specs.List.{All, AllByRecursion, AllZip, flat_map, join_by, repeat, range_with_len, slice_get}
 use Rattle.std.specs.Prelude.{if◌then◌else◌, option_map, option_to_list}
 use Rattle.std.specs.Str.{IsUtf8}
 use Rattle.std.proofs.lemmas.Slice.Zip.{AllZip-long}
-use Rattle.std.proofs.lemmas.List.Elements.{All-cons, All-head, All-nil, All-tail, All-weaker}
+use Rattle.std.proofs.lemmas.List.Elements.{All-head, All-tail, All-weaker}
 use Rattle.comfy_parts.proofs.ShownLemmas.{Shows, Shows-nil, Shows-append, Shows-clear, visible_text-is}
 use Rattle.comfy_parts.specs.CellValue.{CellValue, RowValue, ColumnInfo, info_width}
 use Rattle.comfy_parts.specs.Text.{Text, greatest}
@@ -13,17 +15,17 @@ use Rattle.comfy_parts.specs.declared.style.table_style.ContentLineStyle.{Conten
 use Rattle.comfy_parts.specs.declared.style.table_style.LineStyle.{LineStyle}
 use Rattle.comfy_parts.specs.declared.style.table_style.TableStyle.{TableStyle}
 use Rattle.comfy_table.proofs.EscapeLemmas.{HasNoEscape-character, row_cell_lines-clear}
-use Rattle.comfy_table.proofs.ListLemmas.{All-every, All-at, AllZip-map, AllZip-map_map, AllZip-append, AllZip-join_by, At-or-both}
-use Rattle.comfy_table.proofs.SeenLemmas.{cell_seen, get_seen, header_seen, join_by-map, row_seen, rows_seen, seen_whole}
+use Rattle.comfy_table.proofs.ListLemmas.{All-every, All-at, AllZip-map, AllZip-map_map, AllZip-append, AllZip-join_by, At-or-both, All-of_map}
+use Rattle.comfy_table.proofs.SeenLemmas.{cell_seen, get_seen, header_seen, join_by-map, row_seen, rows_seen, seen_whole, seen_rows-is}
 use Rattle.comfy_table.proofs.StyledLemmas.{Shows-spaces, Shows-written_piece}
 use Rattle.comfy_table.proofs.WrittenLemmas.{texts_seen, texts_show}
 use Rattle.comfy_table.specs.Drawing.{infos_of, visible_widths, drawn_row, drawn_header, drawn_rows, drawing_of_infos, drawing}
-use Rattle.comfy_table.specs.Frame.{character, between_borders, content_line, frame_line, is_drawn, optional_frame_line, draws_left_border, draws_right_border, draws_vertical_lines, left_characters, right_characters, junction_characters}
+use Rattle.comfy_table.specs.Frame.{character, between_borders, content_line, is_drawn, optional_frame_line, draws_left_border, draws_right_border, draws_vertical_lines, left_characters, right_characters, junction_characters}
 use Rattle.comfy_table.specs.Laws.{unstyled, HasNoEscape, IsFreeOfEscapes}
 use Rattle.comfy_table.specs.Lines.{cell_delimiter, cell_lines, cut_to_limit}
 use Rattle.comfy_parts.specs.VisibleLines.{CellLine}
 use Rattle.comfy_table.specs.Pieces.{cell_pieces, plain_piece, row_cell_texts, written_piece, blank_piece, pieces_of_optional, pieces_at, piece, row_cell_lines, row_line, row_height, visible_infos}
-use Rattle.comfy_table.specs.TableValue.{TableValue, header_and_rows, seen_cell, seen_rows, visible_row, HasWholeTexts}
+use Rattle.comfy_table.specs.TableValue.{TableValue, header_and_rows, seen_cell, seen_rows, HasWholeTexts}
 
 -- ---- framed lines
 
@@ -110,15 +112,13 @@ Shows-joined style left junction right shown texts l j r each =
 
 -- a frame line that is drawn shows itself
 frame_shows : (style : TableStyle) (line : LineStyle) (widths : List ℕ) → IsClearFrame line → AllZip Shows (optional_frame_line style line widths) (optional_frame_line style line widths)
-frame_shows style line widths clear = by_test (is_drawn line)
+frame_shows style line widths clear =
+    cond_both (is_drawn line) _ [] (λ (lines : List Text). AllZip Shows lines lines)
+    (λ _. (Shows-joined style line.left line.junction line.right _ _ clear.left clear.junction clear.right (fills widths), tt)) (λ _. tt)
   where
     fills : (widths : List ℕ) → AllZip Shows (map (λ (width : ℕ). repeat width (character line.fill)) widths) (map (λ (width : ℕ). repeat width (character line.fill)) widths)
     fills [] = tt
     fills (w ∷ widths) = (Shows-repeat w (character line.fill) (Shows-character line.fill clear.fill), fills widths)
-
-    by_test : (b : Bool) → AllZip Shows (if b then frame_line style line widths ∷ [] else []) (if b then frame_line style line widths ∷ [] else [])
-    by_test true = (Shows-joined style line.left line.junction line.right _ _ clear.left clear.junction clear.right (fills widths), tt)
-    by_test false = tt
 
 -- ---- rows
 
@@ -131,11 +131,6 @@ record IsClearRow (row : RowValue) : Type 0 where
 seen_shown : (f : CellLine → Text) (g : Text → Text) (lines : List CellLine) → AllByRecursion (λ (line : CellLine). Shows (g line.seen) (f line)) lines → AllZip Shows (map g (map (λ (line : CellLine). line.seen) lines)) (map f lines)
 seen_shown f g [] each = tt
 seen_shown f g (line ∷ lines) each = (each.0, seen_shown f g lines each.1)
-
--- what follows for each line
-each_follows : (P Q : CellLine → Type 0) (lines : List CellLine) → ((line : CellLine) → P line → Q line) → AllByRecursion P lines → AllByRecursion Q lines
-each_follows P Q [] follows each = tt
-each_follows P Q (line ∷ lines) follows each = (follows line each.0, each_follows P Q lines follows each.1)
 
 -- the pieces of a cell show the unstyled ones of the cell as it is seen, with custom styling or without
 cell_pieces_show : (table : TableValue) (row : RowValue) (info : ColumnInfo) (cell : CellValue) → HasNoEscape table.indicator → All IsUtf8 (seen_cell table cell).text_lines → All HasNoEscape (seen_cell table cell).text_lines
@@ -153,7 +148,7 @@ cell_pieces_show table row info cell mark = by_setting table.custom_styling
     by_setting true whole clear =
         subst (λ (lines : List Text). AllZip Shows (map (plain_piece cell info) lines) (map (λ (line : CellLine). written_piece table cell info line.seen line.written) (row_cell_texts table row info cell))) (texts_seen table row info cell)
         (seen_shown (λ (line : CellLine). written_piece table cell info line.seen line.written) (plain_piece cell info) (row_cell_texts table row info cell)
-        (each_follows (λ (line : CellLine). Shows line.seen line.written) (λ (line : CellLine). Shows (plain_piece cell info line.seen) (written_piece table cell info line.seen line.written)) (row_cell_texts table row info cell)
+        (every-weaker (λ (line : CellLine). Shows line.seen line.written) (λ (line : CellLine). Shows (plain_piece cell info line.seen) (written_piece table cell info line.seen line.written)) (row_cell_texts table row info cell)
         (λ line shows. Shows-written_piece table cell info line.seen line.written shows) (texts_show table row info cell mark whole clear)))
     by_setting false whole clear =
         let lines : List Text = cut_to_limit row.max_height info.content_width table.indicator (cell_lines info.content_width d cell) in
@@ -248,26 +243,7 @@ visible_texts-are (s ∷ shown) (text ∷ texts) each =
 
 -- the rows of a table as it is seen, row by row
 rows_clear : (table : TableValue) → All IsClearRow (seen_rows table) → All (λ (row : RowValue). IsClearRow (row_seen table.custom_styling row)) (header_and_rows table)
-rows_clear table each = by_setting table.custom_styling each
-  where
-    every : (custom : Bool) (rows : List RowValue) → All IsClearRow (map (row_seen custom) rows) → All (λ (row : RowValue). IsClearRow (row_seen custom row)) rows
-    every custom [] each = All-nil (λ (row : RowValue). IsClearRow (row_seen custom row))
-    every custom (row ∷ rows) each =
-        All-cons (λ (row : RowValue). IsClearRow (row_seen custom row)) row rows (All-head IsClearRow (row_seen custom row) (map (row_seen custom) rows) each)
-        (every custom rows (All-tail IsClearRow (row_seen custom row) (map (row_seen custom) rows) each))
-
-    with_header : (custom : Bool) (header : Option RowValue) → All IsClearRow (option_to_list (option_map (row_seen custom) header) ++ map (row_seen custom) table.rows)
-        → All (λ (row : RowValue). IsClearRow (row_seen custom row)) (option_to_list header ++ table.rows)
-    with_header custom None each = every custom table.rows each
-    with_header custom (Some row) each =
-        All-cons (λ (row : RowValue). IsClearRow (row_seen custom row)) row table.rows (All-head IsClearRow (row_seen custom row) (map (row_seen custom) table.rows) each)
-        (every custom table.rows (All-tail IsClearRow (row_seen custom row) (map (row_seen custom) table.rows) each))
-
-    by_setting : (custom : Bool) → All IsClearRow (option_to_list (if custom then option_map visible_row table.header else table.header) ++ (if custom then map visible_row table.rows else table.rows))
-        → All (λ (row : RowValue). IsClearRow (row_seen custom row)) (header_and_rows table)
-    by_setting custom each =
-        with_header custom table.header (subst (λ (header : Option RowValue). All IsClearRow (option_to_list header ++ map (row_seen custom) table.rows)) (header_seen custom table.header)
-        (subst (λ (rows : List RowValue). All IsClearRow (option_to_list (if custom then option_map visible_row table.header else table.header) ++ rows)) (rows_seen custom table.rows) each))
+rows_clear table each = All-of_map IsClearRow (row_seen table.custom_styling) (header_and_rows table) (subst (All IsClearRow) (seen_rows-is table) each)
 
 -- the sequences taken out of the styled lines, the unstyled lines are left; bytes that are no UTF-8 could be cut so that an ESC arises
 abbrev pub StylingTakenOut : TableValue → List ℕ → Type 0

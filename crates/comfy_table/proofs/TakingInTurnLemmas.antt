@@ -1,11 +1,9 @@
 -- The loop in which columns take a width in turn: what it keeps, and what it leads to.
-use Rattle.std.proofs.lemmas.Bool.Decides.{nat_tests}
-use Rattle.std.proofs.Common.{◌≡◌, ◌<◌, ◌≤◌, ℕ, zero, suc, ◌+◌, ◌-◌, ◌*◌, ◌/◌, Bool, true, false, List, [], ◌∷◌, ◌++◌, length, Option, Some, None, slice_get, nat_lt, not, ◌&&◌, ◌==◌, refl, sym, ap, ap₂, ◌∙◌, subst, arith, inl, inr, ⊎_elim, suc-mul}
+use Rattle.std.proofs.Common.{◌≡◌, ◌<◌, ◌≤◌, ℕ, zero, suc, ◌+◌, ◌-◌, ◌*◌, ◌/◌, true, List, [], ◌∷◌, ◌++◌, length, Option, Some, None, slice_get, not, ◌&&◌, ◌==◌, refl, sym, ap, ap₂, ◌∙◌, subst, arith, inl, inr, ⊎_elim}
 use Rattle.std.specs.Prelude.{◌⊎◌, slice_set}
-use Rattle.std.proofs.lemmas.Bool.{cases_lt, ltb-true, ltb-false, eq-eqb}
+use Rattle.std.proofs.lemmas.Bool.{cases_lt, eq-eqb, and_parts}
 use Rattle.std.proofs.lemmas.Option.{slice_get_within}
 use Rattle.std.proofs.lemmas.List.Sums.{sum_by_push}
-use Rattle.std.proofs.Math.Nat.{eq-or-lt_of_le}
 use Rattle.comfy_table.specs.Deciding.{HasTaken, HasTakenInTurn, average_room, is_undecided, offer_by_rule, place_behind, undecided_among, undecided_count, width_at, width_by_rule, with_shares}
 use Rattle.comfy_table.specs.Dynamic.{Placed, Share, going_round, next_taken, total, without_shares}
 use Rattle.comfy_table.specs.Widths.{ColumnNeeds}
@@ -22,11 +20,11 @@ IsBehind n place passed i = (i < n) × (((i < place) × (place ≤ i + passed)) 
 
 -- one place on, it is the place itself or was behind it before
 behind_one_more : (n place passed i : ℕ) → place < n → IsBehind n (place_behind n place) (passed + 1) i → (place ≡ i) ⊎ IsBehind n place passed i
-behind_one_more n place passed i within = grind (arith, nat_lt, ⊎_elim, eq-or-lt_of_le, ltb-false)
+behind_one_more n place passed i within = grind arith
 
 -- what was behind the place, and the place itself, are behind the next one
 behind_next : (n place passed i : ℕ) → place < n → passed < n → IsBehind n place passed i ⊎ (place ≡ i) → IsBehind n (place_behind n place) (passed + 1) i
-behind_next n place passed i within fewer behind = grind (arith, within, ltb-false)
+behind_next n place passed i within fewer behind = grind arith
 
 -- all places are behind where as many were passed
 all_behind : (n place passed i : ℕ) → place < n → n ≤ passed → i < n → IsBehind n place passed i
@@ -35,7 +33,7 @@ all_behind n place passed i within all below =
 
 -- the places since one that is behind are behind
 between_behind : (n place passed from i : ℕ) → place < n → i < n → IsBehind n place passed from ⊎ (place ≡ from) → IsBetween from place i → IsBehind n place passed i
-between_behind n place passed from i within below since between = grind (arith, ⊎_elim)
+between_behind n place passed from i within below since between = grind arith
 
 -- the last one taken is that from which the next is looked for
 place_after-push : (candidates : List Placed) (offer : List Share → Placed → Option ℕ) (from : ℕ) (order : List Share) (t : Share) → place_after candidates offer from (order ++ t ∷ []) ≡ t.0
@@ -57,7 +55,7 @@ count-set (Some w ∷ widths) (suc i) width left = count-set widths i width left
 
 -- one undecided column fewer outweighs the places that are passed
 pub fewer_undecided : (count count' n passed passed' : ℕ) → count' + 1 ≡ count → passed < n → count' * (n + 1) + (n - passed') < count * (n + 1) + (n - passed)
-fewer_undecided count count' n passed passed' fewer below = grind (arith, suc-mul)
+fewer_undecided count count' n passed passed' fewer below = grind arith
 
 -- a column that takes a width is undecided
 pub record Takes (rule : Rule) (average : ℕ) (needs : List ColumnNeeds) (widths : List (Option ℕ)) (place width : ℕ) : Type 0 where
@@ -69,11 +67,11 @@ pub record Takes (rule : Rule) (average : ℕ) (needs : List ColumnNeeds) (width
 module _ (rule : Rule) (average : ℕ) (needs : List ColumnNeeds) (widths : List (Option ℕ)) (place : ℕ) where
   -- the width at a place
   pub width_at-some : (width : ℕ) → width_at rule average needs widths place ≡ Some width → Takes rule average needs widths place width
-  width_at-some width is = grind (arith, nat_tests)
+  width_at-some width is = grind arith
 
   -- without one, an undecided column takes nothing
   pub width_at-none : width_at rule average needs widths place ≡ None → (d : ColumnNeeds) → slice_get needs place ≡ Some d → is_undecided widths place ≡ true → width_by_rule rule average d ≡ None
-  width_at-none is d found left = grind (arith, slice_get)
+  width_at-none is d found left = grind arith
 
 module _ (rule : Rule) (needs : List ColumnNeeds) (old : Budget) where
   -- the columns that may take a width
@@ -93,10 +91,6 @@ module _ (rule : Rule) (needs : List ColumnNeeds) (old : Budget) where
     pub average_is : average ≡ average_room now
     pub nothing : (i : ℕ) (d : ColumnNeeds) → slice_get needs i ≡ Some d → IsBehind (length needs) place passed i → is_undecided now.widths.items i ≡ true → width_by_rule rule average d ≡ None
     pub since : IsBehind (length needs) place passed (place_after candidates offer 0 order) ⊎ (place ≡ place_after candidates offer 0 order)
-
-  -- at first nothing is taken and nothing passed
-  pub turn_starts : (average : ℕ) → average ≡ average_room old → IsTurn old 0 0 average
-  turn_starts average is = grind (arith, ⊎_elim)
 
   module _ (same_length : length old.widths.items ≡ length needs) (now : Budget) (place passed average : ℕ) (turn : IsTurn now place passed average) where
     -- the columns that are left
@@ -134,7 +128,7 @@ module _ (rule : Rule) (needs : List ColumnNeeds) (old : Budget) where
         }
       where
         place_within : place < length needs → place_behind (length needs) place < length needs
-        place_within within = grind (arith, ltb-true, within)
+        place_within within = grind arith
 
     -- where as many places were passed as there are columns, none takes anything any more
     pub turn_ends : length needs ≤ passed → HasTakenInTurn rule needs old now
@@ -176,7 +170,7 @@ module _ (rule : Rule) (needs : List ColumnNeeds) (old : Budget) where
         }
       where
         place_within : place < length needs → place_behind (length needs) place < length needs
-        place_within below = grind (arith, ltb-true)
+        place_within below = grind arith
 
         here_behind : place < length needs → IsBehind (length needs) (place_behind (length needs) place) passed' place
         here_behind below =
@@ -188,7 +182,7 @@ module _ (rule : Rule) (needs : List ColumnNeeds) (old : Budget) where
             → (i : ℕ) (d : ColumnNeeds) → slice_get needs i ≡ Some d → IsBehind (length needs) (place_behind (length needs) place) passed' i → is_undecided new.widths.items i ≡ true → width_by_rule rule average' d ≡ None
         nothing_new set i d found behind left =
             let both : (is_undecided now.widths.items i && not (place == i)) ≡ true = sym (set i width) ∙ ap (λ (ws : List (Option ℕ)). is_undecided ws i) (sym widths_are) ∙ left in
-            let parts = both_parts (is_undecided now.widths.items i) (not (place == i)) both in
+            let parts = and_parts (is_undecided now.widths.items i) (not (place == i)) both in
             let other : place ≡ i → width_by_rule rule average' d ≡ None = λ same. let is : (place == i) ≡ true = eq-eqb place i same in absurd (cc (parts.1, is)) in
             ⊎_elim
             (λ one.
@@ -201,8 +195,3 @@ module _ (rule : Rule) (needs : List ColumnNeeds) (old : Budget) where
           where
             place_now : slice_get needs i ≡ Some d → place < length needs
             place_now found = turn.within (omega (arith, slice_get_within needs i d found))
-
-            both_parts : (a b : Bool) → (a && b) ≡ true → (a ≡ true) × (b ≡ true)
-            both_parts true true is = (refl, refl)
-            both_parts true false is = absurd (cc is)
-            both_parts false b is = absurd (cc is)

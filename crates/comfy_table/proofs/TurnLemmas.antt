@@ -25,7 +25,7 @@ module _ (offer : Placed → Option ℕ) (test left : ℕ → Bool) where
 
   -- a column in front of them to which nothing is offered
   passing_over : (k : ℕ) (x : ColumnNeeds) (more : List Placed) (shares : List Share) → (test k ≡ true → left k ≡ true → offer (k, x) ≡ None) → shares_of offer (passing more) ≡ shares → shares_of offer (passing ((k, x) ∷ more)) ≡ shares
-  passing_over k x more shares none rest = grind (arith, option_map)
+  passing_over k x more shares none rest = grind arith
 
   -- where nothing is offered to any of them, there is no share
   none_among : (k : ℕ) (columns : List ColumnNeeds) → ((j q : ℕ) (d : ColumnNeeds) → slice_get columns j ≡ Some d → k + j ≡ q → test q ≡ true → left q ≡ true → offer (q, d) ≡ None)
@@ -63,7 +63,7 @@ module _ (needs : List ColumnNeeds) (widths : List (Option ℕ)) (offer : Placed
   -- where nothing is offered to any, none is next
   pub none_next : (from : ℕ) → ((i : ℕ) (d : ColumnNeeds) → slice_get needs i ≡ Some d → is_undecided widths i ≡ true → offer (i, d) ≡ None)
       → slice_get (shares_of offer (going_round from (undecided_among needs widths))) 0 ≡ None
-  none_next from none = grind (arith, slice_get, shares_round, nat_le, nat_lt, none_among)
+  none_next from none = grind (arith, shares_round, none_among)
 
   -- the first to which a width is offered is next
   pub some_next : (from p : ℕ) (c : ColumnNeeds) (width : ℕ) → slice_get needs p ≡ Some c → is_undecided widths p ≡ true → offer (p, c) ≡ Some width

@@ -18,7 +18,7 @@ module _ (table : TableValue) (infos : List ColumnInfo) (off : should_style tabl
 
   same_pieces : (row : RowValue) (info : ColumnInfo) (cell : Option CellValue) → pieces_of_optional (unstyled table) row info cell ≡ pieces_of_optional table row info cell
   same_pieces row info None = refl
-  same_pieces row info (Some cell) = grind (arith, same_piece)
+  same_pieces row info (Some cell) = grind arith
 
   same_height : (row : RowValue) → row_height (unstyled table) infos row ≡ row_height table infos row
   same_height row = λ i. greatest (map (λ (p : ℕ × ColumnInfo). length (same_pieces row p.1 (slice_get row.cells p.0) i)) (visible_infos infos))
@@ -48,4 +48,4 @@ module _ (table : TableValue) (infos : List ColumnInfo) (off : should_style tabl
 
   -- the whole drawing
   pub unstyled_drawing : drawing_of_infos (unstyled table) infos ≡ drawing_of_infos table infos
-  unstyled_drawing = grind (arith, same_seen_header, same_seen_rows, same_header, same_rows)
+  unstyled_drawing = grind (arith, same_header, same_rows)

@@ -1,5 +1,5 @@
 -- Under every constraint each dynamic width is at least 1, so the lines of a table keep to the wider bound.
-use Rattle.std.proofs.Common.{◌≡◌, ◌<◌, ◌≤◌, ℕ, ◌+◌, ◌-◌, ◌/◌, Bool, true, false, List, [], ◌∷◌, ◌++◌, length, map, max, sum, Option, Some, None, option_map, nat_le, refl, arith}
+use Rattle.std.proofs.Common.{◌≡◌, ◌<◌, ◌≤◌, ℕ, ◌+◌, ◌-◌, ◌/◌, Bool, true, false, List, [], ◌∷◌, ◌++◌, length, map, max, sum, Option, Some, None, option_map, refl, arith}
 use Rattle.std.specs.Prelude.{sum_by, ⊤}
 use Rattle.std.specs.List.{AllByRecursion, enumerate_from}
 use Rattle.std.proofs.lemmas.Nat.{le-div}
@@ -51,7 +51,7 @@ upper-some level column (Some u) width is = grind arith
 -- by a level
 settled-some : (level : Option ℕ) (column : ColumnNeeds) (width : ℕ) → settled_at level column ≡ Some width → 1 ≤ width
 settled-some None column width is = absurd (cc is)
-settled-some (Some level) column width is = grind (arith, upper-some, nat_le)
+settled-some (Some level) column width is = grind arith
 
 -- fixed, by a boundary that the content does not pass
 boundary-some : (content padding : ℕ) (o : Option ℕ) (width : ℕ) → fixed_by_boundary content padding o ≡ Some width → 1 ≤ width

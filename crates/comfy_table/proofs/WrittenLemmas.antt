@@ -1,10 +1,13 @@
 -- The lines of a cell with the texts that are written for them: which are seen, which sequences are open, and what they show.
-use Rattle.std.proofs.Common.{◌≡◌, ℕ, zero, suc, ◌-◌, Bool, true, false, List, [], ◌∷◌, ◌++◌, Option, Some, None, length, map, take, drop, nat_le, refl, sym, ap, subst, slice_index_or, arith, ◌≤◌}
+use Rattle.comfy_parts.proofs.ClearLineLemmas.{IsClosedLine}
+use Rattle.comfy_table.proofs.EveryLemmas.{every-take, every-append}
+use Rattle.std.proofs.lemmas.Bool.{cond_both}
+use Rattle.std.proofs.Common.{◌≡◌, ℕ, zero, suc, ◌-◌, List, [], ◌∷◌, Option, Some, None, length, map, take, drop, nat_le, refl, sym, subst, slice_index_or, arith}
 use Rattle.std.specs.List.{All, AllByRecursion, flat_map}
 use Rattle.std.specs.Prelude.{if◌then◌else◌}
 use Rattle.std.specs.Str.{IsUtf8}
-use Rattle.std.proofs.lemmas.List.{length-map, map-append}
-use Rattle.std.proofs.lemmas.List.Elements.{All-head, All-tail, All-weaker}
+use Rattle.std.proofs.lemmas.List.{length-map, map-append, take-map, take-take, drop_all, drop_at, take-append-le, length-take}
+use Rattle.std.proofs.lemmas.List.Elements.{All-weaker, recursion_from_All}
 use Rattle.std.proofs.lemmas.Str.{IsUtf8-nil}
 use Rattle.comfy_parts.proofs.LineTextLemmas.{none_open, Shows-closed}
 use Rattle.comfy_parts.proofs.ShownLemmas.{Shows, Shows-clear, visible_text-is}
@@ -18,7 +21,7 @@ use Rattle.comfy_parts.specs.VisibleLines.{CellLine, line_texts}
 use Rattle.comfy_parts.specs.VisibleText.{closed, visible_text}
 use Rattle.comfy_parts.specs.Wrapping.{lines_of_text}
 use Rattle.comfy_table.proofs.EscapeLemmas.{cut_line-clear, lines_of_text-clear}
-use Rattle.comfy_table.proofs.ListLemmas.{All-flat_map, At-or}
+use Rattle.comfy_table.proofs.ListLemmas.{All-flat_map, At-or, All-of_map}
 use Rattle.comfy_table.specs.Laws.{CutLinesAreClosed, HasNoEscape, LinesAreResumedInRow, NoneIsOpenAtTheEnd}
 use Rattle.comfy_table.specs.Lines.{cell_delimiter, cut_to_limit, cut_cell_line, cut_cell_lines_to_limit, cut_line, uncut_count}
 use Rattle.comfy_table.specs.Pieces.{row_cell_texts}
@@ -40,36 +43,29 @@ seen_at [] k = refl
 seen_at (line ∷ lines) zero = refl
 seen_at (line ∷ lines) (suc k) = seen_at lines k
 
--- of the first lines
-seen_take : (n : ℕ) (lines : List CellLine) → seen_of (take n lines) ≡ take n (seen_of lines)
-seen_take zero lines = refl
-seen_take (suc n) [] = refl
-seen_take (suc n) (line ∷ lines) = ap (λ (xs : List Text). line.seen ∷ xs) (seen_take n lines)
-
 -- lines are cut by what is seen of them
 seen_cut : (height : Option ℕ) (w : ℕ) (indicator : Text) (lines : List CellLine) → seen_of (cut_cell_lines_to_limit height w indicator lines) ≡ cut_to_limit height w indicator (seen_of lines)
 seen_cut None w indicator lines = refl
-seen_cut (Some h) w indicator lines = grind (arith, lines, w, length-map, map-append, seen_take, seen_at)
+seen_cut (Some h) w indicator lines = grind (arith, length-map, map-append, take-map, seen_at)
 
 -- what holds of each line and of those that are cut
 pub each_cut : (P : CellLine → Type 0) (height : Option ℕ) (w : ℕ) (indicator : Text) (lines : List CellLine) → AllByRecursion P lines → ((k : ℕ) → P (cut_cell_line w indicator (slice_index_or lines k no_line)))
     → AllByRecursion P (cut_cell_lines_to_limit height w indicator lines)
 each_cut P None w indicator lines each cut = each
-each_cut P (Some h) w indicator lines each cut = by_test (nat_le (length lines) h)
-  where
-    push : (xs : List CellLine) (x : CellLine) → AllByRecursion P xs → P x → AllByRecursion P (xs ++ x ∷ [])
-    push [] x each last = (last, tt)
-    push (y ∷ ys) x each last = (each.0, push ys x each.1 last)
+each_cut P (Some h) w indicator lines each cut =
+    cond_both (nat_le (length lines) h) lines _ (AllByRecursion P) (λ _. each)
+    (λ _. every-append P (take (h - 1) lines) (cut_cell_line w indicator (slice_index_or lines (h - 1) no_line) ∷ []) (every-take P (h - 1) lines each) (cut (h - 1), tt))
 
-    front : (n : ℕ) (xs : List CellLine) → AllByRecursion P xs → AllByRecursion P (take n xs)
-    front zero xs each = tt
-    front (suc n) [] each = tt
-    front (suc n) (x ∷ xs) each = (each.0, front n xs each.1)
+-- those that aren't cut stand as they were
+pub uncut-are : (height : Option ℕ) (w : ℕ) (indicator : Text) (lines : List CellLine)
+    → take (uncut_count height lines) (cut_cell_lines_to_limit height w indicator lines) ≡ take (uncut_count height lines) lines
+uncut-are None w indicator lines = refl
+uncut-are (Some h) w indicator lines = grind (arith, nat_tests, take-append-le, take-take, length-take)
 
-    by_test : (b : Bool) → AllByRecursion P (if b then lines else take (h - 1) lines ++ cut_cell_line w indicator (slice_index_or lines (h - 1) no_line) ∷ [])
-    by_test true = each
-    by_test false =
-        push (take (h - 1) lines) (cut_cell_line w indicator (slice_index_or lines (h - 1) no_line)) (front (h - 1) lines each) (cut (h - 1))
+-- behind them there is at most the line that is cut
+cut-is : (h w : ℕ) (indicator : Text) (lines : List CellLine) → drop (uncut_count (Some h) lines) (cut_cell_lines_to_limit (Some h) w indicator lines)
+    ≡ (if nat_le (length lines) h then [] else cut_cell_line w indicator (slice_index_or lines (h - 1) no_line) ∷ [])
+cut-is h w indicator lines = grind (arith, nat_tests, drop_all, drop_at, length-take)
 
 -- ---- the lines of a cell in a row
 
@@ -86,7 +82,7 @@ texts_seen table row info cell = grind (arith, seen_cut, seen_lines)
 pub texts_show : (table : TableValue) (row : RowValue) (info : ColumnInfo) (cell : CellValue) → HasNoEscape table.indicator → All IsUtf8 (map visible_text cell.text_lines) → All HasNoEscape (map visible_text cell.text_lines)
     → AllByRecursion (λ (line : CellLine). Shows line.seen line.written) (row_cell_texts table row info cell)
 texts_show table row info cell mark utf8 clear =
-    each_cut (λ (line : CellLine). Shows line.seen line.written) row.max_height w table.indicator lines (lines_show w d cell.text_lines (of_map cell.text_lines clear)) cut
+    each_cut (λ (line : CellLine). Shows line.seen line.written) row.max_height w table.indicator lines (lines_show w d cell.text_lines cleared) cut
   where
     w : ℕ
     w = info.content_width
@@ -97,10 +93,8 @@ texts_show table row info cell mark utf8 clear =
     lines : List CellLine
     lines = line_texts w d cell.text_lines
 
-    of_map : (texts : List Text) → All HasNoEscape (map visible_text texts) → AllByRecursion (λ text. HasNoEscape (visible_text text)) texts
-    of_map [] each = tt
-    of_map (text ∷ texts) each =
-        (All-head HasNoEscape (visible_text text) (map visible_text texts) each, of_map texts (All-tail HasNoEscape (visible_text text) (map visible_text texts) each))
+    cleared : AllByRecursion (λ text. HasNoEscape (visible_text text)) cell.text_lines
+    cleared = recursion_from_All (λ text. HasNoEscape (visible_text text)) cell.text_lines (All-of_map HasNoEscape visible_text cell.text_lines clear)
 
     whole_lines : All IsUtf8 (seen_of lines)
     whole_lines =
@@ -124,63 +118,19 @@ texts_show table row info cell mark utf8 clear =
 
 -- before each visible byte of a line that isn't cut the sequences are open that are active there
 pub lines_are_resumed : (table : TableValue) (row : RowValue) (info : ColumnInfo) (cell : CellValue) → LinesAreResumedInRow table row info cell
-lines_are_resumed table row info cell = by_height row.max_height
-  where
-    w : ℕ
-    w = info.content_width
-
-    lines : List CellLine
-    lines = line_texts w (cell_delimiter table info.delimiter cell) cell.text_lines
-
-    each : AllByRecursion (IsResumedLine cell.text_lines) lines
-    each = lines_resumed w (cell_delimiter table info.delimiter cell) cell.text_lines
-
-    front : (n : ℕ) (xs : List CellLine) → AllByRecursion (IsResumedLine cell.text_lines) xs → AllByRecursion (IsResumedLine cell.text_lines) (take n xs)
-    front zero xs each = tt
-    front (suc n) [] each = tt
-    front (suc n) (x ∷ xs) each = (each.0, front n xs each.1)
-
-    before : (n : ℕ) (xs : List CellLine) (x : CellLine) → n ≤ length xs → AllByRecursion (IsResumedLine cell.text_lines) xs → AllByRecursion (IsResumedLine cell.text_lines) (take n (take n xs ++ x ∷ []))
-    before zero xs x enough each = tt
-    before (suc n) [] x enough each = absurd (omega (arith, enough))
-    before (suc n) (y ∷ ys) x enough each = (each.0, before n ys x (omega (arith, enough)) each.1)
-
-    by_test : (h : ℕ) (b : Bool) → nat_le (length lines) h ≡ b
-        → AllByRecursion (IsResumedLine cell.text_lines) (take (if b then length lines else h - 1) (if b then lines else take (h - 1) lines ++ cut_cell_line w table.indicator (slice_index_or lines (h - 1) no_line) ∷ []))
-    by_test h true is = front (length lines) lines each
-    by_test h false is = before (h - 1) lines (cut_cell_line w table.indicator (slice_index_or lines (h - 1) no_line)) (grind (arith, nat_tests, is)) each
-
-    by_height : (height : Option ℕ) → AllByRecursion (IsResumedLine cell.text_lines) (take (uncut_count height lines) (cut_cell_lines_to_limit height w table.indicator lines))
-    by_height None = front (length lines) lines each
-    by_height (Some h) = by_test h (nat_le (length lines) h) refl
+lines_are_resumed table row info cell =
+    let d = cell_delimiter table info.delimiter cell in
+    let lines = line_texts info.content_width d cell.text_lines in
+    subst (AllByRecursion (IsResumedLine cell.text_lines)) (sym (uncut-are row.max_height info.content_width table.indicator lines))
+    (every-take (IsResumedLine cell.text_lines) (uncut_count row.max_height lines) lines (lines_resumed info.content_width d cell.text_lines))
 
 -- a line that is cut is written as it is seen, closed
+closed_behind : (height : Option ℕ) (w : ℕ) (indicator : Text) (lines : List CellLine) → AllByRecursion IsClosedLine (drop (uncut_count height lines) (cut_cell_lines_to_limit height w indicator lines))
+closed_behind None w indicator lines = subst (AllByRecursion IsClosedLine) (sym (drop_all (length lines) lines (omega arith))) tt
+closed_behind (Some h) w indicator lines =
+    subst (AllByRecursion IsClosedLine) (sym (cut-is h w indicator lines)) (cond_both (nat_le (length lines) h) [] _ (AllByRecursion IsClosedLine) (λ _. tt) (λ _. (refl, tt)))
+
+-- so are those of a cell in a row
 pub cut_lines_are_closed : (table : TableValue) (row : RowValue) (info : ColumnInfo) (cell : CellValue) → CutLinesAreClosed table row info cell
-cut_lines_are_closed table row info cell = by_height row.max_height
-  where
-    w : ℕ
-    w = info.content_width
-
-    lines : List CellLine
-    lines = line_texts w (cell_delimiter table info.delimiter cell) cell.text_lines
-
-    Closed : CellLine → Type 0
-    Closed line = line.written ≡ closed line.seen
-
-    none_behind : (xs : List CellLine) → AllByRecursion Closed (drop (length xs) xs)
-    none_behind [] = tt
-    none_behind (x ∷ xs) = none_behind xs
-
-    behind : (n : ℕ) (xs : List CellLine) (x : CellLine) → n ≤ length xs → Closed x → AllByRecursion Closed (drop n (take n xs ++ x ∷ []))
-    behind zero xs x enough is = (is, tt)
-    behind (suc n) [] x enough is = absurd (omega (arith, enough))
-    behind (suc n) (y ∷ ys) x enough is = behind n ys x (omega (arith, enough)) is
-
-    by_test : (h : ℕ) (b : Bool) → nat_le (length lines) h ≡ b
-        → AllByRecursion Closed (drop (if b then length lines else h - 1) (if b then lines else take (h - 1) lines ++ cut_cell_line w table.indicator (slice_index_or lines (h - 1) no_line) ∷ []))
-    by_test h true is = none_behind lines
-    by_test h false is = behind (h - 1) lines (cut_cell_line w table.indicator (slice_index_or lines (h - 1) no_line)) (grind (arith, nat_tests, is)) refl
-
-    by_height : (height : Option ℕ) → AllByRecursion Closed (drop (uncut_count height lines) (cut_cell_lines_to_limit height w table.indicator lines))
-    by_height None = none_behind lines
-    by_height (Some h) = by_test h (nat_le (length lines) h) refl
+cut_lines_are_closed table row info cell =
+    closed_behind row.max_height info.content_width table.indicator (line_texts info.content_width (cell_delimiter table info.delimiter cell) cell.text_lines)

@@ -1,4 +1,3 @@
-use Rattle.std.proofs.lemmas.Grind.{common_steps}
 use Rattle.std.proofs.Common.{◌≡◌, ℕ, ◌+◌, List, [], ◌∷◌, ◌++◌, ap₂, arith, sym, ◌∙◌}
 use Rattle.std.proofs.lemmas.List.FromFn.{map-range_with_len_more}
 use Rattle.comfy_table.specs.TableValue.{column_content_width}
@@ -12,4 +11,4 @@ loop-position-preserved c =
     ∙ sym (map-range_with_len_more (column_content_width c.args.self.now) 0 c.loop-position.position c.loop-position.position at)
 
 pub returns : goal.returns
-returns c = grind (arith, common_steps)
+returns c = grind arith

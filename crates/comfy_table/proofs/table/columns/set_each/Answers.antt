@@ -1,4 +1,3 @@
-use Rattle.std.proofs.lemmas.Grind.{common_steps}
 use Rattle.std.proofs.Common.{◌≡◌, ◌++◌, ◌∷◌, [], ℕ, List, Some, length, slice_index_or, slice_set, arith, ap, sym, ◌∙◌}
 use Rattle.std.proofs.lemmas.List.{length-append}
 use Rattle.comfy_parts.specs.CellValue.{ColumnValue, new_column}
@@ -23,7 +22,7 @@ loop-constraint-preserved-then-position-columns g c =
     record { set = set; position = omega (arith, within, as_many, at, counted, all, ap length set) }
 
 pub loop-constraint-preserved : goal.loop-constraint-preserved
-loop-constraint-preserved g c = grind (arith, common_steps, length-constrained, constrained-past, length-append)
+loop-constraint-preserved g c = grind (arith, constrained-past, length-append)
 
 pub returns : goal.returns
 returns g c =

@@ -1,4 +1,3 @@
-use Rattle.std.proofs.lemmas.Grind.{common_steps}
 use Rattle.std.proofs.Common.{◌≡◌, List, [], ◌∷◌, ◌++◌, ap, ap₂, sym, ◌∙◌, arith}
 use Rattle.comfy_parts.specs.CellValue.{ColumnInfo, info_of, visible_among}
 use Rattle.comfy_table.proofs.DisabledLemmas.{info_by_content, infos-by_content, visible_count-among}
@@ -21,4 +20,4 @@ loop-position-preserved c =
     ∙ sym (enumerated_more f c.as_slice-columns.result.now c.loop-position.position column c.loop-position-test.true c.index-columns-position.is)
 
 pub returns : goal.returns
-returns c = grind (arith, common_steps, enumerated_all, infos-by_content)
+returns c = grind (arith, enumerated_all, infos-by_content)

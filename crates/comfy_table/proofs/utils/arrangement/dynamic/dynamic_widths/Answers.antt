@@ -1,4 +1,3 @@
-use Rattle.std.proofs.lemmas.Grind.{common_steps}
 use Rattle.std.proofs.Common.{◌≡◌, Bool, List, length, ap, sym, subst, ◌∙◌, arith}
 use Rattle.std.proofs.lemmas.List.{length-map}
 use Rattle.std.proofs.lemmas.Result.{IfOk-weaker}
@@ -11,7 +10,7 @@ use Rattle.comfy_table.proofs.UndecidedLemmas.{length-with_shares}
 use Rattle.comfy_table.proofs.utils.arrangement.dynamic.dynamic_widths.Goals as goal
 
 pub settle-requires : goal.settle-requires
-settle-requires c = grind (arith, common_steps, length-with_shares, length-map)
+settle-requires c = grind (arith, length-with_shares, length-map)
 
 pub take_in_turn-requires-2-clause-widths : goal.take_in_turn-requires-2-clause-widths
 take_in_turn-requires-2-clause-widths c =

@@ -1,4 +1,3 @@
-use Rattle.std.proofs.lemmas.Grind.{common_steps}
 use Rattle.std.proofs.Common.{arith}
 use Rattle.comfy_table.proofs.LongestLineLemmas.{longest_line-is}
 use Rattle.comfy_table.proofs.utils.arrangement.longest.column_longest_line.Goals as goal
@@ -9,4 +8,4 @@ returns-then-of_header-limit-clause-at_most c =
     omega (arith, longest_line-is table c.args.info.now c.args.position, c.header_longest_line-of_header.ensures)
 
 pub returns : goal.returns
-returns c = grind (arith, common_steps, longest_line-is)
+returns c = grind (arith, longest_line-is)

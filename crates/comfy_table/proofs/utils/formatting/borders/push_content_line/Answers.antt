@@ -3,7 +3,7 @@ use Rattle.std.proofs.Common.{◌≡◌, [], ◌++◌, ◌&&◌, Bool, string_by
 use Rattle.std.specs.Prelude.{if◌then◌else◌}
 use Rattle.comfy_parts.specs.Text.{Text}
 use Rattle.comfy_table.proofs.FrameLemmas.{between_borders-pushed}
-use Rattle.comfy_table.proofs.JoinLemmas.{joined_all, joined_more}
+use Rattle.comfy_table.proofs.JoinLemmas.{joined_more}
 use Rattle.comfy_table.specs.DrawnCells.{piece_at}
 use Rattle.comfy_table.specs.Frame.{character}
 use Rattle.comfy_table.proofs.utils.formatting.borders.push_content_line.Goals as goal
@@ -21,4 +21,4 @@ loop-position-preserved c =
     ∙ joined_more drawn vertical junction c.args.cells.now c.loop-position.position cell (string_bytes c.push_border.new.text) (string_bytes c.loop-position.text) c.loop-position-test.true c.index-cells-position.is c.loop-position.invariant
 
 pub returns : goal.returns
-returns c = grind (arith, common_steps, joined_all, between_borders-pushed)
+returns c = grind (arith, common_steps, between_borders-pushed)

@@ -1,7 +1,6 @@
-use Rattle.std.proofs.lemmas.Grind.{common_steps}
 use Rattle.std.proofs.Common.{append_assoc, arith}
 use Rattle.comfy_table.proofs.JoinLemmas.{repeat_more}
 use Rattle.comfy_table.proofs.utils.formatting.borders.push_repeated.Goals as goal
 
 pub loop-preserved : goal.loop-preserved
-loop-preserved c = grind (arith, common_steps, append_assoc, repeat_more)
+loop-preserved c = grind (arith, append_assoc, repeat_more)

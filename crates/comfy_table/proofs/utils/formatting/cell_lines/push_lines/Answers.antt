@@ -1,8 +1,7 @@
-use Rattle.std.proofs.lemmas.Grind.{common_steps}
 use Rattle.std.proofs.Common.{arith}
 use Rattle.std.proofs.lemmas.List.{get_or-map}
 use Rattle.comfy_table.proofs.JoinLemmas.{map-map}
 use Rattle.comfy_table.proofs.utils.formatting.cell_lines.push_lines.Goals as goal
 
 pub push_lines_of_text-requires : goal.push_lines_of_text-requires
-push_lines_of_text-requires c = grind (arith, common_steps, map-map, get_or-map)
+push_lines_of_text-requires c = grind (arith, map-map, get_or-map)

@@ -1,4 +1,3 @@
-use Rattle.std.proofs.lemmas.Grind.{common_steps}
 use Rattle.std.proofs.Common.{◌≡◌, ℕ, ◌+◌, List, [], ◌∷◌, ◌++◌, map, string_bytes, ap, ap₂, sym, ◌∙◌, arith}
 use Rattle.std.proofs.lemmas.List.{map-append}
 use Rattle.std.proofs.lemmas.List.FromFn.{map-range_with_len_more}
@@ -16,4 +15,4 @@ loop-line-preserved c =
     ∙ sym (map-range_with_len_more line 0 c.loop-line.line c.loop-line.line at)
 
 pub returns : goal.returns
-returns c = grind (arith, common_steps)
+returns c = grind arith

@@ -1,4 +1,3 @@
-use Rattle.std.proofs.lemmas.Grind.{common_steps}
 use Rattle.std.proofs.Common.{rules, ◌≡◌, ℕ, Bool, true, false, not, List, [], ◌∷◌, ◌++◌, ap, ap₂, sym, ◌∙◌, append-nil, arith}
 use Rattle.comfy_parts.specs.CellValue.{ColumnInfo}
 use Rattle.comfy_table.proofs.LoopLemmas.{filtered_all, filtered_more}
@@ -34,4 +33,4 @@ returns-clause-cells c =
     c.loop-position.invariant ∙ filtered_all f (λ (p : ℕ × ColumnInfo). not p.1.is_hidden) c.args.infos.now c.loop-position.position c.loop-position-test.false
 
 pub returns-clause-lines : goal.returns-clause-lines
-returns-clause-lines c = grind (arith, common_steps, filtered_all, drawn_lines)
+returns-clause-lines c = grind (arith, filtered_all, drawn_lines)

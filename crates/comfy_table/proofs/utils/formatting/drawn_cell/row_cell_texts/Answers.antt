@@ -1,7 +1,6 @@
-use Rattle.std.proofs.lemmas.Grind.{common_steps}
 use Rattle.std.proofs.Common.{arith}
 use Rattle.comfy_table.proofs.DrawnTextLemmas.{texts_kept}
 use Rattle.comfy_table.proofs.utils.formatting.drawn_cell.row_cell_texts.Goals as goal
 
 pub returns : goal.returns
-returns c = grind (arith, common_steps, texts_kept)
+returns c = grind (arith, texts_kept)

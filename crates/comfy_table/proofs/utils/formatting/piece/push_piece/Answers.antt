@@ -1,13 +1,12 @@
-use Rattle.std.proofs.lemmas.Grind.{common_steps}
 use Rattle.std.proofs.Common.{rules, ◌≡◌, ◌++◌, true, false, ap, sym, ◌∙◌, string_bytes, arith}
 use Rattle.comfy_parts.specs.Text.{Text, spaces}
-use Rattle.comfy_table.proofs.SpaceLemmas.{all-styled, five-pushed, last-pushed, line-styled, plain-made, pushed-as, pushed-behind, three-pushed}
+use Rattle.comfy_table.proofs.SpaceLemmas.{all-styled, five-pushed, last-pushed, line-styled, plain-made, pushed-behind, three-pushed}
 use Rattle.comfy_table.specs.Styling.{style_begin, style_end}
 use Rattle.comfy_table.specs.TableValue.{TableValue, should_style}
 use Rattle.comfy_table.proofs.utils.formatting.piece.push_piece.Goals as goal
 
 pub returns-then-not-should_style : goal.returns-then-not-should_style
-returns-then-not-should_style c = grind (arith, common_steps, pushed-behind, pushed-as, plain-made)
+returns-then-not-should_style c = grind (arith, plain-made)
 
 pub returns-then-table : goal.returns-then-table
 returns-then-table c =

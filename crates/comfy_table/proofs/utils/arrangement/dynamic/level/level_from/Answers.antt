@@ -1,4 +1,3 @@
-use Rattle.std.proofs.lemmas.Grind.{common_steps}
 use Rattle.std.proofs.Common.{arith}
 use Rattle.std.proofs.lemmas.List.{length-map}
 use Rattle.comfy_table.specs.Deciding.{all_needs, undecided_among}
@@ -7,10 +6,10 @@ use Rattle.comfy_table.proofs.LevelSearchLemmas.{level_found, needed_at_first, n
 use Rattle.comfy_table.proofs.utils.arrangement.dynamic.level.level_from.Goals as goal
 
 pub loop-level-init : goal.loop-level-init
-loop-level-init c = grind (arith, common_steps, undecided_among-count, length-map, needed_at_first)
+loop-level-init c = grind (arith, undecided_among-count, length-map, needed_at_first)
 
 pub loop-level-preserved : goal.loop-level-preserved
-loop-level-preserved c = grind (arith, common_steps, needed_at_next, one_each-undecided)
+loop-level-preserved c = grind (arith, needed_at_next, one_each-undecided)
 
 pub returns : goal.returns
 returns c = λ (table : TableValue).

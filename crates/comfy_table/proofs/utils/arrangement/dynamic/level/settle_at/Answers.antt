@@ -1,7 +1,6 @@
-use Rattle.std.proofs.lemmas.Grind.{common_steps}
 use Rattle.std.proofs.Common.{arith}
 use Rattle.comfy_table.proofs.SettlingLemmas.{undecided_past-none}
 use Rattle.comfy_table.proofs.utils.arrangement.dynamic.level.settle_at.Goals as goal
 
 pub returns : goal.returns
-returns c = grind (arith, common_steps, undecided_past-none)
+returns c = grind (arith, undecided_past-none)

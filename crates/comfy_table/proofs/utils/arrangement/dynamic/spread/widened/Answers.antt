@@ -1,4 +1,3 @@
-use Rattle.std.proofs.lemmas.Grind.{common_steps}
 use Rattle.std.proofs.Common.{◌<◌, ◌≤◌, ℕ, ◌+◌, List, subst, sym, arith, Option, ⊎_elim, eq-zero-or-pos}
 use Rattle.std.specs.List.{All}
 use Rattle.comfy_table.specs.Deciding.{decided}
@@ -15,4 +14,4 @@ overflow_add-unwrap_or c =
     (λ some. omega (arith, fits some, c.even_part.ensures.at_most, c.unwrap_or.ensures)) (eq-zero-or-pos room)
 
 pub loop-position-preserved : goal.loop-position-preserved
-loop-position-preserved c = grind (arith, common_steps, widened_more)
+loop-position-preserved c = grind (arith, widened_more)

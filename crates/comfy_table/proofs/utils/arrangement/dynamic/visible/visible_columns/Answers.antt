@@ -1,4 +1,3 @@
-use Rattle.std.proofs.lemmas.Grind.{common_steps}
 use Rattle.std.proofs.Common.{rules, ◌≡◌, ℕ, Bool, true, false, not, List, [], ◌∷◌, ◌++◌, ap, ap₂, sym, ◌∙◌, append-nil, arith}
 use Rattle.std.proofs.lemmas.List.{map-append}
 use Rattle.comfy_parts.specs.CellValue.{ColumnValue, is_hidden_column, visible_among}
@@ -41,4 +40,4 @@ loop-position-preserved c =
     ]
 
 pub returns : goal.returns
-returns c = grind (arith, common_steps, filtered_all)
+returns c = grind (arith, filtered_all)

@@ -1,4 +1,3 @@
-use Rattle.std.proofs.lemmas.Grind.{common_steps}
 use Rattle.std.proofs.Common.{◌∙◌, string_bytes, arith}
 use Rattle.std.proofs.lemmas.Str.{IsUtf8-string_bytes}
 use Rattle.comfy_table.proofs.SeamLemmas.{seam}
@@ -10,4 +9,4 @@ split_at-requires c =
     (c.len-start.ensures ∙ c.args.text.now.bytes.ok.0) (c.as_str.ensures.value ∙ c.in_ok-push_to.ensures)
 
 pub truncate-requires : goal.truncate-requires
-truncate-requires c = grind (arith, common_steps, seam, IsUtf8-string_bytes)
+truncate-requires c = grind (arith, seam, IsUtf8-string_bytes)

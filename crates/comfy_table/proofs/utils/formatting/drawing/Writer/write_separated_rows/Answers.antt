@@ -4,7 +4,7 @@ use Rattle.std.specs.List.{join_by}
 use Rattle.std.specs.Prelude.{if◌then◌else◌, option_to_list}
 use Rattle.comfy_parts.specs.Text.{Text}
 use Rattle.comfy_parts.specs.declared.style.table_style.ContentLineStyle.{ContentLineStyle}
-use Rattle.comfy_table.proofs.JoinLemmas.{joined_all, joined_more}
+use Rattle.comfy_table.proofs.JoinLemmas.{joined_more}
 use Rattle.comfy_table.proofs.OutputLemmas.{written-append}
 use Rattle.comfy_table.specs.Drawing.{drawn_row}
 use Rattle.comfy_table.specs.Output.{WriterValue, with_written}
@@ -29,4 +29,4 @@ loop-position-preserved c =
     ∙ ap (λ (lines : List Text). with_written lines start) (joined_more drawn true separator rows position row [] done c.loop-position-test.true c.index-rows-position.is refl)
 
 pub returns : goal.returns
-returns c = grind (arith, common_steps, joined_all)
+returns c = grind (arith, common_steps)

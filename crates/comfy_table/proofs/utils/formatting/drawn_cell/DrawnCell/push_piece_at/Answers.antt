@@ -1,4 +1,3 @@
-use Rattle.std.proofs.lemmas.Grind.{common_steps}
 use Rattle.std.proofs.Common.{arith}
 use Rattle.comfy_table.proofs.DrawnCellLemmas.{piece_found, piece_missing}
 use Rattle.comfy_table.proofs.DrawnTextLemmas.{get-with_texts}
@@ -7,7 +6,7 @@ use Rattle.comfy_table.proofs.utils.formatting.drawn_cell.DrawnCell.push_piece_a
 
 -- there is no line
 pub returns-in_default-get : goal.returns-in_default-get
-returns-in_default-get c = grind (arith, common_steps, get-with_texts, piece_missing, pushed-as)
+returns-in_default-get c = grind (arith, get-with_texts, piece_missing, pushed-as)
 
 pub returns : goal.returns
-returns c = grind (arith, common_steps, get-with_texts, piece_found, pushed-as)
+returns c = grind (arith, get-with_texts, piece_found, pushed-as)

@@ -1,16 +1,15 @@
-use Rattle.std.proofs.lemmas.Grind.{common_steps}
-use Rattle.std.proofs.Common.{◌≡◌, length, slice_set, sym, ◌∙◌, arith}
+use Rattle.std.proofs.Common.{◌≡◌, length, sym, ◌∙◌, arith}
 use Rattle.std.proofs.lemmas.List.{length-map}
 use Rattle.comfy_table.specs.Deciding.{all_needs, needs_in}
-use Rattle.comfy_table.proofs.TakingInTurnLemmas.{IsTurn, count-set, fewer_undecided, turn_ends, turn_passes, turn_takes, width_at-some}
+use Rattle.comfy_table.proofs.TakingInTurnLemmas.{count-set, fewer_undecided, turn_ends, turn_passes, turn_takes, width_at-some}
 use Rattle.comfy_table.proofs.utils.arrangement.dynamic.taking.Takers.take_in_turn.Goals.{in-Some+then-average_now-average, in-Some+else-average_now-average, in_default}
 use Rattle.comfy_table.proofs.utils.arrangement.dynamic.taking.Takers.take_in_turn.Goals as goal
 
 pub loop-passed-smaller : goal.loop-passed-smaller
-loop-passed-smaller c = grind (arith, common_steps, slice_set, fewer_undecided, count-set, width_at-some)
+loop-passed-smaller c = grind (arith, fewer_undecided, count-set, width_at-some)
 
 pub loop-passed-preserved : goal.loop-passed-preserved
-loop-passed-preserved c = grind (arith, common_steps, length-map, IsTurn, turn_takes, turn_passes)
+loop-passed-preserved c = grind (arith, length-map, turn_takes, turn_passes)
 
 pub returns : goal.returns
 returns c =
