@@ -37,7 +37,7 @@ pub cell_lines-plain : (table : TableValue) (delimiter : Option ℕ) (w : ℕ) (
 cell_lines-plain table delimiter w cell places plain =
     All-flat_map (IsPlainLine w) (lines_of_text w (cell_delimiter table delimiter cell)) cell.text_lines
     (All-weaker (λ line. is_printable_ascii line ≡ true) (λ line. All (IsPlainLine w) (lines_of_text w (cell_delimiter table delimiter cell) line))
-    (λ line printable. lines_of_text-plain w (cell_delimiter table delimiter cell) line (record { places = places; delimiter = plain.1; printable = printable })) cell.text_lines plain.0)
+    (λ line printable. lines_of_text-plain w (cell_delimiter table delimiter cell) line (record { columns = places; delimiter = plain.1; printable = printable })) cell.text_lines plain.0)
 
 -- ---- cut lines
 
