@@ -1,4 +1,4 @@
--- A cursor over the parts of a cell's text lines: what it passes, and the sequences that are open where it stands.
+-- Private: a cursor over the parts of a cell's text lines: what it passes, and the sequences that are open where it stands.
 use Rattle.std.specs.Prelude.{◌≡◌, ℕ, zero, suc, Bool, true, false, List, [], ◌∷◌, ◌++◌, map, length, flat_map, encode_utf8, if◌then◌else◌}
 use Rattle.comfy_parts.specs.Text.{Text, IsOnly, begins_with}
 use Rattle.comfy_parts.specs.VisibleText.{Part, opened, opened_by, parts_before, parts_from, parts_up_to, visible_bytes}

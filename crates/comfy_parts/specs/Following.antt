@@ -1,4 +1,4 @@
--- An element at a text's front, and what follows it.
+-- Private: an element at a text's front, and what follows it.
 use Rattle.std.specs.Prelude.{◌≡◌, ◌⊎◌, ℕ, ◌<◌, ◌≤◌, List, [], ◌∷◌, ◌++◌, length, take, drop, false, encode_utf8, IsUtf8}
 use Rattle.std.specs.Str.{IsCharBoundary}
 use Rattle.comfy_parts.specs.Text.{Text, measure, elements, begins_with}

@@ -1,4 +1,4 @@
--- What the library's lists and iterators give: the laws of their impls.
+-- Private: what the library's lists and iterators give: the laws of their impls.
 use Rattle.std.specs.Prelude.{◌≡◌, ⊤, ℕ, zero, suc, List, [], ◌∷◌, Option, Some, None, length}
 use Rattle.std.specs.Array.Iter.{array_into_iter_items, array_steps}
 use Rattle.std.specs.Iterator.{AlwaysYields}

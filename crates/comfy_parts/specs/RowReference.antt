@@ -1,4 +1,4 @@
--- A reference to a row inside a struct.
+-- Private: a reference to a row inside a struct.
 use Rattle.std.specs.Prelude.{Result, Ok, Err}
 use Rattle.std.specs.Borrow.{MutBor}
 use Rattle.comfy_parts.specs.CellValue.{RowValue}

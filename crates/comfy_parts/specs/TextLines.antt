@@ -1,4 +1,4 @@
--- The text lines of a cell, as its code keeps them.
+-- Private: the text lines of a cell, as its code keeps them.
 use Rattle.std.specs.Prelude.{◌≡◌, ℕ, Bool, true, false, List, [], ◌∷◌, map, string_bytes}
 use Rattle.std.specs.List.{list_any}
 use Rattle.comfy_parts.specs.Text.{Text, measure}

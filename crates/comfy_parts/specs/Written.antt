@@ -1,4 +1,4 @@
--- What is written for the lines of a cell with SGR sequences, from a cursor that passes each of its text lines once.
+-- Private: what is written for the lines of a cell with SGR sequences, from a cursor that passes each of its text lines once.
 use Rattle.std.specs.Prelude.{ℕ, ◌==◌, List, [], ◌∷◌, ◌++◌, map, zip, length, if◌then◌else◌}
 use Rattle.std.specs.List.{concat}
 use Rattle.comfy_parts.specs.Cursor.{CursorValue, at_byte, behind_bytes, bytes_up_to, seen_ahead}
