@@ -1,8 +1,8 @@
 -- The widths of all columns, where the dynamic widths of the visible ones are given.
-use Rattle.std.proofs.Common.{◌≡◌, ℕ, suc, ◌+◌, ◌<◌, ◌≤◌, Bool, true, false, not, cond, List, [], ◌∷◌, ◌++◌, drop, length, map, max, arith, refl, sym, ap, ap₂, ◌∙◌, subst, slice_index, slice_index_or, append-nil, Option, Some}
+use Rattle.std.proofs.Common.{◌≡◌, ℕ, suc, ◌+◌, Bool, true, false, not, cond, List, [], ◌∷◌, drop, length, map, max, arith, refl, sym, ap, ap₂, ◌∙◌, subst, slice_index, slice_index_or, Option, Some}
 use Rattle.std.specs.List.{enumerate_from, filter}
-use Rattle.std.specs.Prelude.{if◌then◌else◌, zip, MatchOption}
-use Rattle.std.proofs.lemmas.List.{append_assoc, drop-drop, drop_all, drop_more, get_or-drop, length-map}
+use Rattle.std.specs.Prelude.{zip, MatchOption}
+use Rattle.std.proofs.lemmas.List.{length-map}
 use Rattle.std.proofs.lemmas.List.FromFn.{length-enumerate_from}
 use Rattle.comfy_parts.specs.CellValue.{ColumnInfo, ColumnValue, info_of, is_hidden_column}
 use Rattle.comfy_table.specs.AllWidths.{all_widths, given_in_order}
@@ -129,52 +129,3 @@ arranged_by_widths table w widths kept dynamic = record {
 -- the columns from a position on, drawn by these widths
 abbrev pub infos_from : TableValue → List ℕ → ℕ → List ColumnValue → List ColumnInfo
 infos_from table widths at columns = map (λ (p : ColumnValue × ℕ). info_of p.0 p.1) (zip columns (given_in_order table widths (enumerate_from at columns)))
-
--- the same of a column and those behind it, by whether it is hidden
-abbrev info_behind : TableValue → List ℕ → ℕ → ColumnValue → List ColumnValue → Bool → List ColumnInfo
-info_behind table widths at column columns hidden =
-    map (λ (p : ColumnValue × ℕ). info_of p.0 p.1)
-    (zip (column ∷ columns)
-    (if hidden
-    then max 1 (column_content_width table at) ∷ given_in_order table widths (enumerate_from (at + 1) columns)
-    else slice_index_or widths 0 1 ∷ given_in_order table (drop 1 widths) (enumerate_from (at + 1) columns)))
-
--- the columns from one on
-from_column : (table : TableValue) (widths : List ℕ) (columns : List ColumnValue) (i : ℕ) (column : ColumnValue) → i < length columns → column ≡ slice_index_or columns i column
-    → infos_from table widths i (drop i columns) ≡ info_behind table widths i column (drop (i + 1) columns) (is_hidden_column column)
-from_column table widths columns i column below is =
-    ap (infos_from table widths i) (drop_more columns i column below ∙ ap (λ (c : ColumnValue). c ∷ drop (i + 1) columns) (sym is))
-
--- past the last column there is none
-pub infos_past : (table : TableValue) (widths : List ℕ) (columns : List ColumnValue) (i : ℕ) (done whole : List ColumnInfo) → length columns ≤ i → done ++ infos_from table widths i (drop i columns) ≡ whole → done ≡ whole
-infos_past table widths columns i done whole past so_far =
-    sym (append-nil done) ∙ ap (λ (left : List ColumnValue). done ++ infos_from table widths i left) (sym (drop_all i columns past)) ∙ so_far
-
-module _ (table : TableValue) (widths : List ℕ) (columns : List ColumnValue) (i shown : ℕ) (column : ColumnValue) (below : i < length columns) (is : column ≡ slice_index_or columns i column) where
-  -- a hidden column is drawn by its content's width
-  pub infos_hidden : is_hidden_column column ≡ true → (done whole : List ColumnInfo) → done ++ infos_from table (drop shown widths) i (drop i columns) ≡ whole
-      → (done ++ info_of column (max 1 (column_content_width table i)) ∷ []) ++ infos_from table (drop shown widths) (i + 1) (drop (i + 1) columns) ≡ whole
-  infos_hidden hidden done whole so_far =
-      append_assoc done (info_of column (max 1 (column_content_width table i)) ∷ []) (infos_from table (drop shown widths) (i + 1) (drop (i + 1) columns))
-      ∙ ap (λ (infos : List ColumnInfo). done ++ infos) (sym here)
-      ∙ so_far
-    where
-      here : infos_from table (drop shown widths) i (drop i columns) ≡ info_of column (max 1 (column_content_width table i)) ∷ infos_from table (drop shown widths) (i + 1) (drop (i + 1) columns)
-      here = from_column table (drop shown widths) columns i column below is ∙ ap (info_behind table (drop shown widths) i column (drop (i + 1) columns)) hidden
-
-  -- a visible one by the next given width
-  pub infos_visible : is_hidden_column column ≡ false → (done whole : List ColumnInfo) → done ++ infos_from table (drop shown widths) i (drop i columns) ≡ whole
-      → (done ++ info_of column (slice_index_or widths shown 1) ∷ []) ++ infos_from table (drop (shown + 1) widths) (i + 1) (drop (i + 1) columns) ≡ whole
-  infos_visible visible done whole so_far =
-      append_assoc done (info_of column (slice_index_or widths shown 1) ∷ []) (infos_from table (drop (shown + 1) widths) (i + 1) (drop (i + 1) columns))
-      ∙ ap (λ (infos : List ColumnInfo). done ++ infos) (sym here)
-      ∙ so_far
-    where
-      first : slice_index_or (drop shown widths) 0 1 ≡ slice_index_or widths shown 1
-      first = let moved : shown + 0 ≡ shown = omega arith in get_or-drop shown widths 0 1 ∙ ap (λ (j : ℕ). slice_index_or widths j 1) moved
-
-      here : infos_from table (drop shown widths) i (drop i columns) ≡ info_of column (slice_index_or widths shown 1) ∷ infos_from table (drop (shown + 1) widths) (i + 1) (drop (i + 1) columns)
-      here =
-          from_column table (drop shown widths) columns i column below is
-          ∙ ap (info_behind table (drop shown widths) i column (drop (i + 1) columns)) visible
-          ∙ ap₂ (λ (w : ℕ) (ws : List ℕ). info_of column w ∷ infos_from table ws (i + 1) (drop (i + 1) columns)) first (drop-drop 1 shown widths)

@@ -54,29 +54,15 @@ fitting_indicator-le w indicator =
 -- a plain line that is cut is counted
 cut_line-counted : (w : ℕ) (indicator line : Text) → IsUtf8 indicator → AddsOneColumnEach (fitting_indicator w indicator) → is_printable_ascii line ≡ true → IsCountedLine w (cut_line w indicator line)
 cut_line-counted w indicator line utf8 even printable =
+    let written : Text = fitting_indicator w indicator in
+    let front : Text = take (w - measure written) line in
+    let front_printable : is_printable_ascii front ≡ true = take-printable (w - measure written) line printable in
+    let both : measure (front ++ written) ≡ length front + count written = even front front_printable in
+    let alone : measure written ≡ 0 + count written = even [] refl in
+    let room : measure written ≤ w = fitting_indicator-le w indicator even in
+    let short : length front ≤ w - measure written = let cut = length-take (w - measure written) line in omega (arith, cut) in
     subst (λ front. IsCountedLine w (front ++ written)) (sym (head-printable (w - measure written) line printable))
     (record { fits = omega (arith, both, alone, room, short); counted = HasCount-same (length front + count written) (measure (front ++ written)) (front ++ written) (sym both) (HasCount-append (length front) (count written) front written (HasCount-printable front front_printable) (HasCount-utf8 written (fitting_indicator-utf8 w indicator utf8))) })
-  where
-    written : Text
-    written = fitting_indicator w indicator
-
-    front : Text
-    front = take (w - measure written) line
-
-    front_printable : is_printable_ascii front ≡ true
-    front_printable = take-printable (w - measure written) line printable
-
-    both : measure (front ++ written) ≡ length front + count written
-    both = even front front_printable
-
-    alone : measure written ≡ 0 + count written
-    alone = even [] refl
-
-    room : measure written ≤ w
-    room = fitting_indicator-le w indicator even
-
-    short : length front ≤ w - measure written
-    short = let cut = length-take (w - measure written) line in omega (arith, cut)
 
 -- so are all lines of which some may be cut
 cut_to_height-counted : (h w : ℕ) (indicator : Text) (lines : List Text) → IsUtf8 indicator → (h < length lines → AddsOneColumnEach (fitting_indicator w indicator)) → All (IsPlainLine w) lines
@@ -116,11 +102,10 @@ free_before-le Center free = omega arith
 -- a counted line gives a piece as wide as its column
 pub HasCount-plain_piece : (cell : CellValue) (info : ColumnInfo) (line : Text) → IsCountedLine info.content_width line → HasCount (info_width info) (plain_piece cell info line)
 HasCount-plain_piece cell info line counted =
+    let whole : (left before m free right w : ℕ) → before ≤ free → m ≤ w → free ≡ w - m → left + (before + (m + ((free - before) + right))) ≡ left + w + right =
+    λ left before m free right w among fits is. omega arith in
     HasCount-same _ _ _ (whole _ _ _ _ _ info.content_width (free_before-le (cell_alignment cell info) (free_places info line)) counted.fits refl)
     (HasCount-append info.padding.0 _ _ _ (HasCount-spaces info.padding.0)
     (HasCount-append (free_before (cell_alignment cell info) (free_places info line)) _ _ _ (HasCount-spaces _)
     (HasCount-append (measure line) _ _ _ counted.counted
     (HasCount-append (free_places info line - free_before (cell_alignment cell info) (free_places info line)) info.padding.1 _ _ (HasCount-spaces _) (HasCount-spaces info.padding.1)))))
-  where
-    whole : (left before m free right w : ℕ) → before ≤ free → m ≤ w → free ≡ w - m → left + (before + (m + ((free - before) + right))) ≡ left + w + right
-    whole left before m free right w among fits is = omega arith

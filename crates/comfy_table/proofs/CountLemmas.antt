@@ -145,12 +145,10 @@ HasCount-between b separator (w ∷ widths) (piece ∷ pieces) one (first, more)
 pub HasCount-joined : (style : TableStyle) (left junction right : Option ℕ) (widths : List ℕ) (pieces : List Text) → AllZip HasCount widths pieces
     → HasCount (border_count style (length widths) + sum widths) (between_borders style left junction right pieces)
 HasCount-joined style left junction right widths pieces each =
+    let order : (l r j s : ℕ) → l + ((j + s) + r) ≡ ((l + r) + j) + s = λ l r j s. omega arith in
     HasCount-same _ _ _ (order (if draws_left_border style then 1 else 0) (if draws_right_border style then 1 else 0) (if draws_vertical_lines style then length widths - 1 else 0) (sum widths))
     (HasCount-append _ _ _ _ (HasCount-when (draws_left_border style) (character left) (HasCount-encode _))
     (HasCount-append _ _ _ _ (HasCount-between (draws_vertical_lines style) (character junction) widths pieces (HasCount-encode _) each) (HasCount-when (draws_right_border style) (character right) (HasCount-encode _))))
-  where
-    order : (l r j s : ℕ) → l + ((j + s) + r) ≡ ((l + r) + j) + s
-    order l r j s = omega arith
 
 -- the pieces of a frame line have the widths
 fills : (fill : Option ℕ) (widths : List ℕ) → AllZip HasCount widths (map (λ (width : ℕ). repeat width (character fill)) widths)

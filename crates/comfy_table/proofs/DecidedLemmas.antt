@@ -138,10 +138,6 @@ module _ (room : ℕ) (needs : List ColumnNeeds) (start lower settled shrunk : B
 
   -- ---- sizes
 
-  -- no more room is left than there was
-  pub room_within : shrunk.room ≤ room
-  room_within = omega (arith, room_by_lines)
-
   -- where room is left, it is what the shares and the paddings leave
   pub room_adds_up : 0 < shrunk.room → total decided_ones + sum_by (λ (column : ColumnNeeds). column.padding) needs + shrunk.room ≡ room
   room_adds_up some = grind (arith, sum_by-append, room_by_lines, total-fixed)
@@ -149,13 +145,11 @@ module _ (room : ℕ) (needs : List ColumnNeeds) (start lower settled shrunk : B
   -- then each width keeps to the room together with it
   pub widths_within : All (λ (w : ℕ). 0 < shrunk.room → w + shrunk.room ≤ room) (decided shrunk.widths.items)
   widths_within =
+      let IsWithin : ℕ → Type 0 = λ w. 0 < shrunk.room → w + shrunk.room ≤ room in
       subst (λ (ws : List (Option ℕ)). All IsWithin (decided ws)) (sym given_by_lines.widths)
       (All-map IsWithin (λ (w : Option ℕ). unwrap_or w 0) (widths_of needs decided_ones)
       (All-map (λ (w : Option ℕ). IsWithin (unwrap_or w 0)) (λ (p : Placed). width_at decided_ones p.0) (places_of needs)
       (All-every (λ (p : Placed). IsWithin (share_at decided_ones p.0)) (places_of needs) (λ p some. omega (arith, some, room_adds_up some, share_at-le_total p.0 decided_ones)))))
-    where
-      IsWithin : ℕ → Type 0
-      IsWithin w = 0 < shrunk.room → w + shrunk.room ≤ room
 
   -- in a room of sixteen bits they are numbers of sixteen bits
   pub has_room_to_spread : room ≤ 65535 → HasRoomToSpread shrunk

@@ -62,6 +62,7 @@ visible_width table p is = grind arith
 -- where no width is kept, the widths by content are the table's
 pub arranged_by_content : (table : TableValue) → width_kept table.arrangement (table_width table) ≡ None → IsArranged table (widths_by_content table)
 arranged_by_content table none =
+    let shown : List ℕ = widths_at (widths_by_content table) (visible_columns table) in
     record {
       one_for_each = length-map (enumerate_from 0 table.columns) (width_by_content table) ∙ length-enumerate_from 0 table.columns;
       hidden_widths = picked_by_content table (λ p. max 1 (column_content_width table p.0)) is_hidden_column (hidden_width table);
@@ -69,9 +70,6 @@ arranged_by_content table none =
           subst (λ (o : Option ℕ). MatchOption o (shown ≡ map (disabled_width table) (visible_columns table)) (λ w. IsDynamic (room_beside_borders table w) (visible_needs table) (is_full_width table.arrangement) shown)) (sym none)
           (picked_by_content table (disabled_width table) (λ (c : ColumnValue). not (is_hidden_column c)) (visible_width table));
     }
-  where
-    shown : List ℕ
-    shown = widths_at (widths_by_content table) (visible_columns table)
 
 -- ---- what the columns are drawn by
 

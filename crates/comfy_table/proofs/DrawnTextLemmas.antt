@@ -32,10 +32,6 @@ get-with_texts custom [] (line ∷ lines) (suc k) = get-with_texts custom [] lin
 get-with_texts custom (text ∷ texts) (line ∷ lines) zero = refl
 get-with_texts custom (text ∷ texts) (line ∷ lines) (suc k) = get-with_texts custom texts lines k
 
--- a line with the text at a place
-abbrev pub with_text : Bool → List Text → ℕ → Text → CellLine
-with_text custom texts k line = record { seen = line; written = text_of_line custom (slice_get texts k) line }
-
 -- without custom styling and texts they are written as they are seen
 plain_texts : (lines : List Text) → lines_with_texts false [] lines ≡ map as_seen lines
 plain_texts [] = refl

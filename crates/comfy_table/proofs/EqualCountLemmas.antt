@@ -125,14 +125,13 @@ EqualCounts table widths =
 -- all lines of a plain table have the same count
 pub equal_counts : (table : TableValue) (widths : List ℕ) → EqualCounts table widths
 equal_counts table widths utf8 plain arranged =
+    let columns : length (visible_widths infos) ≡ visible_count table =
+    length-map (visible_infos infos) _ ∙ length-infos_from 0 table.columns widths arranged.one_for_each in
     All-weaker (HasCount (total_of table infos)) (λ line. count line ≡ line_total table widths) (λ line has. count-is _ line has ∙ ap (λ n. border_count table.style n + sum (visible_widths infos)) columns) (drawing (unstyled table) widths)
     (drawing_counted table infos each)
   where
     infos : List ColumnInfo
     infos = infos_of table widths
-
-    columns : length (visible_widths infos) ≡ visible_count table
-    columns = length-map (visible_infos infos) _ ∙ length-infos_from 0 table.columns widths arranged.one_for_each
 
     Known : ℕ → Option ℕ → Type 0
     Known i delimiter = All (IsPlainCell table delimiter) (column_cells table i)

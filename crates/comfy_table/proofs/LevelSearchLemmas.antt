@@ -1,6 +1,5 @@
 -- The search for a level: what the columns need at a level grows no more than the room, and where the average no longer passes it the level is found.
-use Rattle.std.proofs.Common.{◌≡◌, ◌<◌, ◌≤◌, ℕ, suc, ◌+◌, ◌-◌, ◌*◌, ◌/◌, Bool, true, false, cond, ◌==◌, List, [], ◌∷◌, length, max, slice_index_or, sum_by, Option, Some, None, option_map, is_none, unwrap_or, filter, nat_le, refl, ap, ◌∙◌, arith, suc-mul, mul_comm, div-mul-le_self}
-use Rattle.std.specs.Prelude.{◌&&◌}
+use Rattle.std.proofs.Common.{◌≡◌, ◌<◌, ◌≤◌, ℕ, suc, ◌+◌, ◌-◌, ◌*◌, ◌/◌, Bool, true, false, cond, ◌==◌, List, [], ◌∷◌, length, max, slice_index_or, sum_by, Option, Some, None, option_map, is_none, unwrap_or, filter, refl, ap, ◌∙◌, arith, suc-mul, mul_comm, div-mul-le_self}
 use Rattle.std.specs.List.{enumerate_from, cons_option}
 use Rattle.std.proofs.lemmas.List.Sums.{sum_by-cons}
 use Rattle.std.proofs.lemmas.Nat.{le-div}
@@ -16,11 +15,6 @@ use Rattle.comfy_table.proofs.TakingLemmas.{count_at-shares_of}
 -- what a column takes where a level settles it, and else this much
 abbrev pub need_at : ℕ → ℕ → ColumnNeeds → ℕ
 need_at level other column = unwrap_or (settled_at (Some level) column) other
-
--- a boundary that is taken is within both
-upper_taken : (level : ℕ) (column : ColumnNeeds) (u : ℕ) → (nat_le u (level + column.padding) && nat_le u (column.content + column.padding)) ≡ true
-    → (u ≤ level + column.padding) × (u ≤ column.content + column.padding)
-upper_taken level column u passes = grind arith
 
 -- A width of at least 1 that is at most the level and at most the content, where these are at least 1.
 record Settles (level : ℕ) (column : ColumnNeeds) (width : ℕ) : Type 0 where
@@ -39,10 +33,6 @@ need_within level column one = grind arith
 -- and at least 1
 need_some : (level : ℕ) (column : ColumnNeeds) → 1 ≤ level → 1 ≤ need_at level level column
 need_some level column one = grind arith
-
--- what a level settles, a higher one settles with at most the same width
-settled_higher : (level higher : ℕ) (column : ColumnNeeds) (width : ℕ) → level ≤ higher → settled_at (Some level) column ≡ Some width → need_at higher higher column ≤ width
-settled_higher level higher column width above is = grind arith
 
 -- a column needs no more at a higher level than where the lower one settles it and it else has the higher
 need_higher : (level higher : ℕ) (column : ColumnNeeds) → 1 ≤ higher → level ≤ higher → need_at higher higher column ≤ need_at level higher column
@@ -154,16 +144,13 @@ undecided_from-count all [] n [] each same = refl
 undecided_from-count all [] n (column ∷ more) each same = absurd (omega arith)
 undecided_from-count all (w ∷ widths) n [] each same = absurd (omega arith)
 undecided_from-count all (w ∷ widths) n (column ∷ more) each same =
+    let here : is_undecided all n ≡ is_none w = let moved : n ≡ n + 0 = omega arith in ap (is_undecided all) moved ∙ ap is_none (each 0) in
+    let next : (j : ℕ) → slice_index_or all (n + 1 + j) (Some 0) ≡ slice_index_or widths j (Some 0) =
+    λ j. let moved : n + 1 + j ≡ n + suc j = omega arith in ap (λ (k : ℕ). slice_index_or all k (Some 0)) moved ∙ each (suc j) in
     ap (λ (b : Bool). length (cond b ((n, column) ∷ rest) rest)) here ∙ by_test (is_none w) (undecided_from-count all widths (n + 1) more next (omega arith))
   where
     rest : List Placed
     rest = filter (λ (p : Placed). is_undecided all p.0) (enumerate_from (n + 1) more)
-
-    here : is_undecided all n ≡ is_none w
-    here = let moved : n ≡ n + 0 = omega arith in ap (is_undecided all) moved ∙ ap is_none (each 0)
-
-    next : (j : ℕ) → slice_index_or all (n + 1 + j) (Some 0) ≡ slice_index_or widths j (Some 0)
-    next j = let moved : n + 1 + j ≡ n + suc j = omega arith in ap (λ (k : ℕ). slice_index_or all k (Some 0)) moved ∙ each (suc j)
 
     by_test : (b : Bool) → length rest ≡ undecided_count widths → length (cond b ((n, column) ∷ rest) rest) ≡ length (cond b (w ∷ filter is_none widths) (filter is_none widths))
     by_test true is = ap suc is

@@ -9,19 +9,7 @@ use Rattle.std.proofs.lemmas.List.{length-append}
 use Rattle.std.proofs.lemmas.List.Concat.{flat_map-append}
 use Rattle.comfy_parts.specs.Text.{Text}
 use Rattle.comfy_table.specs.Drawing.{terminated_text_of, text_of}
-use Rattle.comfy_table.specs.Output.{OutputValue, WriterValue, own_lines, with_lines, with_written}
-use Rattle.comfy_table.specs.declared.utils.formatting.output.OutputForm.{OutputForm}
-use Rattle.comfy_table.specs.declared.utils.formatting.output.OutputForm.TheVariants.{Lines, Joined, Trimmed}
-
-own_lines-append : (form : OutputForm) (first more : List Text) → own_lines form first ++ own_lines form more ≡ own_lines form (first ++ more)
-own_lines-append Lines first more = refl
-own_lines-append Joined first more = refl
-own_lines-append Trimmed first more = refl
-
-own_lines-none : (form : OutputForm) → own_lines form [] ≡ []
-own_lines-none Lines = refl
-own_lines-none Joined = refl
-own_lines-none Trimmed = refl
+use Rattle.comfy_table.specs.Output.{OutputValue, WriterValue, with_lines, with_written}
 
 -- lines and then more lines
 pub with_lines-append : (first more : List Text) (output : OutputValue) → with_lines more (with_lines first output) ≡ with_lines (first ++ more) output

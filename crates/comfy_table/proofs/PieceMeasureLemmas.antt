@@ -21,14 +21,12 @@ pub HasMeasure-joined : (Follows : Text → Type 0) (style : TableStyle) (left j
     → IsOneColumn left → IsOneColumn junction → IsOneColumn right → AllZip (IsPiece Follows (if draws_vertical_lines style then character junction else [])) widths pieces
     → HasMeasure Follows (border_count style (length widths) + sum widths) (between_borders style left junction right pieces)
 HasMeasure-joined Follows style left junction right widths pieces follows first middle last each =
+    let order : (l r j s : ℕ) → l + ((j + s) + r) ≡ ((l + r) + j) + s = λ l r j s. omega arith in
     HasMeasure-same Follows _ _ _ (order (if draws_left_border style then 1 else 0) (if draws_right_border style then 1 else 0) (if draws_vertical_lines style then length widths - 1 else 0) (sum widths))
     (HasMeasure-behind Follows _ _ _ _ (HasMeasure-when (draws_left_border style) (character left) (HasMeasure-character _ first))
     (HasMeasure-append Follows _ _ _ _ (HasMeasure-between Follows (draws_vertical_lines style) (character junction) (HasMeasure-character _ middle) widths pieces each)
     (Fronts-when Follows (draws_right_border style) (unwrap_or right 0x20) follows last)
     (HasMeasure-any Follows _ _ (HasMeasure-when (draws_right_border style) (character right) (HasMeasure-character _ last)))))
-  where
-    order : (l r j s : ℕ) → l + ((j + s) + r) ≡ ((l + r) + j) + s
-    order l r j s = omega arith
 
 -- the pieces of a frame line have the widths
 fills : (between : Text) (fill : Option ℕ) (widths : List ℕ) → IsOneColumn fill → AllZip (IsPiece IsAny between) widths (map (λ (width : ℕ). repeat width (character fill)) widths)

@@ -86,6 +86,7 @@ module _ (table : TableValue) (infos : List ColumnInfo) (Follows : Text → Type
   -- all lines have them
   drawing_measured : All (λ row. All (ArePiecesGood Follows table row) (visible_infos infos)) (seen_rows table) → All HasTotal (drawing_of_infos (unstyled table) infos)
   drawing_measured each =
+      let at : (k : ℕ) → k < 22 → IsOneColumn (slice_index_or (style_characters table.style) k None) = λ k below. characters k None below in
       All-drawing HasTotal (unstyled table) infos (λ row. All (ArePiecesGood Follows table row) (visible_infos infos))
       (frame_measured table.style.top_border (at 0 (omega arith)) (at 1 (omega arith)) (at 2 (omega arith)) (at 3 (omega arith)))
       (frame_measured table.style.header_separator (at 7 (omega arith)) (at 8 (omega arith)) (at 9 (omega arith)) (at 10 (omega arith)))
@@ -93,9 +94,6 @@ module _ (table : TableValue) (infos : List ColumnInfo) (Follows : Text → Type
       (frame_measured table.style.bottom_border (at 18 (omega arith)) (at 19 (omega arith)) (at 20 (omega arith)) (at 21 (omega arith)))
       (λ row own. row_measured table.style.header_lines row (at 4 (omega arith)) (at 5 (omega arith)) (at 6 (omega arith)) own)
       (λ row own. row_measured table.style.content_lines row (at 11 (omega arith)) (at 12 (omega arith)) (at 13 (omega arith)) own) each
-    where
-      at : (k : ℕ) → k < 22 → IsOneColumn (slice_index_or (style_characters table.style) k None)
-      at k below = characters k None below
 
   -- so all lines measure them
   pub drawing_straight : All (λ row. All (ArePiecesGood Follows table row) (visible_infos infos)) (seen_rows table) → All (λ line. measure line ≡ total_of) (drawing_of_infos (unstyled table) infos)
@@ -140,14 +138,13 @@ straight_lines table widths characters apart lines_fit arranged =
             let left = padded j other below in
             good-front v _ _ (λ rest. spaced-blank IsApart _ rest apart_follows (omega (arith, left))) (HasMeasure-any IsApart _ _ (HasMeasure-spaces _))
     by_case (inr (inr each)) =
+        let padded : All (λ (q : ℕ × ColumnInfo). 1 ≤ q.1.padding.1) (visible_infos infos) =
+        infos-known table widths (λ p. 1 ≤ p.1.padding.1) (λ (q : ℕ × ColumnInfo). 1 ≤ q.1.padding.1) arranged.one_for_each each (λ i column w right. right) in
         drawing_straight table infos IsAny any_follows characters (λ j other below. good-any v _ _ (HasMeasure-spaces _))
         (λ k default under j other below.
         pieces-good IsAny table (slice_index_or (seen_rows table) k default) (slice_index_or (visible_infos infos) j other) (lines_fit k default under j other below)
         (good-any v _ _ (HasMeasure-spaces _))
         (λ cell line fitting. good-any v _ _ (piece-any cell (slice_index_or (visible_infos infos) j other).1 line (padded j other below) fitting)))
-      where
-        padded : All (λ (q : ℕ × ColumnInfo). 1 ≤ q.1.padding.1) (visible_infos infos)
-        padded = infos-known table widths (λ p. 1 ≤ p.1.padding.1) (λ (q : ℕ × ColumnInfo). 1 ≤ q.1.padding.1) arranged.one_for_each each (λ i column w right. right)
 
 -- what follows from two facts of each cell
 each_cell : (table : TableValue) (widths : List ℕ) (P Q R : RowValue → ColumnInfo → CellValue → Type 0) → ((row : RowValue) (info : ColumnInfo) (cell : CellValue) → P row info cell → Q row info cell → R row info cell)

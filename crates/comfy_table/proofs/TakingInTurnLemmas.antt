@@ -114,6 +114,7 @@ module _ (rule : Rule) (needs : List ColumnNeeds) (old : Budget) where
     -- a place that takes nothing is passed
     pub turn_passes : passed < length needs → width_at rule average needs now.widths.items place ≡ None → IsTurn now (place_behind (length needs) place) (passed + 1) average
     turn_passes fewer none =
+        let place_within : place < length needs → place_behind (length needs) place < length needs = λ within. grind arith in
         let within : place < length needs = turn.within (omega (arith, fewer)) in
         record {
           order = turn.order;
@@ -126,9 +127,6 @@ module _ (rule : Rule) (needs : List ColumnNeeds) (old : Budget) where
               (λ before. turn.nothing i d found before left) (behind_one_more (length needs) place passed i within behind);
           since = inl (behind_next (length needs) place passed (place_after candidates offer 0 turn.order) within fewer turn.since);
         }
-      where
-        place_within : place < length needs → place_behind (length needs) place < length needs
-        place_within within = grind arith
 
     -- where as many places were passed as there are columns, none takes anything any more
     pub turn_ends : length needs ≤ passed → HasTakenInTurn rule needs old now
@@ -147,6 +145,7 @@ module _ (rule : Rule) (needs : List ColumnNeeds) (old : Budget) where
         → new.widths.items ≡ slice_set now.widths.items place (Some width) → new.room ≡ now.room - width → average' ≡ average_room new → (passed' ≡ 1) ⊎ ((average' ≡ average) × (passed' ≡ passed + 1))
         → IsTurn new (place_behind (length needs) place) passed' average'
     turn_takes width fewer some new passed' average' widths_are room_is average_is by =
+        let place_within : place < length needs → place_behind (length needs) place < length needs = λ below. grind arith in
         let takes = width_at-some rule average needs now.widths.items place width some in
         let below : place < length needs = slice_get_within needs place takes.column takes.found in
         let from = place_after candidates offer 0 turn.order in
@@ -169,9 +168,6 @@ module _ (rule : Rule) (needs : List ColumnNeeds) (old : Budget) where
           since = inl (subst (IsBehind (length needs) (place_behind (length needs) place) passed') (sym last) (here_behind below));
         }
       where
-        place_within : place < length needs → place_behind (length needs) place < length needs
-        place_within below = grind arith
-
         here_behind : place < length needs → IsBehind (length needs) (place_behind (length needs) place) passed' place
         here_behind below =
             ⊎_elim (λ one. subst (λ (n : ℕ). IsBehind (length needs) (place_behind (length needs) place) n place) (sym one) (behind_next (length needs) place 0 place below (omega (arith, below)) (inr refl)))
@@ -181,6 +177,7 @@ module _ (rule : Rule) (needs : List ColumnNeeds) (old : Budget) where
         nothing_new : ((j w : ℕ) → is_undecided (slice_set now.widths.items place (Some w)) j ≡ (is_undecided now.widths.items j && not (place == j)))
             → (i : ℕ) (d : ColumnNeeds) → slice_get needs i ≡ Some d → IsBehind (length needs) (place_behind (length needs) place) passed' i → is_undecided new.widths.items i ≡ true → width_by_rule rule average' d ≡ None
         nothing_new set i d found behind left =
+            let place_now : slice_get needs i ≡ Some d → place < length needs = λ found. turn.within (omega (arith, slice_get_within needs i d found)) in
             let both : (is_undecided now.widths.items i && not (place == i)) ≡ true = sym (set i width) ∙ ap (λ (ws : List (Option ℕ)). is_undecided ws i) (sym widths_are) ∙ left in
             let parts = and_parts (is_undecided now.widths.items i) (not (place == i)) both in
             let other : place ≡ i → width_by_rule rule average' d ≡ None = λ same. let is : (place == i) ≡ true = eq-eqb place i same in absurd (cc (parts.1, is)) in
@@ -192,6 +189,3 @@ module _ (rule : Rule) (needs : List ColumnNeeds) (old : Budget) where
             ⊎_elim other (λ before. ap (λ (a : ℕ). width_by_rule rule a d) more.0 ∙ turn.nothing i d found before parts.0)
             (behind_one_more (length needs) place passed i (place_now found) (subst (λ (n : ℕ). IsBehind (length needs) (place_behind (length needs) place) n i) more.1 behind)))
             by
-          where
-            place_now : slice_get needs i ≡ Some d → place < length needs
-            place_now found = turn.within (omega (arith, slice_get_within needs i d found))

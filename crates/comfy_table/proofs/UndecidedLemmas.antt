@@ -67,17 +67,14 @@ length-undecided_from front [] n [] same from = refl
 length-undecided_from front [] n (column ∷ more) same from = absurd (omega arith)
 length-undecided_from front (w ∷ widths) n [] same from = absurd (omega arith)
 length-undecided_from front (w ∷ widths) n (column ∷ more) same from =
+    let grouped : (front ++ w ∷ []) ++ widths ≡ front ++ w ∷ widths = append_assoc front (w ∷ []) widths in
+    let here : is_undecided (front ++ w ∷ widths) n ≡ is_none w =
+    ap (is_undecided (front ++ w ∷ widths)) from ∙ ap is_none (index-append front widths w (Some 0)) in
     ap (λ (b : Bool). length (cond b ((n, column) ∷ later (front ++ w ∷ widths)) (later (front ++ w ∷ widths)))) here
     ∙ by_test (is_none w) (ap (λ (ws : List (Option ℕ)). length (later ws)) (sym grouped) ∙ length-undecided_from (front ++ w ∷ []) widths (n + 1) more (omega arith) (omega (arith, length-append front (w ∷ []))))
   where
     later : List (Option ℕ) → List Placed
     later ws = filter (λ (p : Placed). is_undecided ws p.0) (enumerate_from (n + 1) more)
-
-    grouped : (front ++ w ∷ []) ++ widths ≡ front ++ w ∷ widths
-    grouped = append_assoc front (w ∷ []) widths
-
-    here : is_undecided (front ++ w ∷ widths) n ≡ is_none w
-    here = ap (is_undecided (front ++ w ∷ widths)) from ∙ ap is_none (index-append front widths w (Some 0))
 
     by_test : (b : Bool) → length (later (front ++ w ∷ widths)) ≡ undecided_count widths
         → length (cond b ((n, column) ∷ later (front ++ w ∷ widths)) (later (front ++ w ∷ widths))) ≡ length (cond b (w ∷ filter is_none widths) (filter is_none widths))

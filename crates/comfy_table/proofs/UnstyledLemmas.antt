@@ -1,21 +1,16 @@
 -- Where no styles are written and cells have no styling of their own, a drawing is the unstyled one.
-use Rattle.std.proofs.Common.{◌≡◌, ℕ, Bool, false, if◌then◌else◌, List, ◌++◌, Option, Some, None, map, length, slice_get, slice_index_or, option_map, refl, ap, sym, arith}
+use Rattle.std.proofs.Common.{◌≡◌, ℕ, false, List, ◌++◌, Option, Some, None, map, length, slice_get, slice_index_or, refl, arith}
 use Rattle.std.specs.List.{join_by, range_with_len}
 use Rattle.comfy_parts.specs.CellValue.{CellValue, ColumnInfo, RowValue}
-use Rattle.comfy_parts.specs.Text.{Text, greatest}
+use Rattle.comfy_parts.specs.Text.{greatest}
 use Rattle.comfy_parts.specs.declared.style.table_style.ContentLineStyle.{ContentLineStyle}
 use Rattle.comfy_table.specs.Drawing.{drawing_of_infos, drawn_header, drawn_row, drawn_rows, visible_widths}
 use Rattle.comfy_table.specs.Frame.{content_line, optional_frame_line}
 use Rattle.comfy_table.specs.Laws.{unstyled}
-use Rattle.comfy_table.specs.Pieces.{blank_piece, padded, piece, pieces_of_optional, plain_piece, row_height, row_line, row_lines, visible_infos}
-use Rattle.comfy_table.specs.Styling.{styled}
-use Rattle.comfy_table.specs.TableValue.{TableValue, should_style, visible_row}
+use Rattle.comfy_table.specs.Pieces.{blank_piece, pieces_of_optional, row_height, row_line, row_lines, visible_infos}
+use Rattle.comfy_table.specs.TableValue.{TableValue, should_style}
 
 module _ (table : TableValue) (infos : List ColumnInfo) (off : should_style table ≡ false) (plain : table.custom_styling ≡ false) where
-  same_piece : (cell : CellValue) (info : ColumnInfo) (line : Text) → piece (unstyled table) cell info line ≡ piece table cell info line
-  same_piece cell info line =
-      sym (ap (λ (b : Bool). if b then (if table.style_text_only then padded cell info line (styled cell line) else styled cell (plain_piece cell info line)) else plain_piece cell info line) off)
-
   same_pieces : (row : RowValue) (info : ColumnInfo) (cell : Option CellValue) → pieces_of_optional (unstyled table) row info cell ≡ pieces_of_optional table row info cell
   same_pieces row info None = refl
   same_pieces row info (Some cell) = grind arith
@@ -38,13 +33,6 @@ module _ (table : TableValue) (infos : List ColumnInfo) (off : should_style tabl
 
   same_rows : (rows : List RowValue) → drawn_rows (unstyled table) infos rows ≡ drawn_rows table infos rows
   same_rows rows = λ i. join_by (λ row. same_row table.style.content_lines row i) (optional_frame_line table.style table.style.row_separator (visible_widths infos)) rows
-
-  -- the header and the rows are seen as they are
-  same_seen_header : (unstyled table).header ≡ table.header
-  same_seen_header = ap (λ (custom : Bool). if custom then option_map visible_row table.header else table.header) plain
-
-  same_seen_rows : (unstyled table).rows ≡ table.rows
-  same_seen_rows = ap (λ (custom : Bool). if custom then map visible_row table.rows else table.rows) plain
 
   -- the whole drawing
   pub unstyled_drawing : drawing_of_infos (unstyled table) infos ≡ drawing_of_infos table infos

@@ -17,7 +17,7 @@ use Rattle.comfy_table.proofs.TakenShareLemmas.{every_stands}
 use Rattle.comfy_table.proofs.TakingLemmas.{next_taken-where, every-shares_of}
 use Rattle.std.proofs.lemmas.List.{length-map}
 use Rattle.comfy_table.specs.Arrangement.{IsArranged, room_beside_borders}
-use Rattle.comfy_table.specs.Dynamic.{Placed, Share, Steps, IsArrangedBy, IsTakenAfter, lower_of_boundary, shrunk_at, settled_at, upper_at, settled_shares, fixed_shares, places_of, without_shares, share_at, undecided, others, unsettled, even_columns, even_shares, all_shares, contents_after, room_left, content_room, room_of_unsettled, average}
+use Rattle.comfy_table.specs.Dynamic.{Placed, Share, Steps, IsArrangedBy, IsTakenAfter, lower_of_boundary, shrunk_at, settled_at, settled_shares, fixed_shares, places_of, without_shares, share_at, undecided, others, unsettled, even_columns, even_shares, all_shares, contents_after, room_left, content_room, room_of_unsettled, average}
 use Rattle.comfy_table.specs.Frame.{border_count}
 use Rattle.comfy_table.specs.Laws.{line_total, least_with_steps}
 use Rattle.comfy_table.specs.TableLaws.{KeepsToWiderTotal, KeepsToWiderTotalInFull, FillsWiderTotal, visible_contents}
@@ -42,11 +42,6 @@ lower-some b padding (Some l) width is = grind arith
 -- by shrinking
 shrunk-some : (b : ℕ) (column : ColumnNeeds) (width : ℕ) → shrunk_at b column ≡ Some width → 1 ≤ width
 shrunk-some b column width is = grind arith
-
--- by an upper boundary
-upper-some : (level : ℕ) (column : ColumnNeeds) (o : Option ℕ) (width : ℕ) → upper_at level column o ≡ Some width → 1 ≤ width
-upper-some level column None width is = absurd (cc is)
-upper-some level column (Some u) width is = grind arith
 
 -- by a level
 settled-some : (level : Option ℕ) (column : ColumnNeeds) (width : ℕ) → settled_at level column ≡ Some width → 1 ≤ width
@@ -93,14 +88,10 @@ every_taken candidates offer some from taken (t ∷ more) goes =
 every_even : (columns : List Placed) (x : ℕ) → AllByRecursion HasPlace (shares_beside columns (even_spread (max x (length columns)) (length columns)))
 every_even [] x = tt
 every_even (p ∷ more) x =
+    let n : ℕ = length (p ∷ more) in
+    let one : 1 ≤ max x n / n = le-div 1 (max x n) n (omega arith) (omega arith) in
     every-shares_beside (λ (q : Placed). ⊤) (λ (w : ℕ). 1 ≤ w) HasPlace (p ∷ more) (even_spread (max x n) n) (λ q w any some. some) (every-always (λ (q : Placed). ⊤) (p ∷ more) (λ q. tt))
     (every-weaker (IsPartOf (max x n) n) (λ (w : ℕ). 1 ≤ w) (even_spread (max x n) n) (λ w part. omega (arith, part.0, one)) (every-even_spread (max x n) n))
-  where
-    n : ℕ
-    n = length (p ∷ more)
-
-    one : 1 ≤ max x n / n
-    one = le-div 1 (max x n) n (omega arith) (omega arith)
 
 -- a list of what holds of each of its elements' images
 every-map : {X Y : Type 0} (P : Y → Type 0) (f : X → Y) (xs : List X) → AllByRecursion (λ (x : X). P (f x)) xs → AllByRecursion P (map f xs)

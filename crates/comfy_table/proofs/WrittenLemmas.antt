@@ -82,6 +82,8 @@ texts_seen table row info cell = grind (arith, seen_cut, seen_lines)
 pub texts_show : (table : TableValue) (row : RowValue) (info : ColumnInfo) (cell : CellValue) → HasNoEscape table.indicator → All IsUtf8 (map visible_text cell.text_lines) → All HasNoEscape (map visible_text cell.text_lines)
     → AllByRecursion (λ (line : CellLine). Shows line.seen line.written) (row_cell_texts table row info cell)
 texts_show table row info cell mark utf8 clear =
+    let cleared : AllByRecursion (λ text. HasNoEscape (visible_text text)) cell.text_lines =
+    recursion_from_All (λ text. HasNoEscape (visible_text text)) cell.text_lines (All-of_map HasNoEscape visible_text cell.text_lines clear) in
     each_cut (λ (line : CellLine). Shows line.seen line.written) row.max_height w table.indicator lines (lines_show w d cell.text_lines cleared) cut
   where
     w : ℕ
@@ -92,9 +94,6 @@ texts_show table row info cell mark utf8 clear =
 
     lines : List CellLine
     lines = line_texts w d cell.text_lines
-
-    cleared : AllByRecursion (λ text. HasNoEscape (visible_text text)) cell.text_lines
-    cleared = recursion_from_All (λ text. HasNoEscape (visible_text text)) cell.text_lines (All-of_map HasNoEscape visible_text cell.text_lines clear)
 
     whole_lines : All IsUtf8 (seen_of lines)
     whole_lines =
