@@ -3,7 +3,7 @@ use Rattle.std.specs.Prelude.{◌≡◌, ◌∷◌, ℕ, [], List, Some, All, ma
 use Rattle.comfy_parts.specs.CellValue.{CellValue, ColumnInfo, RowValue}
 use Rattle.comfy_parts.specs.Text.{Text}
 use Rattle.comfy_parts.specs.declared.style.table_style.LineStyle.{LineStyle}
-use Rattle.comfy_table.specs.Drawing.{drawing, infos_of, visible_widths}
+use Rattle.comfy_table.specs.Drawing.{drawing, infos_of, whole_widths}
 use Rattle.comfy_table.specs.Frame.{frame_line}
 use Rattle.comfy_table.specs.Laws.{FillsWidth, KeepsToWidth, count, unstyled}
 use Rattle.comfy_table.specs.Pieces.{visible_infos}
@@ -15,7 +15,7 @@ use Rattle.comfy_callers.specs.declared.uses.items.NumberRows.{NumberRows}
 abbrev pub HasFrameOf : ℕ → TableValue → List Text → Type 0
 HasFrameOf n table lines =
     (widths : List ℕ) × (lines ≡ drawing table widths)
-    × ((line : LineStyle) → count (frame_line table.style line (visible_widths (infos_of table widths))) ≡ n)
+    × ((line : LineStyle) → count (frame_line table.style line (whole_widths (infos_of table widths))) ≡ n)
 
 -- the lines are a drawing of the table without colours and attributes
 abbrev pub IsPlainDrawing : TableValue → List Text → Type 0

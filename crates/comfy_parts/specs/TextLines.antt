@@ -37,5 +37,5 @@ is_escaped lines = false
 pub record AreMeasured (lines : Lines) : Type 0 where
   pub widths : widths_of lines ≡ map measure (texts_of lines)
   pub visible : visible_of lines ≡ map visible_text (texts_of lines)
-  pub visible_widths : visible_widths_of lines ≡ map measure (visible_of lines)
+  pub widths_of_visible : visible_widths_of lines ≡ map measure (visible_of lines)
   pub escaped : is_escaped lines ≡ list_any has_escape (texts_of lines)

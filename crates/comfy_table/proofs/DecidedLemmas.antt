@@ -6,8 +6,8 @@ use Rattle.std.proofs.lemmas.List.{append_assoc, length-map}
 use Rattle.std.proofs.lemmas.List.Elements.{All-map}
 use Rattle.std.proofs.lemmas.List.FromFn.{length-enumerate_from}
 use Rattle.std.proofs.lemmas.List.Sums.{sum_by-append}
-use Rattle.comfy_table.specs.Deciding.{HasRoomToSpread, HasSettled, HasTaken, HasTakenInTurn, decided, filled, final_widths, offer_by_rule, shared_evenly, undecided_count, widened}
-use Rattle.comfy_table.specs.Dynamic.{IsDynamic, IsLevel, IsTakenInOrder, Placed, Share, Steps, added, all_shares, content_room, contents_after, even_columns, even_shares, fixed_shares, others, places_of, room_left, room_of_others, room_of_unsettled, settled_at, settled_shares, share_at, total, undecided, unsettled, widened as widened_by_steps}
+use Rattle.comfy_table.specs.Deciding.{HasRoomToSpread, HasSettled, HasTaken, HasTakenInTurn, decided, filled, final_widths, offer_by_rule, shared_evenly, undecided_count, with_room_spread}
+use Rattle.comfy_table.specs.Dynamic.{IsDynamic, IsLevel, IsTakenInOrder, Placed, Share, Steps, added, all_shares, content_room, contents_after, even_columns, even_shares, fixed_shares, others, places_of, room_left, room_of_others, room_of_unsettled, settled_at, settled_shares, share_at, total, undecided, unsettled, widened}
 use Rattle.comfy_table.specs.Widths.{ColumnNeeds, even_spread}
 use Rattle.comfy_table.specs.declared.utils.arrangement.dynamic.budget.Budget.{Budget}
 use Rattle.comfy_table.specs.declared.utils.arrangement.dynamic.taking.Rule.TheVariants.{Lower, Shrunk}
@@ -125,11 +125,11 @@ module _ (room : ℕ) (needs : List ColumnNeeds) (start lower settled shrunk : B
   length_widths = ap length given_by_lines.widths ∙ length-map (places_of needs) (λ (p : Placed). width_at decided_ones p.0) ∙ length-enumerate_from 0 needs
 
   -- the widths with the room spread over them, where no column is undecided
-  widened_is : undecided_count shrunk.widths.items ≡ 0 → widened shrunk ≡ added (contents_after room needs steps) (even_spread (room_left room needs steps) (length needs))
+  widened_is : undecided_count shrunk.widths.items ≡ 0 → with_room_spread shrunk ≡ added (contents_after room needs steps) (even_spread (room_left room needs steps) (length needs))
   widened_is none = grind (arith, filled-decided, shared_is, room_by_lines, length_widths)
 
   -- the widths at the end
-  final_is : (full : Bool) → final_widths full shrunk ≡ widened_by_steps room needs full steps
+  final_is : (full : Bool) → final_widths full shrunk ≡ widened room needs full steps
   final_is full = grind (arith, count_left, widened_is, eqb-true, shared_is)
 
   -- the steps lead to a dynamic arrangement

@@ -9,7 +9,7 @@ use Rattle.comfy_parts.specs.CellValue.{ColumnValue, ColumnInfo, column_padding,
 use Rattle.comfy_parts.specs.declared.style.table.ContentArrangement.{ContentArrangement}
 use Rattle.comfy_parts.specs.declared.style.table.ContentArrangement.TheVariants.{Dynamic, DynamicFullWidth}
 use Rattle.comfy_table.specs.Arrangement.{IsArranged, width_kept, is_full_width, room_beside_borders, widths_at}
-use Rattle.comfy_table.specs.Drawing.{infos_of, visible_widths}
+use Rattle.comfy_table.specs.Drawing.{infos_of, whole_widths}
 use Rattle.comfy_table.specs.Dynamic.{Share, Steps, IsArrangedBy, IsDynamic, contents_after, added, even_columns, room_left}
 use Rattle.comfy_table.specs.Frame.{border_count}
 use Rattle.comfy_table.specs.Laws.{NoConstraints, KeepsToWidth, FillsWidth, line_total, least_total, least_with_steps}
@@ -74,9 +74,9 @@ sum-drawn_from widths n (column ∷ more) (w ∷ ws) same at each =
         )
 
 -- the whole widths of a table whose visible widths are at least 1
-pub sum-visible_widths : (table : TableValue) (widths : List ℕ) → length widths ≡ length table.columns → AllByRecursion (λ (w : ℕ). 1 ≤ w) (widths_at widths (visible_columns table))
-    → sum (visible_widths (infos_of table widths)) ≡ sum_by (λ (p : ℕ × ColumnValue). column_padding p.1) (visible_columns table) + sum (widths_at widths (visible_columns table))
-sum-visible_widths table widths same each =
+pub sum-whole_widths : (table : TableValue) (widths : List ℕ) → length widths ≡ length table.columns → AllByRecursion (λ (w : ℕ). 1 ≤ w) (widths_at widths (visible_columns table))
+    → sum (whole_widths (infos_of table widths)) ≡ sum_by (λ (p : ℕ × ColumnValue). column_padding p.1) (visible_columns table) + sum (widths_at widths (visible_columns table))
+sum-whole_widths table widths same each =
     sum-drawn_from widths 0 table.columns widths same (λ k. let here : 0 + k ≡ k = omega arith in ap (λ (i : ℕ). get_or widths i 0) here) each
 
 -- ---- the needs of a table without constraints
@@ -149,7 +149,7 @@ module _ (table : TableValue) (w : ℕ) (widths : List ℕ) (full : Bool) (none 
   -- a line's total is the border characters, the paddings and the widths
   line_total-is : line_total table widths ≡ border_count table.style (visible_count table) + (sum_by (λ (column : ColumnNeeds). column.padding) (visible_needs table) + sum (widths_at widths (visible_columns table)))
   line_total-is =
-      let drawn = sum-visible_widths table widths arranged.one_for_each (some_width (room_beside_borders table w) (visible_needs table) (unconstrained_visible table none) full steps (widths_at widths (visible_columns table)) by) in
+      let drawn = sum-whole_widths table widths arranged.one_for_each (some_width (room_beside_borders table w) (visible_needs table) (unconstrained_visible table none) full steps (widths_at widths (visible_columns table)) by) in
       omega (arith, drawn, paddings_of_needs table (visible_columns table))
 
   -- and the least total is made likewise

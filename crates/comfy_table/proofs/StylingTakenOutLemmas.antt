@@ -19,7 +19,7 @@ use Rattle.comfy_table.proofs.ListLemmas.{All-every, All-at, AllZip-map, AllZip-
 use Rattle.comfy_table.proofs.SeenLemmas.{cell_seen, get_seen, header_seen, join_by-map, row_seen, rows_seen, seen_whole, seen_rows-is}
 use Rattle.comfy_table.proofs.StyledLemmas.{Shows-spaces, Shows-written_piece}
 use Rattle.comfy_table.proofs.WrittenLemmas.{texts_seen, texts_show}
-use Rattle.comfy_table.specs.Drawing.{infos_of, visible_widths, drawn_row, drawn_header, drawn_rows, drawing_of_infos, drawing}
+use Rattle.comfy_table.specs.Drawing.{infos_of, whole_widths, drawn_row, drawn_header, drawn_rows, drawing_of_infos, drawing}
 use Rattle.comfy_table.specs.Frame.{character, between_borders, content_line, is_drawn, optional_frame_line, draws_left_border, draws_right_border, draws_vertical_lines, left_characters, right_characters, junction_characters}
 use Rattle.comfy_table.specs.Laws.{unstyled, HasNoEscape, IsFreeOfEscapes}
 use Rattle.comfy_table.specs.Lines.{cell_delimiter, cell_lines, cut_to_limit}
@@ -201,13 +201,13 @@ module _ (table : TableValue) (infos : List ColumnInfo) (mark : HasNoEscape tabl
   -- all lines show the unstyled ones
   drawing_shows : IsClearStyle table.style → All (λ (row : RowValue). IsClearRow (seen row)) (header_and_rows table) → AllZip Shows (drawing_of_infos (unstyled table) infos) (drawing_of_infos table infos)
   drawing_shows style each =
-      AllZip-append Shows (optional_frame_line table.style table.style.top_border (visible_widths infos)) _ (optional_frame_line table.style table.style.top_border (visible_widths infos)) _
-      (frame_shows table.style table.style.top_border (visible_widths infos) style.top_border)
+      AllZip-append Shows (optional_frame_line table.style table.style.top_border (whole_widths infos)) _ (optional_frame_line table.style table.style.top_border (whole_widths infos)) _
+      (frame_shows table.style table.style.top_border (whole_widths infos) style.top_border)
       (AllZip-append Shows (drawn_header (unstyled table) infos (unstyled table).header) _ (drawn_header table infos table.header) _
       (subst (λ (header : Option RowValue). AllZip Shows (drawn_header (unstyled table) infos header) (drawn_header table infos table.header)) (sym (header_seen table.custom_styling table.header)) (header_shows table.header each))
       (AllZip-append Shows (drawn_rows (unstyled table) infos (unstyled table).rows) _ (drawn_rows table infos table.rows) _
       (subst (λ (rows : List RowValue). AllZip Shows (drawn_rows (unstyled table) infos rows) (drawn_rows table infos table.rows)) (sym (rows_seen table.custom_styling table.rows)) (rows_show (rows_of table.header each)))
-      (frame_shows table.style table.style.bottom_border (visible_widths infos) style.bottom_border)))
+      (frame_shows table.style table.style.bottom_border (whole_widths infos) style.bottom_border)))
     where
       IsClearSeen : RowValue → Type 0
       IsClearSeen row = IsClearRow (seen row)
@@ -221,15 +221,15 @@ module _ (table : TableValue) (infos : List ColumnInfo) (mark : HasNoEscape tabl
       header_shows (Some row) each =
           AllZip-append Shows (drawn_row (unstyled table) infos table.style.header_lines (seen row)) _ (drawn_row table infos table.style.header_lines row) _
           (row_shows table.style.header_lines row style.header_lines (All-head IsClearSeen row table.rows each))
-          (frame_shows table.style table.style.header_separator (visible_widths infos) style.header_separator)
+          (frame_shows table.style table.style.header_separator (whole_widths infos) style.header_separator)
 
       rows_show : All IsClearSeen table.rows → AllZip Shows (drawn_rows (unstyled table) infos (map seen table.rows)) (drawn_rows table infos table.rows)
       rows_show each =
           subst (λ (lines : List Text). AllZip Shows lines (drawn_rows table infos table.rows))
-          (sym (join_by-map (drawn_row (unstyled table) infos table.style.content_lines) (optional_frame_line table.style table.style.row_separator (visible_widths infos)) seen table.rows))
+          (sym (join_by-map (drawn_row (unstyled table) infos table.style.content_lines) (optional_frame_line table.style table.style.row_separator (whole_widths infos)) seen table.rows))
           (AllZip-join_by Shows (λ (row : RowValue). drawn_row (unstyled table) infos table.style.content_lines (seen row)) (drawn_row table infos table.style.content_lines)
-          (optional_frame_line table.style table.style.row_separator (visible_widths infos)) (optional_frame_line table.style table.style.row_separator (visible_widths infos)) table.rows
-          (frame_shows table.style table.style.row_separator (visible_widths infos) style.row_separator)
+          (optional_frame_line table.style table.style.row_separator (whole_widths infos)) (optional_frame_line table.style table.style.row_separator (whole_widths infos)) table.rows
+          (frame_shows table.style table.style.row_separator (whole_widths infos) style.row_separator)
           (All-weaker IsClearSeen (λ row. AllZip Shows (drawn_row (unstyled table) infos table.style.content_lines (seen row)) (drawn_row table infos table.style.content_lines row))
           (λ row cells. row_shows table.style.content_lines row style.content_lines cells) table.rows each))
 

@@ -4,7 +4,7 @@ use Rattle.std.specs.Prelude.{◌⊎◌, slice_set}
 use Rattle.std.proofs.lemmas.Bool.{cases_lt, eq-eqb, and_parts}
 use Rattle.std.proofs.lemmas.Option.{slice_get_within}
 use Rattle.std.proofs.lemmas.List.Sums.{sum_by_push}
-use Rattle.comfy_table.specs.Deciding.{HasTaken, HasTakenInTurn, average_room, is_undecided, offer_by_rule, place_behind, undecided_among, undecided_count, width_at, width_by_rule, with_shares}
+use Rattle.comfy_table.specs.Deciding.{HasTaken, HasTakenInTurn, average_room, is_undecided, offer_by_rule, position_after, undecided_among, undecided_count, width_at, width_by_rule, with_shares}
 use Rattle.comfy_table.specs.Dynamic.{Placed, Share, going_round, next_taken, total, without_shares}
 use Rattle.comfy_table.specs.Widths.{ColumnNeeds}
 use Rattle.comfy_table.specs.declared.utils.arrangement.dynamic.budget.Budget.{Budget}
@@ -19,11 +19,11 @@ abbrev pub IsBehind : ℕ → ℕ → ℕ → ℕ → Type 0
 IsBehind n place passed i = (i < n) × (((i < place) × (place ≤ i + passed)) ⊎ ((place ≤ i) × (n + place ≤ i + passed)))
 
 -- one place on, it is the place itself or was behind it before
-behind_one_more : (n place passed i : ℕ) → place < n → IsBehind n (place_behind n place) (passed + 1) i → (place ≡ i) ⊎ IsBehind n place passed i
+behind_one_more : (n place passed i : ℕ) → place < n → IsBehind n (position_after n place) (passed + 1) i → (place ≡ i) ⊎ IsBehind n place passed i
 behind_one_more n place passed i within = grind arith
 
 -- what was behind the place, and the place itself, are behind the next one
-behind_next : (n place passed i : ℕ) → place < n → passed < n → IsBehind n place passed i ⊎ (place ≡ i) → IsBehind n (place_behind n place) (passed + 1) i
+behind_next : (n place passed i : ℕ) → place < n → passed < n → IsBehind n place passed i ⊎ (place ≡ i) → IsBehind n (position_after n place) (passed + 1) i
 behind_next n place passed i within fewer behind = grind arith
 
 -- all places are behind where as many were passed
@@ -112,9 +112,9 @@ module _ (rule : Rule) (needs : List ColumnNeeds) (old : Budget) where
         ap₂ (λ (a : ℕ) (ps : List Placed). slice_get (shares_of (λ (p : Placed). width_by_rule rule a p.1) (going_round from ps)) 0) average_now left_is
 
     -- a place that takes nothing is passed
-    pub turn_passes : passed < length needs → width_at rule average needs now.widths.items place ≡ None → IsTurn now (place_behind (length needs) place) (passed + 1) average
+    pub turn_passes : passed < length needs → width_at rule average needs now.widths.items place ≡ None → IsTurn now (position_after (length needs) place) (passed + 1) average
     turn_passes fewer none =
-        let place_within : place < length needs → place_behind (length needs) place < length needs = λ within. grind arith in
+        let place_within : place < length needs → position_after (length needs) place < length needs = λ within. grind arith in
         let within : place < length needs = turn.within (omega (arith, fewer)) in
         record {
           order = turn.order;
@@ -143,9 +143,9 @@ module _ (rule : Rule) (needs : List ColumnNeeds) (old : Budget) where
     -- a place that takes a width is passed too, and the average may have changed
     pub turn_takes : (width : ℕ) → passed < length needs → width_at rule average needs now.widths.items place ≡ Some width → (new : Budget) (passed' average' : ℕ)
         → new.widths.items ≡ slice_set now.widths.items place (Some width) → new.room ≡ now.room - width → average' ≡ average_room new → (passed' ≡ 1) ⊎ ((average' ≡ average) × (passed' ≡ passed + 1))
-        → IsTurn new (place_behind (length needs) place) passed' average'
+        → IsTurn new (position_after (length needs) place) passed' average'
     turn_takes width fewer some new passed' average' widths_are room_is average_is by =
-        let place_within : place < length needs → place_behind (length needs) place < length needs = λ below. grind arith in
+        let place_within : place < length needs → position_after (length needs) place < length needs = λ below. grind arith in
         let takes = width_at-some rule average needs now.widths.items place width some in
         let below : place < length needs = slice_get_within needs place takes.column takes.found in
         let from = place_after candidates offer 0 turn.order in
@@ -165,17 +165,17 @@ module _ (rule : Rule) (needs : List ColumnNeeds) (old : Budget) where
           within = λ _. place_within below;
           average_is = average_is;
           nothing = nothing_new (is_undecided-set now.widths.items place);
-          since = inl (subst (IsBehind (length needs) (place_behind (length needs) place) passed') (sym last) (here_behind below));
+          since = inl (subst (IsBehind (length needs) (position_after (length needs) place) passed') (sym last) (here_behind below));
         }
       where
-        here_behind : place < length needs → IsBehind (length needs) (place_behind (length needs) place) passed' place
+        here_behind : place < length needs → IsBehind (length needs) (position_after (length needs) place) passed' place
         here_behind below =
-            ⊎_elim (λ one. subst (λ (n : ℕ). IsBehind (length needs) (place_behind (length needs) place) n place) (sym one) (behind_next (length needs) place 0 place below (omega (arith, below)) (inr refl)))
-            (λ more. subst (λ (n : ℕ). IsBehind (length needs) (place_behind (length needs) place) n place) (sym more.1) (behind_next (length needs) place passed place below fewer (inr refl))) by
+            ⊎_elim (λ one. subst (λ (n : ℕ). IsBehind (length needs) (position_after (length needs) place) n place) (sym one) (behind_next (length needs) place 0 place below (omega (arith, below)) (inr refl)))
+            (λ more. subst (λ (n : ℕ). IsBehind (length needs) (position_after (length needs) place) n place) (sym more.1) (behind_next (length needs) place passed place below fewer (inr refl))) by
 
         -- the columns that are left behind the next place were left behind this one
         nothing_new : ((j w : ℕ) → is_undecided (slice_set now.widths.items place (Some w)) j ≡ (is_undecided now.widths.items j && not (place == j)))
-            → (i : ℕ) (d : ColumnNeeds) → slice_get needs i ≡ Some d → IsBehind (length needs) (place_behind (length needs) place) passed' i → is_undecided new.widths.items i ≡ true → width_by_rule rule average' d ≡ None
+            → (i : ℕ) (d : ColumnNeeds) → slice_get needs i ≡ Some d → IsBehind (length needs) (position_after (length needs) place) passed' i → is_undecided new.widths.items i ≡ true → width_by_rule rule average' d ≡ None
         nothing_new set i d found behind left =
             let place_now : slice_get needs i ≡ Some d → place < length needs = λ found. turn.within (omega (arith, slice_get_within needs i d found)) in
             let both : (is_undecided now.widths.items i && not (place == i)) ≡ true = sym (set i width) ∙ ap (λ (ws : List (Option ℕ)). is_undecided ws i) (sym widths_are) ∙ left in
@@ -184,8 +184,8 @@ module _ (rule : Rule) (needs : List ColumnNeeds) (old : Budget) where
             ⊎_elim
             (λ one.
             ⊎_elim other (λ before. absurd (⊎_elim (λ near. omega (arith, near.0, near.1)) (λ far. omega (arith, far.1, before.0)) before.1))
-            (behind_one_more (length needs) place 0 i (place_now found) (subst (λ (n : ℕ). IsBehind (length needs) (place_behind (length needs) place) n i) one behind)))
+            (behind_one_more (length needs) place 0 i (place_now found) (subst (λ (n : ℕ). IsBehind (length needs) (position_after (length needs) place) n i) one behind)))
             (λ more.
             ⊎_elim other (λ before. ap (λ (a : ℕ). width_by_rule rule a d) more.0 ∙ turn.nothing i d found before parts.0)
-            (behind_one_more (length needs) place passed i (place_now found) (subst (λ (n : ℕ). IsBehind (length needs) (place_behind (length needs) place) n i) more.1 behind)))
+            (behind_one_more (length needs) place passed i (place_now found) (subst (λ (n : ℕ). IsBehind (length needs) (position_after (length needs) place) n i) more.1 behind)))
             by

@@ -3,9 +3,9 @@ use Rattle.std.specs.Prelude.{◌≡◌, ◌<◌, ℕ, Bool, true, false, List, 
 use Rattle.comfy_parts.specs.Text.{Text, measure}
 
 -- what a line shows: its text, and the indicator after it where it is cut
-abbrev pub line_text : Text → Option Text → Text
-line_text text None = text
-line_text text (Some indicator) = text ++ indicator
+abbrev pub shown_text : Text → Option Text → Text
+shown_text text None = text
+shown_text text (Some indicator) = text ++ indicator
 
 -- a width that is known is what the line measures
 abbrev pub IsKnownWidth : Option ℕ → Text → Type 0

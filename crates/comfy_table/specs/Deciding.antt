@@ -21,7 +21,7 @@ all_needs table columns = map (needs_in table) columns
 
 -- whether the column at a position has no width yet; past the last column there is none
 abbrev pub is_undecided : List (Option ℕ) → ℕ → Bool
-is_undecided widths place = is_none (slice_index_or widths place (Some 0))
+is_undecided widths position = is_none (slice_index_or widths position (Some 0))
 
 -- the columns without a width, each with its position
 abbrev pub undecided_among : List ColumnNeeds → List (Option ℕ) → List Placed
@@ -51,16 +51,16 @@ width_by_rule Shrunk average column = shrunk_at average column
 
 -- the same of the column at a position, where it is undecided
 abbrev pub width_at : Rule → ℕ → List ColumnNeeds → List (Option ℕ) → ℕ → Option ℕ
-width_at rule average needs widths place =
-    if is_undecided widths place then option_and_then (width_by_rule rule average) (slice_get needs place) else None
+width_at rule average needs widths position =
+    if is_undecided widths position then option_and_then (width_by_rule rule average) (slice_get needs position) else None
 
 -- what a column at its position takes by a rule, once some are taken
 abbrev pub offer_by_rule : Rule → ℕ → List Placed → List Share → Placed → Option ℕ
 offer_by_rule rule room candidates taken p = width_by_rule rule ((room - total taken) / length (without_shares taken candidates)) p.1
 
 -- the position after one of n, going round
-abbrev pub place_behind : ℕ → ℕ → ℕ
-place_behind n place = if nat_lt (place + 1) n then place + 1 else 0
+abbrev pub position_after : ℕ → ℕ → ℕ
+position_after n position = if nat_lt (position + 1) n then position + 1 else 0
 
 -- columns have taken their widths by a rule, in turn, until none took one
 abbrev pub HasTakenInTurn : Rule → List ColumnNeeds → Budget → Budget → Type 0
@@ -90,13 +90,13 @@ shared_evenly budget =
     filled budget.widths.items (even_spread (max budget.room (undecided_count budget.widths.items)) (undecided_count budget.widths.items))
 
 -- all widths, with the room spread over them
-abbrev pub widened : Budget → List ℕ
-widened budget = added (decided budget.widths.items) (even_spread budget.room (length budget.widths.items))
+abbrev pub with_room_spread : Budget → List ℕ
+with_room_spread budget = added (decided budget.widths.items) (even_spread budget.room (length budget.widths.items))
 
 -- the content widths at the end: the undecided columns share the room; with full width and no such column all do
 abbrev pub final_widths : Bool → Budget → List ℕ
 final_widths full budget =
-    if full && (undecided_count budget.widths.items == 0) then widened budget else shared_evenly budget
+    if full && (undecided_count budget.widths.items == 0) then with_room_spread budget else shared_evenly budget
 
 -- the widths and the room are numbers of at most sixteen bits, also where the room is added to a width
 pub record HasRoomToSpread (budget : Budget) : Type 0 where

@@ -7,7 +7,7 @@ use Rattle.comfy_parts.specs.VisibleText.{visible_text}
 use Rattle.comfy_parts.specs.declared.style.table.ContentArrangement.TheVariants.{Dynamic, DynamicFullWidth}
 use Rattle.comfy_parts.specs.declared.style.table_style.LineStyle.{LineStyle}
 use Rattle.comfy_table.specs.Arrangement.{IsArranged, room_beside_borders}
-use Rattle.comfy_table.specs.Drawing.{drawing, infos_of, terminated_text_of, text_of, trimmed_text_of, visible_widths}
+use Rattle.comfy_table.specs.Drawing.{drawing, infos_of, terminated_text_of, text_of, trimmed_text_of, whole_widths}
 use Rattle.comfy_table.specs.Dynamic.{Steps, IsArrangedBy}
 use Rattle.comfy_table.specs.Frame.{frame_line}
 use Rattle.comfy_table.specs.Laws.{CutLinesAreClosed, IsFreeOfEscapes, IsPlainTable, LinesAreResumedInRow, NoConstraints, NoneIsOpenAtTheEnd, count, least_total, line_total, unstyled}
@@ -46,7 +46,7 @@ IsCutClosedInRow table row p =
 -- P holds of the number of characters of each frame line, whatever the style and the texts. It holds of that of every line as it is seen, where the table is printable ASCII.
 -- And it holds of the terminal columns of every line as it is seen, where the table is straight.
 pub record EachLineCounts (P : ℕ → Type 0) (table : TableValue) (widths : List ℕ) : Type 0 where
-  pub frame_lines : (line : LineStyle) → P (count (frame_line table.style line (visible_widths (infos_of table widths))))
+  pub frame_lines : (line : LineStyle) → P (count (frame_line table.style line (whole_widths (infos_of table widths))))
   pub plain_lines : IsPlainTable table widths → All (λ line. P (count line)) (drawing (unstyled table) widths)
   pub straight_lines : IsStraightTable table widths → All (λ line. P (measure line)) (drawing (unstyled table) widths)
 
@@ -79,7 +79,7 @@ pub record IsTableDrawing (table : TableValue) (lines : List Text) : Type 0 wher
   pub resumed : table.custom_styling ≡ true → All (λ (row : RowValue). All (IsResumedInRow table row) (visible_infos (infos_of table widths))) (header_and_rows table)
   pub cut_closed : table.custom_styling ≡ true → All (λ (row : RowValue). All (IsCutClosedInRow table row) (visible_infos (infos_of table widths))) (header_and_rows table)
   -- each frame line has the line's total, whatever the texts
-  pub frame_counts : (line : LineStyle) → count (frame_line table.style line (visible_widths (infos_of table widths))) ≡ line_total table widths
+  pub frame_counts : (line : LineStyle) → count (frame_line table.style line (whole_widths (infos_of table widths))) ≡ line_total table widths
   -- a known width w holds where no visible column has a constraint: under `Dynamic` a line has at most that count, or that of borders, paddings and one terminal column for each visible column
   pub keeps_to_width : (w : ℕ) → NoConstraints table → table.arrangement ≡ Dynamic → table_width table ≡ Some w → EachLineCounts (λ n. n ≤ max w (least_total table)) table widths
   -- under `DynamicFullWidth` it has exactly that count, where a column is visible

@@ -9,7 +9,7 @@ use Rattle.comfy_parts.specs.VisibleLines.{CellLine, line_texts}
 use Rattle.comfy_parts.specs.VisibleText.{closed, parts, open_after}
 use Rattle.comfy_parts.specs.declared.style.table.ContentArrangement.TheVariants.{Dynamic, DynamicFullWidth}
 use Rattle.comfy_table.specs.Arrangement.{IsArranged}
-use Rattle.comfy_table.specs.Drawing.{infos_of, visible_widths}
+use Rattle.comfy_table.specs.Drawing.{infos_of, whole_widths}
 use Rattle.comfy_table.specs.Dynamic.{Steps, IsDynamic, fixed_shares, places_of, total}
 use Rattle.comfy_table.specs.Frame.{border_count, left_characters, right_characters, junction_characters}
 use Rattle.comfy_table.specs.Lines.{cell_lines, cell_delimiter, fitting_indicator, uncut_count}
@@ -29,7 +29,7 @@ unstyled table = record (seen_table table) { no_tty = true; enforce_styling = fa
 
 -- the border characters of a line, and the whole widths of the visible columns
 abbrev pub line_total : TableValue → List ℕ → ℕ
-line_total table widths = border_count table.style (visible_count table) + sum (visible_widths (infos_of table widths))
+line_total table widths = border_count table.style (visible_count table) + sum (whole_widths (infos_of table widths))
 
 -- borders, paddings and one terminal column for each visible column
 abbrev pub least_total : TableValue → ℕ

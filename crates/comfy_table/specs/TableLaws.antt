@@ -8,7 +8,7 @@ use Rattle.comfy_parts.specs.Wrapping.{lines_of_text}
 use Rattle.comfy_parts.specs.declared.style.table.ContentArrangement.TheVariants.{Dynamic, DynamicFullWidth}
 use Rattle.comfy_parts.specs.declared.style.table_style.LineStyle.{LineStyle}
 use Rattle.comfy_table.specs.Arrangement.{IsArranged, room_beside_borders, widths_at}
-use Rattle.comfy_table.specs.Drawing.{infos_of, visible_widths}
+use Rattle.comfy_table.specs.Drawing.{infos_of, whole_widths}
 use Rattle.comfy_table.specs.Dynamic.{Steps, IsArrangedBy, content_room}
 use Rattle.comfy_table.specs.Frame.{border_count, frame_line}
 use Rattle.comfy_table.specs.Laws.{count, line_total, least_total, least_with_steps, NoConstraints, HasPlainCells, IsPlainCell}
@@ -27,19 +27,19 @@ visible_contents table widths = widths_at widths (visible_columns table)
 abbrev pub FrameCounts : TableValue → List ℕ → LineStyle → Type 0
 FrameCounts table widths line =
     length widths ≡ length table.columns
-    → count (frame_line table.style line (visible_widths (infos_of table widths))) ≡ line_total table widths
+    → count (frame_line table.style line (whole_widths (infos_of table widths))) ≡ line_total table widths
 
 -- under `Dynamic` a frame line keeps to the width, or to borders, paddings and one terminal column for each visible column
 abbrev pub FrameKeepsToWidth : TableValue → ℕ → List ℕ → LineStyle → Type 0
 FrameKeepsToWidth table w widths line =
     NoConstraints table → table.arrangement ≡ Dynamic → table_width table ≡ Some w → IsArranged table widths
-    → count (frame_line table.style line (visible_widths (infos_of table widths))) ≤ max w (least_total table)
+    → count (frame_line table.style line (whole_widths (infos_of table widths))) ≤ max w (least_total table)
 
 -- under `DynamicFullWidth` it has exactly that many characters, where a column is visible
 abbrev pub FrameFillsWidth : TableValue → ℕ → List ℕ → LineStyle → Type 0
 FrameFillsWidth table w widths line =
     NoConstraints table → table.arrangement ≡ DynamicFullWidth → table_width table ≡ Some w → 0 < visible_count table → IsArranged table widths
-    → count (frame_line table.style line (visible_widths (infos_of table widths))) ≡ max w (least_total table)
+    → count (frame_line table.style line (whole_widths (infos_of table widths))) ≡ max w (least_total table)
 
 -- ---- totals under every constraint
 

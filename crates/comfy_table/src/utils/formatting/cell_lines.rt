@@ -27,13 +27,13 @@ pub struct Line<'a> {
 impl<'a> Model for Line<'a> {
     ghost use Rattle.std.specs.Prelude.{option_copied};
     ghost use Rattle.comfy_parts.specs.Text.{Text};
-    ghost use Rattle.comfy_table.specs.BorrowedLines.{IsKnownWidth, line_text};
+    ghost use Rattle.comfy_table.specs.BorrowedLines.{IsKnownWidth, shown_text};
 
     ghost Value = { Text };
 
-    ghost invariant = { λ l. IsKnownWidth l.width (line_text l.text.now (option_copied l.indicator)) };
+    ghost invariant = { λ l. IsKnownWidth l.width (shown_text l.text.now (option_copied l.indicator)) };
 
-    ghost view = { λ l. line_text l.text.now (option_copied l.indicator) };
+    ghost view = { λ l. shown_text l.text.now (option_copied l.indicator) };
 }
 
 impl<'a> Line<'a> {
@@ -149,11 +149,11 @@ struct CutLine<'a> {
 impl<'a> Model for CutLine<'a> {
     ghost use Rattle.std.specs.Prelude.{option_copied};
     ghost use Rattle.comfy_parts.specs.Text.{Text};
-    ghost use Rattle.comfy_table.specs.BorrowedLines.{line_text};
+    ghost use Rattle.comfy_table.specs.BorrowedLines.{shown_text};
 
     ghost Value = { Text };
 
-    ghost view = { λ l. line_text l.text.now (option_copied l.indicator) };
+    ghost view = { λ l. shown_text l.text.now (option_copied l.indicator) };
 }
 
 /// The lines of a cell in its row, from the top.

@@ -3,7 +3,7 @@
 ghost use Rattle.std.specs.Prelude.{◌≡◌, ◌∷◌, [], nat_lt, IfOk, OnOk, map, string_bytes, option_to_list, if◌then◌else◌};
 ghost use Rattle.std.specs.List.{join_by};
 ghost use Rattle.comfy_table.specs.DrawnCells.{piece_at};
-ghost use Rattle.comfy_table.specs.Drawing.{drawing_of_infos, drawn_header, drawn_row, drawn_rows, visible_widths};
+ghost use Rattle.comfy_table.specs.Drawing.{drawing_of_infos, drawn_header, drawn_row, drawn_rows, whole_widths};
 ghost use Rattle.comfy_table.specs.Frame.{content_line, optional_frame_line};
 ghost use Rattle.comfy_table.specs.Output.{new_output, with_lines, with_written};
 
@@ -43,12 +43,12 @@ struct Writer<'a> {
 
 impl<'a> Model for Writer<'a> {
     ghost use Rattle.std.specs.Prelude.{◌≡◌};
-    ghost use Rattle.comfy_table.specs.Drawing.{visible_widths};
+    ghost use Rattle.comfy_table.specs.Drawing.{whole_widths};
     ghost use Rattle.comfy_table.specs.Output.{WriterValue};
 
     ghost Value = { WriterValue };
 
-    ghost invariant = { λ w. w.widths.items ≡ visible_widths w.infos.now };
+    ghost invariant = { λ w. w.widths.items ≡ whole_widths w.infos.now };
 
     ghost view = { λ w. record { table = w.table.now; infos = w.infos.now; output = w.output } };
 }
@@ -61,7 +61,7 @@ impl<'a> Writer<'a> {
         Ok(Writer {
             table,
             infos,
-            widths: visible_widths(alloc, infos)?,
+            widths: whole_widths(alloc, infos)?,
             line: String::new(alloc),
             output: Output::new(alloc, form),
         })
@@ -69,7 +69,7 @@ impl<'a> Writer<'a> {
 
     // A line of the frame, where it is drawn.
     fn write_frame_line(&mut self, style: &LineStyle) -> Result<()>
-        ensures { OnOk result (self.new ≡ with_written (optional_frame_line self.old.table.style style.now (visible_widths self.old.infos)) self.old) }
+        ensures { OnOk result (self.new ≡ with_written (optional_frame_line self.old.table.style style.now (whole_widths self.old.infos)) self.old) }
     {
         if let Some(text) = optional_frame_line(self.table, style, self.widths.as_slice())? {
             self.output.push_line(text.as_str())?;
@@ -154,8 +154,8 @@ impl<'a> Writer<'a> {
 }
 
 // The whole widths of the visible columns.
-fn visible_widths(alloc: Global, infos: &[ColumnDisplayInfo]) -> Result<Vec<usize>>
-    ensures { IfOk result (λ widths. widths.items ≡ visible_widths infos.now) }
+fn whole_widths(alloc: Global, infos: &[ColumnDisplayInfo]) -> Result<Vec<usize>>
+    ensures { IfOk result (λ widths. widths.items ≡ whole_widths infos.now) }
 {
     let mut widths = Vec::new(alloc);
     for (_position, info) in infos.iter().enumerate() {

@@ -1,7 +1,7 @@
 //! Room that is spread evenly over columns.
 
 ghost use Rattle.std.specs.Prelude.{◌≡◌, ◌≤◌, ◌<◌, IfOk, max};
-ghost use Rattle.comfy_table.specs.Deciding.{HasRoomToSpread, final_widths, shared_evenly, undecided_count, widened};
+ghost use Rattle.comfy_table.specs.Deciding.{HasRoomToSpread, final_widths, shared_evenly, undecided_count, with_room_spread};
 ghost use Rattle.comfy_table.specs.Widths.{part_of};
 
 use super::budget::Budget;
@@ -46,7 +46,7 @@ fn shared_evenly(budget: &Budget, undecided: usize, alloc: Global) -> Result<Vec
 // The widths with the room spread over all of them.
 fn widened(budget: &Budget, alloc: Global) -> Result<Vec<u16>>
     requires { HasRoomToSpread budget.now }
-    ensures { IfOk result (λ widths. widths.items ≡ widened budget.now) }
+    ensures { IfOk result (λ widths. widths.items ≡ with_room_spread budget.now) }
 {
     let count = budget.widths.len();
     let mut widths = Vec::new(alloc);

@@ -2,7 +2,7 @@
 
 ghost use Rattle.std.specs.Prelude.{◌≡◌, ◌<◌, ◌≤◌, length};
 ghost use Rattle.comfy_parts.specs.CellValue.{column_padding};
-ghost use Rattle.comfy_table.specs.Deciding.{HasTakenInTurn, all_needs, needs_in, place_behind, width_at};
+ghost use Rattle.comfy_table.specs.Deciding.{HasTakenInTurn, all_needs, needs_in, position_after, width_at};
 ghost use Rattle.comfy_table.specs.Dynamic.{lower_of_boundary, shrunk_at};
 
 use super::budget::Budget;
@@ -51,14 +51,14 @@ impl<'a> Takers<'a> {
                     passed = 1;
                 }
             }
-            position = self.place_behind(position);
+            position = self.position_after(position);
         }
     }
 
     // The position after this one, going round.
-    fn place_behind(&self, position: usize) -> usize
+    fn position_after(&self, position: usize) -> usize
         requires { position < length self.now.columns.now }
-        ensures { result ≡ place_behind (length self.now.columns.now) position }
+        ensures { result ≡ position_after (length self.now.columns.now) position }
     {
         if position + 1 < self.columns.len() {
             position + 1

@@ -15,7 +15,7 @@ invariant_of-result c =
     let clear : has_escape text ≡ false = none_below 0x1B (omega arith) text printable in
     let none : list_any has_escape (text ∷ []) ≡ false = rw clear refl in
     let width = ap (λ n. n ∷ []) (c.len-width.ensures ∙ c.args.text.bytes.ok.0 ∙ sym (measure-printable text printable)) in
-    record { widths = width; visible = clear_lines (text ∷ []) none; visible_widths = width; escaped = sym none }
+    record { widths = width; visible = clear_lines (text ∷ []) none; widths_of_visible = width; escaped = sym none }
 
 pub returns-then-is_printable-clause-value : goal.returns-then-is_printable-clause-value
 returns-then-is_printable-clause-value c =
@@ -34,7 +34,7 @@ invariant_of-result-then-is_plain_line c =
     let clear : has_escape text ≡ false = ap has_escape (sym c.as_str-2.ensures.value) ∙ c.is_plain_line.ensures.clear c.if-is_plain_line.true in
     let none : list_any has_escape (text ∷ []) ≡ false = rw clear refl in
     let width = ap (λ n. n ∷ []) (c.measure_text_width-width.ensures.value ∙ ap measure c.as_str-then-is_plain_line.ensures.value) in
-    record { widths = width; visible = clear_lines (text ∷ []) none; visible_widths = width; escaped = sym none }
+    record { widths = width; visible = clear_lines (text ∷ []) none; widths_of_visible = width; escaped = sym none }
 
 pub returns-then-is_plain_line-clause-value : goal.returns-then-is_plain_line-clause-value
 returns-then-is_plain_line-clause-value c =
@@ -49,7 +49,7 @@ pub invariant_of-result-then-not-has_escape : goal.invariant_of-result-then-not-
 invariant_of-result-then-not-has_escape c =
     let texts = map string_bytes c.in_ok-whole.whole.texts.items in
     let none : list_any has_escape texts ≡ false = sym c.has_escape.ensures ∙ c.if-not-has_escape.true in
-    rw c.in_ok-new.ensures.ok record { widths = c.in_ok-whole.ensures.widths; visible = clear_lines texts none; visible_widths = c.in_ok-whole.ensures.widths; escaped = sym none }
+    rw c.in_ok-new.ensures.ok record { widths = c.in_ok-whole.ensures.widths; visible = clear_lines texts none; widths_of_visible = c.in_ok-whole.ensures.widths; escaped = sym none }
 
 pub returns-then-not-has_escape-clause-text_lines : goal.returns-then-not-has_escape-clause-text_lines
 returns-then-not-has_escape-clause-text_lines c =

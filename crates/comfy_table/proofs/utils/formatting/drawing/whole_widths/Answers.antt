@@ -1,8 +1,8 @@
 use Rattle.std.proofs.Common.{rules, ◌≡◌, ℕ, Bool, true, false, not, List, [], ◌∷◌, ◌++◌, ap, ap₂, sym, ◌∙◌, append-nil}
 use Rattle.comfy_parts.specs.CellValue.{ColumnInfo, info_width}
 use Rattle.comfy_table.proofs.LoopLemmas.{filtered_all, filtered_more}
-use Rattle.comfy_table.proofs.utils.formatting.drawing.visible_widths.Goals.{then-not-is_hidden+in_ok-push, else-not-is_hidden}
-use Rattle.comfy_table.proofs.utils.formatting.drawing.visible_widths.Goals as goal
+use Rattle.comfy_table.proofs.utils.formatting.drawing.whole_widths.Goals.{then-not-is_hidden+in_ok-push, else-not-is_hidden}
+use Rattle.comfy_table.proofs.utils.formatting.drawing.whole_widths.Goals as goal
 
 pub loop-position-preserved : goal.loop-position-preserved
 loop-position-preserved c =

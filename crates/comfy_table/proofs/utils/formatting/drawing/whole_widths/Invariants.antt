@@ -1,7 +1,7 @@
 use Rattle.std.proofs.Common.{◌≡◌, ℕ, not, map, take}
 use Rattle.std.specs.List.{enumerate_from, filter}
 use Rattle.comfy_parts.specs.CellValue.{ColumnInfo, info_width}
-use Rattle.comfy_table.proofs.utils.formatting.drawing.visible_widths.Given as goal
+use Rattle.comfy_table.proofs.utils.formatting.drawing.whole_widths.Given as goal
 
 abbrev pub invariant-loop-position : goal.invariant-loop-position
 invariant-loop-position l =
