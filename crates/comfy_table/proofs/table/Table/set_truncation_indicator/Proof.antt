@@ -1,34 +1,12 @@
 -- `set_truncation_indicator` hands on what `with_indicator_set` answers, under the same clauses. Assumes `Logic`.
 use Rattle.std.proofs.Common.{◌≡◌, List, [], ◌∷◌, refl, sym}
-use Rattle.std.proofs.raw_atomic.Walks.{proved_at, leaves}
-use mathlib.Core.Path.{subst}
-use base.Logic.{SProp, ent, id⊢}
-use base.Fml.{ftrue, flft}
-use lib.Dec.{T}
-use mir.Syntax.{Ty, ty_int, ty_ref, imm, named, w8}
-use mir.Val.{Val, has_ty, WT}
-use contract.Monad.{fact}
-use contract.Running.{tables}
-use prog.Wp.{WpFn, spot_of}
-use types.Kit.{‵, raw, ◌⊛◌, some, later, ◌$◌, ◌∵◌, !, qed, by, move, keep, drop, use1, use2, split, join, pick, await, rewrite}
-use types.Run.{enter, addr, stop, no_more, and_then, returns}
-use types.ByLocal.{alloc_all, pass_all, free_all, look_at, get, through, sets, lands_as, env}
-use denote.Laws.{Typed, shows}
+use mir.Syntax.{ty_int, ty_ref, imm, named, w8}
 use denote.Plain.{UInt}
 use denote.Such.{such_Lawful}
 use denote.Slice.{ShrSlice, shr_slice_Lawful, slice_ty}
 use denote.Text.{StrRefOf, Utf8}
-use denote.RattleType.{RattleType}
-use denote.Ref.{mut_vals}
-use denote.Signature.{plain, type_at, mut_ref_to}
-use denote.Exit.{yes, no}
-use denote.Steps.{nothing, peeks, heard}
-use denote.Triple.Call.{calls_at}
-use denote.Triple.Clauses.{Lasts, lasts, at_exit}
-use denote.Triple.Entry.{Vals}
-use denote.Triple.Spec.{triple_of}
-use denote.Triple.Table.{framed}
-use denote.Triple.Walked.{Stays, walk_of, stay_dropped, Goes-dropped, Goes-spent_ref}
+use denote.Exit.{yes}
+use Rattle.comfy_table.proofs.HandedOnWalk.{proved_at, leaves, subst, SProp, ent, id⊢, ftrue, flft, T, Ty, Val, has_ty, WT, fact, tables, WpFn, spot_of, ‵, raw, ◌⊛◌, some, later, ◌$◌, ◌∵◌, !, qed, by, move, keep, drop, use1, use2, split, join, pick, await, rewrite, enter, addr, stop, no_more, and_then, returns, alloc_all, pass_all, free_all, look_at, get, through, sets, lands_as, env, Typed, shows, RattleType, mut_vals, plain, type_at, mut_ref_to, no, nothing, peeks, heard, calls_at, Lasts, lasts, at_exit, Vals, triple_of, framed, Stays, walk_of, stay_dropped, Goes-dropped, Goes-spent_ref, one}
 use Rattle.comfy_table.specs.TableReference.{reference_of}
 use Rattle.comfy_table.specs.contracts.table.Table as table
 use Rattle.comfy_table.specs.contracts.table.Table.set_truncation_indicator as f
@@ -40,15 +18,6 @@ use Rattle.comfy_table.proofs.table.Table.with_indicator_set.Met.{met as g_met}
 use Rattle.comfy_table.proofs.table.Table.with_indicator_set.Kinds as g_kinds
 use Rattle.comfy_table.specs.contracts.table.into_reference as h
 use Rattle.comfy_table.proofs.table.into_reference.Met.{met as h_met}
-
-abbrev Good : Ty → Val → Type 0
-Good τ v = T (has_ty τ v) × WT v
-
--- one machine value of a type
-one : (τ : Ty) (vs : List Val) → Typed (τ ∷ []) vs → (v : Val) × (vs ≡ v ∷ []) × Good τ v
-one τ [] t = absurd t
-one τ (v ∷ []) t = (v, refl, t.0)
-one τ (v ∷ w ∷ vs) t = absurd t.1
 
 pub set_truncation_indicator_spec : {M : Type 1} → statement M
 set_truncation_indicator_spec {M} 𝓤 𝓛 𝓜 𝓡 wired =
