@@ -1,11 +1,11 @@
 -- `add_row` hands on what `with_row_added` answers, under the same clauses. Assumes `Logic`.
-use Rattle.std.proofs.Common.{◌≡◌, List, [], ◌∷◌, refl, sym}
+use Rattle.std.proofs.Common.{◌≡◌, [], ◌∷◌, refl, sym}
 use mir.MapTy.{inst_fn}
 use mir.Syntax.{a_type, dcons, dnil}
 use types.Run.{of_opd}
 use denote.Param.{param, layout, bounded}
 use denote.Param.Laws.{param_laws}
-use Rattle.comfy_table.proofs.HandedOnWalk.{proved_at, leaves, subst, SProp, ent, id⊢, ftrue, flft, T, Ty, Val, has_ty, WT, fact, tables, WpFn, spot_of, ‵, raw, ◌⊛◌, some, later, ◌$◌, ◌∵◌, !, qed, by, move, keep, drop, use1, use2, split, join, pick, await, rewrite, enter, addr, stop, no_more, and_then, returns, alloc_all, pass_all, free_all, look_at, get, through, sets, lands_as, env, Typed, shows, RattleType, mut_vals, plain, type_at, mut_ref_to, no, nothing, peeks, heard, calls_at, Lasts, lasts, at_exit, Vals, triple_of, framed, Stays, walk_of, stay_dropped, Goes-dropped, Goes-spent_ref, one}
+use Rattle.comfy_table.proofs.HandedOnWalk.{proved_at, leaves, subst, SProp, ent, id⊢, ftrue, flft, fact, tables, WpFn, spot_of, ‵, raw, ◌⊛◌, some, later, ◌$◌, ◌∵◌, !, qed, by, move, keep, drop, use1, use2, split, join, pick, await, rewrite, enter, addr, stop, no_more, and_then, returns, alloc_all, pass_all, free_all, look_at, get, through, sets, lands_as, env, shows, RattleType, mut_vals, plain, type_at, mut_ref_to, no, nothing, peeks, heard, calls_at, Lasts, lasts, at_exit, Vals, triple_of, framed, Stays, walk_of, stay_dropped, Goes-dropped, Goes-spent_ref, one}
 use Rattle.comfy_table.specs.TableReference.{reference_of}
 use Rattle.comfy_table.specs.contracts.table.Table as table
 use Rattle.comfy_table.specs.contracts.table.Table.add_row as f
