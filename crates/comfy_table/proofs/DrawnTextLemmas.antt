@@ -57,7 +57,8 @@ uncut_texts-are : (height : Option ℕ) (w : ℕ) (indicator : Text) (lines : Li
 uncut_texts-are None w indicator lines = grind (arith, length-map, take_all)
 uncut_texts-are (Some h) w indicator lines =
     let uncut = ap (map written_of) (uncut-are (Some h) w indicator lines) in
-    let texts = take-map written_of (uncut_count (Some h) lines) (cut_cell_lines_to_limit (Some h) w indicator lines) ∙ uncut ∙ sym (take-map written_of (uncut_count (Some h) lines) lines) in
+    let texts = take-map written_of (uncut_count (Some h) lines) (cut_cell_lines_to_limit (Some h) w indicator lines)
+    ∙ uncut ∙ sym (take-map written_of (uncut_count (Some h) lines) lines) in
     grind (arith, nat_tests, length-map, take_all, texts)
 
 module _ (table : TableValue) (row : RowValue) (info : ColumnInfo) (cell : CellValue) where

@@ -61,8 +61,8 @@ pieces-counted table row p utf8 places plain even = by_option (slice_get row.cel
 -- ---- the drawing
 
 -- what holds of each line that a row's pieces make holds of each of its lines
-pub All-row : (P : Text → Type 0) (table : TableValue) (infos : List ColumnInfo) (line : ContentLineStyle) (row : RowValue) → ((k : ℕ) → P (content_line table.style line (row_line table infos row k)))
-    → All P (drawn_row table infos line row)
+pub All-row : (P : Text → Type 0) (table : TableValue) (infos : List ColumnInfo) (line : ContentLineStyle) (row : RowValue)
+    → ((k : ℕ) → P (content_line table.style line (row_line table infos row k))) → All P (drawn_row table infos line row)
 All-row P table infos line row each =
     All-map P (content_line table.style line) (row_lines table infos row)
     (All-map (λ pieces. P (content_line table.style line pieces)) (row_line table infos row) (range_with_len 0 (row_height table infos row))
@@ -70,9 +70,12 @@ All-row P table infos line row each =
 
 -- what holds of the frame lines and of the lines of each row holds of each line of the drawing
 pub All-drawing : (P : Text → Type 0) (table : TableValue) (infos : List ColumnInfo) (Known : RowValue → Type 0)
-    → All P (optional_frame_line table.style table.style.top_border (whole_widths infos)) → All P (optional_frame_line table.style table.style.header_separator (whole_widths infos))
-    → All P (optional_frame_line table.style table.style.row_separator (whole_widths infos)) → All P (optional_frame_line table.style table.style.bottom_border (whole_widths infos))
-    → ((row : RowValue) → Known row → All P (drawn_row table infos table.style.header_lines row)) → ((row : RowValue) → Known row → All P (drawn_row table infos table.style.content_lines row))
+    → All P (optional_frame_line table.style table.style.top_border (whole_widths infos))
+    → All P (optional_frame_line table.style table.style.header_separator (whole_widths infos))
+    → All P (optional_frame_line table.style table.style.row_separator (whole_widths infos))
+    → All P (optional_frame_line table.style table.style.bottom_border (whole_widths infos))
+    → ((row : RowValue) → Known row → All P (drawn_row table infos table.style.header_lines row))
+    → ((row : RowValue) → Known row → All P (drawn_row table infos table.style.content_lines row))
     → All Known (option_to_list table.header ++ table.rows) → All P (drawing_of_infos table infos)
 All-drawing P table infos Known top below_header between bottom as_header as_content each =
     All-append P _ _ top
@@ -109,13 +112,16 @@ module _ (table : TableValue) (infos : List ColumnInfo) where
   frame_counted : (line : LineStyle) → All (HasCount total_of) (optional_frame_line table.style line (whole_widths infos))
   frame_counted line =
       cond_both (is_drawn line) _ [] (All (HasCount total_of))
-      (λ _. All-cons (HasCount total_of) (frame_line table.style line (whole_widths infos)) [] (HasCount-frame_line table.style line (whole_widths infos)) (All-nil (HasCount total_of))) (λ _. All-nil (HasCount total_of))
+      (λ _. All-cons (HasCount total_of) (frame_line table.style line (whole_widths infos)) []
+      (HasCount-frame_line table.style line (whole_widths infos)) (All-nil (HasCount total_of)))
+      (λ _. All-nil (HasCount total_of))
 
   -- all lines have them
   drawing_counted : All (λ row. All (ArePiecesCounted table row) (visible_infos infos)) (seen_rows table) → All (HasCount total_of) (drawing_of_infos (unstyled table) infos)
   drawing_counted each =
-      All-drawing (HasCount total_of) (unstyled table) infos (λ row. All (ArePiecesCounted table row) (visible_infos infos)) (frame_counted table.style.top_border) (frame_counted table.style.header_separator)
-      (frame_counted table.style.row_separator) (frame_counted table.style.bottom_border) (row_counted table.style.header_lines) (row_counted table.style.content_lines) each
+      All-drawing (HasCount total_of) (unstyled table) infos (λ row. All (ArePiecesCounted table row) (visible_infos infos))
+      (frame_counted table.style.top_border) (frame_counted table.style.header_separator) (frame_counted table.style.row_separator) (frame_counted table.style.bottom_border)
+      (row_counted table.style.header_lines) (row_counted table.style.content_lines) each
 
 -- all lines, frame lines too, have the same count, whatever the arrangement and the constraints; an indicator that ends inside a character would swallow what follows it
 abbrev pub EqualCounts : TableValue → List ℕ → Type 0

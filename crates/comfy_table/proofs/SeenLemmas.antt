@@ -52,7 +52,8 @@ pub All-seen : (table : TableValue) (P : RowValue → Type 0) → ((row : RowVal
 All-seen table P gives each =
     subst (All P) (sym (seen_rows-is table))
     (All-map P (row_seen table.custom_styling) (header_and_rows table)
-    (All-weaker P (λ row. P (row_seen table.custom_styling row)) (λ row own. elim table.custom_styling as (λ custom. P (row_seen custom row)) [ true ↦ gives row own | false ↦ own ]) (header_and_rows table) each))
+    (All-weaker P (λ row. P (row_seen table.custom_styling row))
+    (λ row own. elim table.custom_styling as (λ custom. P (row_seen custom row)) [ true ↦ gives row own | false ↦ own ]) (header_and_rows table) each))
 
 -- the text lines of a row are whole characters
 abbrev pub IsWholeRow : RowValue → Type 0

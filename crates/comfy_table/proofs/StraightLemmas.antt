@@ -80,7 +80,8 @@ module _ (table : TableValue) (infos : List ColumnInfo) (Follows : Text → Type
   frame_measured : (line : LineStyle) → IsOneColumn line.left → IsOneColumn line.fill → IsOneColumn line.junction → IsOneColumn line.right → All HasTotal (optional_frame_line table.style line (whole_widths infos))
   frame_measured line left fill junction right =
       cond_both (is_drawn line) _ [] (All HasTotal)
-      (λ _. All-cons HasTotal (frame_line table.style line (whole_widths infos)) [] (HasMeasure-any Follows _ _ (HasMeasure-frame_line table.style line (whole_widths infos) left fill junction right)) (All-nil HasTotal))
+      (λ _. All-cons HasTotal (frame_line table.style line (whole_widths infos)) []
+      (HasMeasure-any Follows _ _ (HasMeasure-frame_line table.style line (whole_widths infos) left fill junction right)) (All-nil HasTotal))
       (λ _. All-nil HasTotal)
 
   -- all lines have them

@@ -124,10 +124,12 @@ lines_are_resumed table row info cell =
     (every-take (IsResumedLine cell.text_lines) (uncut_count row.max_height lines) lines (lines_resumed info.content_width d cell.text_lines))
 
 -- a line that is cut is written as it is seen, closed
-closed_behind : (height : Option ℕ) (w : ℕ) (indicator : Text) (lines : List CellLine) → AllByRecursion IsClosedLine (drop (uncut_count height lines) (cut_cell_lines_to_limit height w indicator lines))
+closed_behind : (height : Option ℕ) (w : ℕ) (indicator : Text) (lines : List CellLine)
+    → AllByRecursion IsClosedLine (drop (uncut_count height lines) (cut_cell_lines_to_limit height w indicator lines))
 closed_behind None w indicator lines = subst (AllByRecursion IsClosedLine) (sym (drop_all (length lines) lines (omega arith))) tt
 closed_behind (Some h) w indicator lines =
-    subst (AllByRecursion IsClosedLine) (sym (cut-is h w indicator lines)) (cond_both (nat_le (length lines) h) [] _ (AllByRecursion IsClosedLine) (λ _. tt) (λ _. (refl, tt)))
+    subst (AllByRecursion IsClosedLine) (sym (cut-is h w indicator lines))
+    (cond_both (nat_le (length lines) h) [] _ (AllByRecursion IsClosedLine) (λ _. tt) (λ _. (refl, tt)))
 
 -- so are those of a cell in a row
 pub cut_lines_are_closed : (table : TableValue) (row : RowValue) (info : ColumnInfo) (cell : CellValue) → CutLinesAreClosed table row info cell
