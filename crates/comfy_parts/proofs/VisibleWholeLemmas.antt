@@ -15,7 +15,6 @@ use Rattle.comfy_parts.specs.Text.{Text}
 use Rattle.comfy_parts.specs.VisibleText.{parts, parameter_count, sequence_len, visible_text, visible_bytes}
 use Rattle.comfy_parts.proofs.SequenceLemmas.{BeginsWithSequence, begins_with_sequence, front_of, parts-sequence, sequence_len-sequence, slice_index_behind}
 use Rattle.comfy_parts.proofs.FrontLemmas.{character-seen, parts-character}
-pub use Rattle.comfy_parts.proofs.FrontLemmas.{encoded_clear}
 use Rattle.std.specs.List.{flat_map}
 
 -- what stands after a sequence at the front

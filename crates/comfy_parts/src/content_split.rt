@@ -4,7 +4,6 @@ ghost use Rattle.std.specs.Prelude.{◌≡◌, [], map, IfOk, IsOk, string_bytes
 ghost use Rattle.comfy_parts.specs.Text.{elements};
 ghost use Rattle.comfy_parts.specs.Wrapping.{IsWrapped, wrapped};
 
-mod cursor;
 pub mod display_info;
 mod ends;
 mod joining;
@@ -12,7 +11,6 @@ mod lines;
 mod prefix;
 mod sequences;
 mod width;
-mod written;
 
 use crate::error::Result;
 pub use display_info::ColumnDisplayInfo;
@@ -20,11 +18,11 @@ pub use joining::{adds_one_column, adds_up};
 pub use lines::{WrappedLines, wrapped_lines};
 pub use prefix::split_long_word;
 pub(crate) use sequences::has_escape;
+pub(crate) use sequences::written::written_lines;
 pub use sequences::{leaves_sequence_open, visible_text};
 use std::alloc::Global;
 pub(crate) use width::is_printable;
 pub use width::measure_text_width;
-pub(crate) use written::written_lines;
 
 /// What stands between the delimiters of a line, in order and empty parts too.
 pub fn split_line_by_delimiter(alloc: Global, line: &str, delimiter: char) -> Result<Vec<&str>>

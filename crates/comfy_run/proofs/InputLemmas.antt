@@ -5,7 +5,7 @@ use Rattle.std.proofs.lemmas.Bool.Decides.{nat_tests}
 use Rattle.std.proofs.lemmas.List.{map-append, length-map}
 use Rattle.std.specs.List.{join_with_byte, slice_split, onto_first}
 use Rattle.std.proofs.lemmas.List.Splits.{length-slice_split}
-use Rattle.comfy_parts.proofs.SequenceLemmas.{true_is_false}
+use Rattle.comfy_parts.proofs.CallerLemmas.{true_is_false}
 use Rattle.comfy_run.specs.Input.{break_of}
 
 -- one more piece at the end of some

@@ -4,8 +4,7 @@ use Rattle.std.specs.List.{All, slice_split}
 use Rattle.std.specs.Prelude.{IsUtf8}
 use Rattle.std.specs.Str.Lines.{lines}
 use Rattle.std.proofs.lemmas.List.Elements.{All-head, All-map, All-nil, All-tail}
-use Rattle.comfy_parts.proofs.FrameCharacterLemmas.{frame_adds}
-use Rattle.comfy_parts.proofs.TextFitLemmas.{adding_up_fits}
+use Rattle.comfy_parts.proofs.CallerLemmas.{adding_up_fits, frame_adds}
 use Rattle.comfy_parts.specs.CellValue.{CellValue, ColumnInfo, ColumnValue, RowValue, plain_cell}
 use Rattle.comfy_parts.specs.Columns.{AddsUp, TextFits}
 use Rattle.comfy_parts.specs.Text.{Text, measure}

@@ -7,8 +7,7 @@ use Rattle.std.proofs.lemmas.Bool.Decides.{nat_tests}
 use Rattle.std.proofs.lemmas.List.{length-take}
 use Rattle.std.proofs.lemmas.List.Elements.{All-cons, All-nil, All-append, All-take, All-weaker}
 use Rattle.std.proofs.lemmas.Str.{IsUtf8-nil, chars-nil}
-use Rattle.comfy_parts.proofs.PlainTextLemmas.{IsPlainLine, lines_of_text-plain, take-printable}
-use Rattle.comfy_parts.proofs.PrintableLemmas.{measure-printable, head-printable}
+use Rattle.comfy_parts.proofs.CallerLemmas.{IsPlainLine, head-printable, lines_of_text-plain, measure-printable, take-printable}
 use Rattle.comfy_parts.specs.CellValue.{CellValue, RowValue, ColumnInfo, info_width}
 use Rattle.comfy_parts.specs.Text.{Text, measure, is_printable_ascii, AddsOneColumnEach}
 use Rattle.comfy_parts.specs.Wrapping.{lines_of_text}

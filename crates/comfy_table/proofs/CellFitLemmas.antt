@@ -7,11 +7,7 @@ use Rattle.std.proofs.lemmas.Bool.{cond_both}
 use Rattle.std.proofs.lemmas.Bool.Decides.{nat_tests}
 use Rattle.std.proofs.lemmas.List.Elements.{All-cons, All-nil, All-append, All-take, All-weaker}
 use Rattle.std.proofs.lemmas.Str.{IsUtf8-append, IsUtf8-nil}
-use Rattle.comfy_parts.proofs.LinesFitLemmas.{IsFittingLine}
-use Rattle.comfy_parts.proofs.SpaceMeasureLemmas.{measure-nil}
-use Rattle.comfy_parts.proofs.TextFitLemmas.{head-summed, lines-add_up, text_lines_fit}
-use Rattle.comfy_parts.proofs.WholeLineLemmas.{lines_of_text-utf8}
-use Rattle.comfy_parts.proofs.WordLemmas.{head-utf8}
+use Rattle.comfy_parts.proofs.CallerLemmas.{IsFittingLine, head-summed, head-utf8, lines-add_up, lines_of_text-utf8, measure-nil, text_lines_fit}
 use Rattle.comfy_parts.specs.CellValue.{CellValue, RowValue, ColumnInfo}
 use Rattle.comfy_parts.specs.Columns.{AddsUp, IsApart}
 use Rattle.comfy_parts.specs.Text.{Text, measure, head}

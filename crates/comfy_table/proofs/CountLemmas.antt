@@ -11,7 +11,7 @@ use Rattle.std.proofs.lemmas.List.Sums.{sum_by-cons}
 use Rattle.std.proofs.lemmas.Str.{chars-nil, chars-append}
 use lib.Dec.{ltb}
 use lib.Utf8.{encode}
-use Rattle.comfy_parts.proofs.PrintableLemmas.{below_seven_bits}
+use Rattle.comfy_parts.proofs.CallerLemmas.{below_seven_bits}
 use Rattle.comfy_parts.specs.CellValue.{ColumnInfo}
 use Rattle.comfy_parts.specs.Text.{Text, spaces, is_printable_ascii}
 use Rattle.comfy_parts.specs.declared.style.table_style.LineStyle.{LineStyle}

@@ -1,6 +1,6 @@
 -- Lines that are cut, and cells of which lines are cut, by whether the cut is needed.
 use Rattle.std.proofs.Common.{◌≡◌, ◌<◌, ℕ, arith, append-nil}
-use Rattle.comfy_parts.proofs.PrintableLemmas.{measure-printable}
+use Rattle.comfy_parts.proofs.CallerLemmas.{measure-printable}
 use Rattle.comfy_parts.specs.Text.{Text, head, measure}
 use Rattle.comfy_table.specs.Lines.{cut_line}
 

@@ -4,7 +4,7 @@ use Rattle.std.specs.List.{AllByRecursion, list_any, slice_get}
 use Rattle.std.specs.Prelude.{if◌then◌else◌, option_map}
 use Rattle.std.proofs.lemmas.Bool.Decides.{nat_tests}
 use Rattle.std.proofs.lemmas.List.{length-map, take-map, take_all}
-use Rattle.comfy_parts.proofs.ClearLineLemmas.{IsClosedLine, clear_written}
+use Rattle.comfy_parts.proofs.CallerLemmas.{IsClosedLine, clear_written}
 use Rattle.comfy_parts.specs.CellValue.{CellValue, ColumnInfo, RowValue}
 use Rattle.comfy_parts.specs.Text.{Text}
 use Rattle.comfy_parts.specs.VisibleLines.{CellLine, line_texts}

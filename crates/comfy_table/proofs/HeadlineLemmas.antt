@@ -6,8 +6,7 @@ use Rattle.std.specs.Char.{IsScalar}
 use Rattle.std.specs.List.{All, enumerate_from, slice_get}
 use Rattle.std.specs.Str.{IsUtf8}
 use Rattle.comfy_parts.proofs.Computing.{wrapping}
-use Rattle.comfy_parts.proofs.WrappedLemmas.{wrapped_is_wrapped}
-use Rattle.comfy_parts.proofs.WrappingLemmas.{one_character}
+use Rattle.comfy_parts.proofs.CallerLemmas.{one_character, wrapped_is_wrapped}
 use Rattle.comfy_table.proofs.SeenLemmas.{IsSeenCell, IsSeenRow, IsWholeRow, seen_kept, whole_row}
 use Rattle.comfy_parts.specs.CellValue.{CellValue, ColumnInfo, ColumnValue, IsCell, IsColumn, IsDelimiter, IsRow, RowValue, info_of}
 use Rattle.comfy_parts.specs.Text.{Text, measure}

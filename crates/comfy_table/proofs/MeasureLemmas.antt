@@ -6,7 +6,7 @@ use Rattle.std.specs.Str.{IsUtf8}
 use Rattle.std.proofs.lemmas.List.Sums.{sum_by-cons}
 use Rattle.std.proofs.lemmas.Str.{IsUtf8-nil}
 use Rattle.comfy_parts.specs.Text.{Text, measure, spaces}
-use Rattle.comfy_parts.proofs.SpaceMeasureLemmas.{measure-nil, measure-space, measure-spaces_before}
+use Rattle.comfy_parts.proofs.CallerLemmas.{measure-nil, measure-space, measure-spaces_before}
 use Rattle.comfy_parts.specs.Columns.{AddsOneColumn, IsApart}
 
 -- any text

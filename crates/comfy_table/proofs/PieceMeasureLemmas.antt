@@ -11,7 +11,7 @@ use Rattle.comfy_parts.specs.declared.style.table_style.TableStyle.{TableStyle}
 use Rattle.comfy_table.specs.Frame.{border_count, character, between_borders, frame_line, draws_left_border, draws_right_border, draws_vertical_lines}
 use Rattle.comfy_table.specs.Pieces.{cell_alignment, free_before, free_places, plain_piece, spaces_after}
 use Rattle.comfy_table.proofs.MeasureLemmas.{IsAny, IsFollowing, apart_follows, HasMeasure, Fronts, HasMeasure-same, HasMeasure-any, HasMeasure-append, HasMeasure-behind, HasMeasure-spaces, HasMeasure-text, HasMeasure-repeat, HasMeasure-character, HasMeasure-when, HasMeasure-between, Fronts-when, IsPiece, any_follows}
-use Rattle.comfy_parts.proofs.LinesFitLemmas.{IsFittingLine}
+use Rattle.comfy_parts.proofs.CallerLemmas.{IsFittingLine}
 use Rattle.comfy_parts.specs.Columns.{AddsOneColumn, IsApart, IsOneColumn}
 
 -- ---- framed lines

@@ -5,7 +5,7 @@ use Rattle.std.specs.Prelude.{if◌then◌else◌}
 use Rattle.std.specs.Str.{IsUtf8}
 use Rattle.std.proofs.lemmas.List.Elements.{All-cons, All-head, All-nil, All-tail, All-weaker, All-map}
 use Rattle.std.proofs.lemmas.List.Folds.{flat_map-map}
-use Rattle.comfy_parts.proofs.VisibleWholeLemmas.{visible_text-whole}
+use Rattle.comfy_parts.proofs.CallerLemmas.{visible_text-whole}
 use Rattle.comfy_parts.specs.CellValue.{CellValue, IsDelimiter, RowValue}
 use Rattle.comfy_parts.specs.VisibleText.{visible_text}
 use Rattle.comfy_table.specs.TableValue.{TableValue, HasWholeTexts, header_and_rows, seen_rows, visible_cell, visible_row}

@@ -24,7 +24,7 @@ use Rattle.comfy_table.proofs.WholeTableLemmas.{whole_table_fits}
 use Rattle.comfy_table.proofs.InfoLemmas.{infos-known}
 use Rattle.comfy_table.proofs.MeasureLemmas.{IsAny, IsFollowing, any_follows, apart_follows, HasMeasure, HasMeasure-any, HasMeasure-spaces, IsPiece, measure-is}
 use Rattle.comfy_table.proofs.PieceMeasureLemmas.{HasMeasure-frame_line, HasMeasure-joined, IsGoodPiece, good-any, good-front, good-junction, piece-any, piece-apart, spaced-blank, spaced-front}
-use Rattle.comfy_parts.proofs.LinesFitLemmas.{IsFittingLine}
+use Rattle.comfy_parts.proofs.CallerLemmas.{IsFittingLine}
 use Rattle.comfy_parts.specs.Columns.{IsApart, IsOneColumn, style_characters}
 
 -- a piece of the cell that a row has in a column, or the blank one

@@ -5,7 +5,7 @@ use Rattle.std.specs.Fmt.{digits, digits_onto, digit_glyph, decimal}
 use Rattle.std.specs.Prelude.{if◌then◌else◌, codes}
 use Rattle.std.proofs.lemmas.Bool.{and_parts}
 use Rattle.std.proofs.lemmas.List.Folds.{list_all-append}
-use Rattle.comfy_parts.proofs.ShownLemmas.{Shows, Shows-nil, Shows-append, Shows-byte, Shows-sequence}
+use Rattle.comfy_parts.proofs.CallerLemmas.{Shows, Shows-append, Shows-byte, Shows-nil, Shows-sequence}
 use Rattle.comfy_parts.specs.CellValue.{CellValue, ColumnInfo}
 use Rattle.comfy_parts.specs.Text.{Text, spaces}
 use Rattle.comfy_parts.specs.VisibleText.{is_parameter}

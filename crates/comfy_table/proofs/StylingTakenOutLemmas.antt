@@ -7,7 +7,7 @@ use Rattle.std.specs.Prelude.{if◌then◌else◌, option_map, option_to_list}
 use Rattle.std.specs.Str.{IsUtf8}
 use Rattle.std.proofs.lemmas.Slice.Zip.{AllZip-long}
 use Rattle.std.proofs.lemmas.List.Elements.{All-head, All-tail, All-weaker}
-use Rattle.comfy_parts.proofs.ShownLemmas.{Shows, Shows-nil, Shows-append, Shows-clear, visible_text-is}
+use Rattle.comfy_parts.proofs.CallerLemmas.{Shows, Shows-append, Shows-clear, Shows-nil, visible_text-is}
 use Rattle.comfy_parts.specs.CellValue.{CellValue, RowValue, ColumnInfo, info_width}
 use Rattle.comfy_parts.specs.Text.{Text, greatest}
 use Rattle.comfy_parts.specs.VisibleText.{visible_text}

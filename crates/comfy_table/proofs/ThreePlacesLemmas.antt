@@ -4,9 +4,7 @@ use Rattle.std.specs.Prelude.{if◌then◌else◌}
 use Rattle.std.specs.Int.{is_in_range}
 use Rattle.std.specs.List.{All, AllByRecursion, AllZip}
 use Rattle.std.proofs.lemmas.List.Elements.{recursion_from_All}
-use Rattle.comfy_parts.proofs.PlainTextLemmas.{IsUtf8-printable, scalar-printable, slices-printable}
-use Rattle.comfy_parts.proofs.PrintableLemmas.{measure-printable}
-use Rattle.comfy_parts.proofs.WrappedLemmas.{wrapped_is_wrapped}
+use Rattle.comfy_parts.proofs.CallerLemmas.{IsUtf8-printable, measure-printable, scalar-printable, slices-printable, wrapped_is_wrapped}
 use Rattle.comfy_parts.specs.CellValue.{CellValue, ColumnValue, column_padding}
 use Rattle.comfy_parts.specs.Text.{Text, measure, greatest, is_printable_ascii}
 use Rattle.comfy_parts.specs.Wrapping.{IsSlicesWhere, IsWrapped, wrapped, lines_of_text}

@@ -1,5 +1,5 @@
 -- The lines of a cell with the texts that are written for them: which are seen, which sequences are open, and what they show.
-use Rattle.comfy_parts.proofs.ClearLineLemmas.{IsClosedLine}
+use Rattle.comfy_parts.proofs.CallerLemmas.{IsClosedLine, Shows, Shows-clear, Shows-closed, lines_closed, lines_of_text-utf8, lines_resumed, lines_show, none_open, seen_lines, visible_text-is}
 use Rattle.comfy_table.proofs.EveryLemmas.{every-take, every-append}
 use Rattle.std.proofs.lemmas.Bool.{cond_both}
 use Rattle.std.proofs.Common.{◌≡◌, ℕ, zero, suc, ◌-◌, List, [], ◌∷◌, Option, Some, None, length, map, take, drop, nat_le, refl, sym, subst, slice_index_or, arith}
@@ -9,10 +9,6 @@ use Rattle.std.specs.Str.{IsUtf8}
 use Rattle.std.proofs.lemmas.List.{length-map, map-append, take-map, take-take, drop_all, drop_at, take-append-le, length-take}
 use Rattle.std.proofs.lemmas.List.Elements.{All-weaker, recursion_from_All}
 use Rattle.std.proofs.lemmas.Str.{IsUtf8-nil}
-use Rattle.comfy_parts.proofs.LineTextLemmas.{none_open, Shows-closed}
-use Rattle.comfy_parts.proofs.ShownLemmas.{Shows, Shows-clear, visible_text-is}
-use Rattle.comfy_parts.proofs.VisibleLineLemmas.{lines_closed, lines_resumed, lines_show, seen_lines}
-use Rattle.comfy_parts.proofs.WholeLineLemmas.{lines_of_text-utf8}
 use Rattle.comfy_parts.specs.CellValue.{CellValue, RowValue, ColumnInfo}
 use Rattle.comfy_parts.specs.Laws.{IsResumedLine}
 use Rattle.comfy_parts.specs.Text.{Text}

@@ -7,8 +7,8 @@ use Rattle.std.specs.Str.{chars}
 use Rattle.std.proofs.lemmas.List.Elements.{All-cons, All-nil, All-head, All-replicate}
 use Rattle.std.proofs.lemmas.Str.{chars-append}
 use Rattle.comfy_parts.proofs.Computing.{wrapping}
-use Rattle.comfy_parts.proofs.PlainTextLemmas.{IsUtf8-printable}
-use Rattle.comfy_parts.proofs.PrintableLemmas.{measure-printable}
+use Rattle.comfy_parts.proofs.CallerLemmas.{IsUtf8-printable}
+use Rattle.comfy_parts.proofs.CallerLemmas.{measure-printable}
 use Rattle.comfy_parts.specs.CellValue.{CellValue, RowValue, ColumnValue, new_column}
 use Rattle.comfy_parts.specs.Text.{Text, AddsOneColumnEach, is_printable_ascii}
 use Rattle.comfy_parts.specs.declared.style.table_style.LineStyle.{LineStyle}

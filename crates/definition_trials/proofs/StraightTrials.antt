@@ -5,7 +5,7 @@ use Rattle.std.specs.Prelude.{encode_utf8_all}
 use Rattle.std.proofs.lemmas.List.Elements.{All-cons, All-nil}
 use Rattle.std.proofs.lemmas.Str.{IsUtf8-nil}
 use Rattle.comfy_parts.proofs.Computing.{wrapping}
-use Rattle.comfy_parts.proofs.FrameCharacterLemmas.{frame_apart, one_column_characters}
+use Rattle.comfy_parts.proofs.CallerLemmas.{frame_apart, one_column_characters}
 use Rattle.comfy_parts.specs.CellValue.{CellValue, ColumnValue, RowValue, new_column, plain_cell, plain_row}
 use Rattle.comfy_parts.specs.Columns.{AddsOneColumn, IsApart, WordFits, adds_up, has_frame_characters}
 use Rattle.comfy_parts.specs.Presets.{nothing, utf8_full}

@@ -5,6 +5,9 @@ ghost use Rattle.std.specs.Str.{IsCharBoundary};
 ghost use Rattle.comfy_parts.specs.Cursor.{sequence_part, visible_part};
 ghost use Rattle.comfy_parts.specs.VisibleText.{has_escape, is_parameter, open_after, parts, sequence_len, visible_text};
 
+mod cursor;
+pub mod written;
+
 use crate::error::Result;
 use std::alloc::Global;
 

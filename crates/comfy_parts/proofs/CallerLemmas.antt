@@ -1,0 +1,21 @@
+-- What proofs of the crates above may cite.
+pub use Rattle.comfy_parts.proofs.ClearLineLemmas.{IsClosedLine, clear_written}
+pub use Rattle.comfy_parts.proofs.FrameCharacterLemmas.{frame_adds, frame_apart, one_column_characters}
+pub use Rattle.comfy_parts.proofs.FrontLemmas.{encoded_clear}
+pub use Rattle.comfy_parts.proofs.LineTextLemmas.{Shows-closed, none_open}
+pub use Rattle.comfy_parts.proofs.LinesFitLemmas.{IsFittingLine}
+pub use Rattle.comfy_parts.proofs.PlainTextLemmas.{IsPlainLine, lines_of_text-plain, slices-printable}
+pub use Rattle.comfy_parts.proofs.PrintableLemmas.{IsUtf8-printable, below_seven_bits, head-printable, measure-printable, take-printable}
+pub use Rattle.comfy_parts.proofs.SequenceLemmas.{true_is_false}
+pub use Rattle.comfy_parts.proofs.ShownLemmas.{Shows, Shows-append, Shows-byte, Shows-clear, Shows-nil, Shows-sequence, visible_text-is}
+pub use Rattle.comfy_parts.proofs.ShrinkLemmas.{shrinking_keeps_lines}
+pub use Rattle.comfy_parts.proofs.SliceLemmas.{scalar-printable}
+pub use Rattle.comfy_parts.proofs.SpaceMeasureLemmas.{measure-nil, measure-space, measure-spaces_before}
+pub use Rattle.comfy_parts.proofs.TextFitLemmas.{adding_up_fits, head-summed, lines-add_up, text_lines_fit}
+pub use Rattle.comfy_parts.proofs.ValueLemmas.{no_fewer_columns}
+pub use Rattle.comfy_parts.proofs.VisibleLineLemmas.{lines_closed, lines_resumed, lines_show, seen_lines}
+pub use Rattle.comfy_parts.proofs.VisibleWholeLemmas.{visible_text-whole}
+pub use Rattle.comfy_parts.proofs.WholeLineLemmas.{head-splits, lines_of_text-utf8}
+pub use Rattle.comfy_parts.proofs.WordLemmas.{head-utf8}
+pub use Rattle.comfy_parts.proofs.WrappedLemmas.{wrapped_is_wrapped}
+pub use Rattle.comfy_parts.proofs.WrappingLemmas.{one_character}

@@ -1,0 +1,23 @@
+use Rattle.std.proofs.Common.{rules, false, ◌≡◌, ◌++◌, map, take, drop, ap, sym, subst, ◌∙◌}
+use Rattle.std.specs.Prelude.{IsUtf8, if◌then◌else◌}
+use Rattle.comfy_parts.specs.Text.{Text}
+use Rattle.comfy_parts.specs.Cursor.{behind_bytes, seen_ahead, begins_with_sequence, stepped, visible_part}
+use Rattle.comfy_parts.proofs.CursorLemmas.{at, drops-behind, visible-behind, whole-behind}
+use Rattle.comfy_parts.proofs.FrontLemmas.{visible-seen}
+use Rattle.comfy_parts.proofs.content_split.sequences.cursor.Cursor.pass_visible.Goals as goal
+
+pub bytes-preserved : goal.bytes-preserved
+bytes-preserved c =
+    let left = c.bytes.left in
+    let run = c.pass_run-passed.result.now in
+    let new = c.pass_run-passed.new.self in
+    let none : begins_with_sequence c.bytes.self.ahead ≡ false = search rules in
+    let stays : c.pass_sequence.new.self ≡ c.bytes.self = c.in_ok-pass_sequence.ensures.after ∙ ap (λ b. if b then stepped c.bytes.self c.bytes.self.ahead else c.bytes.self) none in
+    let was : c.bytes.self ≡ at new.sequences (map visible_part run ++ new.ahead) = sym stays ∙ c.pass_run-passed.ensures.passed in
+    let seen : seen_ahead c.bytes.self ≡ run ++ seen_ahead new = ap seen_ahead was ∙ visible-seen run new.ahead in
+    let within = c.pass_run-passed.ensures.within in
+    record {
+      whole = whole-behind left run (seen_ahead new) c.pass_run-passed.utf8 within (subst (λ (t : Text). IsUtf8 (take left t)) seen c.bytes.invariant.whole);
+      passed = sym (visible-behind left new.sequences run new.ahead within) ∙ ap (behind_bytes left) (sym was) ∙ c.bytes.invariant.passed;
+      seen = sym (drops-behind left run (seen_ahead new) within) ∙ ap (drop left) (sym seen) ∙ c.bytes.invariant.seen;
+    }
