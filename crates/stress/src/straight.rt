@@ -92,7 +92,9 @@ fn seen_widths(alloc: Global, lines: Lines) -> Result<Vec<usize>> {
 fn has_narrow_column(table: &Table) -> Result<bool> {
     let infos = arrange_content(table)?;
     Ok(
-        infos.iter().any(|info| info.content_width < 2 && !info.is_hidden()),
+        infos
+            .iter()
+            .any(|info| info.content_width < 2 && !info.is_hidden()),
     )
 }
 
