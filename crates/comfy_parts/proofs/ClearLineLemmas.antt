@@ -7,7 +7,7 @@ use Rattle.comfy_parts.proofs.EscapedLemmas.{clear_text}
 use Rattle.comfy_parts.proofs.OpenLemmas.{opened-append}
 use Rattle.comfy_parts.proofs.FrontLemmas.{parts-clear}
 use Rattle.comfy_parts.specs.Cursor.{visible_part}
-use Rattle.comfy_parts.proofs.VisibleLineLemmas.{each_slice, every-append}
+use Rattle.comfy_parts.proofs.VisibleLineLemmas.{each_slice, every-append, zip-each}
 use Rattle.comfy_parts.specs.Text.{Text}
 use Rattle.comfy_parts.specs.VisibleLines.{CellLine, line_texts, line_texts_of_text, line_texts_past}
 use Rattle.comfy_parts.specs.VisibleText.{Part, active, closed, has_escape, line_text, parts, parts_before, parts_from, open_after, opened, parts_up_to, text_between}
@@ -71,8 +71,8 @@ clear_past w d earlier [] before clear = tt
 clear_past w d earlier (text ∷ texts) before clear =
     let both = or_parts (has_escape text) (list_any has_escape texts) clear in
     every-append IsClosedLine (line_texts_of_text w d earlier text) (line_texts_past w d (earlier ++ text ∷ []) texts)
-    (each_slice w d IsClosedLine earlier text (λ start line stands.
-    line_text-clear earlier text start (length line) before both.0 ∙ ap (λ (t : Text). closed (take (length line) (drop start t))) (sym (clear_text text both.0)) ∙ ap closed stands))
+    (zip-each IsClosedLine _ (line_texts_of_text w d earlier text) (each_slice w d (λ from line. IsClosedLine line) earlier text (λ start line stands.
+    line_text-clear earlier text start (length line) before both.0 ∙ ap (λ (t : Text). closed (take (length line) (drop start t))) (sym (clear_text text both.0)) ∙ ap closed stands)))
     (clear_past w d (earlier ++ text ∷ []) texts (further both.0) both.1)
   where
     further : has_escape text ≡ false → AreClear (earlier ++ text ∷ [])

@@ -1,11 +1,14 @@
 -- What `==`, the order and a hash read of attributes, alignments and colours, and what the comparisons promise.
-use Rattle.std.specs.Prelude.{◌≡◌, ◌↔◌, Bool, true}
+use Rattle.std.specs.Prelude.{◌≡◌, ◌↔◌, ◌&&◌, ℕ, Bool, true, List, [], ◌∷◌}
 use Rattle.std.specs.Hash.{HashWrites}
+use Rattle.std.specs.Ordering.{is_lt}
 use Rattle.std.specs.declared.cmp.Ordering.{Ordering}
 use Rattle.std.specs.declared.cmp.Ordering.TheVariants.{Equal}
 use Rattle.comfy_parts.specs.declared.style.attribute.Attribute.{Attribute}
+use Rattle.comfy_parts.specs.declared.style.attribute.Attribute.TheVariants as attribute
 use Rattle.comfy_parts.specs.declared.style.cell.CellAlignment.{CellAlignment}
 use Rattle.comfy_parts.specs.declared.style.color.Color.{Color}
+use Rattle.comfy_parts.specs.declared.style.color.Color.TheVariants as color
 use Rattle.comfy_parts.specs.contracts.style.attribute.AttributePartialEq.TheImpl as of_attribute_eq
 use Rattle.comfy_parts.specs.contracts.style.attribute.AttributeOrd.TheImpl as of_attribute_ord
 use Rattle.comfy_parts.specs.contracts.style.attribute.AttributeHash.TheImpl as of_attribute_hash
@@ -58,3 +61,25 @@ EqualIsSame {K} cmp = (a b : K) → (cmp a b ≡ Equal) ↔ (a ≡ b)
 -- equal values are hashed alike
 abbrev pub EqHashesAlike : {K : Type 0} → (K → K → Bool) → (K → HashWrites) → Type 0
 EqHashesAlike {K} eq hash_input = (a b : K) → eq a b ≡ true → hash_input a ≡ hash_input b
+
+-- each of some values is less than the next
+abbrev pub ascends : {K : Type 0} → (K → K → Ordering) → List K → Bool
+ascends cmp (x ∷ y ∷ more) = is_lt (cmp x y) && ascends cmp (y ∷ more)
+ascends cmp _ = true
+
+-- the attributes, from the least
+abbrev pub attributes_in_order : List Attribute
+attributes_in_order =
+    attribute.Reset ∷ attribute.Bold ∷ attribute.Dim ∷ attribute.Italic ∷ attribute.Underlined
+    ∷ attribute.DoubleUnderlined ∷ attribute.Undercurled ∷ attribute.Underdotted ∷ attribute.Underdashed
+    ∷ attribute.SlowBlink ∷ attribute.RapidBlink ∷ attribute.Reverse ∷ attribute.Hidden ∷ attribute.CrossedOut
+    ∷ attribute.Fraktur ∷ attribute.NoBold ∷ attribute.NormalIntensity ∷ attribute.NoItalic ∷ attribute.NoUnderline
+    ∷ attribute.NoBlink ∷ attribute.NoReverse ∷ attribute.NoHidden ∷ attribute.NotCrossedOut ∷ attribute.Framed
+    ∷ attribute.Encircled ∷ attribute.OverLined ∷ attribute.NotFramedOrEncircled ∷ attribute.NotOverLined ∷ []
+
+-- the colours, from the least: those without parts, one by its parts, and one by its number
+abbrev pub colors_in_order : ℕ → ℕ → ℕ → ℕ → List Color
+colors_in_order r g b v =
+    color.Reset ∷ color.Black ∷ color.DarkGrey ∷ color.Red ∷ color.DarkRed ∷ color.Green ∷ color.DarkGreen
+    ∷ color.Yellow ∷ color.DarkYellow ∷ color.Blue ∷ color.DarkBlue ∷ color.Magenta ∷ color.DarkMagenta ∷ color.Cyan
+    ∷ color.DarkCyan ∷ color.White ∷ color.Grey ∷ color.Rgb r g b ∷ color.AnsiValue v ∷ []

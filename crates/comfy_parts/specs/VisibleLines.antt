@@ -9,6 +9,12 @@ pub record CellLine : Type 0 where
   pub seen : Text
   pub written : Text
 
+-- where a line of a cell begins: in a text line of it, which has earlier ones before it, at this visible byte
+pub record LineStart : Type 0 where
+  pub earlier : List Text
+  pub text : Text
+  pub at : ℕ
+
 -- the positions at which the lines of a text begin
 module _ (w d : ℕ) where
   -- those after the first `skip` bytes, which begin at position `at`
@@ -35,3 +41,13 @@ line_texts_past w d earlier (text ∷ more) = line_texts_of_text w d earlier tex
 -- the lines of all text lines of a cell
 abbrev pub line_texts : ℕ → ℕ → List Text → List CellLine
 line_texts w d text_lines = line_texts_past w d [] text_lines
+
+-- where the lines of text lines begin that follow earlier ones
+abbrev pub line_starts_past : ℕ → ℕ → List Text → List Text → List LineStart
+line_starts_past w d earlier [] = []
+line_starts_past w d earlier (text ∷ more) =
+    map (λ (at : ℕ). record { earlier = earlier; text = text; at = at }) (starts_of_text w d (visible_text text)) ++ line_starts_past w d (earlier ++ text ∷ []) more
+
+-- where the lines of all text lines of a cell begin
+abbrev pub line_starts : ℕ → ℕ → List Text → List LineStart
+line_starts w d text_lines = line_starts_past w d [] text_lines

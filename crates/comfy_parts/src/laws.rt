@@ -3,12 +3,12 @@
 //! The lines of which they speak are those that `split_line` returns, for every text, width `w` in terminal columns and
 //! delimiter `d`. "In printable ASCII" means that text and delimiter are, and that the width is at least 1.
 
-ghost use Rattle.std.specs.Prelude.{All, ℕ, List, []};
+ghost use Rattle.std.specs.Prelude.{◌≡◌, All, true, ℕ, List, []};
 ghost use Rattle.std.specs.Char.{IsScalar};
 ghost use Rattle.std.specs.Cmp.{IsTotalOrder};
 ghost use Rattle.comfy_parts.specs.CellEquality.{cell_eq, cell_hash};
 ghost use Rattle.comfy_parts.specs.Columns.{AddingUpFits, FrameCharactersAddOneColumn, FrameTextsAreApart, IsOneColumnPreset, PartsAddUp, SpaceAddsOneColumn, TextLinesFit, presets_all};
-ghost use Rattle.comfy_parts.specs.Comparisons.{attribute_cmp, attribute_eq, attribute_hash, color_cmp, color_eq, color_hash, EqHashesAlike, EqIsSame, EqualIsSame};
+ghost use Rattle.comfy_parts.specs.Comparisons.{ascends, attribute_cmp, attribute_eq, attribute_hash, attributes_in_order, color_cmp, color_eq, color_hash, colors_in_order, EqHashesAlike, EqIsSame, EqualIsSame};
 ghost use Rattle.comfy_parts.specs.Laws.{ActiveIsResumed, ClosedTextsLeaveNone, CutLinesAreFull, HeadIsLongest, IsCutOutsideNarrow, LinesAreFew, LinesAreFewest, LinesAreResumed, LinesAreSeen, LinesFit, NeighboursFillALine, NoneIsLeftOpen, OtherBytesAreVisible, PrintableClustersAreCharacters, PrintableAddsOneColumnEach, PrintableMeasuresItsLength, SequencesAreTakenOut, SequencesLeaveTheLines, WrappedIsOne, WrappedIsWrapped};
 ghost use Rattle.comfy_parts.specs.Text.{Text};
 ghost use Rattle.comfy_parts.specs.Wrapping.{IsWrapped};
@@ -119,18 +119,22 @@ pub fn cells_are_equal_by_their_values()
     ensures hash { EqHashesAlike cell_eq cell_hash }
 {}
 
-/// `==` tells attributes apart, and so does their order, which is total and transitive. Equal attributes hash alike.
+/// `==` tells attributes apart, and so does their order, which is total, transitive and that of their declaration. Equal
+/// attributes hash alike.
 pub fn attributes_are_ordered()
     ensures eq { EqIsSame attribute_eq }
     ensures equal { EqualIsSame attribute_cmp }
     ensures order { IsTotalOrder attribute_cmp }
+    ensures ascends { ascends attribute_cmp attributes_in_order ≡ true }
     ensures hash { EqHashesAlike attribute_eq attribute_hash }
 {}
 
-/// `==` tells colours apart, and so does their order, which is total and transitive. Equal colours hash alike.
+/// `==` tells colours apart, and so does their order, which is total, transitive and that of their declaration. Equal
+/// colours hash alike.
 pub fn colors_are_ordered()
     ensures eq { EqIsSame color_eq }
     ensures equal { EqualIsSame color_cmp }
     ensures order { IsTotalOrder color_cmp }
+    ensures ascends { (r g b v : ℕ) → ascends color_cmp (colors_in_order r g b v) ≡ true }
     ensures hash { EqHashesAlike color_eq color_hash }
 {}
