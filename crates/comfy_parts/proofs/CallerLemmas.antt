@@ -1,5 +1,5 @@
 -- What proofs of the crates above may cite.
-pub use Rattle.comfy_parts.proofs.ClearLineLemmas.{IsClosedLine, clear_written}
+pub use Rattle.comfy_parts.proofs.ClearLineLemmas.{IsAsSeen, clear_written}
 pub use Rattle.comfy_parts.proofs.FrameCharacterLemmas.{frame_adds, frame_apart, one_column_characters}
 pub use Rattle.comfy_parts.proofs.FrontLemmas.{encoded_clear}
 pub use Rattle.comfy_parts.proofs.LineTextLemmas.{Shows-closed, none_open}

@@ -4,13 +4,14 @@ use Rattle.std.specs.List.{concat, list_any, flat_map, AllByRecursion}
 use Rattle.std.proofs.lemmas.Bool.{cond_both, or_parts}
 use Rattle.std.proofs.lemmas.Grind.{flat_map-append}
 use Rattle.comfy_parts.proofs.EscapedLemmas.{clear_text}
+use Rattle.comfy_parts.proofs.LineTextLemmas.{clear-drop, clear-take}
 use Rattle.comfy_parts.proofs.OpenLemmas.{opened-append}
 use Rattle.comfy_parts.proofs.FrontLemmas.{parts-clear}
 use Rattle.comfy_parts.specs.Cursor.{visible_part}
 use Rattle.comfy_parts.proofs.VisibleLineLemmas.{each_slice, every-append, zip-each}
 use Rattle.comfy_parts.specs.Text.{Text}
 use Rattle.comfy_parts.specs.VisibleLines.{CellLine, line_texts, line_texts_of_text, line_texts_past}
-use Rattle.comfy_parts.specs.VisibleText.{Part, active, closed, has_escape, line_text, parts, parts_before, parts_from, open_after, opened, parts_up_to, text_between}
+use Rattle.comfy_parts.specs.VisibleText.{Part, active, closed, closing, has_escape, line_text, parts, parts_before, parts_from, open_after, opened, parts_up_to, text_between}
 
 -- the parts of a text without ESC are its bytes
 clear_parts : (text : Text) → has_escape text ≡ false → parts text ≡ map visible_part text
@@ -51,28 +52,36 @@ none_active earlier text n before clear =
     ∙ ap₂ (λ (ss : List Text) (ps : List Part). opened ss (parts_before n ps)) before (clear_parts text clear)
     ∙ before_clear [] n text
 
+-- a text without ESC needs no reset
+closed_clear : (text : Text) → has_escape text ≡ false → closed text ≡ text
+closed_clear text clear =
+    ap (λ (ps : List Part). text ++ closing (open_after ps)) (clear_parts text clear)
+    ∙ ap (λ (ss : List Text). text ++ closing ss) (none_opened [] text)
+    ∙ append-nil text
+
 -- a line of such a text is written as it is
-line_text-clear : (earlier : List Text) (text : Text) (start len : ℕ) → AreClear earlier → has_escape text ≡ false → line_text earlier text start len ≡ closed (take len (drop start text))
+line_text-clear : (earlier : List Text) (text : Text) (start len : ℕ) → AreClear earlier → has_escape text ≡ false → line_text earlier text start len ≡ take len (drop start text)
 line_text-clear earlier text start len before clear =
-    cond_both (len == 0) _ _ (λ t. t ≡ closed (take len (drop start text))) (λ is. sym (ap (λ n. closed (take n (drop start text))) (eqb-true len 0 is)))
+    cond_both (len == 0) _ _ (λ t. t ≡ take len (drop start text)) (λ is. sym (ap (λ n. take n (drop start text)) (eqb-true len 0 is)))
     (λ _. ap closed (
     ap (λ (ss : List Text). concat ss ++ text_between text start len) (none_active earlier text start before clear)
     ∙ ap (λ (ps : List Part). flat_map (λ (p : Part). p.bytes) (parts_up_to len (parts_from start ps))) (clear_parts text clear)
     ∙ ap (λ (ps : List Part). flat_map (λ (p : Part). p.bytes) (parts_up_to len ps)) (from_clear start text)
-    ∙ up_to_clear len (drop start text)))
+    ∙ up_to_clear len (drop start text))
+    ∙ closed_clear (take len (drop start text)) (clear-take len (drop start text) (clear-drop start text clear)))
 
--- a line that is written as it is seen, closed
-abbrev pub IsClosedLine : CellLine → Type 0
-IsClosedLine line = line.written ≡ closed line.seen
+-- a line that is written as it is seen
+abbrev pub IsAsSeen : CellLine → Type 0
+IsAsSeen line = line.written ≡ line.seen
 
 -- so are the lines of such texts
-clear_past : (w d : ℕ) (earlier texts : List Text) → AreClear earlier → list_any has_escape texts ≡ false → AllByRecursion IsClosedLine (line_texts_past w d earlier texts)
+clear_past : (w d : ℕ) (earlier texts : List Text) → AreClear earlier → list_any has_escape texts ≡ false → AllByRecursion IsAsSeen (line_texts_past w d earlier texts)
 clear_past w d earlier [] before clear = tt
 clear_past w d earlier (text ∷ texts) before clear =
     let both = or_parts (has_escape text) (list_any has_escape texts) clear in
-    every-append IsClosedLine (line_texts_of_text w d earlier text) (line_texts_past w d (earlier ++ text ∷ []) texts)
-    (zip-each IsClosedLine _ (line_texts_of_text w d earlier text) (each_slice w d (λ from line. IsClosedLine line) earlier text (λ start line stands.
-    line_text-clear earlier text start (length line) before both.0 ∙ ap (λ (t : Text). closed (take (length line) (drop start t))) (sym (clear_text text both.0)) ∙ ap closed stands)))
+    every-append IsAsSeen (line_texts_of_text w d earlier text) (line_texts_past w d (earlier ++ text ∷ []) texts)
+    (zip-each IsAsSeen _ (line_texts_of_text w d earlier text) (each_slice w d (λ from line. IsAsSeen line) earlier text (λ start line stands.
+    line_text-clear earlier text start (length line) before both.0 ∙ ap (λ (t : Text). take (length line) (drop start t)) (sym (clear_text text both.0)) ∙ stands)))
     (clear_past w d (earlier ++ text ∷ []) texts (further both.0) both.1)
   where
     further : has_escape text ≡ false → AreClear (earlier ++ text ∷ [])
@@ -83,5 +92,5 @@ clear_past w d earlier (text ∷ texts) before clear =
         ∙ none_opened [] text
 
 -- of all lines of a cell
-pub clear_written : (w d : ℕ) (texts : List Text) → list_any has_escape texts ≡ false → AllByRecursion IsClosedLine (line_texts w d texts)
+pub clear_written : (w d : ℕ) (texts : List Text) → list_any has_escape texts ≡ false → AllByRecursion IsAsSeen (line_texts w d texts)
 clear_written w d texts clear = clear_past w d [] texts refl clear

@@ -308,11 +308,11 @@ clear-halves : (n : ℕ) (text : Text) → list_any (λ b. b == 0x1B) text ≡ f
 clear-halves n text clear = sym (list_any-append (λ b. b == 0x1B) (take n text) (drop n text)) ∙ ap (list_any (λ b. b == 0x1B)) (take-append-drop n text) ∙ clear
 
 -- a front of it has none
-clear-take : (n : ℕ) (text : Text) → list_any (λ b. b == 0x1B) text ≡ false → list_any (λ b. b == 0x1B) (take n text) ≡ false
+pub clear-take : (n : ℕ) (text : Text) → list_any (λ b. b == 0x1B) text ≡ false → list_any (λ b. b == 0x1B) (take n text) ≡ false
 clear-take n text clear = (or_parts (list_any (λ b. b == 0x1B) (take n text)) (list_any (λ b. b == 0x1B) (drop n text)) (clear-halves n text clear)).0
 
 -- nor has an end of it
-clear-drop : (n : ℕ) (text : Text) → list_any (λ b. b == 0x1B) text ≡ false → list_any (λ b. b == 0x1B) (drop n text) ≡ false
+pub clear-drop : (n : ℕ) (text : Text) → list_any (λ b. b == 0x1B) text ≡ false → list_any (λ b. b == 0x1B) (drop n text) ≡ false
 clear-drop n text clear = (or_parts (list_any (λ b. b == 0x1B) (take n text)) (list_any (λ b. b == 0x1B) (drop n text)) (clear-halves n text clear)).1
 
 -- the text of a line shows its slice of what is seen of the text line, before any other text

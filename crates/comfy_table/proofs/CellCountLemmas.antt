@@ -1,24 +1,24 @@
 -- Each line of a plain cell fits its column, and its piece is as wide as the column.
 use Rattle.std.proofs.lemmas.Bool.{cond_both}
-use Rattle.std.proofs.Common.{◌≡◌, ◌<◌, ◌≤◌, ℕ, ◌+◌, ◌-◌, true, List, [], ◌∷◌, ◌++◌, length, take, Option, Some, None, nat_le, nat_lt, refl, sym, ap, subst, arith, slice_index_or}
+use Rattle.std.proofs.Common.{◌≡◌, ◌<◌, ◌≤◌, ℕ, ◌+◌, ◌-◌, true, [], ◌++◌, length, take, Option, Some, nat_lt, refl, sym, ap, subst, arith}
 use Rattle.std.specs.List.{All}
 use Rattle.std.specs.Str.{IsUtf8}
 use Rattle.std.proofs.lemmas.Bool.Decides.{nat_tests}
 use Rattle.std.proofs.lemmas.List.{length-take}
-use Rattle.std.proofs.lemmas.List.Elements.{All-cons, All-nil, All-append, All-take, All-weaker}
+use Rattle.std.proofs.lemmas.List.Elements.{All-weaker}
 use Rattle.std.proofs.lemmas.Str.{IsUtf8-nil, chars-nil}
 use Rattle.comfy_parts.proofs.CallerLemmas.{IsPlainLine, head-printable, lines_of_text-plain, measure-printable, take-printable}
 use Rattle.comfy_parts.specs.CellValue.{CellValue, RowValue, ColumnInfo, info_width}
 use Rattle.comfy_parts.specs.Text.{Text, measure, is_printable_ascii, AddsOneColumnEach}
 use Rattle.comfy_parts.specs.Wrapping.{lines_of_text}
-use Rattle.comfy_parts.specs.declared.style.cell.CellAlignment.{CellAlignment}
-use Rattle.comfy_parts.specs.declared.style.cell.CellAlignment.TheVariants.{Left, Right, Center}
 use Rattle.comfy_table.proofs.CountLemmas.{HasCount, HasCount-same, HasCount-append, HasCount-printable, HasCount-utf8, HasCount-spaces}
+use Rattle.comfy_table.proofs.CutLemmas.{All-cut, plain_piece, seen_in_row}
 use Rattle.comfy_table.proofs.ListLemmas.{All-flat_map}
+use Rattle.comfy_table.proofs.SpaceLemmas.{whole_width}
 use Rattle.comfy_table.specs.Laws.{count, IsPlainCell}
-use Rattle.comfy_table.specs.Lines.{cell_lines, cell_delimiter, fitting_indicator, cut_line, cut_to_height, cut_to_limit}
-use Rattle.comfy_table.specs.Pieces.{cell_alignment, free_before, free_places, plain_piece, row_cell_lines}
-use Rattle.comfy_table.specs.TableValue.{TableValue, seen_cell}
+use Rattle.comfy_table.specs.Lines.{cell_lines, cell_delimiter, fitting_indicator, cut_text}
+use Rattle.comfy_table.specs.Pieces.{cell_alignment, free_before, free_places}
+use Rattle.comfy_table.specs.TableValue.{TableValue}
 
 -- a line that measures at most w, and has as many characters as places
 pub record IsCountedLine (w : ℕ) (line : Text) : Type 0 where
@@ -51,8 +51,8 @@ fitting_indicator-le w indicator =
     (λ _ even. let none = ap length chars-nil in let measured = even [] refl in omega (arith, none, measured)) (λ narrow even. grind (arith, nat_tests))
 
 -- a plain line that is cut is counted
-cut_line-counted : (w : ℕ) (indicator line : Text) → IsUtf8 indicator → AddsOneColumnEach (fitting_indicator w indicator) → is_printable_ascii line ≡ true → IsCountedLine w (cut_line w indicator line)
-cut_line-counted w indicator line utf8 even printable =
+cut_text-counted : (w : ℕ) (indicator line : Text) → IsUtf8 indicator → AddsOneColumnEach (fitting_indicator w indicator) → is_printable_ascii line ≡ true → IsCountedLine w (cut_text w indicator line)
+cut_text-counted w indicator line utf8 even printable =
     let written : Text = fitting_indicator w indicator in
     let front : Text = take (w - measure written) line in
     let front_printable : is_printable_ascii front ≡ true = take-printable (w - measure written) line printable in
@@ -63,48 +63,23 @@ cut_line-counted w indicator line utf8 even printable =
     subst (λ front. IsCountedLine w (front ++ written)) (sym (head-printable (w - measure written) line printable))
     (record { fits = omega (arith, both, alone, room, short); counted = HasCount-same (length front + count written) (measure (front ++ written)) (front ++ written) (sym both) (HasCount-append (length front) (count written) front written (HasCount-printable front front_printable) (HasCount-utf8 written (fitting_indicator-utf8 w indicator utf8))) })
 
--- so are all lines of which some may be cut
-cut_to_height-counted : (h w : ℕ) (indicator : Text) (lines : List Text) → IsUtf8 indicator → (h < length lines → AddsOneColumnEach (fitting_indicator w indicator)) → All (IsPlainLine w) lines
-    → All (IsCountedLine w) (cut_to_height h w indicator lines)
-cut_to_height-counted h w indicator lines utf8 even plain =
-    let counted : All (IsCountedLine w) lines = All-weaker (IsPlainLine w) (IsCountedLine w) (counted-plain w) lines plain in
-    cond_both (nat_le (length lines) h) lines _ (All (IsCountedLine w)) (λ _. counted)
-    (λ taller.
-    let below : h < length lines = grind (arith, nat_tests) in
-    let last : IsPlainLine w (slice_index_or lines (h - 1) []) = plain (h - 1) [] (omega (arith, below)) in
-    All-append (IsCountedLine w) (take (h - 1) lines) (cut_line w indicator (slice_index_or lines (h - 1) []) ∷ []) (All-take (IsCountedLine w) (h - 1) lines counted)
-    (All-cons (IsCountedLine w) (cut_line w indicator (slice_index_or lines (h - 1) [])) [] (cut_line-counted w indicator _ utf8 (even below) last.printable) (All-nil (IsCountedLine w))))
-
 -- the lines of a plain cell in a row are counted, where the indicator adds one column for each character if a line is cut
 pub row_cell_lines-counted : (table : TableValue) (row : RowValue) (info : ColumnInfo) (cell : CellValue) → 1 ≤ info.content_width → IsUtf8 table.indicator
-    → IsPlainCell table info.delimiter (seen_cell table cell)
-    → ((h : ℕ) → row.max_height ≡ Some h → h < length (cell_lines info.content_width (cell_delimiter table info.delimiter cell) (seen_cell table cell)) → AddsOneColumnEach (fitting_indicator info.content_width table.indicator))
-    → All (IsCountedLine info.content_width) (row_cell_lines table row info cell)
-row_cell_lines-counted table row info cell places utf8 plain even = by_height row.max_height even
-  where
-    lines : All (IsPlainLine info.content_width) (cell_lines info.content_width (cell_delimiter table info.delimiter cell) (seen_cell table cell))
-    lines = cell_lines-plain table info.delimiter info.content_width (seen_cell table cell) places plain
-
-    by_height : (height : Option ℕ) → ((h : ℕ) → height ≡ Some h → h < length (cell_lines info.content_width (cell_delimiter table info.delimiter cell) (seen_cell table cell)) → AddsOneColumnEach (fitting_indicator info.content_width table.indicator))
-        → All (IsCountedLine info.content_width) (cut_to_limit height info.content_width table.indicator (cell_lines info.content_width (cell_delimiter table info.delimiter cell) (seen_cell table cell)))
-    by_height None even = All-weaker (IsPlainLine info.content_width) (IsCountedLine info.content_width) (counted-plain info.content_width) _ lines
-    by_height (Some h) even = cut_to_height-counted h info.content_width table.indicator _ utf8 (even h refl) lines
+    → IsPlainCell table info.delimiter cell
+    → ((h : ℕ) → row.max_height ≡ Some h → h < length (cell_lines info.content_width (cell_delimiter table info.delimiter cell) cell) → AddsOneColumnEach (fitting_indicator info.content_width table.indicator))
+    → All (IsCountedLine info.content_width) (seen_in_row table row info cell)
+row_cell_lines-counted table row info cell places utf8 plain even =
+    All-cut (IsPlainLine info.content_width) (IsCountedLine info.content_width) (cut_text info.content_width table.indicator) row.max_height (cell_lines info.content_width (cell_delimiter table info.delimiter cell) cell)
+    (cell_lines-plain table info.delimiter info.content_width cell places plain) (counted-plain info.content_width)
+    (λ h limited below line own. cut_text-counted info.content_width table.indicator line utf8 (even h limited below) own.printable)
 
 -- ---- pieces
-
--- the spaces before a line are among its free places
-free_before-le : (alignment : CellAlignment) (free : ℕ) → free_before alignment free ≤ free
-free_before-le Left free = omega arith
-free_before-le Right free = omega arith
-free_before-le Center free = omega arith
 
 -- a counted line gives a piece as wide as its column
 pub HasCount-plain_piece : (cell : CellValue) (info : ColumnInfo) (line : Text) → IsCountedLine info.content_width line → HasCount (info_width info) (plain_piece cell info line)
 HasCount-plain_piece cell info line counted =
-    let whole : (left before m free right w : ℕ) → before ≤ free → m ≤ w → free ≡ w - m → left + (before + (m + ((free - before) + right))) ≡ left + w + right =
-    λ left before m free right w among fits is. omega arith in
-    HasCount-same _ _ _ (whole _ _ _ _ _ info.content_width (free_before-le (cell_alignment cell info) (free_places info line)) counted.fits refl)
+    HasCount-same _ _ _ (whole_width (cell_alignment cell info) info.padding.0 (measure line) info.padding.1 info.content_width counted.fits)
     (HasCount-append info.padding.0 _ _ _ (HasCount-spaces info.padding.0)
-    (HasCount-append (free_before (cell_alignment cell info) (free_places info line)) _ _ _ (HasCount-spaces _)
+    (HasCount-append (free_before (cell_alignment cell info) (free_places info (measure line))) _ _ _ (HasCount-spaces _)
     (HasCount-append (measure line) _ _ _ counted.counted
-    (HasCount-append (free_places info line - free_before (cell_alignment cell info) (free_places info line)) info.padding.1 _ _ (HasCount-spaces _) (HasCount-spaces info.padding.1)))))
+    (HasCount-append (free_places info (measure line) - free_before (cell_alignment cell info) (free_places info (measure line))) info.padding.1 _ _ (HasCount-spaces _) (HasCount-spaces info.padding.1)))))

@@ -1,29 +1,29 @@
 -- The lines of cells whose text lines fit are no wider than their columns.
-use Rattle.std.proofs.Common.{◌≡◌, ◌<◌, ◌≤◌, ℕ, ◌+◌, ◌-◌, Bool, true, false, List, [], ◌++◌, Option, Some, None, length, take, nat_le, nat_lt, refl, arith, slice_index_or}
+use Rattle.std.proofs.Common.{◌≡◌, ◌<◌, ◌≤◌, ℕ, ◌+◌, ◌-◌, Bool, true, false, List, [], ◌++◌, Some, length, nat_lt, refl, arith, slice_index_or, subst}
 use Rattle.std.specs.Char.{IsScalar}
 use Rattle.std.specs.List.{All}
 use Rattle.std.specs.Prelude.{if◌then◌else◌, IsUtf8}
 use Rattle.std.proofs.lemmas.Bool.{cond_both}
 use Rattle.std.proofs.lemmas.Bool.Decides.{nat_tests}
-use Rattle.std.proofs.lemmas.List.Elements.{All-cons, All-nil, All-append, All-take, All-weaker}
+use Rattle.std.proofs.lemmas.List.Elements.{All-weaker}
 use Rattle.std.proofs.lemmas.Str.{IsUtf8-append, IsUtf8-nil}
 use Rattle.comfy_parts.proofs.CallerLemmas.{IsFittingLine, head-summed, head-utf8, lines-add_up, lines_of_text-utf8, measure-nil, text_lines_fit}
 use Rattle.comfy_parts.specs.CellValue.{CellValue, RowValue, ColumnInfo}
 use Rattle.comfy_parts.specs.Columns.{AddsUp, IsApart}
 use Rattle.comfy_parts.specs.Text.{Text, measure, head}
+use Rattle.comfy_parts.specs.VisibleLines.{CellLine}
 use Rattle.comfy_parts.specs.Wrapping.{lines_of_text}
-use Rattle.comfy_table.proofs.ListLemmas.{All-flat_map}
+use Rattle.comfy_table.proofs.CutLemmas.{All-cut, row-unstyled, seen_in_row}
+use Rattle.comfy_table.proofs.ListLemmas.{All-flat_map, All-of_map}
 use Rattle.comfy_table.proofs.MeasureLemmas.{apart_follows}
-use Rattle.comfy_table.specs.Laws.{unstyled}
-use Rattle.comfy_table.specs.Lines.{cell_delimiter, cell_lines, cut_line, cut_to_limit, fitting_indicator}
-use Rattle.comfy_table.specs.Pieces.{row_cell_lines}
+use Rattle.comfy_table.specs.Lines.{as_seen, cell_delimiter, cell_lines, cut_text, fitting_indicator}
 use Rattle.comfy_table.specs.Straight.{LinesFit, TextsFit}
 use Rattle.comfy_table.specs.TableValue.{TableValue}
 
 -- ---- cut lines
 
 -- a line that is cut fits
-cut-fits : (w : ℕ) (indicator line : Text) → IsUtf8 line → AddsUp line → IsUtf8 indicator → IsApart indicator → IsFittingLine w (cut_line w indicator line)
+cut-fits : (w : ℕ) (indicator line : Text) → IsUtf8 line → AddsUp line → IsUtf8 indicator → IsApart indicator → IsFittingLine w (cut_text w indicator line)
 cut-fits w indicator line utf8 summed whole apart = by_test (nat_lt w (measure indicator)) refl
   where
     with : (k : ℕ) (shown : Text) → IsUtf8 shown → IsApart shown → k + measure shown ≤ w → IsFittingLine w (head k line ++ shown)
@@ -37,14 +37,6 @@ cut-fits w indicator line utf8 summed whole apart = by_test (nat_lt w (measure i
     by_test true wide = let none = measure-nil in with (w - measure []) [] IsUtf8-nil apart_follows.ends (omega (arith, none))
     by_test false narrow = let fits : measure indicator ≤ w = grind (arith, nat_tests, narrow) in with (w - measure indicator) indicator whole apart (omega (arith, fits))
 
--- what each line meets, and the one that is cut, each line of a row does
-All-cut : (P : Text → Type 0) (height : Option ℕ) (w : ℕ) (indicator : Text) (lines : List Text) → All P lines
-    → ((h : ℕ) → height ≡ Some h → h < length lines → P (cut_line w indicator (slice_index_or lines (h - 1) []))) → All P (cut_to_limit height w indicator lines)
-All-cut P None w indicator lines each cut = each
-All-cut P (Some h) w indicator lines each cut =
-    cond_both (nat_le (length lines) h) _ _ (All P) (λ _. each)
-    (λ more. All-append P (take (h - 1) lines) _ (All-take P (h - 1) lines each) (All-cons P _ [] (cut h refl (grind (arith, nat_tests, more))) (All-nil P)))
-
 -- ---- cells
 
 -- the text lines of the cell are whole characters, and its delimiter is one
@@ -53,7 +45,7 @@ IsWholeCell table row info cell = All IsUtf8 cell.text_lines × IsScalar (cell_d
 
 -- its lines are whole characters that fit
 abbrev pub HasFittingLines : TableValue → RowValue → ColumnInfo → CellValue → Type 0
-HasFittingLines table row info cell = All (IsFittingLine info.content_width) (row_cell_lines (unstyled table) row info cell)
+HasFittingLines table row info cell = All (IsFittingLine info.content_width) (seen_in_row table row info cell)
 
 module _ (table : TableValue) (row : RowValue) (info : ColumnInfo) (cell : CellValue) (indicator : IsUtf8 table.indicator) (known : IsWholeCell table row info cell) where
   abbrev w : ℕ
@@ -69,21 +61,26 @@ module _ (table : TableValue) (row : RowValue) (info : ColumnInfo) (cell : CellV
   whole = All-flat_map IsUtf8 (lines_of_text w d) cell.text_lines (All-weaker IsUtf8 (λ text. All IsUtf8 (lines_of_text w d text)) (lines_of_text-utf8 w d) cell.text_lines known.0)
 
   -- all lines are whole characters, cut ones too
-  whole_lines : All IsUtf8 (row_cell_lines (unstyled table) row info cell)
-  whole_lines = All-cut IsUtf8 row.max_height w table.indicator lines whole cut
-    where
-      cut : (h : ℕ) → row.max_height ≡ Some h → h < length lines → IsUtf8 (cut_line w table.indicator (slice_index_or lines (h - 1) []))
-      cut h is below =
-          IsUtf8-append (head _ (slice_index_or lines (h - 1) [])) (fitting_indicator w table.indicator) (head-utf8 _ _ (whole (h - 1) [] (omega (arith, below))))
-          (cond_both (nat_lt w (measure table.indicator)) _ _ IsUtf8 (λ _. IsUtf8-nil) (λ _. indicator))
+  whole_lines : All IsUtf8 (seen_in_row table row info cell)
+  whole_lines =
+      All-cut IsUtf8 IsUtf8 (cut_text w table.indicator) row.max_height lines whole (λ line own. own)
+      (λ h limited below line own. IsUtf8-append (head _ line) (fitting_indicator w table.indicator) (head-utf8 _ _ own) (cond_both (nat_lt w (measure table.indicator)) _ _ IsUtf8 (λ _. IsUtf8-nil) (λ _. indicator)))
 
   -- so lines that are no wider than the column fit
   pub lines-fit : LinesFit table row info cell → HasFittingLines table row info cell
-  lines-fit narrow k default below = record { whole = whole_lines k default below; fits = narrow k default below }
+  lines-fit narrow k default below =
+      record {
+        whole = whole_lines k default below;
+        fits = All-of_map (λ (line : CellLine). measure line.seen ≤ w) as_seen (seen_in_row table row info cell) (subst (All (λ (line : CellLine). measure line.seen ≤ w)) (row-unstyled table row info cell) narrow) k default below;
+      }
 
   -- and so do the lines of texts that fit
   pub texts-fit : TextsFit table row info cell → HasFittingLines table row info cell
-  texts-fit is = All-cut (IsFittingLine w) row.max_height w table.indicator lines fit cut
+  texts-fit is =
+      All-cut (λ line. IsFittingLine w line × ((h : ℕ) → row.max_height ≡ Some h → h < length lines → AddsUp line × IsApart table.indicator)) (IsFittingLine w) (cut_text w table.indicator) row.max_height lines
+      (λ k default below. (fit k default below, λ h limited more. (add_up (is.cut h limited more).0 k default below, (is.cut h limited more).1)))
+      (λ line own. own.0)
+      (λ h limited below line own. cut-fits w table.indicator line own.0.whole (own.1 h limited below).0 indicator (own.1 h limited below).1)
     where
       fit : All (IsFittingLine w) lines
       fit =
@@ -93,9 +90,3 @@ module _ (table : TableValue) (row : RowValue) (info : ColumnInfo) (cell : CellV
       add_up : All AddsUp cell.text_lines → All AddsUp lines
       add_up each =
           All-flat_map AddsUp (lines_of_text w d) cell.text_lines (λ k default below. lines-add_up w d (slice_index_or cell.text_lines k default) known.1 (known.0 k default below) (each k default below))
-
-      cut : (h : ℕ) → row.max_height ≡ Some h → h < length lines → IsFittingLine w (cut_line w table.indicator (slice_index_or lines (h - 1) []))
-      cut h limited below =
-          let inside : h - 1 < length lines = omega (arith, below) in
-          let kinds = is.cut h limited below in
-          cut-fits w table.indicator (slice_index_or lines (h - 1) []) (whole (h - 1) [] inside) (add_up kinds.0 (h - 1) [] inside) indicator kinds.1

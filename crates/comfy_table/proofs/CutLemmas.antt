@@ -1,9 +1,84 @@
--- Lines that are cut, and cells of which lines are cut, by whether the cut is needed.
-use Rattle.std.proofs.Common.{◌≡◌, ◌<◌, ℕ, arith, append-nil}
-use Rattle.comfy_parts.proofs.CallerLemmas.{measure-printable}
-use Rattle.comfy_parts.specs.Text.{Text, head, measure}
-use Rattle.comfy_table.specs.Lines.{cut_line}
+-- The lines of a cell, of which one may be cut.
+use Rattle.std.proofs.Common.{◌≡◌, ◌<◌, ℕ, ◌-◌, Bool, true, false, List, [], ◌∷◌, Option, Some, None, length, map, take, unwrap_or, nat_le, refl, ap, ◌∙◌, sym, arith}
+use Rattle.std.specs.List.{All}
+use Rattle.std.proofs.lemmas.Bool.{cond_both}
+use Rattle.std.proofs.lemmas.Bool.Decides.{nat_tests}
+use Rattle.std.proofs.lemmas.List.{drop-map, length-map, map-append, take-map}
+use Rattle.std.proofs.lemmas.List.Elements.{All-append, All-drop, All-map, All-take, All-weaker}
+use Rattle.comfy_parts.proofs.CallerLemmas.{seen_lines}
+use Rattle.comfy_parts.specs.CellValue.{CellValue, ColumnInfo, RowValue}
+use Rattle.comfy_parts.specs.Text.{Text, measure}
+use Rattle.comfy_parts.specs.VisibleLines.{CellLine}
+use Rattle.comfy_table.proofs.JoinLemmas.{map-map}
+use Rattle.comfy_table.proofs.SeenLemmas.{cell_seen}
+use Rattle.comfy_table.specs.Laws.{unstyled}
+use Rattle.comfy_table.specs.Lines.{as_seen, cell_delimiter, cell_lines, cut_line, cut_text, cut_to_height, cut_to_limit, whole_lines}
+use Rattle.comfy_table.specs.Pieces.{cell_pieces, padded, row_cell_lines}
+use Rattle.comfy_table.specs.TableValue.{TableValue}
 
--- an indicator that is wider than the column isn't written
-pub cut_line-wide : (w : ℕ) (indicator line : Text) → w < measure indicator → cut_line w indicator line ≡ head w line
-cut_line-wide w indicator line wide = grind (arith, measure-printable, append-nil)
+-- ---- lists of which one element may be cut
+
+-- no limit is that of all lines
+pub no_limit : {A : Type 0} (cut : A → A) (limit : Option ℕ) (lines : List A) → cut_to_limit cut limit lines ≡ cut_to_height cut (unwrap_or limit (length lines)) lines
+no_limit cut None lines = grind (arith, nat_tests)
+no_limit cut (Some h) lines = refl
+
+-- what is made of each line, cut or not
+pub map-cut : {A B : Type 0} (f : A → B) (cut : A → A) (other : B → B) (limit : Option ℕ) (lines : List A) → ((line : A) → f (cut line) ≡ other (f line))
+    → map f (cut_to_limit cut limit lines) ≡ cut_to_limit other limit (map f lines)
+map-cut f cut other None lines same = refl
+map-cut f cut other (Some h) lines same = grind (arith, length-map, map-append, take-map, drop-map, made)
+  where
+    made : (xs : List _) → map f (map cut xs) ≡ map other (map f xs)
+    made [] = refl
+    made (x ∷ xs) = λ i. same x i ∷ made xs i
+
+-- what holds of each line, whole or cut
+pub All-cut : {A : Type 0} (P Q : A → Type 0) (cut : A → A) (limit : Option ℕ) (lines : List A) → All P lines → ((line : A) → P line → Q line)
+    → ((h : ℕ) → limit ≡ Some h → h < length lines → (line : A) → P line → Q (cut line)) → All Q (cut_to_limit cut limit lines)
+All-cut P Q cut None lines each whole one = All-weaker P Q whole lines each
+All-cut P Q cut (Some h) lines each whole one =
+    cond_both (nat_le (length lines) h) lines _ (All Q) (λ _. All-weaker P Q whole lines each)
+    (λ taller. All-append Q (take (h - 1) lines) _ (All-weaker P Q whole _ (All-take P (h - 1) lines each))
+    (All-map Q cut _ (All-weaker P (λ line. Q (cut line)) (one h refl (grind (arith, nat_tests, taller))) _ (All-take P 1 _ (All-drop P (h - 1) lines each)))))
+
+-- ---- what is seen of the lines of a cell
+
+-- what is seen of lines
+abbrev pub seen_of : List CellLine → List Text
+seen_of lines = map (λ (line : CellLine). line.seen) lines
+
+-- of those of a cell it is the lines of what is seen of the cell
+pub whole-seen : (custom : Bool) (w d : ℕ) (cell : CellValue) → seen_of (whole_lines custom w d cell) ≡ cell_lines w d (cell_seen custom cell)
+whole-seen true w d cell = seen_lines w d cell.text_lines
+whole-seen false w d cell = as_they_are (cell_lines w d cell)
+  where
+    as_they_are : (lines : List Text) → seen_of (map as_seen lines) ≡ lines
+    as_they_are [] = refl
+    as_they_are (line ∷ lines) = ap (λ (more : List Text). line ∷ more) (as_they_are lines)
+
+-- the lines of a cell in a row as they are seen
+abbrev pub seen_in_row : TableValue → RowValue → ColumnInfo → CellValue → List Text
+seen_in_row table row info cell =
+    cut_to_limit (cut_text info.content_width table.indicator) row.max_height (cell_lines info.content_width (cell_delimiter table info.delimiter cell) cell)
+
+-- they are what is seen of its lines
+pub row-seen : (table : TableValue) (row : RowValue) (info : ColumnInfo) (cell : CellValue) → seen_of (row_cell_lines table row info cell) ≡ seen_in_row table row info (cell_seen table.custom_styling cell)
+row-seen table row info cell =
+    map-cut (λ (line : CellLine). line.seen) (cut_line table.custom_styling info.content_width table.indicator) (cut_text info.content_width table.indicator) row.max_height _ (λ line. refl)
+    ∙ ap (cut_to_limit (cut_text info.content_width table.indicator) row.max_height) (whole-seen table.custom_styling info.content_width (cell_delimiter table info.delimiter cell) cell)
+
+-- ---- unstyled tables
+
+-- the lines are written as they are seen
+pub row-unstyled : (table : TableValue) (row : RowValue) (info : ColumnInfo) (cell : CellValue) → row_cell_lines (unstyled table) row info cell ≡ map as_seen (seen_in_row table row info cell)
+row-unstyled table row info cell =
+    sym (map-cut as_seen (cut_text info.content_width table.indicator) (cut_line false info.content_width table.indicator) row.max_height _ (λ line. refl))
+
+-- the piece of a line without styling
+abbrev pub plain_piece : CellValue → ColumnInfo → Text → Text
+plain_piece cell info line = padded cell info (measure line) line
+
+-- such are all pieces
+pub pieces-unstyled : (table : TableValue) (row : RowValue) (info : ColumnInfo) (cell : CellValue) → cell_pieces (unstyled table) row info cell ≡ map (plain_piece cell info) (seen_in_row table row info cell)
+pieces-unstyled table row info cell = grind (arith, row-unstyled, map-map)

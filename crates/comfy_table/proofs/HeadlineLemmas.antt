@@ -102,12 +102,12 @@ table_drawing table infos lines utf8 kept (widths, arranged, is) drawn =
       without_sequences = free_lines;
       straight_without_sequences = λ free is. All-of_map (λ text. measure text ≡ line_total table widths) visible_text lines
           (subst (All (λ text. measure text ≡ line_total table widths)) (sym (free_lines free)) (straight table widths utf8 cells arranged is));
-      closed = λ _. All-every (λ (row : RowValue). All (IsClosedInRow table row) (visible_infos (infos_of table widths))) (header_and_rows table)
-          (λ row. All-every (IsClosedInRow table row) (visible_infos (infos_of table widths)) (λ p cell is. none_is_open_at_the_end table row p.1 cell));
-      resumed = λ _. All-every (λ (row : RowValue). All (IsResumedInRow table row) (visible_infos (infos_of table widths))) (header_and_rows table)
-          (λ row. All-every (IsResumedInRow table row) (visible_infos (infos_of table widths)) (λ p cell is. lines_are_resumed table row p.1 cell));
-      cut_closed = λ _. All-every (λ (row : RowValue). All (IsCutClosedInRow table row) (visible_infos (infos_of table widths))) (header_and_rows table)
-          (λ row. All-every (IsCutClosedInRow table row) (visible_infos (infos_of table widths)) (λ p cell is. cut_lines_are_closed table row p.1 cell));
+      closed = λ on. All-every (λ (row : RowValue). All (IsClosedInRow table row) (visible_infos (infos_of table widths))) (header_and_rows table)
+          (λ row. All-every (IsClosedInRow table row) (visible_infos (infos_of table widths)) (λ p cell is. none_is_open_at_the_end table row p.1 cell on));
+      resumed = λ on. All-every (λ (row : RowValue). All (IsResumedInRow table row) (visible_infos (infos_of table widths))) (header_and_rows table)
+          (λ row. All-every (IsResumedInRow table row) (visible_infos (infos_of table widths)) (λ p cell is. lines_are_resumed table row p.1 cell on));
+      cut_closed = λ on. All-every (λ (row : RowValue). All (IsCutClosedInRow table row) (visible_infos (infos_of table widths))) (header_and_rows table)
+          (λ row. All-every (IsCutClosedInRow table row) (visible_infos (infos_of table widths)) (λ p cell is. cut_lines_are_closed table row p.1 cell on));
       frame_counts = λ line. frame_counts table widths line arranged.one_for_each;
       keeps_to_width = λ w none dynamic known. each_line_counts (λ n. n ≤ max w (least_total table)) table widths utf8 cells arranged (keeps_to_width table w widths none dynamic known arranged);
       fills_width = λ w none full known some. each_line_counts (λ n. n ≡ max w (least_total table)) table widths utf8 cells arranged (fills_width table w widths none full known some arranged);

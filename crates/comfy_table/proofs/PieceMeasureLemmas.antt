@@ -4,12 +4,12 @@ use Rattle.std.specs.List.{repeat, AllZip}
 use Rattle.std.specs.Prelude.{if◌then◌else◌, encode_utf8, unwrap_or}
 use Rattle.comfy_parts.specs.CellValue.{CellValue, ColumnInfo, info_width}
 use Rattle.comfy_parts.specs.Text.{Text, measure, spaces}
-use Rattle.comfy_parts.specs.declared.style.cell.CellAlignment.{CellAlignment}
-use Rattle.comfy_parts.specs.declared.style.cell.CellAlignment.TheVariants.{Left, Right, Center}
 use Rattle.comfy_parts.specs.declared.style.table_style.LineStyle.{LineStyle}
 use Rattle.comfy_parts.specs.declared.style.table_style.TableStyle.{TableStyle}
 use Rattle.comfy_table.specs.Frame.{border_count, character, between_borders, frame_line, draws_left_border, draws_right_border, draws_vertical_lines}
-use Rattle.comfy_table.specs.Pieces.{cell_alignment, free_before, free_places, plain_piece, spaces_after}
+use Rattle.comfy_table.specs.Pieces.{cell_alignment, free_before, free_places, spaces_after}
+use Rattle.comfy_table.proofs.CutLemmas.{plain_piece}
+use Rattle.comfy_table.proofs.SpaceLemmas.{whole_width}
 use Rattle.comfy_table.proofs.MeasureLemmas.{IsAny, IsFollowing, apart_follows, HasMeasure, Fronts, HasMeasure-same, HasMeasure-any, HasMeasure-append, HasMeasure-behind, HasMeasure-spaces, HasMeasure-text, HasMeasure-repeat, HasMeasure-character, HasMeasure-when, HasMeasure-between, Fronts-when, IsPiece, any_follows}
 use Rattle.comfy_parts.proofs.CallerLemmas.{IsFittingLine}
 use Rattle.comfy_parts.specs.Columns.{AddsOneColumn, IsApart, IsOneColumn}
@@ -43,15 +43,6 @@ HasMeasure-frame_line style line widths left fill junction right =
 
 -- ---- pieces
 
--- the spaces before a line are among its free places
-free_before-le : (alignment : CellAlignment) (free : ℕ) → free_before alignment free ≤ free
-free_before-le Left free = omega arith
-free_before-le Right free = omega arith
-free_before-le Center free = omega arith
-
-whole : (left before m free right w : ℕ) → before ≤ free → m ≤ w → free ≡ w - m → left + (before + (m + ((free - before) + right))) ≡ left + w + right
-whole left before m free right w among fits is = omega arith
-
 -- spaces may follow wherever what follows them may
 Fronts-spaces : (Follows : Text → Type 0) (n : ℕ) → IsFollowing Follows → Fronts Follows (spaces n)
 Fronts-spaces Follows zero follows rest may = may
@@ -74,17 +65,17 @@ spaced-end (suc a) n rest some = apart_follows.spaced ((spaces a ++ spaces n) ++
 
 -- what stands behind a line in its column
 abbrev behind : CellValue → ColumnInfo → Text → Text
-behind cell info line = spaces_after cell info line ++ spaces info.padding.1
+behind cell info line = spaces_after cell info (measure line) ++ spaces info.padding.1
 
-HasMeasure-behind_line : (cell : CellValue) (info : ColumnInfo) (line : Text) → HasMeasure IsAny ((free_places info line - free_before (cell_alignment cell info) (free_places info line)) + info.padding.1) (behind cell info line)
+HasMeasure-behind_line : (cell : CellValue) (info : ColumnInfo) (line : Text) → HasMeasure IsAny ((free_places info (measure line) - free_before (cell_alignment cell info) (free_places info (measure line))) + info.padding.1) (behind cell info line)
 HasMeasure-behind_line cell info line = HasMeasure-behind IsAny _ _ _ _ (HasMeasure-spaces _) (HasMeasure-spaces info.padding.1)
 
 -- what stands before it
 HasMeasure-padded : (Follows : Text → Type 0) (cell : CellValue) (info : ColumnInfo) (line : Text) → IsFittingLine info.content_width line
-    → HasMeasure Follows (measure line + ((free_places info line - free_before (cell_alignment cell info) (free_places info line)) + info.padding.1)) (line ++ behind cell info line)
+    → HasMeasure Follows (measure line + ((free_places info (measure line) - free_before (cell_alignment cell info) (free_places info (measure line))) + info.padding.1)) (line ++ behind cell info line)
     → HasMeasure Follows (info_width info) (plain_piece cell info line)
 HasMeasure-padded Follows cell info line fitting last =
-    HasMeasure-same Follows _ _ _ (whole _ _ _ _ _ info.content_width (free_before-le (cell_alignment cell info) (free_places info line)) fitting.fits refl)
+    HasMeasure-same Follows _ _ _ (whole_width (cell_alignment cell info) info.padding.0 (measure line) info.padding.1 info.content_width fitting.fits)
     (HasMeasure-behind Follows info.padding.0 _ _ _ (HasMeasure-spaces info.padding.0) (HasMeasure-behind Follows _ _ _ _ (HasMeasure-spaces _) last))
 
 -- before what stands apart, the piece of a line that fits is as wide as its column
@@ -92,16 +83,16 @@ pub piece-apart : (cell : CellValue) (info : ColumnInfo) (line : Text) → IsFit
 piece-apart cell info line fitting =
     HasMeasure-padded IsApart cell info line fitting
     (HasMeasure-append IsApart (measure line) _ line (behind cell info line) (HasMeasure-text line fitting.whole)
-    (λ rest may. subst IsApart (sym (append_assoc (spaces_after cell info line) (spaces info.padding.1) rest)) (Fronts-spaces IsApart _ apart_follows (spaces info.padding.1 ++ rest) (Fronts-spaces IsApart info.padding.1 apart_follows rest may)))
+    (λ rest may. subst IsApart (sym (append_assoc (spaces_after cell info (measure line)) (spaces info.padding.1) rest)) (Fronts-spaces IsApart _ apart_follows (spaces info.padding.1 ++ rest) (Fronts-spaces IsApart info.padding.1 apart_follows rest may)))
     (HasMeasure-any IsApart _ _ (HasMeasure-behind_line cell info line)))
 
 -- with a padding at its right before everything
 pub piece-any : (cell : CellValue) (info : ColumnInfo) (line : Text) → 1 ≤ info.padding.1 → IsFittingLine info.content_width line → HasMeasure IsAny (info_width info) (plain_piece cell info line)
 piece-any cell info line some fitting = HasMeasure-padded IsAny cell info line fitting (record { measures = λ rest _. all rest })
   where
-    all : (rest : Text) → measure ((line ++ behind cell info line) ++ rest) ≡ (measure line + ((free_places info line - free_before (cell_alignment cell info) (free_places info line)) + info.padding.1)) + measure rest
+    all : (rest : Text) → measure ((line ++ behind cell info line) ++ rest) ≡ (measure line + ((free_places info (measure line) - free_before (cell_alignment cell info) (free_places info (measure line))) + info.padding.1)) + measure rest
     all rest =
-        let first = spaced-end (free_places info line - free_before (cell_alignment cell info) (free_places info line)) info.padding.1 rest some line fitting.whole in
+        let first = spaced-end (free_places info (measure line) - free_before (cell_alignment cell info) (free_places info (measure line))) info.padding.1 rest some line fitting.whole in
         let second = (HasMeasure-behind_line cell info line).measures rest tt in
         ap measure (append_assoc line (behind cell info line) rest) ∙ first ∙ omega (arith, second)
 

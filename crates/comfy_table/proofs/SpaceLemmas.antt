@@ -4,7 +4,9 @@ use Rattle.std.proofs.lemmas.List.{get_or-replicate, length-replicate, replicate
 use Rattle.std.specs.Prelude.{Result, Ok, Err, OnOk}
 use Rattle.comfy_parts.specs.CellValue.{CellValue, ColumnInfo}
 use Rattle.comfy_parts.specs.Text.{Text, spaces}
-use Rattle.comfy_table.specs.Pieces.{cell_alignment, free_before, free_places, padded, written_piece}
+use Rattle.comfy_parts.specs.declared.style.cell.CellAlignment.{CellAlignment}
+use Rattle.comfy_parts.specs.declared.style.cell.CellAlignment.TheVariants.{Left, Right, Center}
+use Rattle.comfy_table.specs.Pieces.{cell_alignment, free_before, free_places, padded, text_piece}
 use Rattle.comfy_table.specs.Styling.{styled}
 use Rattle.comfy_table.specs.TableValue.{TableValue, should_style}
 
@@ -24,27 +26,37 @@ spaces-front run n left is within = grind (arith, length-replicate, take-replica
 pub space-at : (run : Text) (n i d : ℕ) → run ≡ spaces n → i < length run → slice_index_or run i d ≡ 0x20
 space-at run n i d is below = grind (arith, length-replicate, get_or-replicate)
 
-module _ (cell : CellValue) (info : ColumnInfo) (line : Text) (left right : ℕ)
-    (is_left : left ≡ info.padding.0 + free_before (cell_alignment cell info) (free_places info line))
-    (is_right : right ≡ free_places info line - free_before (cell_alignment cell info) (free_places info line) + info.padding.1) where
+-- the spaces before a line are among its free places
+free_before-le : (alignment : CellAlignment) (free : ℕ) → free_before alignment free ≤ free
+free_before-le Left free = omega arith
+free_before-le Right free = omega arith
+free_before-le Center free = omega arith
+
+-- a line that fits, the spaces beside it and the paddings take the whole width
+pub whole_width : (alignment : CellAlignment) (left m right w : ℕ) → m ≤ w → left + (free_before alignment (w - m) + (m + ((w - m - free_before alignment (w - m)) + right))) ≡ left + w + right
+whole_width alignment left m right w fits = let among = free_before-le alignment (w - m) in omega (arith, among, fits)
+
+module _ (cell : CellValue) (info : ColumnInfo) (columns left right : ℕ)
+    (is_left : left ≡ info.padding.0 + free_before (cell_alignment cell info) (free_places info columns))
+    (is_right : right ≡ free_places info columns - free_before (cell_alignment cell info) (free_places info columns) + info.padding.1) where
   -- a text between the spaces that a line leaves and the paddings
-  pub padded-made : (text : Text) → spaces left ++ (text ++ spaces right) ≡ padded cell info line text
+  pub padded-made : (text : Text) → spaces left ++ (text ++ spaces right) ≡ padded cell info columns text
   padded-made text =
-      let before = free_before (cell_alignment cell info) (free_places info line) in
+      let before = free_before (cell_alignment cell info) (free_places info columns) in
       ap (λ n. spaces n ++ (text ++ spaces right)) is_left
       ∙ ap (λ n. spaces (info.padding.0 + before) ++ (text ++ spaces n)) is_right
-      ∙ ap (λ (t : Text). t ++ (text ++ spaces (free_places info line - before + info.padding.1))) (sym (spaces-append info.padding.0 before))
-      ∙ append_assoc (spaces info.padding.0) (spaces before) (text ++ spaces (free_places info line - before + info.padding.1))
-      ∙ ap (λ (t : Text). spaces info.padding.0 ++ (spaces before ++ (text ++ t))) (sym (spaces-append (free_places info line - before) info.padding.1))
+      ∙ ap (λ (t : Text). t ++ (text ++ spaces (free_places info columns - before + info.padding.1))) (sym (spaces-append info.padding.0 before))
+      ∙ append_assoc (spaces info.padding.0) (spaces before) (text ++ spaces (free_places info columns - before + info.padding.1))
+      ∙ ap (λ (t : Text). spaces info.padding.0 ++ (spaces before ++ (text ++ t))) (sym (spaces-append (free_places info columns - before) info.padding.1))
 
   -- the piece of a line with its text without styling, with its text styled, and styled as a whole
-  pub plain-made : (table : TableValue) (text : Text) → should_style table ≡ false → spaces left ++ (text ++ spaces right) ≡ written_piece table cell info line text
+  pub plain-made : (table : TableValue) (text : Text) → should_style table ≡ false → spaces left ++ (text ++ spaces right) ≡ text_piece table cell info columns text
   plain-made table text off = grind (arith, padded-made)
 
-  pub line-styled : (table : TableValue) (text : Text) → should_style table ≡ true → table.style_text_only ≡ true → spaces left ++ (styled cell text ++ spaces right) ≡ written_piece table cell info line text
+  pub line-styled : (table : TableValue) (text : Text) → should_style table ≡ true → table.style_text_only ≡ true → spaces left ++ (styled cell text ++ spaces right) ≡ text_piece table cell info columns text
   line-styled table text on alone = grind (arith, padded-made)
 
-  pub all-styled : (table : TableValue) (text : Text) → should_style table ≡ true → table.style_text_only ≡ false → styled cell (spaces left ++ (text ++ spaces right)) ≡ written_piece table cell info line text
+  pub all-styled : (table : TableValue) (text : Text) → should_style table ≡ true → table.style_text_only ≡ false → styled cell (spaces left ++ (text ++ spaces right)) ≡ text_piece table cell info columns text
   all-styled table text on whole = grind (arith, padded-made)
 
 -- what a call appends, said in another way
@@ -65,8 +77,3 @@ three-pushed old a b one two new c first second third = grind (arith, append_ass
 pub last-pushed : {T E : Type 0} (r : Result T E) (new before c : Text) (wanted : Text) → (new ≡ before ++ c → new ≡ wanted) → OnOk r (new ≡ before ++ c) → OnOk r (new ≡ wanted)
 last-pushed (Ok x) new before c wanted gives pushed = gives pushed
 last-pushed (Err e) new before c wanted gives pushed = pushed
-
--- what a call appends to the same text
-pub pushed-behind : {T E : Type 0} (r : Result T E) (new other old wanted : Text) → other ≡ old → OnOk r (new ≡ other ++ wanted) → OnOk r (new ≡ old ++ wanted)
-pushed-behind (Ok x) new other old wanted same pushed = pushed ∙ ap (λ (t : Text). t ++ wanted) same
-pushed-behind (Err e) new other old wanted same pushed = pushed

@@ -1,6 +1,6 @@
 -- All lines of a table whose lines fit measure the same.
 use Rattle.std.proofs.lemmas.Bool.{cond_both}
-use Rattle.std.proofs.Common.{◌≡◌, ◌<◌, ◌≤◌, ◌⊎◌, inl, inr, ℕ, ◌+◌, Bool, List, [], Option, Some, None, length, sum, refl, ◌∙◌, subst, arith, slice_index_or}
+use Rattle.std.proofs.Common.{◌≡◌, ◌<◌, ◌≤◌, ◌⊎◌, inl, inr, ℕ, ◌+◌, Bool, List, [], Option, Some, None, length, sum, refl, ◌∙◌, subst, arith, slice_index_or, sym}
 use Rattle.std.specs.List.{All, slice_get}
 use Rattle.std.specs.Prelude.{IsUtf8}
 use Rattle.std.proofs.lemmas.List.{length-map}
@@ -14,11 +14,12 @@ use Rattle.comfy_table.proofs.ListLemmas.{At-or, AllZip-map}
 use Rattle.comfy_table.specs.Drawing.{infos_of, whole_widths, drawn_row, drawing_of_infos, drawing}
 use Rattle.comfy_table.specs.Frame.{border_count, content_line, draws_vertical_lines, frame_line, is_drawn, optional_frame_line}
 use Rattle.comfy_table.specs.Laws.{line_total, unstyled}
-use Rattle.comfy_table.specs.Pieces.{blank_piece, pieces_of_optional, pieces_at, piece, row_cell_lines, row_line, visible_infos}
+use Rattle.comfy_table.specs.Pieces.{blank_piece, pieces_of_optional, pieces_at, row_line, visible_infos}
 use Rattle.comfy_table.specs.TableValue.{TableValue, seen_rows}
 use Rattle.comfy_table.specs.Widths.{visible_count}
 use Rattle.comfy_table.specs.Arrangement.{IsArranged}
 use Rattle.comfy_table.specs.Straight.{EachCell, IsShownWhole, IsStraightTable, LinesFit, TextsFit, TextsStandApart}
+use Rattle.comfy_table.proofs.CutLemmas.{pieces-unstyled, plain_piece, seen_in_row}
 use Rattle.comfy_table.proofs.CellFitLemmas.{HasFittingLines, IsWholeCell, lines-fit, texts-fit}
 use Rattle.comfy_table.proofs.WholeTableLemmas.{whole_table_fits}
 use Rattle.comfy_table.proofs.InfoLemmas.{infos-known}
@@ -34,18 +35,19 @@ ArePiecesGood Follows table row p = All (IsGoodPiece Follows (draws_vertical_lin
 -- the pieces of lines that fit are good, where every piece of a line that fits is, and the blank one
 pieces-good : (Follows : Text → Type 0) (table : TableValue) (row : RowValue) (p : ℕ × ColumnInfo) → ((cell : CellValue) → slice_get row.cells p.0 ≡ Some cell → HasFittingLines table row p.1 cell)
     → IsGoodPiece Follows (draws_vertical_lines table.style) (info_width p.1) (blank_piece p.1)
-    → ((cell : CellValue) (line : Text) → IsFittingLine p.1.content_width line → IsGoodPiece Follows (draws_vertical_lines table.style) (info_width p.1) (piece (unstyled table) cell p.1 line))
+    → ((cell : CellValue) (line : Text) → IsFittingLine p.1.content_width line → IsGoodPiece Follows (draws_vertical_lines table.style) (info_width p.1) (plain_piece cell p.1 line))
     → ArePiecesGood Follows table row p
 pieces-good Follows table row p fit blank each = by_option (slice_get row.cells p.0) fit
   where
     Good : Text → Type 0
     Good = IsGoodPiece Follows (draws_vertical_lines table.style) (info_width p.1)
 
-    by_option : (o : Option CellValue) → ((cell : CellValue) → o ≡ Some cell → All (IsFittingLine p.1.content_width) (row_cell_lines (unstyled table) row p.1 cell)) → All Good (pieces_of_optional (unstyled table) row p.1 o)
+    by_option : (o : Option CellValue) → ((cell : CellValue) → o ≡ Some cell → All (IsFittingLine p.1.content_width) (seen_in_row table row p.1 cell)) → All Good (pieces_of_optional (unstyled table) row p.1 o)
     by_option None fit = All-cons Good (blank_piece p.1) [] blank (All-nil Good)
     by_option (Some cell) fit =
-        All-map Good (piece (unstyled table) cell p.1) (row_cell_lines (unstyled table) row p.1 cell)
-        (All-weaker (IsFittingLine p.1.content_width) (λ line. Good (piece (unstyled table) cell p.1 line)) (each cell) (row_cell_lines (unstyled table) row p.1 cell) (fit cell refl))
+        subst (All Good) (sym (pieces-unstyled table row p.1 cell))
+        (All-map Good (plain_piece cell p.1) (seen_in_row table row p.1 cell)
+        (All-weaker (IsFittingLine p.1.content_width) (λ line. Good (plain_piece cell p.1 line)) (each cell) (seen_in_row table row p.1 cell) (fit cell refl)))
 
 -- ---- the drawing
 

@@ -7,12 +7,14 @@ use Rattle.std.proofs.lemmas.Bool.{and_parts}
 use Rattle.std.proofs.lemmas.List.Folds.{list_all-append}
 use Rattle.comfy_parts.proofs.CallerLemmas.{Shows, Shows-append, Shows-byte, Shows-nil, Shows-sequence}
 use Rattle.comfy_parts.specs.CellValue.{CellValue, ColumnInfo}
-use Rattle.comfy_parts.specs.Text.{Text, spaces}
+use Rattle.comfy_parts.specs.Text.{Text, measure, spaces}
+use Rattle.comfy_parts.specs.VisibleLines.{CellLine}
+use Rattle.comfy_table.proofs.CutLemmas.{plain_piece}
 use Rattle.comfy_parts.specs.VisibleText.{is_parameter}
 use Rattle.comfy_parts.specs.declared.style.attribute.Attribute.{Attribute}
 use Rattle.comfy_parts.specs.declared.style.color.Color.{Color}
 use Rattle.comfy_parts.specs.declared.style.color.Color.TheVariants as colors
-use Rattle.comfy_table.specs.Pieces.{padded, plain_piece, written_piece}
+use Rattle.comfy_table.specs.Pieces.{padded, piece}
 use Rattle.comfy_table.specs.Styling.{sequence, color_code, foreground_code, background_code, attribute_code, all_attributes, has_attribute, attribute_sequences, optional_sequence, style_begin, style_end, styled}
 use Rattle.comfy_table.specs.TableValue.{TableValue, should_style}
 
@@ -114,16 +116,19 @@ Shows-spaces (suc n) =
     Shows-append (0x20 ∷ []) (spaces n) (0x20 ∷ []) (spaces n) (Shows-byte 0x20 refl) (Shows-spaces n)
 
 -- a padded text shows what the text shows, padded
-Shows-padded : (cell : CellValue) (info : ColumnInfo) (line shown text : Text) → Shows shown text → Shows (padded cell info line shown) (padded cell info line text)
-Shows-padded cell info line shown text shows = grind (arith, Shows-append, Shows-spaces)
+Shows-padded : (cell : CellValue) (info : ColumnInfo) (columns : ℕ) (shown text : Text) → Shows shown text → Shows (padded cell info columns shown) (padded cell info columns text)
+Shows-padded cell info columns shown text shows = grind (arith, Shows-append, Shows-spaces)
 
--- the piece of a line that is written as a text which shows it shows the plain piece
-pub Shows-written_piece : (table : TableValue) (cell : CellValue) (info : ColumnInfo) (line text : Text) → Shows line text → Shows (plain_piece cell info line) (written_piece table cell info line text)
-Shows-written_piece table cell info line text shows = by_tests (should_style table) table.style_text_only
+-- the piece of a line that shows what is seen of it shows the plain piece
+pub Shows-piece : (table : TableValue) (cell : CellValue) (info : ColumnInfo) (line : CellLine) → Shows line.seen line.written → Shows (plain_piece cell info line.seen) (piece table cell info line)
+Shows-piece table cell info line shows = by_tests (should_style table) table.style_text_only
   where
+    columns : ℕ
+    columns = measure line.seen
+
     by_tests : (styles text_only : Bool)
-        → Shows (plain_piece cell info line) (if styles then (if text_only then padded cell info line (styled cell text) else styled cell (padded cell info line text)) else padded cell info line text)
-    by_tests true true = Shows-padded cell info line line (styled cell text) (Shows-styled cell line text shows)
+        → Shows (plain_piece cell info line.seen) (if styles then (if text_only then padded cell info columns (styled cell line.written) else styled cell (padded cell info columns line.written)) else padded cell info columns line.written)
+    by_tests true true = Shows-padded cell info columns line.seen (styled cell line.written) (Shows-styled cell line.seen line.written shows)
     by_tests true false =
-        Shows-styled cell (plain_piece cell info line) (padded cell info line text) (Shows-padded cell info line line text shows)
-    by_tests false text_only = Shows-padded cell info line line text shows
+        Shows-styled cell (plain_piece cell info line.seen) (padded cell info columns line.written) (Shows-padded cell info columns line.seen line.written shows)
+    by_tests false text_only = Shows-padded cell info columns line.seen line.written shows

@@ -1,8 +1,7 @@
 -- The sequences taken out of the styled lines, the unstyled lines are left.
-use Rattle.comfy_table.proofs.EveryLemmas.{every-weaker}
 use Rattle.std.proofs.lemmas.Bool.{cond_both}
-use Rattle.std.proofs.Common.{◌≡◌, ◌<◌, ℕ, zero, suc, Bool, true, false, ◌==◌, List, [], ◌∷◌, ◌++◌, Option, Some, None, length, map, unwrap_or, refl, sym, ap₂, subst, arith, slice_index_or}
-use Rattle.std.specs.List.{All, AllByRecursion, AllZip, flat_map, join_by, repeat, range_with_len, slice_get}
+use Rattle.std.proofs.Common.{◌≡◌, ◌<◌, ℕ, zero, suc, Bool, true, false, ◌==◌, List, [], ◌∷◌, ◌++◌, Option, Some, None, length, map, unwrap_or, refl, sym, ap, ap₂, ◌∙◌, subst, arith, slice_index_or}
+use Rattle.std.specs.List.{All, AllZip, flat_map, join_by, repeat, range_with_len, slice_get}
 use Rattle.std.specs.Prelude.{if◌then◌else◌, option_map, option_to_list}
 use Rattle.std.specs.Str.{IsUtf8}
 use Rattle.std.proofs.lemmas.Slice.Zip.{AllZip-long}
@@ -14,18 +13,19 @@ use Rattle.comfy_parts.specs.VisibleText.{visible_text}
 use Rattle.comfy_parts.specs.declared.style.table_style.ContentLineStyle.{ContentLineStyle}
 use Rattle.comfy_parts.specs.declared.style.table_style.LineStyle.{LineStyle}
 use Rattle.comfy_parts.specs.declared.style.table_style.TableStyle.{TableStyle}
-use Rattle.comfy_table.proofs.EscapeLemmas.{HasNoEscape-character, row_cell_lines-clear}
+use Rattle.comfy_table.proofs.EscapeLemmas.{HasNoEscape-character}
+use Rattle.comfy_table.proofs.CutLemmas.{pieces-unstyled, plain_piece, row-seen}
+use Rattle.comfy_table.proofs.JoinLemmas.{map-map}
 use Rattle.comfy_table.proofs.ListLemmas.{All-every, All-at, AllZip-map, AllZip-map_map, AllZip-append, AllZip-join_by, At-or-both, All-of_map}
 use Rattle.comfy_table.proofs.SeenLemmas.{cell_seen, get_seen, header_seen, join_by-map, row_seen, rows_seen, seen_whole, seen_rows-is}
-use Rattle.comfy_table.proofs.StyledLemmas.{Shows-spaces, Shows-written_piece}
-use Rattle.comfy_table.proofs.WrittenLemmas.{texts_seen, texts_show}
+use Rattle.comfy_table.proofs.StyledLemmas.{Shows-spaces, Shows-piece}
+use Rattle.comfy_table.proofs.WrittenLemmas.{lines_shown}
 use Rattle.comfy_table.specs.Drawing.{infos_of, whole_widths, drawn_row, drawn_header, drawn_rows, drawing_of_infos, drawing}
 use Rattle.comfy_table.specs.Frame.{character, between_borders, content_line, is_drawn, optional_frame_line, draws_left_border, draws_right_border, draws_vertical_lines, left_characters, right_characters, junction_characters}
 use Rattle.comfy_table.specs.Laws.{unstyled, HasNoEscape, IsFreeOfEscapes}
-use Rattle.comfy_table.specs.Lines.{cell_delimiter, cell_lines, cut_to_limit}
 use Rattle.comfy_parts.specs.VisibleLines.{CellLine}
-use Rattle.comfy_table.specs.Pieces.{cell_pieces, plain_piece, row_cell_texts, written_piece, blank_piece, pieces_of_optional, pieces_at, piece, row_cell_lines, row_line, row_height, visible_infos}
-use Rattle.comfy_table.specs.TableValue.{TableValue, header_and_rows, seen_cell, seen_rows, HasWholeTexts}
+use Rattle.comfy_table.specs.Pieces.{cell_pieces, blank_piece, pieces_of_optional, pieces_at, piece, row_cell_lines, row_line, row_height, visible_infos}
+use Rattle.comfy_table.specs.TableValue.{TableValue, header_and_rows, seen_rows, HasWholeTexts}
 
 -- ---- framed lines
 
@@ -127,34 +127,21 @@ record IsClearRow (row : RowValue) : Type 0 where
   clear : All (λ (cell : CellValue). All HasNoEscape cell.text_lines) row.cells
   whole : All (λ (cell : CellValue). All IsUtf8 cell.text_lines) row.cells
 
--- a list of lines shows what is seen of each
-seen_shown : (f : CellLine → Text) (g : Text → Text) (lines : List CellLine) → AllByRecursion (λ (line : CellLine). Shows (g line.seen) (f line)) lines → AllZip Shows (map g (map (λ (line : CellLine). line.seen) lines)) (map f lines)
-seen_shown f g [] each = tt
-seen_shown f g (line ∷ lines) each = (each.0, seen_shown f g lines each.1)
-
--- the pieces of a cell show the unstyled ones of the cell as it is seen, with custom styling or without
-cell_pieces_show : (table : TableValue) (row : RowValue) (info : ColumnInfo) (cell : CellValue) → HasNoEscape table.indicator → All IsUtf8 (seen_cell table cell).text_lines → All HasNoEscape (seen_cell table cell).text_lines
-    → AllZip Shows (map (plain_piece cell info) (row_cell_lines table row info cell)) (cell_pieces table row info cell)
-cell_pieces_show table row info cell mark = by_setting table.custom_styling
+-- the pieces of a cell show the unstyled ones of the cell as it is seen
+cell_pieces_show : (table : TableValue) (row : RowValue) (info : ColumnInfo) (cell : CellValue) → HasNoEscape table.indicator → All IsUtf8 (cell_seen table.custom_styling cell).text_lines → All HasNoEscape (cell_seen table.custom_styling cell).text_lines
+    → AllZip Shows (cell_pieces (unstyled table) row info (cell_seen table.custom_styling cell)) (cell_pieces table row info cell)
+cell_pieces_show table row info cell mark whole clear =
+    subst (λ (pieces : List Text). AllZip Shows pieces (cell_pieces table row info cell)) (sym same)
+    (AllZip-map Shows (λ (line : CellLine). plain_piece cell info line.seen) (piece table cell info) lines
+    (All-weaker (λ (line : CellLine). Shows line.seen line.written) (λ (line : CellLine). Shows (plain_piece cell info line.seen) (piece table cell info line)) (Shows-piece table cell info) lines
+    (lines_shown table row info cell mark whole clear)))
   where
-    d : ℕ
-    d = cell_delimiter table info.delimiter cell
+    lines : List CellLine
+    lines = row_cell_lines table row info cell
 
-    by_setting : (custom : Bool) → All IsUtf8 (cell_seen custom cell).text_lines → All HasNoEscape (cell_seen custom cell).text_lines
-        → AllZip Shows (map (plain_piece cell info) (cut_to_limit row.max_height info.content_width table.indicator (cell_lines info.content_width d (cell_seen custom cell))))
-        (if custom
-        then map (λ (line : CellLine). written_piece table cell info line.seen line.written) (row_cell_texts table row info cell)
-        else map (piece table cell info) (cut_to_limit row.max_height info.content_width table.indicator (cell_lines info.content_width d (cell_seen custom cell))))
-    by_setting true whole clear =
-        subst (λ (lines : List Text). AllZip Shows (map (plain_piece cell info) lines) (map (λ (line : CellLine). written_piece table cell info line.seen line.written) (row_cell_texts table row info cell))) (texts_seen table row info cell)
-        (seen_shown (λ (line : CellLine). written_piece table cell info line.seen line.written) (plain_piece cell info) (row_cell_texts table row info cell)
-        (every-weaker (λ (line : CellLine). Shows line.seen line.written) (λ (line : CellLine). Shows (plain_piece cell info line.seen) (written_piece table cell info line.seen line.written)) (row_cell_texts table row info cell)
-        (λ line shows. Shows-written_piece table cell info line.seen line.written shows) (texts_show table row info cell mark whole clear)))
-    by_setting false whole clear =
-        let lines : List Text = cut_to_limit row.max_height info.content_width table.indicator (cell_lines info.content_width d cell) in
-        AllZip-map Shows (plain_piece cell info) (piece table cell info) lines
-        (All-weaker HasNoEscape (λ line. Shows (plain_piece cell info line) (piece table cell info line)) (λ line free. Shows-written_piece table cell info line line (Shows-clear line free)) lines
-        (row_cell_lines-clear (unstyled table) row info cell mark whole clear))
+    same : cell_pieces (unstyled table) row info (cell_seen table.custom_styling cell) ≡ map (λ (line : CellLine). plain_piece cell info line.seen) lines
+    same =
+        pieces-unstyled table row info (cell_seen table.custom_styling cell) ∙ ap (map (plain_piece cell info)) (sym (row-seen table row info cell)) ∙ map-map (plain_piece cell info) (λ (line : CellLine). line.seen) lines
 
 -- so do the pieces in a column
 pieces_show : (table : TableValue) (row : RowValue) (p : ℕ × ColumnInfo) → HasNoEscape table.indicator → IsClearRow (row_seen table.custom_styling row)

@@ -1,133 +1,137 @@
--- The lines of a cell with the texts that are written for them: which are seen, which sequences are open, and what they show.
-use Rattle.comfy_parts.proofs.CallerLemmas.{IsClosedLine, Shows, Shows-clear, Shows-closed, lines_closed, lines_of_text-utf8, lines_resumed, lines_show, none_open, seen_lines, visible_text-is}
-use Rattle.comfy_table.proofs.EveryLemmas.{every-take, every-append}
-use Rattle.std.proofs.lemmas.Bool.{cond_both}
-use Rattle.std.proofs.Common.{◌≡◌, ℕ, zero, suc, ◌-◌, List, [], ◌∷◌, Option, Some, None, length, map, take, drop, nat_le, refl, sym, subst, slice_index_or, arith}
-use Rattle.std.specs.List.{All, AllByRecursion, flat_map}
+-- The lines of a cell in a row with what is written for them: which sequences are open, and what they show.
+use Rattle.std.proofs.Common.{◌≡◌, ℕ, zero, suc, ◌-◌, Bool, true, false, List, [], ◌∷◌, Option, Some, None, length, map, take, drop, nat_le, refl, sym, subst, arith}
+use Rattle.std.specs.List.{All, AllByRecursion, AllZip}
 use Rattle.std.specs.Prelude.{if◌then◌else◌}
 use Rattle.std.specs.Str.{IsUtf8}
-use Rattle.std.proofs.lemmas.List.{length-map, map-append, take-map, take-take, drop_all, drop_at, take-append-le, length-take}
-use Rattle.std.proofs.lemmas.List.Elements.{All-weaker, recursion_from_All}
-use Rattle.std.proofs.lemmas.Str.{IsUtf8-nil}
+use Rattle.std.proofs.lemmas.Bool.{cond_both}
+use Rattle.std.proofs.lemmas.Bool.Decides.{nat_tests}
+use Rattle.std.proofs.lemmas.List.{drop_all, drop_at, length-take, take-append-le, take-take}
+use Rattle.std.proofs.lemmas.List.Elements.{All-from_recursion, All-map, All-weaker, recursion_from_All}
+use Rattle.comfy_parts.proofs.CallerLemmas.{Shows, Shows-clear, Shows-closed, lines_closed, lines_of_text-utf8, lines_resumed, lines_show, none_open, visible_text-is}
 use Rattle.comfy_parts.specs.CellValue.{CellValue, RowValue, ColumnInfo}
 use Rattle.comfy_parts.specs.Laws.{IsResumedLine}
 use Rattle.comfy_parts.specs.Text.{Text}
-use Rattle.std.proofs.lemmas.Bool.Decides.{nat_tests}
-use Rattle.comfy_parts.specs.VisibleLines.{CellLine, line_texts}
-use Rattle.comfy_parts.specs.VisibleText.{closed, visible_text}
+use Rattle.comfy_parts.specs.VisibleLines.{CellLine, line_starts, line_texts}
+use Rattle.comfy_parts.specs.VisibleText.{closed, open_after, parts, visible_text}
 use Rattle.comfy_parts.specs.Wrapping.{lines_of_text}
-use Rattle.comfy_table.proofs.EscapeLemmas.{cut_line-clear, lines_of_text-clear}
-use Rattle.comfy_table.proofs.ListLemmas.{All-flat_map, At-or, All-of_map}
+use Rattle.comfy_table.proofs.CutLemmas.{All-cut, whole-seen}
+use Rattle.comfy_table.proofs.EscapeLemmas.{cut_text-clear, lines_of_text-clear}
+use Rattle.comfy_table.proofs.ListLemmas.{All-flat_map, All-of_map}
+use Rattle.comfy_table.proofs.SeenLemmas.{cell_seen}
 use Rattle.comfy_table.specs.Laws.{CutLinesAreClosed, HasNoEscape, LinesAreResumedInRow, NoneIsOpenAtTheEnd}
-use Rattle.comfy_table.specs.Lines.{cell_delimiter, cut_to_limit, cut_cell_line, cut_cell_lines_to_limit, cut_line, uncut_count}
-use Rattle.comfy_table.specs.Pieces.{row_cell_texts}
+use Rattle.comfy_table.specs.Lines.{as_seen, cell_delimiter, cell_lines, cut_line, cut_text, cut_to_limit, uncut_count, whole_lines}
+use Rattle.comfy_table.specs.Pieces.{row_cell_lines}
 use Rattle.comfy_table.specs.TableValue.{TableValue}
 
--- no line
-abbrev pub no_line : CellLine
-no_line = record { seen = []; written = [] }
-
--- what is seen of some lines
-abbrev pub seen_of : List CellLine → List Text
-seen_of lines = map (λ (line : CellLine). line.seen) lines
-
--- ---- lines of which some are cut
-
--- what is seen of the line at a place
-seen_at : (lines : List CellLine) (k : ℕ) → (slice_index_or lines k no_line).seen ≡ slice_index_or (seen_of lines) k []
-seen_at [] k = refl
-seen_at (line ∷ lines) zero = refl
-seen_at (line ∷ lines) (suc k) = seen_at lines k
-
--- lines are cut by what is seen of them
-seen_cut : (height : Option ℕ) (w : ℕ) (indicator : Text) (lines : List CellLine) → seen_of (cut_cell_lines_to_limit height w indicator lines) ≡ cut_to_limit height w indicator (seen_of lines)
-seen_cut None w indicator lines = refl
-seen_cut (Some h) w indicator lines = grind (arith, length-map, map-append, take-map, seen_at)
-
--- what holds of each line and of those that are cut
-pub each_cut : (P : CellLine → Type 0) (height : Option ℕ) (w : ℕ) (indicator : Text) (lines : List CellLine) → AllByRecursion P lines → ((k : ℕ) → P (cut_cell_line w indicator (slice_index_or lines k no_line)))
-    → AllByRecursion P (cut_cell_lines_to_limit height w indicator lines)
-each_cut P None w indicator lines each cut = each
-each_cut P (Some h) w indicator lines each cut =
-    cond_both (nat_le (length lines) h) lines _ (AllByRecursion P) (λ _. each)
-    (λ _. every-append P (take (h - 1) lines) (cut_cell_line w indicator (slice_index_or lines (h - 1) no_line) ∷ []) (every-take P (h - 1) lines each) (cut (h - 1), tt))
-
 -- those that aren't cut stand as they were
-pub uncut-are : (height : Option ℕ) (w : ℕ) (indicator : Text) (lines : List CellLine)
-    → take (uncut_count height lines) (cut_cell_lines_to_limit height w indicator lines) ≡ take (uncut_count height lines) lines
-uncut-are None w indicator lines = refl
-uncut-are (Some h) w indicator lines = grind (arith, nat_tests, take-append-le, take-take, length-take)
+uncut-are : (cut : CellLine → CellLine) (limit : Option ℕ) (lines : List CellLine) → take (uncut_count limit lines) (cut_to_limit cut limit lines) ≡ take (uncut_count limit lines) lines
+uncut-are cut None lines = refl
+uncut-are cut (Some h) lines = grind (arith, nat_tests, take-append-le, take-take, length-take)
 
 -- behind them there is at most the line that is cut
-cut-is : (h w : ℕ) (indicator : Text) (lines : List CellLine) → drop (uncut_count (Some h) lines) (cut_cell_lines_to_limit (Some h) w indicator lines)
-    ≡ (if nat_le (length lines) h then [] else cut_cell_line w indicator (slice_index_or lines (h - 1) no_line) ∷ [])
-cut-is h w indicator lines = grind (arith, nat_tests, drop_all, drop_at, length-take)
+cut-is : (cut : CellLine → CellLine) (h : ℕ) (lines : List CellLine) → drop (uncut_count (Some h) lines) (cut_to_limit cut (Some h) lines) ≡ (if nat_le (length lines) h then [] else map cut (take 1 (drop (h - 1) lines)))
+cut-is cut h lines = grind (arith, nat_tests, drop_all, drop_at, length-take)
 
--- ---- the lines of a cell in a row
+-- the first pairs of two lists
+AllZip-take : {A B : Type 0} (R : A → B → Type 0) (n : ℕ) (xs : List A) (ys : List B) → AllZip R xs ys → AllZip R (take n xs) (take n ys)
+AllZip-take R zero [] [] each = tt
+AllZip-take R zero [] (y ∷ ys) each = absurd each
+AllZip-take R zero (x ∷ xs) [] each = absurd each
+AllZip-take R zero (x ∷ xs) (y ∷ ys) each = tt
+AllZip-take R (suc n) [] [] each = tt
+AllZip-take R (suc n) [] (y ∷ ys) each = absurd each
+AllZip-take R (suc n) (x ∷ xs) [] each = absurd each
+AllZip-take R (suc n) (x ∷ xs) (y ∷ ys) each = (each.0, AllZip-take R n xs ys each.1)
 
--- no sequence is open at the end of one, cut or not
-pub none_is_open_at_the_end : (table : TableValue) (row : RowValue) (info : ColumnInfo) (cell : CellValue) → NoneIsOpenAtTheEnd table row info cell
-none_is_open_at_the_end table row info cell = grind (arith, each_cut, lines_closed, none_open, slice_index_or)
+-- a line that is written as it is seen, closed
+abbrev IsClosedLine : CellLine → Type 0
+IsClosedLine line = line.written ≡ closed line.seen
 
--- they are seen as the lines of the visible texts
-pub texts_seen : (table : TableValue) (row : RowValue) (info : ColumnInfo) (cell : CellValue)
-    → seen_of (row_cell_texts table row info cell) ≡ cut_to_limit row.max_height info.content_width table.indicator (flat_map (lines_of_text info.content_width (cell_delimiter table info.delimiter cell)) (map visible_text cell.text_lines))
-texts_seen table row info cell = grind (arith, seen_cut, seen_lines)
-
--- what is written shows what is seen, where that has no ESC
-pub texts_show : (table : TableValue) (row : RowValue) (info : ColumnInfo) (cell : CellValue) → HasNoEscape table.indicator → All IsUtf8 (map visible_text cell.text_lines) → All HasNoEscape (map visible_text cell.text_lines)
-    → AllByRecursion (λ (line : CellLine). Shows line.seen line.written) (row_cell_texts table row info cell)
-texts_show table row info cell mark utf8 clear =
-    let cleared : AllByRecursion (λ text. HasNoEscape (visible_text text)) cell.text_lines =
-    recursion_from_All (λ text. HasNoEscape (visible_text text)) cell.text_lines (All-of_map HasNoEscape visible_text cell.text_lines clear) in
-    each_cut (λ (line : CellLine). Shows line.seen line.written) row.max_height w table.indicator lines (lines_show w d cell.text_lines cleared) cut
+-- so is the line that is cut
+closed_behind : (w : ℕ) (indicator : Text) (limit : Option ℕ) (lines : List CellLine) → AllByRecursion IsClosedLine (drop (uncut_count limit lines) (cut_to_limit (cut_line true w indicator) limit lines))
+closed_behind w indicator None lines = subst (AllByRecursion IsClosedLine) (sym (drop_all (length lines) lines (omega arith))) tt
+closed_behind w indicator (Some h) lines =
+    subst (AllByRecursion IsClosedLine) (sym (cut-is (cut_line true w indicator) h lines))
+    (cond_both (nat_le (length lines) h) [] _ (AllByRecursion IsClosedLine) (λ _. tt) (λ _. each (take 1 (drop (h - 1) lines))))
   where
-    w : ℕ
-    w = info.content_width
+    each : (lines : List CellLine) → AllByRecursion IsClosedLine (map (cut_line true w indicator) lines)
+    each [] = tt
+    each (line ∷ lines) = (refl, each lines)
 
-    d : ℕ
-    d = cell_delimiter table info.delimiter cell
+module _ (table : TableValue) (row : RowValue) (info : ColumnInfo) (cell : CellValue) where
+  abbrev w : ℕ
+  w = info.content_width
 
-    lines : List CellLine
-    lines = line_texts w d cell.text_lines
+  abbrev d : ℕ
+  d = cell_delimiter table info.delimiter cell
 
-    whole_lines : All IsUtf8 (seen_of lines)
-    whole_lines =
-        subst (All IsUtf8) (sym (seen_lines w d cell.text_lines))
-        (All-flat_map IsUtf8 (lines_of_text w d) (map visible_text cell.text_lines) (All-weaker IsUtf8 (λ text. All IsUtf8 (lines_of_text w d text)) (lines_of_text-utf8 w d) (map visible_text cell.text_lines) utf8))
+  -- the lines of the cell in the row, with custom styling or without
+  abbrev lines_with : Bool → List CellLine
+  lines_with custom = cut_to_limit (cut_line custom w table.indicator) row.max_height (whole_lines custom w d cell)
 
-    clear_lines : All HasNoEscape (seen_of lines)
-    clear_lines =
-        subst (All HasNoEscape) (sym (seen_lines w d cell.text_lines))
-        (All-flat_map HasNoEscape (lines_of_text w d) (map visible_text cell.text_lines) (All-weaker HasNoEscape (λ text. All HasNoEscape (lines_of_text w d text)) (lines_of_text-clear w d) (map visible_text cell.text_lines) clear))
+  -- ---- with custom styling
 
-    cut : (k : ℕ) → Shows (cut_line w table.indicator (slice_index_or lines k no_line).seen) (closed (cut_line w table.indicator (slice_index_or lines k no_line).seen))
-    cut k =
-        let line : Text = (slice_index_or lines k no_line).seen in
-        let at : line ≡ slice_index_or (seen_of lines) k [] = seen_at lines k in
-        let whole : IsUtf8 line = subst IsUtf8 (sym at) (At-or IsUtf8 (seen_of lines) k [] whole_lines IsUtf8-nil) in
-        let free : HasNoEscape line = subst HasNoEscape (sym at) (At-or HasNoEscape (seen_of lines) k [] clear_lines refl) in
-        let cut_free : HasNoEscape (cut_line w table.indicator line) = cut_line-clear w table.indicator line mark whole free in
-        let same : visible_text (cut_line w table.indicator line) ≡ cut_line w table.indicator line = visible_text-is (cut_line w table.indicator line) (cut_line w table.indicator line) (Shows-clear (cut_line w table.indicator line) cut_free) in
-        subst (λ s. Shows s (closed (cut_line w table.indicator line))) same (Shows-closed (cut_line w table.indicator line) (subst HasNoEscape (sym same) cut_free))
+  -- no sequence is open at the end of a line, cut or not
+  pub none_is_open_at_the_end : table.custom_styling ≡ true → NoneIsOpenAtTheEnd table row info cell
+  none_is_open_at_the_end on =
+      let Ends : CellLine → Type 0 = λ line. open_after (parts line.written) ≡ [] in
+      subst (λ custom. All Ends (lines_with custom)) (sym on)
+      (All-cut Ends Ends (cut_line true w table.indicator) row.max_height (line_texts w d cell.text_lines) (All-from_recursion Ends (line_texts w d cell.text_lines) (lines_closed w d cell.text_lines)) (λ line own. own)
+      (λ h limited below line own. none_open (cut_text w table.indicator line.seen)))
 
--- before each visible byte of a line that isn't cut the sequences are open that are active there
-pub lines_are_resumed : (table : TableValue) (row : RowValue) (info : ColumnInfo) (cell : CellValue) → LinesAreResumedInRow table row info cell
-lines_are_resumed table row info cell =
-    let d = cell_delimiter table info.delimiter cell in
-    let lines = line_texts info.content_width d cell.text_lines in
-    subst (AllByRecursion (IsResumedLine cell.text_lines)) (sym (uncut-are row.max_height info.content_width table.indicator lines))
-    (every-take (IsResumedLine cell.text_lines) (uncut_count row.max_height lines) lines (lines_resumed info.content_width d cell.text_lines))
+  -- before each visible byte of a line that isn't cut the sequences are open that are active there
+  pub lines_are_resumed : table.custom_styling ≡ true → LinesAreResumedInRow table row info cell
+  lines_are_resumed on =
+      let n : ℕ = uncut_count row.max_height (line_texts w d cell.text_lines) in
+      subst (λ custom. AllZip IsResumedLine (take (uncut_count row.max_height (whole_lines custom w d cell)) (line_starts w d cell.text_lines)) (take (uncut_count row.max_height (whole_lines custom w d cell)) (lines_with custom))) (sym on)
+      (subst (AllZip IsResumedLine (take n (line_starts w d cell.text_lines))) (sym (uncut-are (cut_line true w table.indicator) row.max_height (line_texts w d cell.text_lines)))
+      (AllZip-take IsResumedLine n (line_starts w d cell.text_lines) (line_texts w d cell.text_lines) (lines_resumed w d cell.text_lines)))
 
--- a line that is cut is written as it is seen, closed
-closed_behind : (height : Option ℕ) (w : ℕ) (indicator : Text) (lines : List CellLine)
-    → AllByRecursion IsClosedLine (drop (uncut_count height lines) (cut_cell_lines_to_limit height w indicator lines))
-closed_behind None w indicator lines = subst (AllByRecursion IsClosedLine) (sym (drop_all (length lines) lines (omega arith))) tt
-closed_behind (Some h) w indicator lines =
-    subst (AllByRecursion IsClosedLine) (sym (cut-is h w indicator lines))
-    (cond_both (nat_le (length lines) h) [] _ (AllByRecursion IsClosedLine) (λ _. tt) (λ _. (refl, tt)))
+  -- a line that is cut is written as it is seen, closed
+  pub cut_lines_are_closed : table.custom_styling ≡ true → CutLinesAreClosed table row info cell
+  cut_lines_are_closed on =
+      subst (λ custom. All IsClosedLine (drop (uncut_count row.max_height (whole_lines custom w d cell)) (lines_with custom))) (sym on)
+      (All-from_recursion IsClosedLine (drop (uncut_count row.max_height (line_texts w d cell.text_lines)) (lines_with true)) (closed_behind w table.indicator row.max_height (line_texts w d cell.text_lines)))
 
--- so are those of a cell in a row
-pub cut_lines_are_closed : (table : TableValue) (row : RowValue) (info : ColumnInfo) (cell : CellValue) → CutLinesAreClosed table row info cell
-cut_lines_are_closed table row info cell =
-    closed_behind row.max_height info.content_width table.indicator (line_texts info.content_width (cell_delimiter table info.delimiter cell) cell.text_lines)
+  -- ---- what is written shows what is seen, where that has no ESC
+
+  -- what is written for a line shows what is seen of it
+  abbrev IsShown : CellLine → Type 0
+  IsShown line = Shows line.seen line.written
+
+  -- what is seen of a line has a property that the lines of each text have
+  seen_each : (P : Text → Type 0) (custom : Bool) → ((text : Text) → P text → All P (lines_of_text w d text)) → All P (cell_seen custom cell).text_lines → All P (cell_lines w d (cell_seen custom cell))
+  seen_each P custom gives each =
+      All-flat_map P (lines_of_text w d) (cell_seen custom cell).text_lines (All-weaker P (λ text. All P (lines_of_text w d text)) gives (cell_seen custom cell).text_lines each)
+
+  of_whole : (P : Text → Type 0) (custom : Bool) → All P (cell_lines w d (cell_seen custom cell)) → All (λ (line : CellLine). P line.seen) (whole_lines custom w d cell)
+  of_whole P custom each =
+      All-of_map P (λ (line : CellLine). line.seen) (whole_lines custom w d cell) (subst (All P) (sym (whole-seen custom w d cell)) each)
+
+  -- so it is for lines that aren't cut
+  whole_shown : (custom : Bool) → All HasNoEscape (cell_seen custom cell).text_lines → All IsShown (whole_lines custom w d cell)
+  whole_shown true clear =
+      All-from_recursion IsShown (line_texts w d cell.text_lines) (lines_show w d cell.text_lines
+      (recursion_from_All (λ text. HasNoEscape (visible_text text)) cell.text_lines (All-of_map HasNoEscape visible_text cell.text_lines clear)))
+  whole_shown false clear =
+      All-map IsShown as_seen (cell_lines w d cell) (All-weaker HasNoEscape (λ line. Shows line line) Shows-clear (cell_lines w d cell) (seen_each HasNoEscape false (lines_of_text-clear w d) clear))
+
+  -- and for one that is cut
+  cut_shown : (custom : Bool) (line : CellLine) → HasNoEscape (cut_text w table.indicator line.seen) → IsShown (cut_line custom w table.indicator line)
+  cut_shown true line clear =
+      let text : Text = cut_text w table.indicator line.seen in
+      let same : visible_text text ≡ text = visible_text-is text text (Shows-clear text clear) in
+      subst (λ s. Shows s (closed text)) same (Shows-closed text (subst HasNoEscape (sym same) clear))
+  cut_shown false line clear = Shows-clear (cut_text w table.indicator line.seen) clear
+
+  -- so it is for all lines
+  lines_with_shown : (custom : Bool) → HasNoEscape table.indicator → All IsUtf8 (cell_seen custom cell).text_lines → All HasNoEscape (cell_seen custom cell).text_lines → All IsShown (lines_with custom)
+  lines_with_shown custom mark utf8 clear =
+      All-cut (λ line. IsShown line × (IsUtf8 line.seen × HasNoEscape line.seen)) IsShown (cut_line custom w table.indicator) row.max_height (whole_lines custom w d cell)
+      (λ k default below. (whole_shown custom clear k default below,
+      (of_whole IsUtf8 custom (seen_each IsUtf8 custom (lines_of_text-utf8 w d) utf8) k default below, of_whole HasNoEscape custom (seen_each HasNoEscape custom (lines_of_text-clear w d) clear) k default below)))
+      (λ line own. own.0)
+      (λ h limited below line own. cut_shown custom line (cut_text-clear w table.indicator line.seen mark own.1.0 own.1.1))
+
+  pub lines_shown : HasNoEscape table.indicator → All IsUtf8 (cell_seen table.custom_styling cell).text_lines → All HasNoEscape (cell_seen table.custom_styling cell).text_lines → All IsShown (row_cell_lines table row info cell)
+  lines_shown = lines_with_shown table.custom_styling

@@ -1,19 +1,19 @@
 -- What drawings and widths promise beyond their definitions. Each is a statement at given values.
 use Rattle.std.specs.Prelude.{◌≡◌, ℕ, ◌+◌, ◌-◌, ◌<◌, ◌≤◌, Bool, true, false, List, [], ◌∷◌, ◌++◌, Option, Some, None, take, drop, length, max, sum, sum_by, All, chars, slice_get, unwrap_or, ◌==◌}
 use Rattle.std.specs.Int.{is_in_range}
-use Rattle.std.specs.List.{AllByRecursion, list_any}
+use Rattle.std.specs.List.{AllZip, list_any}
 use Rattle.comfy_parts.specs.CellValue.{CellValue, RowValue, ColumnValue, ColumnInfo, column_padding}
 use Rattle.comfy_parts.specs.Text.{Text, is_printable_ascii, AddsOneColumnEach}
 use Rattle.comfy_parts.specs.Laws.{IsResumedLine}
-use Rattle.comfy_parts.specs.VisibleLines.{CellLine, line_texts}
+use Rattle.comfy_parts.specs.VisibleLines.{CellLine, line_starts}
 use Rattle.comfy_parts.specs.VisibleText.{closed, parts, open_after}
 use Rattle.comfy_parts.specs.declared.style.table.ContentArrangement.TheVariants.{Dynamic, DynamicFullWidth}
 use Rattle.comfy_table.specs.Arrangement.{IsArranged}
 use Rattle.comfy_table.specs.Drawing.{infos_of, whole_widths}
 use Rattle.comfy_table.specs.Dynamic.{Steps, IsDynamic, fixed_shares, places_of, total}
 use Rattle.comfy_table.specs.Frame.{border_count, left_characters, right_characters, junction_characters}
-use Rattle.comfy_table.specs.Lines.{cell_lines, cell_delimiter, fitting_indicator, uncut_count}
-use Rattle.comfy_table.specs.Pieces.{visible_infos, row_cell_texts}
+use Rattle.comfy_table.specs.Lines.{cell_lines, cell_delimiter, fitting_indicator, uncut_count, whole_lines}
+use Rattle.comfy_table.specs.Pieces.{visible_infos, row_cell_lines}
 use Rattle.comfy_table.specs.TableValue.{TableValue, table_width, visible_columns, column_cells, seen_table, seen_rows}
 use Rattle.comfy_table.specs.Widths.{ColumnNeeds, visible_count}
 
@@ -103,16 +103,20 @@ pub record IsFreeOfEscapes (table : TableValue) : Type 0 where
 -- with custom styling, no sequence stands open at the end of a line's text before the cell's own styling, cut lines too
 abbrev pub NoneIsOpenAtTheEnd : TableValue → RowValue → ColumnInfo → CellValue → Type 0
 NoneIsOpenAtTheEnd table row info cell =
-    AllByRecursion (λ (line : CellLine). open_after (parts line.written) ≡ []) (row_cell_texts table row info cell)
+    All (λ (line : CellLine). open_after (parts line.written) ≡ []) (row_cell_lines table row info cell)
+
+-- how many lines of a cell in a row stand as they are
+abbrev pub uncut_in_row : TableValue → RowValue → ColumnInfo → CellValue → ℕ
+uncut_in_row table row info cell =
+    uncut_count row.max_height (whole_lines table.custom_styling info.content_width (cell_delimiter table info.delimiter cell) cell)
 
 -- with custom styling, before each visible byte of a line that isn't cut the sequences are open that are active there in the cell
 abbrev pub LinesAreResumedInRow : TableValue → RowValue → ColumnInfo → CellValue → Type 0
 LinesAreResumedInRow table row info cell =
-    AllByRecursion (IsResumedLine cell.text_lines)
-    (take (uncut_count row.max_height (line_texts info.content_width (cell_delimiter table info.delimiter cell) cell.text_lines)) (row_cell_texts table row info cell))
+    AllZip IsResumedLine (take (uncut_in_row table row info cell) (line_starts info.content_width (cell_delimiter table info.delimiter cell) cell.text_lines))
+    (take (uncut_in_row table row info cell) (row_cell_lines table row info cell))
 
 -- with custom styling, a line that is cut is written as it is seen, closed
 abbrev pub CutLinesAreClosed : TableValue → RowValue → ColumnInfo → CellValue → Type 0
 CutLinesAreClosed table row info cell =
-    AllByRecursion (λ (line : CellLine). line.written ≡ closed line.seen)
-    (drop (uncut_count row.max_height (line_texts info.content_width (cell_delimiter table info.delimiter cell) cell.text_lines)) (row_cell_texts table row info cell))
+    All (λ (line : CellLine). line.written ≡ closed line.seen) (drop (uncut_in_row table row info cell) (row_cell_lines table row info cell))

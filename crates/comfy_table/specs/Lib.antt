@@ -1,6 +1,5 @@
 pub mod AllWidths
 pub mod Arrangement
-pub mod BorrowedLines
 pub mod Contents
 pub mod Deciding
 pub mod DisabledWidths

@@ -5,10 +5,10 @@ use Rattle.comfy_parts.specs.CellValue.{CellValue, RowValue, ColumnInfo, info_wi
 use Rattle.comfy_parts.specs.Text.{Text, measure, spaces, greatest}
 use Rattle.comfy_parts.specs.declared.style.cell.CellAlignment.{CellAlignment}
 use Rattle.comfy_parts.specs.declared.style.cell.CellAlignment.TheVariants.{Left, Right, Center}
-use Rattle.comfy_parts.specs.VisibleLines.{CellLine, line_texts}
-use Rattle.comfy_table.specs.Lines.{cell_lines, cell_delimiter, cut_to_limit, cut_cell_lines_to_limit}
+use Rattle.comfy_parts.specs.VisibleLines.{CellLine}
+use Rattle.comfy_table.specs.Lines.{cell_delimiter, cut_line, cut_to_limit, whole_lines}
 use Rattle.comfy_table.specs.Styling.{styled}
-use Rattle.comfy_table.specs.TableValue.{TableValue, should_style, header_and_rows, seen_cell}
+use Rattle.comfy_table.specs.TableValue.{TableValue, should_style, header_and_rows}
 
 -- the alignment of a cell: its own, else its column's, else left
 abbrev pub cell_alignment : CellValue → ColumnInfo → CellAlignment
@@ -20,56 +20,44 @@ free_before Left r = 0
 free_before Right r = r
 free_before Center r = (r + 1) / 2
 
--- the terminal columns that a line leaves free in its column, none where it is wider
-abbrev pub free_places : ColumnInfo → Text → ℕ
-free_places info line = info.content_width - measure line
+-- the terminal columns that a line of so many columns leaves free, none where it is wider
+abbrev pub free_places : ColumnInfo → ℕ → ℕ
+free_places info columns = info.content_width - columns
 
--- the spaces on the two sides of a line, without the paddings
-abbrev pub spaces_before : CellValue → ColumnInfo → Text → Text
-spaces_before cell info line = spaces (free_before (cell_alignment cell info) (free_places info line))
+-- the spaces on the two sides of such a line, without the paddings
+abbrev pub spaces_before : CellValue → ColumnInfo → ℕ → Text
+spaces_before cell info columns = spaces (free_before (cell_alignment cell info) (free_places info columns))
 
 -- the other free terminal columns
-abbrev pub spaces_after : CellValue → ColumnInfo → Text → Text
-spaces_after cell info line = spaces (free_places info line - free_before (cell_alignment cell info) (free_places info line))
+abbrev pub spaces_after : CellValue → ColumnInfo → ℕ → Text
+spaces_after cell info columns = spaces (free_places info columns - free_before (cell_alignment cell info) (free_places info columns))
 
 -- left padding, the spaces before, the text written for the line, the spaces after, right padding
-abbrev pub padded : CellValue → ColumnInfo → Text → Text → Text
-padded cell info line text =
-    spaces info.padding.0 ++ (spaces_before cell info line ++ (text ++ (spaces_after cell info line ++ spaces info.padding.1)))
+abbrev pub padded : CellValue → ColumnInfo → ℕ → Text → Text
+padded cell info columns text =
+    spaces info.padding.0 ++ (spaces_before cell info columns ++ (text ++ (spaces_after cell info columns ++ spaces info.padding.1)))
 
--- the piece of a line without styling
-abbrev pub plain_piece : CellValue → ColumnInfo → Text → Text
-plain_piece cell info line = padded cell info line line
+-- the piece of a line of so many terminal columns that is written as a text: where styles are written, they stand round the whole piece, or round the text alone
+abbrev pub text_piece : TableValue → CellValue → ColumnInfo → ℕ → Text → Text
+text_piece table cell info columns text =
+    if should_style table then (if table.style_text_only then padded cell info columns (styled cell text) else styled cell (padded cell info columns text)) else padded cell info columns text
 
--- the piece of a line that is written as a text: where styles are written, they stand round the whole piece, or round the text alone
-abbrev pub written_piece : TableValue → CellValue → ColumnInfo → Text → Text → Text
-written_piece table cell info line text =
-    if should_style table then (if table.style_text_only then padded cell info line (styled cell text) else styled cell (padded cell info line text)) else padded cell info line text
-
--- the piece of a line that is written as it is
-abbrev pub piece : TableValue → CellValue → ColumnInfo → Text → Text
-piece table cell info line = written_piece table cell info line line
+-- the piece of a line: what is seen of it is measured
+abbrev pub piece : TableValue → CellValue → ColumnInfo → CellLine → Text
+piece table cell info line = text_piece table cell info (measure line.seen) line.written
 
 -- what stands where a column has no line
 abbrev pub blank_piece : ColumnInfo → Text
 blank_piece info = spaces (info_width info)
 
--- the lines of a cell in a row as they are seen: wrapped at the column's width and cut at the row's height
-abbrev pub row_cell_lines : TableValue → RowValue → ColumnInfo → CellValue → List Text
+-- the lines of a cell in a row: wrapped at the column's width and cut at the row's height
+abbrev pub row_cell_lines : TableValue → RowValue → ColumnInfo → CellValue → List CellLine
 row_cell_lines table row info cell =
-    cut_to_limit row.max_height info.content_width table.indicator (cell_lines info.content_width (cell_delimiter table info.delimiter cell) (seen_cell table cell))
-
--- with custom styling, the same lines, each with the text that is written for it
-abbrev pub row_cell_texts : TableValue → RowValue → ColumnInfo → CellValue → List CellLine
-row_cell_texts table row info cell =
-    cut_cell_lines_to_limit row.max_height info.content_width table.indicator (line_texts info.content_width (cell_delimiter table info.delimiter cell) cell.text_lines)
+    cut_to_limit (cut_line table.custom_styling info.content_width table.indicator) row.max_height (whole_lines table.custom_styling info.content_width (cell_delimiter table info.delimiter cell) cell)
 
 -- the pieces of a cell in one column of a row, from the top
 abbrev pub cell_pieces : TableValue → RowValue → ColumnInfo → CellValue → List Text
-cell_pieces table row info cell =
-    if table.custom_styling
-    then map (λ (line : CellLine). written_piece table cell info line.seen line.written) (row_cell_texts table row info cell)
-    else map (piece table cell info) (row_cell_lines table row info cell)
+cell_pieces table row info cell = map (piece table cell info) (row_cell_lines table row info cell)
 
 -- the pieces of the cell in one column of a row, from the top; a missing cell is one blank_piece
 abbrev pub pieces_of_optional : TableValue → RowValue → ColumnInfo → Option CellValue → List Text

@@ -3,6 +3,7 @@ use Rattle.std.specs.Prelude.{◌≡◌, ◌⊎◌, ℕ, ◌≤◌, ◌<◌, tru
 use Rattle.comfy_parts.specs.CellValue.{CellValue, RowValue, ColumnInfo, ColumnValue}
 use Rattle.comfy_parts.specs.Columns.{AddsUp, IsApart, IsOneColumnStyle, TextFits}
 use Rattle.comfy_parts.specs.Text.{measure}
+use Rattle.comfy_parts.specs.VisibleLines.{CellLine}
 use Rattle.comfy_table.specs.Arrangement.{width_kept}
 use Rattle.comfy_table.specs.Drawing.{infos_of}
 use Rattle.comfy_table.specs.Frame.{draws_vertical_lines}
@@ -25,7 +26,7 @@ EachCell P table widths =
 
 -- no line of the cell is wider than its column
 abbrev pub LinesFit : TableValue → RowValue → ColumnInfo → CellValue → Type 0
-LinesFit table row info cell = All (λ line. measure line ≤ info.content_width) (row_cell_lines (unstyled table) row info cell)
+LinesFit table row info cell = All (λ (line : CellLine). measure line.seen ≤ info.content_width) (row_cell_lines (unstyled table) row info cell)
 
 -- the text lines of the cell fit its column; where the row cuts the cell, its characters add up, and no text joins the indicator
 pub record TextsFit (table : TableValue) (row : RowValue) (info : ColumnInfo) (cell : CellValue) : Type 0 where

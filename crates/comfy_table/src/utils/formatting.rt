@@ -8,7 +8,6 @@ mod drawn_cell;
 mod output;
 mod piece;
 mod styling;
-mod written_line;
 
 pub(crate) use drawing::draw;
 pub(crate) use output::{Output, OutputForm};

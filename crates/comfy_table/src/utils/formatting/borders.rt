@@ -40,13 +40,13 @@ pub(crate) fn push_content_line(
     cells: &[DrawnCell],
     line: usize,
 ) -> Result<()>
-    ensures { OnOk result (string_bytes text.new ≡ string_bytes text.old ++ content_line table.now.style style.now (map (piece_at table.now line) cells.now)) }
+    ensures { OnOk result (string_bytes text.new ≡ string_bytes text.old ++ content_line table.now.style style.now (map (piece_at line) cells.now)) }
 {
     let vertical = table.style.draws_vertical_lines();
     push_border(text, table.style.draws_left_border(), style.left)?;
     for (position, cell) in cells.iter().enumerate() {
         push_border(text, needs_junction(vertical, position), style.junction)?;
-        cell.push_piece_at(text, table, line)?;
+        cell.push_piece_at(text, line)?;
     }
     push_border(text, table.style.draws_right_border(), style.right)
 }

@@ -30,7 +30,7 @@ pub fn format_row(
     let cells = drawn.as_slice();
     let mut lines = Vec::new(alloc);
     for line in 0..greatest_height(cells) {
-        lines.push(row_line(alloc, cells, table, line)?)?;
+        lines.push(row_line(alloc, cells, line)?)?;
     }
     Ok(lines)
 }
@@ -73,13 +73,13 @@ pub fn delimiter(cell: &Cell, info: &ColumnDisplayInfo, table: &Table) -> char
 }
 
 // One line of a row.
-fn row_line(alloc: Global, cells: &[DrawnCell], table: &Table, line: usize) -> Result<Vec<String>>
-    ensures { IfOk result (λ pieces. map string_bytes pieces.items ≡ map (piece_at table.now line) cells.now) }
+fn row_line(alloc: Global, cells: &[DrawnCell], line: usize) -> Result<Vec<String>>
+    ensures { IfOk result (λ pieces. map string_bytes pieces.items ≡ map (piece_at line) cells.now) }
 {
     let mut pieces = Vec::new(alloc);
     for cell in cells {
         let mut piece = String::with_capacity(alloc, cell.width())?;
-        cell.push_piece_at(&mut piece, table, line)?;
+        cell.push_piece_at(&mut piece, line)?;
         pieces.push(piece)?;
     }
     Ok(pieces)

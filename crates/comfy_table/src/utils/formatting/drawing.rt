@@ -145,7 +145,7 @@ impl<'a> Writer<'a> {
         cells: &[DrawnCell<'a>],
         line: usize,
     ) -> Result<()>
-        ensures { OnOk result (self.new ≡ with_written (content_line self.old.table.style style.now (map (piece_at self.old.table line) cells.now) ∷ []) self.old) }
+        ensures { OnOk result (self.new ≡ with_written (content_line self.old.table.style style.now (map (piece_at line) cells.now) ∷ []) self.old) }
     {
         self.line.clear();
         push_content_line(&mut self.line, self.table, style, cells, line)?;

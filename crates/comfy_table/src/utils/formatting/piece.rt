@@ -2,34 +2,34 @@
 
 ghost use Rattle.std.specs.Prelude.{◌≡◌, ◌+◌, ◌-◌, ◌≤◌, ◌++◌, OnOk, string_bytes};
 ghost use Rattle.comfy_parts.specs.Text.{spaces};
-ghost use Rattle.comfy_table.specs.Pieces.{cell_alignment, free_before, written_piece};
+ghost use Rattle.comfy_table.specs.Pieces.{cell_alignment, free_before, text_piece};
 
 use crate::table::Table;
 use crate::utils::formatting::styling::{push_style_begin, push_style_end};
-use crate::utils::formatting::written_line::WrittenLine;
 use comfy_parts::content_split::ColumnDisplayInfo;
 use comfy_parts::style::CellAlignment;
 use comfy_parts::{Cell, Result};
 
-/// Appends a line of a cell as it stands in its column. Where styles are written, they stand round the whole piece, or
-/// round the line alone.
+/// Appends a line of a cell as it stands in its column: the text that is written for it, aligned by the columns of what is
+/// seen. Where styles are written, they stand round the whole piece, or round the text alone.
 pub fn push_piece(
     text: &mut String,
     table: &Table,
     cell: &Cell,
     info: &ColumnDisplayInfo,
-    line: &WrittenLine,
+    columns: usize,
+    line: &str,
 ) -> Result<()>
-    ensures { OnOk result (string_bytes text.new ≡ string_bytes text.old ++ written_piece table.now cell.now info.now line.now.seen line.now.written) }
+    ensures { OnOk result (string_bytes text.new ≡ string_bytes text.old ++ text_piece table.now cell.now info.now columns line.now) }
 {
-    let (left, right) = spaces_beside(cell, info, line.width(text)?);
+    let (left, right) = spaces_beside(cell, info, columns);
     if !table.should_style() {
         return push_padded(text, left, line, right);
     }
     if table.style_text_only {
         push_spaces(text, left)?;
         push_style_begin(text, cell)?;
-        line.push_to(text)?;
+        text.push_str(line)?;
         push_style_end(text, cell)?;
         return push_spaces(text, right);
     }
@@ -50,11 +50,11 @@ fn spaces_beside(cell: &Cell, info: &ColumnDisplayInfo, width: usize) -> (usize,
 }
 
 // Appends a line between spaces.
-fn push_padded(text: &mut String, left: usize, line: &WrittenLine, right: usize) -> Result<()>
-    ensures { OnOk result (string_bytes text.new ≡ string_bytes text.old ++ (spaces left ++ (line.now.written ++ spaces right))) }
+fn push_padded(text: &mut String, left: usize, line: &str, right: usize) -> Result<()>
+    ensures { OnOk result (string_bytes text.new ≡ string_bytes text.old ++ (spaces left ++ (line.now ++ spaces right))) }
 {
     push_spaces(text, left)?;
-    line.push_to(text)?;
+    text.push_str(line)?;
     push_spaces(text, right)
 }
 

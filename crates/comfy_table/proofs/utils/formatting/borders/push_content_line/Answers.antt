@@ -12,7 +12,7 @@ pub loop-position-preserved : goal.loop-position-preserved
 loop-position-preserved c =
     let vertical = c.draws_vertical_lines-vertical.result in
     let junction = character c.args.style.now.junction in
-    let drawn = piece_at c.args.table.now c.args.line in
+    let drawn = piece_at c.args.line in
     let cell = c.index-cells-position.result in
     let bordered : string_bytes c.push_border-in-loop-position.new.text ≡ string_bytes c.loop-position.text ++ (if vertical && nat_lt 0 c.loop-position.position then junction else []) =
     c.in_ok-push_border-2.ensures ∙ ap (λ (b : Bool). string_bytes c.loop-position.text ++ (if b then junction else [])) c.needs_junction.ensures in

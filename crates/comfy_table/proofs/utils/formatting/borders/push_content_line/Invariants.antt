@@ -7,4 +7,4 @@ use Rattle.comfy_table.proofs.utils.formatting.borders.push_content_line.Given a
 
 abbrev pub invariant-loop-position : goal.invariant-loop-position
 invariant-loop-position l =
-    string_bytes l.text ≡ string_bytes l.initial.text ++ join_by (piece_at l.table l.line) (if l.vertical then character l.style.junction else []) (take l.position l.cells)
+    string_bytes l.text ≡ string_bytes l.initial.text ++ join_by (piece_at l.line) (if l.vertical then character l.style.junction else []) (take l.position l.cells)

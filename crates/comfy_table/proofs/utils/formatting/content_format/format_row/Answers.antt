@@ -7,7 +7,7 @@ use Rattle.comfy_table.proofs.utils.formatting.content_format.format_row.Goals a
 
 pub loop-line-preserved : goal.loop-line-preserved
 loop-line-preserved c =
-    let line : ℕ → List Text = λ k. map (piece_at c.args.table.now k) c.as_slice-cells.result.now in
+    let line : ℕ → List Text = λ k. map (piece_at k) c.as_slice-cells.result.now in
     let at : 0 + c.loop-line.line ≡ c.loop-line.line = omega arith in
     ap (map (λ pieces. map string_bytes pieces.items)) c.in_ok-push.ensures.items
     ∙ map-append (λ pieces. map string_bytes pieces.items) c.loop-line.lines.items (c.in_ok-row_line.field-0 ∷ [])

@@ -5,4 +5,4 @@ use Rattle.comfy_table.proofs.utils.formatting.content_format.format_row.Given a
 
 abbrev pub invariant-loop-line : goal.invariant-loop-line
 invariant-loop-line l =
-    map (λ pieces. map string_bytes pieces.items) l.lines.items ≡ map (λ k. map (piece_at l.table k) l.cells) (range_with_len 0 l.line)
+    map (λ pieces. map string_bytes pieces.items) l.lines.items ≡ map (λ k. map (piece_at k) l.cells) (range_with_len 0 l.line)

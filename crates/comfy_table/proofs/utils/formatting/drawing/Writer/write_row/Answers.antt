@@ -14,11 +14,11 @@ pub loop-line-preserved : goal.loop-line-preserved
 loop-line-preserved c =
     let start = c.args.self.now in
     let cells = c.as_slice-cells.result.now in
-    let line : ℕ → Text = λ k. content_line start.table.style c.args.style.now (map (piece_at start.table k) cells) in
+    let line : ℕ → Text = λ k. content_line start.table.style c.args.style.now (map (piece_at k) cells) in
     let done = map line (range_with_len 0 c.loop-line.line) in
     let at : 0 + c.loop-line.line ≡ c.loop-line.line = omega arith in
     c.in_ok-write_content_line.ensures
-    ∙ ap (λ (w : WriterValue). with_written (content_line w.table.style c.args.style.now (map (piece_at w.table c.loop-line.line) cells) ∷ []) w) c.loop-line.invariant
+    ∙ ap (λ (w : WriterValue). with_written (content_line w.table.style c.args.style.now (map (piece_at c.loop-line.line) cells) ∷ []) w) c.loop-line.invariant
     ∙ written-append done (line c.loop-line.line ∷ []) start
     ∙ ap (λ (ls : List Text). with_written ls start) (sym (map-range_with_len_more line 0 c.loop-line.line c.loop-line.line at))
 
@@ -28,10 +28,10 @@ returns c =
     let cells = c.as_slice-cells.result.now in
     let framed = content_line start.table.style c.args.style.now in
     let all : c.loop-line.line ≡ greatest_height cells = let e : c.loop-line.line ≡ c.greatest_height-line-end.result = omega arith in e ∙ c.greatest_height-line-end.ensures in
-    let drawn = subst (λ (w : WriterValue). map (λ k. map (piece_at w.table k) c.in_ok-drawn.drawn.items) (range_with_len 0 (greatest_height c.in_ok-drawn.drawn.items)) ≡ row_lines w.table w.infos c.args.row.now) c.self.view_is c.in_ok-drawn.ensures.lines in
+    let drawn = subst (λ (w : WriterValue). map (λ k. map (piece_at k) c.in_ok-drawn.drawn.items) (range_with_len 0 (greatest_height c.in_ok-drawn.drawn.items)) ≡ row_lines w.table w.infos c.args.row.now) c.self.view_is c.in_ok-drawn.ensures.lines in
     c.loop-line.invariant
     ∙ ap (λ (ls : List Text). with_written ls start)
-    (ap (λ n. map (λ k. framed (map (piece_at start.table k) cells)) (range_with_len 0 n)) all
-    ∙ sym (map-map framed (λ k. map (piece_at start.table k) cells) (range_with_len 0 (greatest_height cells)))
-    ∙ ap (λ (ds : List DrawnCell). map framed (map (λ k. map (piece_at start.table k) ds) (range_with_len 0 (greatest_height ds)))) c.as_slice-cells.ensures.value
+    (ap (λ n. map (λ k. framed (map (piece_at k) cells)) (range_with_len 0 n)) all
+    ∙ sym (map-map framed (λ k. map (piece_at k) cells) (range_with_len 0 (greatest_height cells)))
+    ∙ ap (λ (ds : List DrawnCell). map framed (map (λ k. map (piece_at k) ds) (range_with_len 0 (greatest_height ds)))) c.as_slice-cells.ensures.value
     ∙ ap (map framed) drawn)

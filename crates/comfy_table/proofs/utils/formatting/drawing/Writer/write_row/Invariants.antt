@@ -7,4 +7,4 @@ use Rattle.comfy_table.proofs.utils.formatting.drawing.Writer.write_row.Given as
 
 abbrev pub invariant-loop-line : goal.invariant-loop-line
 invariant-loop-line l =
-    l.self ≡ with_written (map (λ k. content_line l.initial.self.table.style l.style (map (piece_at l.initial.self.table k) l.cells)) (range_with_len 0 l.line)) l.initial.self
+    l.self ≡ with_written (map (λ k. content_line l.initial.self.table.style l.style (map (piece_at k) l.cells)) (range_with_len 0 l.line)) l.initial.self

@@ -1,8 +1,0 @@
-use Rattle.std.proofs.Common.{◌≡◌, ◌++◌, map, take, string_bytes}
-use Rattle.std.specs.List.{flat_map}
-use Rattle.comfy_parts.specs.Wrapping.{lines_of_text}
-use Rattle.comfy_table.proofs.utils.formatting.cell_lines.push_lines.Given as goal
-
-abbrev pub invariant-loop-position : goal.invariant-loop-position
-invariant-loop-position l =
-    map (λ x. x.now) l.lines.items ≡ map (λ x. x.now) l.initial.lines.items ++ flat_map (λ s. lines_of_text l.info.content_width l.fn.delimiter (string_bytes s)) (take l.position l.texts)
