@@ -1,4 +1,5 @@
 pub mod ArgumentLemmas
+pub mod CountLemmas
 pub mod DeviceLemmas
 pub mod InputLemmas
 pub mod ProgramLemmas

@@ -25,16 +25,16 @@ use Rattle.comfy_table.specs.NewTables.{IsShortRow}
 use Rattle.comfy_table.specs.TableValue.{TableValue, new_table, seen_rows, table_width, with_header, with_row}
 
 -- P holds of each text line of a line's cells
-abbrev OfLine : (Text → Type 0) → Text → Type 0
+abbrev pub OfLine : (Text → Type 0) → Text → Type 0
 OfLine P line = All (λ (cell : CellValue). All P cell.text_lines) (cells_of_line line)
 
 module _ (width : Option ℕ) (arrangement : ContentArrangement) (style : TableStyle) where
   -- the table that an input begins with
-  abbrev base : TableValue
+  abbrev pub base : TableValue
   base = record (new_table style) { set_width = width; arrangement = arrangement }
 
   -- its width is the one that was set
-  base_width : table_width base ≡ width
+  pub base_width : table_width base ≡ width
   base_width = by_width width
     where
       by_width : (o : Option ℕ) → table_width (record base { set_width = o }) ≡ o
@@ -51,7 +51,7 @@ module _ (width : Option ℕ) (arrangement : ContentArrangement) (style : TableS
     empty : IsBuilt base refl Q base
     empty = record { is = refl; columns = All-nil IsNewColumn; header = All-nil Q; rows = All-nil Q }
 
-    built : (all : List Text) → All (OfLine P) all → IsBuilt base refl Q (table_of_lines base all)
+    pub built : (all : List Text) → All (OfLine P) all → IsBuilt base refl Q (table_of_lines base all)
     built [] each = empty
     built (first ∷ others) each =
         built-lines others (with_header (row_of_line first) base) (All-tail (OfLine P) first others each) (built-header base refl Q (row_of_line first) base (row_of first (All-head (OfLine P) first others each)) empty)

@@ -1,4 +1,5 @@
 pub mod Arguments
+pub mod Counts
 pub mod Device
 pub mod DeviceLaws
 pub mod Input

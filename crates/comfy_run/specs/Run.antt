@@ -20,6 +20,16 @@ IsAfter settings (Err Write) facts = IsAfterWrite settings.width settings.arrang
 IsAfter settings (Err NotUtf8) facts = IsAfterNotUtf8 settings.width settings.arrangement settings.style facts
 IsAfter settings (Err (Table _)) facts = IsAfterTable settings.width settings.arrangement settings.style facts
 
+-- the result says that the source failed
+abbrev pub is_read_fault : {T : Type 0} → Result T RunError → Bool
+is_read_fault (Err Read) = true
+is_read_fault _ = false
+
+-- the result says that the sink failed
+abbrev pub is_write_fault : {T : Type 0} → Result T RunError → Bool
+is_write_fault (Err Write) = true
+is_write_fault _ = false
+
 -- what a source and a sink tell at one time: the bytes that are left, whether the end was read, whether the source has failed, the bytes that were taken, and whether the sink has failed
 pub record Devices : Type 0 where
   pub remaining : Option Text

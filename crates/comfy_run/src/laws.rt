@@ -4,6 +4,7 @@ ghost use Rattle.std.specs.Prelude.{Option, ℕ};
 ghost use Rattle.comfy_parts.specs.Text.{Text};
 ghost use Rattle.comfy_parts.specs.declared.style.table.ContentArrangement.{ContentArrangement};
 ghost use Rattle.comfy_parts.specs.declared.style.table_style.TableStyle.{TableStyle};
+ghost use Rattle.comfy_run.specs.Counts.{HasSettings, OutputFillsWidth, OutputKeepsToWidth, PlainInputHasPlainCells};
 ghost use Rattle.comfy_run.specs.Straight.{OutputIsStraight, WholeOutputIsStraight};
 
 /// All lines of an output are equally many terminal columns wide, where each character of the style adds one: for texts
@@ -12,4 +13,19 @@ ghost use Rattle.comfy_run.specs.Straight.{OutputIsStraight, WholeOutputIsStraig
 pub fn outputs_are_straight()
     ensures whole { (width : Option ℕ) (arrangement : ContentArrangement) (style : TableStyle) (input output : Text) → WholeOutputIsStraight width arrangement style input output }
     ensures adds_up { (width : Option ℕ) (arrangement : ContentArrangement) (style : TableStyle) (input output : Text) → OutputIsStraight width arrangement style input output }
+{}
+
+/// The table of an input has the width, arrangement and style that were passed and no other setting: no column has a
+/// constraint, and nothing is styled. An input of printable ASCII, TAB, U+000B and line ends gives cells of printable
+/// ASCII.
+pub fn input_tables_have_their_settings()
+    ensures settings { (width : Option ℕ) (arrangement : ContentArrangement) (style : TableStyle) (input : Text) → HasSettings width arrangement style input }
+    ensures plain { (width : Option ℕ) (arrangement : ContentArrangement) (style : TableStyle) (input : Text) → PlainInputHasPlainCells width arrangement style input }
+{}
+
+/// All lines of the output for such an input have the same number of characters. Under `Dynamic` it is at most the width,
+/// or that of borders, paddings and one character for each column. Under `DynamicFullWidth` it is exactly so many.
+pub fn outputs_keep_to_a_width()
+    ensures dynamic { (w : ℕ) (style : TableStyle) (input output : Text) → OutputKeepsToWidth w style input output }
+    ensures full { (w : ℕ) (style : TableStyle) (input output : Text) → OutputFillsWidth w style input output }
 {}

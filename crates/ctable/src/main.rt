@@ -1,50 +1,9 @@
 //! Draws the table of tab-separated text.
 #![tactic(auto)]
 
-use comfy_run::run::{FromReader, RunError, ToWriter, program};
-use std::alloc::AllocError;
-use std::io::ErrorKind;
+use comfy_run::run::run_with_arguments;
 use std::process::ExitCode;
-use std::{env, io};
-
-// Stands for a word that isn't text: the program knows no such word.
-const NO_TEXT: &str = "\u{fffd}";
 
 fn main(rt: HostRuntime) -> ExitCode {
-    match run_with_arguments(&rt) {
-        Ok(status) => status,
-        Err(error) if error.kind() == ErrorKind::InvalidData => run_with(&rt, &[NO_TEXT]),
-        // Words that are text are only copied: what fails then is the memory for it.
-        Err(_) => {
-            let _ = eprintln!(rt; "ctable: {}", RunError::from(AllocError));
-            ExitCode::FAILURE
-        }
-    }
-}
-
-// Runs the program with the words after its name.
-fn run_with_arguments(rt: &HostRuntime) -> io::Result<ExitCode> {
-    let arguments = arguments(rt)?;
-    let mut words = Vec::new(rt.alloc());
-    for word in &arguments {
-        words.push(word.as_str())?;
-    }
-    Ok(run_with(rt, words.as_slice()))
-}
-
-// The words after the program's name.
-fn arguments(rt: &HostRuntime) -> io::Result<Vec<String>> {
-    let mut words = Vec::new(rt.alloc());
-    for word in env::args(rt)?.skip(1) {
-        words.push(word)?;
-    }
-    Ok(words)
-}
-
-fn run_with(rt: &HostRuntime, words: &[&str]) -> ExitCode {
-    let mut source = FromReader::new(rt.stdin());
-    let mut sink = ToWriter::new(rt.stdout());
-    let mut messages = ToWriter::new(rt.stderr());
-    let status = program(rt.alloc(), words, &mut source, &mut sink, &mut messages);
-    ExitCode::from(status)
+    run_with_arguments(&rt)
 }

@@ -1,6 +1,6 @@
 //! The program: what it does for the words after its name, and what it says.
 
-ghost use Rattle.std.specs.Prelude.{◌≡◌, None, Some, Result};
+ghost use Rattle.std.specs.Prelude.{◌≡◌, None, Some, Result, false, true};
 ghost use Rattle.comfy_run.specs.Arguments.{settings_for};
 ghost use Rattle.comfy_run.specs.Program.{usage_line, error_line, status_of, report_of, Reports};
 ghost use Rattle.comfy_run.specs.Run.{Between, IsAfter};
@@ -26,7 +26,7 @@ const MISUSED: u8 = 2;
 /// The words are `[WIDTH|- [disabled|dynamic|full [STYLE]]]`: the table's width, or a hyphen for none,
 /// the arrangement of its columns, and the name of a preset.
 ///
-/// The status is 0 where all was written; then `messages` is left as it was. It is 1 after an error,
+/// The status is 0 where all was read and written, and no device failed; then `messages` is left as it was. It is 1 after an error,
 /// and 2 where the words ask for nothing that is known; the source isn't read then. A line written to
 /// `messages` says which it was. A fault of `messages` changes no status.
 pub fn program<R: Source, W: Sink, F: Sink>(
@@ -42,6 +42,7 @@ pub fn program<R: Source, W: Sink, F: Sink>(
         (record { remaining = R.remaining source.old; end_was_read = R.end_was_read source.old; read_failed = R.has_failed source.old; taken = W.taken sink.old; write_failed = W.has_failed sink.old })
         (record { remaining = R.remaining source.new; end_was_read = R.end_was_read source.new; read_failed = R.has_failed source.new; taken = W.taken sink.new; write_failed = W.has_failed sink.new })
         (IsAfter settings answer) }
+    ensures done { result ≡ 0 → (R.end_was_read source.new ≡ true) × (R.has_failed source.new ≡ false) × (W.has_failed sink.old ≡ false → W.has_failed sink.new ≡ false) }
     ensures silent { result ≡ 0 → messages.new ≡ messages.old }
 {
     let Some(settings) = settings_of(args) else {

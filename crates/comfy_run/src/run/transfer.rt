@@ -3,7 +3,7 @@
 ghost use Rattle.std.specs.Prelude.{◌≡◌, ◌++◌, List, ℕ, true, false, Some, OnOk, IfOk, IfErr, IsUtf8, string_bytes};
 ghost use Rattle.comfy_run.specs.Input.{IsOutputFor};
 ghost use Rattle.comfy_run.specs.Outcome.{IsBeginningOnly};
-ghost use Rattle.comfy_run.specs.Run.{Between, IsAfter, IsRefusal};
+ghost use Rattle.comfy_run.specs.Run.{Between, IsAfter, IsRefusal, is_read_fault, is_write_fault};
 ghost use Rattle.comfy_run.specs.declared.run.error.RunError.TheVariants.{Write};
 
 use crate::run::device::{Sink, Source};
@@ -22,7 +22,9 @@ const CHUNK: usize = 4096;
 /// memory runs out, nothing is written. Where the output can't be written, a beginning of it was.
 ///
 /// The result says which device failed: `Read` comes only where a call of the source failed, `Write`
-/// only where a call of the sink failed. After `Ok` and every other error, no call of either failed.
+/// only where a call of the sink failed. After `Ok` and every other error, no call of either failed;
+/// after `Ok` the end of the source was read. That holds of all devices, the standard streams among
+/// them. What was read and written is told of devices that tell their bytes.
 ///
 /// ```
 /// let mut source = FromReader::new(rt.stdin());
@@ -35,7 +37,10 @@ pub fn run<R: Source, W: Sink>(
     sink: &mut W,
     settings: Settings,
 ) -> Result<(), RunError>
-    ensures { Between
+    ensures ended { OnOk result (R.end_was_read source.new ≡ true) }
+    ensures source { R.has_failed source.new ≡ is_read_fault result }
+    ensures sink { W.has_failed sink.old ≡ false → W.has_failed sink.new ≡ is_write_fault result }
+    ensures told { Between
         (record { remaining = R.remaining source.old; end_was_read = R.end_was_read source.old; read_failed = R.has_failed source.old; taken = W.taken sink.old; write_failed = W.has_failed sink.old })
         (record { remaining = R.remaining source.new; end_was_read = R.end_was_read source.new; read_failed = R.has_failed source.new; taken = W.taken sink.new; write_failed = W.has_failed sink.new })
         (IsAfter settings result) }
@@ -51,7 +56,8 @@ fn output_for<R: Source>(
     settings: Settings,
 ) -> Result<String, RunError>
     ensures ended { OnOk result (R.end_was_read source.new ≡ true) }
-    ensures no_fault { OnOk result (R.has_failed source.new ≡ false) }
+    ensures fault { R.has_failed source.new ≡ is_read_fault result }
+    ensures no_write { is_write_fault result ≡ false }
     ensures output { IfOk result (λ output. (input : List ℕ) → R.remaining source.old ≡ Some input → IsUtf8 input × IsOutputFor settings.width settings.arrangement settings.style input (string_bytes output)) }
     ensures refused { IfErr result (λ e. (input : List ℕ) → R.remaining source.old ≡ Some input → IsRefusal e input (R.end_was_read source.new) (R.has_failed source.new)) }
 {
@@ -66,7 +72,8 @@ fn output_for<R: Source>(
 // All that the source has left.
 fn read_all<R: Source>(alloc: Global, source: &mut R) -> Result<Vec<u8>, RunError>
     ensures ended { OnOk result (R.end_was_read source.new ≡ true) }
-    ensures no_fault { OnOk result (R.has_failed source.new ≡ false) }
+    ensures fault { R.has_failed source.new ≡ is_read_fault result }
+    ensures no_write { is_write_fault result ≡ false }
     ensures input { IfOk result (λ bytes. (input : List ℕ) → R.remaining source.old ≡ Some input → bytes.items ≡ input) }
     ensures refused { IfErr result (λ e. (input : List ℕ) → R.remaining source.old ≡ Some input → IsRefusal e input (R.end_was_read source.new) (R.has_failed source.new)) }
 {

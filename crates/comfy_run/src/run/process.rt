@@ -1,0 +1,61 @@
+//! The whole program, as a process runs it: its words, its standard streams and its status.
+
+use crate::run::command::program;
+use crate::run::error::RunError;
+use crate::run::stream::{FromReader, ToWriter};
+use std::alloc::AllocError;
+use std::env;
+use std::io;
+use std::io::ErrorKind;
+use std::process::ExitCode;
+
+// Stands for a word that isn't text: the program knows no such word.
+const NO_TEXT: &str = "\u{fffd}";
+
+/// Runs `program` over the standard streams, with the words after the process's name, and returns its status. A word that
+/// isn't text is one that the program doesn't know. Where no memory is found for the words, the status is 1, and nothing
+/// is read.
+///
+/// ```
+/// fn main(rt: HostRuntime) -> ExitCode {
+///     run_with_arguments(&rt)
+/// }
+/// ```
+pub fn run_with_arguments(rt: &HostRuntime) -> ExitCode {
+    match run_with_words(rt) {
+        Ok(status) => status,
+        Err(error) if error.kind() == ErrorKind::InvalidData => run_with(rt, &[NO_TEXT]),
+        // Words that are text are only copied: what fails then is the memory for it.
+        Err(_) => {
+            let _ = eprintln!(rt; "ctable: {}", RunError::from(AllocError));
+            ExitCode::FAILURE
+        }
+    }
+}
+
+// Runs the program with the words after its name.
+fn run_with_words(rt: &HostRuntime) -> io::Result<ExitCode> {
+    let arguments = arguments(rt)?;
+    let mut words = Vec::new(rt.alloc());
+    for word in &arguments {
+        words.push(word.as_str())?;
+    }
+    Ok(run_with(rt, words.as_slice()))
+}
+
+// The words after the program's name.
+fn arguments(rt: &HostRuntime) -> io::Result<Vec<String>> {
+    let mut words = Vec::new(rt.alloc());
+    for word in env::args(rt)?.skip(1) {
+        words.push(word)?;
+    }
+    Ok(words)
+}
+
+fn run_with(rt: &HostRuntime, words: &[&str]) -> ExitCode {
+    let mut source = FromReader::new(rt.stdin());
+    let mut sink = ToWriter::new(rt.stdout());
+    let mut messages = ToWriter::new(rt.stderr());
+    let status = program(rt.alloc(), words, &mut source, &mut sink, &mut messages);
+    ExitCode::from(status)
+}
