@@ -8,7 +8,7 @@ use Rattle.std.proofs.lemmas.List.Splits.{slice_split_at, slice_split_none}
 use Rattle.comfy_parts.proofs.CallerLemmas.{HasNo-append, HasNo-visible, breaks_are_seen, seen-closed, sequence_clear, zip-each}
 use Rattle.comfy_parts.specs.Text.{Text}
 use Rattle.comfy_parts.specs.VisibleText.{closed}
-use Rattle.comfy_table.proofs.KeptLemmas.{keeps_drawing}
+use Rattle.comfy_table.proofs.KeptDrawingLemmas.{keeps_drawing}
 use Rattle.comfy_table.proofs.SeenLemmas.{IsRowOf}
 use Rattle.comfy_table.proofs.StyledLemmas.{KeptByDrawing}
 use Rattle.comfy_table.specs.Drawing.{drawing, infos_of, terminated_text_of, text_of}

@@ -5,7 +5,7 @@ use Rattle.std.specs.Str.{IsUtf8}
 use Rattle.comfy_parts.proofs.CallerLemmas.{Shows, Shows-append, Shows-clear, Shows-seen, Shows-sequence, seen-closed, visible_text-is}
 use Rattle.comfy_parts.specs.Text.{Text}
 use Rattle.comfy_parts.specs.VisibleText.{closed, visible_text}
-use Rattle.comfy_table.proofs.KeptLemmas.{keeps_drawing}
+use Rattle.comfy_table.proofs.KeptDrawingLemmas.{keeps_drawing}
 use Rattle.comfy_table.proofs.SeenLemmas.{IsRowOf}
 use Rattle.comfy_table.proofs.StyledLemmas.{KeptByDrawing}
 use Rattle.comfy_table.specs.Drawing.{drawing, infos_of}
