@@ -84,12 +84,13 @@ module _ (all : List CellLine) (seen lines : List DrawnLine) (are : seen ≡ map
       let many = length-map seen (λ (line : DrawnLine). line.columns) in
       let at : columns ≡ slice_index_or (columns_of seen) (length lines) 0 =
       same ∙ ap (λ (line : DrawnLine). line.columns) (get_or_read seen (length lines) line below read (drawn_text []))
-      ∙ sym (get_or-map (λ (line : DrawnLine). line.columns) seen (length lines) (drawn_text []) 0 below) in
-      (grind (arith, have.0, map-append, append_assoc),
-      map-append (λ (line : DrawnLine). line.columns) lines _
-      ∙ ap₂ (λ (cs : List ℕ) (c : ℕ). cs ++ c ∷ []) have.1 at
-      ∙ sym (take_more (columns_of seen) (length lines) 0 (omega (arith, many, below)))
-      ∙ ap (λ n. take n (columns_of seen)) (sym (length-append lines (record { columns = columns; written = text } ∷ []))))
+      ∙ sym (get_or-map (λ (line : DrawnLine). line.columns) seen (length lines) (drawn_text []) 0 below) in (
+        grind (arith, have.0, map-append, append_assoc),
+        map-append (λ (line : DrawnLine). line.columns) lines _
+            ∙ ap₂ (λ (cs : List ℕ) (c : ℕ). cs ++ c ∷ []) have.1 at
+            ∙ sym (take_more (columns_of seen) (length lines) 0 (omega (arith, many, below)))
+            ∙ ap (λ n. take n (columns_of seen)) (sym (length-append lines (record { columns = columns; written = text } ∷ []))),
+      )
 
   -- all have theirs
   pub texts_given : {A : Type 0} (f : A → Text) (rest : List A) → length rest ≡ 0 → HaveTexts all seen lines (map f rest) → lines ≡ map drawn_line all

@@ -7,7 +7,7 @@ use Rattle.comfy_table.specs.TableValue.{seen_cell}
 use Rattle.comfy_table.proofs.utils.formatting.cell_lines.made_lines.Goals as goal
 
 pub returns-then-len-height : goal.returns-then-len-height
-returns-then-len-height c = 
+returns-then-len-height c =
     let table = c.args.table.now in
     let seen = cell_lines c.args.info.now.content_width (cell_delimiter table c.args.info.now.delimiter c.args.cell.now) (seen_cell table c.args.cell.now) in
     let many : length c.in_ok-seen.seen.items ≡ length seen = grind (arith, length-map) in
