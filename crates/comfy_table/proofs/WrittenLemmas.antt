@@ -116,8 +116,10 @@ module _ (table : TableValue) (row : RowValue) (info : ColumnInfo) (cell : CellV
   lines_with_shown : (custom : Bool) → HasNoEscape table.indicator → All IsUtf8 (cell_seen custom cell).text_lines → All HasNoEscape (cell_seen custom cell).text_lines → All IsShown (lines_with custom)
   lines_with_shown custom mark utf8 clear =
       All-cut (λ line. IsShown line × (IsUtf8 line.seen × HasNoEscape line.seen)) IsShown (cut_line custom w table.indicator) row.max_height (whole_lines custom w d cell)
-      (λ k default below. (whole_shown custom clear k default below,
-      (of_whole IsUtf8 custom (seen_each IsUtf8 custom (lines_of_text-utf8 w d) utf8) k default below, of_whole HasNoEscape custom (seen_each HasNoEscape custom (lines_of_text-clear w d) clear) k default below)))
+      (λ k default below. (
+        whole_shown custom clear k default below,
+        (of_whole IsUtf8 custom (seen_each IsUtf8 custom (lines_of_text-utf8 w d) utf8) k default below, of_whole HasNoEscape custom (seen_each HasNoEscape custom (lines_of_text-clear w d) clear) k default below),
+      ))
       (λ line own. own.0)
       (λ h limited below line own. cut_shown custom line (cut_text-clear w table.indicator line.seen mark own.1.0 own.1.1))
 

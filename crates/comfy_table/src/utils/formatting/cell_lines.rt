@@ -150,11 +150,7 @@ fn made_lines<'a>(
 }
 
 // The lines of a cell in a column as they are seen: each text line as it is where it fits, else wrapped.
-fn seen_lines<'a>(
-    table: &Table,
-    cell: &'a Cell,
-    info: &ColumnDisplayInfo,
-) -> Result<Vec<Line<'a>>>
+fn seen_lines<'a>(table: &Table, cell: &'a Cell, info: &ColumnDisplayInfo) -> Result<Vec<Line<'a>>>
     ensures { IfOk result (λ lines. lines.items ≡ map drawn_text (cell_lines info.now.content_width (cell_delimiter table.now info.now.delimiter cell.now) (seen_cell table.now cell.now))) }
 {
     let texts = table.seen_lines(cell);
