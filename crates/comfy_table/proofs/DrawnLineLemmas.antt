@@ -1,8 +1,8 @@
 -- The lines of a cell as they are drawn.
-use Rattle.std.proofs.Common.{Some, zero, suc, ◌≡◌, ◌<◌, ◌≤◌, ℕ, ◌-◌, Bool, true, false, List, [], ◌∷◌, ◌++◌, ◌&&◌, length, map, take, unwrap_or, nat_le, refl, ap, ap₂, ◌∙◌, sym, slice_index_or, arith, append_assoc, append-nil}
+use Rattle.std.proofs.Common.{Some, zero, suc, ◌≡◌, ◌<◌, ◌≤◌, ℕ, ◌-◌, Bool, true, false, List, [], ◌∷◌, ◌++◌, ◌&&◌, length, map, take, unwrap_or, nat_le, refl, ap, ◌∙◌, sym, slice_index_or, arith}
 use Rattle.std.specs.List.{AllByRecursion, flat_map, list_all, list_any, slice_get}
 use Rattle.std.proofs.lemmas.Bool.Decides.{nat_tests}
-use Rattle.std.proofs.lemmas.List.{drop_more, get_or-map, get_or_read, length-append, length-map, map-append, take-map, take_all, take_more}
+use Rattle.std.proofs.lemmas.List.{drop_more, get_or-map, length-map, map-append, take-map}
 use Rattle.comfy_parts.proofs.CallerLemmas.{IsAsSeen, clear_written}
 use Rattle.comfy_parts.specs.CellValue.{CellValue, ColumnInfo, RowValue}
 use Rattle.comfy_parts.specs.Text.{Text, measure}
@@ -12,7 +12,7 @@ use Rattle.comfy_parts.specs.Wrapping.{lines_of_text}
 use Rattle.comfy_table.proofs.CutLemmas.{no_limit, seen_of, whole-seen}
 use Rattle.comfy_table.proofs.JoinLemmas.{map-map}
 use Rattle.comfy_table.proofs.SeenLemmas.{cell_seen}
-use Rattle.comfy_table.specs.DrawnCells.{DrawnLine, drawn_line, drawn_text}
+use Rattle.comfy_table.specs.DrawnCells.{DrawnLine, drawn_line, drawn_text, with_texts}
 use Rattle.comfy_table.specs.Lines.{as_seen, cell_delimiter, cell_lines, cut_line, whole_lines}
 use Rattle.comfy_table.specs.Pieces.{row_cell_lines}
 use Rattle.comfy_table.specs.TableValue.{TableValue}
@@ -41,63 +41,16 @@ text_found f [] k text below read = absurd (omega (arith, below))
 text_found {A} f (x ∷ texts) zero text below read = ap (λ (y : A). Some (record { columns = measure (f x); written = f y })) read
 text_found f (x ∷ texts) (suc k) text below read = text_found f texts k text (omega (arith, below)) read
 
--- ---- lines that get their texts one after another
+-- lines without texts of their own
+pub no_texts : (lines : List DrawnLine) (texts : List Text) → length texts ≡ 0 → with_texts lines texts ≡ lines
+no_texts [] texts none = refl
+no_texts (line ∷ lines) [] none = refl
+no_texts (line ∷ lines) (text ∷ texts) none = absurd (omega (arith, none))
 
--- the columns and the texts of lines
-abbrev columns_of : List DrawnLine → List ℕ
-columns_of lines = map (λ (line : DrawnLine). line.columns) lines
-
-abbrev texts_of : List DrawnLine → List Text
-texts_of lines = map (λ (line : DrawnLine). line.written) lines
-
--- lines of the same columns and texts are the same
-same_lines : (xs ys : List DrawnLine) → columns_of xs ≡ columns_of ys → texts_of xs ≡ texts_of ys → xs ≡ ys
-same_lines [] [] columns texts = refl
-same_lines [] (y ∷ ys) columns texts = absurd (cc columns)
-same_lines (x ∷ xs) [] columns texts = absurd (cc columns)
-same_lines (x ∷ xs) (y ∷ ys) columns texts =
-    let column : x.columns ≡ y.columns = cc columns in
-    let text : x.written ≡ y.written = cc texts in
-    let more : columns_of xs ≡ columns_of ys = cc columns in
-    let others : texts_of xs ≡ texts_of ys = cc texts in
-    λ i. record { columns = column i; written = text i } ∷ same_lines xs ys more others i
-
--- the first of these lines have their texts, and the rest of the texts is still to come
-abbrev pub HaveTexts : List CellLine → List DrawnLine → List DrawnLine → List Text → Type 0
-HaveTexts all seen lines rest =
-    (map (λ (line : DrawnLine). line.written) lines ++ rest ≡ map (λ (line : CellLine). line.written) all)
-    × (map (λ (line : DrawnLine). line.columns) lines ≡ take (length lines) (map (λ (line : DrawnLine). line.columns) seen))
-
-module _ (all : List CellLine) (seen lines : List DrawnLine) (are : seen ≡ map drawn_text (seen_of all)) where
-  -- while texts are left, lines are
-  pub lines_left : (text : Text) (rest : List Text) → HaveTexts all seen lines (text ∷ rest) → length lines < length seen
-  lines_left text rest have =
-      let counts = ap length have.0 in
-      let many = ap length are in
-      grind (arith, counts, many, length-map, length-append)
-
-  -- the next line gets its text
-  pub text_given : (text : Text) (rest : List Text) (line : DrawnLine) (columns : ℕ) → HaveTexts all seen lines (text ∷ rest) → line ≡ slice_index_or seen (length lines) line → columns ≡ line.columns
-      → HaveTexts all seen (lines ++ record { columns = columns; written = text } ∷ []) rest
-  text_given text rest line columns have read same =
-      let below : length lines < length seen = lines_left text rest have in
-      let many = length-map seen (λ (line : DrawnLine). line.columns) in
-      let at : columns ≡ slice_index_or (columns_of seen) (length lines) 0 =
-      same ∙ ap (λ (line : DrawnLine). line.columns) (get_or_read seen (length lines) line below read (drawn_text []))
-      ∙ sym (get_or-map (λ (line : DrawnLine). line.columns) seen (length lines) (drawn_text []) 0 below) in (
-        grind (arith, have.0, map-append, append_assoc),
-        map-append (λ (line : DrawnLine). line.columns) lines _
-            ∙ ap₂ (λ (cs : List ℕ) (c : ℕ). cs ++ c ∷ []) have.1 at
-            ∙ sym (take_more (columns_of seen) (length lines) 0 (omega (arith, many, below)))
-            ∙ ap (λ n. take n (columns_of seen)) (sym (length-append lines (record { columns = columns; written = text } ∷ []))),
-      )
-
-  -- all have theirs
-  pub texts_given : {A : Type 0} (f : A → Text) (rest : List A) → length rest ≡ 0 → HaveTexts all seen lines (map f rest) → lines ≡ map drawn_line all
-  texts_given f [] none have =
-      let counts = ap length have.0 in
-      same_lines lines (map drawn_line all) (have.1 ∙ grind (arith, are, counts, take_all, length-map, length-append, map-map)) (grind (arith, have.0, append-nil, map-map))
-  texts_given f (text ∷ rest) none have = absurd (omega (arith, none))
+-- lines with all their texts
+pub all_texts : (lines : List CellLine) → with_texts (map drawn_text (seen_of lines)) (map (λ (line : CellLine). line.written) lines) ≡ map drawn_line lines
+all_texts [] = refl
+all_texts (line ∷ lines) = ap (λ (more : List DrawnLine). drawn_line line ∷ more) (all_texts lines)
 
 -- ---- of a cell
 

@@ -5,7 +5,7 @@ ghost use Rattle.std.specs.List.{list_all, list_any};
 ghost use Rattle.comfy_parts.specs.Text.{measure};
 ghost use Rattle.comfy_parts.specs.VisibleText.{has_escape};
 ghost use Rattle.comfy_parts.specs.Wrapping.{lines_of_text, wrapped};
-ghost use Rattle.comfy_table.specs.DrawnCells.{drawn_line, drawn_text};
+ghost use Rattle.comfy_table.specs.DrawnCells.{drawn_line, drawn_text, with_texts};
 ghost use Rattle.comfy_table.specs.Lines.{as_seen, cell_delimiter, cell_lines, cut_line, cut_text, fitting_indicator, whole_lines};
 ghost use Rattle.comfy_table.specs.Pieces.{row_cell_lines};
 ghost use Rattle.comfy_table.specs.TableValue.{seen_cell};
@@ -212,10 +212,22 @@ fn whole_lines<'a>(
     if !has_own_texts(table, cell) {
         return Ok(seen);
     }
-    let mut lines = Vec::with_capacity(*table.columns.allocator(), seen.len())?;
-    for text in written_lines(cell, info, table.delimiter_of(cell, info.delimiter))? {
-        let columns = seen[lines.len()].columns;
-        let text = CowStr::Owned(text);
+    let texts = written_lines(cell, info, table.delimiter_of(cell, info.delimiter))?;
+    with_texts(seen, texts)
+}
+
+// Lines of which the first get texts of their own.
+fn with_texts<'a>(seen: Vec<Line<'a>>, texts: Vec<String>) -> Result<Vec<Line<'a>>>
+    ensures { IfOk result (λ lines. lines.items ≡ with_texts seen.entry.items (map string_bytes texts.items)) }
+{
+    let mut lines = Vec::with_capacity(*seen.allocator(), seen.len())?;
+    let mut texts = texts.into_iter();
+    for line in seen {
+        let columns = line.columns;
+        let text = match texts.next() {
+            Some(text) => CowStr::Owned(text),
+            None => line.text,
+        };
         lines.push(Line { columns, text })?;
     }
     Ok(lines)
