@@ -2,7 +2,7 @@
 pub use Rattle.comfy_parts.proofs.ClearLineLemmas.{IsAsSeen, clear_written}
 pub use Rattle.comfy_parts.proofs.FrameCharacterLemmas.{frame_adds, frame_apart, one_column_characters}
 pub use Rattle.comfy_parts.proofs.FrontLemmas.{encoded_clear}
-pub use Rattle.comfy_parts.proofs.LineTextLemmas.{Shows-closed, none_open}
+pub use Rattle.comfy_parts.proofs.LineTextLemmas.{Shows-closed, clear-take, none_open}
 pub use Rattle.comfy_parts.proofs.LinesFitLemmas.{IsFittingLine}
 pub use Rattle.comfy_parts.proofs.PlainTextLemmas.{IsPlainLine, lines_of_text-plain, slices-printable}
 pub use Rattle.comfy_parts.proofs.PrintableLemmas.{IsUtf8-printable, below_seven_bits, head-printable, measure-printable, take-printable}

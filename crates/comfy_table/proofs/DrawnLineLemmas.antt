@@ -72,28 +72,29 @@ module _ (table : TableValue) (row : RowValue) (info : ColumnInfo) (cell : CellV
   drawn-seen none = grind (arith, own_texts, map-map)
 
   -- lines none of which is cut
-  pub drawn-uncut : length seen ≤ unwrap_or row.max_height (length seen) → row_cell_lines table row info cell ≡ whole
-  drawn-uncut within = grind (arith, nat_tests, as_many, no_limit)
+  pub drawn-uncut : (lines : List DrawnLine) → lines ≡ map drawn_text seen → length lines ≤ unwrap_or row.max_height (length lines) → row_cell_lines table row info cell ≡ whole
+  drawn-uncut lines are within = let many = ap length are in grind (arith, nat_tests, as_many, no_limit, length-map, many)
 
   -- text lines that fit, of which none is cut
   pub drawn-texts : list_all (λ width. nat_le width info.content_width) (map measure (cell_seen table.custom_styling cell).text_lines) ≡ true
       → length (cell_seen table.custom_styling cell).text_lines ≤ unwrap_or row.max_height (length (cell_seen table.custom_styling cell).text_lines)
       → (table.custom_styling && list_any has_escape cell.text_lines) ≡ false
       → map drawn_text (cell_seen table.custom_styling cell).text_lines ≡ map drawn_line (row_cell_lines table row info cell)
-  drawn-texts fit within none = grind (arith, all_fit, drawn-seen, drawn-uncut)
+  drawn-texts fit within none = grind (arith, all_fit, length-map, drawn-seen, drawn-uncut (map drawn_text seen))
 
   -- lines of which one is cut
-  pub drawn-cut : (h : ℕ) (last : DrawnLine) → h ≡ unwrap_or row.max_height (length seen) → h < length seen → last ≡ slice_index_or (map drawn_text seen) (h - 1) last
+  pub drawn-cut : (lines : List DrawnLine) (h : ℕ) (last : DrawnLine) → lines ≡ map drawn_text seen → h ≡ unwrap_or row.max_height (length lines) → h < length lines → last ≡ slice_index_or lines (h - 1) last
       → take (h - 1) (map drawn_line whole) ++ drawn_line (cut_line table.custom_styling info.content_width table.indicator (as_seen last.written)) ∷ [] ≡ map drawn_line (row_cell_lines table row info cell)
-  drawn-cut h last is taller read =
+  drawn-cut lines h last are is taller read =
+      let long : length lines ≡ length seen = ap length are ∙ length-map seen drawn_text in
       let many = as_many in
       let cut = cut_line table.custom_styling info.content_width table.indicator in
       let kept : CellLine = slice_index_or whole (h - 1) (as_seen []) in
       let text : last.written ≡ kept.seen =
-      ap (λ (line : DrawnLine). line.written) (read ∙ get_or-map drawn_text seen (h - 1) [] last (omega (arith, taller)))
+      ap (λ (line : DrawnLine). line.written) (read ∙ ap (λ (lines : List DrawnLine). slice_index_or lines (h - 1) last) are ∙ get_or-map drawn_text seen (h - 1) [] last (omega (arith, long, taller)))
       ∙ ap (λ (lines : List Text). slice_index_or lines (h - 1) []) (sym (whole-seen table.custom_styling info.content_width (cell_delimiter table info.delimiter cell) cell))
-      ∙ get_or-map (λ (line : CellLine). line.seen) whole (h - 1) (as_seen []) [] (omega (arith, many, taller)) in
-      let lines : row_cell_lines table row info cell ≡ take (h - 1) whole ++ cut kept ∷ [] = grind (arith, nat_tests, no_limit, many, drop_more) in
+      ∙ get_or-map (λ (line : CellLine). line.seen) whole (h - 1) (as_seen []) [] (omega (arith, many, long, taller)) in
+      let lines : row_cell_lines table row info cell ≡ take (h - 1) whole ++ cut kept ∷ [] = grind (arith, nat_tests, no_limit, many, long, drop_more) in
       ap (λ (t : Text). take (h - 1) (map drawn_line whole) ++ drawn_line (cut (as_seen t)) ∷ []) text
       ∙ ap (λ (front : List DrawnLine). front ++ drawn_line (cut kept) ∷ []) (take-map drawn_line (h - 1) whole)
       ∙ sym (map-append drawn_line (take (h - 1) whole) (cut kept ∷ []))

@@ -134,7 +134,7 @@ cell_pieces_show table row info cell mark whole clear =
     subst (λ (pieces : List Text). AllZip Shows pieces (cell_pieces table row info cell)) (sym same)
     (AllZip-map Shows (λ (line : CellLine). plain_piece cell info line.seen) (piece table cell info) lines
     (All-weaker (λ (line : CellLine). Shows line.seen line.written) (λ (line : CellLine). Shows (plain_piece cell info line.seen) (piece table cell info line)) (Shows-piece table cell info) lines
-    (lines_shown table row info cell mark whole clear)))
+    (lines_shown table row info cell table.custom_styling mark whole clear)))
   where
     lines : List CellLine
     lines = row_cell_lines table row info cell

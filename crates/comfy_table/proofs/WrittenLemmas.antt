@@ -125,8 +125,8 @@ module _ (table : TableValue) (row : RowValue) (info : ColumnInfo) (cell : CellV
   cut_shown false line clear = Shows-clear (cut_text w table.indicator line.seen) clear
 
   -- so it is for all lines
-  lines_with_shown : (custom : Bool) → HasNoEscape table.indicator → All IsUtf8 (cell_seen custom cell).text_lines → All HasNoEscape (cell_seen custom cell).text_lines → All IsShown (lines_with custom)
-  lines_with_shown custom mark utf8 clear =
+  pub lines_shown : (custom : Bool) → HasNoEscape table.indicator → All IsUtf8 (cell_seen custom cell).text_lines → All HasNoEscape (cell_seen custom cell).text_lines → All IsShown (lines_with custom)
+  lines_shown custom mark utf8 clear =
       All-cut (λ line. IsShown line × (IsUtf8 line.seen × HasNoEscape line.seen)) IsShown (cut_line custom w table.indicator) row.max_height (whole_lines custom w d cell)
       (λ k default below. (
         whole_shown custom clear k default below,
@@ -134,6 +134,3 @@ module _ (table : TableValue) (row : RowValue) (info : ColumnInfo) (cell : CellV
       ))
       (λ line own. own.0)
       (λ h limited below line own. cut_shown custom line (cut_text-clear w table.indicator line.seen mark own.1.0 own.1.1))
-
-  pub lines_shown : HasNoEscape table.indicator → All IsUtf8 (cell_seen table.custom_styling cell).text_lines → All HasNoEscape (cell_seen table.custom_styling cell).text_lines → All IsShown (row_cell_lines table row info cell)
-  lines_shown = lines_with_shown table.custom_styling
