@@ -2,6 +2,7 @@
 pub use Rattle.comfy_parts.proofs.ClearLineLemmas.{IsAsSeen, clear_written}
 pub use Rattle.comfy_parts.proofs.FrameCharacterLemmas.{frame_adds, frame_apart, one_column_characters}
 pub use Rattle.comfy_parts.proofs.FrontLemmas.{encoded_clear}
+pub use Rattle.comfy_parts.proofs.KeptLemmas.{lines_keep_the_text}
 pub use Rattle.comfy_parts.proofs.LineTextLemmas.{Shows-closed, clear-take, none_open}
 pub use Rattle.comfy_parts.proofs.LinesFitLemmas.{IsFittingLine}
 pub use Rattle.comfy_parts.proofs.PlainTextLemmas.{IsPlainLine, lines_of_text-plain, slices-printable}
