@@ -9,7 +9,7 @@ ghost use Rattle.std.specs.Cmp.{IsTotalOrder};
 ghost use Rattle.comfy_parts.specs.CellEquality.{cell_eq, cell_hash};
 ghost use Rattle.comfy_parts.specs.Columns.{AddingUpFits, FrameCharactersAddOneColumn, FrameTextsAreApart, IsOneColumnPreset, PartsAddUp, SpaceAddsOneColumn, TextLinesFit, presets_all};
 ghost use Rattle.comfy_parts.specs.Comparisons.{ascends, attribute_cmp, attribute_eq, attribute_hash, attributes_in_order, color_cmp, color_eq, color_hash, colors_in_order, EqHashesAlike, EqIsSame, EqualIsSame};
-ghost use Rattle.comfy_parts.specs.Laws.{ActiveIsResumed, ClosedTextsLeaveNone, CutLinesAreFull, HeadIsLongest, IsCutOutsideNarrow, LinesAreFew, LinesAreFewest, LinesAreResumed, LinesAreSeen, LinesFit, NeighboursFillALine, NoneIsLeftOpen, OtherBytesAreVisible, PrintableClustersAreCharacters, PrintableAddsOneColumnEach, PrintableMeasuresItsLength, SequencesAreTakenOut, SequencesLeaveTheLines, WrappedIsOne, WrappedIsWrapped};
+ghost use Rattle.comfy_parts.specs.Laws.{ActiveIsResumed, ClosedTextsLeaveNone, CutLinesAreFull, HeadIsLongest, IsCutOutsideNarrow, LinesAreFew, LinesAreFewest, LinesAreResumed, LinesAreSeen, LinesFit, LinesKeepTheText, NeighboursFillALine, NoneIsLeftOpen, OtherBytesAreVisible, PrintableClustersAreCharacters, PrintableAddsOneColumnEach, PrintableMeasuresItsLength, SequencesAreTakenOut, SequencesLeaveTheLines, WrappedIsOne, WrappedIsWrapped};
 ghost use Rattle.comfy_parts.specs.Text.{Text};
 ghost use Rattle.comfy_parts.specs.Wrapping.{IsWrapped};
 
@@ -86,6 +86,11 @@ pub fn printable_measures_its_length()
 /// Behind any printable ASCII text, a printable ASCII indicator adds one terminal column for each of its characters.
 pub fn printable_adds_one_column_each()
     ensures { (indicator : Text) → PrintableAddsOneColumnEach indicator }
+{}
+
+/// The lines of a cell, one after another, have all characters of its text lines, in order, but for delimiters.
+pub fn lines_keep_the_text()
+    ensures { (w d : ℕ) (text_lines : List Text) → LinesKeepTheText w d text_lines }
 {}
 
 /// What is visible of a text: a sequence at its front is taken out, any other first byte stays, and so on after it.

@@ -1,10 +1,10 @@
 -- The lines of a cell, of which one may be cut.
-use Rattle.std.proofs.Common.{◌≡◌, ◌<◌, ℕ, ◌-◌, Bool, true, false, List, [], ◌∷◌, Option, Some, None, length, map, take, unwrap_or, nat_le, refl, ap, ◌∙◌, sym, arith}
-use Rattle.std.specs.List.{All}
+use Rattle.std.proofs.Common.{◌≡◌, ◌<◌, ℕ, ◌-◌, Bool, true, false, List, [], ◌∷◌, Option, Some, None, length, map, take, unwrap_or, nat_le, refl, ap, ◌∙◌, sym, arith, subst}
+use Rattle.std.specs.List.{All, slice_get}
 use Rattle.std.proofs.lemmas.Bool.{cond_both}
 use Rattle.std.proofs.lemmas.Bool.Decides.{nat_tests}
 use Rattle.std.proofs.lemmas.List.{drop-map, length-map, map-append, take-map}
-use Rattle.std.proofs.lemmas.List.Elements.{All-append, All-drop, All-map, All-take, All-weaker}
+use Rattle.std.proofs.lemmas.List.Elements.{All-append, All-cons, All-drop, All-nil, All-map, All-take, All-weaker}
 use Rattle.comfy_parts.proofs.CallerLemmas.{seen_lines}
 use Rattle.comfy_parts.specs.CellValue.{CellValue, ColumnInfo, RowValue}
 use Rattle.comfy_parts.specs.Text.{Text, measure}
@@ -13,7 +13,7 @@ use Rattle.comfy_table.proofs.JoinLemmas.{map-map}
 use Rattle.comfy_table.proofs.SeenLemmas.{cell_seen}
 use Rattle.comfy_table.specs.Laws.{unstyled}
 use Rattle.comfy_table.specs.Lines.{as_seen, cell_delimiter, cell_lines, cut_line, cut_text, cut_to_height, cut_to_limit, whole_lines}
-use Rattle.comfy_table.specs.Pieces.{cell_pieces, padded, row_cell_lines}
+use Rattle.comfy_table.specs.Pieces.{blank_piece, cell_pieces, padded, pieces_at, pieces_of_optional, row_cell_lines}
 use Rattle.comfy_table.specs.TableValue.{TableValue}
 
 -- ---- lists of which one element may be cut
@@ -82,3 +82,13 @@ plain_piece cell info line = padded cell info (measure line) line
 -- such are all pieces
 pub pieces-unstyled : (table : TableValue) (row : RowValue) (info : ColumnInfo) (cell : CellValue) → cell_pieces (unstyled table) row info cell ≡ map (plain_piece cell info) (seen_in_row table row info cell)
 pieces-unstyled table row info cell = grind (arith, row-unstyled, map-map)
+
+-- what holds of the pieces of lines as they are seen, and of a blank one, holds of all pieces in a column
+pub All-pieces : (P : Text → Type 0) (table : TableValue) (row : RowValue) (p : ℕ × ColumnInfo) → P (blank_piece p.1)
+    → ((cell : CellValue) → slice_get row.cells p.0 ≡ Some cell → All (λ line. P (plain_piece cell p.1 line)) (seen_in_row table row p.1 cell)) → All P (pieces_at (unstyled table) row p)
+All-pieces P table row p blank = by_option (slice_get row.cells p.0)
+  where
+    by_option : (o : Option CellValue) → ((cell : CellValue) → o ≡ Some cell → All (λ line. P (plain_piece cell p.1 line)) (seen_in_row table row p.1 cell)) → All P (pieces_of_optional (unstyled table) row p.1 o)
+    by_option None each = All-cons P (blank_piece p.1) [] blank (All-nil P)
+    by_option (Some cell) each =
+        subst (All P) (sym (pieces-unstyled table row p.1 cell)) (All-map P (plain_piece cell p.1) (seen_in_row table row p.1 cell) (each cell refl))

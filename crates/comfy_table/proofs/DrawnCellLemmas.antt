@@ -6,7 +6,7 @@ use Rattle.comfy_parts.specs.CellValue.{CellValue, RowValue, ColumnInfo}
 use Rattle.comfy_parts.specs.Text.{greatest}
 use Rattle.comfy_table.proofs.JoinLemmas.{map-map}
 use Rattle.comfy_table.specs.DrawnCells.{DrawnLine, drawn_cell, drawn_line, greatest_height, piece_at, pieces_of_content}
-use Rattle.comfy_table.specs.Pieces.{blank_piece, pieces_of_optional, row_cell_lines, row_lines, visible_infos}
+use Rattle.comfy_table.specs.Pieces.{pieces_of_optional, row_cell_lines, row_lines, visible_infos}
 use Rattle.comfy_table.specs.TableValue.{TableValue}
 
 -- what is made of the element at a position, or a default
@@ -14,11 +14,6 @@ pub index-map : {A B : Type 0} (f : A → B) (xs : List A) (k : ℕ) (default : 
 index-map f [] k default = refl
 index-map f (x ∷ xs) zero default = refl
 index-map f (x ∷ xs) (suc k) default = index-map f xs k default
-
--- a blank_piece, whatever the line
-pub one_blank : (info : ColumnInfo) (k : ℕ) → slice_index_or (blank_piece info ∷ []) k (blank_piece info) ≡ blank_piece info
-one_blank info zero = refl
-one_blank info (suc k) = refl
 
 -- the pieces of a cell that a row has, with its lines
 pub content_pieces : (table : TableValue) (row : RowValue) (info : ColumnInfo) (o : Option CellValue) (cell : CellValue) (lines : List DrawnLine) → o ≡ Some cell → lines ≡ map drawn_line (row_cell_lines table row info cell)

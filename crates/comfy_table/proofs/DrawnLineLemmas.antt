@@ -1,8 +1,8 @@
 -- The lines of a cell as they are drawn.
-use Rattle.std.proofs.Common.{Some, zero, suc, ◌≡◌, ◌<◌, ◌≤◌, ℕ, ◌-◌, Bool, true, false, List, [], ◌∷◌, ◌++◌, ◌&&◌, length, map, take, unwrap_or, nat_le, refl, ap, ap₂, ◌∙◌, sym, slice_index_or, arith, append_assoc, append-nil}
+use Rattle.std.proofs.Common.{Some, zero, suc, ◌≡◌, ◌<◌, ◌≤◌, ℕ, ◌-◌, Bool, true, false, List, [], ◌∷◌, ◌++◌, ◌&&◌, length, map, take, unwrap_or, nat_le, refl, ap, ◌∙◌, sym, slice_index_or, arith}
 use Rattle.std.specs.List.{AllByRecursion, flat_map, list_all, list_any, slice_get}
 use Rattle.std.proofs.lemmas.Bool.Decides.{nat_tests}
-use Rattle.std.proofs.lemmas.List.{drop_more, get_or-map, get_or_read, length-append, length-map, map-append, take-map, take_all, take_more}
+use Rattle.std.proofs.lemmas.List.{drop_more, get_or-map, length-map, map-append, take-map}
 use Rattle.comfy_parts.proofs.CallerLemmas.{IsAsSeen, clear_written}
 use Rattle.comfy_parts.specs.CellValue.{CellValue, ColumnInfo, RowValue}
 use Rattle.comfy_parts.specs.Text.{Text, measure}
@@ -12,7 +12,7 @@ use Rattle.comfy_parts.specs.Wrapping.{lines_of_text}
 use Rattle.comfy_table.proofs.CutLemmas.{no_limit, seen_of, whole-seen}
 use Rattle.comfy_table.proofs.JoinLemmas.{map-map}
 use Rattle.comfy_table.proofs.SeenLemmas.{cell_seen}
-use Rattle.comfy_table.specs.DrawnCells.{DrawnLine, drawn_line, drawn_text}
+use Rattle.comfy_table.specs.DrawnCells.{DrawnLine, drawn_line, drawn_text, with_texts}
 use Rattle.comfy_table.specs.Lines.{as_seen, cell_delimiter, cell_lines, cut_line, whole_lines}
 use Rattle.comfy_table.specs.Pieces.{row_cell_lines}
 use Rattle.comfy_table.specs.TableValue.{TableValue}
@@ -41,62 +41,16 @@ text_found f [] k text below read = absurd (omega (arith, below))
 text_found {A} f (x ∷ texts) zero text below read = ap (λ (y : A). Some (record { columns = measure (f x); written = f y })) read
 text_found f (x ∷ texts) (suc k) text below read = text_found f texts k text (omega (arith, below)) read
 
--- ---- lines that get their texts one after another
+-- lines without texts of their own
+pub no_texts : (lines : List DrawnLine) (texts : List Text) → length texts ≡ 0 → with_texts lines texts ≡ lines
+no_texts [] texts none = refl
+no_texts (line ∷ lines) [] none = refl
+no_texts (line ∷ lines) (text ∷ texts) none = absurd (omega (arith, none))
 
--- the columns and the texts of lines
-abbrev columns_of : List DrawnLine → List ℕ
-columns_of lines = map (λ (line : DrawnLine). line.columns) lines
-
-abbrev texts_of : List DrawnLine → List Text
-texts_of lines = map (λ (line : DrawnLine). line.written) lines
-
--- lines of the same columns and texts are the same
-same_lines : (xs ys : List DrawnLine) → columns_of xs ≡ columns_of ys → texts_of xs ≡ texts_of ys → xs ≡ ys
-same_lines [] [] columns texts = refl
-same_lines [] (y ∷ ys) columns texts = absurd (cc columns)
-same_lines (x ∷ xs) [] columns texts = absurd (cc columns)
-same_lines (x ∷ xs) (y ∷ ys) columns texts =
-    let column : x.columns ≡ y.columns = cc columns in
-    let text : x.written ≡ y.written = cc texts in
-    let more : columns_of xs ≡ columns_of ys = cc columns in
-    let others : texts_of xs ≡ texts_of ys = cc texts in
-    λ i. record { columns = column i; written = text i } ∷ same_lines xs ys more others i
-
--- the first of these lines have their texts, and the rest of the texts is still to come
-abbrev pub HaveTexts : List CellLine → List DrawnLine → List DrawnLine → List Text → Type 0
-HaveTexts all seen lines rest =
-    (map (λ (line : DrawnLine). line.written) lines ++ rest ≡ map (λ (line : CellLine). line.written) all)
-    × (map (λ (line : DrawnLine). line.columns) lines ≡ take (length lines) (map (λ (line : DrawnLine). line.columns) seen))
-
-module _ (all : List CellLine) (seen lines : List DrawnLine) (are : seen ≡ map drawn_text (seen_of all)) where
-  -- while texts are left, lines are
-  pub lines_left : (text : Text) (rest : List Text) → HaveTexts all seen lines (text ∷ rest) → length lines < length seen
-  lines_left text rest have =
-      let counts = ap length have.0 in
-      let many = ap length are in
-      grind (arith, counts, many, length-map, length-append)
-
-  -- the next line gets its text
-  pub text_given : (text : Text) (rest : List Text) (line : DrawnLine) (columns : ℕ) → HaveTexts all seen lines (text ∷ rest) → line ≡ slice_index_or seen (length lines) line → columns ≡ line.columns
-      → HaveTexts all seen (lines ++ record { columns = columns; written = text } ∷ []) rest
-  text_given text rest line columns have read same =
-      let below : length lines < length seen = lines_left text rest have in
-      let many = length-map seen (λ (line : DrawnLine). line.columns) in
-      let at : columns ≡ slice_index_or (columns_of seen) (length lines) 0 =
-      same ∙ ap (λ (line : DrawnLine). line.columns) (get_or_read seen (length lines) line below read (drawn_text []))
-      ∙ sym (get_or-map (λ (line : DrawnLine). line.columns) seen (length lines) (drawn_text []) 0 below) in
-      (grind (arith, have.0, map-append, append_assoc),
-      map-append (λ (line : DrawnLine). line.columns) lines _
-      ∙ ap₂ (λ (cs : List ℕ) (c : ℕ). cs ++ c ∷ []) have.1 at
-      ∙ sym (take_more (columns_of seen) (length lines) 0 (omega (arith, many, below)))
-      ∙ ap (λ n. take n (columns_of seen)) (sym (length-append lines (record { columns = columns; written = text } ∷ []))))
-
-  -- all have theirs
-  pub texts_given : {A : Type 0} (f : A → Text) (rest : List A) → length rest ≡ 0 → HaveTexts all seen lines (map f rest) → lines ≡ map drawn_line all
-  texts_given f [] none have =
-      let counts = ap length have.0 in
-      same_lines lines (map drawn_line all) (have.1 ∙ grind (arith, are, counts, take_all, length-map, length-append, map-map)) (grind (arith, have.0, append-nil, map-map))
-  texts_given f (text ∷ rest) none have = absurd (omega (arith, none))
+-- lines with all their texts
+pub all_texts : (lines : List CellLine) → with_texts (map drawn_text (seen_of lines)) (map (λ (line : CellLine). line.written) lines) ≡ map drawn_line lines
+all_texts [] = refl
+all_texts (line ∷ lines) = ap (λ (more : List DrawnLine). drawn_line line ∷ more) (all_texts lines)
 
 -- ---- of a cell
 
@@ -118,28 +72,29 @@ module _ (table : TableValue) (row : RowValue) (info : ColumnInfo) (cell : CellV
   drawn-seen none = grind (arith, own_texts, map-map)
 
   -- lines none of which is cut
-  pub drawn-uncut : length seen ≤ unwrap_or row.max_height (length seen) → row_cell_lines table row info cell ≡ whole
-  drawn-uncut within = grind (arith, nat_tests, as_many, no_limit)
+  pub drawn-uncut : (lines : List DrawnLine) → lines ≡ map drawn_text seen → length lines ≤ unwrap_or row.max_height (length lines) → row_cell_lines table row info cell ≡ whole
+  drawn-uncut lines are within = let many = ap length are in grind (arith, nat_tests, as_many, no_limit, length-map, many)
 
   -- text lines that fit, of which none is cut
   pub drawn-texts : list_all (λ width. nat_le width info.content_width) (map measure (cell_seen table.custom_styling cell).text_lines) ≡ true
       → length (cell_seen table.custom_styling cell).text_lines ≤ unwrap_or row.max_height (length (cell_seen table.custom_styling cell).text_lines)
       → (table.custom_styling && list_any has_escape cell.text_lines) ≡ false
       → map drawn_text (cell_seen table.custom_styling cell).text_lines ≡ map drawn_line (row_cell_lines table row info cell)
-  drawn-texts fit within none = grind (arith, all_fit, drawn-seen, drawn-uncut)
+  drawn-texts fit within none = grind (arith, all_fit, length-map, drawn-seen, drawn-uncut (map drawn_text seen))
 
   -- lines of which one is cut
-  pub drawn-cut : (h : ℕ) (last : DrawnLine) → h ≡ unwrap_or row.max_height (length seen) → h < length seen → last ≡ slice_index_or (map drawn_text seen) (h - 1) last
+  pub drawn-cut : (lines : List DrawnLine) (h : ℕ) (last : DrawnLine) → lines ≡ map drawn_text seen → h ≡ unwrap_or row.max_height (length lines) → h < length lines → last ≡ slice_index_or lines (h - 1) last
       → take (h - 1) (map drawn_line whole) ++ drawn_line (cut_line table.custom_styling info.content_width table.indicator (as_seen last.written)) ∷ [] ≡ map drawn_line (row_cell_lines table row info cell)
-  drawn-cut h last is taller read =
+  drawn-cut lines h last are is taller read =
+      let long : length lines ≡ length seen = ap length are ∙ length-map seen drawn_text in
       let many = as_many in
       let cut = cut_line table.custom_styling info.content_width table.indicator in
       let kept : CellLine = slice_index_or whole (h - 1) (as_seen []) in
       let text : last.written ≡ kept.seen =
-      ap (λ (line : DrawnLine). line.written) (read ∙ get_or-map drawn_text seen (h - 1) [] last (omega (arith, taller)))
+      ap (λ (line : DrawnLine). line.written) (read ∙ ap (λ (lines : List DrawnLine). slice_index_or lines (h - 1) last) are ∙ get_or-map drawn_text seen (h - 1) [] last (omega (arith, long, taller)))
       ∙ ap (λ (lines : List Text). slice_index_or lines (h - 1) []) (sym (whole-seen table.custom_styling info.content_width (cell_delimiter table info.delimiter cell) cell))
-      ∙ get_or-map (λ (line : CellLine). line.seen) whole (h - 1) (as_seen []) [] (omega (arith, many, taller)) in
-      let lines : row_cell_lines table row info cell ≡ take (h - 1) whole ++ cut kept ∷ [] = grind (arith, nat_tests, no_limit, many, drop_more) in
+      ∙ get_or-map (λ (line : CellLine). line.seen) whole (h - 1) (as_seen []) [] (omega (arith, many, long, taller)) in
+      let lines : row_cell_lines table row info cell ≡ take (h - 1) whole ++ cut kept ∷ [] = grind (arith, nat_tests, no_limit, many, long, drop_more) in
       ap (λ (t : Text). take (h - 1) (map drawn_line whole) ++ drawn_line (cut (as_seen t)) ∷ []) text
       ∙ ap (λ (front : List DrawnLine). front ++ drawn_line (cut kept) ∷ []) (take-map drawn_line (h - 1) whole)
       ∙ sym (map-append drawn_line (take (h - 1) whole) (cut kept ∷ []))

@@ -1,16 +1,16 @@
 -- All lines of a plain table have the same number of characters.
 use Rattle.std.proofs.lemmas.Bool.{cond_both}
-use Rattle.std.proofs.Common.{◌≡◌, ◌<◌, ◌≤◌, ℕ, ◌+◌, List, [], ◌∷◌, ◌++◌, Option, Some, None, length, sum, refl, ap, ◌∙◌, arith, slice_index_or, subst, sym}
+use Rattle.std.proofs.Common.{◌≡◌, ◌≤◌, ℕ, ◌+◌, List, [], ◌∷◌, ◌++◌, Option, Some, None, length, sum, refl, ap, ◌∙◌, arith, slice_index_or}
 use Rattle.std.specs.List.{All, range_with_len, slice_get}
 use Rattle.std.specs.Prelude.{option_to_list}
 use Rattle.std.specs.Str.{IsUtf8}
 use Rattle.std.proofs.lemmas.List.{length-map}
 use Rattle.std.proofs.lemmas.List.Elements.{All-cons, All-nil, All-head, All-tail, All-append, All-weaker, All-map}
 use Rattle.comfy_parts.specs.CellValue.{CellValue, RowValue, ColumnValue, ColumnInfo, info_width}
-use Rattle.comfy_parts.specs.Text.{AddsOneColumnEach, Text}
+use Rattle.comfy_parts.specs.Text.{Text}
 use Rattle.comfy_parts.specs.declared.style.table_style.ContentLineStyle.{ContentLineStyle}
 use Rattle.comfy_parts.specs.declared.style.table_style.LineStyle.{LineStyle}
-use Rattle.comfy_table.proofs.CutLemmas.{pieces-unstyled, plain_piece, seen_in_row}
+use Rattle.comfy_table.proofs.CutLemmas.{All-pieces, plain_piece, seen_in_row}
 use Rattle.comfy_table.proofs.CellCountLemmas.{IsCountedLine, row_cell_lines-counted, HasCount-plain_piece}
 use Rattle.comfy_table.proofs.CountLemmas.{HasCount, HasCount-spaces, HasCount-joined, HasCount-frame_line, count-is}
 use Rattle.comfy_table.proofs.ListLemmas.{All-every, At-or, All-join_by, All-given, AllZip-map}
@@ -18,8 +18,7 @@ use Rattle.comfy_table.proofs.InfoLemmas.{columns_from, infos_from, infos-known}
 use Rattle.comfy_table.specs.Drawing.{infos_of, whole_widths, drawn_row, drawn_header, drawn_rows, drawing_of_infos, drawing}
 use Rattle.comfy_table.specs.Frame.{border_count, content_line, frame_line, is_drawn, optional_frame_line}
 use Rattle.comfy_table.specs.Laws.{count, unstyled, line_total, IsPlainCell, AddsOneColumnEachWhereWritten, IsPlainTable}
-use Rattle.comfy_table.specs.Lines.{cell_lines, cell_delimiter, fitting_indicator}
-use Rattle.comfy_table.specs.Pieces.{blank_piece, pieces_of_optional, pieces_at, row_line, row_lines, row_height, visible_infos}
+use Rattle.comfy_table.specs.Pieces.{blank_piece, pieces_at, row_line, row_lines, row_height, visible_infos}
 use Rattle.comfy_table.specs.TableValue.{TableValue, column_cells, seen_rows}
 use Rattle.comfy_table.specs.Widths.{visible_count}
 use Rattle.comfy_table.specs.Arrangement.{IsArranged}
@@ -47,18 +46,10 @@ ArePiecesCounted table row p = All (HasCount (info_width p.1)) (pieces_at (unsty
 -- the pieces of a plain cell are as wide as the column, and so is the blank_piece of a missing one
 pieces-counted : (table : TableValue) (row : RowValue) (p : ℕ × ColumnInfo) → IsUtf8 table.indicator → 1 ≤ p.1.content_width
     → ((cell : CellValue) → slice_get row.cells p.0 ≡ Some cell → IsPlainCell table p.1.delimiter cell) → AddsOneColumnEachWhereWritten table row p → ArePiecesCounted table row p
-pieces-counted table row p utf8 places plain even = by_option (slice_get row.cells p.0) plain even
-  where
-    by_option : (o : Option CellValue) → ((cell : CellValue) → o ≡ Some cell → IsPlainCell table p.1.delimiter cell)
-        → ((cell : CellValue) (h : ℕ) → o ≡ Some cell → row.max_height ≡ Some h → h < length (cell_lines p.1.content_width (cell_delimiter table p.1.delimiter cell) cell) → AddsOneColumnEach (fitting_indicator p.1.content_width table.indicator))
-        → All (HasCount (info_width p.1)) (pieces_of_optional (unstyled table) row p.1 o)
-    by_option None plain even =
-        All-cons (HasCount (info_width p.1)) (blank_piece p.1) [] (HasCount-spaces (info_width p.1)) (All-nil (HasCount (info_width p.1)))
-    by_option (Some cell) plain even =
-        subst (All (HasCount (info_width p.1))) (sym (pieces-unstyled table row p.1 cell))
-        (All-map (HasCount (info_width p.1)) (plain_piece cell p.1) (seen_in_row table row p.1 cell)
-        (All-weaker (IsCountedLine p.1.content_width) (λ line. HasCount (info_width p.1) (plain_piece cell p.1 line)) (HasCount-plain_piece cell p.1) (seen_in_row table row p.1 cell)
-        (row_cell_lines-counted table row p.1 cell places utf8 (plain cell refl) (λ h. even cell h refl))))
+pieces-counted table row p utf8 places plain even =
+    All-pieces (HasCount (info_width p.1)) table row p (HasCount-spaces (info_width p.1))
+    (λ cell found. All-weaker (IsCountedLine p.1.content_width) (λ line. HasCount (info_width p.1) (plain_piece cell p.1 line)) (HasCount-plain_piece cell p.1) (seen_in_row table row p.1 cell)
+    (row_cell_lines-counted table row p.1 cell places utf8 (plain cell found) (λ h. even cell h found)))
 
 -- ---- the drawing
 

@@ -20,10 +20,10 @@ pub enumerated_all : {A B : Type 0} (f : ℕ × A → B) (xs : List A) (i : ℕ)
 enumerated_all f xs i past = grind (arith, length-enumerate_from, take_all)
 
 -- one element more, where those that pass a test are kept
-pub filtered_more : {A B : Type 0} (f : ℕ × A → B) (test : ℕ × A → Bool) (xs : List A) (i : ℕ) (x : A) (b : Bool) → i < length xs → x ≡ slice_index_or xs i x → test (i, x) ≡ b
-    → map f (filter test (take (i + 1) (enumerate_from 0 xs))) ≡ map f (filter test (take i (enumerate_from 0 xs))) ++ cond b (f (i, x) ∷ []) []
-filtered_more {A} {B} f test xs i x b below is passes =
-    let kept_here : map f (cond (test (i, x)) ((i, x) ∷ []) []) ≡ cond b (f (i, x) ∷ []) [] = grind arith in
+pub filtered_more : {A B : Type 0} (f : ℕ × A → B) (test : ℕ × A → Bool) (xs : List A) (i : ℕ) (x : A) → i < length xs → x ≡ slice_index_or xs i x
+    → map f (filter test (take (i + 1) (enumerate_from 0 xs))) ≡ map f (filter test (take i (enumerate_from 0 xs))) ++ cond (test (i, x)) (f (i, x) ∷ []) []
+filtered_more {A} {B} f test xs i x below is =
+    let kept_here : map f (cond (test (i, x)) ((i, x) ∷ []) []) ≡ cond (test (i, x)) (f (i, x) ∷ []) [] = grind arith in
     ap (map f) (ap (filter test) more ∙ filter-append test (take i (enumerate_from 0 xs)) ((i, x) ∷ []))
     ∙ map-append f (filter test (take i (enumerate_from 0 xs))) (filter test ((i, x) ∷ []))
     ∙ ap (λ (kept : List B). map f (filter test (take i (enumerate_from 0 xs))) ++ kept) kept_here

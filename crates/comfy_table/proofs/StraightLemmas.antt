@@ -1,10 +1,10 @@
 -- All lines of a table whose lines fit measure the same.
 use Rattle.std.proofs.lemmas.Bool.{cond_both}
-use Rattle.std.proofs.Common.{◌≡◌, ◌<◌, ◌≤◌, ◌⊎◌, inl, inr, ℕ, ◌+◌, Bool, List, [], Option, Some, None, length, sum, refl, ◌∙◌, subst, arith, slice_index_or, sym}
+use Rattle.std.proofs.Common.{◌≡◌, ◌<◌, ◌≤◌, ◌⊎◌, inl, inr, ℕ, ◌+◌, Bool, List, [], Some, None, length, sum, ◌∙◌, subst, arith, slice_index_or}
 use Rattle.std.specs.List.{All, slice_get}
 use Rattle.std.specs.Prelude.{IsUtf8}
 use Rattle.std.proofs.lemmas.List.{length-map}
-use Rattle.std.proofs.lemmas.List.Elements.{All-cons, All-nil, All-weaker, All-map}
+use Rattle.std.proofs.lemmas.List.Elements.{All-cons, All-nil, All-weaker}
 use Rattle.comfy_parts.specs.CellValue.{CellValue, RowValue, ColumnInfo, info_width}
 use Rattle.comfy_parts.specs.Text.{Text, measure}
 use Rattle.comfy_parts.specs.declared.style.table_style.ContentLineStyle.{ContentLineStyle}
@@ -14,12 +14,12 @@ use Rattle.comfy_table.proofs.ListLemmas.{At-or, AllZip-map}
 use Rattle.comfy_table.specs.Drawing.{infos_of, whole_widths, drawn_row, drawing_of_infos, drawing}
 use Rattle.comfy_table.specs.Frame.{border_count, content_line, draws_vertical_lines, frame_line, is_drawn, optional_frame_line}
 use Rattle.comfy_table.specs.Laws.{line_total, unstyled}
-use Rattle.comfy_table.specs.Pieces.{blank_piece, pieces_of_optional, pieces_at, row_line, visible_infos}
+use Rattle.comfy_table.specs.Pieces.{blank_piece, pieces_at, row_line, visible_infos}
 use Rattle.comfy_table.specs.TableValue.{TableValue, seen_rows}
 use Rattle.comfy_table.specs.Widths.{visible_count}
 use Rattle.comfy_table.specs.Arrangement.{IsArranged}
 use Rattle.comfy_table.specs.Straight.{EachCell, IsShownWhole, IsStraightTable, LinesFit, TextsFit, TextsStandApart}
-use Rattle.comfy_table.proofs.CutLemmas.{pieces-unstyled, plain_piece, seen_in_row}
+use Rattle.comfy_table.proofs.CutLemmas.{All-pieces, plain_piece, seen_in_row}
 use Rattle.comfy_table.proofs.CellFitLemmas.{HasFittingLines, IsWholeCell, lines-fit, texts-fit}
 use Rattle.comfy_table.proofs.WholeTableLemmas.{whole_table_fits}
 use Rattle.comfy_table.proofs.InfoLemmas.{infos-known}
@@ -37,17 +37,9 @@ pieces-good : (Follows : Text → Type 0) (table : TableValue) (row : RowValue) 
     → IsGoodPiece Follows (draws_vertical_lines table.style) (info_width p.1) (blank_piece p.1)
     → ((cell : CellValue) (line : Text) → IsFittingLine p.1.content_width line → IsGoodPiece Follows (draws_vertical_lines table.style) (info_width p.1) (plain_piece cell p.1 line))
     → ArePiecesGood Follows table row p
-pieces-good Follows table row p fit blank each = by_option (slice_get row.cells p.0) fit
-  where
-    Good : Text → Type 0
-    Good = IsGoodPiece Follows (draws_vertical_lines table.style) (info_width p.1)
-
-    by_option : (o : Option CellValue) → ((cell : CellValue) → o ≡ Some cell → All (IsFittingLine p.1.content_width) (seen_in_row table row p.1 cell)) → All Good (pieces_of_optional (unstyled table) row p.1 o)
-    by_option None fit = All-cons Good (blank_piece p.1) [] blank (All-nil Good)
-    by_option (Some cell) fit =
-        subst (All Good) (sym (pieces-unstyled table row p.1 cell))
-        (All-map Good (plain_piece cell p.1) (seen_in_row table row p.1 cell)
-        (All-weaker (IsFittingLine p.1.content_width) (λ line. Good (plain_piece cell p.1 line)) (each cell) (seen_in_row table row p.1 cell) (fit cell refl)))
+pieces-good Follows table row p fit blank each =
+    All-pieces (IsGoodPiece Follows (draws_vertical_lines table.style) (info_width p.1)) table row p blank
+    (λ cell found. All-weaker (IsFittingLine p.1.content_width) (λ line. IsGoodPiece Follows (draws_vertical_lines table.style) (info_width p.1) (plain_piece cell p.1 line)) (each cell) (seen_in_row table row p.1 cell) (fit cell found))
 
 -- ---- the drawing
 

@@ -25,6 +25,12 @@ abbrev pub made_or_texts : Option (List DrawnLine) → List Text → List DrawnL
 made_or_texts None texts = map drawn_text texts
 made_or_texts (Some lines) texts = lines
 
+-- lines of which the first have texts of their own
+abbrev pub with_texts : List DrawnLine → List Text → List DrawnLine
+with_texts [] texts = []
+with_texts (line ∷ lines) [] = line ∷ lines
+with_texts (line ∷ lines) (text ∷ texts) = record { columns = line.columns; written = text } ∷ with_texts lines texts
+
 -- a visible column, and its pieces in a row
 pub record DrawnCell : Type 0 where
   pub info : ColumnInfo

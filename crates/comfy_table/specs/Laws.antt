@@ -1,10 +1,11 @@
 -- What drawings and widths promise beyond their definitions. Each is a statement at given values.
-use Rattle.std.specs.Prelude.{◌≡◌, ℕ, ◌+◌, ◌-◌, ◌<◌, ◌≤◌, Bool, true, false, List, [], ◌∷◌, ◌++◌, Option, Some, None, take, drop, length, max, sum, sum_by, All, chars, slice_get, unwrap_or, ◌==◌}
+use Rattle.std.specs.Prelude.{◌≡◌, ℕ, ◌+◌, ◌-◌, ◌<◌, ◌≤◌, Bool, true, false, List, [], ◌∷◌, ◌++◌, Option, Some, None, take, drop, length, max, sum, sum_by, All, chars, slice_get, map, IsUtf8, unwrap_or, ◌==◌}
+use Rattle.std.specs.Char.{IsScalar}
 use Rattle.std.specs.Int.{is_in_range}
-use Rattle.std.specs.List.{AllZip, slice_split}
+use Rattle.std.specs.List.{AllZip, concat, slice_split}
 use Rattle.comfy_parts.specs.CellValue.{CellValue, RowValue, ColumnValue, ColumnInfo, column_padding}
 use Rattle.comfy_parts.specs.Text.{Text, HasNo, is_printable_ascii, AddsOneColumnEach}
-use Rattle.comfy_parts.specs.Laws.{IsResumedLine}
+use Rattle.comfy_parts.specs.Laws.{IsResumedLine, characters_without}
 use Rattle.comfy_parts.specs.VisibleLines.{CellLine, line_starts}
 use Rattle.comfy_parts.specs.VisibleText.{closed, parts, open_after}
 use Rattle.comfy_parts.specs.declared.style.table.ContentArrangement.TheVariants.{Dynamic, DynamicFullWidth}
@@ -14,7 +15,7 @@ use Rattle.comfy_table.specs.Dynamic.{Steps, IsDynamic, fixed_shares, places_of,
 use Rattle.comfy_table.specs.Frame.{border_count, left_characters, right_characters, junction_characters}
 use Rattle.comfy_table.specs.Lines.{cell_lines, cell_delimiter, fitting_indicator, uncut_count, whole_lines}
 use Rattle.comfy_table.specs.Pieces.{visible_infos, row_cell_lines}
-use Rattle.comfy_table.specs.TableValue.{TableValue, table_width, visible_columns, column_cells, seen_table, seen_rows}
+use Rattle.comfy_table.specs.TableValue.{TableValue, table_width, visible_columns, column_cells, seen_cell, seen_table, seen_rows}
 use Rattle.comfy_table.specs.Widths.{ColumnNeeds, visible_count}
 
 -- ---- counts of lines
@@ -86,6 +87,15 @@ least_with_steps columns steps =
 -- one list of widths is dynamic
 abbrev pub DynamicIsOne : ℕ → List ColumnNeeds → Bool → List ℕ → List ℕ → Type 0
 DynamicIsOne room columns full widths others = IsDynamic room columns full widths → IsDynamic room columns full others → widths ≡ others
+
+-- ---- texts
+
+-- the lines of a cell that no height cuts, as they are seen, have all characters of its text, in order, but for delimiters
+abbrev pub CellKeepsItsText : TableValue → RowValue → ColumnInfo → CellValue → Type 0
+CellKeepsItsText table row info cell =
+    row.max_height ≡ None → IsScalar (cell_delimiter table info.delimiter cell) → All IsUtf8 (seen_cell table cell).text_lines
+    → characters_without (cell_delimiter table info.delimiter cell) (concat (map (λ (line : CellLine). line.seen) (row_cell_lines table row info cell)))
+    ≡ characters_without (cell_delimiter table info.delimiter cell) (concat (seen_cell table cell).text_lines)
 
 -- ---- styling and sequences
 

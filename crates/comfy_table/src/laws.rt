@@ -3,11 +3,11 @@
 //! `arrange_content` gives them. The laws of wrapping are re-exported here too.
 
 ghost use Rattle.std.specs.Prelude.{ℕ, Bool, List};
-ghost use Rattle.comfy_parts.specs.CellValue.{ColumnValue, NoFewerColumns, RowValue};
+ghost use Rattle.comfy_parts.specs.CellValue.{CellValue, ColumnInfo, ColumnValue, NoFewerColumns, RowValue};
 ghost use Rattle.comfy_parts.specs.Text.{Text};
 ghost use Rattle.comfy_parts.specs.declared.style.table_style.LineStyle.{LineStyle};
 ghost use Rattle.comfy_parts.specs.declared.style.table_style.TableStyle.{TableStyle};
-ghost use Rattle.comfy_table.specs.Laws.{DynamicIsOne, FillsWidth, JoinedLinesAreFound, KeepsToWidth, NoLinesAreOneEmptyLine, TerminatedLinesAreFound};
+ghost use Rattle.comfy_table.specs.Laws.{CellKeepsItsText, DynamicIsOne, FillsWidth, JoinedLinesAreFound, KeepsToWidth, NoLinesAreOneEmptyLine, TerminatedLinesAreFound};
 ghost use Rattle.comfy_table.specs.NewTables.{NewTablesAreStraight};
 ghost use Rattle.comfy_table.specs.TableLaws.{FillsWiderTotal, FrameCounts, FrameFillsWidth, FrameKeepsToWidth, IsAtMostThreeOver, KeepsToWiderTotal, KeepsToWiderTotalInFull, ShrinkingKeepsCells, TableIsFull, TableIsLevelled, TableKeepsContents, TableLevelIsBest};
 ghost use Rattle.comfy_table.specs.TableValue.{TableValue};
@@ -15,9 +15,9 @@ ghost use Rattle.comfy_table.specs.Widths.{ColumnNeeds};
 
 pub use comfy_parts::laws::{
     active_sequences_are_resumed, cut_lines_are_full, head_is_longest, lines_are_few,
-    lines_are_fewest, lines_fit, lines_leave_no_sequence_open, lines_of_every_script_fit,
-    narrow_elements_stay_whole, neighbours_fill_a_line, presets_have_columns_of_one,
-    printable_adds_one_column_each, printable_measures_its_length,
+    lines_are_fewest, lines_fit, lines_keep_the_text, lines_leave_no_sequence_open,
+    lines_of_every_script_fit, narrow_elements_stay_whole, neighbours_fill_a_line,
+    presets_have_columns_of_one, printable_adds_one_column_each, printable_measures_its_length,
     sequences_are_taken_out_in_one_pass, sequences_count_nothing,
     spaces_and_borders_add_one_column, wrapped_lines_are_one_list,
 };
@@ -107,4 +107,11 @@ pub fn columns_are_at_most_three_wider()
 /// delimiter at its end.
 pub fn shrinking_keeps_the_lines()
     ensures { (table : TableValue) (p : ℕ × ColumnValue) (b : ℕ) → ShrinkingKeepsCells table p b }
+{}
+
+/// The lines of a cell that no height cuts, as they are seen, have all characters of its text, in order, but for
+/// delimiters. What is drawn of a cell are these lines with paddings and spaces, and with sequences where styles are
+/// written.
+pub fn cells_keep_their_text()
+    ensures { (table : TableValue) (row : RowValue) (info : ColumnInfo) (cell : CellValue) → CellKeepsItsText table row info cell }
 {}

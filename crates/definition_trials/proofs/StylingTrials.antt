@@ -11,6 +11,7 @@ use Rattle.comfy_parts.specs.declared.style.attribute.Attribute.TheVariants.{Bol
 use Rattle.comfy_parts.specs.declared.style.color.Color.{Color}
 use Rattle.comfy_parts.specs.declared.style.color.Color.TheVariants.{Reset, Green, Black, Rgb, AnsiValue}
 use Rattle.definition_trials.proofs.TrialTables.{texts}
+use Rattle.comfy_table.specs.Lines.{as_seen}
 use Rattle.comfy_table.specs.Pieces.{piece}
 use Rattle.comfy_table.specs.TableValue.{TableValue, new_table, with_row, max_content_widths, seen_table}
 use Rattle.comfy_parts.specs.VisibleLines.{CellLine, line_texts}
@@ -35,35 +36,35 @@ abbrev styled_cell : String → Option Color → Option Color → List Attribute
 styled_cell text foreground background attributes =
     record (plain_cell (codes text)) { foreground = foreground; background = background; attributes = attributes }
 
-bold_header : piece (styled_table false) (styled_cell "Header1" None None (Bold ∷ [])) wide_info (codes "Header1") ≡ codes "\u{1b}[1m Header1             \u{1b}[0m"
+bold_header : piece (styled_table false) (styled_cell "Header1" None None (Bold ∷ [])) wide_info (as_seen (codes "Header1")) ≡ codes "\u{1b}[1m Header1             \u{1b}[0m"
 unfolding wrapping
 bold_header = refl
 
-all_the_things : piece (styled_table true) (styled_cell "COMBINE ALL THE THINGS" (Some Green) (Some Black) (Bold ∷ SlowBlink ∷ [])) wider_info (codes "COMBINE ALL THE THINGS") ≡ codes " \u{1b}[48;5;0m\u{1b}[38;5;10m\u{1b}[1m\u{1b}[5mCOMBINE ALL THE THINGS\u{1b}[0m        "
+all_the_things : piece (styled_table true) (styled_cell "COMBINE ALL THE THINGS" (Some Green) (Some Black) (Bold ∷ SlowBlink ∷ [])) wider_info (as_seen (codes "COMBINE ALL THE THINGS")) ≡ codes " \u{1b}[48;5;0m\u{1b}[38;5;10m\u{1b}[1m\u{1b}[5mCOMBINE ALL THE THINGS\u{1b}[0m        "
 unfolding wrapping
 all_the_things = refl
 
-two_colours : piece (styled_table false) (styled_cell "x" (Some Green) (Some Black) []) info (codes "x") ≡ codes "\u{1b}[48;5;0m\u{1b}[38;5;10m x \u{1b}[49m\u{1b}[39m"
+two_colours : piece (styled_table false) (styled_cell "x" (Some Green) (Some Black) []) info (as_seen (codes "x")) ≡ codes "\u{1b}[48;5;0m\u{1b}[38;5;10m x \u{1b}[49m\u{1b}[39m"
 unfolding wrapping
 two_colours = refl
 
-each_attribute_once : piece (styled_table true) (styled_cell "x" None None (Underlined ∷ Bold ∷ Bold ∷ [])) info (codes "x") ≡ codes " \u{1b}[1m\u{1b}[4mx\u{1b}[0m "
+each_attribute_once : piece (styled_table true) (styled_cell "x" None None (Underlined ∷ Bold ∷ Bold ∷ [])) info (as_seen (codes "x")) ≡ codes " \u{1b}[1m\u{1b}[4mx\u{1b}[0m "
 unfolding wrapping
 each_attribute_once = refl
 
-reset_foreground : piece (styled_table false) (styled_cell "x" (Some Reset) None []) info (codes "x") ≡ codes "\u{1b}[39m x \u{1b}[39m"
+reset_foreground : piece (styled_table false) (styled_cell "x" (Some Reset) None []) info (as_seen (codes "x")) ≡ codes "\u{1b}[39m x \u{1b}[39m"
 unfolding wrapping
 reset_foreground = refl
 
-three_parts : piece (styled_table false) (styled_cell "x" (Some (Rgb 1 2 3)) None []) info (codes "x") ≡ codes "\u{1b}[38;2;1;2;3m x \u{1b}[39m"
+three_parts : piece (styled_table false) (styled_cell "x" (Some (Rgb 1 2 3)) None []) info (as_seen (codes "x")) ≡ codes "\u{1b}[38;2;1;2;3m x \u{1b}[39m"
 unfolding wrapping digits
 three_parts = refl
 
-one_of_256 : piece (styled_table false) (styled_cell "x" None (Some (AnsiValue 200)) []) info (codes "x") ≡ codes "\u{1b}[48;5;200m x \u{1b}[49m"
+one_of_256 : piece (styled_table false) (styled_cell "x" None (Some (AnsiValue 200)) []) info (as_seen (codes "x")) ≡ codes "\u{1b}[48;5;200m x \u{1b}[49m"
 unfolding wrapping digits
 one_of_256 = refl
 
-nothing_set : piece (styled_table false) (styled_cell "x" None None []) info (codes "x") ≡ codes " x "
+nothing_set : piece (styled_table false) (styled_cell "x" None None []) info (as_seen (codes "x")) ≡ codes " x "
 unfolding wrapping
 nothing_set = refl
 

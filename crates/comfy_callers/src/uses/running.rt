@@ -1,15 +1,22 @@
 //! Callers that run the program, and make its devices.
 
-ghost use Rattle.std.specs.Prelude.{◌≡◌, ◌≤◌, ◌++◌, IfOk, List, Some, false, length, take, ℕ};
+ghost use Rattle.std.specs.Prelude.{◌≡◌, ◌≤◌, ◌++◌, IfOk, List, Some, false, length, take, true, ℕ};
+ghost use Rattle.comfy_parts.specs.Presets.{ascii_full};
 ghost use Rattle.comfy_parts.specs.Text.{measure};
+ghost use Rattle.comfy_run.specs.Counts.{EachLineHas, IsPlainInput};
+ghost use Rattle.comfy_run.specs.Input.{input_table};
 ghost use Rattle.comfy_run.specs.Straight.{EachText, IsStraightOutput};
+ghost use Rattle.comfy_table.specs.Laws.{least_total};
 
 use crate::uses::output_for;
-use comfy_run::laws::outputs_are_straight;
+use comfy_run::laws::{outputs_are_straight, outputs_keep_to_a_width};
 use comfy_run::run::{
-    DeviceFault, FromReader, MemorySink, RunError, Sink, Source, ToWriter, program,
+    DeviceFault, FromReader, MemorySink, MemorySource, RunError, Settings, Sink, Source, ToWriter,
+    program, run,
 };
+use comfy_table::ContentArrangement;
 use comfy_table::laws::presets_have_columns_of_one;
+use comfy_table::presets::ASCII_FULL;
 use std::alloc::Global;
 use std::io::{Read, Write};
 
@@ -63,4 +70,41 @@ pub fn straight_output_for(alloc: Global, input: &[u8], room: usize) -> Result<M
     outputs_are_straight();
     presets_have_columns_of_one();
     output_for(alloc, input, room)
+}
+
+/// Runs the program over a reader and writers, as the standard streams are. On yes the reader's end was read, and neither
+/// the reader nor the writer has failed.
+pub fn drew_all<R: Read, W: Write, E: Write>(
+    alloc: Global,
+    words: &[&str],
+    source: &mut FromReader<R>,
+    sink: &mut ToWriter<W>,
+    messages: &mut ToWriter<E>,
+) -> bool
+    ensures read { result ≡ true → (source.new.ended ≡ true) × (source.new.failed ≡ false) }
+    ensures written { result ≡ true → sink.old.failed ≡ false → sink.new.failed ≡ false }
+{
+    program(alloc, words, source, sink, messages) == 0
+}
+
+/// A sink that holds the output for an input at a width, both in memory. No line of it is longer, where the input is
+/// printable ASCII and the width is enough for borders, paddings and one character in each column.
+pub fn output_within(
+    alloc: Global,
+    input: &[u8],
+    room: usize,
+    width: u16,
+) -> Result<MemorySink, RunError>
+    ensures { IfOk result (λ sink. IsPlainInput input.now → least_total (input_table (Some width) ContentArrangement.Dynamic ascii_full input.now) ≤ width → EachLineHas (λ n. n ≤ width) sink.bytes) }
+{
+    outputs_keep_to_a_width();
+    let mut source = MemorySource::new(input, 0);
+    let mut sink = MemorySink::new(alloc, room, 0)?;
+    let settings = Settings {
+        width: Some(width),
+        arrangement: ContentArrangement::Dynamic,
+        style: ASCII_FULL,
+    };
+    run(alloc, &mut source, &mut sink, settings)?;
+    Ok(sink)
 }

@@ -4,10 +4,9 @@ use crate::run::command::program;
 use crate::run::error::RunError;
 use crate::run::stream::{FromReader, ToWriter};
 use std::alloc::AllocError;
-use std::env;
-use std::io;
 use std::io::ErrorKind;
 use std::process::ExitCode;
+use std::{env, io};
 
 // Stands for a word that isn't text: the program knows no such word.
 const NO_TEXT: &str = "\u{fffd}";

@@ -5,7 +5,7 @@ ghost use Rattle.std.specs.List.{list_all, list_any};
 ghost use Rattle.comfy_parts.specs.Text.{measure};
 ghost use Rattle.comfy_parts.specs.VisibleText.{has_escape};
 ghost use Rattle.comfy_parts.specs.Wrapping.{lines_of_text, wrapped};
-ghost use Rattle.comfy_table.specs.DrawnCells.{drawn_line, drawn_text};
+ghost use Rattle.comfy_table.specs.DrawnCells.{drawn_line, drawn_text, with_texts};
 ghost use Rattle.comfy_table.specs.Lines.{as_seen, cell_delimiter, cell_lines, cut_line, cut_text, fitting_indicator, whole_lines};
 ghost use Rattle.comfy_table.specs.Pieces.{row_cell_lines};
 ghost use Rattle.comfy_table.specs.TableValue.{seen_cell};
@@ -150,11 +150,7 @@ fn made_lines<'a>(
 }
 
 // The lines of a cell in a column as they are seen: each text line as it is where it fits, else wrapped.
-fn seen_lines<'a>(
-    table: &Table,
-    cell: &'a Cell,
-    info: &ColumnDisplayInfo,
-) -> Result<Vec<Line<'a>>>
+fn seen_lines<'a>(table: &Table, cell: &'a Cell, info: &ColumnDisplayInfo) -> Result<Vec<Line<'a>>>
     ensures { IfOk result (λ lines. lines.items ≡ map drawn_text (cell_lines info.now.content_width (cell_delimiter table.now info.now.delimiter cell.now) (seen_cell table.now cell.now))) }
 {
     let texts = table.seen_lines(cell);
@@ -216,10 +212,22 @@ fn whole_lines<'a>(
     if !has_own_texts(table, cell) {
         return Ok(seen);
     }
-    let mut lines = Vec::with_capacity(*table.columns.allocator(), seen.len())?;
-    for text in written_lines(cell, info, table.delimiter_of(cell, info.delimiter))? {
-        let columns = seen[lines.len()].columns;
-        let text = CowStr::Owned(text);
+    let texts = written_lines(cell, info, table.delimiter_of(cell, info.delimiter))?;
+    with_texts(seen, texts)
+}
+
+// Lines of which the first get texts of their own.
+fn with_texts<'a>(seen: Vec<Line<'a>>, texts: Vec<String>) -> Result<Vec<Line<'a>>>
+    ensures { IfOk result (λ lines. lines.items ≡ with_texts seen.entry.items (map string_bytes texts.items)) }
+{
+    let mut lines = Vec::with_capacity(*seen.allocator(), seen.len())?;
+    let mut texts = texts.into_iter();
+    for line in seen {
+        let columns = line.columns;
+        let text = match texts.next() {
+            Some(text) => CowStr::Owned(text),
+            None => line.text,
+        };
         lines.push(Line { columns, text })?;
     }
     Ok(lines)

@@ -159,9 +159,10 @@ fn whole_widths(alloc: Global, infos: &[ColumnDisplayInfo]) -> Result<Vec<usize>
 {
     let mut widths = Vec::new(alloc);
     for (_position, info) in infos.iter().enumerate() {
-        if !info.is_hidden() {
-            widths.push(info.width())?;
+        if info.is_hidden() {
+            continue;
         }
+        widths.push(info.width())?;
     }
     Ok(widths)
 }

@@ -76,9 +76,10 @@ pub fn drawn_cells<'a>(
     let alloc = *table.columns.allocator();
     let mut cells = Vec::with_capacity(alloc, infos.len())?;
     for (position, info) in infos.iter().enumerate() {
-        if !info.is_hidden() {
-            cells.push(drawn_cell(row, position, info, table)?)?;
+        if info.is_hidden() {
+            continue;
         }
+        cells.push(drawn_cell(row, position, info, table)?)?;
     }
     Ok(cells)
 }

@@ -67,9 +67,10 @@ pub fn visible_columns(table: &Table) -> Result<Vec<VisibleColumn<'_>>>
     let count = count_visible_columns(columns);
     let mut visible = Vec::new(*table.columns.allocator());
     for (position, column) in columns.iter().enumerate() {
-        if !column.is_hidden() {
-            visible.push(VisibleColumn::new(table, position, column, count))?;
+        if column.is_hidden() {
+            continue;
         }
+        visible.push(VisibleColumn::new(table, position, column, count))?;
     }
     Ok(visible)
 }

@@ -1,4 +1,4 @@
-use Rattle.std.proofs.Common.{◌≡◌, ℕ, ◌+◌, List, [], ◌∷◌, map, ap, subst, sym, ◌∙◌, arith}
+use Rattle.std.proofs.Common.{◌≡◌, ℕ, List, map, ap, subst, sym, ◌∙◌, arith}
 use Rattle.std.proofs.lemmas.List.FromFn.{map-range_with_len_more}
 use Rattle.std.specs.List.{range_with_len}
 use Rattle.comfy_parts.specs.Text.{Text}
@@ -12,15 +12,9 @@ use Rattle.comfy_table.proofs.utils.formatting.drawing.Writer.write_row.Goals as
 
 pub loop-line-preserved : goal.loop-line-preserved
 loop-line-preserved c =
-    let start = c.args.self.now in
-    let cells = c.as_slice-cells.result.now in
-    let line : ℕ → Text = λ k. content_line start.table.style c.args.style.now (map (piece_at k) cells) in
-    let done = map line (range_with_len 0 c.loop-line.line) in
-    let at : 0 + c.loop-line.line ≡ c.loop-line.line = omega arith in
-    c.in_ok-write_content_line.ensures
-    ∙ ap (λ (w : WriterValue). with_written (content_line w.table.style c.args.style.now (map (piece_at c.loop-line.line) cells) ∷ []) w) c.loop-line.invariant
-    ∙ written-append done (line c.loop-line.line ∷ []) start
-    ∙ ap (λ (ls : List Text). with_written ls start) (sym (map-range_with_len_more line 0 c.loop-line.line c.loop-line.line at))
+    let line : ℕ → Text = λ k. content_line c.args.self.now.table.style c.args.style.now (map (piece_at k) c.as_slice-cells.result.now) in
+    let more = map-range_with_len_more line 0 c.loop-line.line c.loop-line.line (omega arith) in
+    grind (arith, more, written-append)
 
 pub returns : goal.returns
 returns c =
