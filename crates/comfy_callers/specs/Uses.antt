@@ -1,14 +1,17 @@
 -- What the callers in `uses` say of drawings and of rows.
-use Rattle.std.specs.Prelude.{◌≡◌, ◌∷◌, ℕ, [], List, Some, All, map, slice_get}
+use Rattle.std.specs.Prelude.{◌≡◌, ◌≤◌, ◌==◌, ◌∷◌, ℕ, [], List, Some, All, map, slice_get}
+use Rattle.std.specs.List.{slice_split}
 use Rattle.comfy_parts.specs.CellValue.{CellValue, ColumnInfo, RowValue}
+use Rattle.comfy_parts.specs.Presets.{ascii_full}
 use Rattle.comfy_parts.specs.Text.{Text}
+use Rattle.comfy_parts.specs.declared.style.table.ContentArrangement.TheVariants.{Dynamic}
 use Rattle.comfy_parts.specs.declared.style.table_style.LineStyle.{LineStyle}
 use Rattle.comfy_table.specs.Drawing.{drawing, infos_of, whole_widths}
 use Rattle.comfy_table.specs.Frame.{frame_line}
-use Rattle.comfy_table.specs.Laws.{FillsWidth, KeepsToWidth, count, unstyled}
+use Rattle.comfy_table.specs.Laws.{FillsWidth, IsPlainTable, KeepsToWidth, NoConstraints, count, least_total, unstyled}
 use Rattle.comfy_table.specs.Pieces.{visible_infos}
 use Rattle.comfy_table.specs.TableLaws.{FillsWiderTotal, FrameCounts, FrameFillsWidth, FrameKeepsToWidth, IsAtMostThreeOver, KeepsToWiderTotal, KeepsToWiderTotalInFull, TableIsFull, TableIsLevelled, TableKeepsContents, TableLevelIsBest}
-use Rattle.comfy_table.specs.TableValue.{TableValue, header_and_rows}
+use Rattle.comfy_table.specs.TableValue.{TableValue, header_and_rows, new_table, with_header, with_row}
 use Rattle.comfy_callers.specs.declared.uses.items.NumberRows.{NumberRows}
 
 -- the lines are a drawing of the table in which each frame line has n characters
@@ -16,6 +19,15 @@ abbrev pub HasFrameOf : ℕ → TableValue → List Text → Type 0
 HasFrameOf n table lines =
     (widths : List ℕ) × (lines ≡ drawing table widths)
     × ((line : LineStyle) → count (frame_line table.style line (whole_widths (infos_of table widths))) ≡ n)
+
+-- a table of a header and a row that keeps to a width
+abbrev pub table_within : ℕ → RowValue → RowValue → TableValue
+table_within w header row = with_row row (with_header header (record (new_table ascii_full) { set_width = Some w; arrangement = Dynamic }))
+
+-- no line of the text has more than w characters, where the table is plain and w is enough for it
+abbrev pub IsPrintedWithin : ℕ → TableValue → Text → Type 0
+IsPrintedWithin w table text =
+    NoConstraints table → ((widths : List ℕ) → IsPlainTable table widths) → least_total table ≤ w → All (λ line. count line ≤ w) (slice_split (λ b. b == 0x0A) text)
 
 -- the lines are a drawing of the table without colours and attributes
 abbrev pub IsPlainDrawing : TableValue → List Text → Type 0

@@ -1,14 +1,14 @@
 -- No drawn line holds a line feed, where neither the style nor the indicator does. So lines are found in their texts.
-use Rattle.std.proofs.Common.{◌≡◌, ℕ, false, ◌==◌, List, [], ◌∷◌, ◌++◌, refl, sym, ap, ◌∙◌, subst, arith, append_assoc}
-use Rattle.std.specs.List.{All, list_any, slice_split}
+use Rattle.std.proofs.Common.{◌≡◌, ℕ, ◌==◌, List, [], ◌∷◌, ◌++◌, refl, sym, ap, ◌∙◌, subst, arith, append_assoc}
+use Rattle.std.specs.List.{All, slice_split}
 use Rattle.std.specs.Str.{IsUtf8}
-use Rattle.std.proofs.lemmas.Bool.{or_parts}
-use Rattle.std.proofs.lemmas.List.Elements.{All-cons, All-from_recursion, All-head, All-nil, All-tail}
+use Rattle.std.proofs.lemmas.List.Elements.{All-from_recursion, All-head, All-tail}
 use Rattle.std.proofs.lemmas.List.Splits.{slice_split_at, slice_split_none}
 use Rattle.comfy_parts.proofs.CallerLemmas.{HasNo-append, HasNo-visible, breaks_are_seen, seen-closed, sequence_clear, zip-each}
 use Rattle.comfy_parts.specs.Text.{Text}
 use Rattle.comfy_parts.specs.VisibleText.{closed}
 use Rattle.comfy_table.proofs.KeptDrawingLemmas.{keeps_drawing}
+use Rattle.comfy_table.proofs.ListLemmas.{All-none}
 use Rattle.comfy_table.proofs.SeenLemmas.{IsRowOf}
 use Rattle.comfy_table.proofs.StyledLemmas.{KeptByDrawing}
 use Rattle.comfy_table.specs.Drawing.{drawing, infos_of, terminated_text_of, text_of}
@@ -36,20 +36,13 @@ without_breaks table widths whole clear style =
 
 -- ---- texts of lines
 
--- each byte of such a text is another one
-each_other : (text : Text) → HasNoBreak text → All (λ b. (b == 0x0A) ≡ false) text
-each_other [] clear = All-nil (λ b. (b == 0x0A) ≡ false)
-each_other (b ∷ bs) clear =
-    let both = or_parts (b == 0x0A) (list_any (λ b. b == 0x0A) bs) clear in
-    All-cons (λ b. (b == 0x0A) ≡ false) b bs both.0 (each_other bs both.1)
-
 -- a line before a line feed is the first part
 first_line : (line rest : Text) → HasNoBreak line → slice_split (λ b. b == 0x0A) (line ++ 0x0A ∷ rest) ≡ line ∷ slice_split (λ b. b == 0x0A) rest
-first_line line rest clear = slice_split_at (λ b. b == 0x0A) line 0x0A rest (each_other line clear) refl
+first_line line rest clear = slice_split_at (λ b. b == 0x0A) line 0x0A rest (All-none (λ b. b == 0x0A) line clear) refl
 
 pub joined_lines : (lines : List Text) → JoinedLinesAreFound lines
 joined_lines [] some each = absurd (omega (arith, some))
-joined_lines (line ∷ []) some each = slice_split_none (λ b. b == 0x0A) line (each_other line (All-head HasNoBreak line [] each))
+joined_lines (line ∷ []) some each = slice_split_none (λ b. b == 0x0A) line (All-none (λ b. b == 0x0A) line (All-head HasNoBreak line [] each))
 joined_lines (line ∷ next ∷ more) some each =
     first_line line (text_of (next ∷ more)) (All-head HasNoBreak line (next ∷ more) each)
     ∙ ap (λ parts. line ∷ parts) (joined_lines (next ∷ more) (omega arith) (All-tail HasNoBreak line (next ∷ more) each))

@@ -7,6 +7,7 @@ use Rattle.std.specs.Str.{IsUtf8}
 use Rattle.std.proofs.lemmas.Slice.Zip.{AllZip-long}
 use Rattle.std.proofs.lemmas.List.Elements.{All-head, All-tail, All-weaker}
 use Rattle.comfy_parts.specs.CellValue.{CellValue, RowValue, ColumnInfo, info_width}
+use Rattle.comfy_parts.specs.Columns.{style_characters}
 use Rattle.comfy_parts.specs.Text.{HasNo, Text, greatest}
 use Rattle.comfy_parts.specs.declared.style.table_style.ContentLineStyle.{ContentLineStyle}
 use Rattle.comfy_parts.specs.declared.style.table_style.LineStyle.{LineStyle}
@@ -14,12 +15,12 @@ use Rattle.comfy_parts.specs.declared.style.table_style.TableStyle.{TableStyle}
 use Rattle.comfy_table.proofs.AbsentByteLemmas.{HasNo-character}
 use Rattle.comfy_table.proofs.CutLemmas.{pieces-unstyled, plain_piece, row-seen}
 use Rattle.comfy_table.proofs.JoinLemmas.{map-map}
-use Rattle.comfy_table.proofs.ListLemmas.{All-every, All-at, AllZip-map, AllZip-map_map, AllZip-append, AllZip-join_by, At-or-both, All-of_map}
+use Rattle.comfy_table.proofs.ListLemmas.{All-every, All-none, All-at, AllZip-map, AllZip-map_map, AllZip-append, AllZip-join_by, At-or-both, All-of_map}
 use Rattle.comfy_table.proofs.SeenLemmas.{IsRowOf, cell_seen, get_seen, header_seen, join_by-map, row_seen, rows_seen, seen_rows-is}
 use Rattle.comfy_table.proofs.StyledLemmas.{KeptByDrawing, keeps_nothing, keeps_piece, keeps_spaces}
 use Rattle.comfy_table.proofs.WrittenLemmas.{keeps_lines}
 use Rattle.comfy_table.specs.Drawing.{whole_widths, drawn_row, drawn_header, drawn_rows, drawing_of_infos}
-use Rattle.comfy_table.specs.Frame.{character, between_borders, content_line, is_drawn, optional_frame_line, draws_left_border, draws_right_border, draws_vertical_lines, left_characters, right_characters, junction_characters}
+use Rattle.comfy_table.specs.Frame.{character, between_borders, content_line, is_drawn, optional_frame_line, draws_left_border, draws_right_border, draws_vertical_lines}
 use Rattle.comfy_table.specs.Laws.{unstyled, HasStyleWithout}
 use Rattle.comfy_parts.specs.VisibleLines.{CellLine}
 use Rattle.comfy_table.specs.Pieces.{cell_pieces, blank_piece, pieces_of_optional, pieces_at, piece, row_cell_lines, row_line, row_height, visible_infos}
@@ -57,16 +58,16 @@ record IsClearStyle (b : ℕ) (style : TableStyle) : Type 0 where
 style_clear : (b : ℕ) (table : TableValue) → HasStyleWithout b table → IsClearStyle b table.style
 style_clear b table free =
     record {
-      top_border = record { left = end 0 (omega arith); fill = free.fills 0 None (omega arith); junction = end 12 (omega arith); right = end 6 (omega arith) };
-      header_lines = record { left = end 1 (omega arith); junction = end 13 (omega arith); right = end 7 (omega arith) };
-      header_separator = record { left = end 2 (omega arith); fill = free.fills 1 None (omega arith); junction = end 14 (omega arith); right = end 8 (omega arith) };
-      content_lines = record { left = end 3 (omega arith); junction = end 15 (omega arith); right = end 9 (omega arith) };
-      row_separator = record { left = end 4 (omega arith); fill = free.fills 2 None (omega arith); junction = end 16 (omega arith); right = end 10 (omega arith) };
-      bottom_border = record { left = end 5 (omega arith); fill = free.fills 3 None (omega arith); junction = end 17 (omega arith); right = end 11 (omega arith) };
+      top_border = record { left = at 0 (omega arith); fill = at 1 (omega arith); junction = at 2 (omega arith); right = at 3 (omega arith) };
+      header_lines = record { left = at 4 (omega arith); junction = at 5 (omega arith); right = at 6 (omega arith) };
+      header_separator = record { left = at 7 (omega arith); fill = at 8 (omega arith); junction = at 9 (omega arith); right = at 10 (omega arith) };
+      content_lines = record { left = at 11 (omega arith); junction = at 12 (omega arith); right = at 13 (omega arith) };
+      row_separator = record { left = at 14 (omega arith); fill = at 15 (omega arith); junction = at 16 (omega arith); right = at 17 (omega arith) };
+      bottom_border = record { left = at 18 (omega arith); fill = at 19 (omega arith); junction = at 20 (omega arith); right = at 21 (omega arith) };
     }
   where
-    end : (k : ℕ) → k < 18 → IsClear b (slice_index_or (left_characters table.style ++ (right_characters table.style ++ junction_characters table.style)) k None)
-    end k below = free.ends k None below
+    at : (k : ℕ) → k < 22 → IsClear b (slice_index_or (style_characters table.style) k None)
+    at k below = All-none (λ (c : Option ℕ). unwrap_or c 0x20 == b) (style_characters table.style) free.characters k None below
 
 -- the cells of a row are text without the byte
 record IsClearRow (b : ℕ) (row : RowValue) : Type 0 where

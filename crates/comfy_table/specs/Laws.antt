@@ -2,8 +2,9 @@
 use Rattle.std.specs.Prelude.{◌≡◌, ℕ, ◌+◌, ◌-◌, ◌<◌, ◌≤◌, Bool, true, false, List, [], ◌∷◌, ◌++◌, Option, Some, None, take, drop, length, max, sum, sum_by, All, chars, slice_get, map, IsUtf8, unwrap_or, ◌==◌}
 use Rattle.std.specs.Char.{IsScalar}
 use Rattle.std.specs.Int.{is_in_range}
-use Rattle.std.specs.List.{AllZip, concat, slice_split}
+use Rattle.std.specs.List.{AllZip, concat, list_any, slice_split}
 use Rattle.comfy_parts.specs.CellValue.{CellValue, RowValue, ColumnValue, ColumnInfo, column_padding}
+use Rattle.comfy_parts.specs.Columns.{style_characters}
 use Rattle.comfy_parts.specs.Text.{Text, HasNo, is_printable_ascii, AddsOneColumnEach}
 use Rattle.comfy_parts.specs.Laws.{IsResumedLine, characters_without}
 use Rattle.comfy_parts.specs.VisibleLines.{CellLine, line_starts}
@@ -12,7 +13,7 @@ use Rattle.comfy_parts.specs.declared.style.table.ContentArrangement.TheVariants
 use Rattle.comfy_table.specs.Arrangement.{IsArranged}
 use Rattle.comfy_table.specs.Drawing.{infos_of, terminated_text_of, text_of, whole_widths}
 use Rattle.comfy_table.specs.Dynamic.{Steps, IsDynamic, fixed_shares, places_of, total}
-use Rattle.comfy_table.specs.Frame.{border_count, left_characters, right_characters, junction_characters}
+use Rattle.comfy_table.specs.Frame.{border_count}
 use Rattle.comfy_table.specs.Lines.{cell_lines, cell_delimiter, fitting_indicator, uncut_count, whole_lines}
 use Rattle.comfy_table.specs.Pieces.{visible_infos, row_cell_lines}
 use Rattle.comfy_table.specs.TableValue.{TableValue, table_width, visible_columns, column_cells, seen_cell, seen_table, seen_rows}
@@ -110,8 +111,7 @@ HasNoBreak text = HasNo 0x0A text
 -- the byte b is no character of the style, and not in the indicator
 pub record HasStyleWithout (b : ℕ) (table : TableValue) : Type 0 where
   pub indicator : HasNo b table.indicator
-  pub ends : All (λ (c : Option ℕ). (unwrap_or c 0x20 == b) ≡ false) (left_characters table.style ++ (right_characters table.style ++ junction_characters table.style))
-  pub fills : All (λ (c : Option ℕ). (unwrap_or c 0x20 == b) ≡ false) (table.style.top_border.fill ∷ table.style.header_separator.fill ∷ table.style.row_separator.fill ∷ table.style.bottom_border.fill ∷ [])
+  pub characters : list_any (λ (c : Option ℕ). unwrap_or c 0x20 == b) (style_characters table.style) ≡ false
 
 -- no text line as it is seen, no character of the style and no indicator holds ESC
 pub record IsFreeOfEscapes (table : TableValue) : Type 0 where

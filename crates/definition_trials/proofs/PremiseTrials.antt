@@ -1,10 +1,10 @@
 -- Bytes that no text has: the laws of equal counts and of styling need their premises that texts are UTF-8.
-use Rattle.std.proofs.Common.{◌≡◌, ℕ, true, false, List, [], ◌∷◌, Option, Some, None, refl, sym, ap, ◌∙◌, arith, append-nil, map, unwrap_or, replicate, ◌==◌, subst}
+use Rattle.std.proofs.Common.{◌≡◌, ℕ, true, false, List, [], ◌∷◌, Option, Some, None, refl, sym, ap, ◌∙◌, arith, append-nil, map, subst}
 use Rattle.std.specs.List.{All}
 use Rattle.comfy_table.proofs.ListLemmas.{All-every}
 use Rattle.unicode_width.specs.Width.{str_width}
 use Rattle.std.specs.Str.{chars}
-use Rattle.std.proofs.lemmas.List.Elements.{All-cons, All-nil, All-head, All-replicate}
+use Rattle.std.proofs.lemmas.List.Elements.{All-cons, All-nil, All-head}
 use Rattle.std.proofs.lemmas.Str.{chars-append}
 use Rattle.comfy_parts.proofs.Computing.{wrapping}
 use Rattle.comfy_parts.proofs.CallerLemmas.{IsUtf8-printable}
@@ -96,15 +96,12 @@ overlong_is_free : IsFreeOfEscapes overlong
 overlong_is_free =
     record {
       text_lines = All-cons (λ (row : RowValue). All (λ (cell : CellValue). All HasNoEscape cell.text_lines) row.cells) _ [] (All-cons (λ (cell : CellValue). All HasNoEscape cell.text_lines) _ [] lines (All-nil (λ (cell : CellValue). All HasNoEscape cell.text_lines))) (All-nil (λ (row : RowValue). All (λ (cell : CellValue). All HasNoEscape cell.text_lines) row.cells));
-      style = record { indicator = refl; ends = AllPass-clear 18; fills = AllPass-clear 4 };
+      style = record { indicator = refl; characters = refl };
     }
   where
     lines : All HasNoEscape ((0xC0 ∷ 0x9B ∷ 0x5B ∷ 0x6D ∷ []) ∷ (0x61 ∷ []) ∷ [])
     lines =
         All-cons HasNoEscape (0xC0 ∷ 0x9B ∷ 0x5B ∷ 0x6D ∷ []) ((0x61 ∷ []) ∷ []) refl (All-cons HasNoEscape (0x61 ∷ []) [] refl (All-nil HasNoEscape))
-
-    AllPass-clear : (n : ℕ) → All (λ (c : Option ℕ). (unwrap_or c 0x20 == 0x1B) ≡ false) (replicate n None)
-    AllPass-clear n = All-replicate (λ (c : Option ℕ). (unwrap_or c 0x20 == 0x1B) ≡ false) n None refl
 
 -- the line is a sequence
 overlong_shows_nothing : map visible_text (drawing overlong (3 ∷ [])) ≡ [] ∷ []

@@ -9,14 +9,17 @@ ghost use Rattle.comfy_table.specs.Headline.{IsTerminatedTextOf, IsTextOf, IsTri
 ghost use Rattle.comfy_table.specs.NewTables.{AreEquallyWide, IsShortRow};
 ghost use Rattle.comfy_table.specs.Pieces.{row_lines};
 ghost use Rattle.comfy_table.specs.TableValue.{header_and_rows, max_content_widths, new_table, with_header, with_rows};
+ghost use Rattle.comfy_callers.specs.Uses.{IsPrintedWithin, table_within};
 
-use comfy_table::laws::{new_tables_are_straight, presets_have_columns_of_one};
+use comfy_table::laws::{
+    lines_are_found_in_their_texts, new_tables_are_straight, presets_have_columns_of_one,
+};
 use comfy_table::presets::UTF8_FULL;
 use comfy_table::utils::arrangement::{arrange_content, longest_line};
 use comfy_table::utils::build_table;
 use comfy_table::utils::formatting::content_format::{delimiter, format_content, format_row};
 use comfy_table::utils::formatting::content_split::ColumnDisplayInfo;
-use comfy_table::{Cell, Lines, Result, Row, Table};
+use comfy_table::{Cell, ContentArrangement, Lines, Result, Row, Table};
 use std::alloc::Global;
 
 /// The first line of a drawing; none where nothing is drawn.
@@ -88,6 +91,22 @@ pub fn own_delimiter_as_drawn(table: &Table, info: &ColumnDisplayInfo, cell: Cel
     ensures { result ≡ 44 }
 {
     delimiter(&cell.set_delimiter(','), info, table)
+}
+
+/// A header and a row within a width, as a program prints them. Cut at its line feeds the text has no line of more
+/// characters, where the texts are printable ASCII and the width is enough for borders, paddings and one character for each
+/// column.
+pub fn printed_within(alloc: Global, header: Row, row: Row, width: u16) -> Result<String>
+    ensures { IfOk result (λ text. IsPrintedWithin width (table_within width header row) (string_bytes text)) }
+{
+    lines_are_found_in_their_texts();
+    let mut table = Table::new(alloc);
+    table
+        .set_width(width)
+        .set_content_arrangement(ContentArrangement::Dynamic)
+        .set_header(header)?
+        .add_row(row)?;
+    table.to_terminated_text()
 }
 
 /// A report, as of Chinese names and how often each was met. All its lines are equally many terminal columns wide, whatever
