@@ -104,16 +104,12 @@ module _ (b : ℕ) (R : Text → Text → Type 0) (kept : KeptByDrawing b R) whe
       (kept.of_both [] [] (optional_sequence foreground_code cell.foreground) (attribute_sequences cell.attributes)
       (keeps_optional_sequence foreground_code cell.foreground foreground-parameters) (keeps_attributes (has_attribute cell.attributes) all_attributes refl))
 
-  -- a sequence that is written or not
-  keeps_sequence_when : (written : Bool) (code : Text) → list_all is_parameter code ≡ true → R [] (if written then sequence code else [])
-  keeps_sequence_when true code all = kept.of_sequence code all
-  keeps_sequence_when false code all = keeps_nothing
-
   -- what stands behind a styled text
   keeps_style_end : (cell : CellValue) → R [] (style_end cell)
   keeps_style_end cell =
       cond_both (length cell.attributes == 0) _ _ (R [])
-      (λ _. kept.of_both [] [] _ _ (keeps_sequence_when (is_some cell.background) (codes "49") refl) (keeps_sequence_when (is_some cell.foreground) (codes "39") refl))
+      (λ _. kept.of_both [] [] _ _ (cond_both (is_some cell.background) _ [] (R []) (λ _. kept.of_sequence (codes "49") refl) (λ _. keeps_nothing))
+      (cond_both (is_some cell.foreground) _ [] (R []) (λ _. kept.of_sequence (codes "39") refl) (λ _. keeps_nothing)))
       (λ _. kept.of_sequence (codes "0") refl)
 
   -- a styled text
