@@ -20,7 +20,6 @@ use Rattle.comfy_table.proofs.ListLemmas.{All-flat_map, All-of_map}
 use Rattle.comfy_table.proofs.SeenLemmas.{cell_seen}
 use Rattle.comfy_table.specs.Laws.{CutLinesAreClosed, HasNoEscape, LinesAreResumedInRow, NoneIsOpenAtTheEnd}
 use Rattle.comfy_table.specs.Lines.{as_seen, cell_delimiter, cell_lines, cut_line, cut_text, cut_to_limit, uncut_count, whole_lines}
-use Rattle.comfy_table.specs.Pieces.{row_cell_lines}
 use Rattle.comfy_table.specs.TableValue.{TableValue}
 
 -- those that aren't cut stand as they were
