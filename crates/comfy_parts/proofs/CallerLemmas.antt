@@ -1,9 +1,10 @@
 -- What proofs of the crates above may cite.
+pub use Rattle.comfy_parts.proofs.AbsentByteLemmas.{HasNo-append, HasNo-parts, HasNo-take, encoded_clear}
+pub use Rattle.comfy_parts.proofs.BreakLemmas.{HasNo-visible, breaks_are_seen, sequence_clear}
 pub use Rattle.comfy_parts.proofs.ClearLineLemmas.{IsAsSeen, clear_written}
 pub use Rattle.comfy_parts.proofs.FrameCharacterLemmas.{frame_adds, frame_apart, one_column_characters}
-pub use Rattle.comfy_parts.proofs.FrontLemmas.{encoded_clear}
 pub use Rattle.comfy_parts.proofs.KeptLemmas.{lines_keep_the_text}
-pub use Rattle.comfy_parts.proofs.LineTextLemmas.{Shows-closed, clear-take, none_open}
+pub use Rattle.comfy_parts.proofs.LineTextLemmas.{Shows-seen, none_open, seen-closed}
 pub use Rattle.comfy_parts.proofs.LinesFitLemmas.{IsFittingLine}
 pub use Rattle.comfy_parts.proofs.PlainTextLemmas.{IsPlainLine, lines_of_text-plain, slices-printable}
 pub use Rattle.comfy_parts.proofs.PrintableLemmas.{IsUtf8-printable, below_seven_bits, head-printable, measure-printable, take-printable}
@@ -14,7 +15,7 @@ pub use Rattle.comfy_parts.proofs.SliceLemmas.{scalar-printable}
 pub use Rattle.comfy_parts.proofs.SpaceMeasureLemmas.{measure-nil, measure-space, measure-spaces_before}
 pub use Rattle.comfy_parts.proofs.TextFitLemmas.{adding_up_fits, head-summed, lines-add_up, text_lines_fit}
 pub use Rattle.comfy_parts.proofs.ValueLemmas.{no_fewer_columns}
-pub use Rattle.comfy_parts.proofs.VisibleLineLemmas.{lines_closed, lines_resumed, lines_show, seen_lines}
+pub use Rattle.comfy_parts.proofs.VisibleLineLemmas.{lines_closed, lines_resumed, lines_seen, seen_lines, zip-each}
 pub use Rattle.comfy_parts.proofs.VisibleWholeLemmas.{visible_text-whole}
 pub use Rattle.comfy_parts.proofs.WholeLineLemmas.{head-splits, lines_of_text-utf8}
 pub use Rattle.comfy_parts.proofs.WordLemmas.{head-utf8}

@@ -4,7 +4,7 @@ use Rattle.std.specs.List.{concat, list_any, flat_map, AllByRecursion}
 use Rattle.std.proofs.lemmas.Bool.{cond_both, or_parts}
 use Rattle.std.proofs.lemmas.Grind.{flat_map-append}
 use Rattle.comfy_parts.proofs.EscapedLemmas.{clear_text}
-use Rattle.comfy_parts.proofs.LineTextLemmas.{clear-drop, clear-take}
+use Rattle.comfy_parts.proofs.AbsentByteLemmas.{HasNo-drop, HasNo-take}
 use Rattle.comfy_parts.proofs.OpenLemmas.{opened-append}
 use Rattle.comfy_parts.proofs.FrontLemmas.{parts-clear}
 use Rattle.comfy_parts.specs.Cursor.{visible_part}
@@ -68,7 +68,7 @@ line_text-clear earlier text start len before clear =
     ∙ ap (λ (ps : List Part). flat_map (λ (p : Part). p.bytes) (parts_up_to len (parts_from start ps))) (clear_parts text clear)
     ∙ ap (λ (ps : List Part). flat_map (λ (p : Part). p.bytes) (parts_up_to len ps)) (from_clear start text)
     ∙ up_to_clear len (drop start text))
-    ∙ closed_clear (take len (drop start text)) (clear-take len (drop start text) (clear-drop start text clear)))
+    ∙ closed_clear (take len (drop start text)) (HasNo-take 0x1B len (drop start text) (HasNo-drop 0x1B start text clear)))
 
 -- a line that is written as it is seen
 abbrev pub IsAsSeen : CellLine → Type 0

@@ -1,13 +1,14 @@
 -- The part at a text's front: a whole sequence, or visible bytes.
-use Rattle.std.proofs.Common.{◌≡◌, ◌<◌, ℕ, zero, suc, ◌+◌, ◌-◌, ◌/◌, ◌%◌, Bool, true, false, cond, ◌==◌, ⊎_elim, List, [], ◌∷◌, ◌++◌, length, map, take, drop, nat_lt, refl, sym, ap, ◌∙◌, subst, arith, length-append, eqb-true}
+use Rattle.std.proofs.Common.{◌≡◌, ◌<◌, ℕ, zero, suc, ◌-◌, true, false, ◌==◌, ⊎_elim, List, [], ◌∷◌, ◌++◌, length, map, take, drop, nat_lt, refl, sym, ap, ◌∙◌, subst, arith, length-append, eqb-true}
 use Rattle.std.specs.List.{flat_map, list_any}
 use Rattle.std.specs.Prelude.{if◌then◌else◌, encode_utf8}
-use Rattle.std.proofs.lemmas.Bool.{cases_Bool, or_from, or_parts}
+use Rattle.std.proofs.lemmas.Bool.{cases_Bool, or_parts}
 use lib.Dec.{ltb}
 use Rattle.std.proofs.lemmas.Bool.Decides.{nat_tests}
 use Rattle.std.proofs.lemmas.List.{length-map}
 use Rattle.unicode_segmentation.proofs.TextLemmas.{encode_utf8_nonempty}
 use lib.Utf8.{encode}
+use Rattle.comfy_parts.proofs.AbsentByteLemmas.{encoded_clear}
 use Rattle.comfy_parts.specs.Cursor.{character_parts, sequence_part, visible_part}
 use Rattle.comfy_parts.specs.Text.{Text}
 use Rattle.comfy_parts.specs.VisibleText.{Part, parts, parts_past, sequence_len, visible_bytes}
@@ -42,28 +43,6 @@ parts-clear (b ∷ bs) more clear =
     let each = or_parts (b == 0x1B) (list_any (λ b. b == 0x1B) bs) clear in
     parts-visible b (bs ++ more) (no_sequence b (bs ++ more) each.0) ∙ ap (λ (ps : List Part). visible_part b ∷ ps) (parts-clear bs more each.1)
 
--- a greater byte is not ESC
-not_escape : (b : ℕ) → 0x1B < b → (b == 0x1B) ≡ false
-not_escape b high = grind (arith, nat_tests)
-
--- the bytes of a number other than ESC
-pub encoded_clear : (c : ℕ) → (c == 0x1B) ≡ false → list_any (λ b. b == 0x1B) (encode_utf8 c) ≡ false
-unfolding encode
-encoded_clear c other = by_size (ltb c 128) (ltb c 2048) (ltb c 65536)
-  where
-    next : (n : ℕ) → ((128 + n % 64) == 0x1B) ≡ false
-    next n = not_escape (128 + n % 64) (omega arith)
-
-    by_size : (one two three : Bool)
-        → list_any (λ b. b == 0x1B) (cond one (c ∷ []) (cond two ((192 + c / 64) ∷ (128 + c % 64) ∷ []) (cond three ((224 + c / 4096) ∷ (128 + (c / 64) % 64) ∷ (128 + c % 64) ∷ []) ((240 + c / 262144) ∷ (128 + (c / 4096) % 64) ∷ (128 + (c / 64) % 64) ∷ (128 + c % 64) ∷ [])))) ≡ false
-    by_size true two three = or_from (c == 0x1B) false other refl
-    by_size false true three =
-        or_from _ _ (not_escape (192 + c / 64) (omega arith)) (or_from _ false (next c) refl)
-    by_size false false true =
-        or_from _ _ (not_escape (224 + c / 4096) (omega arith)) (or_from _ _ (next (c / 64)) (or_from _ false (next c) refl))
-    by_size false false false =
-        or_from _ _ (not_escape (240 + c / 262144) (omega arith)) (or_from _ _ (next (c / 4096)) (or_from _ _ (next (c / 64)) (or_from _ false (next c) refl)))
-
 -- an ESC that begins no sequence
 parts-escape : (more : Text) → begins_with_sequence (encode_utf8 0x1B ++ more) ≡ false → parts (encode_utf8 0x1B ++ more) ≡ character_parts 0x1B ++ parts more
 unfolding encode
@@ -75,7 +54,7 @@ parts-character c more free =
     ⊎_elim (λ escape.
     let at : c ≡ 0x1B = eqb-true c 0x1B escape in
     subst (λ n. parts (encode_utf8 n ++ more) ≡ character_parts n ++ parts more) (sym at) (parts-escape more (ap (λ n. begins_with_sequence (encode_utf8 n ++ more)) (sym at) ∙ free)))
-    (λ other. parts-clear (encode_utf8 c) more (encoded_clear c other)) (cases_Bool (c == 0x1B))
+    (λ other. parts-clear (encode_utf8 c) more (encoded_clear 0x1B c (omega arith) other)) (cases_Bool (c == 0x1B))
 
 -- a character has bytes
 pub character_parts-some : (c : ℕ) (ps : List Part) → length ps < length (character_parts c ++ ps)

@@ -1,15 +1,14 @@
 -- The text of a line of a cell with sequences: no sequence is left open, those that were active are resumed, and what is seen of it is the line.
-use Rattle.std.proofs.Common.{◌≡◌, inl, inr, ◌<◌, ◌≤◌, ℕ, zero, suc, ◌+◌, Bool, true, false, ◌||◌, ◌==◌, List, [], ◌∷◌, ◌++◌, length, map, take, drop, refl, sym, ap, ◌∙◌, subst, arith, append_assoc, append-nil, eqb-true}
+use Rattle.std.proofs.Common.{◌≡◌, inl, inr, ◌<◌, ◌≤◌, ℕ, zero, suc, ◌+◌, Bool, true, false, ◌==◌, List, [], ◌∷◌, ◌++◌, length, map, take, drop, refl, sym, ap, ◌∙◌, subst, arith, append_assoc, append-nil, eqb-true}
 use Rattle.std.specs.List.{list_any, flat_map, concat, AllByRecursion}
-use Rattle.std.specs.Prelude.{if◌then◌else◌, codes}
+use Rattle.std.specs.Prelude.{if◌then◌else◌}
 use Rattle.std.proofs.lemmas.Bool.{cond_both, or_parts}
 use Rattle.std.proofs.lemmas.Bool.Decides.{nat_tests}
 use Rattle.std.proofs.lemmas.Grind.{flat_map-append}
-use Rattle.std.proofs.lemmas.List.{length-drop, take-append-drop}
-use Rattle.std.proofs.lemmas.List.Folds.{list_any-append}
+use Rattle.std.proofs.lemmas.List.{length-drop}
 use Rattle.comfy_parts.specs.Cursor.{sequence_part}
-use Rattle.comfy_parts.specs.Text.{Text}
-use Rattle.comfy_parts.specs.VisibleText.{Part, parts, visible_bytes, visible_text, reset, open_after, opened, parts_before, parts_from, parts_up_to, active, closing, closed, line_text}
+use Rattle.comfy_parts.specs.Text.{HasNo, Text}
+use Rattle.comfy_parts.specs.VisibleText.{Part, parts, visible_bytes, visible_text, reset, open_after, opened, parts_before, parts_from, parts_up_to, active, closed, line_text}
 use Rattle.comfy_parts.proofs.OpenLemmas.{every-opened, open_after-again, opened-append}
 use Rattle.comfy_parts.proofs.ScanLemmas.{AreScanned, bytes_of, parts-scanned, scanned-parts, scanned-stops, scan}
 use Rattle.comfy_parts.proofs.SequenceLemmas.{IsSequence, Stops-nil, Stops-escape}
@@ -278,49 +277,18 @@ module _ (earlier : List Text) (text : Text) (start len : ℕ) where
 -- ---- what is seen before any other text
 
 -- scanned parts of which no visible byte is ESC
-Shows-scanned : (ps : List Part) (rest : Text) → AreScanned ps rest → list_any (λ b. b == 0x1B) (seen_of ps) ≡ false → Shows (seen_of ps) (bytes_of ps)
+Shows-scanned : (ps : List Part) (rest : Text) → AreScanned ps rest → HasNo 0x1B (seen_of ps) → Shows (seen_of ps) (bytes_of ps)
 Shows-scanned [] rest scanned clear = Shows-nil
 Shows-scanned (p ∷ ps) rest (inl part, more) clear =
     let s = part.sequence in
     subst (λ (x : Part). Shows (seen_of (x ∷ ps)) (x.bytes ++ bytes_of ps)) (sym part.is)
     (Shows-append [] (seen_of ps) p.bytes (bytes_of ps) (subst (Shows []) (sym s.is) (Shows-sequence s.code s.parameters))
-    (Shows-scanned ps rest more (subst (λ (x : Part). list_any (λ b. b == 0x1B) (seen_of (x ∷ ps)) ≡ false) part.is clear)))
+    (Shows-scanned ps rest more (subst (λ (x : Part). HasNo 0x1B (seen_of (x ∷ ps))) part.is clear)))
 Shows-scanned (p ∷ ps) rest (inr part, more) clear =
-    let here = or_parts (part.byte == 0x1B) (list_any (λ b. b == 0x1B) (seen_of ps)) (subst (λ (x : Part). list_any (λ b. b == 0x1B) (seen_of (x ∷ ps)) ≡ false) part.is clear) in
+    let here = or_parts (part.byte == 0x1B) (list_any (λ b. b == 0x1B) (seen_of ps)) (subst (λ (x : Part). HasNo 0x1B (seen_of (x ∷ ps))) part.is clear) in
     subst (λ (x : Part). Shows (seen_of (x ∷ ps)) (x.bytes ++ bytes_of ps)) (sym part.is)
     (Shows-append (part.byte ∷ []) (seen_of ps) (part.byte ∷ []) (bytes_of ps) (Shows-byte part.byte here.0) (Shows-scanned ps rest more here.1))
 
--- a reset, written or not, shows nothing
-Shows-closing : (ss : List Text) → Shows [] (closing ss)
-Shows-closing ss = cond_both (length ss == 0) _ _ (Shows []) (λ _. Shows-nil) (λ _. Shows-sequence (codes "0") refl)
-
--- a text of which no visible byte is ESC, closed
-pub Shows-closed : (text : Text) → list_any (λ b. b == 0x1B) (visible_text text) ≡ false → Shows (visible_text text) (closed text)
-Shows-closed text clear =
-    subst (λ s. Shows s (closed text)) (append-nil (visible_text text))
-    (Shows-append (visible_text text) [] text (closing (open_after (parts text)))
-    (subst (Shows (visible_text text)) (scan text).bytes (Shows-scanned (parts text) [] (scan text).scanned clear)) (Shows-closing (open_after (parts text))))
-
--- ---- lines without ESC
-
--- both parts of a text without ESC
-clear-halves : (n : ℕ) (text : Text) → list_any (λ b. b == 0x1B) text ≡ false → (list_any (λ b. b == 0x1B) (take n text) || list_any (λ b. b == 0x1B) (drop n text)) ≡ false
-clear-halves n text clear = sym (list_any-append (λ b. b == 0x1B) (take n text) (drop n text)) ∙ ap (list_any (λ b. b == 0x1B)) (take-append-drop n text) ∙ clear
-
--- a front of it has none
-pub clear-take : (n : ℕ) (text : Text) → list_any (λ b. b == 0x1B) text ≡ false → list_any (λ b. b == 0x1B) (take n text) ≡ false
-clear-take n text clear = (or_parts (list_any (λ b. b == 0x1B) (take n text)) (list_any (λ b. b == 0x1B) (drop n text)) (clear-halves n text clear)).0
-
--- nor has an end of it
-pub clear-drop : (n : ℕ) (text : Text) → list_any (λ b. b == 0x1B) text ≡ false → list_any (λ b. b == 0x1B) (drop n text) ≡ false
-clear-drop n text clear = (or_parts (list_any (λ b. b == 0x1B) (take n text)) (list_any (λ b. b == 0x1B) (drop n text)) (clear-halves n text clear)).1
-
--- the text of a line shows its slice of what is seen of the text line, before any other text
-pub Shows-line_text : (earlier : List Text) (text : Text) (start len : ℕ) → list_any (λ b. b == 0x1B) (visible_text text) ≡ false
-    → Shows (take len (drop start (visible_text text))) (line_text earlier text start len)
-Shows-line_text earlier text start len clear =
-    let same = seen_written earlier text start len in
-    let slice = take len (drop start (visible_text text)) in
-    cond_both (len == 0) _ _ (Shows slice) (λ none. subst (λ n. Shows (take n (drop start (visible_text text))) []) (sym (eqb-true len 0 none)) Shows-nil)
-    (λ _. subst (λ s. Shows s (closed (written earlier text start len))) same
-    (Shows-closed (written earlier text start len) (ap (list_any (λ b. b == 0x1B)) same ∙ clear-take len (drop start (visible_text text)) (clear-drop start (visible_text text) clear))))
+-- a text of which no visible byte is ESC
+pub Shows-seen : (text : Text) → HasNo 0x1B (visible_text text) → Shows (visible_text text) text
+Shows-seen text clear = subst (Shows (visible_text text)) (scan text).bytes (Shows-scanned (parts text) [] (scan text).scanned clear)

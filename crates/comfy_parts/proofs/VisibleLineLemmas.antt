@@ -1,6 +1,6 @@
 -- The lines of a cell with sequences: they are seen as the lines of the visible text, and each is written as its slice with the sequences resumed and closed.
-use Rattle.std.proofs.Common.{◌≡◌, ℕ, zero, suc, ◌+◌, ◌-◌, Bool, true, false, ◌==◌, List, [], ◌∷◌, ◌++◌, length, map, take, drop, zip, nat_le, refl, sym, ap, ap₂, ◌∙◌, subst, arith, ◌<◌, ◌≤◌, slice_index_or}
-use Rattle.std.specs.List.{list_any, flat_map, AllByRecursion, AllZip}
+use Rattle.std.proofs.Common.{◌≡◌, ℕ, zero, suc, ◌+◌, ◌-◌, Bool, true, false, List, [], ◌∷◌, ◌++◌, length, map, take, drop, zip, nat_le, refl, sym, ap, ap₂, ◌∙◌, arith, ◌<◌, ◌≤◌, slice_index_or}
+use Rattle.std.specs.List.{flat_map, AllByRecursion, AllZip}
 use Rattle.std.specs.Prelude.{if◌then◌else◌}
 use Rattle.std.proofs.lemmas.List.{map-append, length-take, length-drop, take_min}
 use Rattle.std.proofs.Math.Seq.{drop-cons, take-length}
@@ -9,8 +9,7 @@ use Rattle.comfy_parts.specs.VisibleLines.{CellLine, LineStart, line_starts, lin
 use Rattle.comfy_parts.specs.VisibleText.{parts, visible_text, open_after, line_text}
 use Rattle.comfy_parts.specs.Wrapping.{lines_past, wrapped, lines_of_text, line_end, part_end}
 use Rattle.comfy_parts.specs.Laws.{IsResumedLine, LinesAreResumed}
-use Rattle.comfy_parts.proofs.LineTextLemmas.{line_closed, line_resumes, line_seen, Shows-line_text}
-use Rattle.comfy_parts.proofs.ShownLemmas.{Shows}
+use Rattle.comfy_parts.proofs.LineTextLemmas.{line_closed, line_resumes, line_seen}
 
 -- ---- lists
 
@@ -151,13 +150,6 @@ module _ (w d : ℕ) (text_lines : List Text) where
   lines_seen =
       zip-each _ (line_starts w d text_lines) _
       (each_line w d (λ text. Unit {0}) (λ from line. visible_text line.written ≡ line.seen) (λ earlier text _ start line stands. line_seen earlier text start (length line) ∙ stands) [] text_lines (always text_lines))
-
-  -- where no visible text holds ESC, also before any other text
-  pub lines_show : AllByRecursion (λ text. list_any (λ b. b == 0x1B) (visible_text text) ≡ false) text_lines → AllByRecursion (λ (line : CellLine). Shows line.seen line.written) (line_texts w d text_lines)
-  lines_show each =
-      zip-each _ (line_starts w d text_lines) _
-      (each_line w d (λ text. list_any (λ b. b == 0x1B) (visible_text text) ≡ false) (λ from line. Shows line.seen line.written)
-      (λ earlier text clear start line stands. subst (λ s. Shows s (line_text earlier text start (length line))) stands (Shows-line_text earlier text start (length line) clear)) [] text_lines each)
 
   -- before each visible byte of a line the sequences are open that are active there
   pub lines_resumed : LinesAreResumed w d text_lines

@@ -7,7 +7,8 @@ use Rattle.std.specs.List.{All, enumerate_from, slice_get}
 use Rattle.std.specs.Str.{IsUtf8}
 use Rattle.comfy_parts.proofs.Computing.{wrapping}
 use Rattle.comfy_parts.proofs.CallerLemmas.{one_character, wrapped_is_wrapped}
-use Rattle.comfy_table.proofs.SeenLemmas.{IsSeenCell, IsSeenRow, IsWholeRow, seen_kept, whole_row}
+use Rattle.comfy_table.proofs.BreakLemmas.{without_breaks}
+use Rattle.comfy_table.proofs.SeenLemmas.{HasCells, IsRowOf, rows_of, seen_kept}
 use Rattle.comfy_parts.specs.CellValue.{CellValue, ColumnInfo, ColumnValue, IsCell, IsColumn, IsDelimiter, IsRow, RowValue, info_of}
 use Rattle.comfy_parts.specs.Text.{Text, measure}
 use Rattle.comfy_table.proofs.DrawnWidthLemmas.{fills_width, keeps_to_width}
@@ -25,10 +26,10 @@ use Rattle.comfy_parts.specs.VisibleText.{visible_text}
 use Rattle.comfy_table.proofs.UnstyledLemmas.{unstyled_drawing}
 use Rattle.comfy_table.specs.Drawing.{drawing, drawing_of_infos, infos_of}
 use Rattle.comfy_table.specs.Headline.{EachLineCounts, IsClosedInRow, IsCutClosedInRow, IsResumedInRow, IsCutIntoSlices, IsTableDrawing, IsTextOrSlices}
-use Rattle.comfy_table.specs.Laws.{IsFreeOfEscapes, count, least_total, line_total, unstyled}
+use Rattle.comfy_table.specs.Laws.{HasNoBreak, IsFreeOfEscapes, count, least_total, line_total, unstyled}
 use Rattle.comfy_table.specs.Pieces.{visible_infos}
 use Rattle.comfy_table.specs.TableLaws.{wider_total}
-use Rattle.comfy_table.specs.TableValue.{HasWholeTexts, KeepsParts, TableValue, ellipsis, header_and_rows, indicator_of, seen_rows}
+use Rattle.comfy_table.specs.TableValue.{KeepsParts, TableValue, ellipsis, header_and_rows, indicator_of, seen_rows}
 
 -- the lines of a text are the text, or slices of it
 text_or_slices : (w d : ℕ) (text : Text) → IsScalar d → IsUtf8 text → IsTextOrSlices w d text
@@ -40,11 +41,11 @@ delimiter_or None other is given = given
 delimiter_or (Some d) other is given = is
 
 -- the cell of a row in a column whose delimiter is a character
-whole_cell : (table : TableValue) (row : RowValue) → IsDelimiter table.delimiter → All IsSeenCell row.cells → (p : ℕ × ColumnInfo) → IsDelimiter p.1.delimiter
+whole_cell : (table : TableValue) (row : RowValue) → IsDelimiter table.delimiter → HasCells row → (p : ℕ × ColumnInfo) → IsDelimiter p.1.delimiter
     → (cell : CellValue) → slice_get row.cells p.0 ≡ Some cell → IsWholeCell table row p.1 cell
 whole_cell table row own kept p of_column cell is =
-    let seen : IsSeenCell cell = All-at IsSeenCell row.cells p.0 cell kept is in
-    (seen.0, delimiter_or cell.delimiter _ seen.1 (delimiter_or p.1.delimiter _ of_column (delimiter_or table.delimiter 0x20 own refl)))
+    let own_cell : IsCell cell = All-at IsCell row.cells p.0 cell kept is in
+    (own_cell.text_lines.whole, delimiter_or cell.delimiter _ own_cell.delimiter (delimiter_or p.1.delimiter _ of_column (delimiter_or table.delimiter 0x20 own refl)))
 
 -- the lines of its text lines are these, or slices of them
 row_slices : (table : TableValue) (row : RowValue) (p : ℕ × ColumnInfo) → ((cell : CellValue) → slice_get row.cells p.0 ≡ Some cell → IsWholeCell table row p.1 cell) → IsCutIntoSlices table row p
@@ -53,10 +54,6 @@ row_slices table row p whole cell is = grind (arith, text_or_slices)
 -- a table's rows and its header keep what rows keep
 all_rows : (table : TableValue) → KeepsParts table → All IsRow (header_and_rows table)
 all_rows table kept = grind arith
-
--- what the cells of rows keep
-seen_row : (row : RowValue) → IsRow row → IsSeenRow row
-seen_row row kept = All-weaker IsCell IsSeenCell (λ cell keeps. (keeps.text_lines.whole, keeps.delimiter)) row.cells kept.cells
 
 -- the visible columns are drawn with the delimiters of the table's columns
 info_delimiters : (n : ℕ) (columns : List ColumnValue) (widths : List ℕ) → All IsColumn columns
@@ -80,21 +77,21 @@ each_line_counts P table widths utf8 cells arranged meets =
 pub table_drawing : (table : TableValue) (infos : List ColumnInfo) (lines : List Text) → IsUtf8 table.indicator → KeepsParts table → AreInfosOf table infos → lines ≡ drawing_of_infos table infos → IsTableDrawing table lines
 table_drawing table infos lines utf8 kept (widths, arranged, is) drawn =
     let whole = drawn ∙ ap (drawing_of_infos table) is in
-    let rows : All IsSeenRow (header_and_rows table) = All-weaker IsRow IsSeenRow seen_row (header_and_rows table) (all_rows table kept) in
-    let texts : HasWholeTexts table = All-weaker IsSeenRow IsWholeRow whole_row (header_and_rows table) rows in
+    let rows : All HasCells (seen_rows table) = seen_kept table (All-weaker IsRow HasCells (λ row own. own.cells) (header_and_rows table) (all_rows table kept)) in
+    let texts : All (IsRowOf IsUtf8) (seen_rows table) = rows_of IsUtf8 (λ texts own. own.whole) (seen_rows table) rows in
     let delimiters : All (λ (p : ℕ × ColumnInfo). IsDelimiter p.1.delimiter) (visible_infos (infos_of table widths)) =
     All-filter (λ (p : ℕ × ColumnInfo). not p.1.is_hidden) (λ (p : ℕ × ColumnInfo). IsDelimiter p.1.delimiter) _ (info_delimiters 0 table.columns widths kept.columns) in
     let cells : EachCell (IsWholeCell table) table widths =
-    All-weaker IsSeenRow (λ (row : RowValue). All (λ (p : ℕ × ColumnInfo). (cell : CellValue) → slice_get row.cells p.0 ≡ Some cell → IsWholeCell table row p.1 cell) (visible_infos (infos_of table widths)))
+    All-weaker HasCells (λ (row : RowValue). All (λ (p : ℕ × ColumnInfo). (cell : CellValue) → slice_get row.cells p.0 ≡ Some cell → IsWholeCell table row p.1 cell) (visible_infos (infos_of table widths)))
     (λ row each. All-weaker (λ (p : ℕ × ColumnInfo). IsDelimiter p.1.delimiter) (λ (p : ℕ × ColumnInfo). (cell : CellValue) → slice_get row.cells p.0 ≡ Some cell → IsWholeCell table row p.1 cell)
     (whole_cell table row kept.delimiter each) (visible_infos (infos_of table widths)) delimiters)
-    (seen_rows table) (seen_kept table rows) in
+    (seen_rows table) rows in
     let free_lines = λ (free : IsFreeOfEscapes table). ap (map visible_text) whole ∙ styling_taken_out table widths texts free in
     record {
       widths = widths;
       arranged = arranged;
       drawn = whole;
-      whole_texts = All-weaker IsSeenRow IsWholeRow whole_row (seen_rows table) (seen_kept table rows);
+      whole_texts = texts;
       slices = λ k default under j other below. row_slices table (slice_index_or (seen_rows table) k default) (slice_index_or (visible_infos (infos_of table widths)) j other) (cells k default under j other below);
       unstyled_lines = λ off plain. whole ∙ sym (unstyled_drawing table (infos_of table widths) off plain);
       equal_counts = λ plain. equal_counts table widths utf8 plain arranged;
@@ -102,6 +99,7 @@ table_drawing table infos lines utf8 kept (widths, arranged, is) drawn =
       without_sequences = free_lines;
       straight_without_sequences = λ free is. All-of_map (λ text. measure text ≡ line_total table widths) visible_text lines
           (subst (All (λ text. measure text ≡ line_total table widths)) (sym (free_lines free)) (straight table widths utf8 cells arranged is));
+      without_breaks = λ style. subst (All HasNoBreak) (sym whole) (without_breaks table widths texts (rows_of HasNoBreak (λ texts own. own.no_breaks) (seen_rows table) rows) style);
       closed = λ on. All-every (λ (row : RowValue). All (IsClosedInRow table row) (visible_infos (infos_of table widths))) (header_and_rows table)
           (λ row. All-every (IsClosedInRow table row) (visible_infos (infos_of table widths)) (λ p cell is. none_is_open_at_the_end table row p.1 cell on));
       resumed = λ on. All-every (λ (row : RowValue). All (IsResumedInRow table row) (visible_infos (infos_of table widths))) (header_and_rows table)

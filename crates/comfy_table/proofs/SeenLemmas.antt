@@ -1,14 +1,17 @@
 -- A table as it is seen: its rows, and what holds of them.
-use Rattle.std.proofs.Common.{◌≡◌, ℕ, zero, suc, Bool, true, false, List, [], ◌∷◌, ◌++◌, Option, Some, None, map, option_map, refl, ap, arith, subst, sym}
+use Rattle.std.proofs.Common.{◌≡◌, ◌<◌, ℕ, zero, suc, Bool, true, false, List, [], ◌∷◌, ◌++◌, Option, Some, None, map, option_map, refl, ap, arith, subst, sym}
 use Rattle.std.specs.List.{All, slice_get, join_by}
 use Rattle.std.specs.Prelude.{if◌then◌else◌}
 use Rattle.std.specs.Str.{IsUtf8}
-use Rattle.std.proofs.lemmas.List.Elements.{All-cons, All-head, All-nil, All-tail, All-weaker, All-map}
+use Rattle.std.proofs.lemmas.List.{length-map}
+use Rattle.std.proofs.lemmas.List.Elements.{All-map, All-weaker}
 use Rattle.std.proofs.lemmas.List.Folds.{flat_map-map}
-use Rattle.comfy_parts.proofs.CallerLemmas.{visible_text-whole}
-use Rattle.comfy_parts.specs.CellValue.{CellValue, IsDelimiter, RowValue}
+use Rattle.comfy_parts.proofs.CallerLemmas.{HasNo-visible, visible_text-whole}
+use Rattle.comfy_parts.specs.CellValue.{CellValue, HasTextLines, IsCell, RowValue}
+use Rattle.comfy_parts.specs.Text.{Text}
 use Rattle.comfy_parts.specs.VisibleText.{visible_text}
-use Rattle.comfy_table.specs.TableValue.{TableValue, HasWholeTexts, header_and_rows, seen_rows, visible_cell, visible_row}
+use Rattle.comfy_table.specs.Laws.{HasNoBreak}
+use Rattle.comfy_table.specs.TableValue.{TableValue, header_and_rows, seen_rows, visible_cell, visible_row}
 
 -- a cell and a row as they are seen
 abbrev pub cell_seen : Bool → CellValue → CellValue
@@ -55,44 +58,33 @@ All-seen table P gives each =
     (All-weaker P (λ row. P (row_seen table.custom_styling row))
     (λ row own. elim table.custom_styling as (λ custom. P (row_seen custom row)) [ true ↦ gives row own | false ↦ own ]) (header_and_rows table) each))
 
--- the text lines of a row are whole characters
-abbrev pub IsWholeRow : RowValue → Type 0
-IsWholeRow row = All (λ (cell : CellValue). All IsUtf8 cell.text_lines) row.cells
+-- ---- cells as they are seen
 
--- texts are whole characters as they are seen
-texts_whole : (texts : List (List ℕ)) → All IsUtf8 texts → All IsUtf8 (map visible_text texts)
-texts_whole [] each = All-nil IsUtf8
-texts_whole (text ∷ texts) each =
-    All-cons IsUtf8 (visible_text text) (map visible_text texts) (visible_text-whole text (All-head IsUtf8 text texts each)) (texts_whole texts (All-tail IsUtf8 text texts each))
+-- text lines keep what they keep
+seen_text_lines : (texts : List Text) → HasTextLines texts → HasTextLines (map visible_text texts)
+seen_text_lines texts own =
+    record {
+      some_line = subst (λ n. 0 < n) (sym (length-map texts visible_text)) own.some_line;
+      no_breaks = All-map HasNoBreak visible_text texts (All-weaker HasNoBreak (λ text. HasNoBreak (visible_text text)) (HasNo-visible 0x0A) texts own.no_breaks);
+      whole = All-map IsUtf8 visible_text texts (All-weaker IsUtf8 (λ text. IsUtf8 (visible_text text)) visible_text-whole texts own.whole);
+    }
 
--- and so the rows of a table
-pub seen_whole : (table : TableValue) → HasWholeTexts table → All IsWholeRow (seen_rows table)
-seen_whole table each = All-seen table IsWholeRow (λ row whole. cells row.cells whole) each
-  where
-    cells : (cs : List CellValue) → All (λ (cell : CellValue). All IsUtf8 cell.text_lines) cs → All (λ (cell : CellValue). All IsUtf8 cell.text_lines) (map visible_cell cs)
-    cells [] each = All-nil (λ (cell : CellValue). All IsUtf8 cell.text_lines)
-    cells (cell ∷ cs) each =
-        All-cons (λ (cell : CellValue). All IsUtf8 cell.text_lines) (visible_cell cell) (map visible_cell cs)
-        (texts_whole cell.text_lines (All-head (λ (cell : CellValue). All IsUtf8 cell.text_lines) cell cs each)) (cells cs (All-tail (λ (cell : CellValue). All IsUtf8 cell.text_lines) cell cs each))
+-- the cells of a row keep what cells keep
+abbrev pub HasCells : RowValue → Type 0
+HasCells row = All IsCell row.cells
 
--- what a cell shows that keeps what cells keep: its text lines are whole characters, and so is its delimiter
-abbrev pub IsSeenCell : CellValue → Type 0
-IsSeenCell cell = All IsUtf8 cell.text_lines × IsDelimiter cell.delimiter
+-- and they still do as they are seen
+pub seen_kept : (table : TableValue) → All HasCells (header_and_rows table) → All HasCells (seen_rows table)
+seen_kept table each =
+    All-seen table HasCells
+    (λ row own. All-map IsCell visible_cell row.cells
+    (All-weaker IsCell (λ cell. IsCell (visible_cell cell)) (λ cell is. record { text_lines = seen_text_lines cell.text_lines is.text_lines; delimiter = is.delimiter }) row.cells own)) each
 
--- the same of each cell of a row
-abbrev pub IsSeenRow : RowValue → Type 0
-IsSeenRow row = All IsSeenCell row.cells
+-- each text line of a row has the property
+abbrev pub IsRowOf : (Text → Type 0) → RowValue → Type 0
+IsRowOf P row = All (λ (cell : CellValue). All P cell.text_lines) row.cells
 
--- the text lines of such a row are whole characters
-pub whole_row : (row : RowValue) → IsSeenRow row → IsWholeRow row
-whole_row row each = All-weaker IsSeenCell (λ (cell : CellValue). All IsUtf8 cell.text_lines) (λ cell seen. seen.0) row.cells each
-
--- rows stay so as they are seen
-pub seen_kept : (table : TableValue) → All IsSeenRow (header_and_rows table) → All IsSeenRow (seen_rows table)
-seen_kept table each = All-seen table IsSeenRow (λ row seen. cells row.cells seen) each
-  where
-    cells : (cs : List CellValue) → All IsSeenCell cs → All IsSeenCell (map visible_cell cs)
-    cells [] each = All-nil IsSeenCell
-    cells (cell ∷ cs) each =
-        All-cons IsSeenCell (visible_cell cell) (map visible_cell cs)
-        (texts_whole cell.text_lines (All-head IsSeenCell cell cs each).0, (All-head IsSeenCell cell cs each).1) (cells cs (All-tail IsSeenCell cell cs each))
+-- so have those of rows that keep what cells keep, where it follows
+pub rows_of : (P : Text → Type 0) → ((texts : List Text) → HasTextLines texts → All P texts) → (rows : List RowValue) → All HasCells rows → All (IsRowOf P) rows
+rows_of P gives rows each =
+    All-weaker HasCells (IsRowOf P) (λ row own. All-weaker IsCell (λ (cell : CellValue). All P cell.text_lines) (λ cell is. gives cell.text_lines is.text_lines) row.cells own) rows each

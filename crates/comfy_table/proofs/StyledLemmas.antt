@@ -1,22 +1,33 @@
--- The sequences round a styled text show nothing, so a styled piece shows its plain piece.
-use Rattle.std.proofs.Common.{◌≡◌, ℕ, zero, suc, ◌/◌, ◌%◌, Bool, true, false, cond, ◌&&◌, ◌==◌, List, [], ◌∷◌, ◌++◌, Option, Some, None, refl, ap₂, ◌∙◌, subst, arith, append-nil}
+-- What stays true of texts as they are drawn: of styled texts, and of their pieces.
+use Rattle.std.proofs.Common.{◌≡◌, ◌<◌, length, is_some, ℕ, zero, suc, ◌/◌, ◌%◌, Bool, true, false, ◌&&◌, ◌==◌, List, [], ◌∷◌, ◌++◌, Option, Some, None, refl, ap₂, ◌∙◌, subst, arith, append-nil}
 use Rattle.std.specs.List.{list_all, flat_map, filter}
 use Rattle.std.specs.Fmt.{digits, digits_onto, digit_glyph, decimal}
 use Rattle.std.specs.Prelude.{if◌then◌else◌, codes}
-use Rattle.std.proofs.lemmas.Bool.{and_parts}
+use Rattle.std.proofs.lemmas.Bool.{and_parts, cond_both}
 use Rattle.std.proofs.lemmas.List.Folds.{list_all-append}
-use Rattle.comfy_parts.proofs.CallerLemmas.{Shows, Shows-append, Shows-byte, Shows-nil, Shows-sequence}
 use Rattle.comfy_parts.specs.CellValue.{CellValue, ColumnInfo}
-use Rattle.comfy_parts.specs.Text.{Text, measure, spaces}
+use Rattle.comfy_parts.specs.Text.{HasNo, Text, measure, spaces}
 use Rattle.comfy_parts.specs.VisibleLines.{CellLine}
 use Rattle.comfy_table.proofs.CutLemmas.{plain_piece}
-use Rattle.comfy_parts.specs.VisibleText.{is_parameter}
+use Rattle.comfy_parts.specs.VisibleText.{closed, is_parameter, visible_text}
 use Rattle.comfy_parts.specs.declared.style.attribute.Attribute.{Attribute}
 use Rattle.comfy_parts.specs.declared.style.color.Color.{Color}
 use Rattle.comfy_parts.specs.declared.style.color.Color.TheVariants as colors
 use Rattle.comfy_table.specs.Pieces.{padded, piece}
 use Rattle.comfy_table.specs.Styling.{sequence, color_code, foreground_code, background_code, attribute_code, all_attributes, has_attribute, attribute_sequences, optional_sequence, style_begin, style_end, styled}
 use Rattle.comfy_table.specs.TableValue.{TableValue, should_style}
+
+-- ---- what is drawn
+
+-- what is told of each text and what is shown of it stays true as they are drawn, where the byte b isn't in what is shown
+pub record KeptByDrawing (b : ℕ) (R : Text → Text → Type 0) : Type 0 where
+  pub seven_bits : b < 128
+  pub no_space : HasNo b (0x20 ∷ [])
+  pub of_clear : (text : Text) → HasNo b text → R text text
+  pub of_both : (shown others xs ys : Text) → R shown xs → R others ys → R (shown ++ others) (xs ++ ys)
+  pub of_sequence : (code : Text) → list_all is_parameter code ≡ true → R [] (sequence code)
+  pub of_seen : (text : Text) → HasNo b (visible_text text) → R (visible_text text) text
+  pub of_closed : (text : Text) → HasNo b text → R text (closed text)
 
 -- ---- codes are parameters
 
@@ -63,72 +74,76 @@ background-parameters : (color : Color) → list_all is_parameter (background_co
 background-parameters colors.Reset = refl
 background-parameters color = color_code-parameters color
 
--- ---- sequences show nothing
+module _ (b : ℕ) (R : Text → Text → Type 0) (kept : KeptByDrawing b R) where
+  -- ---- sequences, of which nothing is shown
 
--- the sequence of a colour shows nothing
-Shows-optional_sequence : (code : Color → Text) (color : Option Color) → ((c : Color) → list_all is_parameter (code c) ≡ true) → Shows [] (optional_sequence code color)
-Shows-optional_sequence code None parameters = Shows-nil
-Shows-optional_sequence code (Some color) parameters = Shows-sequence (code color) (parameters color)
+  -- an empty text
+  pub keeps_nothing : R [] []
+  keeps_nothing = kept.of_clear [] refl
 
--- the sequences of attributes show nothing
-Shows-attributes : (p : Attribute → Bool) (attributes : List Attribute) → list_all (λ (a : Attribute). list_all is_parameter (attribute_code a)) attributes ≡ true
-    → Shows [] (flat_map (λ (a : Attribute). sequence (attribute_code a)) (filter p attributes))
-Shows-attributes p [] all = Shows-nil
-Shows-attributes p (a ∷ more) all =
-    by_test (p a) (Shows-attributes p more (and_parts (list_all is_parameter (attribute_code a)) (list_all (λ (b : Attribute). list_all is_parameter (attribute_code b)) more) all).1)
-  where
-    by_test : (b : Bool) → Shows [] (flat_map (λ (a : Attribute). sequence (attribute_code a)) (filter p more))
-        → Shows [] (flat_map (λ (a : Attribute). sequence (attribute_code a)) (cond b (a ∷ filter p more) (filter p more)))
-    by_test true rest =
-        Shows-append [] [] (sequence (attribute_code a)) (flat_map (λ (a : Attribute). sequence (attribute_code a)) (filter p more))
-        (Shows-sequence (attribute_code a) (and_parts (list_all is_parameter (attribute_code a)) (list_all (λ (b : Attribute). list_all is_parameter (attribute_code b)) more) all).0) rest
-    by_test false rest = rest
+  -- the sequence of a colour
+  keeps_optional_sequence : (code : Color → Text) (color : Option Color) → ((c : Color) → list_all is_parameter (code c) ≡ true) → R [] (optional_sequence code color)
+  keeps_optional_sequence code None all = keeps_nothing
+  keeps_optional_sequence code (Some color) all = kept.of_sequence (code color) (all color)
 
--- what stands before a styled text shows nothing
-Shows-style_begin : (cell : CellValue) → Shows [] (style_begin cell)
-Shows-style_begin cell =
-    Shows-append [] [] (optional_sequence background_code cell.background) (optional_sequence foreground_code cell.foreground ++ attribute_sequences cell.attributes)
-    (Shows-optional_sequence background_code cell.background background-parameters)
-    (Shows-append [] [] (optional_sequence foreground_code cell.foreground) (attribute_sequences cell.attributes)
-    (Shows-optional_sequence foreground_code cell.foreground foreground-parameters) (Shows-attributes (has_attribute cell.attributes) all_attributes refl))
+  -- the sequences of attributes
+  keeps_attributes : (p : Attribute → Bool) (attributes : List Attribute) → list_all (λ (a : Attribute). list_all is_parameter (attribute_code a)) attributes ≡ true
+      → R [] (flat_map (λ (a : Attribute). sequence (attribute_code a)) (filter p attributes))
+  keeps_attributes p [] all = keeps_nothing
+  keeps_attributes p (a ∷ more) all =
+      let both = and_parts (list_all is_parameter (attribute_code a)) (list_all (λ (b : Attribute). list_all is_parameter (attribute_code b)) more) all in
+      let rest = keeps_attributes p more both.1 in
+      cond_both (p a) (a ∷ filter p more) (filter p more) (λ chosen. R [] (flat_map (λ (a : Attribute). sequence (attribute_code a)) chosen))
+      (λ _. kept.of_both [] [] (sequence (attribute_code a)) _ (kept.of_sequence (attribute_code a) both.0) rest) (λ _. rest)
 
--- a text that shows nothing, written or not
-Shows-when : (b : Bool) (text : Text) → Shows [] text → Shows [] (if b then text else [])
-Shows-when true text shows = shows
-Shows-when false text shows = Shows-nil
+  -- what stands before a styled text
+  keeps_style_begin : (cell : CellValue) → R [] (style_begin cell)
+  keeps_style_begin cell =
+      kept.of_both [] [] (optional_sequence background_code cell.background) (optional_sequence foreground_code cell.foreground ++ attribute_sequences cell.attributes)
+      (keeps_optional_sequence background_code cell.background background-parameters)
+      (kept.of_both [] [] (optional_sequence foreground_code cell.foreground) (attribute_sequences cell.attributes)
+      (keeps_optional_sequence foreground_code cell.foreground foreground-parameters) (keeps_attributes (has_attribute cell.attributes) all_attributes refl))
 
--- what stands behind a styled text shows nothing
-Shows-style_end : (cell : CellValue) → Shows [] (style_end cell)
-Shows-style_end cell = grind arith
+  -- a sequence that is written or not
+  keeps_sequence_when : (written : Bool) (code : Text) → list_all is_parameter code ≡ true → R [] (if written then sequence code else [])
+  keeps_sequence_when true code all = kept.of_sequence code all
+  keeps_sequence_when false code all = keeps_nothing
 
--- a styled text shows what the text shows
-pub Shows-styled : (cell : CellValue) (shown text : Text) → Shows shown text → Shows shown (styled cell text)
-Shows-styled cell shown text shows =
-    subst (λ s. Shows s (styled cell text)) (append-nil shown)
-    (Shows-append [] (shown ++ []) (style_begin cell) (text ++ style_end cell) (Shows-style_begin cell) (Shows-append shown [] text (style_end cell) shows (Shows-style_end cell)))
+  -- what stands behind a styled text
+  keeps_style_end : (cell : CellValue) → R [] (style_end cell)
+  keeps_style_end cell =
+      cond_both (length cell.attributes == 0) _ _ (R [])
+      (λ _. kept.of_both [] [] _ _ (keeps_sequence_when (is_some cell.background) (codes "49") refl) (keeps_sequence_when (is_some cell.foreground) (codes "39") refl))
+      (λ _. kept.of_sequence (codes "0") refl)
 
--- ---- pieces
+  -- a styled text
+  keeps_styled : (cell : CellValue) (shown text : Text) → R shown text → R shown (styled cell text)
+  keeps_styled cell shown text own =
+      subst (λ s. R s (styled cell text)) (append-nil shown)
+      (kept.of_both [] (shown ++ []) (style_begin cell) (text ++ style_end cell) (keeps_style_begin cell) (kept.of_both shown [] text (style_end cell) own (keeps_style_end cell)))
 
--- spaces show themselves
-pub Shows-spaces : (n : ℕ) → Shows (spaces n) (spaces n)
-Shows-spaces zero = Shows-nil
-Shows-spaces (suc n) =
-    Shows-append (0x20 ∷ []) (spaces n) (0x20 ∷ []) (spaces n) (Shows-byte 0x20 refl) (Shows-spaces n)
+  -- ---- pieces
 
--- a padded text shows what the text shows, padded
-Shows-padded : (cell : CellValue) (info : ColumnInfo) (columns : ℕ) (shown text : Text) → Shows shown text → Shows (padded cell info columns shown) (padded cell info columns text)
-Shows-padded cell info columns shown text shows = grind (arith, Shows-append, Shows-spaces)
+  -- spaces
+  pub keeps_spaces : (n : ℕ) → R (spaces n) (spaces n)
+  keeps_spaces zero = keeps_nothing
+  keeps_spaces (suc n) =
+      kept.of_both (0x20 ∷ []) (spaces n) (0x20 ∷ []) (spaces n) (kept.of_clear (0x20 ∷ []) kept.no_space) (keeps_spaces n)
 
--- the piece of a line that shows what is seen of it shows the plain piece
-pub Shows-piece : (table : TableValue) (cell : CellValue) (info : ColumnInfo) (line : CellLine) → Shows line.seen line.written → Shows (plain_piece cell info line.seen) (piece table cell info line)
-Shows-piece table cell info line shows = by_tests (should_style table) table.style_text_only
-  where
-    columns : ℕ
-    columns = measure line.seen
+  -- a padded text
+  keeps_padded : (cell : CellValue) (info : ColumnInfo) (columns : ℕ) (shown text : Text) → R shown text → R (padded cell info columns shown) (padded cell info columns text)
+  keeps_padded cell info columns shown text own = grind (arith, kept.of_both, keeps_spaces)
 
-    by_tests : (styles text_only : Bool)
-        → Shows (plain_piece cell info line.seen) (if styles then (if text_only then padded cell info columns (styled cell line.written) else styled cell (padded cell info columns line.written)) else padded cell info columns line.written)
-    by_tests true true = Shows-padded cell info columns line.seen (styled cell line.written) (Shows-styled cell line.seen line.written shows)
-    by_tests true false =
-        Shows-styled cell (plain_piece cell info line.seen) (padded cell info columns line.written) (Shows-padded cell info columns line.seen line.written shows)
-    by_tests false text_only = Shows-padded cell info columns line.seen line.written shows
+  -- the piece of a line, and the plain piece of what is seen of it
+  pub keeps_piece : (table : TableValue) (cell : CellValue) (info : ColumnInfo) (line : CellLine) → R line.seen line.written → R (plain_piece cell info line.seen) (piece table cell info line)
+  keeps_piece table cell info line own = by_tests (should_style table) table.style_text_only
+    where
+      columns : ℕ
+      columns = measure line.seen
+
+      by_tests : (styles text_only : Bool)
+          → R (plain_piece cell info line.seen) (if styles then (if text_only then padded cell info columns (styled cell line.written) else styled cell (padded cell info columns line.written)) else padded cell info columns line.written)
+      by_tests true true = keeps_padded cell info columns line.seen (styled cell line.written) (keeps_styled cell line.seen line.written own)
+      by_tests true false =
+          keeps_styled cell (plain_piece cell info line.seen) (padded cell info columns line.written) (keeps_padded cell info columns line.seen line.written own)
+      by_tests false text_only = keeps_padded cell info columns line.seen line.written own

@@ -1,24 +1,25 @@
--- The lines of a cell in a row with what is written for them: which sequences are open, and what they show.
-use Rattle.std.proofs.Common.{◌≡◌, ℕ, zero, suc, ◌-◌, Bool, true, false, List, [], ◌∷◌, Option, Some, None, length, map, take, drop, nat_le, refl, sym, subst, arith}
+-- The lines of a cell in a row with what is written for them: which sequences are open, and what stays true of both as they are drawn.
+use Rattle.std.proofs.Common.{◌≡◌, ℕ, zero, suc, ◌-◌, Bool, true, false, List, [], ◌∷◌, Option, Some, None, length, map, take, drop, nat_le, refl, sym, subst, arith, slice_index_or}
 use Rattle.std.specs.List.{All, AllByRecursion, AllZip}
 use Rattle.std.specs.Prelude.{if◌then◌else◌}
 use Rattle.std.specs.Str.{IsUtf8}
 use Rattle.std.proofs.lemmas.Bool.{cond_both}
 use Rattle.std.proofs.lemmas.Bool.Decides.{nat_tests}
 use Rattle.std.proofs.lemmas.List.{drop_all, drop_at, length-take, take-append-le, take-take}
-use Rattle.std.proofs.lemmas.List.Elements.{All-from_recursion, All-map, All-weaker, recursion_from_All}
-use Rattle.comfy_parts.proofs.CallerLemmas.{Shows, Shows-clear, Shows-closed, lines_closed, lines_of_text-utf8, lines_resumed, lines_show, none_open, visible_text-is}
+use Rattle.std.proofs.lemmas.List.Elements.{All-from_recursion, All-map, All-weaker}
+use Rattle.comfy_parts.proofs.CallerLemmas.{lines_closed, lines_of_text-utf8, lines_resumed, lines_seen, none_open}
 use Rattle.comfy_parts.specs.CellValue.{CellValue, RowValue, ColumnInfo}
 use Rattle.comfy_parts.specs.Laws.{IsResumedLine}
-use Rattle.comfy_parts.specs.Text.{Text}
+use Rattle.comfy_parts.specs.Text.{HasNo, Text}
 use Rattle.comfy_parts.specs.VisibleLines.{CellLine, line_starts, line_texts}
 use Rattle.comfy_parts.specs.VisibleText.{closed, open_after, parts, visible_text}
 use Rattle.comfy_parts.specs.Wrapping.{lines_of_text}
 use Rattle.comfy_table.proofs.CutLemmas.{All-cut, whole-seen}
-use Rattle.comfy_table.proofs.EscapeLemmas.{cut_text-clear, lines_of_text-clear}
+use Rattle.comfy_table.proofs.AbsentByteLemmas.{cut_text-clear, lines_of_text-clear}
 use Rattle.comfy_table.proofs.ListLemmas.{All-flat_map, All-of_map}
 use Rattle.comfy_table.proofs.SeenLemmas.{cell_seen}
-use Rattle.comfy_table.specs.Laws.{CutLinesAreClosed, HasNoEscape, LinesAreResumedInRow, NoneIsOpenAtTheEnd}
+use Rattle.comfy_table.proofs.StyledLemmas.{KeptByDrawing}
+use Rattle.comfy_table.specs.Laws.{CutLinesAreClosed, LinesAreResumedInRow, NoneIsOpenAtTheEnd}
 use Rattle.comfy_table.specs.Lines.{as_seen, cell_delimiter, cell_lines, cut_line, cut_text, cut_to_limit, uncut_count, whole_lines}
 use Rattle.comfy_table.specs.TableValue.{TableValue}
 
@@ -92,11 +93,7 @@ module _ (table : TableValue) (row : RowValue) (info : ColumnInfo) (cell : CellV
       subst (λ custom. All IsClosedLine (drop (uncut_count row.max_height (whole_lines custom w d cell)) (lines_with custom))) (sym on)
       (All-from_recursion IsClosedLine (drop (uncut_count row.max_height (line_texts w d cell.text_lines)) (lines_with true)) (closed_behind w table.indicator row.max_height (line_texts w d cell.text_lines)))
 
-  -- ---- what is written shows what is seen, where that has no ESC
-
-  -- what is written for a line shows what is seen of it
-  abbrev IsShown : CellLine → Type 0
-  IsShown line = Shows line.seen line.written
+  -- ---- what stays true of what is seen and what is written
 
   -- what is seen of a line has a property that the lines of each text have
   seen_each : (P : Text → Type 0) (custom : Bool) → ((text : Text) → P text → All P (lines_of_text w d text)) → All P (cell_seen custom cell).text_lines → All P (cell_lines w d (cell_seen custom cell))
@@ -107,29 +104,33 @@ module _ (table : TableValue) (row : RowValue) (info : ColumnInfo) (cell : CellV
   of_whole P custom each =
       All-of_map P (λ (line : CellLine). line.seen) (whole_lines custom w d cell) (subst (All P) (sym (whole-seen custom w d cell)) each)
 
-  -- so it is for lines that aren't cut
-  whole_shown : (custom : Bool) → All HasNoEscape (cell_seen custom cell).text_lines → All IsShown (whole_lines custom w d cell)
-  whole_shown true clear =
-      All-from_recursion IsShown (line_texts w d cell.text_lines) (lines_show w d cell.text_lines
-      (recursion_from_All (λ text. HasNoEscape (visible_text text)) cell.text_lines (All-of_map HasNoEscape visible_text cell.text_lines clear)))
-  whole_shown false clear =
-      All-map IsShown as_seen (cell_lines w d cell) (All-weaker HasNoEscape (λ line. Shows line line) Shows-clear (cell_lines w d cell) (seen_each HasNoEscape false (lines_of_text-clear w d) clear))
+  module _ (b : ℕ) (R : Text → Text → Type 0) (kept : KeptByDrawing b R) where
+    -- the lines that aren't cut
+    keeps_whole : (custom : Bool) → All (HasNo b) (cell_seen custom cell).text_lines → All (λ (line : CellLine). R line.seen line.written) (whole_lines custom w d cell)
+    keeps_whole true clear =
+        λ k default below.
+        let line : CellLine = slice_index_or (line_texts w d cell.text_lines) k default in
+        let is : visible_text line.written ≡ line.seen = All-from_recursion (λ (line : CellLine). visible_text line.written ≡ line.seen) (line_texts w d cell.text_lines) (lines_seen w d cell.text_lines) k default below in
+        let seen : HasNo b line.seen = of_whole (HasNo b) true (seen_each (HasNo b) true (lines_of_text-clear b w d) clear) k default below in
+        subst (λ s. R s line.written) is (kept.of_seen line.written (subst (HasNo b) (sym is) seen))
+    keeps_whole false clear =
+        All-map (λ (line : CellLine). R line.seen line.written) as_seen (cell_lines w d cell) (All-weaker (HasNo b) (λ line. R line line) kept.of_clear (cell_lines w d cell) (seen_each (HasNo b) false (lines_of_text-clear b w d) clear))
 
-  -- and for one that is cut
-  cut_shown : (custom : Bool) (line : CellLine) → HasNoEscape (cut_text w table.indicator line.seen) → IsShown (cut_line custom w table.indicator line)
-  cut_shown true line clear =
-      let text : Text = cut_text w table.indicator line.seen in
-      let same : visible_text text ≡ text = visible_text-is text text (Shows-clear text clear) in
-      subst (λ s. Shows s (closed text)) same (Shows-closed text (subst HasNoEscape (sym same) clear))
-  cut_shown false line clear = Shows-clear (cut_text w table.indicator line.seen) clear
+    -- one that is cut
+    keeps_cut : (custom : Bool) (line : CellLine) → HasNo b (cut_text w table.indicator line.seen) → R (cut_text w table.indicator line.seen) (cut_line custom w table.indicator line).written
+    keeps_cut true line clear = kept.of_closed (cut_text w table.indicator line.seen) clear
+    keeps_cut false line clear = kept.of_clear (cut_text w table.indicator line.seen) clear
 
-  -- so it is for all lines
-  pub lines_shown : (custom : Bool) → HasNoEscape table.indicator → All IsUtf8 (cell_seen custom cell).text_lines → All HasNoEscape (cell_seen custom cell).text_lines → All IsShown (lines_with custom)
-  lines_shown custom mark utf8 clear =
-      All-cut (λ line. IsShown line × (IsUtf8 line.seen × HasNoEscape line.seen)) IsShown (cut_line custom w table.indicator) row.max_height (whole_lines custom w d cell)
-      (λ k default below. (
-        whole_shown custom clear k default below,
-        (of_whole IsUtf8 custom (seen_each IsUtf8 custom (lines_of_text-utf8 w d) utf8) k default below, of_whole HasNoEscape custom (seen_each HasNoEscape custom (lines_of_text-clear w d) clear) k default below),
-      ))
-      (λ line own. own.0)
-      (λ h limited below line own. cut_shown custom line (cut_text-clear w table.indicator line.seen mark own.1.0 own.1.1))
+    -- all lines
+    keeps_lines_with : (custom : Bool) → HasNo b table.indicator → All IsUtf8 (cell_seen custom cell).text_lines → All (HasNo b) (cell_seen custom cell).text_lines → All (λ (line : CellLine). R line.seen line.written) (lines_with custom)
+    keeps_lines_with custom mark utf8 clear =
+        All-cut (λ line. R line.seen line.written × (IsUtf8 line.seen × HasNo b line.seen)) (λ line. R line.seen line.written) (cut_line custom w table.indicator) row.max_height (whole_lines custom w d cell)
+        (λ k default below. (
+          keeps_whole custom clear k default below,
+          (of_whole IsUtf8 custom (seen_each IsUtf8 custom (lines_of_text-utf8 w d) utf8) k default below, of_whole (HasNo b) custom (seen_each (HasNo b) custom (lines_of_text-clear b w d) clear) k default below),
+        ))
+        (λ line own. own.0)
+        (λ h limited below line own. keeps_cut custom line (cut_text-clear b w table.indicator line.seen mark own.1.0 own.1.1))
+
+    pub keeps_lines : HasNo b table.indicator → All IsUtf8 (cell_seen table.custom_styling cell).text_lines → All (HasNo b) (cell_seen table.custom_styling cell).text_lines → All (λ (line : CellLine). R line.seen line.written) (row_cell_lines table row info cell)
+    keeps_lines = keeps_lines_with table.custom_styling

@@ -2,15 +2,15 @@
 use Rattle.std.specs.Prelude.{◌≡◌, ℕ, ◌+◌, ◌-◌, ◌<◌, ◌≤◌, Bool, true, false, List, [], ◌∷◌, ◌++◌, Option, Some, None, take, drop, length, max, sum, sum_by, All, chars, slice_get, map, IsUtf8, unwrap_or, ◌==◌}
 use Rattle.std.specs.Char.{IsScalar}
 use Rattle.std.specs.Int.{is_in_range}
-use Rattle.std.specs.List.{AllZip, concat, list_any}
+use Rattle.std.specs.List.{AllZip, concat, slice_split}
 use Rattle.comfy_parts.specs.CellValue.{CellValue, RowValue, ColumnValue, ColumnInfo, column_padding}
-use Rattle.comfy_parts.specs.Text.{Text, is_printable_ascii, AddsOneColumnEach}
+use Rattle.comfy_parts.specs.Text.{Text, HasNo, is_printable_ascii, AddsOneColumnEach}
 use Rattle.comfy_parts.specs.Laws.{IsResumedLine, characters_without}
 use Rattle.comfy_parts.specs.VisibleLines.{CellLine, line_starts}
 use Rattle.comfy_parts.specs.VisibleText.{closed, parts, open_after}
 use Rattle.comfy_parts.specs.declared.style.table.ContentArrangement.TheVariants.{Dynamic, DynamicFullWidth}
 use Rattle.comfy_table.specs.Arrangement.{IsArranged}
-use Rattle.comfy_table.specs.Drawing.{infos_of, whole_widths}
+use Rattle.comfy_table.specs.Drawing.{infos_of, terminated_text_of, text_of, whole_widths}
 use Rattle.comfy_table.specs.Dynamic.{Steps, IsDynamic, fixed_shares, places_of, total}
 use Rattle.comfy_table.specs.Frame.{border_count, left_characters, right_characters, junction_characters}
 use Rattle.comfy_table.specs.Lines.{cell_lines, cell_delimiter, fitting_indicator, uncut_count, whole_lines}
@@ -101,14 +101,42 @@ CellKeepsItsText table row info cell =
 
 -- the byte ESC is not in the text
 abbrev pub HasNoEscape : Text → Type 0
-HasNoEscape text = list_any (λ b. b == 0x1B) text ≡ false
+HasNoEscape text = HasNo 0x1B text
+
+-- no line feed is in the text
+abbrev pub HasNoBreak : Text → Type 0
+HasNoBreak text = HasNo 0x0A text
+
+-- the byte b is no character of the style, and not in the indicator
+pub record HasStyleWithout (b : ℕ) (table : TableValue) : Type 0 where
+  pub indicator : HasNo b table.indicator
+  pub ends : All (λ (c : Option ℕ). (unwrap_or c 0x20 == b) ≡ false) (left_characters table.style ++ (right_characters table.style ++ junction_characters table.style))
+  pub fills : All (λ (c : Option ℕ). (unwrap_or c 0x20 == b) ≡ false) (table.style.top_border.fill ∷ table.style.header_separator.fill ∷ table.style.row_separator.fill ∷ table.style.bottom_border.fill ∷ [])
 
 -- no text line as it is seen, no character of the style and no indicator holds ESC
 pub record IsFreeOfEscapes (table : TableValue) : Type 0 where
   pub text_lines : All (λ (row : RowValue). All (λ (cell : CellValue). All HasNoEscape cell.text_lines) row.cells) (seen_rows table)
-  pub indicator : HasNoEscape table.indicator
-  pub style_ends : All (λ (c : Option ℕ). (unwrap_or c 0x20 == 0x1B) ≡ false) (left_characters table.style ++ (right_characters table.style ++ junction_characters table.style))
-  pub style_fills : All (λ (c : Option ℕ). (unwrap_or c 0x20 == 0x1B) ≡ false) (table.style.top_border.fill ∷ table.style.header_separator.fill ∷ table.style.row_separator.fill ∷ table.style.bottom_border.fill ∷ [])
+  pub style : HasStyleWithout 0x1B table
+
+-- neither a character of the style nor the indicator holds a line feed
+abbrev pub HasUnbrokenStyle : TableValue → Type 0
+HasUnbrokenStyle table = HasStyleWithout 0x0A table
+
+-- ---- texts of lines
+
+-- the lines of a text, joined by line feeds, stand between its line feeds
+abbrev pub JoinedLinesAreFound : List Text → Type 0
+JoinedLinesAreFound lines = 0 < length lines → All HasNoBreak lines → slice_split (λ b. b == 0x0A) (text_of lines) ≡ lines
+
+-- no lines have the text of one empty line
+abbrev pub NoLinesAreOneEmptyLine : Type 0
+NoLinesAreOneEmptyLine = text_of [] ≡ text_of ([] ∷ [])
+
+-- lines that are each followed by a line feed stand between the line feeds too, and an empty text stands behind the last one
+abbrev pub TerminatedLinesAreFound : List Text → Type 0
+TerminatedLinesAreFound lines = All HasNoBreak lines → slice_split (λ b. b == 0x0A) (terminated_text_of lines) ≡ lines ++ [] ∷ []
+
+-- ---- custom styling
 
 -- with custom styling, no sequence stands open at the end of a line's text before the cell's own styling, cut lines too
 abbrev pub NoneIsOpenAtTheEnd : TableValue → RowValue → ColumnInfo → CellValue → Type 0

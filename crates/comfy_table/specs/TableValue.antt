@@ -1,5 +1,5 @@
 -- What a table is, as a value, and what its settings say.
-use Rattle.std.specs.Prelude.{◌≡◌, ℕ, ◌<◌, ◌≤◌, Bool, false, not, ◌&&◌, ◌||◌, List, [], ◌∷◌, ◌++◌, Option, Some, None, option_to_list, option_and_then, option_map, map, fold, length, take, filter, filter_map, slice_get, max, min, All, IfSome, IsUtf8, if◌then◌else◌, String, string_bytes}
+use Rattle.std.specs.Prelude.{◌≡◌, ℕ, ◌<◌, ◌≤◌, Bool, false, not, ◌&&◌, ◌||◌, List, [], ◌∷◌, ◌++◌, Option, Some, None, option_to_list, option_and_then, option_map, map, fold, length, take, filter, filter_map, slice_get, max, min, All, IfSome, if◌then◌else◌, String, string_bytes}
 use Rattle.std.specs.List.{enumerate_from, range_with_len}
 use Rattle.comfy_parts.specs.CellValue.{CellValue, RowValue, ColumnValue, IsColumn, IsDelimiter, IsRow, columns_grown_to, is_hidden_column}
 use Rattle.comfy_parts.specs.Text.{Text, measure, greatest}
@@ -71,11 +71,6 @@ pub record KeepsParts (table : TableValue) : Type 0 where
   pub header : IfSome table.header IsRow
   pub rows : All IsRow table.rows
   pub delimiter : IsDelimiter table.delimiter
-
--- the text lines of all cells are UTF-8
-abbrev pub HasWholeTexts : TableValue → Type 0
-HasWholeTexts table =
-    All (λ (row : RowValue). All (λ (cell : CellValue). All IsUtf8 cell.text_lines) row.cells) (header_and_rows table)
 
 -- the greatest number of cells that a row has
 abbrev pub greatest_cell_count : List RowValue → ℕ

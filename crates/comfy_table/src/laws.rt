@@ -7,7 +7,7 @@ ghost use Rattle.comfy_parts.specs.CellValue.{CellValue, ColumnInfo, ColumnValue
 ghost use Rattle.comfy_parts.specs.Text.{Text};
 ghost use Rattle.comfy_parts.specs.declared.style.table_style.LineStyle.{LineStyle};
 ghost use Rattle.comfy_parts.specs.declared.style.table_style.TableStyle.{TableStyle};
-ghost use Rattle.comfy_table.specs.Laws.{CellKeepsItsText, DynamicIsOne, FillsWidth, KeepsToWidth};
+ghost use Rattle.comfy_table.specs.Laws.{CellKeepsItsText, DynamicIsOne, FillsWidth, JoinedLinesAreFound, KeepsToWidth, NoLinesAreOneEmptyLine, TerminatedLinesAreFound};
 ghost use Rattle.comfy_table.specs.NewTables.{NewTablesAreStraight};
 ghost use Rattle.comfy_table.specs.TableLaws.{FillsWiderTotal, FrameCounts, FrameFillsWidth, FrameKeepsToWidth, IsAtMostThreeOver, KeepsToWiderTotal, KeepsToWiderTotalInFull, ShrinkingKeepsCells, TableIsFull, TableIsLevelled, TableKeepsContents, TableLevelIsBest};
 ghost use Rattle.comfy_table.specs.TableValue.{TableValue};
@@ -39,6 +39,14 @@ pub fn frame_lines_have_one_count()
 pub fn frame_lines_keep_to_the_width()
     ensures dynamic { (table : TableValue) (w : ℕ) (widths : List ℕ) (line : LineStyle) → FrameKeepsToWidth table w widths line }
     ensures full { (table : TableValue) (w : ℕ) (widths : List ℕ) (line : LineStyle) → FrameFillsWidth table w widths line }
+{}
+
+/// Lines without line feeds are found in their texts. Joined by line feeds they stand between these, if there is a line; no
+/// lines have the text of one empty line. Where each is followed by a line feed, an empty text stands behind the last one.
+pub fn lines_are_found_in_their_texts()
+    ensures joined { (lines : List Text) → JoinedLinesAreFound lines }
+    ensures none { NoLinesAreOneEmptyLine }
+    ensures terminated { (lines : List Text) → TerminatedLinesAreFound lines }
 {}
 
 /// A new table in a style whose characters add one terminal column each, with a header and rows, has straight edges: all

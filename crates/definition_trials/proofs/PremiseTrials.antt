@@ -96,9 +96,7 @@ overlong_is_free : IsFreeOfEscapes overlong
 overlong_is_free =
     record {
       text_lines = All-cons (λ (row : RowValue). All (λ (cell : CellValue). All HasNoEscape cell.text_lines) row.cells) _ [] (All-cons (λ (cell : CellValue). All HasNoEscape cell.text_lines) _ [] lines (All-nil (λ (cell : CellValue). All HasNoEscape cell.text_lines))) (All-nil (λ (row : RowValue). All (λ (cell : CellValue). All HasNoEscape cell.text_lines) row.cells));
-      indicator = refl;
-      style_ends = AllPass-clear 18;
-      style_fills = AllPass-clear 4;
+      style = record { indicator = refl; ends = AllPass-clear 18; fills = AllPass-clear 4 };
     }
   where
     lines : All HasNoEscape ((0xC0 ∷ 0x9B ∷ 0x5B ∷ 0x6D ∷ []) ∷ (0x61 ∷ []) ∷ [])

@@ -12,7 +12,8 @@ use comfy_parts::Result;
 use std::marker::Model;
 use std::vec;
 
-/// The drawn lines of a table that are still to come, from the top. None ends with a line feed.
+/// The drawn lines of a table that are still to come, from the top. None holds a line feed, where neither the style nor
+/// the truncation indicator does.
 ///
 /// ```
 /// for line in table.lines()? {
@@ -77,7 +78,8 @@ impl Table {
         build_table(self)
     }
 
-    /// The drawn lines, joined by line feeds; no line feed stands at the end.
+    /// The drawn lines, joined by line feeds. Where neither the style nor the truncation indicator holds a line feed, the
+    /// lines are what stands between these: `laws::lines_are_found_in_their_texts`.
     pub fn to_text(&self) -> Result<String>
         ensures { IfOk result (λ text. IsTextOf self.now (string_bytes text)) }
     {
@@ -87,7 +89,7 @@ impl Table {
         Ok(text)
     }
 
-    /// The drawn lines, each without its trailing white space, joined by line feeds; no line feed stands at the end.
+    /// The drawn lines, each without its trailing white space, joined by line feeds.
     pub fn trim_fmt(&self) -> Result<String>
         ensures { IfOk result (λ text. IsTrimmedTextOf self.now (string_bytes text)) }
     {
@@ -97,7 +99,8 @@ impl Table {
         Ok(text)
     }
 
-    /// The drawn lines, each followed by a line feed, as a program prints them.
+    /// The drawn lines, each followed by a line feed, as a program prints them. Where neither the style nor the truncation
+    /// indicator holds a line feed, the lines are what stands before each one.
     pub fn to_terminated_text(&self) -> Result<String>
         ensures { IfOk result (λ text. IsTerminatedTextOf self.now (string_bytes text)) }
     {

@@ -1,0 +1,50 @@
+-- A line feed is never part of a sequence, so a text has one only where one is seen.
+use Rattle.std.proofs.Common.{◌≡◌, inl, inr, ⊎_elim, ℕ, true, false, ◌==◌, List, [], ◌∷◌, ◌++◌, refl, sym, ap, ◌∙◌, subst, eqb-true}
+use Rattle.std.specs.List.{flat_map, list_all, list_any}
+use Rattle.std.proofs.lemmas.Bool.{and_parts, cases_Bool, cond_both, or_from}
+use Rattle.comfy_parts.proofs.AbsentByteLemmas.{HasNo-append, HasNo-parts}
+use Rattle.comfy_parts.proofs.ScanLemmas.{AreScanned, bytes_of, scan}
+use Rattle.comfy_parts.proofs.SequenceLemmas.{true_is_false}
+use Rattle.comfy_parts.specs.Text.{HasNo, Text}
+use Rattle.comfy_parts.specs.VisibleText.{Part, is_parameter, parts, visible_bytes, visible_text}
+
+-- what is seen of parts has no byte that they don't have
+seen_clear : (b : ℕ) (ps : List Part) → HasNo b (bytes_of ps) → HasNo b (flat_map visible_bytes ps)
+seen_clear b [] clear = refl
+seen_clear b (p ∷ ps) clear =
+    let both = HasNo-parts b p.bytes (bytes_of ps) clear in
+    HasNo-append b (visible_bytes p) (flat_map visible_bytes ps) (cond_both p.is_sequence [] p.bytes (HasNo b) (λ _. refl) (λ _. both.0)) (seen_clear b ps both.1)
+
+-- nor has what is seen of a text
+pub HasNo-visible : (b : ℕ) (text : Text) → HasNo b text → HasNo b (visible_text text)
+HasNo-visible b text clear = seen_clear b (parts text) (subst (HasNo b) (sym (scan text).bytes) clear)
+
+-- parameters are no line feeds
+parameters_clear : (code : Text) → list_all is_parameter code ≡ true → HasNo 0x0A code
+parameters_clear [] all = refl
+parameters_clear (c ∷ cs) all =
+    let both = and_parts (is_parameter c) (list_all is_parameter cs) all in
+    let other : (c == 0x0A) ≡ false = other_than c both.0 in
+    or_from (c == 0x0A) (list_any (λ x. x == 0x0A) cs) other (parameters_clear cs both.1)
+  where
+    other_than : (c : ℕ) → is_parameter c ≡ true → (c == 0x0A) ≡ false
+    other_than c is = ⊎_elim (λ same. absurd (true_is_false (sym is ∙ ap is_parameter (eqb-true c 0x0A same)))) (λ other. other) (cases_Bool (c == 0x0A))
+
+-- so a sequence has none
+pub sequence_clear : (code : Text) → list_all is_parameter code ≡ true → HasNo 0x0A (0x1B ∷ 0x5B ∷ (code ++ (0x6D ∷ [])))
+sequence_clear code all = HasNo-append 0x0A code (0x6D ∷ []) (parameters_clear code all) refl
+
+-- parts have none where none is seen of them
+unseen_clear : (ps : List Part) (rest : Text) → AreScanned ps rest → HasNo 0x0A (flat_map visible_bytes ps) → HasNo 0x0A (bytes_of ps)
+unseen_clear [] rest scanned clear = refl
+unseen_clear (p ∷ ps) rest (inl part, more) clear =
+    let s = part.sequence in
+    HasNo-append 0x0A p.bytes (bytes_of ps) (subst (HasNo 0x0A) (sym s.is) (sequence_clear s.code s.parameters))
+    (unseen_clear ps rest more (subst (λ (x : Part). HasNo 0x0A (flat_map visible_bytes (x ∷ ps))) part.is clear))
+unseen_clear (p ∷ ps) rest (inr part, more) clear =
+    let both = HasNo-parts 0x0A (part.byte ∷ []) (flat_map visible_bytes ps) (subst (λ (x : Part). HasNo 0x0A (flat_map visible_bytes (x ∷ ps))) part.is clear) in
+    subst (λ (x : Part). HasNo 0x0A (x.bytes ++ bytes_of ps)) (sym part.is) (HasNo-append 0x0A (part.byte ∷ []) (bytes_of ps) both.0 (unseen_clear ps rest more both.1))
+
+-- a text has no line feed where none is seen
+pub breaks_are_seen : (text : Text) → HasNo 0x0A (visible_text text) → HasNo 0x0A text
+breaks_are_seen text clear = subst (HasNo 0x0A) (scan text).bytes (unseen_clear (parts text) [] (scan text).scanned clear)

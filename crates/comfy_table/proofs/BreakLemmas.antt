@@ -1,0 +1,62 @@
+-- No drawn line holds a line feed, where neither the style nor the indicator does. So lines are found in their texts.
+use Rattle.std.proofs.Common.{◌≡◌, ℕ, false, ◌==◌, List, [], ◌∷◌, ◌++◌, refl, sym, ap, ◌∙◌, subst, arith, append_assoc}
+use Rattle.std.specs.List.{All, list_any, slice_split}
+use Rattle.std.specs.Str.{IsUtf8}
+use Rattle.std.proofs.lemmas.Bool.{or_parts}
+use Rattle.std.proofs.lemmas.List.Elements.{All-cons, All-from_recursion, All-head, All-nil, All-tail}
+use Rattle.std.proofs.lemmas.List.Splits.{slice_split_at, slice_split_none}
+use Rattle.comfy_parts.proofs.CallerLemmas.{HasNo-append, HasNo-visible, breaks_are_seen, seen-closed, sequence_clear, zip-each}
+use Rattle.comfy_parts.specs.Text.{Text}
+use Rattle.comfy_parts.specs.VisibleText.{closed}
+use Rattle.comfy_table.proofs.KeptDrawingLemmas.{keeps_drawing}
+use Rattle.comfy_table.proofs.SeenLemmas.{IsRowOf}
+use Rattle.comfy_table.proofs.StyledLemmas.{KeptByDrawing}
+use Rattle.comfy_table.specs.Drawing.{drawing, infos_of, terminated_text_of, text_of}
+use Rattle.comfy_table.specs.Laws.{HasNoBreak, HasUnbrokenStyle, JoinedLinesAreFound, TerminatedLinesAreFound, unstyled}
+use Rattle.comfy_table.specs.TableValue.{TableValue, seen_rows}
+
+-- texts without a line feed have none as they are drawn, whatever is shown of them
+breaks_kept : KeptByDrawing 0x0A (λ shown text. HasNoBreak text)
+breaks_kept =
+    record {
+      seven_bits = omega arith;
+      no_space = refl;
+      of_clear = λ text clear. clear;
+      of_both = λ shown others xs ys. HasNo-append 0x0A xs ys;
+      of_sequence = sequence_clear;
+      of_seen = breaks_are_seen;
+      of_closed = λ text clear. breaks_are_seen (closed text) (subst HasNoBreak (sym (seen-closed text)) (HasNo-visible 0x0A text clear));
+    }
+
+-- so no line of a drawing has one
+pub without_breaks : (table : TableValue) (widths : List ℕ) → All (IsRowOf IsUtf8) (seen_rows table) → All (IsRowOf HasNoBreak) (seen_rows table) → HasUnbrokenStyle table → All HasNoBreak (drawing table widths)
+without_breaks table widths whole clear style =
+    All-from_recursion HasNoBreak (drawing table widths)
+    (zip-each HasNoBreak (drawing (unstyled table) widths) (drawing table widths) (keeps_drawing 0x0A (λ shown text. HasNoBreak text) breaks_kept table (infos_of table widths) style whole clear))
+
+-- ---- texts of lines
+
+-- each byte of such a text is another one
+each_other : (text : Text) → HasNoBreak text → All (λ b. (b == 0x0A) ≡ false) text
+each_other [] clear = All-nil (λ b. (b == 0x0A) ≡ false)
+each_other (b ∷ bs) clear =
+    let both = or_parts (b == 0x0A) (list_any (λ b. b == 0x0A) bs) clear in
+    All-cons (λ b. (b == 0x0A) ≡ false) b bs both.0 (each_other bs both.1)
+
+-- a line before a line feed is the first part
+first_line : (line rest : Text) → HasNoBreak line → slice_split (λ b. b == 0x0A) (line ++ 0x0A ∷ rest) ≡ line ∷ slice_split (λ b. b == 0x0A) rest
+first_line line rest clear = slice_split_at (λ b. b == 0x0A) line 0x0A rest (each_other line clear) refl
+
+pub joined_lines : (lines : List Text) → JoinedLinesAreFound lines
+joined_lines [] some each = absurd (omega (arith, some))
+joined_lines (line ∷ []) some each = slice_split_none (λ b. b == 0x0A) line (each_other line (All-head HasNoBreak line [] each))
+joined_lines (line ∷ next ∷ more) some each =
+    first_line line (text_of (next ∷ more)) (All-head HasNoBreak line (next ∷ more) each)
+    ∙ ap (λ parts. line ∷ parts) (joined_lines (next ∷ more) (omega arith) (All-tail HasNoBreak line (next ∷ more) each))
+
+pub terminated_lines : (lines : List Text) → TerminatedLinesAreFound lines
+terminated_lines [] each = refl
+terminated_lines (line ∷ more) each =
+    ap (slice_split (λ b. b == 0x0A)) (append_assoc line (0x0A ∷ []) (terminated_text_of more))
+    ∙ first_line line (terminated_text_of more) (All-head HasNoBreak line more each)
+    ∙ ap (λ parts. line ∷ parts) (terminated_lines more (All-tail HasNoBreak line more each))

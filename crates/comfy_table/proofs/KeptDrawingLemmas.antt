@@ -1,0 +1,231 @@
+-- What stays true of texts as they are drawn stays true of the lines: of frame lines, rows and the whole drawing.
+use Rattle.std.proofs.lemmas.Bool.{cond_both}
+use Rattle.std.proofs.Common.{◌≡◌, ◌<◌, ℕ, zero, suc, Bool, true, false, ◌==◌, List, [], ◌∷◌, ◌++◌, Option, Some, None, length, map, unwrap_or, sym, ap, ◌∙◌, subst, arith, slice_index_or}
+use Rattle.std.specs.List.{All, AllZip, flat_map, join_by, repeat, range_with_len, slice_get}
+use Rattle.std.specs.Prelude.{if◌then◌else◌, option_map, option_to_list}
+use Rattle.std.specs.Str.{IsUtf8}
+use Rattle.std.proofs.lemmas.Slice.Zip.{AllZip-long}
+use Rattle.std.proofs.lemmas.List.Elements.{All-head, All-tail, All-weaker}
+use Rattle.comfy_parts.specs.CellValue.{CellValue, RowValue, ColumnInfo, info_width}
+use Rattle.comfy_parts.specs.Text.{HasNo, Text, greatest}
+use Rattle.comfy_parts.specs.declared.style.table_style.ContentLineStyle.{ContentLineStyle}
+use Rattle.comfy_parts.specs.declared.style.table_style.LineStyle.{LineStyle}
+use Rattle.comfy_parts.specs.declared.style.table_style.TableStyle.{TableStyle}
+use Rattle.comfy_table.proofs.AbsentByteLemmas.{HasNo-character}
+use Rattle.comfy_table.proofs.CutLemmas.{pieces-unstyled, plain_piece, row-seen}
+use Rattle.comfy_table.proofs.JoinLemmas.{map-map}
+use Rattle.comfy_table.proofs.ListLemmas.{All-every, All-at, AllZip-map, AllZip-map_map, AllZip-append, AllZip-join_by, At-or-both, All-of_map}
+use Rattle.comfy_table.proofs.SeenLemmas.{IsRowOf, cell_seen, get_seen, header_seen, join_by-map, row_seen, rows_seen, seen_rows-is}
+use Rattle.comfy_table.proofs.StyledLemmas.{KeptByDrawing, keeps_nothing, keeps_piece, keeps_spaces}
+use Rattle.comfy_table.proofs.WrittenLemmas.{keeps_lines}
+use Rattle.comfy_table.specs.Drawing.{whole_widths, drawn_row, drawn_header, drawn_rows, drawing_of_infos}
+use Rattle.comfy_table.specs.Frame.{character, between_borders, content_line, is_drawn, optional_frame_line, draws_left_border, draws_right_border, draws_vertical_lines, left_characters, right_characters, junction_characters}
+use Rattle.comfy_table.specs.Laws.{unstyled, HasStyleWithout}
+use Rattle.comfy_parts.specs.VisibleLines.{CellLine}
+use Rattle.comfy_table.specs.Pieces.{cell_pieces, blank_piece, pieces_of_optional, pieces_at, piece, row_cell_lines, row_line, row_height, visible_infos}
+use Rattle.comfy_table.specs.TableValue.{TableValue, header_and_rows, seen_rows}
+
+-- ---- styles
+
+-- the character is not the byte, nor is the space in its place
+abbrev IsClear : ℕ → Option ℕ → Type 0
+IsClear b c = (unwrap_or c 0x20 == b) ≡ false
+
+-- the four characters of a frame line are not the byte either
+record IsClearFrame (b : ℕ) (line : LineStyle) : Type 0 where
+  left : IsClear b line.left
+  fill : IsClear b line.fill
+  junction : IsClear b line.junction
+  right : IsClear b line.right
+
+-- likewise the three of a content line
+record IsClearContent (b : ℕ) (line : ContentLineStyle) : Type 0 where
+  left : IsClear b line.left
+  junction : IsClear b line.junction
+  right : IsClear b line.right
+
+-- and those of all lines of a style
+record IsClearStyle (b : ℕ) (style : TableStyle) : Type 0 where
+  top_border : IsClearFrame b style.top_border
+  header_lines : IsClearContent b style.header_lines
+  header_separator : IsClearFrame b style.header_separator
+  content_lines : IsClearContent b style.content_lines
+  row_separator : IsClearFrame b style.row_separator
+  bottom_border : IsClearFrame b style.bottom_border
+
+-- a table whose style doesn't hold the byte has such a style
+style_clear : (b : ℕ) (table : TableValue) → HasStyleWithout b table → IsClearStyle b table.style
+style_clear b table free =
+    record {
+      top_border = record { left = end 0 (omega arith); fill = free.fills 0 None (omega arith); junction = end 12 (omega arith); right = end 6 (omega arith) };
+      header_lines = record { left = end 1 (omega arith); junction = end 13 (omega arith); right = end 7 (omega arith) };
+      header_separator = record { left = end 2 (omega arith); fill = free.fills 1 None (omega arith); junction = end 14 (omega arith); right = end 8 (omega arith) };
+      content_lines = record { left = end 3 (omega arith); junction = end 15 (omega arith); right = end 9 (omega arith) };
+      row_separator = record { left = end 4 (omega arith); fill = free.fills 2 None (omega arith); junction = end 16 (omega arith); right = end 10 (omega arith) };
+      bottom_border = record { left = end 5 (omega arith); fill = free.fills 3 None (omega arith); junction = end 17 (omega arith); right = end 11 (omega arith) };
+    }
+  where
+    end : (k : ℕ) → k < 18 → IsClear b (slice_index_or (left_characters table.style ++ (right_characters table.style ++ junction_characters table.style)) k None)
+    end k below = free.ends k None below
+
+-- the cells of a row are text without the byte
+record IsClearRow (b : ℕ) (row : RowValue) : Type 0 where
+  clear : IsRowOf (HasNo b) row
+  whole : IsRowOf IsUtf8 row
+
+module _ (b : ℕ) (R : Text → Text → Type 0) (kept : KeptByDrawing b R) where
+  -- a character of such a style
+  keeps_character : (c : Option ℕ) → IsClear b c → R (character c) (character c)
+  keeps_character c clear = kept.of_clear (character c) (HasNo-character b c kept.seven_bits clear)
+
+  -- a text, written or not
+  keeps_when : (written : Bool) (text : Text) → R text text → R (if written then text else []) (if written then text else [])
+  keeps_when true text own = own
+  keeps_when false text own = keeps_nothing b R kept
+
+  -- a text, some number of times
+  keeps_repeat : (n : ℕ) (text : Text) → R text text → R (repeat n text) (repeat n text)
+  keeps_repeat zero text own = keeps_nothing b R kept
+  keeps_repeat (suc n) text own = kept.of_both text (repeat n text) text (repeat n text) own (keeps_repeat n text own)
+
+  -- pieces with a separator before each
+  keeps_separated : (separator : Text) (shown texts : List Text) → R separator separator → AllZip R shown texts
+      → R (flat_map (λ (piece : Text). separator ++ piece) shown) (flat_map (λ (piece : Text). separator ++ piece) texts)
+  keeps_separated separator [] [] between each = keeps_nothing b R kept
+  keeps_separated separator [] (text ∷ texts) between each = absurd each
+  keeps_separated separator (s ∷ shown) [] between each = absurd each
+  keeps_separated separator (s ∷ shown) (text ∷ texts) between each = grind (arith, kept.of_both, keeps_separated separator shown texts between each.1)
+
+  -- pieces with a separator between each two
+  keeps_between : (separator : Text) (shown texts : List Text) → R separator separator → AllZip R shown texts
+      → R (join_by (λ (piece : Text). piece) separator shown) (join_by (λ (piece : Text). piece) separator texts)
+  keeps_between separator [] [] between each = keeps_nothing b R kept
+  keeps_between separator [] (text ∷ texts) between each = absurd each
+  keeps_between separator (s ∷ shown) [] between each = absurd each
+  keeps_between separator (s ∷ shown) (text ∷ texts) between each =
+      kept.of_both s (flat_map (λ (piece : Text). separator ++ piece) shown) text (flat_map (λ (piece : Text). separator ++ piece) texts) each.0 (keeps_separated separator shown texts between each.1)
+
+  -- pieces between borders
+  keeps_joined : (style : TableStyle) (left junction right : Option ℕ) (shown texts : List Text) → IsClear b left → IsClear b junction → IsClear b right → AllZip R shown texts
+      → R (between_borders style left junction right shown) (between_borders style left junction right texts)
+  keeps_joined style left junction right shown texts l j r each =
+      kept.of_both _ _ (if draws_left_border style then character left else []) _ (keeps_when (draws_left_border style) (character left) (keeps_character left l))
+      (kept.of_both _ _ (join_by (λ (piece : Text). piece) (if draws_vertical_lines style then character junction else []) texts) (if draws_right_border style then character right else [])
+      (keeps_between (if draws_vertical_lines style then character junction else []) shown texts (keeps_when (draws_vertical_lines style) (character junction) (keeps_character junction j)) each)
+      (keeps_when (draws_right_border style) (character right) (keeps_character right r)))
+
+  -- a frame line, where it is drawn
+  frame_kept : (style : TableStyle) (line : LineStyle) (widths : List ℕ) → IsClearFrame b line → AllZip R (optional_frame_line style line widths) (optional_frame_line style line widths)
+  frame_kept style line widths clear =
+      cond_both (is_drawn line) _ [] (λ (lines : List Text). AllZip R lines lines)
+      (λ _. (keeps_joined style line.left line.junction line.right _ _ clear.left clear.junction clear.right (fills widths), tt)) (λ _. tt)
+    where
+      fills : (widths : List ℕ) → AllZip R (map (λ (width : ℕ). repeat width (character line.fill)) widths) (map (λ (width : ℕ). repeat width (character line.fill)) widths)
+      fills [] = tt
+      fills (w ∷ widths) = (keeps_repeat w (character line.fill) (keeps_character line.fill clear.fill), fills widths)
+
+  -- ---- rows
+
+  -- the pieces of a cell, and the unstyled ones of the cell as it is seen
+  cell_pieces_kept : (table : TableValue) (row : RowValue) (info : ColumnInfo) (cell : CellValue) → HasNo b table.indicator → All IsUtf8 (cell_seen table.custom_styling cell).text_lines → All (HasNo b) (cell_seen table.custom_styling cell).text_lines
+      → AllZip R (cell_pieces (unstyled table) row info (cell_seen table.custom_styling cell)) (cell_pieces table row info cell)
+  cell_pieces_kept table row info cell mark whole clear =
+      subst (λ (pieces : List Text). AllZip R pieces (cell_pieces table row info cell)) (sym same)
+      (AllZip-map R (λ (line : CellLine). plain_piece cell info line.seen) (piece table cell info) lines
+      (All-weaker (λ (line : CellLine). R line.seen line.written) (λ (line : CellLine). R (plain_piece cell info line.seen) (piece table cell info line)) (keeps_piece b R kept table cell info) lines
+      (keeps_lines table row info cell b R kept mark whole clear)))
+    where
+      lines : List CellLine
+      lines = row_cell_lines table row info cell
+
+      same : cell_pieces (unstyled table) row info (cell_seen table.custom_styling cell) ≡ map (λ (line : CellLine). plain_piece cell info line.seen) lines
+      same =
+          pieces-unstyled table row info (cell_seen table.custom_styling cell) ∙ ap (map (plain_piece cell info)) (sym (row-seen table row info cell)) ∙ map-map (plain_piece cell info) (λ (line : CellLine). line.seen) lines
+
+  -- the pieces in a column
+  pieces_kept : (table : TableValue) (row : RowValue) (p : ℕ × ColumnInfo) → HasNo b table.indicator → IsClearRow b (row_seen table.custom_styling row)
+      → AllZip R (pieces_at (unstyled table) (row_seen table.custom_styling row) p) (pieces_at table row p)
+  pieces_kept table row p mark cells =
+      subst (λ (o : Option CellValue). AllZip R (pieces_of_optional (unstyled table) (row_seen table.custom_styling row) p.1 o) (pieces_at table row p)) (sym (get_seen table.custom_styling row.cells p.0))
+      (by_option (slice_get row.cells p.0) (get_seen table.custom_styling row.cells p.0))
+    where
+      by_option : (o : Option CellValue) → slice_get (row_seen table.custom_styling row).cells p.0 ≡ option_map (cell_seen table.custom_styling) o
+          → AllZip R (pieces_of_optional (unstyled table) (row_seen table.custom_styling row) p.1 (option_map (cell_seen table.custom_styling) o)) (pieces_of_optional table row p.1 o)
+      by_option None none = (keeps_spaces b R kept (info_width p.1), tt)
+      by_option (Some cell) found =
+          cell_pieces_kept table row p.1 cell mark
+          (All-at (λ (cell : CellValue). All IsUtf8 cell.text_lines) (row_seen table.custom_styling row).cells p.0 (cell_seen table.custom_styling cell) cells.whole found)
+          (All-at (λ (cell : CellValue). All (HasNo b) cell.text_lines) (row_seen table.custom_styling row).cells p.0 (cell_seen table.custom_styling cell) cells.clear found)
+
+  module _ (table : TableValue) (infos : List ColumnInfo) (mark : HasNo b table.indicator) where
+    -- a row as it is seen
+    abbrev seen : RowValue → RowValue
+    seen row = row_seen table.custom_styling row
+
+    -- styling changes no height
+    row_height-unstyled : (row : RowValue) → IsClearRow b (seen row) → row_height (unstyled table) infos (seen row) ≡ row_height table infos row
+    row_height-unstyled row cells = λ i. greatest (map (λ (p : ℕ × ColumnInfo). at p i) (visible_infos infos))
+      where
+        at : (p : ℕ × ColumnInfo) → length (pieces_at (unstyled table) (seen row) p) ≡ length (pieces_at table row p)
+        at p = sym (AllZip-long R (pieces_at (unstyled table) (seen row) p) (pieces_at table row p) (pieces_kept table row p mark cells))
+
+    -- the lines of a row, and the unstyled ones
+    row_kept : (line : ContentLineStyle) (row : RowValue) → IsClearContent b line → IsClearRow b (seen row) → AllZip R (drawn_row (unstyled table) infos line (seen row)) (drawn_row table infos line row)
+    row_kept line row clear cells =
+        subst (λ h. AllZip R (map (content_line table.style line) (map (row_line (unstyled table) infos (seen row)) (range_with_len 0 h))) (drawn_row table infos line row)) (sym (row_height-unstyled row cells))
+        (AllZip-map_map R (content_line table.style line) (row_line (unstyled table) infos (seen row)) (row_line table infos row) (range_with_len 0 (row_height table infos row)) at)
+      where
+        at : (k : ℕ) → R (content_line table.style line (row_line (unstyled table) infos (seen row) k)) (content_line table.style line (row_line table infos row k))
+        at k =
+            keeps_joined table.style line.left line.junction line.right (row_line (unstyled table) infos (seen row) k) (row_line table infos row k) clear.left clear.junction clear.right
+            (AllZip-map R (λ (p : ℕ × ColumnInfo). slice_index_or (pieces_at (unstyled table) (seen row) p) k (blank_piece p.1)) (λ (p : ℕ × ColumnInfo). slice_index_or (pieces_at table row p) k (blank_piece p.1)) (visible_infos infos)
+            (All-every (λ (p : ℕ × ColumnInfo). R (slice_index_or (pieces_at (unstyled table) (seen row) p) k (blank_piece p.1)) (slice_index_or (pieces_at table row p) k (blank_piece p.1))) (visible_infos infos)
+            (λ p. At-or-both R (pieces_at (unstyled table) (seen row) p) (pieces_at table row p) k (blank_piece p.1) (blank_piece p.1) (pieces_kept table row p mark cells) (keeps_spaces b R kept (info_width p.1)))))
+
+    -- ---- the drawing
+
+    -- all lines, and the unstyled ones
+    drawing_kept : IsClearStyle b table.style → All (λ (row : RowValue). IsClearRow b (seen row)) (header_and_rows table) → AllZip R (drawing_of_infos (unstyled table) infos) (drawing_of_infos table infos)
+    drawing_kept style each =
+        AllZip-append R (optional_frame_line table.style table.style.top_border (whole_widths infos)) _ (optional_frame_line table.style table.style.top_border (whole_widths infos)) _
+        (frame_kept table.style table.style.top_border (whole_widths infos) style.top_border)
+        (AllZip-append R (drawn_header (unstyled table) infos (unstyled table).header) _ (drawn_header table infos table.header) _
+        (subst (λ (header : Option RowValue). AllZip R (drawn_header (unstyled table) infos header) (drawn_header table infos table.header)) (sym (header_seen table.custom_styling table.header)) (header_kept table.header each))
+        (AllZip-append R (drawn_rows (unstyled table) infos (unstyled table).rows) _ (drawn_rows table infos table.rows) _
+        (subst (λ (rows : List RowValue). AllZip R (drawn_rows (unstyled table) infos rows) (drawn_rows table infos table.rows)) (sym (rows_seen table.custom_styling table.rows)) (rows_kept (rows_of table.header each)))
+        (frame_kept table.style table.style.bottom_border (whole_widths infos) style.bottom_border)))
+      where
+        IsClearSeen : RowValue → Type 0
+        IsClearSeen row = IsClearRow b (seen row)
+
+        rows_of : (header : Option RowValue) → All IsClearSeen (option_to_list header ++ table.rows) → All IsClearSeen table.rows
+        rows_of None each = each
+        rows_of (Some row) each = All-tail IsClearSeen row table.rows each
+
+        header_kept : (header : Option RowValue) → All IsClearSeen (option_to_list header ++ table.rows) → AllZip R (drawn_header (unstyled table) infos (option_map seen header)) (drawn_header table infos header)
+        header_kept None each = tt
+        header_kept (Some row) each =
+            AllZip-append R (drawn_row (unstyled table) infos table.style.header_lines (seen row)) _ (drawn_row table infos table.style.header_lines row) _
+            (row_kept table.style.header_lines row style.header_lines (All-head IsClearSeen row table.rows each))
+            (frame_kept table.style table.style.header_separator (whole_widths infos) style.header_separator)
+
+        rows_kept : All IsClearSeen table.rows → AllZip R (drawn_rows (unstyled table) infos (map seen table.rows)) (drawn_rows table infos table.rows)
+        rows_kept each =
+            subst (λ (lines : List Text). AllZip R lines (drawn_rows table infos table.rows))
+            (sym (join_by-map (drawn_row (unstyled table) infos table.style.content_lines) (optional_frame_line table.style table.style.row_separator (whole_widths infos)) seen table.rows))
+            (AllZip-join_by R (λ (row : RowValue). drawn_row (unstyled table) infos table.style.content_lines (seen row)) (drawn_row table infos table.style.content_lines)
+            (optional_frame_line table.style table.style.row_separator (whole_widths infos)) (optional_frame_line table.style table.style.row_separator (whole_widths infos)) table.rows
+            (frame_kept table.style table.style.row_separator (whole_widths infos) style.row_separator)
+            (All-weaker IsClearSeen (λ row. AllZip R (drawn_row (unstyled table) infos table.style.content_lines (seen row)) (drawn_row table infos table.style.content_lines row))
+            (λ row cells. row_kept table.style.content_lines row style.content_lines cells) table.rows each))
+
+-- the rows of a table as it is seen, row by row
+rows_clear : (b : ℕ) (table : TableValue) → All (IsClearRow b) (seen_rows table) → All (λ (row : RowValue). IsClearRow b (row_seen table.custom_styling row)) (header_and_rows table)
+rows_clear b table each = All-of_map (IsClearRow b) (row_seen table.custom_styling) (header_and_rows table) (subst (All (IsClearRow b)) (seen_rows-is table) each)
+
+-- it stays true of all lines, beside the unstyled ones
+pub keeps_drawing : (b : ℕ) (R : Text → Text → Type 0) → KeptByDrawing b R → (table : TableValue) (infos : List ColumnInfo) → HasStyleWithout b table → All (IsRowOf IsUtf8) (seen_rows table) → All (IsRowOf (HasNo b)) (seen_rows table)
+    → AllZip R (drawing_of_infos (unstyled table) infos) (drawing_of_infos table infos)
+keeps_drawing b R kept table infos free whole clear =
+    drawing_kept b R kept table infos free.indicator (style_clear b table free)
+    (rows_clear b table (λ k default below. record { clear = clear k default below; whole = whole k default below }))
