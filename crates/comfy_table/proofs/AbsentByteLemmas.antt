@@ -28,13 +28,9 @@ lines_past-clear b w d zero (c ∷ rest) clear =
 pub lines_of_text-clear : (b w d : ℕ) (text : Text) → HasNo b text → All (HasNo b) (lines_of_text w d text)
 lines_of_text-clear b w d text clear = grind (arith, lines_past-clear)
 
--- nor does an indicator as it is written
-fitting_indicator-clear : (b w : ℕ) (indicator : Text) → HasNo b indicator → HasNo b (fitting_indicator w indicator)
-fitting_indicator-clear b w indicator clear = grind arith
-
 -- nor does a cut line of whole characters
 pub cut_text-clear : (b w : ℕ) (indicator line : Text) → HasNo b indicator → IsUtf8 line → HasNo b line → HasNo b (cut_text w indicator line)
 cut_text-clear b w indicator line mark utf8 clear =
     let front = head-splits (w - measure (fitting_indicator w indicator)) line utf8 in
     HasNo-append b (head (w - measure (fitting_indicator w indicator)) line) (fitting_indicator w indicator)
-    (HasNo-parts b (head (w - measure (fitting_indicator w indicator)) line) front.0 (subst (HasNo b) front.1 clear)).0 (fitting_indicator-clear b w indicator mark)
+    (HasNo-parts b (head (w - measure (fitting_indicator w indicator)) line) front.0 (subst (HasNo b) front.1 clear)).0 (grind (arith, mark))

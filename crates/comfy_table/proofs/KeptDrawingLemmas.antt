@@ -133,7 +133,7 @@ module _ (b : ℕ) (R : Text → Text → Type 0) (kept : KeptByDrawing b R) whe
       subst (λ (pieces : List Text). AllZip R pieces (cell_pieces table row info cell)) (sym same)
       (AllZip-map R (λ (line : CellLine). plain_piece cell info line.seen) (piece table cell info) lines
       (All-weaker (λ (line : CellLine). R line.seen line.written) (λ (line : CellLine). R (plain_piece cell info line.seen) (piece table cell info line)) (keeps_piece b R kept table cell info) lines
-      (keeps_lines table row info cell b R kept mark whole clear)))
+      (keeps_lines table row info cell b R kept table.custom_styling mark whole clear)))
     where
       lines : List CellLine
       lines = row_cell_lines table row info cell

@@ -122,8 +122,8 @@ module _ (table : TableValue) (row : RowValue) (info : ColumnInfo) (cell : CellV
     keeps_cut false line clear = kept.of_clear (cut_text w table.indicator line.seen) clear
 
     -- all lines
-    keeps_lines_with : (custom : Bool) → HasNo b table.indicator → All IsUtf8 (cell_seen custom cell).text_lines → All (HasNo b) (cell_seen custom cell).text_lines → All (λ (line : CellLine). R line.seen line.written) (lines_with custom)
-    keeps_lines_with custom mark utf8 clear =
+    pub keeps_lines : (custom : Bool) → HasNo b table.indicator → All IsUtf8 (cell_seen custom cell).text_lines → All (HasNo b) (cell_seen custom cell).text_lines → All (λ (line : CellLine). R line.seen line.written) (lines_with custom)
+    keeps_lines custom mark utf8 clear =
         All-cut (λ line. R line.seen line.written × (IsUtf8 line.seen × HasNo b line.seen)) (λ line. R line.seen line.written) (cut_line custom w table.indicator) row.max_height (whole_lines custom w d cell)
         (λ k default below. (
           keeps_whole custom clear k default below,
@@ -131,6 +131,3 @@ module _ (table : TableValue) (row : RowValue) (info : ColumnInfo) (cell : CellV
         ))
         (λ line own. own.0)
         (λ h limited below line own. keeps_cut custom line (cut_text-clear b w table.indicator line.seen mark own.1.0 own.1.1))
-
-    pub keeps_lines : HasNo b table.indicator → All IsUtf8 (cell_seen table.custom_styling cell).text_lines → All (HasNo b) (cell_seen table.custom_styling cell).text_lines → All (λ (line : CellLine). R line.seen line.written) (row_cell_lines table row info cell)
-    keeps_lines = keeps_lines_with table.custom_styling
