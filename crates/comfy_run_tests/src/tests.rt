@@ -3,5 +3,4 @@
 mod counted;
 mod devices;
 mod program;
-mod sequences;
 mod support;

@@ -3,7 +3,7 @@
 use crate::comparison::difference;
 use crate::fixtures::{WORKED, worked_table};
 use crate::outcome::Outcome;
-use comfy_table::{Result, Table};
+use comfy_table::{Lines, Result, Table};
 use std::alloc::Global;
 
 /// What came of the call of this name on `worked_table`.
@@ -14,9 +14,13 @@ pub fn outcome_of(alloc: Global, call: &str) -> Result<Outcome> {
 /// What came of the call of this name: after a refusal the table is as it was, and these lines are drawn as ever.
 pub fn outcome_on(table: &Table, wanted: &[&str], call: &str) -> Result<Outcome> {
     let copy = table.clone()?;
+    outcome_beside(table, &copy, wanted, call)
+}
+
+fn outcome_beside(table: &Table, copy: &Table, wanted: &[&str], call: &str) -> Result<Outcome> {
     match read(table, call) {
         Some(true) => Ok(Outcome::Succeeded),
-        Some(false) => Ok(Outcome::refused(difference_after(table, &copy, wanted)?)),
+        Some(false) => Ok(Outcome::refused(difference_after(table, copy, wanted)?)),
         None => Ok(Outcome::Unknown),
     }
 }
@@ -36,21 +40,21 @@ fn read(table: &Table, call: &str) -> Option<bool> {
 }
 
 fn difference_after(table: &Table, copy: &Table, wanted: &[&str]) -> Result<Option<&'static str>> {
-    if draws(table, wanted)? {
+    if are_lines(table.lines()?, wanted) {
         difference(table, copy)
     } else {
         Ok(Some("the next lines"))
     }
 }
 
-// Whether these are the lines of a table.
-fn draws(table: &Table, wanted: &[&str]) -> Result<bool> {
+// Whether these lines, and no more, are left.
+fn are_lines(lines: Lines, wanted: &[&str]) -> bool {
     let mut drawn = 0;
-    for line in table.lines()? {
+    for line in lines {
         if drawn >= wanted.len() || line.as_str() != wanted[drawn] {
-            return Ok(false);
+            return false;
         }
         drawn += 1;
     }
-    Ok(drawn == wanted.len())
+    drawn == wanted.len()
 }

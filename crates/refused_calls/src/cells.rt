@@ -38,11 +38,15 @@ fn add_attributes(alloc: Global) -> Result<Outcome> {
 fn borrowing(alloc: Global, call: &str) -> Result<Outcome> {
     let cell = set_cell(alloc)?;
     let copy = cell.clone()?;
-    if read(&cell, call) {
-        return Ok(Outcome::Succeeded);
+    Ok(outcome_beside(&cell, &copy, call))
+}
+
+fn outcome_beside(cell: &Cell, copy: &Cell, call: &str) -> Outcome {
+    if read(cell, call) {
+        return Outcome::Succeeded;
     }
     let differs = cell != copy;
-    Ok(Outcome::refused(differs.then_some("the cell")))
+    Outcome::refused(differs.then_some("the cell"))
 }
 
 // Whether the call of this name succeeds.

@@ -12,12 +12,17 @@ pub fn difference(table: &Table, other: &Table) -> Result<Option<&'static str>> 
         Some("the columns")
     } else if !are_same_settings(table, other) {
         Some("the settings")
-    } else if table.to_text()? != other.to_text()? {
+    } else if !is_drawn_alike(table, other)? {
         Some("the drawing")
     } else {
         None
     };
     Ok(difference)
+}
+
+fn is_drawn_alike(table: &Table, other: &Table) -> Result<bool> {
+    let text = table.to_text()?;
+    Ok(text == other.to_text()?)
 }
 
 /// Whether two rows have the same cells and the same greatest height.

@@ -10,39 +10,29 @@ const TEXTS: [&str; 3] = ["17", "dock 3", TEXT];
 
 /// What came of the conversion of this name.
 pub fn outcome_of(alloc: Global, name: &str) -> Result<Outcome> {
-    match name {
-        "String::into_cell" => of_string(alloc),
-        "Vec::into_cells" => cells_of_vec(alloc),
-        "Vec::into_row" => row_of_vec(alloc),
-        _ => Ok(without_arguments(alloc, name)),
-    }
-}
-
-// The conversions of what takes no memory of its own.
-fn without_arguments(alloc: Global, name: &str) -> Outcome {
     let succeeded = match name {
-        "text::into_cell" => TEXT.into_cell(alloc).is_ok(),
-        "number::into_cell" => 17u32.into_cell(alloc).is_ok(),
-        "bool::into_cell" => true.into_cell(alloc).is_ok(),
-        "char::into_cell" => '✅'.into_cell(alloc).is_ok(),
-        "array::into_cells" => TEXTS.into_cells(alloc).is_ok(),
-        "array::into_row" => TEXTS.into_row(alloc).is_ok(),
-        _ => return Outcome::Unknown,
+        "text::into_cell" => becomes_cell(alloc, TEXT),
+        "String::into_cell" => becomes_cell(alloc, String::from_str(alloc, TEXT)?),
+        "number::into_cell" => becomes_cell(alloc, 17u32),
+        "bool::into_cell" => becomes_cell(alloc, true),
+        "char::into_cell" => becomes_cell(alloc, '✅'),
+        "Vec::into_cells" => becomes_cells(alloc, Vec::from_array(alloc, TEXTS)?),
+        "array::into_cells" => becomes_cells(alloc, TEXTS),
+        "Vec::into_row" => becomes_row(alloc, Vec::from_array(alloc, TEXTS)?),
+        "array::into_row" => becomes_row(alloc, TEXTS),
+        _ => return Ok(Outcome::Unknown),
     };
-    Outcome::of(succeeded)
+    Ok(Outcome::of(succeeded))
 }
 
-fn of_string(alloc: Global) -> Result<Outcome> {
-    let text = String::from_str(alloc, TEXT)?;
-    Ok(Outcome::of(text.into_cell(alloc).is_ok()))
+fn becomes_cell<T: IntoCell>(alloc: Global, value: T) -> bool {
+    value.into_cell(alloc).is_ok()
 }
 
-fn cells_of_vec(alloc: Global) -> Result<Outcome> {
-    let texts = Vec::from_array(alloc, TEXTS)?;
-    Ok(Outcome::of(texts.into_cells(alloc).is_ok()))
+fn becomes_cells<T: IntoCells>(alloc: Global, values: T) -> bool {
+    values.into_cells(alloc).is_ok()
 }
 
-fn row_of_vec(alloc: Global) -> Result<Outcome> {
-    let texts = Vec::from_array(alloc, TEXTS)?;
-    Ok(Outcome::of(texts.into_row(alloc).is_ok()))
+fn becomes_row<T: IntoRow>(alloc: Global, values: T) -> bool {
+    values.into_row(alloc).is_ok()
 }

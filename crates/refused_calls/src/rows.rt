@@ -10,9 +10,13 @@ pub fn outcome_of(alloc: Global, call: &str) -> Result<Outcome> {
     let source = cut_row(alloc)?;
     // A copy has no room to spare, so that one more cell takes memory.
     let mut row = source.clone()?;
-    match change(alloc, &mut row, call)? {
+    outcome_on(alloc, &mut row, &source, call)
+}
+
+fn outcome_on(alloc: Global, row: &mut Row, source: &Row, call: &str) -> Result<Outcome> {
+    match change(alloc, row, call)? {
         Some(true) => Ok(Outcome::Succeeded),
-        Some(false) => Ok(Outcome::refused(difference(&row, &source))),
+        Some(false) => Ok(Outcome::refused(difference(row, source))),
         None => Ok(Outcome::Unknown),
     }
 }

@@ -19,11 +19,16 @@ const BOLD: [&str; 4] = [
 /// What came of the call of this name.
 pub fn outcome_of(alloc: Global, name: &str) -> Result<Outcome> {
     match name.split_once("::") {
-        Some(("Table", call)) => outcome_on(&bold_table(alloc)?, &BOLD, call),
+        Some(("Table", call)) => of_bold_table(alloc, call),
         Some(("Cell", "new")) => Ok(Outcome::of(Cell::new(alloc, TEXT).is_ok())),
         None if name == "visible_text" => Ok(Outcome::of(visible_text(alloc, TEXT).is_ok())),
         _ => Ok(Outcome::Unknown),
     }
+}
+
+fn of_bold_table(alloc: Global, call: &str) -> Result<Outcome> {
+    let table = bold_table(alloc)?;
+    outcome_on(&table, &BOLD, call)
 }
 
 // A table of one bold cell, in a width that takes three of its characters.

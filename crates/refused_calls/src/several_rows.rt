@@ -13,12 +13,17 @@ const ROWS: usize = 3;
 
 /// What came of the call of this name.
 pub fn outcome_of(alloc: Global, call: &str) -> Result<Outcome> {
-    let source = full_table(alloc)?;
+    let mut source = full_table(alloc)?;
     // A copy has no room to spare, so that a further row or column takes memory.
     let mut table = source.clone()?;
-    match add(&mut table, call, longer_rows(alloc)?) {
+    outcome_on(alloc, &mut table, &mut source, call)
+}
+
+fn outcome_on(alloc: Global, table: &mut Table, source: &mut Table, call: &str) -> Result<Outcome> {
+    let rows = longer_rows(alloc)?;
+    match add(table, call, rows) {
         Some(true) => Ok(Outcome::Succeeded),
-        Some(false) => outcome_after(alloc, &table, source),
+        Some(false) => outcome_after(alloc, table, source),
         None => Ok(Outcome::Unknown),
     }
 }
@@ -62,13 +67,13 @@ fn add_longer_rows(alloc: Global, table: &mut Table, count: usize) -> Result<()>
 }
 
 // What came of the call by the table that it was made on, which was as `source`.
-fn outcome_after(alloc: Global, table: &Table, mut source: Table) -> Result<Outcome> {
+fn outcome_after(alloc: Global, table: &Table, source: &mut Table) -> Result<Outcome> {
     let kept = table.row_count().saturating_sub(source.row_count());
     if kept >= ROWS {
         return Ok(Outcome::Broken("the number of rows"));
     }
-    add_longer_rows(alloc, &mut source, kept)?;
-    match difference(table, &source)? {
+    add_longer_rows(alloc, source, kept)?;
+    match difference(table, source)? {
         Some(part) => Ok(Outcome::Broken(part)),
         None => Ok(Outcome::Kept(kept)),
     }

@@ -11,32 +11,48 @@ use std::alloc::Global;
 /// What is wrong with the drawing of a sample, if anything is.
 pub fn fault_of(alloc: Global, sample: &Sample) -> Result<Option<&'static str>> {
     let drawing = Drawing::of(alloc, &sample.table)?;
+    if let Some(fault) = fault_of_counts(sample, &drawing) {
+        return Ok(Some(fault));
+    }
+    fault_of_texts(alloc, sample, &drawing)
+}
+
+fn fault_of_counts(sample: &Sample, drawing: &Drawing) -> Option<&'static str> {
     if !are_alike(drawing.frame_counts.as_slice()) {
-        return Ok(Some("frame lines have unlike counts"));
+        return Some("frame lines have unlike counts");
     }
     let frame = drawing.frame_counts.first().copied().unwrap_or(0);
     if !keeps_to_width(&sample.table, frame) {
-        return Ok(Some("the width doesn't hold"));
+        return Some("the width doesn't hold");
     }
     if sample.kind.is_plain
-        && !is_cut(sample, &drawing)
+        && !is_cut(sample, drawing)
         && drawing.row_counts.iter().any(|count| *count != frame)
     {
-        return Ok(Some("lines have unlike counts"));
+        return Some("lines have unlike counts");
     }
-    if !keeps_texts(alloc, sample, &drawing)? {
-        return Ok(Some("a text is lost or changed"));
-    }
-    if sample.kind.has_sequences && !closes_all(alloc, &drawing)? {
-        return Ok(Some("a sequence is left open"));
-    }
-    if sample.kind.has_sequences && !is_drawn_as_seen(alloc, sample, &drawing)? {
-        return Ok(Some("sequences change the lines"));
-    }
-    Ok(None)
+    None
 }
 
-fn are_alike(counts: &[usize]) -> bool {
+fn fault_of_texts(
+    alloc: Global,
+    sample: &Sample,
+    drawing: &Drawing,
+) -> Result<Option<&'static str>> {
+    let fault = if !keeps_texts(alloc, sample, drawing)? {
+        Some("a text is lost or changed")
+    } else if sample.kind.has_sequences && !closes_all(alloc, drawing)? {
+        Some("a sequence is left open")
+    } else if sample.kind.has_sequences && !is_drawn_as_seen(alloc, sample, drawing)? {
+        Some("sequences change the lines")
+    } else {
+        None
+    };
+    Ok(fault)
+}
+
+/// Whether counts are the same.
+pub fn are_alike(counts: &[usize]) -> bool {
     match counts.first() {
         Some(first) => counts.iter().all(|count| count == first),
         None => true,
@@ -71,9 +87,7 @@ fn closes_all(alloc: Global, drawing: &Drawing) -> Result<bool> {
 // whether no piece of a line leaves a sequence open
 fn closes_line(alloc: Global, line: &str) -> Result<bool> {
     for piece in line.split(JUNCTION) {
-        let mut scan = Scan::new(alloc, true);
-        scan.read(piece, ' ')?;
-        if scan.is_open() {
+        if Scan::of(alloc, piece, true)?.is_open() {
             return Ok(false);
         }
     }
@@ -82,13 +96,17 @@ fn closes_line(alloc: Global, line: &str) -> Result<bool> {
 
 // whether as many characters are seen of each line as without sequences
 fn is_drawn_as_seen(alloc: Global, sample: &Sample, drawing: &Drawing) -> Result<bool> {
-    let Some(table) = seen_table(alloc, sample)? else {
-        return Ok(true);
-    };
-    let seen = Drawing::of(alloc, &table)?;
+    match seen_table(alloc, sample)? {
+        Some(table) => is_drawn_alike(alloc, &table, drawing),
+        None => Ok(true),
+    }
+}
+
+fn is_drawn_alike(alloc: Global, table: &Table, drawing: &Drawing) -> Result<bool> {
+    let other = Drawing::of(alloc, table)?;
     Ok(
-        seen.frame_counts.as_slice() == drawing.frame_counts.as_slice()
-            && seen.row_counts.as_slice() == drawing.row_counts.as_slice(),
+        other.frame_counts.as_slice() == drawing.frame_counts.as_slice()
+            && other.row_counts.as_slice() == drawing.row_counts.as_slice(),
     )
 }
 
@@ -153,21 +171,30 @@ fn keeps_row(alloc: Global, sample: &Sample, row: &Row, lines: &[String]) -> Res
         }
         if let Some(cell) = cell {
             let delimiter = delimiter_of(sample, column, cell);
-            let mut wanted = Scan::new(alloc, sample.kind.has_sequences);
-            wanted.read(cell.content()?.as_str(), delimiter)?;
             let mut drawn = Scan::new(alloc, sample.kind.has_sequences);
             read_pieces(&mut drawn, lines, place, delimiter)?;
-            if !is_as_wanted(
-                wanted.found.as_str(),
-                drawn.found.as_str(),
-                row.height_limit().is_some(),
-            ) {
+            let is_limited = row.height_limit().is_some();
+            if !keeps_cell(alloc, cell, delimiter, &drawn, is_limited)? {
                 return Ok(false);
             }
         }
         place = place.saturating_add(1);
     }
     Ok(true)
+}
+
+// whether what was read of the drawing of a cell is what its text holds
+fn keeps_cell(
+    alloc: Global,
+    cell: &Cell,
+    delimiter: char,
+    drawn: &Scan,
+    is_limited: bool,
+) -> Result<bool> {
+    let content = cell.content()?;
+    let mut wanted = Scan::new(alloc, drawn.knows_sequences);
+    wanted.read(content.as_str(), delimiter)?;
+    Ok(is_as_wanted(wanted.found.as_str(), drawn.found.as_str(), is_limited))
 }
 
 // reads the piece of each line at this place; no sequence stays open behind a line

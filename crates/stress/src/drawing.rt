@@ -28,20 +28,24 @@ impl Drawing {
             row_counts: Vec::new(alloc),
             rows: Vec::new(alloc),
         };
+        drawing.add_lines(alloc, table)?;
+        Ok(drawing)
+    }
+
+    fn add_lines(&mut self, alloc: Global, table: &Table) -> Result<()> {
         let mut row = Vec::new(alloc);
         for line in table.lines()? {
             if line.as_str().starts_with(BORDER) {
-                let mut scan = Scan::new(alloc, table.has_custom_styling());
-                scan.read(line.as_str(), ' ')?;
-                drawing.row_counts.push(scan.count)?;
+                let scan = Scan::of(alloc, line.as_str(), table.has_custom_styling())?;
+                self.row_counts.push(scan.count)?;
                 row.push(line)?;
             } else {
-                drawing.frame_counts.push(line.as_str().chars().count())?;
-                drawing.rows.push(row)?;
+                self.frame_counts.push(line.as_str().chars().count())?;
+                self.rows.push(row)?;
                 row = Vec::new(alloc);
             }
         }
-        Ok(drawing)
+        Ok(())
     }
 }
 

@@ -13,9 +13,11 @@ mod straight;
 mod texts;
 
 use anyhow::Context;
+use comfy_table::Result;
 use rand_core::SeedableRng;
 use rand_pcg::Pcg32;
 use sample::Sample;
+use std::alloc::Global;
 use std::process::ExitCode;
 
 // what is said where the input is something else
@@ -26,10 +28,7 @@ fn main(rt: HostRuntime) -> anyhow::Result<ExitCode> {
     let mut rng = Pcg32::seed_from_u64(seed);
     let mut faults: u64 = 0;
     for number in 0..count {
-        let sample = Sample::new(rt.alloc(), &mut rng)?;
-        let of_sample = check::fault_of(rt.alloc(), &sample)?;
-        let of_scripts = straight::fault_of(rt.alloc(), &mut rng)?;
-        if let Some(fault) = of_sample.or(of_scripts) {
+        if let Some(fault) = next_fault(rt.alloc(), &mut rng)? {
             println!(rt; "table {number}: {fault}")?;
             faults = faults.saturating_add(1);
         }
@@ -42,9 +41,25 @@ fn main(rt: HostRuntime) -> anyhow::Result<ExitCode> {
     }
 }
 
+// what is wrong with the next sample, or else with the next table of many scripts
+fn next_fault(alloc: Global, rng: &mut Pcg32) -> Result<Option<&'static str>> {
+    let of_sample = fault_of_sample(alloc, rng)?;
+    let of_scripts = straight::fault_of(alloc, rng)?;
+    Ok(of_sample.or(of_scripts))
+}
+
+fn fault_of_sample(alloc: Global, rng: &mut Pcg32) -> Result<Option<&'static str>> {
+    let sample = Sample::new(alloc, rng)?;
+    check::fault_of(alloc, &sample)
+}
+
 // the seed, and how many tables
 fn asked_for(rt: &HostRuntime) -> anyhow::Result<(u64, u64)> {
     let line = rt.lines(rt.alloc()).next().context(WANTED)??;
-    let (seed, count) = line.as_str().split_once(' ').context(WANTED)?;
+    seed_and_count(line.as_str())
+}
+
+fn seed_and_count(line: &str) -> anyhow::Result<(u64, u64)> {
+    let (seed, count) = line.split_once(' ').context(WANTED)?;
     Ok((seed.parse::<u64>()?, count.parse::<u64>()?))
 }

@@ -7,7 +7,7 @@ use comfy_table::{
 };
 use rand::RngExt;
 use rand::seq::IndexedRandom;
-use rand_core::Rng;
+use rand_pcg::Pcg32;
 use std::alloc::Global;
 use std::mem;
 
@@ -54,45 +54,61 @@ pub struct Sample {
 
 impl Sample {
     /// A table of up to five rows and four columns.
-    pub fn new<R: Rng>(alloc: Global, rng: &mut R) -> Result<Sample> {
+    pub fn new(alloc: Global, rng: &mut Pcg32) -> Result<Sample> {
         let kind = Kind {
             is_plain: once_in(rng, 3),
             has_sequences: once_in(rng, 2),
         };
-        let delimiter = delimiter(rng, kind);
-        let mut table = Table::new(alloc);
-        table.load_style(UTF8_FULL).set_delimiter(delimiter);
-        set_arrangement(rng, &mut table);
-        if !once_in(rng, 3) {
-            table.set_header(row(alloc, rng, kind)?)?;
-        }
-        for _ in 0..rng.random_range(0u32..6) {
-            table.add_row(row(alloc, rng, kind)?)?;
-        }
-        set_columns(rng, &mut table, kind);
-        if once_in(rng, 8) {
-            exchange_columns(&mut table);
-        }
-        if once_in(rng, 8) {
-            add_late_cell(alloc, rng, &mut table, kind)?;
-        }
-        let has_own_indicator = kind.has_sequences && once_in(rng, 2);
-        if kind.has_sequences {
-            table.custom_styling();
-        }
-        if has_own_indicator {
-            table.set_truncation_indicator(indicator(rng))?;
-        }
-        Ok(Sample {
-            table,
-            delimiter,
+        let mut sample = Sample {
+            table: Table::new(alloc),
+            delimiter: delimiter(rng, kind),
             kind,
-            has_own_indicator,
-        })
+            has_own_indicator: false,
+        };
+        sample.fill(alloc, rng)?;
+        Ok(sample)
+    }
+
+    fn fill(&mut self, alloc: Global, rng: &mut Pcg32) -> Result<()> {
+        self.table
+            .load_style(UTF8_FULL)
+            .set_delimiter(self.delimiter);
+        set_arrangement(rng, &mut self.table);
+        add_rows(alloc, rng, &mut self.table, self.kind)?;
+        set_columns(rng, &mut self.table, self.kind);
+        if once_in(rng, 8) {
+            exchange_columns(&mut self.table);
+        }
+        if once_in(rng, 8) {
+            add_late_cell(alloc, rng, &mut self.table, self.kind)?;
+        }
+        if self.kind.has_sequences {
+            self.know_sequences(rng)?;
+        }
+        Ok(())
+    }
+
+    fn know_sequences(&mut self, rng: &mut Pcg32) -> Result<()> {
+        self.table.custom_styling();
+        self.has_own_indicator = once_in(rng, 2);
+        if self.has_own_indicator {
+            self.table.try_set_truncation_indicator(indicator(rng))?;
+        }
+        Ok(())
     }
 }
 
-fn set_arrangement<R: Rng>(rng: &mut R, table: &mut Table) {
+fn add_rows(alloc: Global, rng: &mut Pcg32, table: &mut Table, kind: Kind) -> Result<()> {
+    if !once_in(rng, 3) {
+        table.try_set_header(row(alloc, rng, kind)?)?;
+    }
+    for _ in 0..rng.random_range(0u32..6) {
+        table.try_add_row(row(alloc, rng, kind)?)?;
+    }
+    Ok(())
+}
+
+fn set_arrangement(rng: &mut Pcg32, table: &mut Table) {
     if let Some(arrangement) = ARRANGEMENTS.choose(rng) {
         table.set_content_arrangement(*arrangement);
     }
@@ -101,18 +117,23 @@ fn set_arrangement<R: Rng>(rng: &mut R, table: &mut Table) {
     }
 }
 
-fn row<R: Rng>(alloc: Global, rng: &mut R, kind: Kind) -> Result<Row> {
+fn row(alloc: Global, rng: &mut Pcg32, kind: Kind) -> Result<Row> {
     let mut row = Row::new(alloc);
-    for _ in 0..rng.random_range(0u32..5) {
-        row.add_cell(cell(alloc, rng, kind)?)?;
-    }
+    add_cells(alloc, rng, &mut row, kind)?;
     if once_in(rng, if kind.has_sequences { 2 } else { 6 }) {
         row.max_height(rng.random_range(0usize..4));
     }
     Ok(row)
 }
 
-fn cell<R: Rng>(alloc: Global, rng: &mut R, kind: Kind) -> Result<Cell> {
+fn add_cells(alloc: Global, rng: &mut Pcg32, row: &mut Row, kind: Kind) -> Result<()> {
+    for _ in 0..rng.random_range(0u32..5) {
+        row.try_add_cell(cell(alloc, rng, kind)?)?;
+    }
+    Ok(())
+}
+
+fn cell(alloc: Global, rng: &mut Pcg32, kind: Kind) -> Result<Cell> {
     let mut cell = Cell::new_owned(alloc, text(alloc, rng, kind)?)?;
     if once_in(rng, 6) {
         cell = cell.set_delimiter(delimiter(rng, kind));
@@ -124,25 +145,33 @@ fn cell<R: Rng>(alloc: Global, rng: &mut R, kind: Kind) -> Result<Cell> {
 }
 
 // most columns stay as they are, and in three tables of four none has a constraint but that it is hidden
-fn set_columns<R: Rng>(rng: &mut R, table: &mut Table, kind: Kind) {
+fn set_columns(rng: &mut Pcg32, table: &mut Table, kind: Kind) {
     let is_free = !once_in(rng, 4);
     for column in table.column_iter_mut() {
-        if let Some(padding) = PADDINGS.choose(rng) {
-            column.set_padding(*padding);
-        }
-        if once_in(rng, 5) {
-            column.set_delimiter(delimiter(rng, kind));
-        }
-        if once_in(rng, 5) {
-            let constraint = if is_free {
-                CONSTRAINTS.first()
-            } else {
-                CONSTRAINTS.choose(rng)
-            };
-            if let Some(constraint) = constraint {
-                column.set_constraint(*constraint);
-            }
-        }
+        set_column(rng, column, kind, is_free);
+    }
+}
+
+fn set_column(rng: &mut Pcg32, column: &mut Column, kind: Kind, is_free: bool) {
+    if let Some(padding) = PADDINGS.choose(rng) {
+        column.set_padding(*padding);
+    }
+    if once_in(rng, 5) {
+        column.set_delimiter(delimiter(rng, kind));
+    }
+    if once_in(rng, 5) {
+        constrain(rng, column, is_free);
+    }
+}
+
+fn constrain(rng: &mut Pcg32, column: &mut Column, is_free: bool) {
+    let constraint = if is_free {
+        CONSTRAINTS.first()
+    } else {
+        CONSTRAINTS.choose(rng)
+    };
+    if let Some(constraint) = constraint {
+        column.set_constraint(*constraint);
     }
 }
 
@@ -165,11 +194,11 @@ fn exchange_columns(table: &mut Table) {
 }
 
 // a cell in the last row that no column knows, or that a column of the other rows knows
-fn add_late_cell<R: Rng>(alloc: Global, rng: &mut R, table: &mut Table, kind: Kind) -> Result<()> {
+fn add_late_cell(alloc: Global, rng: &mut Pcg32, table: &mut Table, kind: Kind) -> Result<()> {
     let cell = cell(alloc, rng, kind)?;
     let last = table.row_count().saturating_sub(1);
     if let Some(row) = table.row_mut(last) {
-        row.add_cell(cell)?;
+        row.try_add_cell(cell)?;
     }
     Ok(())
 }

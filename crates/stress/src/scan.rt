@@ -9,8 +9,8 @@ pub const INDICATOR: char = '…';
 /// What was read of one text or of several.
 #[derive(Drop)]
 pub struct Scan {
-    // whether sequences are read as such, and not as characters
-    knows_sequences: bool,
+    /// Whether sequences are read as such, and not as characters.
+    pub knows_sequences: bool,
     // the parameters of the sequences that are open
     open: String,
     /// The characters but for spaces, line feeds, delimiters and the indicator of a cut, each behind the sequences that are
@@ -32,6 +32,13 @@ impl Scan {
             seen: String::new(alloc),
             count: 0,
         }
+    }
+
+    /// What is read of one text.
+    pub fn of(alloc: Global, text: &str, knows_sequences: bool) -> Result<Scan> {
+        let mut scan = Scan::new(alloc, knows_sequences);
+        scan.read(text, ' ')?;
+        Ok(scan)
     }
 
     /// Reads a text with this delimiter.
@@ -89,9 +96,9 @@ impl Scan {
 // the parameters of the sequence at a text's front, and what is behind it
 fn sequence_of<'a>(text: &'a str) -> Option<(&'a str, &'a str)> {
     let (parameters, behind) = text.strip_prefix("\u{1b}[")?.split_once('m')?;
-    let is_sequence = parameters.bytes().all(|byte| byte.is_ascii_digit()
-        || byte == b';'
-        || byte == b':');
+    let is_sequence = parameters
+        .bytes()
+        .all(|byte| matches!(byte, b'0'..=b'9' | b';' | b':'));
     if is_sequence {
         Some((parameters, behind))
     } else {

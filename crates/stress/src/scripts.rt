@@ -4,7 +4,7 @@ use crate::texts::once_in;
 use comfy_table::Result;
 use rand::RngExt;
 use rand::seq::IndexedRandom;
-use rand_core::Rng;
+use rand_pcg::Pcg32;
 use std::alloc::Global;
 
 // words whose characters join no other: Chinese, Japanese, Korean, Latin with marks, Greek, Cyrillic, Arabic without an
@@ -84,7 +84,7 @@ pub struct Words {
 }
 
 /// A text of up to seven words, with spaces between and now and then a line feed.
-pub fn text<R: Rng>(alloc: Global, rng: &mut R, words: Words) -> Result<String> {
+pub fn text(alloc: Global, rng: &mut Pcg32, words: Words) -> Result<String> {
     let mut text = String::new(alloc);
     for _ in 0..rng.random_range(0u32..8) {
         text.push_str(word(rng, words))?;
@@ -96,7 +96,7 @@ pub fn text<R: Rng>(alloc: Global, rng: &mut R, words: Words) -> Result<String> 
     Ok(text)
 }
 
-fn word<R: Rng>(rng: &mut R, words: Words) -> &'static str {
+fn word(rng: &mut Pcg32, words: Words) -> &'static str {
     let pieces = if words.are_wild && once_in(rng, 3) {
         WILD.as_slice()
     } else if words.are_joined && once_in(rng, 3) {
@@ -107,7 +107,7 @@ fn word<R: Rng>(rng: &mut R, words: Words) -> &'static str {
     pieces.choose(rng).copied().unwrap_or("")
 }
 
-fn between<R: Rng>(rng: &mut R, words: Words) -> &'static str {
+fn between(rng: &mut Pcg32, words: Words) -> &'static str {
     if words.are_wild && once_in(rng, 2) {
         ""
     } else if once_in(rng, 6) {

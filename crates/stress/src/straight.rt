@@ -1,6 +1,6 @@
 //! Random tables whose edges have to be straight in terminal columns, whatever their script.
 
-use crate::check::keeps_to_width;
+use crate::check::{are_alike, keeps_to_width};
 use crate::scripts::{Words, text};
 use crate::texts::once_in;
 use comfy_table::presets::{
@@ -16,7 +16,7 @@ use comfy_table::{
 };
 use rand::RngExt;
 use rand::seq::IndexedRandom;
-use rand_core::Rng;
+use rand_pcg::Pcg32;
 use std::alloc::Global;
 
 const STYLES: [TableStyle; 13] = [
@@ -61,21 +61,30 @@ const CONSTRAINTS: [ColumnConstraint; 4] = [
 
 /// What is wrong with the drawing of a random table, if anything is. It is as wide as its texts, which may be any, or its
 /// words fit their columns or consist of characters that join no other.
-pub fn fault_of<R: Rng>(alloc: Global, rng: &mut R) -> Result<Option<&'static str>> {
+pub fn fault_of(alloc: Global, rng: &mut Pcg32) -> Result<Option<&'static str>> {
     let is_shown_whole = once_in(rng, 2);
     let table = random_table(alloc, rng, is_shown_whole)?;
     if !is_shown_whole && has_narrow_column(&table)? {
         return Ok(None);
     }
+    fault_of_table(alloc, &table)
+}
+
+fn fault_of_table(alloc: Global, table: &Table) -> Result<Option<&'static str>> {
     let widths = seen_widths(alloc, table.lines()?)?;
-    let first = widths.first().copied().unwrap_or(0);
-    if widths.iter().any(|width| *width != first) {
-        return Ok(Some("lines are unlike in width"));
+    Ok(fault_of_widths(table, widths.as_slice()))
+}
+
+fn fault_of_widths(table: &Table, widths: &[usize]) -> Option<&'static str> {
+    if !are_alike(widths) {
+        return Some("lines are unlike in width");
     }
-    if !widths.is_empty() && !keeps_to_width(&table, first) {
-        return Ok(Some("the width doesn't hold in terminal columns"));
+    match widths.first() {
+        Some(width) if !keeps_to_width(table, *width) => {
+            Some("the width doesn't hold in terminal columns")
+        }
+        _ => None,
     }
-    Ok(None)
 }
 
 // the terminal columns that are seen of each line
@@ -98,7 +107,13 @@ fn has_narrow_column(table: &Table) -> Result<bool> {
     )
 }
 
-fn random_table<R: Rng>(alloc: Global, rng: &mut R, is_shown_whole: bool) -> Result<Table> {
+fn random_table(alloc: Global, rng: &mut Pcg32, is_shown_whole: bool) -> Result<Table> {
+    let mut table = Table::new(alloc);
+    fill(alloc, rng, &mut table, is_shown_whole)?;
+    Ok(table)
+}
+
+fn fill(alloc: Global, rng: &mut Pcg32, table: &mut Table, is_shown_whole: bool) -> Result<()> {
     let has_sequences = once_in(rng, 3);
     let is_cut = !is_shown_whole && once_in(rng, 3);
     let words = Words {
@@ -106,22 +121,21 @@ fn random_table<R: Rng>(alloc: Global, rng: &mut R, is_shown_whole: bool) -> Res
         are_wild: is_shown_whole,
         have_sequences: has_sequences,
     };
-    let mut table = Table::new(alloc);
     table.load_style(style(rng));
-    table.set_header(row(alloc, rng, words)?)?;
+    table.try_set_header(row(alloc, rng, words)?)?;
     for _ in 0..rng.random_range(0u32..4) {
         let mut row = row(alloc, rng, words)?;
         if is_cut {
             row.max_height(rng.random_range(1usize..4));
         }
-        table.add_row(row)?;
+        table.try_add_row(row)?;
     }
-    set_columns(rng, &mut table, is_shown_whole);
-    set_settings(rng, &mut table, is_shown_whole, has_sequences);
-    Ok(table)
+    set_columns(rng, table, is_shown_whole);
+    set_settings(rng, table, is_shown_whole, has_sequences);
+    Ok(())
 }
 
-fn style<R: Rng>(rng: &mut R) -> TableStyle {
+fn style(rng: &mut Pcg32) -> TableStyle {
     let mut style = STYLES.choose(rng).copied().unwrap_or(UTF8_FULL);
     if once_in(rng, 3) {
         style = style.with_rounded_corners();
@@ -132,22 +146,31 @@ fn style<R: Rng>(rng: &mut R) -> TableStyle {
     style
 }
 
-fn row<R: Rng>(alloc: Global, rng: &mut R, words: Words) -> Result<Row> {
+fn row(alloc: Global, rng: &mut Pcg32, words: Words) -> Result<Row> {
     let mut row = Row::new(alloc);
-    for _ in 0..rng.random_range(1u32..4) {
-        let mut cell = Cell::new_owned(alloc, text(alloc, rng, words)?)?;
-        if let Some(alignment) = ALIGNMENTS.choose(rng) {
-            cell = cell.set_alignment(*alignment);
-        }
-        if once_in(rng, 4) {
-            cell = cell.fg(Color::Green);
-        }
-        row.add_cell(cell)?;
-    }
+    add_cells(alloc, rng, &mut row, words)?;
     Ok(row)
 }
 
-fn set_columns<R: Rng>(rng: &mut R, table: &mut Table, is_shown_whole: bool) {
+fn add_cells(alloc: Global, rng: &mut Pcg32, row: &mut Row, words: Words) -> Result<()> {
+    for _ in 0..rng.random_range(1u32..4) {
+        row.try_add_cell(cell(alloc, rng, words)?)?;
+    }
+    Ok(())
+}
+
+fn cell(alloc: Global, rng: &mut Pcg32, words: Words) -> Result<Cell> {
+    let mut cell = Cell::new_owned(alloc, text(alloc, rng, words)?)?;
+    if let Some(alignment) = ALIGNMENTS.choose(rng) {
+        cell = cell.set_alignment(*alignment);
+    }
+    if once_in(rng, 4) {
+        cell = cell.fg(Color::Green);
+    }
+    Ok(cell)
+}
+
+fn set_columns(rng: &mut Pcg32, table: &mut Table, is_shown_whole: bool) {
     let paddings = if table.style().draws_vertical_lines() {
         PADDINGS.as_slice()
     } else {
@@ -161,7 +184,7 @@ fn set_columns<R: Rng>(rng: &mut R, table: &mut Table, is_shown_whole: bool) {
 }
 
 // where the table is as wide as its texts a column may only be hidden
-fn constrain<R: Rng>(rng: &mut R, column: &mut Column, is_shown_whole: bool) {
+fn constrain(rng: &mut Pcg32, column: &mut Column, is_shown_whole: bool) {
     let constraints = if is_shown_whole {
         &CONSTRAINTS[..1]
     } else {
@@ -174,7 +197,7 @@ fn constrain<R: Rng>(rng: &mut R, column: &mut Column, is_shown_whole: bool) {
     }
 }
 
-fn set_settings<R: Rng>(rng: &mut R, table: &mut Table, is_shown_whole: bool, has_sequences: bool) {
+fn set_settings(rng: &mut Pcg32, table: &mut Table, is_shown_whole: bool, has_sequences: bool) {
     if let Some(arrangement) = ARRANGEMENTS.choose(rng) {
         table.set_content_arrangement(*arrangement);
     }

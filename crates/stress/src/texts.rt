@@ -3,7 +3,7 @@
 use comfy_table::Result;
 use rand::RngExt;
 use rand::seq::IndexedRandom;
-use rand_core::Rng;
+use rand_pcg::Pcg32;
 use std::alloc::Global;
 
 // letters, spaces, wide characters, marks, joiners, flags, conjuncts, escape sequences and control characters
@@ -89,54 +89,41 @@ pub struct Kind {
 }
 
 /// A text of up to twelve pieces.
-pub fn text<R: Rng>(alloc: Global, rng: &mut R, kind: Kind) -> Result<String> {
-    let pieces = if kind.is_plain {
-        &PIECES[..PLAIN]
-    } else {
-        PIECES.as_slice()
-    };
-    let sequences = if kind.is_plain {
-        &SEQUENCES[..WHOLE]
-    } else {
-        SEQUENCES.as_slice()
-    };
+pub fn text(alloc: Global, rng: &mut Pcg32, kind: Kind) -> Result<String> {
     let mut text = String::new(alloc);
     for _ in 0..rng.random_range(0u32..13) {
-        let choices = if kind.has_sequences && once_in(rng, 3) {
-            sequences
-        } else {
-            pieces
-        };
-        if let Some(piece) = choices.choose(rng) {
-            text.push_str(piece)?;
-        }
+        text.push_str(piece(rng, kind))?;
     }
     Ok(text)
 }
 
+fn piece(rng: &mut Pcg32, kind: Kind) -> &'static str {
+    let pieces = match (kind.has_sequences && once_in(rng, 3), kind.is_plain) {
+        (true, true) => &SEQUENCES[..WHOLE],
+        (true, false) => SEQUENCES.as_slice(),
+        (false, true) => &PIECES[..PLAIN],
+        (false, false) => PIECES.as_slice(),
+    };
+    pieces.choose(rng).copied().unwrap_or("")
+}
+
 /// A delimiter.
-pub fn delimiter<R: Rng>(rng: &mut R, kind: Kind) -> char {
+pub fn delimiter(rng: &mut Pcg32, kind: Kind) -> char {
     let delimiters = if kind.is_plain {
         &DELIMITERS[..PLAIN_DELIMITERS]
     } else {
         DELIMITERS.as_slice()
     };
-    match delimiters.choose(rng) {
-        Some(delimiter) => *delimiter,
-        None => ' ',
-    }
+    delimiters.choose(rng).copied().unwrap_or(' ')
 }
 
 /// An indicator of cut lines other than that of a new table.
-pub fn indicator<R: Rng>(rng: &mut R) -> &'static str {
-    match INDICATORS.choose(rng) {
-        Some(indicator) => *indicator,
-        None => "",
-    }
+pub fn indicator(rng: &mut Pcg32) -> &'static str {
+    INDICATORS.choose(rng).copied().unwrap_or("")
 }
 
 /// Yes once in so many times, and never for 0.
-pub fn once_in<R: Rng>(rng: &mut R, times: u32) -> bool {
+pub fn once_in(rng: &mut Pcg32, times: u32) -> bool {
     if times == 0 {
         return false;
     }

@@ -1,30 +1,33 @@
 //! Copies: they are equal, and stay as they are when what they were made of is changed.
 
+use super::support::assert_content;
 use comfy_parts::style::{Attribute, Color};
-use comfy_parts::{Cell, IntoRow, Row};
+use comfy_parts::{Cell, IntoRow, Result, Row};
 use std::alloc::{Alloc, Global};
 use std::process::Abort;
-use std::test::Fail;
 
-// A copy of a bold cell of this text equals it, and still has its text and its attribute when the cell was changed.
-fn assert_cell_copied(rt: &(impl Abort + Alloc<A = Global>), text: &str) -> Result<(), Fail> {
+// A copy equals the cell that it was made of, until that is changed.
+fn assert_copy(rt: &impl Abort, copy: &Cell, cell: Cell) {
+    assert!(rt; *copy == cell);
+    assert!(rt; *copy != cell.fg(Color::Red));
+}
+
+// A copy of a bold cell of this text still has its text and its attribute when the cell was changed.
+fn assert_cell_copied(rt: &(impl Abort + Alloc<A = Global>), text: &str) -> Result<()> {
     let cell = Cell::new(rt.alloc(), text)?.add_attribute(Attribute::Bold)?;
     let copy = cell.clone()?;
-    assert!(rt; copy == cell);
-    let changed = cell.fg(Color::Red);
-    assert!(rt; copy != changed);
-    assert_eq!(rt; copy.content()?.as_str(), text);
+    assert_copy(rt, &copy, cell);
     assert_eq!(rt; copy.attributes(), [Attribute::Bold].as_slice());
-    Ok(())
+    assert_content(rt, &copy, text)
 }
 
 #[test]
-fn a_cell_of_one_text_line_is_copied(rt: HostRuntime) -> Result<(), Fail> {
+fn a_cell_of_one_text_line_is_copied(rt: HostRuntime) -> Result<()> {
     assert_cell_copied(&rt, "dock 3")
 }
 
 #[test]
-fn a_cell_of_several_text_lines_is_copied(rt: HostRuntime) -> Result<(), Fail> {
+fn a_cell_of_several_text_lines_is_copied(rt: HostRuntime) -> Result<()> {
     assert_cell_copied(&rt, "Now\nadd some\nmulti line stuff")
 }
 
@@ -34,13 +37,23 @@ fn are_equal(first: &Row, second: &Row) -> bool {
         && first.height_limit() == second.height_limit()
 }
 
-#[test]
-fn a_row_is_copied(rt: HostRuntime) -> Result<(), Fail> {
-    let mut row = ["17", "dock 3"].into_row(rt.alloc())?;
+fn cut_row(alloc: Global) -> Result<Row> {
+    let mut row = ["17", "dock 3"].into_row(alloc)?;
     row.max_height(2);
+    Ok(row)
+}
+
+fn change(alloc: Global, row: &mut Row) -> Result<()> {
+    row.add_cell(Cell::new(alloc, true)?)?.max_height(5);
+    Ok(())
+}
+
+#[test]
+fn a_row_is_copied(rt: HostRuntime) -> Result<()> {
+    let mut row = cut_row(rt.alloc())?;
     let copy = row.clone()?;
     assert!(rt; are_equal(&copy, &row));
-    row.add_cell(Cell::new(rt.alloc(), true)?)?.max_height(5);
+    change(rt.alloc(), &mut row)?;
     assert!(rt; !are_equal(&copy, &row));
     assert_eq!(rt; (copy.cell_count(), copy.height_limit()), (2, Some(2)));
     Ok(())

@@ -7,7 +7,6 @@ use comfy_parts::style::presets::{
     ASCII_HORIZONTAL_ONLY, ASCII_MARKDOWN, ASCII_NO_BORDERS, NOTHING, UTF8_BORDERS_ONLY, UTF8_FULL,
     UTF8_FULL_CONDENSED, UTF8_HORIZONTAL_ONLY, UTF8_NO_BORDERS,
 };
-use std::test::Fail;
 
 // Each character, and whether it is known to add one column wherever it stands.
 const CHARACTERS: [(char, bool); 9] = [
@@ -48,7 +47,7 @@ const NOT_ADDING_UP: [(&str, &str); 7] = [
     ("Chinese and a variation selector", "年\u{fe0f}"),
 ];
 
-const ASCII_STYLES: [TableStyle; 7] = [
+const PRESETS: [TableStyle; 13] = [
     ASCII_FULL,
     ASCII_FULL_CONDENSED,
     ASCII_NO_BORDERS,
@@ -56,9 +55,6 @@ const ASCII_STYLES: [TableStyle; 7] = [
     ASCII_BORDERS_ONLY_CONDENSED,
     ASCII_HORIZONTAL_ONLY,
     ASCII_MARKDOWN,
-];
-
-const OTHER_STYLES: [TableStyle; 6] = [
     UTF8_FULL,
     UTF8_FULL_CONDENSED,
     UTF8_NO_BORDERS,
@@ -68,45 +64,37 @@ const OTHER_STYLES: [TableStyle; 6] = [
 ];
 
 #[test]
-fn characters_of_one_column_are_told(rt: HostRuntime) -> Result<(), Fail> {
-    for (character, wanted) in CHARACTERS {
-        assert_eq!(rt; adds_one_column(character), wanted, "`{character}`");
+fn characters_of_one_column_are_told(rt: HostRuntime) {
+    for (character, wanted) in &CHARACTERS {
+        assert_eq!(rt; adds_one_column(*character), *wanted, "`{character}`");
     }
-    Ok(())
 }
 
 #[test]
-fn most_scripts_add_up(rt: HostRuntime) -> Result<(), Fail> {
-    for (name, text) in ADDING_UP {
+fn most_scripts_add_up(rt: HostRuntime) {
+    for (name, text) in &ADDING_UP {
         assert!(rt; adds_up(text), "{name}");
     }
-    Ok(())
 }
 
 #[test]
-fn texts_that_join_do_not_add_up(rt: HostRuntime) -> Result<(), Fail> {
-    for (name, text) in NOT_ADDING_UP {
+fn texts_that_join_do_not_add_up(rt: HostRuntime) {
+    for (name, text) in &NOT_ADDING_UP {
         assert!(rt; !adds_up(text), "{name}");
     }
-    Ok(())
 }
 
 #[test]
-fn presets_are_of_one_column(rt: HostRuntime) -> Result<(), Fail> {
-    for style in ASCII_STYLES {
+fn presets_are_of_one_column(rt: HostRuntime) {
+    for style in &PRESETS {
         assert!(rt; style.is_one_column());
     }
-    for style in OTHER_STYLES {
-        assert!(rt; style.is_one_column());
-    }
-    Ok(())
 }
 
 #[test]
-fn one_other_character_is_noticed(rt: HostRuntime) -> Result<(), Fail> {
+fn one_other_character_is_noticed(rt: HostRuntime) {
     let lines = UTF8_FULL.content_lines.left('#');
     assert!(rt; !UTF8_FULL.content_lines(lines).is_one_column());
     let bottom = UTF8_FULL.bottom_border.fill('年');
     assert!(rt; !UTF8_FULL.bottom_border(bottom).is_one_column());
-    Ok(())
 }

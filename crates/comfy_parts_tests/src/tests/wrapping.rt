@@ -1,11 +1,13 @@
 //! Texts and the lines that they are wrapped into.
 
-use comfy_parts::Column;
+use super::support::assert_text;
 use comfy_parts::content_split::{
     ColumnDisplayInfo, measure_text_width, split_line, split_line_by_delimiter, split_line_ref,
     split_long_word,
 };
-use std::test::Fail;
+use comfy_parts::{Column, Result};
+use std::alloc::{Alloc, Global};
+use std::process::Abort;
 
 // Each text, the content width, the delimiter, and the lines, joined by bars.
 const WRAPPED: [(&str, u16, char, &str); 9] = [
@@ -32,28 +34,45 @@ fn info_of(width: u16) -> ColumnDisplayInfo {
     info
 }
 
+// The lines of a text, joined by bars, are these.
+fn assert_wrapped(
+    rt: &(impl Abort + Alloc<A = Global>),
+    text: &str,
+    info: &ColumnDisplayInfo,
+    delimiter: char,
+    expected: &str,
+) -> Result<()> {
+    let lines = split_line(rt.alloc(), text, info, delimiter)?;
+    assert_text(rt, lines.join(rt.alloc(), "|")?.as_str(), expected);
+    Ok(())
+}
+
+// The same of the borrowed lines.
+fn assert_wrapped_borrowed(
+    rt: &(impl Abort + Alloc<A = Global>),
+    text: &str,
+    info: &ColumnDisplayInfo,
+    delimiter: char,
+    expected: &str,
+) -> Result<()> {
+    let lines = split_line_ref(rt.alloc(), text, info, delimiter)?;
+    assert_text(rt, lines.join(rt.alloc(), "|")?.as_str(), expected);
+    Ok(())
+}
+
 #[test]
-fn texts_are_wrapped(rt: HostRuntime) -> Result<(), Fail> {
-    for (text, width, delimiter, expected) in WRAPPED {
-        let info = info_of(width);
-        let lines = split_line(rt.alloc(), text, &info, delimiter)?.join(rt.alloc(), "|")?;
-        assert_eq!(rt; lines.as_str(), expected, "`{text}` at {width}");
-        let borrowed = split_line_ref(rt.alloc(), text, &info, delimiter)?.join(rt.alloc(), "|")?;
-        assert_eq!(rt;
-            borrowed.as_str(),
-            expected,
-            "`{text}` at {width}, borrowed"
-        );
+fn texts_are_wrapped(rt: HostRuntime) -> Result<()> {
+    for (text, width, delimiter, expected) in &WRAPPED {
+        let info = info_of(*width);
+        assert_wrapped(&rt, text, &info, *delimiter, expected)?;
+        assert_wrapped_borrowed(&rt, text, &info, *delimiter, expected)?;
     }
     Ok(())
 }
 
 #[test]
-fn a_line_is_divided_at_each_delimiter(rt: HostRuntime) -> Result<(), Fail> {
+fn a_line_is_divided_at_each_delimiter(rt: HostRuntime) -> Result<()> {
     let parts = split_line_by_delimiter(rt.alloc(), "a--b", '-')?;
-    assert_eq!(rt; parts.len(), 3);
-    assert_eq!(rt; parts[0], "a");
-    assert_eq!(rt; parts[1], "");
-    assert_eq!(rt; parts[2], "b");
+    assert_text(&rt, parts.join(rt.alloc(), "|")?.as_str(), "a||b");
     Ok(())
 }

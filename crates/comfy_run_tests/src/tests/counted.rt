@@ -5,8 +5,8 @@ ghost use Rattle.comfy_run.specs.Device.{left_in};
 ghost use Rattle.comfy_run.specs.DeviceLaws.{none_is_left};
 
 use comfy_run::run::{DeviceFault, MemorySink, MemorySource, Sink, Source, program};
-use std::alloc::Global;
-use std::test::Fail;
+use std::alloc::{Alloc, Global};
+use std::process::Abort;
 
 // A source over memory, and how often it was read.
 #[derive(Drop)]
@@ -66,69 +66,35 @@ impl Sink for CountedSink {
     }
 }
 
-// How often each device of a run of the program was called, and the status.
-#[derive(Clone, Copy, Debug, PartialEq, Eq)]
-struct Calls {
-    reads: u64,
-    writes: u64,
-    messages: u64,
-    status: u8,
-}
-
-fn calls_made(
-    alloc: Global,
+// Runs the program, and compares how often it read, wrote its output and wrote a message, and its status. The message
+// fails at its first call.
+fn assert_calls(
+    rt: &(impl Abort + Alloc<A = Global>),
     words: &[&str],
     input: &[u8],
     failing_write: u64,
-) -> comfy_table::Result<Calls> {
+    wanted: (u64, u64, u64, u8),
+) -> comfy_table::Result<()> {
     let mut source = CountedSource::new(input);
-    let mut sink = CountedSink::new(alloc, failing_write)?;
-    let mut messages = CountedSink::new(alloc, 1)?;
-    let status = program(alloc, words, &mut source, &mut sink, &mut messages);
-    Ok(Calls {
-        reads: source.reads,
-        writes: sink.writes,
-        messages: messages.writes,
-        status,
-    })
+    let mut sink = CountedSink::new(rt.alloc(), failing_write)?;
+    let mut messages = CountedSink::new(rt.alloc(), 1)?;
+    let status = program(rt.alloc(), words, &mut source, &mut sink, &mut messages);
+    let calls = (source.reads, sink.writes, messages.writes, status);
+    assert_eq!(rt; calls, wanted);
+    Ok(())
 }
 
 // One read of a short input and one of its end, one write of all, and no message.
 #[test]
-fn a_success_calls_no_device_again(rt: HostRuntime) -> Result<(), Fail> {
-    let wanted = Calls {
-        reads: 2,
-        writes: 1,
-        messages: 0,
-        status: 0,
-    };
-    assert_eq!(rt; calls_made(rt.alloc(), &[], b"a\tb\nc\td\n", 0)?, wanted);
-    let wanted = Calls { reads: 1, ..wanted };
-    assert_eq!(rt; calls_made(rt.alloc(), &[], b"", 0)?, wanted);
-    Ok(())
+fn a_success_calls_no_device_again(rt: HostRuntime) -> comfy_table::Result<()> {
+    assert_calls(&rt, &[], b"a\tb\nc\td\n", 0, (2, 1, 0, 0))?;
+    assert_calls(&rt, &[], b"", 0, (1, 1, 0, 0))
 }
 
-// The message fails at its first call, which is its only one.
+// The first call of the message is its only one.
 #[test]
-fn a_failure_is_reported_by_one_call(rt: HostRuntime) -> Result<(), Fail> {
-    let no_text = Calls {
-        reads: 2,
-        writes: 0,
-        messages: 1,
-        status: 1,
-    };
-    assert_eq!(rt; calls_made(rt.alloc(), &[], b"\xff", 0)?, no_text);
-    let unwritten = Calls {
-        writes: 1,
-        ..no_text
-    };
-    assert_eq!(rt; calls_made(rt.alloc(), &[], b"a\n", 1)?, unwritten);
-    let misused = Calls {
-        reads: 0,
-        writes: 0,
-        messages: 1,
-        status: 2,
-    };
-    assert_eq!(rt; calls_made(rt.alloc(), &["x"], b"a\n", 0)?, misused);
-    Ok(())
+fn a_failure_is_reported_by_one_call(rt: HostRuntime) -> comfy_table::Result<()> {
+    assert_calls(&rt, &[], b"\xff", 0, (2, 0, 1, 1))?;
+    assert_calls(&rt, &[], b"a\n", 1, (2, 1, 1, 1))?;
+    assert_calls(&rt, &["x"], b"a\n", 0, (0, 0, 1, 2))
 }

@@ -1,17 +1,15 @@
 //! Devices that fail, and what a run leaves behind then.
 
 use super::program::README;
-use super::support::joined;
+use super::support::{assert_bytes, assert_lines, joined};
 use comfy_run::run::{
-    DeviceFault, FromReader, MemorySink, MemorySource, RunError, Settings, Sink, Source, ToWriter,
-    run,
+    FromReader, MemorySink, MemorySource, RunError, Settings, Sink, Source, ToWriter, run,
 };
 use comfy_table::presets::{ASCII_FULL, ASCII_MARKDOWN};
-use comfy_table::{ContentArrangement, TableError};
-use std::alloc::{Alloc, AllocError, Global};
+use comfy_table::{ContentArrangement, Result, TableError};
+use std::alloc::{Alloc, Global};
 use std::io::{self, Read, Write};
 use std::process::Abort;
-use std::test::Fail;
 
 const PLAIN: Settings = Settings {
     width: None,
@@ -30,7 +28,7 @@ const OUTPUT: [&str; 5] = [
 ];
 
 // An input that takes several reads.
-fn long_input(alloc: Global) -> Result<Vec<u8>, AllocError> {
+fn long_input(alloc: Global) -> Result<Vec<u8>> {
     let mut input = Vec::new(alloc);
     for _ in 0..5000 {
         input.extend_from_slice(b"a\tb\n")?;
@@ -38,113 +36,123 @@ fn long_input(alloc: Global) -> Result<Vec<u8>, AllocError> {
     Ok(input)
 }
 
-// Runs on a source of the small input, and compares what is written.
-fn assert_read<R: Source + Drop>(
+// Runs, and compares how the run ends.
+fn assert_ends<R: Source, W: Sink>(
     rt: &(impl Abort + Alloc<A = Global>),
-    mut source: R,
-) -> comfy_table::Result<()> {
-    let mut sink = MemorySink::new(rt.alloc(), 200, 0)?;
-    let answer = run(rt.alloc(), &mut source, &mut sink, PLAIN);
-    assert_eq!(rt; answer, Ok(()));
-    assert_eq!(rt; sink.bytes(), joined(rt.alloc(), &OUTPUT)?.as_bytes());
-    Ok(())
+    source: &mut R,
+    sink: &mut W,
+    settings: Settings,
+    wanted: std::result::Result<(), RunError>,
+) {
+    let answer = run(rt.alloc(), source, sink, settings);
+    assert_eq!(rt; answer, wanted);
 }
 
-// Runs on a source that fails at a call: nothing is written, and the source fails from then on.
+// Runs on a source, and compares what is written.
+fn assert_drawn<R: Source + Drop>(
+    rt: &(impl Abort + Alloc<A = Global>),
+    mut source: R,
+    settings: Settings,
+    lines: &[&str],
+) -> Result<()> {
+    let mut sink = MemorySink::new(rt.alloc(), 200, 0)?;
+    assert_ends(rt, &mut source, &mut sink, settings, Ok(()));
+    assert_lines(rt, sink.bytes(), lines)
+}
+
+// Runs on a source that fails: nothing is written, and the source fails from then on.
 fn assert_unread<R: Source + Drop>(
     rt: &(impl Abort + Alloc<A = Global>),
     mut source: R,
-    call: u64,
-) -> comfy_table::Result<()> {
+) -> Result<()> {
     let mut sink = MemorySink::new(rt.alloc(), 200, 0)?;
-    let answer = run(rt.alloc(), &mut source, &mut sink, PLAIN);
-    assert_eq!(rt; answer, Err(RunError::Read), "at call {call}");
+    assert_ends(rt, &mut source, &mut sink, PLAIN, Err(RunError::Read));
     assert!(rt; sink.bytes().is_empty());
-    assert_eq!(rt; source.read(&mut [0u8; 4]), Err(DeviceFault));
+    assert!(rt; source.read(&mut [0u8; 4]).is_err());
     Ok(())
 }
 
 // Runs on the small input into a sink that takes all of it.
 fn assert_written<W: Sink>(rt: &(impl Abort + Alloc<A = Global>), sink: &mut W) {
     let mut source = MemorySource::new(INPUT, 0);
-    let answer = run(rt.alloc(), &mut source, sink, PLAIN);
-    assert_eq!(rt; answer, Ok(()));
+    assert_ends(rt, &mut source, sink, PLAIN, Ok(()));
 }
 
-// Runs on the small input into a sink that fails, and fails from then on.
-fn assert_unwritten<W: Sink>(rt: &(impl Abort + Alloc<A = Global>), sink: &mut W) {
-    let mut source = MemorySource::new(INPUT, 0);
-    let answer = run(rt.alloc(), &mut source, sink, PLAIN);
-    assert_eq!(rt; answer, Err(RunError::Write));
-    assert_eq!(rt; sink.write(b""), Err(DeviceFault));
+// Runs on an input into a sink that fails, and fails from then on.
+fn assert_unwritten<W: Sink>(rt: &(impl Abort + Alloc<A = Global>), input: &[u8], sink: &mut W) {
+    let mut source = MemorySource::new(input, 0);
+    assert_ends(rt, &mut source, sink, PLAIN, Err(RunError::Write));
+    assert!(rt; sink.write(b"").is_err());
+}
+
+// Whether a run on this input succeeds, with the call at which its source fails.
+fn is_read(alloc: Global, input: &[u8], failing_read: u64) -> Result<bool> {
+    let mut sink = MemorySink::new(alloc, 200_000, 0)?;
+    let mut source = MemorySource::new(input, failing_read);
+    Ok(run(alloc, &mut source, &mut sink, PLAIN).is_ok())
 }
 
 // Each read of a long input fails in turn, until none is left to fail.
 #[test]
-fn each_failing_read_ends_the_run(rt: HostRuntime) -> Result<(), Fail> {
+fn each_failing_read_ends_the_run(rt: HostRuntime) -> Result<()> {
     let input = long_input(rt.alloc())?;
     let mut failures = 0u64;
     for call in 1..100 {
-        let mut sink = MemorySink::new(rt.alloc(), 200_000, 0)?;
-        let mut source = MemorySource::new(input.as_slice(), call);
-        if run(rt.alloc(), &mut source, &mut sink, PLAIN).is_ok() {
+        if is_read(rt.alloc(), input.as_slice(), call)? {
             break;
         }
-        assert_unread(&rt, MemorySource::new(input.as_slice(), call), call)?;
+        assert_unread(&rt, MemorySource::new(input.as_slice(), call))?;
         failures = call;
     }
     assert!(rt; failures > 2 && failures < 99);
     Ok(())
 }
 
-// The one write to a sink with ample room fails.
 #[test]
-fn the_failing_write_ends_the_run(rt: HostRuntime) -> Result<(), Fail> {
-    let mut sink = MemorySink::new(rt.alloc(), 200, 1)?;
-    assert_unwritten(&rt, &mut sink);
-    assert!(rt; sink.bytes().is_empty());
-    Ok(())
-}
-
-#[test]
-fn no_second_write_occurs(rt: HostRuntime) -> Result<(), Fail> {
+fn no_second_write_occurs(rt: HostRuntime) -> Result<()> {
     let mut sink = MemorySink::new(rt.alloc(), 200, 2)?;
     assert_written(&rt, &mut sink);
-    assert_eq!(rt; sink.bytes(), joined(rt.alloc(), &OUTPUT)?.as_bytes());
+    assert_lines(&rt, sink.bytes(), &OUTPUT)
+}
+
+// Runs on an input into a sink that fails, and compares what it holds then.
+fn assert_cut(
+    rt: &(impl Abort + Alloc<A = Global>),
+    input: &[u8],
+    room: usize,
+    failing_write: u64,
+    wanted: &[u8],
+) -> Result<()> {
+    let mut sink = MemorySink::new(rt.alloc(), room, failing_write)?;
+    assert_unwritten(rt, input, &mut sink);
+    assert_bytes(rt, sink.bytes(), wanted);
     Ok(())
 }
 
-// A sink with room for ten bytes holds the first line and its line feed.
+// The one write to a sink with ample room fails.
 #[test]
-fn a_full_sink_holds_the_beginning(rt: HostRuntime) -> Result<(), Fail> {
-    let mut sink = MemorySink::new(rt.alloc(), 10, 0)?;
-    assert_unwritten(&rt, &mut sink);
-    assert_eq!(rt; sink.bytes(), joined(rt.alloc(), &OUTPUT[..1])?.as_bytes());
-    Ok(())
+fn the_failing_write_ends_the_run(rt: HostRuntime) -> Result<()> {
+    assert_cut(&rt, INPUT, 200, 1, b"")?;
+    assert_cut(&rt, README, 1000, 1, b"")
 }
 
-// The table of the README: each read fails in turn, then the write, and then there is room for ten bytes.
 #[test]
-fn the_table_of_the_readme_fails_at_each_call(rt: HostRuntime) -> Result<(), Fail> {
+fn a_full_sink_holds_the_beginning(rt: HostRuntime) -> Result<()> {
+    assert_cut(&rt, INPUT, 10, 0, b"+---+---+\n")?;
+    assert_cut(&rt, README, 10, 0, b"+---------")
+}
+
+#[test]
+fn each_read_of_the_readme_fails(rt: HostRuntime) -> Result<()> {
     for call in [1, 2] {
-        assert_unread(&rt, MemorySource::new(README, call), call)?;
-    }
-    for (room, failing_write, wanted) in [
-        (1000, 1, b"".as_slice()),
-        (10, 0, b"+---------".as_slice()),
-    ] {
-        let mut source = MemorySource::new(README, 0);
-        let mut sink = MemorySink::new(rt.alloc(), room, failing_write)?;
-        let answer = run(rt.alloc(), &mut source, &mut sink, PLAIN);
-        assert_eq!(rt; answer, Err(RunError::Write));
-        assert_eq!(rt; sink.bytes(), wanted);
+        assert_unread(&rt, MemorySource::new(README, call))?;
     }
     Ok(())
 }
 
 // No machine has so much memory, so this is a request that is refused in every run of the tests.
 #[test]
-fn a_sink_with_too_much_room_is_refused(rt: HostRuntime) -> Result<(), Fail> {
+fn a_sink_with_too_much_room_is_refused(rt: HostRuntime) -> Result<()> {
     let refused = MemorySink::new(rt.alloc(), usize::MAX, 0);
     assert!(rt; matches!(&refused, Err(TableError::OutOfMemory)));
     Ok(())
@@ -184,17 +192,16 @@ fn slow_source(fails_at: u64) -> FromReader<SlowReader> {
 
 // One call for each of the eight bytes, and one that reads the end.
 #[test]
-fn a_source_keeps_that_its_reader_failed(rt: HostRuntime) -> Result<(), Fail> {
+fn a_source_keeps_that_its_reader_failed(rt: HostRuntime) -> Result<()> {
     for call in 1..10 {
-        assert_unread(&rt, slow_source(call), call)?;
+        assert_unread(&rt, slow_source(call))?;
     }
     Ok(())
 }
 
 #[test]
-fn a_slow_reader_is_read_to_its_end(rt: HostRuntime) -> Result<(), Fail> {
-    assert_read(&rt, slow_source(10))?;
-    Ok(())
+fn a_slow_reader_is_read_to_its_end(rt: HostRuntime) -> Result<()> {
+    assert_drawn(&rt, slow_source(10), PLAIN, &OUTPUT)
 }
 
 // A writer that takes three bytes at a call, and whose call `fails_at` is an error or takes nothing.
@@ -234,12 +241,12 @@ fn slow_writer(alloc: Global, fails_at: u64, takes_nothing: bool) -> SlowWriter 
 
 // 50 bytes by three are 17 calls.
 #[test]
-fn a_sink_keeps_that_its_writer_failed(rt: HostRuntime) -> Result<(), Fail> {
+fn a_sink_keeps_that_its_writer_failed(rt: HostRuntime) -> Result<()> {
     let output = joined(rt.alloc(), &OUTPUT)?;
     for takes_nothing in [false, true] {
         for calls in 0..17usize {
             let mut writer = slow_writer(rt.alloc(), calls as u64 + 1, takes_nothing);
-            assert_unwritten(&rt, &mut ToWriter::new(&mut writer));
+            assert_unwritten(&rt, INPUT, &mut ToWriter::new(&mut writer));
             let beginning = output.as_bytes().get(..3 * calls);
             assert_eq!(rt; Some(writer.bytes.as_slice()), beginning);
         }
@@ -248,32 +255,16 @@ fn a_sink_keeps_that_its_writer_failed(rt: HostRuntime) -> Result<(), Fail> {
 }
 
 #[test]
-fn a_slow_writer_takes_everything(rt: HostRuntime) -> Result<(), Fail> {
+fn a_slow_writer_takes_everything(rt: HostRuntime) -> Result<()> {
     let mut writer = slow_writer(rt.alloc(), 18, false);
     assert_written(&rt, &mut ToWriter::new(&mut writer));
-    assert_eq!(rt;
-        writer.bytes.as_slice(),
-        joined(rt.alloc(), &OUTPUT)?.as_bytes()
-    );
-    Ok(())
+    assert_lines(&rt, writer.bytes.as_slice(), &OUTPUT)
 }
 
-// Runs on a header and a row of two cells, and compares what is written.
-fn assert_drawn(
-    rt: &(impl Abort + Alloc<A = Global>),
-    settings: Settings,
-    lines: &[&str],
-) -> comfy_table::Result<()> {
-    let mut source = MemorySource::new(b"Hello\tthere\na\tb\n", 0);
-    let mut sink = MemorySink::new(rt.alloc(), 200, 0)?;
-    let answer = run(rt.alloc(), &mut source, &mut sink, settings);
-    assert_eq!(rt; answer, Ok(()));
-    assert_eq!(rt; sink.bytes(), joined(rt.alloc(), lines)?.as_bytes());
-    Ok(())
-}
+const HELLO: &[u8] = b"Hello\tthere\na\tb\n";
 
 #[test]
-fn the_style_is_that_of_the_settings(rt: HostRuntime) -> Result<(), Fail> {
+fn the_style_is_that_of_the_settings(rt: HostRuntime) -> Result<()> {
     let settings = Settings {
         width: Some(5),
         style: ASCII_MARKDOWN,
@@ -284,14 +275,13 @@ fn the_style_is_that_of_the_settings(rt: HostRuntime) -> Result<(), Fail> {
         "|-------|-------|",
         "| a     | b     |",
     ];
-    assert_drawn(&rt, settings, &drawn)?;
-    Ok(())
+    assert_drawn(&rt, MemorySource::new(HELLO, 0), settings, &drawn)
 }
 
 // Borders and paddings take 7 of the 30 columns, and the longest texts 10 of the other 23. Of the 13 that are left the
 // first column gets 7 and the second 6.
 #[test]
-fn the_settings_widen_the_drawing(rt: HostRuntime) -> Result<(), Fail> {
+fn the_settings_widen_the_drawing(rt: HostRuntime) -> Result<()> {
     let settings = Settings {
         width: Some(30),
         arrangement: ContentArrangement::DynamicFullWidth,
@@ -304,16 +294,14 @@ fn the_settings_widen_the_drawing(rt: HostRuntime) -> Result<(), Fail> {
         "| a            | b           |",
         "+--------------+-------------+",
     ];
-    assert_drawn(&rt, settings, &drawn)?;
-    Ok(())
+    assert_drawn(&rt, MemorySource::new(HELLO, 0), settings, &drawn)
 }
 
 // Readers and writers of std.
 #[test]
-fn streams_of_std_are_served(rt: HostRuntime) -> Result<(), Fail> {
-    assert_read(&rt, FromReader::new(INPUT))?;
+fn streams_of_std_are_served(rt: HostRuntime) -> Result<()> {
+    assert_drawn(&rt, FromReader::new(INPUT), PLAIN, &OUTPUT)?;
     let mut bytes = Vec::new(rt.alloc());
     assert_written(&rt, &mut ToWriter::new(&mut bytes));
-    assert_eq!(rt; bytes.as_slice(), joined(rt.alloc(), &OUTPUT)?.as_bytes());
-    Ok(())
+    assert_lines(&rt, bytes.as_slice(), &OUTPUT)
 }

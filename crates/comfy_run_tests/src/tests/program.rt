@@ -1,11 +1,10 @@
 //! What the program writes and reports, and its statuses.
 
-use super::support::joined;
+use super::support::{assert_bytes, assert_lines};
 use comfy_run::run::{MemorySink, MemorySource, RunError, program};
-use comfy_table::TableError;
+use comfy_table::{Result, TableError};
 use std::alloc::{Alloc, AllocError, Global};
 use std::process::Abort;
-use std::test::Fail;
 
 const USAGE: &str = "usage: ctable [WIDTH|- [disabled|dynamic|full [STYLE]]]";
 
@@ -36,269 +35,271 @@ const SMALL: [&str; 5] = [
     "+---+---+",
 ];
 
-// What a run of the program is given besides its words: the input, and the calls at which its devices fail.
+// What a run of the program is given: its words, its input, the calls at which its devices fail, and how many bytes it may
+// write.
 #[derive(Clone, Copy)]
 struct Given {
+    words: &'static [&'static str],
     input: &'static [u8],
     failing_read: u64,
     failing_write: u64,
     failing_report: u64,
+    room: usize,
 }
 
-// An input over devices that don't fail.
-fn sound(input: &'static [u8]) -> Given {
+// The words and the input over devices that don't fail.
+fn sound(words: &'static [&'static str], input: &'static [u8]) -> Given {
     Given {
+        words,
         input,
         failing_read: 0,
         failing_write: 0,
         failing_report: 0,
+        room: 4096,
     }
 }
 
 // Runs the program, and compares its status, the lines that it wrote and those that it reported.
 fn assert_ends(
     rt: &(impl Abort + Alloc<A = Global>),
-    words: &[&str],
     given: Given,
-    ended: (u8, &[&str], &[&str]),
-) -> comfy_table::Result<()> {
+    status: u8,
+    output: &[&str],
+    messages: &[&str],
+) -> Result<()> {
     let mut source = MemorySource::new(given.input, given.failing_read);
-    let mut sink = MemorySink::new(rt.alloc(), 4096, given.failing_write)?;
+    let mut sink = MemorySink::new(rt.alloc(), given.room, given.failing_write)?;
     let mut reports = MemorySink::new(rt.alloc(), 256, given.failing_report)?;
-    let status = program(rt.alloc(), words, &mut source, &mut sink, &mut reports);
-    let (wanted, output, messages) = ended;
-    assert_eq!(rt; status, wanted);
-    assert_eq!(rt; sink.bytes(), joined(rt.alloc(), output)?.as_bytes());
-    assert_eq!(rt; reports.bytes(), joined(rt.alloc(), messages)?.as_bytes());
-    Ok(())
+    let ended = program(
+        rt.alloc(),
+        given.words,
+        &mut source,
+        &mut sink,
+        &mut reports,
+    );
+    assert_eq!(rt; ended, status);
+    assert_lines(rt, sink.bytes(), output)?;
+    assert_lines(rt, reports.bytes(), messages)
 }
 
-#[test]
-fn the_table_of_the_readme_is_drawn(rt: HostRuntime) -> Result<(), Fail> {
-    assert_ends(&rt, &[], sound(README), (0, &DRAWN, &[]))?;
-    Ok(())
-}
+// The words and the input of a run that succeeds, and what it draws.
+type Drawn = (
+    &'static [&'static str],
+    &'static [u8],
+    &'static [&'static str],
+);
 
-// The picture that the README has of these arguments.
-#[test]
-fn the_table_of_the_readme_keeps_to_a_width(rt: HostRuntime) -> Result<(), Fail> {
-    let drawn = [
-        "┌────────────┬────────────┬────────────┐",
-        "│ Header1    ┆ Header2    ┆ Header3    │",
-        "╞════════════╪════════════╪════════════╡",
-        "│ This is a  ┆ This is    ┆ This is    │",
-        "│ text       ┆ another    ┆ the third  │",
-        "│            ┆ text       ┆ text       │",
-        "├╌╌╌╌╌╌╌╌╌╌╌╌┼╌╌╌╌╌╌╌╌╌╌╌╌┼╌╌╌╌╌╌╌╌╌╌╌╌┤",
-        "│ This is    ┆ Now        ┆ This is    │",
-        "│ another    ┆ add some   ┆ awesome    │",
-        "│ text       ┆ multi line ┆            │",
-        "│            ┆ stuff      ┆            │",
-        "└────────────┴────────────┴────────────┘",
-    ];
-    let words = ["40", "dynamic", "UTF8_FULL"];
-    assert_ends(&rt, &words, sound(README), (0, &drawn, &[]))?;
-    Ok(())
-}
+const DRAWINGS: [Drawn; 13] = [
+    (&[], README, &DRAWN),
+    // the picture that the README has of these arguments
+    (
+        &["40", "dynamic", "UTF8_FULL"],
+        README,
+        &[
+            "┌────────────┬────────────┬────────────┐",
+            "│ Header1    ┆ Header2    ┆ Header3    │",
+            "╞════════════╪════════════╪════════════╡",
+            "│ This is a  ┆ This is    ┆ This is    │",
+            "│ text       ┆ another    ┆ the third  │",
+            "│            ┆ text       ┆ text       │",
+            "├╌╌╌╌╌╌╌╌╌╌╌╌┼╌╌╌╌╌╌╌╌╌╌╌╌┼╌╌╌╌╌╌╌╌╌╌╌╌┤",
+            "│ This is    ┆ Now        ┆ This is    │",
+            "│ another    ┆ add some   ┆ awesome    │",
+            "│ text       ┆ multi line ┆            │",
+            "│            ┆ stuff      ┆            │",
+            "└────────────┴────────────┴────────────┘",
+        ],
+    ),
+    // no input is an empty table
+    (&[], b"", &["++", "++"]),
+    // the last line feed may be missing, and a carriage return before a line feed is dropped
+    (&[], b"a\tb\nc\td\n", &SMALL),
+    (&[], b"a\tb\nc\td", &SMALL),
+    (&[], b"a\tb\r\nc\td\r\n", &SMALL),
+    // a TAB divides two cells
+    (
+        &[],
+        b"\t\n",
+        &["+---+---+", "|   |   |", "+=======+", "+---+---+"],
+    ),
+    // a vertical TAB breaks a line in a cell
+    (
+        &[],
+        b"a\nb\x0bc\td",
+        &[
+            "+---+---+",
+            "| a |   |",
+            "+=======+",
+            "| b | d |",
+            "| c |   |",
+            "+---+---+",
+        ],
+    ),
+    // both words write the number 0, so each column has one terminal column for its content
+    (&["0", "dynamic"], b"ab\tcd\n", &NARROW),
+    (&["000", "dynamic"], b"ab\tcd\n", &NARROW),
+    (&["000"], b"a\tb\nc\td\n", &SMALL),
+    (
+        &["11", "full"],
+        b"a\tb\n",
+        &["+----+----+", "| a  | b  |", "+=========+", "+----+----+"],
+    ),
+    (
+        &["-", "disabled", "ASCII_MARKDOWN"],
+        b"Hello\tthere\na\tb\n",
+        &[
+            "| Hello | there |",
+            "|-------|-------|",
+            "| a     | b     |",
+        ],
+    ),
+];
+
+const NARROW: [&str; 5] = [
+    "+---+---+",
+    "| a | c |",
+    "| b | d |",
+    "+=======+",
+    "+---+---+",
+];
 
 #[test]
-fn no_input_is_an_empty_table(rt: HostRuntime) -> Result<(), Fail> {
-    assert_ends(&rt, &[], sound(b""), (0, &["++", "++"], &[]))?;
-    Ok(())
-}
-
-// The last line feed may be missing, and a carriage return before a line feed is dropped.
-#[test]
-fn lines_end_in_three_ways(rt: HostRuntime) -> Result<(), Fail> {
-    for input in [
-        b"a\tb\nc\td\n".as_slice(),
-        b"a\tb\nc\td".as_slice(),
-        b"a\tb\r\nc\td\r\n".as_slice(),
-    ] {
-        assert_ends(&rt, &[], sound(input), (0, &SMALL, &[]))?;
+fn tables_are_drawn(rt: HostRuntime) -> Result<()> {
+    for (words, input, drawn) in &DRAWINGS {
+        assert_ends(&rt, sound(words, input), 0, drawn, &[])?;
     }
     Ok(())
 }
 
+// Sequences are left alone.
 #[test]
-fn a_tab_divides_two_cells(rt: HostRuntime) -> Result<(), Fail> {
+fn sequences_are_drawn_as_they_are(rt: HostRuntime) -> Result<()> {
     let drawn = [
-        "+---+---+", //
-        "|   |   |",
-        "+=======+",
-        "+---+---+",
+        "+------------+",
+        "| h          |",
+        "+============+",
+        "| \u{1b}[1mab\u{1b}[0m |",
+        "+------------+",
     ];
-    assert_ends(&rt, &[], sound(b"\t\n"), (0, &drawn, &[]))?;
-    Ok(())
+    let given = sound(&[], b"h\n\x1b[1mab\x1b[0m\n");
+    assert_ends(&rt, given, 0, &drawn, &[])
 }
 
-#[test]
-fn a_vertical_tab_breaks_a_line_in_a_cell(rt: HostRuntime) -> Result<(), Fail> {
-    let drawn = [
-        "+---+---+",
-        "| a |   |",
-        "+=======+",
-        "| b | d |",
-        "| c |   |",
-        "+---+---+",
-    ];
-    assert_ends(&rt, &[], sound(b"a\nb\x0bc\td"), (0, &drawn, &[]))?;
-    Ok(())
-}
+const NOT_UTF8: [&str; 1] = ["ctable: the input isn't UTF-8"];
 
 #[test]
-fn bytes_that_are_no_text_are_refused(rt: HostRuntime) -> Result<(), Fail> {
-    let refused = ["ctable: the input isn't UTF-8"];
-    assert_ends(&rt, &[], sound(b"\xff"), (1, &[], &refused))?;
-    assert_ends(&rt, &[], sound(b"a\n\xe2\x9c"), (1, &[], &refused))?;
-    Ok(())
+fn bytes_that_are_no_text_are_refused(rt: HostRuntime) -> Result<()> {
+    assert_ends(&rt, sound(&[], b"\xff"), 1, &[], &NOT_UTF8)?;
+    assert_ends(&rt, sound(&[], b"a\n\xe2\x9c"), 1, &[], &NOT_UTF8)
 }
 
-// Both words write the number 0, so each column has one terminal column for its content.
+// Other widths, and other words behind a width.
+const REFUSED: [&[&str]; 8] = [
+    &[""],
+    &["65536"],
+    &["000000"],
+    &["+5"],
+    &["--help"],
+    &["\u{fffd}"],
+    &["20", "full", "FANCY"],
+    &["-", "disabled", "ASCII_FULL", "-"],
+];
+
+// A source that fails at once shows that it isn't read.
 #[test]
-fn a_table_keeps_to_a_width(rt: HostRuntime) -> Result<(), Fail> {
-    let drawn = [
-        "+---+---+",
-        "| a | c |",
-        "| b | d |",
-        "+=======+",
-        "+---+---+",
-    ];
-    for width in ["0", "000"] {
-        let words = [width, "dynamic"];
-        assert_ends(&rt, &words, sound(b"ab\tcd\n"), (0, &drawn, &[]))?;
+fn other_words_are_refused(rt: HostRuntime) -> Result<()> {
+    for words in &REFUSED {
+        let given = Given {
+            failing_read: 1,
+            ..sound(words, b"a\n")
+        };
+        assert_ends(&rt, given, 2, &[], &[USAGE])?;
     }
-    assert_ends(&rt, &["000"], sound(b"a\tb\nc\td\n"), (0, &SMALL, &[]))?;
-    Ok(())
-}
-
-#[test]
-fn a_table_fills_a_width(rt: HostRuntime) -> Result<(), Fail> {
-    let drawn = ["+----+----+", "| a  | b  |", "+=========+", "+----+----+"];
-    assert_ends(&rt, &["11", "full"], sound(b"a\tb\n"), (0, &drawn, &[]))?;
-    Ok(())
-}
-
-#[test]
-fn a_style_is_named(rt: HostRuntime) -> Result<(), Fail> {
-    let drawn = [
-        "| Hello | there |", //
-        "|-------|-------|",
-        "| a     | b     |",
-    ];
-    let words = ["-", "disabled", "ASCII_MARKDOWN"];
-    assert_ends(
-        &rt,
-        &words,
-        sound(b"Hello\tthere\na\tb\n"),
-        (0, &drawn, &[]),
-    )?;
-    Ok(())
-}
-
-// Compares the usage line and the status. A source that fails at once shows that it isn't read.
-fn assert_refused(
-    rt: &(impl Abort + Alloc<A = Global>),
-    words: &[&str],
-) -> comfy_table::Result<()> {
-    let given = Given {
-        failing_read: 1,
-        ..sound(b"a\n")
-    };
-    assert_ends(rt, words, given, (2, &[], &[USAGE]))
-}
-
-#[test]
-fn other_widths_are_refused(rt: HostRuntime) -> Result<(), Fail> {
-    for word in ["", "65536", "000000", "+5", "--help", "\u{fffd}"] {
-        assert_refused(&rt, &[word])?;
-    }
-    Ok(())
-}
-
-#[test]
-fn other_words_are_refused(rt: HostRuntime) -> Result<(), Fail> {
-    assert_refused(&rt, &["20", "full", "FANCY"])?;
-    assert_refused(&rt, &["-", "disabled", "ASCII_FULL", "-"])?;
     Ok(())
 }
 
 // One read gives the input, and one shows its end.
 #[test]
-fn a_failing_source_is_reported(rt: HostRuntime) -> Result<(), Fail> {
+fn a_failing_source_is_reported(rt: HostRuntime) -> Result<()> {
     for failing_read in [1, 2] {
         let given = Given {
             failing_read,
-            ..sound(README)
+            ..sound(&[], README)
         };
-        let reported = ["ctable: the input can't be read"];
-        assert_ends(&rt, &[], given, (1, &[], &reported))?;
+        assert_ends(&rt, given, 1, &[], &["ctable: the input can't be read"])?;
     }
     Ok(())
 }
 
+const UNWRITTEN: [&str; 1] = ["ctable: the output can't be written"];
+
 // The drawing is one write.
 #[test]
-fn a_failing_sink_is_reported(rt: HostRuntime) -> Result<(), Fail> {
+fn a_failing_sink_is_reported(rt: HostRuntime) -> Result<()> {
     let given = Given {
         failing_write: 1,
-        ..sound(README)
+        ..sound(&[], README)
     };
-    let reported = ["ctable: the output can't be written"];
-    assert_ends(&rt, &[], given, (1, &[], &reported))?;
-    Ok(())
+    assert_ends(&rt, given, 1, &[], &UNWRITTEN)
 }
 
 // A sink with room for ten bytes takes the first ten.
 #[test]
-fn a_full_sink_is_reported(rt: HostRuntime) -> Result<(), Fail> {
-    let mut source = MemorySource::new(README, 0);
-    let mut sink = MemorySink::new(rt.alloc(), 10, 0)?;
-    let mut reports = MemorySink::new(rt.alloc(), 256, 0)?;
-    let status = program(rt.alloc(), &[], &mut source, &mut sink, &mut reports);
-    assert_eq!(rt; status, 1);
-    assert_eq!(rt; sink.bytes(), b"+---------".as_slice());
-    assert_eq!(rt;
-        reports.bytes(),
-        b"ctable: the output can't be written\n".as_slice()
-    );
-    Ok(())
+fn a_full_sink_is_reported(rt: HostRuntime) -> Result<()> {
+    let given = Given {
+        room: 10,
+        ..sound(&[], b"a\tb\nc\td\n")
+    };
+    assert_ends(&rt, given, 1, &SMALL[..1], &UNWRITTEN)
 }
+
+// Words, an input, and the status and the output that they have.
+type Ended = (
+    &'static [&'static str],
+    &'static [u8],
+    u8,
+    &'static [&'static str],
+);
+
+const UNREPORTED: [Ended; 3] = [
+    (&[], b"a\tb\nc\td\n", 0, &SMALL),
+    (&[], b"\xff", 1, &[]),
+    (&["x"], b"a\n", 2, &[]),
+];
 
 // A fault of the sink for reports changes no status.
 #[test]
-fn a_failing_report_changes_nothing(rt: HostRuntime) -> Result<(), Fail> {
-    let given = Given {
-        failing_report: 1,
-        ..sound(b"a\tb\nc\td\n")
-    };
-    assert_ends(&rt, &[], given, (0, &SMALL, &[]))?;
-    let given = Given {
-        failing_report: 1,
-        ..sound(b"\xff")
-    };
-    assert_ends(&rt, &[], given, (1, &[], &[]))?;
-    let given = Given {
-        failing_report: 1,
-        ..sound(b"a\n")
-    };
-    assert_ends(&rt, &["x"], given, (2, &[], &[]))?;
+fn a_failing_report_changes_nothing(rt: HostRuntime) -> Result<()> {
+    for (words, input, status, output) in &UNREPORTED {
+        let given = Given {
+            failing_report: 1,
+            ..sound(words, input)
+        };
+        assert_ends(&rt, given, *status, output, &[])?;
+    }
+    Ok(())
+}
+
+// Each error, and its words.
+const WORDS: [(RunError, &str); 4] = [
+    (RunError::Read, "the input can't be read"),
+    (RunError::Write, "the output can't be written"),
+    (RunError::NotUtf8, "the input isn't UTF-8"),
+    (RunError::Table(TableError::OutOfMemory), "out of memory"),
+];
+
+#[test]
+fn errors_have_their_words(rt: HostRuntime) -> Result<()> {
+    for (error, words) in &WORDS {
+        let shown = error.to_string(rt.alloc())?;
+        assert_bytes(&rt, shown.as_str().as_bytes(), words.as_bytes());
+    }
     Ok(())
 }
 
 #[test]
-fn errors_have_their_words(rt: HostRuntime) -> Result<(), Fail> {
-    for (error, words) in [
-        (RunError::Read, "the input can't be read"),
-        (RunError::Write, "the output can't be written"),
-        (RunError::NotUtf8, "the input isn't UTF-8"),
-        (RunError::Table(TableError::OutOfMemory), "out of memory"),
-    ] {
-        let shown = error.to_string(rt.alloc())?;
-        assert_eq!(rt; shown.as_str(), words);
-    }
+fn errors_become_those_of_a_run(rt: HostRuntime) {
     let lacking = RunError::Table(TableError::OutOfMemory);
     assert_eq!(rt; RunError::from(AllocError), lacking);
     assert_eq!(rt; RunError::from(TableError::OutOfMemory), lacking);
-    Ok(())
 }

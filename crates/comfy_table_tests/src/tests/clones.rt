@@ -3,7 +3,6 @@
 use super::support::assert_drawn;
 use comfy_table::{Result, Table};
 use std::alloc::Global;
-use std::test::Fail;
 
 const DRAWN: [&str; 5] = [
     "+----+--------+",
@@ -30,11 +29,10 @@ fn change(table: &mut Table) -> Result<()> {
 }
 
 #[test]
-fn a_table_is_copied(rt: HostRuntime) -> std::result::Result<(), Fail> {
+fn a_table_is_copied(rt: HostRuntime) -> Result<()> {
     let mut table = bikes(rt.alloc())?;
     let copy = table.clone()?;
     assert_drawn(&rt, &copy, &DRAWN)?;
     change(&mut table)?;
-    assert_drawn(&rt, &copy, &DRAWN)?;
-    Ok(())
+    assert_drawn(&rt, &copy, &DRAWN)
 }

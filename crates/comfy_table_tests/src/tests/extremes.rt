@@ -1,18 +1,15 @@
-//! Columns in each other's place, numbers at the ends of their types, and delimiters of two terminal columns.
+//! Columns in each other's place, replaced rows, and numbers at the ends of their types.
 
 use super::support::assert_drawn;
 use comfy_table::utils::arrangement::arrange_content;
-use comfy_table::{
-    Column, ColumnConstraint, ContentArrangement, IntoRow, Result, Row, Table, Width,
-};
+use comfy_table::{Column, ContentArrangement, IntoRow, Result, Table};
 use std::alloc::Global;
 use std::mem;
 use std::process::Abort;
-use std::test::Fail;
 
 fn table_of<T: IntoRow>(alloc: Global, row: T) -> Result<Table> {
     let mut table = Table::new(alloc);
-    table.add_row(row)?;
+    table.try_add_row(row)?;
     Ok(table)
 }
 
@@ -37,16 +34,23 @@ fn exchange_columns(table: &mut Table) {
     }
 }
 
-// Each drawn line has so many characters.
-fn assert_counts(rt: &impl Abort, table: &Table, count: usize) -> Result<()> {
+// Each column has such a width, and each drawn line so many characters.
+fn assert_widths(rt: &impl Abort, table: &Table, width: usize, count: usize) -> Result<()> {
+    for info in &arrange_content(table)? {
+        assert_eq!(rt; info.width(), width);
+    }
     for line in table.lines()? {
-        assert_eq!(rt; line.as_str().chars().count(), count);
+        assert_count(rt, line.as_str(), count);
     }
     Ok(())
 }
 
+fn assert_count(rt: &impl Abort, line: &str, count: usize) {
+    assert_eq!(rt; line.chars().count(), count);
+}
+
 #[test]
-fn the_place_of_a_column_decides(rt: HostRuntime) -> std::result::Result<(), Fail> {
+fn the_place_of_a_column_decides(rt: HostRuntime) -> Result<()> {
     let drawn = ["+----+--+", "| ab |cd|", "+----+--+"];
     let mut table = table_of(rt.alloc(), ["ab", "cd"])?;
     set_padding(&mut table, (0, 0));
@@ -55,55 +59,38 @@ fn the_place_of_a_column_decides(rt: HostRuntime) -> std::result::Result<(), Fai
     for column in table.column_iter_mut() {
         column.index = 7;
     }
-    assert_drawn(&rt, &table, &drawn)?;
-    Ok(())
+    assert_drawn(&rt, &table, &drawn)
 }
 
-#[test]
-fn a_longer_row_shows_the_cells_of_known_columns(rt: HostRuntime) -> std::result::Result<(), Fail> {
-    let mut table = table_of(rt.alloc(), ["a"])?;
-    let longer: Row = ["x", "y", "z"].into_row(rt.alloc())?;
+// Puts a row of three cells in the place of the first.
+fn replace_row(alloc: Global, table: &mut Table) -> Result<()> {
+    let longer = ["x", "y", "z"].into_row(alloc)?;
     if let Some(row) = table.row_mut(0) {
         *row = longer;
     }
-    assert_drawn(&rt, &table, &["+---+", "| x |", "+---+"])?;
     Ok(())
 }
 
 #[test]
-fn the_widest_paddings_are_drawn(rt: HostRuntime) -> std::result::Result<(), Fail> {
+fn a_longer_row_shows_the_cells_of_known_columns(rt: HostRuntime) -> Result<()> {
+    let mut table = table_of(rt.alloc(), ["a"])?;
+    replace_row(rt.alloc(), &mut table)?;
+    assert_drawn(&rt, &table, &["+---+", "| x |", "+---+"])
+}
+
+#[test]
+fn the_widest_paddings_are_drawn(rt: HostRuntime) -> Result<()> {
     let mut table = table_of(rt.alloc(), ["a"])?;
     set_padding(&mut table, (65535, 65535));
-    for column in table.column_iter() {
-        assert_eq!(&rt; column.padding_width(), 65535);
-    }
-    for info in &arrange_content(&table)? {
-        assert_eq!(&rt; info.width(), 131071);
-    }
-    assert_counts(&rt, &table, 131073)?;
-    Ok(())
+    assert_widths(&rt, &table, 131071, 131073)
 }
 
+// The one column has a content of 65531 terminal columns, and its paddings.
 #[test]
-fn the_widest_table_is_filled(rt: HostRuntime) -> std::result::Result<(), Fail> {
+fn the_widest_table_is_filled(rt: HostRuntime) -> Result<()> {
     let mut table = table_of(rt.alloc(), ["a"])?;
     table
         .set_content_arrangement(ContentArrangement::DynamicFullWidth)
         .set_width(65535);
-    for info in &arrange_content(&table)? {
-        assert_eq!(&rt; info.content_width, 65531);
-    }
-    assert_counts(&rt, &table, 65535)?;
-    Ok(())
-}
-
-#[test]
-fn a_wide_delimiter_can_stand_past_the_edge(rt: HostRuntime) -> std::result::Result<(), Fail> {
-    let mut table = table_of(rt.alloc(), ["ab年cd"])?;
-    table.set_delimiter('年');
-    if let Some(column) = table.column_mut(0) {
-        column.set_constraint(ColumnConstraint::Absolute(Width::Fixed(7)));
-    }
-    assert_drawn(&rt, &table, &["+-------+", "| ab年cd |", "+-------+"])?;
-    Ok(())
+    assert_widths(&rt, &table, 65533, 65535)
 }

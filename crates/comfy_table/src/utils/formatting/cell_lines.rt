@@ -1,6 +1,6 @@
 //! The lines of a cell in its row: its text lines wrapped at the column's width, and cut to the row's height.
 
-ghost use Rattle.std.specs.Prelude.{◌≡◌, ◌++◌, ◌&&◌, IfOk, OnOk, length, map, nat_le, option_map, slice_get, string_bytes};
+ghost use Rattle.std.specs.Prelude.{◌≡◌, ◌++◌, ◌&&◌, IfOk, IsOk, None, OnOk, false, true, length, map, nat_le, option_map, slice_get, string_bytes};
 ghost use Rattle.std.specs.List.{list_all, list_any};
 ghost use Rattle.comfy_parts.specs.Text.{measure};
 ghost use Rattle.comfy_parts.specs.VisibleText.{has_escape};
@@ -90,7 +90,8 @@ pub fn row_cell_lines<'a>(
     cell: &'a Cell,
     info: &ColumnDisplayInfo,
 ) -> Result<CellLines<'a>>
-    ensures { IfOk result (λ lines. lines ≡ map drawn_line (row_cell_lines table.now row.now info.now cell.now)) }
+    ensures lines { IfOk result (λ lines. lines ≡ map drawn_line (row_cell_lines table.now row.now info.now cell.now)) }
+    ensures succeeds { row.now.max_height ≡ None → table.now.custom_styling ≡ false → list_all (λ columns. nat_le columns info.now.content_width) (map measure cell.now.text_lines) ≡ true → IsOk result }
 {
     let texts = table.seen_lines(cell);
     let widths = table.seen_widths(cell);

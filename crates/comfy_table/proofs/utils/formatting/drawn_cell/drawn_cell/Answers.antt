@@ -9,4 +9,4 @@ returns c =
     let info = c.args.info.now in
     let cell = c.in-Some.cell.now in
     let found : slice_get row.cells c.args.position ≡ Some cell = grind arith in
-    λ i. record { info = info; pieces = content_pieces c.args.table.now row info (slice_get row.cells c.args.position) cell c.in_ok-lines.lines found c.in_ok-lines.ensures i }
+    λ i. record { info = info; pieces = content_pieces c.args.table.now row info (slice_get row.cells c.args.position) cell c.in_ok-lines.lines found c.in_ok-lines.ensures.lines i }
