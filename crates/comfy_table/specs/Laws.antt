@@ -132,7 +132,7 @@ JoinedLinesAreFound lines = 0 < length lines → All HasNoBreak lines → slice_
 abbrev pub NoLinesAreOneEmptyLine : Type 0
 NoLinesAreOneEmptyLine = text_of [] ≡ text_of ([] ∷ [])
 
--- lines that are each followed by a line feed stand between the line feeds too, and an empty text stands behind the last one
+-- lines that are each followed by a line feed stand between the line feeds too, and an empty text stands after the last one
 abbrev pub TerminatedLinesAreFound : List Text → Type 0
 TerminatedLinesAreFound lines = All HasNoBreak lines → slice_split (λ b. b == 0x0A) (terminated_text_of lines) ≡ lines ++ [] ∷ []
 

@@ -42,7 +42,7 @@ pub fn frame_lines_keep_to_the_width()
 {}
 
 /// Lines without line feeds are found in their texts. Joined by line feeds they stand between these, if there is a line; no
-/// lines have the text of one empty line. Where each is followed by a line feed, an empty text stands behind the last one.
+/// lines have the text of one empty line. Where each is followed by a line feed, an empty text stands after the last one.
 pub fn lines_are_found_in_their_texts()
     ensures joined { (lines : List Text) → JoinedLinesAreFound lines }
     ensures none { NoLinesAreOneEmptyLine }
