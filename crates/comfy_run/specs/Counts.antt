@@ -30,7 +30,7 @@ module _ (width : Option ℕ) (arrangement : ContentArrangement) (style : TableS
   abbrev table : TableValue
   table = input_table width arrangement style input
 
-  -- it has the settings that were passed and no others: no column has a constraint, and nothing is styled
+  -- it has the width, arrangement and style that were passed; no column has a constraint, and nothing is styled
   pub record HasSettings : Type 0 where
     pub width_is : table_width table ≡ width
     pub arrangement_is : table.arrangement ≡ arrangement

@@ -15,9 +15,8 @@ pub fn outputs_are_straight()
     ensures adds_up { (width : Option ℕ) (arrangement : ContentArrangement) (style : TableStyle) (input output : Text) → OutputIsStraight width arrangement style input output }
 {}
 
-/// The table of an input has the width, arrangement and style that were passed and no other setting: no column has a
-/// constraint, and nothing is styled. An input of printable ASCII, TAB, U+000B and line ends gives cells of printable
-/// ASCII.
+/// The table of an input has the width, arrangement and style that were passed. No column has a constraint, and nothing is
+/// styled. An input of printable ASCII, TAB, U+000B and line ends gives cells of printable ASCII.
 pub fn input_tables_have_their_settings()
     ensures settings { (width : Option ℕ) (arrangement : ContentArrangement) (style : TableStyle) (input : Text) → HasSettings width arrangement style input }
     ensures plain { (width : Option ℕ) (arrangement : ContentArrangement) (style : TableStyle) (input : Text) → PlainInputHasPlainCells width arrangement style input }

@@ -1,5 +1,5 @@
 -- Styled pieces, and lines with sequences, computed.
-use Rattle.std.proofs.Common.{◌≡◌, [], ◌∷◌, refl, Option, Some, None, true, false, Bool, List, lit≤}
+use Rattle.std.proofs.Common.{◌≡◌, [], ◌∷◌, refl, Option, Some, None, true, false, Bool, List, lit≤, map}
 use Rattle.std.specs.Prelude.{codes}
 use Prim.Native.String.{String}
 use Rattle.std.specs.Fmt.{digits}
@@ -14,7 +14,8 @@ use Rattle.definition_trials.proofs.TrialTables.{texts}
 use Rattle.comfy_table.specs.Lines.{as_seen}
 use Rattle.comfy_table.specs.Pieces.{piece}
 use Rattle.comfy_table.specs.TableValue.{TableValue, new_table, with_row, max_content_widths, seen_table}
-use Rattle.comfy_parts.specs.VisibleLines.{CellLine, line_texts}
+use Rattle.comfy_parts.specs.Laws.{characters_without}
+use Rattle.comfy_parts.specs.VisibleLines.{CellLine, LineStart, line_starts, line_texts}
 use Rattle.comfy_table.specs.Drawing.{drawing}
 use Rattle.comfy_table.specs.Arrangement.{IsDrawingOf}
 use Rattle.comfy_parts.specs.declared.style.table.ContentArrangement.TheVariants.{Dynamic}
@@ -145,3 +146,13 @@ inside_a_sequence_nothing_divides = refl
 round_the_line : drawing (record (custom_cell (record (plain_cell (codes "\u{1b}[1mx")) { foreground = Some Green })) { enforce_styling = true; style_text_only = true }) (2 ∷ []) ≡ texts ("+----+" ∷ "| \u{1b}[38;5;10m\u{1b}[1mx\u{1b}[0m\u{1b}[39m  |" ∷ "+----+" ∷ [])
 unfolding wrapping
 round_the_line = refl
+
+-- each line begins where it is resumed: in its own text line, at its first visible byte
+begins_in_its_text_line : map (λ (start : LineStart). start.at) (line_starts 2 0x20 (codes "\u{1b}[1mab\u{1b}[mcd" ∷ codes "e" ∷ [])) ≡ 0 ∷ 2 ∷ 0 ∷ []
+unfolding wrapping
+begins_in_its_text_line = refl
+
+-- a text without its delimiters
+spaces_left_out : characters_without 0x20 (codes "a  b c ") ≡ codes "abc"
+unfolding wrapping
+spaces_left_out = refl

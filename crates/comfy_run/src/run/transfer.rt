@@ -24,7 +24,7 @@ const CHUNK: usize = 4096;
 /// The result says which device failed: `Read` comes only where a call of the source failed, `Write`
 /// only where a call of the sink failed. After `Ok` and every other error, no call of either failed;
 /// after `Ok` the end of the source was read. That holds of all devices, the standard streams among
-/// them. What was read and written is told of devices that tell their bytes.
+/// them. Which bytes were read and written is said of devices whose bytes are known.
 ///
 /// ```
 /// let mut source = FromReader::new(rt.stdin());
@@ -40,7 +40,7 @@ pub fn run<R: Source, W: Sink>(
     ensures ended { OnOk result (R.end_was_read source.new ≡ true) }
     ensures source { R.has_failed source.new ≡ is_read_fault result }
     ensures sink { W.has_failed sink.old ≡ false → W.has_failed sink.new ≡ is_write_fault result }
-    ensures told { Between
+    ensures known { Between
         (record { remaining = R.remaining source.old; end_was_read = R.end_was_read source.old; read_failed = R.has_failed source.old; taken = W.taken sink.old; write_failed = W.has_failed sink.old })
         (record { remaining = R.remaining source.new; end_was_read = R.end_was_read source.new; read_failed = R.has_failed source.new; taken = W.taken sink.new; write_failed = W.has_failed sink.new })
         (IsAfter settings result) }

@@ -12,7 +12,7 @@ returns-in-Ok-clause-ran g c = λ settings is.
       refl,
       nothing_reported _ _,
       λ input had known taken read write.
-          let happened = c.in-Ok.ensures.told input had known taken read write in
+          let happened = c.in-Ok.ensures.known input had known taken read write in
           let facts : RunFacts = record { input = input; end_was_read = g.R.Source.end_was_read c.run.new.source; written = happened.0; read_failed = g.R.Source.has_failed c.run.new.source; write_failed = g.W.Sink.has_failed c.run.new.sink } in
           (happened.0, happened.1, after_same c.in-Some.settings settings answer facts plain happened.2),
     )
@@ -25,7 +25,7 @@ returns-in-Err-clause-ran g c = λ settings is.
       refl,
       rw (← c.line_for.ensures) c.report-in-Err.ensures,
       λ input had known taken read write.
-          let happened = c.in-Err.ensures.told input had known taken read write in
+          let happened = c.in-Err.ensures.known input had known taken read write in
           let facts : RunFacts = record { input = input; end_was_read = g.R.Source.end_was_read c.run.new.source; written = happened.0; read_failed = g.R.Source.has_failed c.run.new.source; write_failed = g.W.Sink.has_failed c.run.new.sink } in
           (happened.0, happened.1, after_same c.in-Some.settings settings answer facts plain happened.2),
     )
