@@ -1,7 +1,10 @@
 -- Spaces that are written in runs, and the pieces that they make.
 use Rattle.std.proofs.Common.{◌≡◌, true, false, ℕ, ◌+◌, ◌-◌, ◌<◌, ◌≤◌, ◌++◌, length, take, ap, sym, ◌∙◌, arith, append_assoc, slice_index_or}
 use Rattle.std.proofs.lemmas.List.{get_or-replicate, length-replicate, replicate-append-replicate, take-replicate}
-use Rattle.std.specs.Prelude.{Result, Ok, Err, OnOk}
+use Rattle.std.proofs.lemmas.List.Elements.{All-replicate}
+use Rattle.std.proofs.lemmas.Str.{IsUtf8-from_ascii}
+use Rattle.std.proofs.lemmas.Str.Ascii.{IsAscii-from_all}
+use Rattle.std.specs.Prelude.{Result, Ok, Err, OnOk, IsUtf8}
 use Rattle.comfy_parts.specs.CellValue.{CellValue, ColumnInfo}
 use Rattle.comfy_parts.specs.Text.{Text, spaces}
 use Rattle.comfy_parts.specs.declared.style.cell.CellAlignment.{CellAlignment}
@@ -77,3 +80,7 @@ three-pushed old a b one two new c first second third = grind (arith, append_ass
 pub last-pushed : {T E : Type 0} (r : Result T E) (new before c : Text) (wanted : Text) → (new ≡ before ++ c → new ≡ wanted) → OnOk r (new ≡ before ++ c) → OnOk r (new ≡ wanted)
 last-pushed (Ok x) new before c wanted gives pushed = gives pushed
 last-pushed (Err e) new before c wanted gives pushed = pushed
+
+-- spaces are whole characters
+pub spaces-utf8 : (n : ℕ) → IsUtf8 (spaces n)
+spaces-utf8 n = IsUtf8-from_ascii (spaces n) (IsAscii-from_all (spaces n) (All-replicate (λ (b : ℕ). b < 128) n 0x20 (omega arith)))

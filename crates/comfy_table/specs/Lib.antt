@@ -15,6 +15,7 @@ pub mod LongestLine
 pub mod NewTables
 pub mod Output
 pub mod Pieces
+pub mod PlainRows
 pub mod Predicate
 pub mod Straight
 pub mod Styling

@@ -5,8 +5,10 @@ mod cell_lines;
 pub mod content_format;
 mod drawing;
 mod drawn_cell;
+mod gap;
 mod output;
 mod piece;
+mod plain_rows;
 mod styling;
 
 pub(crate) use drawing::draw;

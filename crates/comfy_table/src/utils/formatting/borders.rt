@@ -94,8 +94,8 @@ fn needs_junction(vertical: bool, position: usize) -> bool
     vertical && position > 0
 }
 
-// Appends a character of the style, a space for a missing one, where it is drawn.
-fn push_border(text: &mut String, drawn: bool, part: Option<char>) -> Result<()>
+/// Appends a character of the style, a space for a missing one, where it is drawn.
+pub(crate) fn push_border(text: &mut String, drawn: bool, part: Option<char>) -> Result<()>
     ensures { OnOk result (string_bytes text.new ≡ string_bytes text.old ++ (if drawn then character part else [])) }
 {
     if drawn {

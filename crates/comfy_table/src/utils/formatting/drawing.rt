@@ -11,6 +11,7 @@ use crate::table::Table;
 use crate::utils::formatting::borders::{optional_frame_line, push_content_line};
 use crate::utils::formatting::drawn_cell::{DrawnCell, drawn_cells, greatest_height};
 use crate::utils::formatting::output::{Output, OutputForm};
+use crate::utils::formatting::plain_rows::PlainRows;
 use comfy_parts::content_split::ColumnDisplayInfo;
 use comfy_parts::style::{ContentLineStyle, LineStyle};
 use comfy_parts::{Result, Row};
@@ -36,19 +37,21 @@ struct Writer<'a> {
     infos: &'a [ColumnDisplayInfo],
     // the whole widths of the visible columns
     widths: Vec<usize>,
+    // what draws the rows that are plain, where there may be such
+    plain: Option<PlainRows<'a>>,
     // the line that is drawn now
     line: String,
     output: Output,
 }
 
 impl<'a> Model for Writer<'a> {
-    ghost use Rattle.std.specs.Prelude.{◌≡◌};
+    ghost use Rattle.std.specs.Prelude.{◌≡◌, IfSome};
     ghost use Rattle.comfy_table.specs.Drawing.{whole_widths};
     ghost use Rattle.comfy_table.specs.Output.{WriterValue};
 
     ghost Value = { WriterValue };
 
-    ghost invariant = { λ w. w.widths.items ≡ whole_widths w.infos.now };
+    ghost invariant = { λ w. (w.widths.items ≡ whole_widths w.infos.now) × IfSome w.plain (λ plain. plain ≡ record { table = w.table.now; infos = w.infos.now }) };
 
     ghost view = { λ w. record { table = w.table.now; infos = w.infos.now; output = w.output } };
 }
@@ -62,6 +65,7 @@ impl<'a> Writer<'a> {
             table,
             infos,
             widths: whole_widths(alloc, infos)?,
+            plain: PlainRows::new(table, infos)?,
             line: String::new(alloc),
             output: Output::new(alloc, form),
         })
@@ -109,7 +113,7 @@ impl<'a> Writer<'a> {
         let rows = table.rows.as_slice();
         for (position, row) in rows.iter().enumerate() {
             self.write_separator(separator, position)?;
-            self.write_row(&table.style.content_lines, row)?;
+            self.write_content_row(row)?;
         }
         Ok(())
     }
@@ -124,6 +128,19 @@ impl<'a> Writer<'a> {
             self.output.push_line(text.as_str())?;
         }
         Ok(())
+    }
+
+    // The lines of a row that isn't the header. Most rows of most tables are plain.
+    fn write_content_row(&mut self, row: &'a Row) -> Result<()>
+        ensures { OnOk result (self.new ≡ with_written (drawn_row self.old.table self.old.infos self.old.table.style.content_lines row.now) self.old) }
+    {
+        if let Some(plain) = &self.plain
+            && plain.set_line(&mut self.line, row)?
+        {
+            return self.output.push_line(self.line.as_str());
+        }
+        let table = self.table;
+        self.write_row(&table.style.content_lines, row)
     }
 
     // The lines of a row, framed as header lines or as content lines.

@@ -38,8 +38,8 @@ pub fn push_piece(
     push_style_end(text, cell)
 }
 
-// The spaces before and after a line of this measure: those that its alignment leaves, and the paddings.
-fn spaces_beside(cell: &Cell, info: &ColumnDisplayInfo, width: usize) -> (usize, usize)
+/// The spaces before and after a line of this measure: those that its alignment leaves, and the paddings.
+pub(crate) fn spaces_beside(cell: &Cell, info: &ColumnDisplayInfo, width: usize) -> (usize, usize)
     ensures left { result.0 ≡ info.now.padding.0 + free_before (cell_alignment cell.now info.now) (info.now.content_width - width) }
     ensures right { result.1 ≡ info.now.content_width - width - free_before (cell_alignment cell.now info.now) (info.now.content_width - width) + info.now.padding.1 }
 {
@@ -73,8 +73,8 @@ pub fn push_spaces(text: &mut String, count: usize) -> Result<()>
     Ok(())
 }
 
-// As many spaces as are copied at once.
-fn run_of_spaces() -> &'static str
+/// As many spaces as are copied at once.
+pub(crate) fn run_of_spaces() -> &'static str
     ensures { result.now ≡ spaces 64 }
 {
     "                                                                "

@@ -1,14 +1,12 @@
 use Rattle.std.proofs.lemmas.Grind.{common_steps}
-use Rattle.std.proofs.Common.{◌≡◌, List, [], ◌++◌, true, map, take, refl, ap, ap₂, string_bytes, nat_lt, ◌∙◌, arith}
+use Rattle.std.proofs.Common.{List, [], ◌++◌, true, map, take, refl, ap, string_bytes, nat_lt, ◌∙◌, arith}
 use Rattle.std.specs.List.{join_by}
 use Rattle.std.specs.Prelude.{if◌then◌else◌, option_to_list}
 use Rattle.comfy_parts.specs.Text.{Text}
-use Rattle.comfy_parts.specs.declared.style.table_style.ContentLineStyle.{ContentLineStyle}
 use Rattle.comfy_table.proofs.JoinLemmas.{joined_more}
 use Rattle.comfy_table.proofs.OutputLemmas.{written-append}
 use Rattle.comfy_table.specs.Drawing.{drawn_row}
 use Rattle.comfy_table.specs.Output.{WriterValue, with_written}
-use Rattle.comfy_table.specs.TableValue.{TableValue}
 use Rattle.comfy_table.proofs.utils.formatting.drawing.Writer.write_separated_rows.Goals as goal
 
 pub loop-position-preserved : goal.loop-position-preserved
@@ -21,10 +19,9 @@ loop-position-preserved c =
     let rows = c.as_slice-rows.result.now in
     let row = c.index-rows-position.result in
     let done = join_by drawn separator (take position rows) in
-    let style : c.table.inside.style.content_lines ≡ start.table.style.content_lines = ap (λ (t : TableValue). t.style.content_lines) c.table.view_is ∙ ap (λ (w : WriterValue). w.table.style.content_lines) c.self.view_is in
     let separated = c.in_ok-write_separator.ensures ∙ ap (with_written between) c.loop-position.invariant ∙ written-append done between start in
-    c.in_ok-write_row.ensures
-    ∙ ap₂ (λ (line : ContentLineStyle) (w : WriterValue). with_written (drawn_row w.table w.infos line row) w) style separated
+    c.in_ok-write_content_row.ensures
+    ∙ ap (λ (w : WriterValue). with_written (drawn_row w.table w.infos w.table.style.content_lines row) w) separated
     ∙ written-append (done ++ between) (drawn row) start
     ∙ ap (λ (lines : List Text). with_written lines start) (joined_more drawn true separator rows position row [] done c.loop-position-test.true c.index-rows-position.is refl)
 
