@@ -1,5 +1,5 @@
 -- What drawings and widths promise beyond their definitions. Each is a statement at given values.
-use Rattle.std.specs.Prelude.{◌≡◌, ℕ, ◌+◌, ◌-◌, ◌<◌, ◌≤◌, Bool, true, false, List, [], ◌∷◌, ◌++◌, Option, Some, None, take, drop, length, max, sum, sum_by, All, chars, slice_get, map, IsUtf8, unwrap_or, ◌==◌}
+use Rattle.std.specs.Prelude.{◌≡◌, ◌⊎◌, ℕ, ◌+◌, ◌-◌, ◌<◌, ◌≤◌, Bool, true, false, List, [], ◌∷◌, ◌++◌, Option, Some, None, take, drop, length, max, sum, sum_by, All, chars, slice_get, map, IsUtf8, unwrap_or, ◌==◌}
 use Rattle.std.specs.Char.{IsScalar}
 use Rattle.std.specs.Int.{is_in_range}
 use Rattle.std.specs.List.{AllZip, concat, list_any, slice_split}
@@ -16,7 +16,7 @@ use Rattle.comfy_table.specs.Dynamic.{Steps, IsDynamic, fixed_shares, places_of,
 use Rattle.comfy_table.specs.Frame.{border_count}
 use Rattle.comfy_table.specs.Lines.{cell_lines, cell_delimiter, fitting_indicator, uncut_count, whole_lines}
 use Rattle.comfy_table.specs.Pieces.{visible_infos, row_cell_lines}
-use Rattle.comfy_table.specs.TableValue.{TableValue, table_width, visible_columns, column_cells, seen_cell, seen_table, seen_rows}
+use Rattle.comfy_table.specs.TableValue.{TableValue, table_width, visible_columns, column_cells, header_and_rows, seen_cell, seen_table, seen_rows, should_style}
 use Rattle.comfy_table.specs.Widths.{ColumnNeeds, visible_count}
 
 -- ---- counts of lines
@@ -158,3 +158,31 @@ LinesAreResumedInRow table row info cell =
 abbrev pub CutLinesAreClosed : TableValue → RowValue → ColumnInfo → CellValue → Type 0
 CutLinesAreClosed table row info cell =
     All (λ (line : CellLine). line.written ≡ closed line.seen) (drop (uncut_in_row table row info cell) (row_cell_lines table row info cell))
+
+-- ---- sequences in drawn lines
+
+-- no sequence is open after the line
+abbrev pub LeavesNoneOpen : Text → Type 0
+LeavesNoneOpen line = open_after (parts line) ≡ []
+
+-- a cell without colours and attributes of its own
+pub record HasNoStyling (cell : CellValue) : Type 0 where
+  pub background : cell.background ≡ None
+  pub foreground : cell.foreground ≡ None
+  pub attributes : cell.attributes ≡ []
+
+-- no colours and attributes of cells are written
+abbrev pub WritesNoStyling : TableValue → Type 0
+WritesNoStyling table =
+    (should_style table ≡ false) ⊎ All (λ (row : RowValue). All HasNoStyling row.cells) (header_and_rows table)
+
+-- each visible column has a padding at its right, or no ESC is seen in its cells: so no sequence begins in a text and ends outside it
+abbrev pub EndsSequencesInTexts : TableValue → Type 0
+EndsSequencesInTexts table =
+    All (λ (p : ℕ × ColumnValue). (1 ≤ p.1.padding.1) ⊎ All (λ (cell : CellValue). All HasNoEscape cell.text_lines) (column_cells table p.0)) (visible_columns table)
+
+-- sequences stand in the texts of cells alone: no styling is written, neither the style nor the indicator holds ESC, and no sequence ends outside its text
+pub record HasSequencesInTextsAlone (table : TableValue) : Type 0 where
+  pub styling : WritesNoStyling table
+  pub style : HasStyleWithout 0x1B table
+  pub ends : EndsSequencesInTexts table
