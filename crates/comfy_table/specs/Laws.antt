@@ -10,6 +10,7 @@ use Rattle.comfy_parts.specs.Laws.{IsResumedLine, characters_without}
 use Rattle.comfy_parts.specs.VisibleLines.{CellLine, line_starts}
 use Rattle.comfy_parts.specs.VisibleText.{closed, parts, open_after}
 use Rattle.comfy_parts.specs.declared.style.table.ContentArrangement.TheVariants.{Dynamic, DynamicFullWidth}
+use Rattle.comfy_parts.specs.declared.style.table_style.TableStyle.{TableStyle}
 use Rattle.comfy_table.specs.Arrangement.{IsArranged}
 use Rattle.comfy_table.specs.Drawing.{infos_of, terminated_text_of, text_of, whole_widths}
 use Rattle.comfy_table.specs.Dynamic.{Steps, IsDynamic, fixed_shares, places_of, total}
@@ -108,10 +109,14 @@ HasNoEscape text = HasNo 0x1B text
 abbrev pub HasNoBreak : Text → Type 0
 HasNoBreak text = HasNo 0x0A text
 
--- the byte b is no character of the style, and not in the indicator
+-- the byte b is no character of the style
+abbrev pub IsStyleWithout : ℕ → TableStyle → Type 0
+IsStyleWithout b style = list_any (λ (c : Option ℕ). unwrap_or c 0x20 == b) (style_characters style) ≡ false
+
+-- nor is it in the indicator
 pub record HasStyleWithout (b : ℕ) (table : TableValue) : Type 0 where
   pub indicator : HasNo b table.indicator
-  pub characters : list_any (λ (c : Option ℕ). unwrap_or c 0x20 == b) (style_characters table.style) ≡ false
+  pub characters : IsStyleWithout b table.style
 
 -- no text line as it is seen, no character of the style and no indicator holds ESC
 pub record IsFreeOfEscapes (table : TableValue) : Type 0 where
