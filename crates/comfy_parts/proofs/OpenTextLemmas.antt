@@ -6,9 +6,9 @@ use Rattle.comfy_parts.proofs.BreakLemmas.{HasNo-visible}
 use Rattle.comfy_parts.proofs.LineTextLemmas.{seen-closed, seen_of}
 use Rattle.comfy_parts.proofs.OpenLemmas.{opened-append}
 use Rattle.comfy_parts.proofs.ScanLemmas.{AreScanned, bytes_of, parts-scanned, scan, scanned-stops}
-use Rattle.comfy_parts.proofs.SequenceLemmas.{Stops, no_sequence, parts-sequence, parts-visible}
+use Rattle.comfy_parts.proofs.SequenceLemmas.{Stops, Stops-escape, no_sequence, parts-sequence, parts-visible}
 use Rattle.comfy_parts.specs.Text.{HasNo, Text}
-use Rattle.comfy_parts.specs.VisibleText.{Part, closed, is_parameter, open_after, opened, parts, visible_text}
+use Rattle.comfy_parts.specs.VisibleText.{Part, closed, is_parameter, open_after, opened, parts, reset, visible_text}
 
 -- ---- texts that nothing continues
 
@@ -78,18 +78,19 @@ opens-clear (b ∷ bs) clear =
     let both = or_parts (b == 0x1B) (list_any (λ x. x == 0x1B) bs) clear in
     record { none = λ rest. ap open_after (parts-visible b (bs ++ rest) (no_sequence b (bs ++ rest) both.0)) ∙ (opens-clear bs both.1).none rest }
 
--- a space can't continue an unfinished sequence
-stops-space : (rest : Text) → Stops (0x20 ∷ rest)
-stops-space rest = record { no_end = refl; no_start = refl }
+-- what follows a text and can't continue an unfinished sequence of it begins with the sequences that are open after the text
+open-before : (text other : Text) → Stops other → open_after (parts (text ++ other)) ≡ opened (open_after (parts text)) (parts other)
+open-before text other stops =
+    ap (λ t. open_after (parts (t ++ other))) (sym (scan text).bytes)
+    ∙ ap open_after (parts-scanned (parts text) other (scanned-stops (parts text) [] other stops (scan text).scanned))
+    ∙ opened-append [] (parts text) (parts other)
 
--- so a text after which none is open opens none where a space follows, and what opens none
+-- such is a space: a text after which none is open opens none where a space follows, and what opens none
 pub opens-spaced : (text more : Text) → open_after (parts text) ≡ [] → OpensNone (0x20 ∷ more) → OpensNone (text ++ 0x20 ∷ more)
 opens-spaced text more ends own =
-    record { none = λ rest. ap (λ t. open_after (parts t)) (append_assoc text (0x20 ∷ more) rest) ∙ before rest ∙ own.none rest }
-  where
-    before : (rest : Text) → open_after (parts (text ++ 0x20 ∷ (more ++ rest))) ≡ open_after (parts (0x20 ∷ (more ++ rest)))
-    before rest =
-        ap (λ t. open_after (parts (t ++ 0x20 ∷ (more ++ rest)))) (sym (scan text).bytes)
-        ∙ ap open_after (parts-scanned (parts text) (0x20 ∷ (more ++ rest)) (scanned-stops (parts text) [] (0x20 ∷ (more ++ rest)) (stops-space (more ++ rest)) (scan text).scanned))
-        ∙ opened-append [] (parts text) (parts (0x20 ∷ (more ++ rest)))
-        ∙ ap (λ ss. opened ss (parts (0x20 ∷ (more ++ rest)))) ends
+    record { none = λ rest. ap (λ t. open_after (parts t)) (append_assoc text (0x20 ∷ more) rest) ∙ open-before text (0x20 ∷ (more ++ rest)) (record { no_end = refl; no_start = refl }) ∙ ap (λ ss. opened ss (parts (0x20 ∷ (more ++ rest)))) ends ∙ own.none rest }
+
+-- and a reset, after which none is open whatever the text opens
+pub opens-reset : (text : Text) → OpensNone (text ++ reset)
+opens-reset text =
+    record { none = λ rest. ap (λ t. open_after (parts t)) (append_assoc text reset rest) ∙ open-before text (reset ++ rest) (Stops-escape _) ∙ ap (opened (open_after (parts text))) (parts-sequence (0x30 ∷ []) rest refl) }

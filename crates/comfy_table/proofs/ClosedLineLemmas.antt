@@ -1,14 +1,16 @@
 -- With custom styling no drawn line leaves a sequence open, where sequences stand in the texts of cells alone.
-use Rattle.std.proofs.Common.{◌≡◌, ◌⊎◌, inl, inr, ◌≤◌, ℕ, zero, suc, ◌+◌, ◌-◌, Bool, true, false, List, [], ◌++◌, Option, Some, None, length, refl, sym, ap, ◌∙◌, subst, arith, append-nil, slice_index_or}
+use Rattle.std.proofs.Common.{◌∷◌, ◌≡◌, ◌⊎◌, inl, inr, ◌≤◌, ℕ, zero, suc, ◌+◌, ◌-◌, Bool, true, false, List, [], ◌++◌, Option, Some, None, length, refl, sym, ap, ◌∙◌, subst, arith, append-nil, slice_index_or, ◌<◌, ◌==◌, ⊎_elim, append_assoc}
 use Rattle.std.specs.List.{All, slice_get}
 use Rattle.std.specs.Prelude.{if◌then◌else◌, option_map}
 use Rattle.std.specs.Str.{IsUtf8}
+use Rattle.std.proofs.lemmas.Bool.Decides.{nat_tests}
 use Rattle.std.proofs.lemmas.List.Elements.{All-cons, All-from_recursion, All-map, All-nil, All-weaker}
-use Rattle.comfy_parts.proofs.CallerLemmas.{OpensNone, StandsAlone, none-after, opens-alone, opens-append, opens-clear, opens-spaced, stands-append, stands-clear, stands-closed, stands-seen, stands-sequence, zip-each}
+use Rattle.comfy_parts.proofs.CallerLemmas.{OpensNone, StandsAlone, none-after, opens-alone, opens-append, opens-clear, opens-reset, opens-spaced, stands-append, stands-clear, stands-closed, stands-seen, stands-sequence, zip-each}
 use Rattle.comfy_parts.specs.CellValue.{CellValue, ColumnInfo, ColumnValue, RowValue, info_width}
 use Rattle.comfy_parts.specs.Text.{HasNo, Text, measure, spaces}
 use Rattle.comfy_parts.specs.VisibleLines.{CellLine}
-use Rattle.comfy_parts.specs.VisibleText.{open_after, parts}
+use Rattle.comfy_parts.specs.VisibleText.{open_after, parts, reset}
+use Rattle.comfy_parts.specs.declared.style.attribute.Attribute.{Attribute}
 use Rattle.comfy_parts.specs.declared.style.table_style.ContentLineStyle.{ContentLineStyle}
 use Rattle.comfy_parts.specs.declared.style.table_style.LineStyle.{LineStyle}
 use Rattle.comfy_table.proofs.EqualCountLemmas.{All-drawing, All-row}
@@ -21,9 +23,9 @@ use Rattle.comfy_table.proofs.StyledLemmas.{KeptByDrawing, KeptByJoining, keeps_
 use Rattle.comfy_table.proofs.WrittenLemmas.{keeps_lines, none_is_open_at_the_end}
 use Rattle.comfy_table.specs.Drawing.{drawing, drawn_row, infos_of, whole_widths}
 use Rattle.comfy_table.specs.Frame.{optional_frame_line}
-use Rattle.comfy_table.specs.Laws.{HasNoEscape, HasNoStyling, HasSequencesInTextsAlone, LeavesNoneOpen}
+use Rattle.comfy_table.specs.Laws.{EndsItsStyling, HasNoEscape, HasSequencesInTextsAlone, LeavesNoneOpen}
 use Rattle.comfy_table.specs.Pieces.{blank_piece, cell_pieces, free_before, free_places, cell_alignment, padded, piece, pieces_at, pieces_of_optional, row_cell_lines, row_line, visible_infos}
-use Rattle.comfy_table.specs.Styling.{styled}
+use Rattle.comfy_table.specs.Styling.{style_begin, style_end, style_end_without_attributes, styled}
 use Rattle.comfy_table.specs.TableValue.{TableValue, column_cells, header_and_rows, seen_rows, should_style}
 
 -- ---- what stays true as texts are drawn and joined
@@ -48,9 +50,9 @@ opens_spaces n = keeps_spaces 0x1B (λ shown text. OpensNone text) opens_joined 
 
 -- ---- pieces
 
--- a space stands behind each text of the column, or nothing continues this one
+-- a space stands behind each text of the column, or this one opens no sequence whatever follows it
 abbrev EndsInside : ColumnInfo → Text → Type 0
-EndsInside info text = (1 ≤ info.padding.1) ⊎ StandsAlone text
+EndsInside info text = (1 ≤ info.padding.1) ⊎ OpensNone text
 
 -- a text before spaces
 opens-spaces : (text : Text) (n : ℕ) → open_after (parts text) ≡ [] → 1 ≤ n → OpensNone (text ++ spaces n)
@@ -71,32 +73,64 @@ opens-padded cell info columns text ends inside =
     by_case : EndsInside info text → OpensNone (text ++ (spaces after ++ spaces info.padding.1))
     by_case (inl some) =
         subst (λ (t : Text). OpensNone (text ++ t)) (sym (spaces-append after info.padding.1)) (opens-spaces text (after + info.padding.1) ends (omega (arith, some)))
-    by_case (inr alone) =
-        opens-append text _ (opens-alone text ends alone) (opens-append (spaces after) _ (opens_spaces after) (opens_spaces info.padding.1))
+    by_case (inr none) =
+        opens-append text _ none (opens-append (spaces after) _ (opens_spaces after) (opens_spaces info.padding.1))
 
--- a cell without styling leaves a text as it is
-styled-none : (cell : CellValue) (text : Text) → HasNoStyling cell → styled cell text ≡ text
-styled-none cell text none = grind (arith, none.background, none.foreground, none.attributes, append-nil)
+-- ---- styling
 
--- what is known of a cell that a row has in a column: its styling isn't written, and its texts end inside
-record IsClosedCell (table : TableValue) (info : ColumnInfo) (cell : CellValue) : Type 0 where
-  styling : (should_style table ≡ false) ⊎ HasNoStyling cell
-  ends : (1 ≤ info.padding.1) ⊎ All HasNoEscape (cell_seen table.custom_styling cell).text_lines
-  whole : All IsUtf8 (cell_seen table.custom_styling cell).text_lines
+-- a text with the styling of a cell without any
+styled-none : (cell : CellValue) (text : Text) → cell.background ≡ None → cell.foreground ≡ None → cell.attributes ≡ [] → styled cell text ≡ text
+styled-none cell text background foreground attributes = grind (arith, background, foreground, attributes, append-nil)
 
--- the piece of such a cell is padded alone
-piece-plain : (table : TableValue) (cell : CellValue) (info : ColumnInfo) (line : CellLine) → (should_style table ≡ false) ⊎ HasNoStyling cell → piece table cell info line ≡ padded cell info (measure line.seen) line.written
-piece-plain table cell info line (inl off) = grind (arith, off)
-piece-plain table cell info line (inr none) = by_tests (should_style table) table.style_text_only
+-- with that of a cell with an attribute, which ends with a reset
+styled-reset : (cell : CellValue) (text : Text) → 0 < length cell.attributes → OpensNone (styled cell text)
+styled-reset cell text some =
+    let attributed : (length cell.attributes == 0) ≡ false = grind (arith, nat_tests, some) in
+    let ends : style_end cell ≡ reset = ap (λ b. if b then style_end_without_attributes cell.background cell.foreground else reset) attributed in
+    subst OpensNone (append_assoc (style_begin cell) text reset ∙ ap (λ (t : Text). style_begin cell ++ (text ++ t)) (sym ends)) (opens-reset (style_begin cell ++ text))
+
+-- so styling that ends opens nothing, or there is none
+styled-ends : (cell : CellValue) (text : Text) → EndsItsStyling cell → OpensNone (styled cell text) ⊎ (styled cell text ≡ text)
+styled-ends cell text (inr some) = inl (styled-reset cell text some)
+styled-ends cell text (inl none) = by_list cell.attributes refl
+  where
+    by_list : (given : List Attribute) → cell.attributes ≡ given → OpensNone (styled cell text) ⊎ (styled cell text ≡ text)
+    by_list [] is = inr (styled-none cell text none.0 none.1 is)
+    by_list (a ∷ more) is = inl (styled-reset cell text (subst (λ (given : List Attribute). 0 < length given) (sym is) (omega arith)))
+
+-- the piece of a text that ends inside, where the styling ends too or isn't written
+opens-piece : (table : TableValue) (cell : CellValue) (info : ColumnInfo) (line : CellLine) → (should_style table ≡ false) ⊎ EndsItsStyling cell → open_after (parts line.written) ≡ [] → EndsInside info line.written
+    → OpensNone (piece table cell info line)
+opens-piece table cell info line styling ends inside = by_case styling
   where
     columns : ℕ
     columns = measure line.seen
 
-    by_tests : (styles text_only : Bool)
-        → (if styles then (if text_only then padded cell info columns (styled cell line.written) else styled cell (padded cell info columns line.written)) else padded cell info columns line.written) ≡ padded cell info columns line.written
-    by_tests true true = ap (padded cell info columns) (styled-none cell line.written none)
-    by_tests true false = styled-none cell (padded cell info columns line.written) none
-    by_tests false text_only = refl
+    plain : OpensNone (padded cell info columns line.written)
+    plain = opens-padded cell info columns line.written ends inside
+
+    by_tests : EndsItsStyling cell → (styles text_only : Bool)
+        → OpensNone (if styles then (if text_only then padded cell info columns (styled cell line.written) else styled cell (padded cell info columns line.written)) else padded cell info columns line.written)
+    by_tests own true true =
+        ⊎_elim (λ opens. opens-padded cell info columns (styled cell line.written) (none-after (styled cell line.written) opens) (inr opens))
+        (λ same. subst (λ (t : Text). OpensNone (padded cell info columns t)) (sym same) plain) (styled-ends cell line.written own)
+    by_tests own true false =
+        ⊎_elim (λ opens. opens) (λ same. subst OpensNone (sym same) plain) (styled-ends cell (padded cell info columns line.written) own)
+    by_tests own false text_only = plain
+
+    by_case : (should_style table ≡ false) ⊎ EndsItsStyling cell → OpensNone (piece table cell info line)
+    by_case (inl off) =
+        let same : piece table cell info line ≡ padded cell info columns line.written = grind (arith, off) in
+        subst OpensNone (sym same) plain
+    by_case (inr own) = by_tests own (should_style table) table.style_text_only
+
+-- ---- rows
+
+-- what is known of a cell that a row has in a column: its styling ends or isn't written, and its texts end inside
+record IsClosedCell (table : TableValue) (info : ColumnInfo) (cell : CellValue) : Type 0 where
+  styling : (should_style table ≡ false) ⊎ EndsItsStyling cell
+  ends : (1 ≤ info.padding.1) ⊎ All HasNoEscape (cell_seen table.custom_styling cell).text_lines
+  whole : All IsUtf8 (cell_seen table.custom_styling cell).text_lines
 
 module _ (table : TableValue) (on : table.custom_styling ≡ true) (mark : HasNo 0x1B table.indicator) where
   -- its lines end inside
@@ -106,16 +140,15 @@ module _ (table : TableValue) (on : table.custom_styling ≡ true) (mark : HasNo
       by_case : (1 ≤ info.padding.1) ⊎ All HasNoEscape (cell_seen table.custom_styling cell).text_lines → All (λ (line : CellLine). EndsInside info line.written) (row_cell_lines table row info cell)
       by_case (inl some) = λ k default below. inl some
       by_case (inr clear) = λ k default below.
-          inr (keeps_lines table row info cell 0x1B (λ shown text. StandsAlone text) stands_kept table.custom_styling mark own.whole clear k default below)
+          inr (opens-alone (slice_index_or (row_cell_lines table row info cell) k default).written (none_is_open_at_the_end table row info cell on k default below)
+          (keeps_lines table row info cell 0x1B (λ shown text. StandsAlone text) stands_kept table.custom_styling mark own.whole clear k default below))
 
   -- so its pieces open no sequence
   opens_pieces : (row : RowValue) (info : ColumnInfo) (cell : CellValue) → IsClosedCell table info cell → All OpensNone (cell_pieces table row info cell)
   opens_pieces row info cell own =
       All-map OpensNone (piece table cell info) (row_cell_lines table row info cell)
       (λ k default below.
-      let line : CellLine = slice_index_or (row_cell_lines table row info cell) k default in
-      subst OpensNone (sym (piece-plain table cell info line own.styling))
-      (opens-padded cell info (measure line.seen) line.written (none_is_open_at_the_end table row info cell on k default below) (ends_inside row info cell own k default below)))
+      opens-piece table cell info (slice_index_or (row_cell_lines table row info cell) k default) own.styling (none_is_open_at_the_end table row info cell on k default below) (ends_inside row info cell own k default below))
 
   -- nor do the pieces in a column
   opens_column : (row : RowValue) (p : ℕ × ColumnInfo) → ((cell : CellValue) → slice_get row.cells p.0 ≡ Some cell → IsClosedCell table p.1 cell) → All OpensNone (pieces_at table row p)
@@ -199,9 +232,9 @@ lines_are_closed table widths same on alone whole =
         seen : slice_get (row_seen table.custom_styling row).cells p.0 ≡ Some (cell_seen table.custom_styling cell)
         seen = found_seen row p.0 cell found
 
-        styling : (should_style table ≡ false) ⊎ All (λ (row : RowValue). All HasNoStyling row.cells) (header_and_rows table) → (should_style table ≡ false) ⊎ HasNoStyling cell
+        styling : (should_style table ≡ false) ⊎ All (λ (row : RowValue). All EndsItsStyling row.cells) (header_and_rows table) → (should_style table ≡ false) ⊎ EndsItsStyling cell
         styling (inl off) = inl off
-        styling (inr none) = inr (All-at HasNoStyling row.cells p.0 cell (none k default under) found)
+        styling (inr none) = inr (All-at EndsItsStyling row.cells p.0 cell (none k default under) found)
 
         inside : Ends p → (1 ≤ p.1.padding.1) ⊎ All HasNoEscape (cell_seen table.custom_styling cell).text_lines
         inside (inl some) = inl some

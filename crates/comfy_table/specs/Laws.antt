@@ -170,24 +170,21 @@ CutLinesAreClosed table row info cell =
 abbrev pub LeavesNoneOpen : Text → Type 0
 LeavesNoneOpen line = open_after (parts line) ≡ []
 
--- a cell without colours and attributes of its own
-pub record HasNoStyling (cell : CellValue) : Type 0 where
-  pub background : cell.background ≡ None
-  pub foreground : cell.foreground ≡ None
-  pub attributes : cell.attributes ≡ []
+-- the styling of a cell ends with a reset, or writes nothing: the cell has no colours of its own, or an attribute
+abbrev pub EndsItsStyling : CellValue → Type 0
+EndsItsStyling cell = ((cell.background ≡ None) × (cell.foreground ≡ None)) ⊎ (0 < length cell.attributes)
 
--- no colours and attributes of cells are written
-abbrev pub WritesNoStyling : TableValue → Type 0
-WritesNoStyling table =
-    (should_style table ≡ false) ⊎ All (λ (row : RowValue). All HasNoStyling row.cells) (header_and_rows table)
+-- so do all cells whose styling is written
+abbrev pub EndsStyling : TableValue → Type 0
+EndsStyling table = (should_style table ≡ false) ⊎ All (λ (row : RowValue). All EndsItsStyling row.cells) (header_and_rows table)
 
 -- each visible column has a padding at its right, or no ESC is seen in its cells: so no sequence begins in a text and ends outside it
 abbrev pub EndsSequencesInTexts : TableValue → Type 0
 EndsSequencesInTexts table =
     All (λ (p : ℕ × ColumnValue). (1 ≤ p.1.padding.1) ⊎ All (λ (cell : CellValue). All HasNoEscape cell.text_lines) (column_cells table p.0)) (visible_columns table)
 
--- sequences stand in the texts of cells alone: no styling is written, neither the style nor the indicator holds ESC, and no sequence ends outside its text
+-- only texts of cells hold sequences, but for styling that ends: neither the style nor the indicator holds ESC, and no sequence ends outside its text
 pub record HasSequencesInTextsAlone (table : TableValue) : Type 0 where
-  pub styling : WritesNoStyling table
+  pub styling : EndsStyling table
   pub style : HasStyleWithout 0x1B table
   pub ends : EndsSequencesInTexts table

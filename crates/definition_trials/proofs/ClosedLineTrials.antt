@@ -30,6 +30,14 @@ bold_is_closed = refl
 half_is_none : LeavesNoneOpen (codes "| \u{1b}[1 |")
 half_is_none = refl
 
+-- a cell's own attributes end with a reset
+attribute_is_closed : LeavesNoneOpen (codes "|\u{1b}[1m x \u{1b}[0m|")
+attribute_is_closed = refl
+
+-- its colours alone end with another sequence, which is one more that is open
+colour_stays_open : open_after (parts (codes "|\u{1b}[38;5;10m x \u{1b}[39m|")) ≡ codes "\u{1b}[38;5;10m" ∷ codes "\u{1b}[39m" ∷ []
+colour_stays_open = refl
+
 -- ---- halves of a sequence in two cells
 
 abbrev halves : TableValue
