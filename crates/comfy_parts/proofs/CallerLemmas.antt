@@ -6,6 +6,7 @@ pub use Rattle.comfy_parts.proofs.FrameCharacterLemmas.{frame_adds, frame_apart,
 pub use Rattle.comfy_parts.proofs.KeptLemmas.{lines_keep_the_text}
 pub use Rattle.comfy_parts.proofs.LineTextLemmas.{Shows-seen, none_open, seen-closed}
 pub use Rattle.comfy_parts.proofs.LinesFitLemmas.{IsFittingLine}
+pub use Rattle.comfy_parts.proofs.OpenTextLemmas.{OpensNone, StandsAlone, none-after, opens-alone, opens-append, opens-clear, opens-reset, opens-spaced, stands-append, stands-clear, stands-closed, stands-seen, stands-sequence}
 pub use Rattle.comfy_parts.proofs.PlainTextLemmas.{IsPlainLine, lines_of_text-plain, slices-printable}
 pub use Rattle.comfy_parts.proofs.PrintableLemmas.{IsUtf8-printable, below_seven_bits, head-printable, measure-printable, take-printable}
 pub use Rattle.comfy_parts.proofs.SequenceLemmas.{true_is_false}

@@ -19,10 +19,7 @@ use Rattle.comfy_table.specs.TableValue.{TableValue, seen_rows}
 breaks_kept : KeptByDrawing 0x0A (λ shown text. HasNoBreak text)
 breaks_kept =
     record {
-      seven_bits = omega arith;
-      no_space = refl;
-      of_clear = λ text clear. clear;
-      of_both = λ shown others xs ys. HasNo-append 0x0A xs ys;
+      joins = record { seven_bits = omega arith; no_space = refl; of_clear = λ text clear. clear; of_both = λ shown others xs ys. HasNo-append 0x0A xs ys };
       of_sequence = sequence_clear;
       of_seen = breaks_are_seen;
       of_closed = λ text clear. breaks_are_seen (closed text) (subst HasNoBreak (sym (seen-closed text)) (HasNo-visible 0x0A text clear));

@@ -1,6 +1,6 @@
 -- Tables that are built from one without columns by a header and rows.
-use Rattle.std.proofs.Common.{◌≡◌, ℕ, ◌+◌, ◌-◌, ◌≤◌, inl, inr, Bool, false, List, [], ◌∷◌, ◌++◌, None, map, length, refl, sym, ap, ◌∙◌, subst, arith, option_to_list}
-use Rattle.std.specs.List.{All, enumerate_from, range_with_len}
+use Rattle.std.proofs.Common.{◌≡◌, ◌==◌, ◌⊎◌, ℕ, ◌+◌, ◌-◌, ◌≤◌, inl, inr, Bool, true, false, List, [], ◌∷◌, ◌++◌, None, map, length, refl, sym, ap, ◌∙◌, subst, arith, option_to_list}
+use Rattle.std.specs.List.{All, enumerate_from, list_any, range_with_len}
 use Rattle.std.specs.Prelude.{if◌then◌else◌, not, option_map}
 use Rattle.std.proofs.lemmas.List.Elements.{All-append, All-cons, All-filter, All-head, All-map, All-nil, All-tail, All-weaker}
 use Rattle.comfy_parts.specs.CellValue.{CellValue, ColumnValue, RowValue, columns_grown_to, is_hidden_column, new_column}
@@ -10,10 +10,10 @@ use Rattle.comfy_parts.specs.declared.style.table_style.TableStyle.{TableStyle}
 use Rattle.comfy_table.proofs.ListLemmas.{All-every}
 use Rattle.comfy_table.specs.Arrangement.{width_kept}
 use Rattle.comfy_table.specs.Headline.{IsTableDrawing}
-use Rattle.comfy_table.specs.Laws.{NoConstraints, line_total}
-use Rattle.comfy_table.specs.NewTables.{AreEquallyWide, IsShortRow, NewTablesAreStraight}
+use Rattle.comfy_table.specs.Laws.{HasNoEscape, IsStyleWithout, NoConstraints, line_total}
+use Rattle.comfy_table.specs.NewTables.{AreEquallyWide, IsShortRow, NewTablesAreStraight, NewTablesLeaveNoneOpen}
 use Rattle.comfy_table.specs.Straight.{IsShownWhole, IsStraightTable}
-use Rattle.comfy_table.specs.TableValue.{TableValue, header_and_rows, new_table, seen_rows, should_style, table_width, visible_columns, visible_row, with_header, with_row, with_rows}
+use Rattle.comfy_table.specs.TableValue.{TableValue, column_cells, header_and_rows, new_table, seen_rows, should_style, table_width, visible_columns, visible_row, with_header, with_row, with_rows}
 
 -- what each item meets, each item with its position does
 All-enumerate : {X : Type 0} (P : X → Type 0) (n : ℕ) (xs : List X) → All P xs → All (λ (p : ℕ × X). P p.1) (enumerate_from n xs)
@@ -102,16 +102,37 @@ built_is_equally_wide base plain unstyled P table known lines drawing is = (
   subst (All (λ line. measure line ≡ line_total table drawing.widths)) (sym (drawing.unstyled_lines (ap should_style known.is ∙ unstyled) (ap (λ (t : TableValue). t.custom_styling) known.is ∙ plain))) (drawing.straight is),
 )
 
--- so are those of a new table with a header and rows
+-- a new table with a header and rows is such a table
+built_new : (P : RowValue → Type 0) (style : TableStyle) (header : RowValue) (rows : List RowValue) → P header → All P rows → IsBuilt (new_table style) refl P (with_rows rows (with_header header (new_table style)))
+built_new P style header rows first each =
+    built-rows (new_table style) refl P rows (with_header header (new_table style)) each
+    (built-header (new_table style) refl P header (new_table style) first (record { is = refl; columns = All-nil IsNewColumn; header = All-nil P; rows = All-nil P }))
+
+-- so its lines are equally wide
 pub new_tables_are_straight : (style : TableStyle) (header : RowValue) (rows : List RowValue) (lines : List Text) → NewTablesAreStraight style header rows lines
 new_tables_are_straight style header rows lines characters first each drawing =
-    built_is_equally_wide base refl refl IsShortRow (with_rows rows (with_header header base)) known lines drawing
-    (built_is_straight base refl (with_rows rows (with_header header base)) drawing.widths known characters (ap (λ (t : TableValue). width_kept t.arrangement (table_width t)) known.is))
+    built_is_equally_wide (new_table style) refl refl IsShortRow table known lines drawing
+    (built_is_straight (new_table style) refl table drawing.widths known characters (ap (λ (t : TableValue). width_kept t.arrangement (table_width t)) known.is))
   where
-    base : TableValue
-    base = new_table style
+    table : TableValue
+    table = with_rows rows (with_header header (new_table style))
 
-    known : IsBuilt base refl IsShortRow (with_rows rows (with_header header base))
-    known =
-        built-rows base refl IsShortRow rows (with_header header base) each
-        (built-header base refl IsShortRow header base first (record { is = refl; columns = All-nil IsNewColumn; header = All-nil IsShortRow; rows = All-nil IsShortRow }))
+    known : IsBuilt (new_table style) refl IsShortRow table
+    known = built_new IsShortRow style header rows first each
+
+-- and with custom styling none of them leaves a sequence open
+pub new_tables_leave_none_open : (style : TableStyle) (header : RowValue) (rows : List RowValue) (lines : List Text) → NewTablesLeaveNoneOpen style header rows lines
+new_tables_leave_none_open style header rows lines clear drawing =
+    drawing.closed_lines refl
+    (record {
+      styling = inl (ap should_style known.is);
+      style = record { indicator = ap (λ (t : TableValue). list_any (λ x. x == 0x1B) t.indicator) known.is; characters = subst (IsStyleWithout 0x1B) (sym (ap (λ (t : TableValue). t.style) known.is)) clear };
+      ends = All-weaker (λ (p : ℕ × ColumnValue). IsNewColumn p.1) (λ (p : ℕ × ColumnValue). (1 ≤ p.1.padding.1) ⊎ All (λ (cell : CellValue). All HasNoEscape cell.text_lines) (column_cells (record table { custom_styling = true }) p.0))
+          (λ p new. let one : p.1.padding.1 ≡ 1 = ap (λ (x : ℕ × ℕ). x.1) new.padding in inl (omega (arith, one))) (visible_columns table) (columns_known (new_table style) refl (λ row. Unit {0}) table known);
+    })
+  where
+    table : TableValue
+    table = with_rows rows (with_header header (new_table style))
+
+    known : IsBuilt (new_table style) refl (λ row. Unit {0}) table
+    known = built_new (λ row. Unit {0}) style header rows tt (λ k default below. tt)

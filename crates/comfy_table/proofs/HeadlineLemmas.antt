@@ -8,6 +8,7 @@ use Rattle.std.specs.Str.{IsUtf8}
 use Rattle.comfy_parts.proofs.Computing.{wrapping}
 use Rattle.comfy_parts.proofs.CallerLemmas.{one_character, wrapped_is_wrapped}
 use Rattle.comfy_table.proofs.BreakLemmas.{without_breaks}
+use Rattle.comfy_table.proofs.ClosedLineLemmas.{lines_are_closed}
 use Rattle.comfy_table.proofs.SeenLemmas.{HasCells, IsRowOf, rows_of, seen_kept}
 use Rattle.comfy_parts.specs.CellValue.{CellValue, ColumnInfo, ColumnValue, IsCell, IsColumn, IsDelimiter, IsRow, RowValue, info_of}
 use Rattle.comfy_parts.specs.Text.{Text, measure}
@@ -26,7 +27,7 @@ use Rattle.comfy_parts.specs.VisibleText.{visible_text}
 use Rattle.comfy_table.proofs.UnstyledLemmas.{unstyled_drawing}
 use Rattle.comfy_table.specs.Drawing.{drawing, drawing_of_infos, infos_of}
 use Rattle.comfy_table.specs.Headline.{EachLineCounts, IsClosedInRow, IsCutClosedInRow, IsResumedInRow, IsCutIntoSlices, IsTableDrawing, IsTextOrSlices}
-use Rattle.comfy_table.specs.Laws.{HasNoBreak, IsFreeOfEscapes, count, least_total, line_total, unstyled}
+use Rattle.comfy_table.specs.Laws.{HasNoBreak, IsFreeOfEscapes, LeavesNoneOpen, count, least_total, line_total, unstyled}
 use Rattle.comfy_table.specs.Pieces.{visible_infos}
 use Rattle.comfy_table.specs.TableLaws.{wider_total}
 use Rattle.comfy_table.specs.TableValue.{KeepsParts, TableValue, ellipsis, header_and_rows, indicator_of, seen_rows}
@@ -106,6 +107,7 @@ table_drawing table infos lines utf8 kept (widths, arranged, is) drawn =
           (λ row. All-every (IsResumedInRow table row) (visible_infos (infos_of table widths)) (λ p cell is. lines_are_resumed table row p.1 cell on));
       cut_closed = λ on. All-every (λ (row : RowValue). All (IsCutClosedInRow table row) (visible_infos (infos_of table widths))) (header_and_rows table)
           (λ row. All-every (IsCutClosedInRow table row) (visible_infos (infos_of table widths)) (λ p cell is. cut_lines_are_closed table row p.1 cell on));
+      closed_lines = λ on alone. subst (All LeavesNoneOpen) (sym whole) (lines_are_closed table widths arranged.one_for_each on alone texts);
       frame_counts = λ line. frame_counts table widths line arranged.one_for_each;
       keeps_to_width = λ w none dynamic known. each_line_counts (λ n. n ≤ max w (least_total table)) table widths utf8 cells arranged (keeps_to_width table w widths none dynamic known arranged);
       fills_width = λ w none full known some. each_line_counts (λ n. n ≡ max w (least_total table)) table widths utf8 cells arranged (fills_width table w widths none full known some arranged);

@@ -17,7 +17,7 @@ use Rattle.comfy_table.proofs.CutLemmas.{pieces-unstyled, plain_piece, row-seen}
 use Rattle.comfy_table.proofs.JoinLemmas.{map-map}
 use Rattle.comfy_table.proofs.ListLemmas.{All-every, All-none, All-at, AllZip-map, AllZip-map_map, AllZip-append, AllZip-join_by, At-or-both, All-of_map}
 use Rattle.comfy_table.proofs.SeenLemmas.{IsRowOf, cell_seen, get_seen, header_seen, join_by-map, row_seen, rows_seen, seen_rows-is}
-use Rattle.comfy_table.proofs.StyledLemmas.{KeptByDrawing, keeps_nothing, keeps_piece, keeps_spaces}
+use Rattle.comfy_table.proofs.StyledLemmas.{KeptByDrawing, KeptByJoining, keeps_nothing, keeps_piece, keeps_spaces}
 use Rattle.comfy_table.proofs.WrittenLemmas.{keeps_lines}
 use Rattle.comfy_table.specs.Drawing.{whole_widths, drawn_row, drawn_header, drawn_rows, drawing_of_infos}
 use Rattle.comfy_table.specs.Frame.{character, between_borders, content_line, is_drawn, optional_frame_line, draws_left_border, draws_right_border, draws_vertical_lines}
@@ -29,33 +29,33 @@ use Rattle.comfy_table.specs.TableValue.{TableValue, header_and_rows, seen_rows}
 -- ---- styles
 
 -- the character is not the byte, nor is the space in its place
-abbrev IsClear : ℕ → Option ℕ → Type 0
+abbrev pub IsClear : ℕ → Option ℕ → Type 0
 IsClear b c = (unwrap_or c 0x20 == b) ≡ false
 
 -- the four characters of a frame line are not the byte either
-record IsClearFrame (b : ℕ) (line : LineStyle) : Type 0 where
-  left : IsClear b line.left
-  fill : IsClear b line.fill
-  junction : IsClear b line.junction
-  right : IsClear b line.right
+pub record IsClearFrame (b : ℕ) (line : LineStyle) : Type 0 where
+  pub left : IsClear b line.left
+  pub fill : IsClear b line.fill
+  pub junction : IsClear b line.junction
+  pub right : IsClear b line.right
 
 -- likewise the three of a content line
-record IsClearContent (b : ℕ) (line : ContentLineStyle) : Type 0 where
-  left : IsClear b line.left
-  junction : IsClear b line.junction
-  right : IsClear b line.right
+pub record IsClearContent (b : ℕ) (line : ContentLineStyle) : Type 0 where
+  pub left : IsClear b line.left
+  pub junction : IsClear b line.junction
+  pub right : IsClear b line.right
 
 -- and those of all lines of a style
-record IsClearStyle (b : ℕ) (style : TableStyle) : Type 0 where
-  top_border : IsClearFrame b style.top_border
-  header_lines : IsClearContent b style.header_lines
-  header_separator : IsClearFrame b style.header_separator
-  content_lines : IsClearContent b style.content_lines
-  row_separator : IsClearFrame b style.row_separator
-  bottom_border : IsClearFrame b style.bottom_border
+pub record IsClearStyle (b : ℕ) (style : TableStyle) : Type 0 where
+  pub top_border : IsClearFrame b style.top_border
+  pub header_lines : IsClearContent b style.header_lines
+  pub header_separator : IsClearFrame b style.header_separator
+  pub content_lines : IsClearContent b style.content_lines
+  pub row_separator : IsClearFrame b style.row_separator
+  pub bottom_border : IsClearFrame b style.bottom_border
 
 -- a table whose style doesn't hold the byte has such a style
-style_clear : (b : ℕ) (table : TableValue) → HasStyleWithout b table → IsClearStyle b table.style
+pub style_clear : (b : ℕ) (table : TableValue) → HasStyleWithout b table → IsClearStyle b table.style
 style_clear b table free =
     record {
       top_border = record { left = at 0 (omega arith); fill = at 1 (omega arith); junction = at 2 (omega arith); right = at 3 (omega arith) };
@@ -74,49 +74,49 @@ record IsClearRow (b : ℕ) (row : RowValue) : Type 0 where
   clear : IsRowOf (HasNo b) row
   whole : IsRowOf IsUtf8 row
 
-module _ (b : ℕ) (R : Text → Text → Type 0) (kept : KeptByDrawing b R) where
+module _ (b : ℕ) (R : Text → Text → Type 0) (joins : KeptByJoining b R) where
   -- a character of such a style
   keeps_character : (c : Option ℕ) → IsClear b c → R (character c) (character c)
-  keeps_character c clear = kept.of_clear (character c) (HasNo-character b c kept.seven_bits clear)
+  keeps_character c clear = joins.of_clear (character c) (HasNo-character b c joins.seven_bits clear)
 
   -- a text, written or not
   keeps_when : (written : Bool) (text : Text) → R text text → R (if written then text else []) (if written then text else [])
   keeps_when true text own = own
-  keeps_when false text own = keeps_nothing b R kept
+  keeps_when false text own = keeps_nothing b R joins
 
   -- a text, some number of times
   keeps_repeat : (n : ℕ) (text : Text) → R text text → R (repeat n text) (repeat n text)
-  keeps_repeat zero text own = keeps_nothing b R kept
-  keeps_repeat (suc n) text own = kept.of_both text (repeat n text) text (repeat n text) own (keeps_repeat n text own)
+  keeps_repeat zero text own = keeps_nothing b R joins
+  keeps_repeat (suc n) text own = joins.of_both text (repeat n text) text (repeat n text) own (keeps_repeat n text own)
 
   -- pieces with a separator before each
   keeps_separated : (separator : Text) (shown texts : List Text) → R separator separator → AllZip R shown texts
       → R (flat_map (λ (piece : Text). separator ++ piece) shown) (flat_map (λ (piece : Text). separator ++ piece) texts)
-  keeps_separated separator [] [] between each = keeps_nothing b R kept
+  keeps_separated separator [] [] between each = keeps_nothing b R joins
   keeps_separated separator [] (text ∷ texts) between each = absurd each
   keeps_separated separator (s ∷ shown) [] between each = absurd each
-  keeps_separated separator (s ∷ shown) (text ∷ texts) between each = grind (arith, kept.of_both, keeps_separated separator shown texts between each.1)
+  keeps_separated separator (s ∷ shown) (text ∷ texts) between each = grind (arith, joins.of_both, keeps_separated separator shown texts between each.1)
 
   -- pieces with a separator between each two
   keeps_between : (separator : Text) (shown texts : List Text) → R separator separator → AllZip R shown texts
       → R (join_by (λ (piece : Text). piece) separator shown) (join_by (λ (piece : Text). piece) separator texts)
-  keeps_between separator [] [] between each = keeps_nothing b R kept
+  keeps_between separator [] [] between each = keeps_nothing b R joins
   keeps_between separator [] (text ∷ texts) between each = absurd each
   keeps_between separator (s ∷ shown) [] between each = absurd each
   keeps_between separator (s ∷ shown) (text ∷ texts) between each =
-      kept.of_both s (flat_map (λ (piece : Text). separator ++ piece) shown) text (flat_map (λ (piece : Text). separator ++ piece) texts) each.0 (keeps_separated separator shown texts between each.1)
+      joins.of_both s (flat_map (λ (piece : Text). separator ++ piece) shown) text (flat_map (λ (piece : Text). separator ++ piece) texts) each.0 (keeps_separated separator shown texts between each.1)
 
   -- pieces between borders
-  keeps_joined : (style : TableStyle) (left junction right : Option ℕ) (shown texts : List Text) → IsClear b left → IsClear b junction → IsClear b right → AllZip R shown texts
+  pub keeps_joined : (style : TableStyle) (left junction right : Option ℕ) (shown texts : List Text) → IsClear b left → IsClear b junction → IsClear b right → AllZip R shown texts
       → R (between_borders style left junction right shown) (between_borders style left junction right texts)
   keeps_joined style left junction right shown texts l j r each =
-      kept.of_both _ _ (if draws_left_border style then character left else []) _ (keeps_when (draws_left_border style) (character left) (keeps_character left l))
-      (kept.of_both _ _ (join_by (λ (piece : Text). piece) (if draws_vertical_lines style then character junction else []) texts) (if draws_right_border style then character right else [])
+      joins.of_both _ _ (if draws_left_border style then character left else []) _ (keeps_when (draws_left_border style) (character left) (keeps_character left l))
+      (joins.of_both _ _ (join_by (λ (piece : Text). piece) (if draws_vertical_lines style then character junction else []) texts) (if draws_right_border style then character right else [])
       (keeps_between (if draws_vertical_lines style then character junction else []) shown texts (keeps_when (draws_vertical_lines style) (character junction) (keeps_character junction j)) each)
       (keeps_when (draws_right_border style) (character right) (keeps_character right r)))
 
   -- a frame line, where it is drawn
-  frame_kept : (style : TableStyle) (line : LineStyle) (widths : List ℕ) → IsClearFrame b line → AllZip R (optional_frame_line style line widths) (optional_frame_line style line widths)
+  pub frame_kept : (style : TableStyle) (line : LineStyle) (widths : List ℕ) → IsClearFrame b line → AllZip R (optional_frame_line style line widths) (optional_frame_line style line widths)
   frame_kept style line widths clear =
       cond_both (is_drawn line) _ [] (λ (lines : List Text). AllZip R lines lines)
       (λ _. (keeps_joined style line.left line.junction line.right _ _ clear.left clear.junction clear.right (fills widths), tt)) (λ _. tt)
@@ -125,6 +125,7 @@ module _ (b : ℕ) (R : Text → Text → Type 0) (kept : KeptByDrawing b R) whe
       fills [] = tt
       fills (w ∷ widths) = (keeps_repeat w (character line.fill) (keeps_character line.fill clear.fill), fills widths)
 
+module _ (b : ℕ) (R : Text → Text → Type 0) (kept : KeptByDrawing b R) where
   -- ---- rows
 
   -- the pieces of a cell, and the unstyled ones of the cell as it is seen
@@ -152,7 +153,7 @@ module _ (b : ℕ) (R : Text → Text → Type 0) (kept : KeptByDrawing b R) whe
     where
       by_option : (o : Option CellValue) → slice_get (row_seen table.custom_styling row).cells p.0 ≡ option_map (cell_seen table.custom_styling) o
           → AllZip R (pieces_of_optional (unstyled table) (row_seen table.custom_styling row) p.1 (option_map (cell_seen table.custom_styling) o)) (pieces_of_optional table row p.1 o)
-      by_option None none = (keeps_spaces b R kept (info_width p.1), tt)
+      by_option None none = (keeps_spaces b R kept.joins (info_width p.1), tt)
       by_option (Some cell) found =
           cell_pieces_kept table row p.1 cell mark
           (All-at (λ (cell : CellValue). All IsUtf8 cell.text_lines) (row_seen table.custom_styling row).cells p.0 (cell_seen table.custom_styling cell) cells.whole found)
@@ -178,10 +179,10 @@ module _ (b : ℕ) (R : Text → Text → Type 0) (kept : KeptByDrawing b R) whe
       where
         at : (k : ℕ) → R (content_line table.style line (row_line (unstyled table) infos (seen row) k)) (content_line table.style line (row_line table infos row k))
         at k =
-            keeps_joined table.style line.left line.junction line.right (row_line (unstyled table) infos (seen row) k) (row_line table infos row k) clear.left clear.junction clear.right
+            keeps_joined b R kept.joins table.style line.left line.junction line.right (row_line (unstyled table) infos (seen row) k) (row_line table infos row k) clear.left clear.junction clear.right
             (AllZip-map R (λ (p : ℕ × ColumnInfo). slice_index_or (pieces_at (unstyled table) (seen row) p) k (blank_piece p.1)) (λ (p : ℕ × ColumnInfo). slice_index_or (pieces_at table row p) k (blank_piece p.1)) (visible_infos infos)
             (All-every (λ (p : ℕ × ColumnInfo). R (slice_index_or (pieces_at (unstyled table) (seen row) p) k (blank_piece p.1)) (slice_index_or (pieces_at table row p) k (blank_piece p.1))) (visible_infos infos)
-            (λ p. At-or-both R (pieces_at (unstyled table) (seen row) p) (pieces_at table row p) k (blank_piece p.1) (blank_piece p.1) (pieces_kept table row p mark cells) (keeps_spaces b R kept (info_width p.1)))))
+            (λ p. At-or-both R (pieces_at (unstyled table) (seen row) p) (pieces_at table row p) k (blank_piece p.1) (blank_piece p.1) (pieces_kept table row p mark cells) (keeps_spaces b R kept.joins (info_width p.1)))))
 
     -- ---- the drawing
 
@@ -189,12 +190,12 @@ module _ (b : ℕ) (R : Text → Text → Type 0) (kept : KeptByDrawing b R) whe
     drawing_kept : IsClearStyle b table.style → All (λ (row : RowValue). IsClearRow b (seen row)) (header_and_rows table) → AllZip R (drawing_of_infos (unstyled table) infos) (drawing_of_infos table infos)
     drawing_kept style each =
         AllZip-append R (optional_frame_line table.style table.style.top_border (whole_widths infos)) _ (optional_frame_line table.style table.style.top_border (whole_widths infos)) _
-        (frame_kept table.style table.style.top_border (whole_widths infos) style.top_border)
+        (frame_kept b R kept.joins table.style table.style.top_border (whole_widths infos) style.top_border)
         (AllZip-append R (drawn_header (unstyled table) infos (unstyled table).header) _ (drawn_header table infos table.header) _
         (subst (λ (header : Option RowValue). AllZip R (drawn_header (unstyled table) infos header) (drawn_header table infos table.header)) (sym (header_seen table.custom_styling table.header)) (header_kept table.header each))
         (AllZip-append R (drawn_rows (unstyled table) infos (unstyled table).rows) _ (drawn_rows table infos table.rows) _
         (subst (λ (rows : List RowValue). AllZip R (drawn_rows (unstyled table) infos rows) (drawn_rows table infos table.rows)) (sym (rows_seen table.custom_styling table.rows)) (rows_kept (rows_of table.header each)))
-        (frame_kept table.style table.style.bottom_border (whole_widths infos) style.bottom_border)))
+        (frame_kept b R kept.joins table.style table.style.bottom_border (whole_widths infos) style.bottom_border)))
       where
         IsClearSeen : RowValue → Type 0
         IsClearSeen row = IsClearRow b (seen row)
@@ -208,7 +209,7 @@ module _ (b : ℕ) (R : Text → Text → Type 0) (kept : KeptByDrawing b R) whe
         header_kept (Some row) each =
             AllZip-append R (drawn_row (unstyled table) infos table.style.header_lines (seen row)) _ (drawn_row table infos table.style.header_lines row) _
             (row_kept table.style.header_lines row style.header_lines (All-head IsClearSeen row table.rows each))
-            (frame_kept table.style table.style.header_separator (whole_widths infos) style.header_separator)
+            (frame_kept b R kept.joins table.style table.style.header_separator (whole_widths infos) style.header_separator)
 
         rows_kept : All IsClearSeen table.rows → AllZip R (drawn_rows (unstyled table) infos (map seen table.rows)) (drawn_rows table infos table.rows)
         rows_kept each =
@@ -216,7 +217,7 @@ module _ (b : ℕ) (R : Text → Text → Type 0) (kept : KeptByDrawing b R) whe
             (sym (join_by-map (drawn_row (unstyled table) infos table.style.content_lines) (optional_frame_line table.style table.style.row_separator (whole_widths infos)) seen table.rows))
             (AllZip-join_by R (λ (row : RowValue). drawn_row (unstyled table) infos table.style.content_lines (seen row)) (drawn_row table infos table.style.content_lines)
             (optional_frame_line table.style table.style.row_separator (whole_widths infos)) (optional_frame_line table.style table.style.row_separator (whole_widths infos)) table.rows
-            (frame_kept table.style table.style.row_separator (whole_widths infos) style.row_separator)
+            (frame_kept b R kept.joins table.style table.style.row_separator (whole_widths infos) style.row_separator)
             (All-weaker IsClearSeen (λ row. AllZip R (drawn_row (unstyled table) infos table.style.content_lines (seen row)) (drawn_row table infos table.style.content_lines row))
             (λ row cells. row_kept table.style.content_lines row style.content_lines cells) table.rows each))
 

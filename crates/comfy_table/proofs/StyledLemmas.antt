@@ -19,12 +19,16 @@ use Rattle.comfy_table.specs.TableValue.{TableValue, should_style}
 
 -- ---- what is drawn
 
--- what is told of each text and what is shown of it stays true as they are drawn, where the byte b isn't in what is shown
-pub record KeptByDrawing (b : ℕ) (R : Text → Text → Type 0) : Type 0 where
+-- what is told of each text and what is shown of it holds of texts without the byte b, and stays true as texts are joined
+pub record KeptByJoining (b : ℕ) (R : Text → Text → Type 0) : Type 0 where
   pub seven_bits : b < 128
   pub no_space : HasNo b (0x20 ∷ [])
   pub of_clear : (text : Text) → HasNo b text → R text text
   pub of_both : (shown others xs ys : Text) → R shown xs → R others ys → R (shown ++ others) (xs ++ ys)
+
+-- and it stays true as they are drawn, where the byte isn't in what is shown
+pub record KeptByDrawing (b : ℕ) (R : Text → Text → Type 0) : Type 0 where
+  pub joins : KeptByJoining b R
   pub of_sequence : (code : Text) → list_all is_parameter code ≡ true → R [] (sequence code)
   pub of_seen : (text : Text) → HasNo b (visible_text text) → R (visible_text text) text
   pub of_closed : (text : Text) → HasNo b text → R text (closed text)
@@ -74,61 +78,64 @@ background-parameters : (color : Color) → list_all is_parameter (background_co
 background-parameters colors.Reset = refl
 background-parameters color = color_code-parameters color
 
+-- ---- what stays true of joined texts
+
+module _ (b : ℕ) (R : Text → Text → Type 0) (joins : KeptByJoining b R) where
+  -- an empty text
+  pub keeps_nothing : R [] []
+  keeps_nothing = joins.of_clear [] refl
+
+  -- spaces
+  pub keeps_spaces : (n : ℕ) → R (spaces n) (spaces n)
+  keeps_spaces zero = keeps_nothing
+  keeps_spaces (suc n) =
+      joins.of_both (0x20 ∷ []) (spaces n) (0x20 ∷ []) (spaces n) (joins.of_clear (0x20 ∷ []) joins.no_space) (keeps_spaces n)
+
 module _ (b : ℕ) (R : Text → Text → Type 0) (kept : KeptByDrawing b R) where
   -- ---- sequences, of which nothing is shown
 
-  -- an empty text
-  pub keeps_nothing : R [] []
-  keeps_nothing = kept.of_clear [] refl
-
   -- the sequence of a colour
   keeps_optional_sequence : (code : Color → Text) (color : Option Color) → ((c : Color) → list_all is_parameter (code c) ≡ true) → R [] (optional_sequence code color)
-  keeps_optional_sequence code None all = keeps_nothing
+  keeps_optional_sequence code None all = keeps_nothing b R kept.joins
   keeps_optional_sequence code (Some color) all = kept.of_sequence (code color) (all color)
 
   -- the sequences of attributes
   keeps_attributes : (p : Attribute → Bool) (attributes : List Attribute) → list_all (λ (a : Attribute). list_all is_parameter (attribute_code a)) attributes ≡ true
       → R [] (flat_map (λ (a : Attribute). sequence (attribute_code a)) (filter p attributes))
-  keeps_attributes p [] all = keeps_nothing
+  keeps_attributes p [] all = keeps_nothing b R kept.joins
   keeps_attributes p (a ∷ more) all =
       let both = and_parts (list_all is_parameter (attribute_code a)) (list_all (λ (b : Attribute). list_all is_parameter (attribute_code b)) more) all in
       let rest = keeps_attributes p more both.1 in
       cond_both (p a) (a ∷ filter p more) (filter p more) (λ chosen. R [] (flat_map (λ (a : Attribute). sequence (attribute_code a)) chosen))
-      (λ _. kept.of_both [] [] (sequence (attribute_code a)) _ (kept.of_sequence (attribute_code a) both.0) rest) (λ _. rest)
+      (λ _. kept.joins.of_both [] [] (sequence (attribute_code a)) _ (kept.of_sequence (attribute_code a) both.0) rest) (λ _. rest)
 
   -- what stands before a styled text
   keeps_style_begin : (cell : CellValue) → R [] (style_begin cell)
   keeps_style_begin cell =
-      kept.of_both [] [] (optional_sequence background_code cell.background) (optional_sequence foreground_code cell.foreground ++ attribute_sequences cell.attributes)
+      kept.joins.of_both [] [] (optional_sequence background_code cell.background) (optional_sequence foreground_code cell.foreground ++ attribute_sequences cell.attributes)
       (keeps_optional_sequence background_code cell.background background-parameters)
-      (kept.of_both [] [] (optional_sequence foreground_code cell.foreground) (attribute_sequences cell.attributes)
+      (kept.joins.of_both [] [] (optional_sequence foreground_code cell.foreground) (attribute_sequences cell.attributes)
       (keeps_optional_sequence foreground_code cell.foreground foreground-parameters) (keeps_attributes (has_attribute cell.attributes) all_attributes refl))
 
   -- what stands behind a styled text
   keeps_style_end : (cell : CellValue) → R [] (style_end cell)
   keeps_style_end cell =
       cond_both (length cell.attributes == 0) _ _ (R [])
-      (λ _. kept.of_both [] [] _ _ (cond_both (is_some cell.background) _ [] (R []) (λ _. kept.of_sequence (codes "49") refl) (λ _. keeps_nothing))
-      (cond_both (is_some cell.foreground) _ [] (R []) (λ _. kept.of_sequence (codes "39") refl) (λ _. keeps_nothing)))
+      (λ _. kept.joins.of_both [] [] _ _ (cond_both (is_some cell.background) _ [] (R []) (λ _. kept.of_sequence (codes "49") refl) (λ _. keeps_nothing b R kept.joins))
+      (cond_both (is_some cell.foreground) _ [] (R []) (λ _. kept.of_sequence (codes "39") refl) (λ _. keeps_nothing b R kept.joins)))
       (λ _. kept.of_sequence (codes "0") refl)
 
   -- a styled text
   keeps_styled : (cell : CellValue) (shown text : Text) → R shown text → R shown (styled cell text)
   keeps_styled cell shown text own =
       subst (λ s. R s (styled cell text)) (append-nil shown)
-      (kept.of_both [] (shown ++ []) (style_begin cell) (text ++ style_end cell) (keeps_style_begin cell) (kept.of_both shown [] text (style_end cell) own (keeps_style_end cell)))
+      (kept.joins.of_both [] (shown ++ []) (style_begin cell) (text ++ style_end cell) (keeps_style_begin cell) (kept.joins.of_both shown [] text (style_end cell) own (keeps_style_end cell)))
 
   -- ---- pieces
 
-  -- spaces
-  pub keeps_spaces : (n : ℕ) → R (spaces n) (spaces n)
-  keeps_spaces zero = keeps_nothing
-  keeps_spaces (suc n) =
-      kept.of_both (0x20 ∷ []) (spaces n) (0x20 ∷ []) (spaces n) (kept.of_clear (0x20 ∷ []) kept.no_space) (keeps_spaces n)
-
   -- a padded text
   keeps_padded : (cell : CellValue) (info : ColumnInfo) (columns : ℕ) (shown text : Text) → R shown text → R (padded cell info columns shown) (padded cell info columns text)
-  keeps_padded cell info columns shown text own = grind (arith, kept.of_both, keeps_spaces)
+  keeps_padded cell info columns shown text own = grind (arith, kept.joins.of_both, keeps_spaces b R kept.joins)
 
   -- the piece of a line, and the plain piece of what is seen of it
   pub keeps_piece : (table : TableValue) (cell : CellValue) (info : ColumnInfo) (line : CellLine) → R line.seen line.written → R (plain_piece cell info line.seen) (piece table cell info line)

@@ -16,10 +16,7 @@ use Rattle.comfy_table.specs.TableValue.{TableValue, seen_rows}
 shows_kept : KeptByDrawing 0x1B Shows
 shows_kept =
     record {
-      seven_bits = omega arith;
-      no_space = refl;
-      of_clear = Shows-clear;
-      of_both = Shows-append;
+      joins = record { seven_bits = omega arith; no_space = refl; of_clear = Shows-clear; of_both = Shows-append };
       of_sequence = Shows-sequence;
       of_seen = Shows-seen;
       of_closed = λ text clear.

@@ -114,12 +114,12 @@ module _ (table : TableValue) (row : RowValue) (info : ColumnInfo) (cell : CellV
         let seen : HasNo b line.seen = of_whole (HasNo b) true (seen_each (HasNo b) true (lines_of_text-clear b w d) clear) k default below in
         subst (λ s. R s line.written) is (kept.of_seen line.written (subst (HasNo b) (sym is) seen))
     keeps_whole false clear =
-        All-map (λ (line : CellLine). R line.seen line.written) as_seen (cell_lines w d cell) (All-weaker (HasNo b) (λ line. R line line) kept.of_clear (cell_lines w d cell) (seen_each (HasNo b) false (lines_of_text-clear b w d) clear))
+        All-map (λ (line : CellLine). R line.seen line.written) as_seen (cell_lines w d cell) (All-weaker (HasNo b) (λ line. R line line) kept.joins.of_clear (cell_lines w d cell) (seen_each (HasNo b) false (lines_of_text-clear b w d) clear))
 
     -- one that is cut
     keeps_cut : (custom : Bool) (line : CellLine) → HasNo b (cut_text w table.indicator line.seen) → R (cut_text w table.indicator line.seen) (cut_line custom w table.indicator line).written
     keeps_cut true line clear = kept.of_closed (cut_text w table.indicator line.seen) clear
-    keeps_cut false line clear = kept.of_clear (cut_text w table.indicator line.seen) clear
+    keeps_cut false line clear = kept.joins.of_clear (cut_text w table.indicator line.seen) clear
 
     -- all lines
     pub keeps_lines : (custom : Bool) → HasNo b table.indicator → All IsUtf8 (cell_seen custom cell).text_lines → All (HasNo b) (cell_seen custom cell).text_lines → All (λ (line : CellLine). R line.seen line.written) (lines_with custom)

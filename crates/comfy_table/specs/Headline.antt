@@ -10,7 +10,7 @@ use Rattle.comfy_table.specs.Arrangement.{IsArranged, room_beside_borders}
 use Rattle.comfy_table.specs.Drawing.{drawing, infos_of, terminated_text_of, text_of, trimmed_text_of, whole_widths}
 use Rattle.comfy_table.specs.Dynamic.{Steps, IsArrangedBy}
 use Rattle.comfy_table.specs.Frame.{frame_line}
-use Rattle.comfy_table.specs.Laws.{CutLinesAreClosed, HasNoBreak, HasUnbrokenStyle, IsFreeOfEscapes, IsPlainTable, LinesAreResumedInRow, NoConstraints, NoneIsOpenAtTheEnd, count, least_total, line_total, unstyled}
+use Rattle.comfy_table.specs.Laws.{CutLinesAreClosed, HasNoBreak, HasSequencesInTextsAlone, HasUnbrokenStyle, IsFreeOfEscapes, IsPlainTable, LeavesNoneOpen, LinesAreResumedInRow, NoConstraints, NoneIsOpenAtTheEnd, count, least_total, line_total, unstyled}
 use Rattle.comfy_table.specs.Lines.{cell_delimiter}
 use Rattle.comfy_table.specs.Pieces.{visible_infos}
 use Rattle.comfy_table.specs.Straight.{IsStraightTable}
@@ -80,6 +80,8 @@ pub record IsTableDrawing (table : TableValue) (lines : List Text) : Type 0 wher
   pub closed : table.custom_styling ≡ true → All (λ (row : RowValue). All (IsClosedInRow table row) (visible_infos (infos_of table widths))) (header_and_rows table)
   pub resumed : table.custom_styling ≡ true → All (λ (row : RowValue). All (IsResumedInRow table row) (visible_infos (infos_of table widths))) (header_and_rows table)
   pub cut_closed : table.custom_styling ≡ true → All (λ (row : RowValue). All (IsCutClosedInRow table row) (visible_infos (infos_of table widths))) (header_and_rows table)
+  -- with custom styling no line leaves a sequence open, where sequences stand in the texts of cells alone
+  pub closed_lines : table.custom_styling ≡ true → HasSequencesInTextsAlone table → All LeavesNoneOpen lines
   -- each frame line has the line's total, whatever the texts
   pub frame_counts : (line : LineStyle) → count (frame_line table.style line (whole_widths (infos_of table widths))) ≡ line_total table widths
   -- a known width w holds where no visible column has a constraint: under `Dynamic` a line has at most that count, or that of borders, paddings and one terminal column for each visible column

@@ -1,5 +1,5 @@
 -- What drawings and widths promise beyond their definitions. Each is a statement at given values.
-use Rattle.std.specs.Prelude.{◌≡◌, ℕ, ◌+◌, ◌-◌, ◌<◌, ◌≤◌, Bool, true, false, List, [], ◌∷◌, ◌++◌, Option, Some, None, take, drop, length, max, sum, sum_by, All, chars, slice_get, map, IsUtf8, unwrap_or, ◌==◌}
+use Rattle.std.specs.Prelude.{◌≡◌, ◌⊎◌, ℕ, ◌+◌, ◌-◌, ◌<◌, ◌≤◌, Bool, true, false, List, [], ◌∷◌, ◌++◌, Option, Some, None, take, drop, length, max, sum, sum_by, All, chars, slice_get, map, IsUtf8, unwrap_or, ◌==◌}
 use Rattle.std.specs.Char.{IsScalar}
 use Rattle.std.specs.Int.{is_in_range}
 use Rattle.std.specs.List.{AllZip, concat, list_any, slice_split}
@@ -10,13 +10,14 @@ use Rattle.comfy_parts.specs.Laws.{IsResumedLine, characters_without}
 use Rattle.comfy_parts.specs.VisibleLines.{CellLine, line_starts}
 use Rattle.comfy_parts.specs.VisibleText.{closed, parts, open_after}
 use Rattle.comfy_parts.specs.declared.style.table.ContentArrangement.TheVariants.{Dynamic, DynamicFullWidth}
+use Rattle.comfy_parts.specs.declared.style.table_style.TableStyle.{TableStyle}
 use Rattle.comfy_table.specs.Arrangement.{IsArranged}
 use Rattle.comfy_table.specs.Drawing.{infos_of, terminated_text_of, text_of, whole_widths}
 use Rattle.comfy_table.specs.Dynamic.{Steps, IsDynamic, fixed_shares, places_of, total}
 use Rattle.comfy_table.specs.Frame.{border_count}
 use Rattle.comfy_table.specs.Lines.{cell_lines, cell_delimiter, fitting_indicator, uncut_count, whole_lines}
 use Rattle.comfy_table.specs.Pieces.{visible_infos, row_cell_lines}
-use Rattle.comfy_table.specs.TableValue.{TableValue, table_width, visible_columns, column_cells, seen_cell, seen_table, seen_rows}
+use Rattle.comfy_table.specs.TableValue.{TableValue, table_width, visible_columns, column_cells, header_and_rows, seen_cell, seen_table, seen_rows, should_style}
 use Rattle.comfy_table.specs.Widths.{ColumnNeeds, visible_count}
 
 -- ---- counts of lines
@@ -108,10 +109,14 @@ HasNoEscape text = HasNo 0x1B text
 abbrev pub HasNoBreak : Text → Type 0
 HasNoBreak text = HasNo 0x0A text
 
--- the byte b is no character of the style, and not in the indicator
+-- the byte b is no character of the style
+abbrev pub IsStyleWithout : ℕ → TableStyle → Type 0
+IsStyleWithout b style = list_any (λ (c : Option ℕ). unwrap_or c 0x20 == b) (style_characters style) ≡ false
+
+-- nor is it in the indicator
 pub record HasStyleWithout (b : ℕ) (table : TableValue) : Type 0 where
   pub indicator : HasNo b table.indicator
-  pub characters : list_any (λ (c : Option ℕ). unwrap_or c 0x20 == b) (style_characters table.style) ≡ false
+  pub characters : IsStyleWithout b table.style
 
 -- no text line as it is seen, no character of the style and no indicator holds ESC
 pub record IsFreeOfEscapes (table : TableValue) : Type 0 where
@@ -158,3 +163,28 @@ LinesAreResumedInRow table row info cell =
 abbrev pub CutLinesAreClosed : TableValue → RowValue → ColumnInfo → CellValue → Type 0
 CutLinesAreClosed table row info cell =
     All (λ (line : CellLine). line.written ≡ closed line.seen) (drop (uncut_in_row table row info cell) (row_cell_lines table row info cell))
+
+-- ---- sequences in drawn lines
+
+-- no sequence is open after the line
+abbrev pub LeavesNoneOpen : Text → Type 0
+LeavesNoneOpen line = open_after (parts line) ≡ []
+
+-- the styling of a cell ends with a reset, or writes nothing: the cell has no colours of its own, or an attribute
+abbrev pub EndsItsStyling : CellValue → Type 0
+EndsItsStyling cell = ((cell.background ≡ None) × (cell.foreground ≡ None)) ⊎ (0 < length cell.attributes)
+
+-- so do all cells whose styling is written
+abbrev pub EndsStyling : TableValue → Type 0
+EndsStyling table = (should_style table ≡ false) ⊎ All (λ (row : RowValue). All EndsItsStyling row.cells) (header_and_rows table)
+
+-- each visible column has a padding at its right, or no ESC is seen in its cells: so no sequence begins in a text and ends outside it
+abbrev pub EndsSequencesInTexts : TableValue → Type 0
+EndsSequencesInTexts table =
+    All (λ (p : ℕ × ColumnValue). (1 ≤ p.1.padding.1) ⊎ All (λ (cell : CellValue). All HasNoEscape cell.text_lines) (column_cells table p.0)) (visible_columns table)
+
+-- only texts of cells hold sequences, but for styling that ends: neither the style nor the indicator holds ESC, and no sequence ends outside its text
+pub record HasSequencesInTextsAlone (table : TableValue) : Type 0 where
+  pub styling : EndsStyling table
+  pub style : HasStyleWithout 0x1B table
+  pub ends : EndsSequencesInTexts table

@@ -1,10 +1,11 @@
--- Tables to which nothing but a style, a header and rows was given, and the widths of their lines.
-use Rattle.std.specs.Prelude.{◌≡◌, ℕ, ◌≤◌, List, None, All}
+-- Tables to which nothing but a style, a header and rows was given: the widths of their lines, and the sequences in them.
+use Rattle.std.specs.Prelude.{◌≡◌, ℕ, ◌≤◌, List, None, All, true}
 use Rattle.comfy_parts.specs.CellValue.{CellValue, RowValue}
 use Rattle.comfy_parts.specs.Columns.{IsOneColumnStyle}
 use Rattle.comfy_parts.specs.Text.{Text, measure}
 use Rattle.comfy_parts.specs.declared.style.table_style.TableStyle.{TableStyle}
 use Rattle.comfy_table.specs.Headline.{IsTableDrawing}
+use Rattle.comfy_table.specs.Laws.{IsStyleWithout, LeavesNoneOpen}
 use Rattle.comfy_table.specs.TableValue.{new_table, with_header, with_rows}
 
 -- a row without a greatest height, whose text lines have at most 65535 terminal columns
@@ -20,3 +21,8 @@ AreEquallyWide lines = (n : ℕ) × All (λ line. measure line ≡ n) lines
 abbrev pub NewTablesAreStraight : TableStyle → RowValue → List RowValue → List Text → Type 0
 NewTablesAreStraight style header rows lines =
     IsOneColumnStyle style → IsShortRow header → All IsShortRow rows → IsTableDrawing (with_rows rows (with_header header (new_table style))) lines → AreEquallyWide lines
+
+-- with custom styling, no line of a new table of any rows leaves a sequence open, in a style without ESC
+abbrev pub NewTablesLeaveNoneOpen : TableStyle → RowValue → List RowValue → List Text → Type 0
+NewTablesLeaveNoneOpen style header rows lines =
+    IsStyleWithout 0x1B style → IsTableDrawing (record (with_rows rows (with_header header (new_table style))) { custom_styling = true }) lines → All LeavesNoneOpen lines

@@ -8,7 +8,7 @@ ghost use Rattle.comfy_parts.specs.Text.{Text};
 ghost use Rattle.comfy_parts.specs.declared.style.table_style.LineStyle.{LineStyle};
 ghost use Rattle.comfy_parts.specs.declared.style.table_style.TableStyle.{TableStyle};
 ghost use Rattle.comfy_table.specs.Laws.{CellKeepsItsText, DynamicIsOne, FillsWidth, JoinedLinesAreFound, KeepsToWidth, NoLinesAreOneEmptyLine, TerminatedLinesAreFound};
-ghost use Rattle.comfy_table.specs.NewTables.{NewTablesAreStraight};
+ghost use Rattle.comfy_table.specs.NewTables.{NewTablesAreStraight, NewTablesLeaveNoneOpen};
 ghost use Rattle.comfy_table.specs.TableLaws.{FillsWiderTotal, FrameCounts, FrameFillsWidth, FrameKeepsToWidth, IsAtMostThreeOver, KeepsToWiderTotal, KeepsToWiderTotalInFull, ShrinkingKeepsCells, TableIsFull, TableIsLevelled, TableKeepsContents, TableLevelIsBest};
 ghost use Rattle.comfy_table.specs.TableValue.{TableValue};
 ghost use Rattle.comfy_table.specs.Widths.{ColumnNeeds};
@@ -54,6 +54,12 @@ pub fn lines_are_found_in_their_texts()
 /// than 65535 terminal columns.
 pub fn new_tables_are_straight()
     ensures { (style : TableStyle) (header : RowValue) (rows : List RowValue) (lines : List Text) → NewTablesAreStraight style header rows lines }
+{}
+
+/// A new table with `custom_styling`, in a style without ESC, with a header and rows, leaves no sequence open: none is open
+/// after any of its lines, whatever the texts.
+pub fn new_tables_leave_no_sequence_open()
+    ensures { (style : TableStyle) (header : RowValue) (rows : List RowValue) (lines : List Text) → NewTablesLeaveNoneOpen style header rows lines }
 {}
 
 /// Where no visible column has a constraint, borders and whole widths together keep to the set width, or to borders,

@@ -1,4 +1,5 @@
 mod ArgumentTrials
+mod ClosedLineTrials
 mod DrawingTrials
 mod InputTrials
 mod OutcomeTrials

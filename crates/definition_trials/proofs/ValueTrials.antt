@@ -1,9 +1,12 @@
--- Cells and rows of small values.
+-- Cells and rows of small values, and values in their order.
 use Rattle.std.proofs.Common.{◌≡◌, [], ◌∷◌, Some, true, false, refl}
 use Rattle.std.specs.Prelude.{codes}
 use Rattle.std.specs.Fmt.{digits}
 use Rattle.comfy_parts.proofs.Computing.{wrapping}
 use Rattle.comfy_parts.specs.CellValue.{number_cell, bool_cell, char_cell, plain_cell, plain_row, content_of, with_cell, with_max_height, new_column, saturated_padding, visible_among}
+use Rattle.comfy_parts.specs.Comparisons.{ascends, attribute_cmp, color_cmp}
+use Rattle.comfy_parts.specs.declared.style.attribute.Attribute.TheVariants as attribute
+use Rattle.comfy_parts.specs.declared.style.color.Color.TheVariants as color
 use Rattle.comfy_parts.specs.declared.style.column.ColumnConstraint.TheVariants.{ContentWidth, Hidden}
 use Rattle.comfy_table.specs.TableValue.{constrained}
 
@@ -37,3 +40,23 @@ further_constraints = refl
 -- columns past the last constraint keep theirs
 further_columns : constrained (ContentWidth ∷ []) (new_column 0 ∷ record (new_column 1) { constraint = Some Hidden } ∷ []) ≡ record (new_column 0) { constraint = Some ContentWidth } ∷ record (new_column 1) { constraint = Some Hidden } ∷ []
 further_columns = refl
+
+-- ---- ascending values
+
+least_first : ascends attribute_cmp (attribute.Bold ∷ attribute.Dim ∷ attribute.Italic ∷ []) ≡ true
+least_first = refl
+
+greater_first : ascends attribute_cmp (attribute.Bold ∷ attribute.Italic ∷ attribute.Dim ∷ []) ≡ false
+greater_first = refl
+
+-- equal values don't ascend
+twice_the_same : ascends attribute_cmp (attribute.Bold ∷ attribute.Bold ∷ []) ≡ false
+twice_the_same = refl
+
+-- fewer than two do
+one_ascends : ascends attribute_cmp (attribute.Dim ∷ []) ≡ true
+one_ascends = refl
+
+-- colours of parts ascend by the first part in which they differ
+by_the_second_part : ascends color_cmp (color.Rgb 1 2 9 ∷ color.Rgb 1 3 0 ∷ []) ≡ true
+by_the_second_part = refl

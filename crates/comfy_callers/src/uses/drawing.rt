@@ -9,10 +9,11 @@ ghost use Rattle.comfy_table.specs.Headline.{IsTerminatedTextOf, IsTextOf, IsTri
 ghost use Rattle.comfy_table.specs.NewTables.{AreEquallyWide, IsShortRow};
 ghost use Rattle.comfy_table.specs.Pieces.{row_lines};
 ghost use Rattle.comfy_table.specs.TableValue.{header_and_rows, max_content_widths, new_table, with_header, with_rows};
-ghost use Rattle.comfy_callers.specs.Uses.{IsPrintedWithin, table_within};
+ghost use Rattle.comfy_callers.specs.Uses.{IsDrawnWhole, IsPrintedWithin, table_within};
 
 use comfy_table::laws::{
-    lines_are_found_in_their_texts, new_tables_are_straight, presets_have_columns_of_one,
+    cells_keep_their_text, lines_are_found_in_their_texts, new_tables_are_straight,
+    presets_have_columns_of_one,
 };
 use comfy_table::presets::UTF8_FULL;
 use comfy_table::utils::arrangement::{arrange_content, longest_line};
@@ -107,6 +108,20 @@ pub fn printed_within(alloc: Global, header: Row, row: Row, width: u16) -> Resul
         .set_header(header)?
         .add_row(row)?;
     table.to_terminated_text()
+}
+
+/// A text in a table of its own, drawn within a width. Nothing of it is lost: in a frame stand its lines, which one after
+/// another have all its characters, in order, but for spaces and line feeds.
+pub fn drawn_whole(alloc: Global, text: &str, width: u16) -> Result<Lines>
+    ensures { IfOk result (λ lines. IsDrawnWhole text.now lines) }
+{
+    cells_keep_their_text();
+    let mut table = Table::new(alloc);
+    table
+        .set_width(width)
+        .set_content_arrangement(ContentArrangement::Dynamic)
+        .add_row([text])?;
+    table.lines()
 }
 
 /// A report, as of Chinese names and how often each was met. All its lines are equally many terminal columns wide, whatever

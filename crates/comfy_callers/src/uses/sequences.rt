@@ -1,17 +1,18 @@
 //! Callers that draw and look at cells whose texts hold sequences.
 
-ghost use Rattle.std.specs.Prelude.{◌≡◌, ◌<◌, IfOk, Some, false, length, map, not, slice_get, string_bytes, true};
-ghost use Rattle.std.specs.List.{list_any};
+ghost use Rattle.std.specs.Prelude.{◌==◌, ◌≡◌, ◌<◌, All, IfOk, Some, false, length, map, not, slice_get, string_bytes, true};
+ghost use Rattle.std.specs.List.{list_any, slice_split};
 ghost use Rattle.comfy_parts.specs.Text.{measure};
 ghost use Rattle.comfy_parts.specs.VisibleLines.{line_texts};
 ghost use Rattle.comfy_parts.specs.VisibleText.{closed, has_escape, visible_text};
-ghost use Rattle.comfy_table.specs.Laws.{CutLinesAreClosed, IsFreeOfEscapes, LinesAreResumedInRow, NoneIsOpenAtTheEnd};
+ghost use Rattle.comfy_table.specs.Laws.{CutLinesAreClosed, IsFreeOfEscapes, LeavesNoneOpen, LinesAreResumedInRow, NoneIsOpenAtTheEnd};
 ghost use Rattle.comfy_callers.specs.Uses.{IsDrawnWithCells, IsPlainDrawing};
 
 use comfy_parts::content_split::leaves_sequence_open;
 use comfy_parts::for_tables::{has_escape, visible_lines, visible_widths, written_lines};
+use comfy_table::laws::{lines_are_found_in_their_texts, new_tables_leave_no_sequence_open};
 use comfy_table::utils::formatting::content_split::ColumnDisplayInfo;
-use comfy_table::{Cell, Lines, Result, Table};
+use comfy_table::{Cell, Lines, Result, Row, Table};
 use std::alloc::Global;
 
 /// Draws a table with the sequences inside its cells. No text that is written for a line of a cell leaves one open. The
@@ -26,6 +27,18 @@ pub fn drawn_with_sequences(table: &mut Table) -> Result<Lines>
 {
     table.custom_styling();
     table.lines()
+}
+
+/// A header and a row with sequences inside their cells, as a program prints them. Cut at its line feeds the text has no
+/// line that leaves a sequence open.
+pub fn printed_closed(alloc: Global, header: Row, row: Row) -> Result<String>
+    ensures { IfOk result (λ text. All LeavesNoneOpen (slice_split (λ b. b == 10) (string_bytes text))) }
+{
+    new_tables_leave_no_sequence_open();
+    lines_are_found_in_their_texts();
+    let mut table = Table::new(alloc);
+    table.custom_styling().set_header(header)?.add_row(row)?;
+    table.to_terminated_text()
 }
 
 /// Has the sequences inside the cells of a table count nothing, and says whether they did already.

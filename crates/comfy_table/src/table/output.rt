@@ -15,6 +15,9 @@ use std::vec;
 /// The drawn lines of a table that are still to come, from the top. None holds a line feed, where neither the style nor
 /// the truncation indicator does.
 ///
+/// After `custom_styling` none leaves a sequence open, where no cell's own colours are written but beside an attribute,
+/// neither the style nor the indicator holds ESC, and each visible column has a padding at its right.
+///
 /// ```
 /// for line in table.lines()? {
 ///     println!(rt; "{line}")?;
