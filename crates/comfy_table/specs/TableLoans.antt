@@ -1,6 +1,6 @@
 -- What a table ends as, once a call that lends it on, or a part of it, has returned.
 use Rattle.std.specs.Prelude.{ℕ, List, Option, Result, length, slice_set}
-use Rattle.std.specs.Borrow.{Fml, MutBor, Array, Lends, LendsIf, LendsIfOk, follows}
+use Rattle.std.specs.Borrow.{Fml, MutBor, Array, Lends, LendsIf, LendsIfOk, RestsIfErr, follows}
 use Rattle.std.specs.List.{refill}
 use Rattle.std.specs.Slice.Iter.{iter_mut_name}
 use Rattle.std.specs.declared.slice.IterMut.{IterMut}
@@ -9,12 +9,16 @@ use Rattle.comfy_parts.specs.contracts.column.Column as column
 use Rattle.comfy_parts.specs.contracts.row.Row as row
 use Rattle.comfy_parts.specs.contracts.style.table_style.TableStyle as style
 use Rattle.comfy_parts.specs.declared.style.table_style.TableStyle.{TableStyle}
-use Rattle.comfy_table.specs.TableValue.{TableValue}
+use Rattle.comfy_table.specs.TableValue.{TableValue, IsWithRowsBeforeOne}
 use Rattle.comfy_table.specs.contracts.table.Table as table
 
 -- where the call failed, the table stays as it was
 abbrev pub TableStaysIfErr : {E : Type 0} → MutBor TableValue → Result (MutBor TableValue) E → Fml
 TableStaysIfErr t r = LendsIfOk table.the_row table.the_row t r (λ x. x) t.now
+
+-- where the call failed, the table has some first rows of these, and not all
+abbrev pub TableHasFirstRowsIfErr : {E : Type 0} → List RowValue → MutBor TableValue → Result (MutBor TableValue) E → Fml
+TableHasFirstRowsIfErr rows t r = RestsIfErr table.the_row t (λ x. x.ghost_name) r (IsWithRowsBeforeOne rows t.now)
 
 -- the column at i is the last one written, and nothing else changes
 abbrev pub LendsColumn : MutBor TableValue → ℕ → Option (MutBor ColumnValue) → Fml

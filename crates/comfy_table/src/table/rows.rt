@@ -1,10 +1,13 @@
 //! Several rows added at once, and rows added on a condition.
 
 ghost use Rattle.std.specs.Prelude.{◌≡◌, Bool, true, IfOk, OnOk, OnErr, if◌then◌else◌, length, map};
+ghost use Rattle.std.specs.Borrow.{sem};
 ghost use Rattle.comfy_table.specs.Predicate.{Answers};
+ghost use Rattle.comfy_table.specs.TableLoans.{TableHasFirstRowsIfErr, TableStaysIfErr};
+ghost use Rattle.comfy_table.specs.TableReference.{reference_of};
 ghost use Rattle.comfy_table.specs.TableValue.{IsWithRowsBeforeOne, with_row, with_rows};
 
-use crate::table::Table;
+use crate::table::{Table, TableReference, into_reference};
 use comfy_parts::{IntoRow, Items, Result};
 
 impl Table {
@@ -16,11 +19,11 @@ impl Table {
         I: Items,
         I::Item: IntoRow,
         I::IntoIter: Drop,
+        ensures* err { sem 𝓛 (TableHasFirstRowsIfErr (map I.Item.row_of (I.items_of rows)) self.entry result) }
         ensures same_reference { IfOk result (λ table. table.ghost_name ≡ self.entry.ghost_name) }
         ensures added { IfOk result (λ table. table.now ≡ with_rows (map I.Item.row_of (I.items_of rows)) self.old) }
     {
-        self.try_add_rows(rows)?;
-        Ok(self)
+        into_reference(self.with_rows_added(rows))
     }
 
     /// Asks the predicate once, with the number of rows and the row. On yes it appends the row as `add_row` does; on no it
@@ -31,12 +34,12 @@ impl Table {
         P: Fn(usize, &T) -> bool + Drop,
         T: IntoRow,
         requires { P.IsAlwaysCallable predicate }
+        ensures* err { sem 𝓛 (TableStaysIfErr self.entry result) }
         ensures same_reference { IfOk result (λ table. table.ghost_name ≡ self.entry.ghost_name) }
         ensures asked { IfOk result (λ table. (yes : Bool) × Answers P.Fn predicate (length self.old.rows) row yes × (table.now ≡ (if yes then with_row (T.row_of row) self.old else self.old))) }
         ensures refused_on_yes { OnErr result (Answers P.Fn predicate (length self.old.rows) row true) }
     {
-        self.try_add_row_if(predicate, row)?;
-        Ok(self)
+        into_reference(self.with_row_added_if(predicate, row))
     }
 
     /// Asks the predicate once, with the number of rows and the new rows. On yes it appends them as `add_rows` does; on no
@@ -50,12 +53,12 @@ impl Table {
         I::Item: IntoRow,
         I::IntoIter: Drop,
         requires { P.IsAlwaysCallable predicate }
+        ensures* err { sem 𝓛 (TableHasFirstRowsIfErr (map I.Item.row_of (I.items_of rows)) self.entry result) }
         ensures same_reference { IfOk result (λ table. table.ghost_name ≡ self.entry.ghost_name) }
         ensures asked { IfOk result (λ table. (yes : Bool) × Answers P.Fn predicate (length self.old.rows) rows yes × (table.now ≡ (if yes then with_rows (map I.Item.row_of (I.items_of rows)) self.old else self.old))) }
         ensures refused_on_yes { OnErr result (Answers P.Fn predicate (length self.old.rows) rows true) }
     {
-        self.try_add_rows_if(predicate, rows)?;
-        Ok(self)
+        into_reference(self.with_rows_added_if(predicate, rows))
     }
 
     /// Appends rows in their order, each as `add_row` does. This is for callers that go on with the table after
@@ -109,5 +112,51 @@ impl Table {
             return Ok(());
         }
         self.try_add_rows(rows)
+    }
+
+    // `add_rows` with the reference in a struct: so its clause on `OutOfMemory` can be proved.
+    fn with_rows_added<I>(&mut self, rows: I) -> Result<TableReference<'_>>
+    where
+        I: Items,
+        I::Item: IntoRow,
+        I::IntoIter: Drop,
+        ensures* err { sem 𝓛 (TableHasFirstRowsIfErr (map I.Item.row_of (I.items_of rows)) self.entry (reference_of result)) }
+        ensures same_reference { IfOk (reference_of result) (λ table. table.ghost_name ≡ self.entry.ghost_name) }
+        ensures added { IfOk (reference_of result) (λ table. table.now ≡ with_rows (map I.Item.row_of (I.items_of rows)) self.old) }
+    {
+        self.try_add_rows(rows)?;
+        Ok(TableReference { table: self })
+    }
+
+    // `add_row_if` with the reference in a struct: so its clause on `OutOfMemory` can be proved.
+    fn with_row_added_if<P, T>(&mut self, predicate: P, row: T) -> Result<TableReference<'_>>
+    where
+        P: Fn(usize, &T) -> bool + Drop,
+        T: IntoRow,
+        requires { P.IsAlwaysCallable predicate }
+        ensures* err { sem 𝓛 (TableStaysIfErr self.entry (reference_of result)) }
+        ensures same_reference { IfOk (reference_of result) (λ table. table.ghost_name ≡ self.entry.ghost_name) }
+        ensures asked { IfOk (reference_of result) (λ table. (yes : Bool) × Answers P.Fn predicate (length self.old.rows) row yes × (table.now ≡ (if yes then with_row (T.row_of row) self.old else self.old))) }
+        ensures refused_on_yes { OnErr (reference_of result) (Answers P.Fn predicate (length self.old.rows) row true) }
+    {
+        self.try_add_row_if(predicate, row)?;
+        Ok(TableReference { table: self })
+    }
+
+    // `add_rows_if` with the reference in a struct: so its clause on `OutOfMemory` can be proved.
+    fn with_rows_added_if<P, I>(&mut self, predicate: P, rows: I) -> Result<TableReference<'_>>
+    where
+        P: Fn(usize, &I) -> bool + Drop,
+        I: Items + Drop,
+        I::Item: IntoRow,
+        I::IntoIter: Drop,
+        requires { P.IsAlwaysCallable predicate }
+        ensures* err { sem 𝓛 (TableHasFirstRowsIfErr (map I.Item.row_of (I.items_of rows)) self.entry (reference_of result)) }
+        ensures same_reference { IfOk (reference_of result) (λ table. table.ghost_name ≡ self.entry.ghost_name) }
+        ensures asked { IfOk (reference_of result) (λ table. (yes : Bool) × Answers P.Fn predicate (length self.old.rows) rows yes × (table.now ≡ (if yes then with_rows (map I.Item.row_of (I.items_of rows)) self.old else self.old))) }
+        ensures refused_on_yes { OnErr (reference_of result) (Answers P.Fn predicate (length self.old.rows) rows true) }
+    {
+        self.try_add_rows_if(predicate, rows)?;
+        Ok(TableReference { table: self })
     }
 }
