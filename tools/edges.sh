@@ -1,7 +1,7 @@
 #!/bin/sh
-# Runs a built ctable where its memory, its input or its output ends, and compares its status and what it says on
-# standard error. In each of these runs nothing may stand on standard output. It prints a line for each, and ends with
-# status 1 where one is otherwise than written here.
+# Runs a built ctable where its memory, its input or its output ends, and with words that aren't text. It compares its
+# status and what it says on standard error. In each of these runs nothing may stand on standard output. It prints a line
+# for each, and ends with status 1 where one is otherwise than written here.
 #
 # usage: tools/edges.sh PROGRAM, as tools/edges.sh crates/ctable/out/ctable
 set -u
@@ -70,5 +70,22 @@ compare 'a folder as input' $? 1 "ctable: the input can't be read"
 status=$?
 : > "$work/err"
 compare 'a folder as input, and a closed standard error' $status 1 ''
+
+# Words that aren't UTF-8: a byte that no text has, one behind letters, and a character that ends too early. Reading the
+# folder would end with another status: the words alone decide.
+byte=$(printf '\377')
+behind=$(printf 'dynamic\377')
+early=$(printf 'UTF8_FULL\342\202')
+usage='usage: ctable [WIDTH|- [disabled|dynamic|full [STYLE]]]'
+misuse() {
+  name=$1
+  shift
+  "$program" "$@" < "$work" > "$work/out" 2> "$work/err"
+  compare "$name" $? 2 "$usage"
+}
+misuse 'a width that is no text' "$byte"
+misuse 'an arrangement that is no text' 40 "$behind"
+misuse 'a style that is no text' 40 dynamic "$early"
+misuse 'a fourth word that is no text' 40 dynamic UTF8_FULL "$byte"
 
 exit $ended

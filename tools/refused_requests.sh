@@ -1,13 +1,14 @@
 #!/bin/sh
-# Refuses each request for memory of three built programs, one after another: those of ctable on its stored input, those
-# of table_cases on two of its cases, and those of refused_calls on each call by itself. Each such run of the first two
-# must end with status 1, print nothing, and say that there is no memory. One of refused_calls must say that the call was
-# refused as promised, or end with status 3 and print nothing, where the request wasn't the call's. Of a call that adds
-# three rows it must also say how many are kept: 0 at first, then 1, then 2, as later requests are refused.
+# Refuses each request for memory of three built programs, one after another: those of ctable on its stored input, without
+# words and with some, those of table_cases on two of its cases, and those of refused_calls on each call by itself. Each
+# such run of the first two must end with status 1, print nothing, and say that there is no memory. One of refused_calls
+# must say that the call was refused as promised, or end with status 3 and print nothing, where the request wasn't the
+# call's. Of a call that adds three rows it must also say how many are kept: 0 at first, then 1, then 2, as later requests
+# are refused.
 #
 # usage: tools/refused_requests.sh RUNNER
-# RUNNER is called as `RUNNER INPUT PROGRAM`. It runs PROGRAM on INPUT with its first request refused,
-# then with its second, and so on until PROGRAM makes no more. Wherever a run ends otherwise than the one
+# RUNNER is called as `RUNNER INPUT PROGRAM [WORD]..`. It runs PROGRAM with the words on INPUT with its first request
+# refused, then with its second, and so on until PROGRAM makes no more. Wherever a run ends otherwise than the one
 # before it prints `request N: status S, B bytes, ERRORS`, and at the end `refused in turn: N;` and behind it, with a
 # semicolon after each, how many runs ended in which way: ` C status S, B bytes, ERRORS`.
 set -u
@@ -33,20 +34,21 @@ build() {
   fi
 }
 
-# Each refused request of a program on an input must end with what is said.
+# Each refused request of a built program on an input must end with what is said. Behind it stand the program's words.
 refuse() {
   name=$1
   input=$2
-  words=$3
-  build "$name"
-  said=$("$runner" "$input" "$crates/$name/out/$name") || exit 2
-  printf '%s\n' "$said" | sed "s/^/$name: /"
+  message=$3
+  shift 3
+  said=$("$runner" "$input" "$crates/$name/out/$name" "$@") || exit 2
+  called=$name${*:+" $*"}
+  printf '%s\n' "$said" | sed "s/^/$called: /"
   if ! printf '%s\n' "$said" | grep -q '^refused in turn: [1-9]'; then
-    echo "$0: no request of $name was refused" >&2
+    echo "$0: no request of $called was refused" >&2
     exit 1
   fi
-  if printf '%s\n' "$said" | grep '^request ' | grep -v ": status 1, 0 bytes, $words *\$"; then
-    echo "$0: a refused request of $name ended otherwise" >&2
+  if printf '%s\n' "$said" | grep '^request ' | grep -v ": status 1, 0 bytes, $message *\$"; then
+    echo "$0: a refused request of $called ended otherwise" >&2
     exit 1
   fi
 }
@@ -80,7 +82,10 @@ refuse_call() {
   echo "refused_calls: $call: refused in turn: $own, as promised"
 }
 
+build ctable
 refuse ctable "$crates/ctable/stdin" 'ctable: out of memory'
+refuse ctable "$crates/ctable/stdin" 'ctable: out of memory' 40 dynamic UTF8_FULL
+build table_cases
 awk '/^case\theight-(0-is-1-line|with-an-indicator-of-three-dots)$/, /^end$/' "$crates/table_cases/stdin" > "$work/two.cases"
 refuse table_cases "$work/two.cases" 'Error: out of memory'
 build refused_calls

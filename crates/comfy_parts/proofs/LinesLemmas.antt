@@ -40,8 +40,8 @@ rest-shown w d text first columns shown at end place inside word behind back par
 
 -- and the next line begins with that rest
 pub rest-at : (w d : ℕ) (text : Text) (first columns shown : ℕ) → IsAtLine w d text first columns shown → (end : ℕ) → IsCharBoundary text end → end < first → (word behind : Text)
-    → behind ≡ drop end text → word ≡ take (first - end) behind → (p s : ℕ) → AreColumnsUpTo w p word → IsWideFrom w s word → IsAtLine w d behind (first - end) p s
-rest-at w d text first columns shown at end place inside word behind back part p s are wide =
+    → behind ≡ drop end text → word ≡ take (first - end) behind → (p : ℕ) → AreColumnsUpTo w p word → IsAtLine w d behind (first - end) p shown
+rest-at w d text first columns shown at end place inside word behind back part p are =
     let after = first-inside d text first end at.whole at.element at.boundary place inside in
     record {
       narrow = at.narrow;
@@ -50,5 +50,5 @@ rest-at w d text first columns shown at end place inside word behind back part p
       boundary = subst (λ (t : Text). IsCharBoundary t (first - end)) (sym back) after.0;
       element = subst (λ (t : Text). IsFirstElement d t (take (first - end) t) (drop (first - end) t)) (sym back) after.1;
       columns_are = subst (AreColumnsUpTo w p) part are;
-      wide_from = subst (IsWideFrom w s) part wide;
+      wide_from = subst (IsWideFrom w shown) part (rest-shown w d text first columns shown at end place inside word behind back part);
     }

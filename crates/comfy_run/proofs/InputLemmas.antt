@@ -1,5 +1,6 @@
 -- How a line's cells and an input's rows come together.
 use Rattle.std.proofs.Common.{◌≡◌, ◌==◌, ◌<◌, ℕ, suc, Bool, true, false, List, [], ◌∷◌, ◌++◌, map, length, slice_index_or, refl, ap, ap₂, sym, ◌∙◌, append_assoc, arith, rules, cond, length-append, eqb-true}
+use Rattle.std.specs.Prelude.{if◌then◌else◌}
 use borrow.Author.Tests.{tests}
 use Rattle.std.proofs.lemmas.Bool.Decides.{nat_tests}
 use Rattle.std.proofs.lemmas.List.{map-append, length-map}
@@ -56,7 +57,7 @@ module _ {P : Type 0} (now : P → List ℕ) (pieces : List P) (piece : P) (text
       append_assoc text (0x0A ∷ []) (now piece) ∙ ap (λ t. t ++ 0x0A ∷ now piece) is ∙ sym (join-push (map now pieces) (now piece) are) ∙ ap (join_with_byte 0x0A) (sym (map-append now pieces (piece ∷ [])))
 
 -- a text stays as it is where a search for a break found none
-pub kept-breaks : (text : List ℕ) (found : Bool) → found ≡ false → ((k : ℕ) → k < length text → slice_index_or text k 0 ≡ 0x0B → found ≡ true) → map break_of text ≡ text
+kept-breaks : (text : List ℕ) (found : Bool) → found ≡ false → ((k : ℕ) → k < length text → slice_index_or text k 0 ≡ 0x0B → found ≡ true) → map break_of text ≡ text
 kept-breaks [] found none finds = refl
 kept-breaks (b ∷ text) found none finds =
     ap₂ (λ (x : ℕ) (xs : List ℕ). x ∷ xs) (by_test (b == 0x0B) refl) (kept-breaks text found none (λ k within. finds (suc k) (omega (arith, within))))
@@ -64,6 +65,37 @@ kept-breaks (b ∷ text) found none finds =
     by_test : (v : Bool) → (b == 0x0B) ≡ v → cond v 0x0A b ≡ b
     by_test true same = let contrary : false ≡ true = sym none ∙ finds 0 (omega arith) (eqb-true b 0x0B same) in absurd (true_is_false (sym contrary))
     by_test false other = refl
+
+module _ (p : ℕ → Bool) where
+  kept-onto : (b : ℕ) (parts : List (List ℕ)) → break_of b ≡ b → map (map break_of) parts ≡ parts → map (map break_of) (onto_first b parts) ≡ onto_first b parts
+  kept-onto b [] same kept = ap (λ x. (x ∷ []) ∷ []) same
+  kept-onto b (part ∷ parts) same kept = search (same, kept, rules)
+
+  -- where a text stays as it is, so do its parts
+  kept-parts : (text : List ℕ) → map break_of text ≡ text → map (map break_of) (slice_split p text) ≡ slice_split p text
+  kept-parts [] kept = refl
+  kept-parts (b ∷ text) kept =
+      let first : break_of b ≡ b = search (kept, rules) in
+      let more = kept-parts text (search (kept, rules)) in
+      elim (p b) as (λ (v : Bool). map (map break_of) (cond v ([] ∷ slice_split p text) (onto_first b (slice_split p text))) ≡ cond v ([] ∷ slice_split p text) (onto_first b (slice_split p text))) [
+        | true ↦ ap (λ t. [] ∷ t) more
+        | false ↦ kept-onto b (slice_split p text) first more
+      ]
+
+module _ {A : Type 0} (of : List ℕ → A) where
+  -- what is made of parts that stay as they are
+  mapped : (parts : List (List ℕ)) → map (map break_of) parts ≡ parts → map of parts ≡ map (λ part. of (map break_of part)) parts
+  mapped [] kept = refl
+  mapped (part ∷ parts) kept =
+      let same : map break_of part ≡ part = search (kept, rules) in
+      let more = mapped parts (search (kept, rules)) in
+      ap₂ (λ (x : A) (xs : List A). x ∷ xs) (ap of (sym same)) more
+
+  -- what is made of a text's parts, where breaks are looked for in a part only if the text has any
+  pub mapped-found : (p : ℕ → Bool) (text : List ℕ) (found : Bool) → ((k : ℕ) → k < length text → slice_index_or text k 0 ≡ 0x0B → found ≡ true)
+      → map (λ part. of (if found then map break_of part else part)) (slice_split p text) ≡ map (λ part. of (map break_of part)) (slice_split p text)
+  mapped-found p text true finds = refl
+  mapped-found p text false finds = mapped (slice_split p text) (kept-parts p text (kept-breaks text false refl finds))
 
 -- one item at the end makes a list that isn't empty
 pub pushed-some : {P : Type 0} (pieces : List P) (piece : P) → false ≡ (length (pieces ++ piece ∷ []) == 0)

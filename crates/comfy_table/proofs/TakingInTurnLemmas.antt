@@ -69,6 +69,10 @@ module _ (rule : Rule) (average : ℕ) (needs : List ColumnNeeds) (widths : List
   pub width_at-some : (width : ℕ) → width_at rule average needs widths place ≡ Some width → Takes rule average needs widths place width
   width_at-some width is = grind arith
 
+  -- it leaves one undecided column fewer
+  pub count-taken : (width : ℕ) → width_at rule average needs widths place ≡ Some width → undecided_count (slice_set widths place (Some width)) + 1 ≡ undecided_count widths
+  count-taken width is = count-set widths place width (width_at-some width is).left
+
   -- without one, an undecided column takes nothing
   pub width_at-none : width_at rule average needs widths place ≡ None → (d : ColumnNeeds) → slice_get needs place ≡ Some d → is_undecided widths place ≡ true → width_by_rule rule average d ≡ None
   width_at-none is d found left = grind arith

@@ -108,21 +108,8 @@ impl<'a> Iterator for WrappedLines<'a> {
         self.rest = behind;
         self.first -= end;
         let (word, _) = behind.split_at(self.first);
-        self.wide = known_wide_end(word, self.wide, self.width);
         self.columns = columns_up_to(word, self.wide, self.width);
         Some(line)
-    }
-}
-
-// How many bytes of a word's end show that it is wider than a line, where `wide` of them or the whole word do.
-fn known_wide_end(word: &str, wide: usize, width: usize) -> usize
-    requires { IsWideFrom width wide word.now }
-    ensures { IsWideFrom width result word.now }
-{
-    if word.len() >= wide {
-        wide
-    } else {
-        wide_end(word, width)
     }
 }
 

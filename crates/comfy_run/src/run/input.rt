@@ -1,12 +1,12 @@
 //! The table that a text stands for: its first line is the header, its other lines are rows.
 
-ghost use Rattle.std.specs.Prelude.{◌≡◌, IfOk, map, string_bytes};
+ghost use Rattle.std.specs.Prelude.{◌≡◌, IfOk, map, string_bytes, if◌then◌else◌};
 ghost use Rattle.comfy_parts.specs.CellValue.{plain_cell};
 ghost use Rattle.comfy_run.specs.Input.{input_table, row_of_line, break_of};
 ghost use Rattle.comfy_table.specs.TableValue.{new_table};
 
 use crate::run::settings::Settings;
-use comfy_table::{Cell, Result, Row, Table};
+use comfy_table::{Cell, Cells, IntoRow, Result, Row, Table};
 use std::alloc::Global;
 
 // What stands for a line feed inside a cell.
@@ -22,9 +22,13 @@ pub fn table_of(alloc: Global, text: &str, settings: Settings) -> Result<Table>
     let Some(first) = lines.next() else {
         return Ok(table);
     };
-    table.set_header(row_of(alloc, first)?)?;
+    let header = row_of(alloc, first, 0)?;
+    let mut count = header.cell_count();
+    table.set_header(header)?;
     for line in lines {
-        table.add_row(row_of(alloc, line)?)?;
+        let row = row_of(alloc, line, count)?;
+        count = row.cell_count();
+        table.add_row(row)?;
     }
     Ok(table)
 }
@@ -43,22 +47,24 @@ fn empty_table(alloc: Global, settings: Settings) -> Table
     table
 }
 
-// The row of a line, whose cells stand between TABs.
-fn row_of(alloc: Global, line: &str) -> Result<Row>
+// The row of a line, whose cells stand between TABs. Its list has room for `count` cells at first, so that lines with as
+// many cells as the one before take no more memory than they need.
+fn row_of(alloc: Global, line: &str, count: usize) -> Result<Row>
     ensures { IfOk result (λ row. row ≡ row_of_line line.now) }
 {
-    let mut row = Row::new(alloc);
+    let has_breaks = line.contains(BREAK);
+    let mut row = Cells(Vec::with_capacity(alloc, count)?).into_row(alloc)?;
     for part in line.split('\t') {
-        row.add_cell(cell_of(alloc, part)?)?;
+        row.add_cell(cell_of(alloc, part, has_breaks)?)?;
     }
     Ok(row)
 }
 
-// The cell of what stands between TABs, with its breaks as line feeds.
-fn cell_of(alloc: Global, part: &str) -> Result<Cell>
-    ensures { IfOk result (λ cell. cell ≡ plain_cell (map break_of part.now)) }
+// The cell of what stands between TABs, with its breaks as line feeds where the line has any.
+fn cell_of(alloc: Global, part: &str, has_breaks: bool) -> Result<Cell>
+    ensures { IfOk result (λ cell. cell ≡ plain_cell (if has_breaks then map break_of part.now else part.now)) }
 {
-    let text = if part.contains(BREAK) {
+    let text = if has_breaks {
         with_line_feeds(alloc, part)?
     } else {
         String::from_str(alloc, part)?

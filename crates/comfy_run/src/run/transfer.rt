@@ -62,7 +62,7 @@ fn output_for<R: Source>(
     ensures refused { IfErr result (λ e. (input : List ℕ) → R.remaining source.old ≡ Some input → IsRefusal e input (R.end_was_read source.new) (R.has_failed source.new)) }
 {
     let input = read_all(alloc, source)?;
-    let Ok(text) = str::from_utf8(input.as_slice()) else {
+    let Ok(text) = simdutf8::compat::from_utf8(input.as_slice()) else {
         return Err(RunError::NotUtf8);
     };
     let output = drawing_of(alloc, text, settings)?;

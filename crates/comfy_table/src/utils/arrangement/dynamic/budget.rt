@@ -53,11 +53,13 @@ impl Budget {
         self.widths.iter().filter(|width| width.is_none()).count()
     }
 
-    // The room that an undecided column has on average, rounded down; 0 where none is undecided.
-    pub fn average(&self) -> usize
+    // The room that an undecided column has on average, rounded down; 0 where none is undecided. Their number is passed in,
+    // so that a loop needn't count them each time.
+    pub fn average(&self, undecided: usize) -> usize
+        requires { undecided ≡ undecided_count self.now.widths.items }
         ensures { result ≡ average_room self.now }
     {
-        self.room.checked_div(self.undecided()).unwrap_or(0)
+        self.room.checked_div(undecided).unwrap_or(0)
     }
 
     // Decides the width of the column at a position, and takes it from the room, which never falls below 0.

@@ -15,7 +15,7 @@ pub fn settle(columns: &[VisibleColumn<'_>], budget: &mut Budget)
     requires { length budget.old.widths.items ≡ length columns.now }
     ensures { (table : TableValue) → HasSettled (all_needs table columns.now) budget.old budget.new }
 {
-    let average = budget.average();
+    let average = budget.average(budget.undecided());
     if 0 < average {
         let level = level_from(columns, budget, average);
         settle_at(columns, budget, level);

@@ -40,12 +40,14 @@ impl<'a> Takers<'a> {
         let mut position = 0;
         // how many columns before the position, going round, take nothing at the average
         let mut passed = 0;
-        let mut average = budget.average();
+        let mut undecided = budget.undecided();
+        let mut average = budget.average(undecided);
         while passed < self.columns.len() {
             passed += 1;
             if let Some(width) = self.width_at(budget, position, average) {
                 budget.claim(position, width);
-                let average_now = budget.average();
+                undecided -= 1;
+                let average_now = budget.average(undecided);
                 if average_now != average {
                     average = average_now;
                     passed = 1;

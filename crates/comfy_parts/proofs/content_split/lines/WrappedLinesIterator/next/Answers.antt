@@ -22,8 +22,8 @@ returns-then-end-self-clause-steps c =
 pub returns-then-end-self-clause-goes : goal.returns-then-end-self-clause-goes
 returns-then-end-self-clause-goes c = goes _ (λ _. tt) _ _ _ (returns-then-end-self-clause-steps c)
 
-pub known_wide_end-self-inside-requires : goal.known_wide_end-self-inside-requires
-known_wide_end-self-inside-requires c =
+pub columns_up_to-self-inside-requires-clause-wide : goal.columns_up_to-self-inside-requires-clause-wide
+columns_up_to-self-inside-requires-clause-wide c =
     let some = not_empty (length c.self.inside.rest.now) c.is_empty.result c.is_empty.ensures c.if-is_empty.false in
     let place = line-place _ _ _ _ _ _ c.self.invariant some c.line_end-end.result c.line_end-end.ensures in
     rest-shown _ _ _ _ _ _ c.self.invariant c.line_end-end.result place c.if-end-self.false _ _ c.split_at.ensures.back c.split_at-2.ensures.front
@@ -32,7 +32,7 @@ pub invariant_of-self-2 : goal.invariant_of-self-2
 invariant_of-self-2 c =
     let some = not_empty (length c.self.inside.rest.now) c.is_empty.result c.is_empty.ensures c.if-is_empty.false in
     let place = line-place _ _ _ _ _ _ c.self.invariant some c.line_end-end.result c.line_end-end.ensures in
-    rest-at _ _ _ _ _ _ c.self.invariant c.line_end-end.result place c.if-end-self.false _ _ c.split_at.ensures.back c.split_at-2.ensures.front _ _ c.columns_up_to-self-inside.ensures c.known_wide_end-self-inside.ensures
+    rest-at _ _ _ _ _ _ c.self.invariant c.line_end-end.result place c.if-end-self.false _ _ c.split_at.ensures.back c.split_at-2.ensures.front _ c.columns_up_to-self-inside.ensures
 
 pub returns-clause-steps : goal.returns-clause-steps
 returns-clause-steps c =
