@@ -95,7 +95,7 @@ module _ (table : TableValue) (row : RowValue) where
   -- a row of such columns is one line
   pub one_line : (infos : List ColumnInfo) (line : ContentLineStyle) (text : Text) → 0 < length (visible_infos infos) → AreSingle (visible_infos infos)
       → text ≡ made_of (drawn_character (draws_left_border table.style) line.left) (drawn_character (draws_vertical_lines table.style) line.junction) first_piece (visible_infos infos) (length (visible_infos infos))
-          ++ drawn_character (draws_right_border table.style) line.right
+      ++ drawn_character (draws_right_border table.style) line.right
       → drawn_row table infos line row ≡ text ∷ []
   one_line infos line text some single made =
       let columns = visible_infos infos in

@@ -39,9 +39,10 @@ loop-count-preserved c =
     let piece : first_piece table row p ≡ after ++ rest = ap (λ (ts : List Text). slice_index_or ts 0 (blank_piece p.1)) one in
     let pushed : string_bytes c.push_str.new.self ++ spaces c.in-Some.right ≡ (string_bytes c.loop-count.line ++ (before ++ (c.gap_before-gap.result.now ++ after))) ++ rest =
     ap (λ (t : Text). t ++ spaces c.in-Some.right) (c.in_ok-push_str.ensures.bytes ∙ ap (λ (t : Text). t ++ text) c.in_ok-push.ensures)
-    ∙ append_assoc (string_bytes c.loop-count.line ++ (before ++ (c.gap_before-gap.result.now ++ after))) text (spaces c.in-Some.right) in
-    (pushed ∙ gap_more left junction (first_piece table row) columns i p (string_bytes c.loop-count.line) c.gap_before-gap.result.now before after rest below is c.loop-count.invariant.0 chosen piece,
-    single_more table row columns i p (after ++ rest) below is one c.loop-count.invariant.1)
+    ∙ append_assoc (string_bytes c.loop-count.line ++ (before ++ (c.gap_before-gap.result.now ++ after))) text (spaces c.in-Some.right) in (
+      pushed ∙ gap_more left junction (first_piece table row) columns i p (string_bytes c.loop-count.line) c.gap_before-gap.result.now before after rest below is c.loop-count.invariant.0 chosen piece,
+      single_more table row columns i p (after ++ rest) below is one c.loop-count.invariant.1,
+    )
 
 pub returns : goal.returns
 returns c =
