@@ -141,6 +141,17 @@ fn rows_are_not_added_on_no(rt: HostRuntime) -> Result<()> {
     assert_rows_asked(&rt, false, &["++", "++"])
 }
 
+#[test]
+fn a_predicate_is_asked_with_the_number_of_rows_and_not_of_columns(rt: HostRuntime) -> Result<()> {
+    let mut table = Table::new(rt.alloc());
+    table.try_add_row(["a", "b"])?;
+    let asked = offer_row(&mut table, false)?;
+    assert_asked(&rt, asked, (1, 1));
+    let asked = offer_rows(&mut table, Vec::new(rt.alloc()), false)?;
+    assert_asked(&rt, asked, (1, 1));
+    Ok(())
+}
+
 const CUT: [&str; 5] = [
     "+---+----+",
     "| h | i  |",
@@ -232,6 +243,21 @@ fn columns_past_the_last_constraint_keep_theirs(rt: HostRuntime) -> Result<()> {
 fn constraints_past_the_last_column_are_ignored(rt: HostRuntime) -> Result<()> {
     let constraints = Vec::from_array(rt.alloc(), [FIVE, HIDDEN, FIVE])?;
     assert_constraints(&rt, constraints, &[Some(FIVE), Some(HIDDEN)])
+}
+
+#[test]
+fn a_column_with_a_constraint_keeps_its_other_settings(rt: HostRuntime) -> Result<()> {
+    let mut table = two_row_table(rt.alloc())?;
+    if let Some(column) = table.column_mut(0) {
+        column.set_padding((3, 4));
+    }
+    table.set_constraints(Vec::from_array(rt.alloc(), [FIVE])?);
+    let paddings = [(3, 4), (1, 1)];
+    for ((column, padding), index) in table.column_iter().zip(&paddings).zip(0..2) {
+        assert_eq!(rt; column.padding(), *padding);
+        assert_eq!(rt; column.index, index);
+    }
+    Ok(())
 }
 
 // Rows of two, one and two cells.
