@@ -89,7 +89,7 @@ impl Table {
         ensures ok { OnOk result ((yes : Bool) × Answers P.Fn predicate (length self.old.rows) row yes × (self.new ≡ (if yes then with_row (T.row_of row) self.old else self.old))) }
         ensures err { OnErr result (Answers P.Fn predicate (length self.old.rows) row true × (self.new ≡ self.old)) }
     {
-        if !predicate(self.row_count(), &row) {
+        if !self.answer_of(&predicate, &row) {
             return Ok(());
         }
         self.try_add_row(row)
@@ -108,10 +108,20 @@ impl Table {
         ensures ok { OnOk result ((yes : Bool) × Answers P.Fn predicate (length self.old.rows) rows yes × (self.new ≡ (if yes then with_rows (map I.Item.row_of (I.items_of rows)) self.old else self.old))) }
         ensures err { OnErr result (Answers P.Fn predicate (length self.old.rows) rows true × IsWithRowsBeforeOne (map I.Item.row_of (I.items_of rows)) self.old self.new) }
     {
-        if !predicate(self.row_count(), &rows) {
+        if !self.answer_of(&predicate, &rows) {
             return Ok(());
         }
         self.try_add_rows(rows)
+    }
+
+    // What a predicate returns for the number of rows and a value.
+    fn answer_of<P, T>(&self, predicate: &P, value: &T) -> bool
+    where
+        P: Fn(usize, &T) -> bool,
+        requires { P.IsAlwaysCallable predicate.now }
+        ensures { Answers P.Fn predicate.now (length self.now.rows) value.now result }
+    {
+        predicate(self.row_count(), value)
     }
 
     // `add_rows` with the reference in a struct: so its clause on `OutOfMemory` can be proved.
