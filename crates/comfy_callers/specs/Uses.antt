@@ -1,16 +1,17 @@
 -- What the callers in `uses` say of drawings and of rows.
-use Rattle.std.specs.Prelude.{◌≡◌, ◌≤◌, ◌==◌, ◌∷◌, ◌++◌, ◌+◌, ◌-◌, codes, ℕ, [], List, Some, All, map, slice_get}
+use Rattle.std.specs.Prelude.{◌≡◌, ◌≤◌, ◌==◌, ◌∷◌, ℕ, [], List, Some, All, map, slice_get}
 use Rattle.std.specs.List.{concat, slice_split}
-use Rattle.comfy_parts.specs.CellValue.{CellValue, ColumnInfo, RowValue}
+use Rattle.comfy_parts.specs.CellValue.{CellValue, ColumnInfo, RowValue, info_of, new_column, plain_cell, plain_row}
 use Rattle.comfy_parts.specs.Laws.{characters_without}
 use Rattle.comfy_parts.specs.Presets.{ascii_full}
-use Rattle.comfy_parts.specs.Text.{Text, measure, spaces}
+use Rattle.comfy_parts.specs.Text.{Text}
+use Rattle.comfy_parts.specs.VisibleLines.{CellLine}
 use Rattle.comfy_parts.specs.declared.style.table.ContentArrangement.TheVariants.{Dynamic}
 use Rattle.comfy_parts.specs.declared.style.table_style.LineStyle.{LineStyle}
 use Rattle.comfy_table.specs.Drawing.{drawing, infos_of, whole_widths}
-use Rattle.comfy_table.specs.Frame.{content_line, frame_line}
+use Rattle.comfy_table.specs.Frame.{frame_line}
 use Rattle.comfy_table.specs.Laws.{FillsWidth, IsPlainTable, KeepsToWidth, NoConstraints, count, least_total, unstyled}
-use Rattle.comfy_table.specs.Pieces.{visible_infos}
+use Rattle.comfy_table.specs.Pieces.{row_cell_lines, visible_infos}
 use Rattle.comfy_table.specs.TableLaws.{FillsWiderTotal, FrameCounts, FrameFillsWidth, FrameKeepsToWidth, IsAtMostThreeOver, KeepsToWiderTotal, KeepsToWiderTotalInFull, TableIsFull, TableIsLevelled, TableKeepsContents, TableLevelIsBest}
 use Rattle.comfy_table.specs.TableValue.{TableValue, header_and_rows, new_table, with_header, with_row}
 use Rattle.comfy_callers.specs.declared.uses.items.NumberRows.{NumberRows}
@@ -30,16 +31,20 @@ abbrev pub IsPrintedWithin : ℕ → TableValue → Text → Type 0
 IsPrintedWithin w table text =
     NoConstraints table → ((widths : List ℕ) → IsPlainTable table widths) → least_total table ≤ w → All (λ line. count line ≤ w) (slice_split (λ b. b == 0x0A) text)
 
--- a line of a text in a column of w terminal columns: a space on each side of it, and more spaces behind it where it is shorter
-abbrev pub in_column : ℕ → Text → Text
-in_column w line = codes " " ++ (line ++ (spaces (w - measure line) ++ codes " "))
+-- a table of one text that keeps to a width
+abbrev pub text_within : ℕ → Text → TableValue
+text_within w text = with_row (plain_row (plain_cell text ∷ [])) (record (new_table ascii_full) { set_width = Some w; arrangement = Dynamic })
 
--- the lines are a frame round lines of the text, which have all its characters, one after another, but for spaces and line feeds
-abbrev pub IsDrawnWhole : Text → List Text → Type 0
-IsDrawnWhole text lines =
-    (w : ℕ) × (own : List Text)
-    × (lines ≡ frame_line ascii_full ascii_full.top_border ((1 + w + 1) ∷ []) ∷ (map (λ line. content_line ascii_full ascii_full.content_lines (in_column w line ∷ [])) own ++ frame_line ascii_full ascii_full.bottom_border ((1 + w + 1) ∷ []) ∷ []))
-    × (characters_without 0x20 (concat own) ≡ characters_without 0x20 (concat (slice_split (λ b. b == 0x0A) text)))
+-- what is seen of the lines of that text in a new column of content width w
+abbrev pub lines_of_one : TableValue → ℕ → Text → List Text
+lines_of_one table w text =
+    map (λ (line : CellLine). line.seen) (row_cell_lines table (plain_row (plain_cell text ∷ [])) (info_of (new_column 0) w) (plain_cell text))
+
+-- the lines are a drawing of the table in which the lines of the text, one after another, have all its characters, in order, but for spaces and line feeds
+abbrev pub IsDrawnWhole : TableValue → Text → List Text → Type 0
+IsDrawnWhole table text lines =
+    (w : ℕ) × (lines ≡ drawing table (w ∷ []))
+    × (characters_without 0x20 (concat (lines_of_one table w text)) ≡ characters_without 0x20 (concat (slice_split (λ b. b == 0x0A) text)))
 
 -- the lines are a drawing of the table without colours and attributes
 abbrev pub IsPlainDrawing : TableValue → List Text → Type 0

@@ -9,7 +9,7 @@ ghost use Rattle.comfy_table.specs.Headline.{IsTerminatedTextOf, IsTextOf, IsTri
 ghost use Rattle.comfy_table.specs.NewTables.{AreEquallyWide, IsShortRow};
 ghost use Rattle.comfy_table.specs.Pieces.{row_lines};
 ghost use Rattle.comfy_table.specs.TableValue.{header_and_rows, max_content_widths, new_table, with_header, with_rows};
-ghost use Rattle.comfy_callers.specs.Uses.{IsDrawnWhole, IsPrintedWithin, table_within};
+ghost use Rattle.comfy_callers.specs.Uses.{IsDrawnWhole, IsPrintedWithin, table_within, text_within};
 
 use comfy_table::laws::{
     cells_keep_their_text, lines_are_found_in_their_texts, new_tables_are_straight,
@@ -110,10 +110,10 @@ pub fn printed_within(alloc: Global, header: Row, row: Row, width: u16) -> Resul
     table.to_terminated_text()
 }
 
-/// A text in a table of its own, drawn within a width. Nothing of it is lost: in a frame stand its lines, which one after
-/// another have all its characters, in order, but for spaces and line feeds.
+/// A text in a table of its own, drawn within a width. Nothing of it is lost: the lines that it is wrapped into, one after
+/// another, have all its characters, in order, but for spaces and line feeds.
 pub fn drawn_whole(alloc: Global, text: &str, width: u16) -> Result<Lines>
-    ensures { IfOk result (λ lines. IsDrawnWhole text.now lines) }
+    ensures { IfOk result (λ lines. IsDrawnWhole (text_within width text.now) text.now lines) }
 {
     cells_keep_their_text();
     let mut table = Table::new(alloc);
