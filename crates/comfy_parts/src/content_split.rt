@@ -9,6 +9,7 @@ mod ends;
 mod joining;
 mod lines;
 mod prefix;
+mod printable;
 mod sequences;
 mod width;
 

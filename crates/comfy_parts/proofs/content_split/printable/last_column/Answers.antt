@@ -1,0 +1,12 @@
+use Rattle.std.proofs.Common.{sym, arith}
+use Rattle.std.proofs.lemmas.Bool.Decides.{nat_tests}
+use Rattle.comfy_parts.proofs.PlainEndLemmas.{at-delimiter, at-width}
+use Rattle.comfy_parts.proofs.content_split.printable.last_column.Goals as goal
+
+pub returns-then-text-width : goal.returns-then-text-width
+returns-then-text-width c =
+    sym (at-delimiter c.args.width c.args.delimiter c.args.text.now c.requires.plain c.requires.begins c.requires.enough c.requires.found c.if-text-width.true)
+
+pub returns : goal.returns
+returns c =
+    sym (at-width c.args.width c.args.delimiter c.args.text.now c.requires.plain c.requires.begins c.requires.enough c.requires.found (let other = c.if-text-width.false in grind (arith, nat_tests, other)))
