@@ -1,26 +1,58 @@
 -- The next of the lines that are still to come, and those behind it.
-use Rattle.std.proofs.Common.{◌≡◌, ◌<◌, ℕ, ◌-◌, Some, List, ◌∷◌, length, take, drop, refl, sym, ap, ap₂, ◌∙◌, subst, arith}
+use Rattle.std.proofs.Common.{◌≡◌, ◌<◌, ℕ, ◌-◌, Bool, true, false, Some, List, ◌∷◌, length, take, drop, refl, sym, ap, ap₂, ◌∙◌, subst, arith}
 use Rattle.std.specs.Borrow.{Bor}
 use Rattle.std.specs.Iterator.{MakesProgress, item_count}
 use Rattle.std.specs.Str.{IsCharBoundary, IsUtf8}
 use Rattle.std.proofs.lemmas.Str.{IsUtf8-drop}
-use Rattle.comfy_parts.specs.Following.{AreColumnsUpTo, IsAtLine, IsFirstElement, IsWideFrom}
-use Rattle.comfy_parts.specs.Text.{Text, begins_with}
+use Rattle.std.proofs.lemmas.List.{take-append-drop}
+use Rattle.comfy_parts.specs.Following.{AreColumnsUpTo, IsAtLine, IsAtNext, IsFirstElement, IsWideFrom}
+use Rattle.comfy_parts.specs.Laws.{IsPlain}
+use Rattle.comfy_parts.specs.Text.{Text, begins_with, is_printable_ascii}
 use Rattle.comfy_parts.specs.Wrapping.{wrapped, line_end}
 use Rattle.comfy_parts.proofs.FollowingLemmas.{first-inside}
+use Rattle.comfy_parts.proofs.PrintableLemmas.{IsUtf8-printable, back-printable}
 use Rattle.comfy_parts.proofs.WideEndLemmas.{rest-wide}
 use Rattle.comfy_parts.proofs.StartLemmas.{line-cut}
 
--- a text that isn't empty, at a line's first character, has that line and those behind it
-pub line-then : (w d : ℕ) (text : Text) (first columns shown : ℕ) → IsAtLine w d text first columns shown → 0 < length text → (end : ℕ) (line behind : Text)
+-- where a line begins, a text is of whole characters, the first of which is no delimiter
+starts : (plain : Bool) (w d : ℕ) (text : Text) (first columns shown : ℕ) → IsAtNext plain w d text first columns shown → IsUtf8 text × (begins_with d text ≡ false)
+starts true w d text first columns shown at = (IsUtf8-printable text at.0.printable, at.1)
+starts false w d text first columns shown at = (at.whole, at.begins_otherwise)
+
+-- what is known by whether the text is plain
+pub at-plain : (plain : Bool) → plain ≡ true → (w d : ℕ) (text : Text) (first columns shown : ℕ) → IsAtNext plain w d text first columns shown → IsPlain w d text × (begins_with d text ≡ false)
+at-plain true is w d text first columns shown at = at
+at-plain false is w d text first columns shown at = absurd (grind (arith, is))
+
+pub at-line : (plain : Bool) → plain ≡ false → (w d : ℕ) (text : Text) (first columns shown : ℕ) → IsAtNext plain w d text first columns shown → IsAtLine w d text first columns shown
+at-line true is w d text first columns shown at = absurd (grind (arith, is))
+at-line false is w d text first columns shown at = at
+
+pub next-line : (plain : Bool) → plain ≡ false → (w d : ℕ) (text : Text) (first columns shown : ℕ) → IsAtLine w d text first columns shown → IsAtNext plain w d text first columns shown
+next-line true is w d text first columns shown at = absurd (grind (arith, is))
+next-line false is w d text first columns shown at = at
+
+-- what follows a line of a plain text is plain
+pub plain-behind : (w d : ℕ) (text : Text) → IsPlain w d text → (end : ℕ) (behind : Text) → behind ≡ drop end text → IsPlain w d behind
+plain-behind w d text plain end behind back = record {
+  columns = plain.columns;
+  delimiter = plain.delimiter;
+  printable = ap is_printable_ascii back ∙ back-printable (take end text) (drop end text) (ap is_printable_ascii (take-append-drop end text) ∙ plain.printable);
+}
+
+-- a text that isn't empty, at a line's first character, has that line and those after it
+pub line-then : (plain : Bool) (w d : ℕ) (text : Text) (first columns shown : ℕ) → IsAtNext plain w d text first columns shown → 0 < length text → (end : ℕ) (line behind : Text)
     → end ≡ line_end w d text → line ≡ take end text → behind ≡ drop end text → wrapped w d text ≡ line ∷ wrapped w d behind
-line-then w d text first columns shown at some end line behind ends front back =
+line-then plain w d text first columns shown at some end line behind ends front back =
+    let (whole, otherwise) = starts plain w d text first columns shown at in
     let front_is = front ∙ ap₂ (λ (n : ℕ) (t : Text). take n t) ends refl in
     let back_is = back ∙ ap₂ (λ (n : ℕ) (t : Text). drop n t) ends refl in
-    (line-cut w d text at.whole some at.begins_otherwise).lines ∙ ap₂ (λ l b. l ∷ wrapped w d b) (sym front_is) (sym back_is)
+    (line-cut w d text whole some otherwise).lines ∙ ap₂ (λ l b. l ∷ wrapped w d b) (sym front_is) (sym back_is)
 
-pub line-place : (w d : ℕ) (text : Text) (first columns shown : ℕ) → IsAtLine w d text first columns shown → 0 < length text → (end : ℕ) → end ≡ line_end w d text → IsCharBoundary text end
-line-place w d text first columns shown at some end ends = subst (IsCharBoundary text) (sym ends) (line-cut w d text at.whole some at.begins_otherwise).place
+pub line-place : (plain : Bool) (w d : ℕ) (text : Text) (first columns shown : ℕ) → IsAtNext plain w d text first columns shown → 0 < length text → (end : ℕ) → end ≡ line_end w d text → IsCharBoundary text end
+line-place plain w d text first columns shown at some end ends =
+    let (whole, otherwise) = starts plain w d text first columns shown at in
+    subst (IsCharBoundary text) (sym ends) (line-cut w d text whole some otherwise).place
 
 -- a call that took the first line has fewer behind it
 pub goes : (can : List Text → Type 0) → ((l : List Text) → can l) → (all behind : List Text) (line : Bor Text) → all ≡ line.now ∷ behind

@@ -8,9 +8,10 @@ use Rattle.std.proofs.lemmas.List.{drop_all, drop_more, length-append, length-dr
 use Rattle.std.proofs.lemmas.List.Splits.{slice_split-cons_no, slice_split-cons_yes}
 use Rattle.std.specs.List.{list_any, onto_first, slice_split}
 use Rattle.comfy_parts.specs.Laws.{IsPlain}
-use Rattle.comfy_parts.specs.Text.{Text}
+use Rattle.comfy_parts.specs.Text.{Text, begins_with, is_first}
 use Rattle.comfy_parts.specs.Wrapping.{line_end}
 use Rattle.comfy_parts.proofs.PartLemmas.{HasFirstPart, first_part, is_first_part}
+use Rattle.comfy_parts.proofs.PrintableLemmas.{chars-printable}
 use Rattle.comfy_parts.proofs.LineEndLemmas.{line_end-plain, plain_end, plain_taken}
 
 -- the bytes of parts, each with the delimiter before it
@@ -223,7 +224,14 @@ module _ (w d : ℕ) where
 
 -- ---- by positions in the text
 
-module _ (w d : ℕ) (text : Text) (plain : IsPlain w d text) (begins : 0 < length text → (slice_index_or text 0 0 == d) ≡ false) where
+module _ (w d : ℕ) (text : Text) (plain : IsPlain w d text) (otherwise : begins_with d text ≡ false) where
+  begins : 0 < length text → (slice_index_or text 0 0 == d) ≡ false
+  begins some = of_first text (ap (is_first d) (sym (chars-printable text plain.printable)) ∙ otherwise) some
+    where
+      of_first : (t : Text) → is_first d t ≡ false → 0 < length t → (slice_index_or t 0 0 == d) ≡ false
+      of_first [] none some = absurd (omega (arith, some))
+      of_first (x ∷ xs) none some = none
+
   -- the text around a delimiter
   cut_at : (i : ℕ) → i < length text → slice_index_or text i 0 ≡ d → text ≡ take i text ++ d ∷ drop (i + 1) text
   cut_at i below here = sym (take-append-drop i text) ∙ ap (λ (t : Text). take i text ++ t) (drop_more text i 0 below ∙ ap (λ (c : ℕ). c ∷ drop (i + 1) text) here)

@@ -14,6 +14,7 @@ use crate::content_split::width::{char_width, measure_text_width};
 pub fn line_start(text: &str, delimiter: char) -> &str
     ensures begins { begins_with delimiter result.now ≡ false }
     ensures bound { length result.now ≤ length text.now }
+    ensures printable { is_printable_ascii text.now ≡ true → is_printable_ascii result.now ≡ true }
     ensures lines { (w : ℕ) → wrapped w delimiter result.now ≡ wrapped w delimiter text.now }
 {
     let mut rest = text;

@@ -3,11 +3,13 @@
 ghost use Rattle.std.specs.Prelude.{◌≡◌, ◌≤◌};
 ghost use Rattle.std.specs.Iterator.{YieldsFirstBy, item_count};
 ghost use Rattle.comfy_parts.specs.Following.{AreColumnsUpTo, IsWideFrom};
+ghost use Rattle.comfy_parts.specs.Laws.{IsPlain};
 ghost use Rattle.comfy_parts.specs.Wrapping.{IsWrapped, wrapped};
 
 use crate::content_split::display_info::ColumnDisplayInfo;
 use crate::content_split::ends::{first_element, line_end, line_start, measured_element};
-use crate::content_split::width::{measure_text_width, wide_end};
+use crate::content_split::printable::printable_line_end;
+use crate::content_split::width::{is_printable, measure_text_width, wide_end};
 use std::marker::Model;
 
 // A text of so many bytes for each column of a line may begin with a word that isn't worth measuring whole.
@@ -18,6 +20,8 @@ const FAR: usize = 32;
 pub struct WrappedLines<'a> {
     // the text from the first character of the next line on
     rest: &'a str,
+    // whether text and delimiter are printable ASCII, and lines have a column; the next three are looked at where they aren't
+    is_plain: bool,
     // the bytes of its first element
     first: usize,
     // the columns of that element; where it is wider than a line, any number above the line's width
@@ -30,14 +34,14 @@ pub struct WrappedLines<'a> {
 
 impl<'a> Model for WrappedLines<'a> {
     ghost use Rattle.std.specs.Prelude.{List, ℕ};
-    ghost use Rattle.comfy_parts.specs.Following.{IsAtLine};
+    ghost use Rattle.comfy_parts.specs.Following.{IsAtNext};
     ghost use Rattle.comfy_parts.specs.Wrapping.{wrapped};
 
     ghost Value = { List (List ℕ) };
 
     ghost view = { λ s. wrapped s.width s.delimiter s.rest.now };
 
-    ghost invariant = { λ s. IsAtLine s.width s.delimiter s.rest.now s.first s.columns s.wide };
+    ghost invariant = { λ s. IsAtNext s.is_plain s.width s.delimiter s.rest.now s.first s.columns s.wide };
 }
 
 /// The lines of a text that is wrapped at the column's content width, one after another. They are those of `split_line`.
@@ -49,7 +53,27 @@ pub fn wrapped_lines<'a>(
     ensures lines { result ≡ wrapped info.now.content_width delimiter line.now }
     ensures slices { IsWrapped info.now.content_width delimiter line.now result }
 {
-    lines_behind(line, usize::from(info.content_width), delimiter)
+    let width = usize::from(info.content_width);
+    if width > 0 && (' '..='~').contains(&delimiter) && is_printable(line.as_bytes()) {
+        return plain_lines(line, width, delimiter);
+    }
+    lines_behind(line, width, delimiter)
+}
+
+// The lines of printable ASCII after the delimiters at its front.
+fn plain_lines<'a>(text: &'a str, width: usize, delimiter: char) -> WrappedLines<'a>
+    requires plain { IsPlain width delimiter text.now }
+    ensures { result ≡ wrapped width delimiter text.now }
+{
+    WrappedLines {
+        rest: line_start(text, delimiter),
+        is_plain: true,
+        first: 0,
+        columns: 0,
+        wide: 0,
+        width,
+        delimiter,
+    }
 }
 
 // The lines of a text after the delimiters at its front.
@@ -63,6 +87,7 @@ fn lines_behind<'a>(text: &'a str, width: usize, delimiter: char) -> WrappedLine
         let wide = wide_end(word, width);
         return WrappedLines {
             rest,
+            is_plain: false,
             first: word.len(),
             columns: columns_up_to(word, wide, width),
             wide,
@@ -73,6 +98,7 @@ fn lines_behind<'a>(text: &'a str, width: usize, delimiter: char) -> WrappedLine
     let (word, _, columns) = measured_element(rest, delimiter);
     WrappedLines {
         rest,
+        is_plain: false,
         first: word.len(),
         columns,
         wide: word.len() + 1,
@@ -91,6 +117,12 @@ impl<'a> Iterator for WrappedLines<'a> {
     fn next(&mut self) -> Option<&'a str> {
         if self.rest.is_empty() {
             return None;
+        }
+        if self.is_plain {
+            let end = printable_line_end(self.rest.as_bytes(), self.width, self.delimiter);
+            let (line, behind) = self.rest.split_at(end);
+            *self = plain_lines(behind, self.width, self.delimiter);
+            return Some(line);
         }
         let end = line_end(
             self.rest,

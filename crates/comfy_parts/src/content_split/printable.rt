@@ -4,13 +4,13 @@
 ghost use Rattle.std.specs.Prelude.{◌≡◌, ◌<◌, ◌≤◌, ◌+◌, ◌-◌, ◌==◌, ◌∷◌, List, drop, false, length, nat_lt, take};
 ghost use Rattle.std.specs.List.{list_any, slice_index, slice_split};
 ghost use Rattle.comfy_parts.specs.Laws.{IsPlain};
-ghost use Rattle.comfy_parts.specs.Text.{Text};
+ghost use Rattle.comfy_parts.specs.Text.{Text, begins_with};
 ghost use Rattle.comfy_parts.specs.Wrapping.{line_end};
 
 /// The end of the line that begins at the front of printable ASCII.
-pub fn printable_line_end(text: &[u8], width: usize, delimiter: u8) -> usize
+pub fn printable_line_end(text: &[u8], width: usize, delimiter: char) -> usize
     requires plain { IsPlain width delimiter text.now }
-    requires begins { 0 < length text.now → (slice_index text.now 0 == delimiter) ≡ false }
+    requires begins { begins_with delimiter text.now ≡ false }
     ensures { result ≡ line_end width delimiter text.now }
 {
     if text.len() < width {
@@ -33,21 +33,21 @@ pub fn printable_line_end(text: &[u8], width: usize, delimiter: u8) -> usize
 }
 
 // The end of a line that the text fills, or that a delimiter follows: without a delimiter in its last column.
-fn last_column(text: &[u8], width: usize, delimiter: u8) -> usize
+fn last_column(text: &[u8], width: usize, delimiter: char) -> usize
     requires plain { IsPlain width delimiter text.now }
-    requires begins { 0 < length text.now → (slice_index text.now 0 == delimiter) ≡ false }
+    requires begins { begins_with delimiter text.now ≡ false }
     requires enough { width ≤ length text.now }
     requires found { width < length text.now → slice_index text.now width ≡ delimiter }
     ensures { result ≡ line_end width delimiter text.now }
 {
-    if text[width - 1] == delimiter {
+    if u32::from(text[width - 1]) == u32::from(delimiter) {
         return width - 1;
     }
     width
 }
 
 // The last position up to the width at which a delimiter stands, or the text ends; 0 where there is none.
-fn last_break(text: &[u8], width: usize, delimiter: u8) -> usize
+fn last_break(text: &[u8], width: usize, delimiter: char) -> usize
     requires { width ≤ length text.now }
     ensures bound { result ≤ width }
     ensures at_end { width ≡ length text.now → result ≡ width }
@@ -58,18 +58,18 @@ fn last_break(text: &[u8], width: usize, delimiter: u8) -> usize
     if at == text.len() {
         return at;
     }
-    while at > 0 && text[at] != delimiter {
+    while at > 0 && u32::from(text[at]) != u32::from(delimiter) {
         at -= 1;
     }
     at
 }
 
 // Whether more bytes than a line has columns stand before the first delimiter.
-fn begins_with_long_part(text: &[u8], width: usize, delimiter: u8) -> bool
+fn begins_with_long_part(text: &[u8], width: usize, delimiter: char) -> bool
     ensures { (part : Text) (parts : List Text) → slice_split (λ c. c == delimiter) text.now ≡ part ∷ parts → result ≡ nat_lt width (length part) }
 {
     let mut run = 0;
-    while run < text.len() && run <= width && text[run] != delimiter {
+    while run < text.len() && run <= width && u32::from(text[run]) != u32::from(delimiter) {
         run += 1;
     }
     run > width

@@ -2,7 +2,7 @@ use Rattle.std.proofs.Common.{◌≡◌, ◌<◌, ◌≤◌, ◌+◌, ◌==◌, 
 use Rattle.std.proofs.lemmas.Bool.Decides.{nat_tests}
 use Rattle.comfy_parts.proofs.PlainEndLemmas.{first-long, first-short, spans}
 use Rattle.comfy_parts.proofs.content_split.printable.begins_with_long_part.Goals as goal
-use Rattle.comfy_parts.proofs.content_split.printable.begins_with_long_part.Goals.{then-loop-run-test+then-run-width+else-text-run, then-loop-run-test+else-run-width, else-loop-run-test}
+use Rattle.comfy_parts.proofs.content_split.printable.begins_with_long_part.Goals.{then-loop-run-test+then-run-width+else-from, then-loop-run-test+else-run-width, else-loop-run-test}
 
 pub returns : goal.returns
 returns c part parts are =
@@ -11,7 +11,7 @@ returns c part parts are =
     let inv = c.loop-run.invariant in
     let long : run ≤ length part = first-long w c.args.delimiter run c.args.text.now part parts inv.1 inv.2 are in
     elim c.loop-run-test.branch [
-      then-loop-run-test+then-run-width+else-text-run t ↦ (let short : length part ≤ run = first-short w c.args.delimiter run c.args.text.now part parts t.loop-run-test.true (let at = t.if-text-run.false in grind (arith, nat_tests, at)) are in grind (arith, nat_tests, short, t.if-run-width.true))
+      | then-loop-run-test+then-run-width+else-from t ↦ (let short : length part ≤ run = first-short w c.args.delimiter run c.args.text.now part parts t.loop-run-test.true (let at = t.if-from.false in grind (arith, nat_tests, at, t.from.ensures, t.from-then-run-width.ensures)) are in grind (arith, nat_tests, short, t.if-run-width.true))
       | then-loop-run-test+else-run-width t ↦ grind (arith, nat_tests, long, t.if-run-width.false)
       | else-loop-run-test t ↦ (let all = spans (λ b. b == c.args.delimiter) parts c.args.text.now part are in ap (nat_lt w) (let same : run ≡ length part = omega (arith, long, all, t.loop-run-test.false) in same))
     ]

@@ -14,7 +14,7 @@ returns-then-end-eq0 c =
     let none = c.if-end-eq0.true in
     let longer : c.args.width < length c.args.text.now = grind (arith, none, c.last_break-end.ensures.at_end, c.if-text-width.false, c.requires.plain.columns) in
     let clear : IsClearAfter c.args.width c.args.delimiter c.args.text.now 0 =
-      ap (λ (n : ℕ). list_any (λ b. b == c.args.delimiter) (take (c.args.width - n) (drop (n + 1) c.args.text.now))) (sym none) ∙ c.last_break-end.ensures.clear
+    ap (λ (n : ℕ). list_any (λ b. b == c.args.delimiter) (take (c.args.width - n) (drop (n + 1) c.args.text.now))) (sym none) ∙ c.last_break-end.ensures.clear
     in
     sym (no-break c.args.width c.args.delimiter c.args.text.now c.requires.plain c.requires.begins longer clear)
 

@@ -1,5 +1,6 @@
-use Rattle.std.proofs.Common.{length, ◌∙◌, sym}
-use Rattle.comfy_parts.proofs.LinesLemmas.{goes, line-place, line-then, rest-at, rest-shown}
+use Rattle.std.proofs.Common.{length, ap, ◌∙◌, sym}
+use Rattle.comfy_parts.specs.Wrapping.{line_end}
+use Rattle.comfy_parts.proofs.LinesLemmas.{at-line, at-plain, goes, line-place, next-line, plain-behind, line-then, rest-at, rest-shown}
 use Rattle.comfy_parts.proofs.StartLemmas.{not_empty, wrapped-empty}
 use Rattle.comfy_parts.proofs.content_split.lines.WrappedLinesIterator.next.Goals as goal
 
@@ -11,12 +12,32 @@ returns-then-is_empty-clause-steps c =
 pub split_at-requires : goal.split_at-requires
 split_at-requires c =
     let some = not_empty (length c.self.inside.rest.now) c.is_empty.result c.is_empty.ensures c.if-is_empty.false in
-    line-place _ _ _ _ _ _ c.self.invariant some c.line_end-end.result c.line_end-end.ensures
+    line-place _ _ _ _ _ _ _ c.self.invariant some c.printable_line_end-end.result (c.printable_line_end-end.ensures ∙ ap (line_end c.self.inside.width c.self.inside.delimiter) c.as_bytes.ensures.value)
+
+pub plain_lines-requires : goal.plain_lines-requires
+plain_lines-requires c =
+    let plain = (at-plain _ c.if-self.true _ _ _ _ _ _ c.self.invariant).0 in
+    record { plain = plain-behind _ _ c.self.inside.rest.now plain c.printable_line_end-end.result c.split_at.result.1.now c.split_at.ensures.back }
+
+pub returns-then-self-clause-steps : goal.returns-then-self-clause-steps
+returns-then-self-clause-steps c =
+    let some = not_empty (length c.self.inside.rest.now) c.is_empty.result c.is_empty.ensures c.if-is_empty.false in
+    let ends = c.printable_line_end-end.ensures ∙ ap (line_end c.self.inside.width c.self.inside.delimiter) c.as_bytes.ensures.value in
+    let taken = line-then _ _ _ _ _ _ _ c.self.invariant some _ _ _ ends c.split_at.ensures.front c.split_at.ensures.back in
+    rw (c.self-then-self.view_is, c.plain_lines.ensures) (sym c.self.view_is ∙ taken)
+
+pub returns-then-self-clause-goes : goal.returns-then-self-clause-goes
+returns-then-self-clause-goes c = goes _ (λ _. tt) _ _ _ (returns-then-self-clause-steps c)
+
+pub split_at-requires-2 : goal.split_at-requires-2
+split_at-requires-2 c =
+    let some = not_empty (length c.self.inside.rest.now) c.is_empty.result c.is_empty.ensures c.if-is_empty.false in
+    line-place _ _ _ _ _ _ _ c.self.invariant some c.line_end-end.result c.line_end-end.ensures
 
 pub returns-then-end-self-clause-steps : goal.returns-then-end-self-clause-steps
 returns-then-end-self-clause-steps c =
     let some = not_empty (length c.self.inside.rest.now) c.is_empty.result c.is_empty.ensures c.if-is_empty.false in
-    let taken = line-then _ _ _ _ _ _ c.self.invariant some _ _ _ c.line_end-end.ensures c.split_at.ensures.front c.split_at.ensures.back in
+    let taken = line-then _ _ _ _ _ _ _ c.self.invariant some _ _ _ c.line_end-end.ensures c.split_at-2.ensures.front c.split_at-2.ensures.back in
     rw (c.self-then-end-self.view_is, c.lines_behind.ensures) (sym c.self.view_is ∙ taken)
 
 pub returns-then-end-self-clause-goes : goal.returns-then-end-self-clause-goes
@@ -25,19 +46,19 @@ returns-then-end-self-clause-goes c = goes _ (λ _. tt) _ _ _ (returns-then-end-
 pub columns_up_to-self-inside-requires-clause-wide : goal.columns_up_to-self-inside-requires-clause-wide
 columns_up_to-self-inside-requires-clause-wide c =
     let some = not_empty (length c.self.inside.rest.now) c.is_empty.result c.is_empty.ensures c.if-is_empty.false in
-    let place = line-place _ _ _ _ _ _ c.self.invariant some c.line_end-end.result c.line_end-end.ensures in
-    rest-shown _ _ _ _ _ _ c.self.invariant c.line_end-end.result place c.if-end-self.false _ _ c.split_at.ensures.back c.split_at-2.ensures.front
+    let place = line-place _ _ _ _ _ _ _ c.self.invariant some c.line_end-end.result c.line_end-end.ensures in
+    rest-shown _ _ _ _ _ _ (at-line _ c.if-self.false _ _ _ _ _ _ c.self.invariant) c.line_end-end.result place c.if-end-self.false _ _ c.split_at-2.ensures.back c.split_at-3.ensures.front
 
 pub invariant_of-self-2 : goal.invariant_of-self-2
 invariant_of-self-2 c =
     let some = not_empty (length c.self.inside.rest.now) c.is_empty.result c.is_empty.ensures c.if-is_empty.false in
-    let place = line-place _ _ _ _ _ _ c.self.invariant some c.line_end-end.result c.line_end-end.ensures in
-    rest-at _ _ _ _ _ _ c.self.invariant c.line_end-end.result place c.if-end-self.false _ _ c.split_at.ensures.back c.split_at-2.ensures.front _ c.columns_up_to-self-inside.ensures
+    let place = line-place _ _ _ _ _ _ _ c.self.invariant some c.line_end-end.result c.line_end-end.ensures in
+    next-line _ c.if-self.false _ _ _ _ _ _ (rest-at _ _ _ _ _ _ (at-line _ c.if-self.false _ _ _ _ _ _ c.self.invariant) c.line_end-end.result place c.if-end-self.false _ _ c.split_at-2.ensures.back c.split_at-3.ensures.front _ c.columns_up_to-self-inside.ensures)
 
 pub returns-clause-steps : goal.returns-clause-steps
 returns-clause-steps c =
     let some = not_empty (length c.self.inside.rest.now) c.is_empty.result c.is_empty.ensures c.if-is_empty.false in
-    sym c.self.view_is ∙ line-then _ _ _ _ _ _ c.self.invariant some _ _ _ c.line_end-end.ensures c.split_at.ensures.front c.split_at.ensures.back
+    sym c.self.view_is ∙ line-then _ _ _ _ _ _ _ c.self.invariant some _ _ _ c.line_end-end.ensures c.split_at-2.ensures.front c.split_at-2.ensures.back
 
 pub returns-clause-goes : goal.returns-clause-goes
 returns-clause-goes c = goes _ (λ _. tt) _ _ _ (returns-clause-steps c)
