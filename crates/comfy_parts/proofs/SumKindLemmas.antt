@@ -49,11 +49,11 @@ others_add_up : (c : ℕ) → (in_ranges joining_characters c || adds_up_kind (k
 unfolding unicode_width ends_by joining_stepped
 others_add_up = Stepped-everywhere _ (zip_stepped (λ joins k. joins || adds_up_kind k) (in_ranges joining_characters) kind joining_stepped kind_stepped) refl
 
-ascii-one : (c : ℕ) → is_in_range 0x20 0x7E c ≡ true → width_or_zero false c ≡ 1
+pub ascii-one : (c : ℕ) → is_in_range 0x20 0x7E c ≡ true → width_or_zero false c ≡ 1
 unfolding char_width
 ascii-one c printable = grind (arith, nat_tests, printable)
 
-high-alone : (c : ℕ) → nat_lt 0xA0 c ≡ true → width_or_zero false c ≡ (alone false c).0
+pub high-alone : (c : ℕ) → nat_lt 0xA0 c ≡ true → width_or_zero false c ≡ (alone false c).0
 unfolding char_width
 high-alone c high = grind (arith, nat_tests, high)
 

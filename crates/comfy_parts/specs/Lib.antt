@@ -11,6 +11,7 @@ pub mod Laws
 pub mod Presets
 pub mod RowLoans
 pub mod RowReference
+pub mod Simple
 pub mod StyleModifiers
 pub mod Text
 pub mod TextLines
