@@ -41,12 +41,13 @@ fn simple_columns(text: &str) -> Option<usize>
 fn simple_width(character: char) -> Option<usize>
     ensures { result ≡ simple_width character }
 {
+    // Ideographs come first: they are by far the most of them.
     match character {
-        '\u{3000}'..='\u{3029}'
+        '\u{4e00}'..='\u{9fff}'
+        | '\u{3000}'..='\u{3029}'
         | '\u{3041}'..='\u{3096}'
         | '\u{309b}'..='\u{30ff}'
         | '\u{3400}'..='\u{4dbf}'
-        | '\u{4e00}'..='\u{9fff}'
         | '\u{ac00}'..='\u{d7a3}'
         | '\u{ff01}'..='\u{ff60}'
         | '\u{1f600}'..='\u{1f64f}' => Some(2),

@@ -157,11 +157,22 @@ fn seen_lines<'a>(table: &Table, cell: &'a Cell, info: &ColumnDisplayInfo) -> Re
     let texts = table.seen_lines(cell);
     let widths = table.seen_widths(cell);
     let delimiter = table.delimiter_of(cell, info.delimiter);
-    let mut lines = Vec::new(*table.columns.allocator());
+    let alloc = *table.columns.allocator();
+    let mut lines = Vec::with_capacity(alloc, about_lines(widths, info.content_width))?;
     for (position, text) in texts.iter().enumerate() {
         push_lines(&mut lines, text.as_str(), widths[position], info, delimiter)?;
     }
     Ok(lines)
+}
+
+// About how many lines text lines of these widths take: mostly a few more.
+fn about_lines(widths: &[usize], content_width: u16) -> usize {
+    let columns = usize::from(content_width).max(1);
+    let mut lines: usize = 0;
+    for width in widths {
+        lines = lines.saturating_add(width / columns).saturating_add(2);
+    }
+    lines
 }
 
 // Appends the lines of a text line of so many columns.

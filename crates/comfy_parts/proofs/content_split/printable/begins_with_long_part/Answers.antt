@@ -1,4 +1,4 @@
-use Rattle.std.proofs.Common.{◌≡◌, ◌<◌, ◌≤◌, ◌+◌, ◌==◌, Bool, true, false, length, nat_lt, arith, ap}
+use Rattle.std.proofs.Common.{◌≡◌, ◌≤◌, ◌==◌, length, nat_lt, arith, ap}
 use Rattle.std.proofs.lemmas.Bool.Decides.{nat_tests}
 use Rattle.comfy_parts.proofs.PlainEndLemmas.{first-long, first-short, spans}
 use Rattle.comfy_parts.proofs.content_split.printable.begins_with_long_part.Goals as goal

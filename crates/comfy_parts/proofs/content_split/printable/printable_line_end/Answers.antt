@@ -1,7 +1,7 @@
-use Rattle.std.proofs.Common.{◌≡◌, ◌<◌, ◌≤◌, ◌+◌, ◌-◌, ◌==◌, false, inl, ℕ, length, drop, take, sym, ap, ◌∙◌, arith}
+use Rattle.std.proofs.Common.{◌<◌, ◌+◌, ◌-◌, ◌==◌, inl, ℕ, length, drop, take, sym, ap, ◌∙◌, arith}
 use Rattle.std.specs.List.{list_any}
 use Rattle.std.proofs.lemmas.Bool.Decides.{nat_tests}
-use Rattle.comfy_parts.proofs.PlainEndLemmas.{IsClearAfter, LastBreak, end-all, last-break, no-break}
+use Rattle.comfy_parts.proofs.PlainEndLemmas.{IsClearAfter, end-all, last-break, no-break}
 use Rattle.comfy_parts.proofs.content_split.printable.printable_line_end.Goals as goal
 
 pub returns-then-text-width : goal.returns-then-text-width
