@@ -1,16 +1,16 @@
 # How the instructions of programs are counted, for the scripts that read this file. They set `work`, a folder of theirs.
 
-# compare INPUT WIDTH SHARES PROGRAM..
-# Counts the instructions of each program on a file, called with the width where there is one, and prints so many of its
-# costliest functions. All programs have to write the same.
+# compare INPUT WORDS SHARES PROGRAM..
+# Counts the instructions of each program on a file, called with these words, and prints so many of its costliest
+# functions. All programs have to write the same.
 compare() {
   input=$1
-  width=$2
+  words=$2
   shares=$3
   shift 3
   first=
   for program in "$@"; do
-    valgrind --tool=callgrind --callgrind-out-file="$work/counts" "$program" ${width:+"$width"} < "$input" > "$work/drawn" 2> "$work/said"
+    valgrind --tool=callgrind --callgrind-out-file="$work/counts" "$program" $words < "$input" > "$work/drawn" 2> "$work/said"
     count=$(sed -n 's/.*Collected : //p' "$work/said")
     [ "$first" ] || cp "$work/drawn" "$work/first"
     first=${first:-$count}
@@ -18,6 +18,6 @@ compare() {
     awk -v count="$count" -v first="$first" -v program="$program" 'BEGIN {
       printf "  %.1f million instructions, ratio %.3f: %s\n", count / 1e6, first / count, program
     }'
-    callgrind_annotate "$work/counts" | grep '%) .*:' | head -n "$shares"
+    [ "$shares" = 0 ] || callgrind_annotate "$work/counts" | grep '%) .*:' | head -n "$shares"
   done
 }

@@ -1,35 +1,17 @@
 #!/bin/sh
-# Measures the built ctable, and programs beside it: instructions and the five costliest functions on each input below,
-# and time and memory on the one of 100,000 rows. It needs GNU time and valgrind, and takes about two minutes.
+# Counts the instructions of programs on the inputs below, in millions. It needs valgrind, and takes some five minutes.
 #
-# usage: tools/measure.sh [PROGRAM].. [--wrapped PROGRAM..]
-# A PROGRAM before --wrapped reads and writes as ctable does. One after it is called with a width, and draws each
-# column in that width, paddings included. All programs on an input have to write the same. A ratio is the first
-# program's instructions divided by those of the program that it stands at.
+# usage: tools/measure.sh PROGRAM..
+# A PROGRAM is called as ctable is, with a width and an arrangement, and reads and writes as it does. All have to write
+# the same. A ratio is the first program's instructions divided by those of the program that it stands at. The folder
+# tools/original has a program over the original.
 set -eu
+if [ $# -eq 0 ]; then
+  sed -n 's/^# usage: //p' "$0" >&2
+  exit 2
+fi
 . "$(dirname "$0")/sentences.sh"
 . "$(dirname "$0")/counting.sh"
-IFS='
-'
-here=$PWD
-cd "$(dirname "$0")/../crates/ctable"
-rt run > /dev/null
-unwrapped=$PWD/out/ctable
-wrapped=
-cd "$here"
-is_wrapped=
-for word in "$@"; do
-  if [ "$word" = --wrapped ]; then
-    is_wrapped=yes
-  elif ! [ -x "$word" ]; then
-    echo "$0: $word isn't a program" >&2
-    exit 2
-  elif [ "$is_wrapped" ]; then
-    wrapped=$wrapped$IFS$word
-  else
-    unwrapped=$unwrapped$IFS$word
-  fi
-done
 work=$(mktemp -d)
 trap 'rm -rf "$work"' EXIT
 
@@ -47,32 +29,59 @@ short_cells() {
   }'
 }
 
-# Counts for programs, one a line, on an input of the folder.
-count() {
-  echo "$1${3:+, columns of $3}"
-  compare "$work/$1" "${3-}" 5 $2
+# A header and so many rows of so many cells of five words. All words of a column have one length: the average room at
+# the column's turn, less 3. So each column shrinks where the table is 23 * columns + 1 wide.
+shrinking() {
+  awk -v rows="$1" -v columns="$2" '
+    function drawn(count) { state = state * 16807 % 2147483647; return state % count }
+    BEGIN {
+      room = 20 * columns
+      for (turn = 0; turn < columns; turn++) {
+        length_at[turn] = int(room / (columns - turn)) - 3
+        room -= length_at[turn]
+      }
+      state = 1
+      letters = split("a b c d e f g h i j k l m n o p q r s t u v w x y z", letter, " ")
+      for (row = 0; row <= rows; row++) {
+        for (column = 0; column < columns; column++) {
+          if (column > 0) printf "\t"
+          for (word = 0; word < 5; word++) {
+            if (word > 0) printf " "
+            for (left = length_at[column]; left > 0; left--) printf letter[1 + drawn(letters)]
+          }
+        }
+        print ""
+      }
+    }'
 }
 
-short_cells 1000 6 cell > "$work/1,000 rows of 6 short cells"
-short_cells 10000 6 cell > "$work/10,000 rows of 6 short cells"
-short_cells 1000 60 cell > "$work/1,000 rows of 60 short cells"
-short_cells 100000 4 "" > "$work/100,000 rows of 4 short cells"
-sentences 11 9 'a b c d e f g h i j k l m n o p q r s t u v w x y z' > "$work/2,000 rows of 6 sentences"
-sentences 6 6 '年 快 乐 新 春 节 日 本 語 漢 字 仮 名 交 文 表 計 算 機 時 間 東 京 大' > "$work/2,000 rows of 6 wide sentences"
-awk 'BEGIN { while (letters++ < 100000) printf "x" }' > "$work/one word of 100,000 letters"
+# Counts for the programs on a file, with these words.
+count() {
+  name=$1
+  words=$2
+  shift 2
+  echo "$name${words:+, $words}"
+  compare "$work/$name" "$words" 0 "$@"
+}
 
-for rows in '1,000 rows of 6' '10,000 rows of 6' '1,000 rows of 60' '100,000 rows of 4'; do
-  count "$rows short cells" "$unwrapped"
+short_cells 10000 6 cell > "$work/10,000 x 6 short cells"
+short_cells 50000 4 cell > "$work/50,000 x 4 short cells"
+short_cells 1000 60 cell > "$work/1,000 x 60 short cells"
+short_cells 100000 4 "" > "$work/100,000 x 4 numbers"
+awk 'BEGIN { for (row = 0; row <= 20000; row++) print "\t\t\t\t\t\t\t\t\t" }' > "$work/20,000 x 10 empty cells"
+sentences 11 9 'a b c d e f g h i j k l m n o p q r s t u v w x y z' > "$work/sentences"
+sentences 6 6 '年 快 乐 新 春 节 日 本 語 漢 字 仮 名 交 文 表 計 算 機 時 間 東 京 大' > "$work/wide sentences"
+shrinking 200 24 > "$work/24 columns"
+shrinking 50 200 > "$work/200 columns"
+awk 'BEGIN { for (row = 0; row < 2; row++) for (column = 0; column < 7000; column++) printf "some words%s", column < 6999 ? "\t" : "\n" }' > "$work/7,000 columns"
+
+for name in '10,000 x 6 short cells' '50,000 x 4 short cells' '1,000 x 60 short cells' '100,000 x 4 numbers' '20,000 x 10 empty cells' sentences 'wide sentences'; do
+  count "$name" '' "$@"
 done
-for program in $unwrapped; do
-  /usr/bin/time -f "  %e s, %M KiB at most: $program" "$program" < "$work/100,000 rows of 4 short cells" 2>&1 > /dev/null
+for words in '120 dynamic' '97 full' '145 full' '265 full'; do
+  count sentences "$words" "$@"
+  count 'wide sentences' "$words" "$@"
 done
-count '2,000 rows of 6 sentences' "$unwrapped"
-count '2,000 rows of 6 wide sentences' "$unwrapped"
-if [ "$wrapped" ]; then
-  for width in 12 20 40; do
-    count '2,000 rows of 6 sentences' "$wrapped" "$width"
-    count '2,000 rows of 6 wide sentences' "$wrapped" "$width"
-  done
-  count 'one word of 100,000 letters' "$wrapped" 12
-fi
+count '24 columns' '553 dynamic' "$@"
+count '200 columns' '4601 dynamic' "$@"
+count '7,000 columns' '63001 dynamic' "$@"
