@@ -1,10 +1,12 @@
 //! What cells, lists of cells, and rows can be made of.
 
-ghost use Rattle.std.specs.Prelude.{◌≡◌, IfOk, List, map, string_bytes};
+ghost use Rattle.std.specs.Prelude.{◌≡◌, [], ◌∷◌, ◌++◌, IfOk, List, map, string_bytes};
 ghost use Rattle.comfy_parts.specs.CellValue.{CellValue, RowValue, bool_cell, char_cell, plain_cell, plain_row};
 
+mod borrowed;
 mod items;
 mod numbers;
+mod tuples;
 
 use crate::cell::Cell;
 use crate::error::Result;
@@ -22,8 +24,12 @@ pub trait IntoCell: Drop {
         ensures { IfOk result (λ cell. cell ≡ cell_of self) };
 }
 
-/// A list that cells can be made of: `Cells`, or a `Vec` or an array of values that a cell can be made of. The items of an
-/// array are `Copy`.
+/// A list that cells can be made of: `Cells`, or a `Vec`, an array, or a tuple of two to eight values that a cell can be made
+/// of. A borrowed `Vec`, array or slice is such a list where its items are `Copy`, as `&str` and numbers are.
+///
+/// ```
+/// [Cell::new(alloc, "open")?.fg(Color::Green), Cell::new(alloc, "dock 3")?].into_cells(alloc)?
+/// ```
 pub trait IntoCells: Drop {
     // the cells that the value stands for
     ghost cells_of: { Self → List CellValue };
@@ -33,7 +39,11 @@ pub trait IntoCells: Drop {
         ensures { IfOk result (λ cells. cells.0.items ≡ cells_of self) };
 }
 
-/// A value that a row can be made of: a row, or a list that cells can be made of.
+/// A value that a row can be made of: a row, or a list that cells can be made of (`IntoCells`).
+///
+/// ```
+/// ("width", 80u16, true).into_row(alloc)?
+/// ```
 pub trait IntoRow: Drop {
     // the row that the value stands for
     ghost row_of: { Self → RowValue };
@@ -46,6 +56,17 @@ pub trait IntoRow: Drop {
 /// Cells in order, that are not a row yet.
 #[derive(Debug, Drop)]
 pub struct Cells(pub Vec<Cell>);
+
+impl Cells {
+    // These cells, and one more at their end.
+    fn with(self, cell: Cell) -> Result<Cells>
+        ensures { IfOk result (λ cells. cells.0.items ≡ self.0.items ++ cell ∷ []) }
+    {
+        let Cells(mut cells) = self;
+        cells.push(cell)?;
+        Ok(Cells(cells))
+    }
+}
 
 impl IntoCell for Cell {
     ghost cell_of = { λ cell. cell };
@@ -107,7 +128,7 @@ impl<T: IntoCell> IntoCells for Vec<T> {
     }
 }
 
-impl<T: IntoCell + Copy, const N: usize> IntoCells for [T; N] {
+impl<T: IntoCell, const N: usize> IntoCells for [T; N] {
     ghost cells_of = { λ values. map T.cell_of values };
 
     fn into_cells(self, alloc: Global) -> Result<Cells> {
@@ -123,24 +144,8 @@ impl IntoRow for Row {
     }
 }
 
-impl IntoRow for Cells {
-    ghost row_of = { λ cells. plain_row cells.0.items };
-
-    fn into_row(self, _alloc: Global) -> Result<Row> {
-        Ok(Row::from_cells(self))
-    }
-}
-
-impl<T: IntoCell> IntoRow for Vec<T> {
-    ghost row_of = { λ values. plain_row (map T.cell_of values.items) };
-
-    fn into_row(self, alloc: Global) -> Result<Row> {
-        Ok(Row::from_cells(self.into_cells(alloc)?))
-    }
-}
-
-impl<T: IntoCell + Copy, const N: usize> IntoRow for [T; N] {
-    ghost row_of = { λ values. plain_row (map T.cell_of values) };
+impl<T: IntoCells> IntoRow for T {
+    ghost row_of = { λ values. plain_row (T.cells_of values) };
 
     fn into_row(self, alloc: Global) -> Result<Row> {
         Ok(Row::from_cells(self.into_cells(alloc)?))

@@ -30,5 +30,5 @@ impl<T: Drop> From<AllocFailed<T>> for TableError {
     }
 }
 
-/// The result of a call that takes memory.
-pub type Result<T> = std::result::Result<T, TableError>;
+/// The result of a call that takes memory. With another error it is std's: `use comfy_table::*` takes no `Result` away.
+pub type Result<T, E = TableError> = std::result::Result<T, E>;

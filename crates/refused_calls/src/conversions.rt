@@ -1,7 +1,7 @@
 //! The conversions to cells, lists of cells, and rows. What they take is dropped when they are refused.
 
 use crate::outcome::Outcome;
-use comfy_table::{IntoCell, IntoCells, IntoRow, Result};
+use comfy_table::{Cell, IntoCell, IntoCells, IntoRow, Result};
 use std::alloc::Global;
 
 const TEXT: &str = "on the road,\nback at noon";
@@ -20,9 +20,26 @@ pub fn outcome_of(alloc: Global, name: &str) -> Result<Outcome> {
         "array::into_cells" => becomes_cells(alloc, TEXTS),
         "Vec::into_row" => becomes_row(alloc, Vec::from_array(alloc, TEXTS)?),
         "array::into_row" => becomes_row(alloc, TEXTS),
+        "cells::into_row" => becomes_row(alloc, three_cells(alloc)?),
+        "slice::into_row" => becomes_row(alloc, TEXTS.as_slice()),
+        "borrowed array::into_row" => becomes_row(alloc, &TEXTS),
+        "borrowed Vec::into_row" => becomes_row(alloc, &Vec::from_array(alloc, TEXTS)?),
+        "pair::into_row" => becomes_row(alloc, (TEXT, 17u32)),
+        "tuple of eight::into_row" => {
+            becomes_row(alloc, (TEXT, 17u32, true, 'x', TEXT, 5u8, -1i64, "end"))
+        }
         _ => return Ok(Outcome::Unknown),
     };
     Ok(Outcome::of(succeeded))
+}
+
+fn three_cells(alloc: Global) -> Result<[Cell; 3]> {
+    let [first, second, third] = TEXTS;
+    Ok([
+        Cell::new(alloc, first)?,
+        Cell::new(alloc, second)?,
+        Cell::new(alloc, third)?,
+    ])
 }
 
 fn becomes_cell<T: IntoCell>(alloc: Global, value: T) -> bool {

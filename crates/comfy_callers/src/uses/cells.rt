@@ -1,14 +1,16 @@
 //! Callers that make, copy and compare cells.
 
-ghost use Rattle.std.specs.Prelude.{◌≡◌, ◌++◌, ◌∷◌, [], IfOk, IfSome, Some, length, string_bytes, true, unwrap_or};
-ghost use Rattle.comfy_parts.specs.CellValue.{number_cell, plain_cell};
+ghost use Rattle.std.specs.Prelude.{◌≡◌, ◌++◌, ◌∷◌, [], IfOk, IfSome, Some, length, map, string_bytes, true, unwrap_or};
+ghost use Rattle.comfy_parts.specs.CellValue.{bool_cell, char_cell, number_cell, plain_cell, plain_row};
 ghost use Rattle.comfy_parts.specs.declared.style.attribute.Attribute.TheVariants.{Bold};
 ghost use Rattle.comfy_parts.specs.declared.style.cell.CellAlignment.TheVariants.{Center};
 ghost use Rattle.comfy_parts.specs.declared.style.color.Color.TheVariants.{Red, White};
 
 use comfy_parts::for_tables::text_widths;
 use comfy_parts::laws::cells_are_equal_by_their_values;
-use comfy_table::{Attribute, Cell, CellAlignment, Cells, Color, IntoCell, IntoCells, Result};
+use comfy_table::{
+    Attribute, Cell, CellAlignment, Cells, Color, IntoCell, IntoCells, IntoRow, Result, Row,
+};
 use std::alloc::Global;
 
 /// A warning: bold red on white, in the middle of its column, and broken at hyphens.
@@ -93,4 +95,39 @@ pub fn both(alloc: Global, first: &str, second: &str) -> Result<Cells>
     ensures { IfOk result (λ cells. cells.0.items ≡ plain_cell first.now ∷ plain_cell second.now ∷ []) }
 {
     [first, second].into_cells(alloc)
+}
+
+/// A row of cells, each with its settings.
+pub fn row_of_cells(alloc: Global, first: Cell, second: Cell) -> Result<Row>
+    ensures { IfOk result (λ row. row ≡ plain_row (first ∷ second ∷ [])) }
+{
+    [first, second].into_row(alloc)
+}
+
+/// A row of values of several types.
+pub fn row_of_several_types(alloc: Global, name: &str, width: u16, is_open: bool) -> Result<Row>
+    ensures { IfOk result (λ row. row ≡ plain_row (plain_cell name.now ∷ number_cell width ∷ bool_cell is_open ∷ [])) }
+{
+    (name, width, is_open).into_row(alloc)
+}
+
+/// A row of borrowed texts.
+pub fn row_of_texts(alloc: Global, texts: &[&str]) -> Result<Row>
+    ensures { IfOk result (λ row. row ≡ plain_row (map (λ text. plain_cell text.now) texts.now)) }
+{
+    texts.into_row(alloc)
+}
+
+/// The cells of borrowed numbers.
+pub fn cells_of_numbers(alloc: Global, numbers: &Vec<u64>) -> Result<Cells>
+    ensures { IfOk result (λ cells. cells.0.items ≡ map number_cell numbers.now.items) }
+{
+    numbers.into_cells(alloc)
+}
+
+/// The cells of three borrowed characters.
+pub fn cells_of_characters(alloc: Global, characters: &[char; 3]) -> Result<Cells>
+    ensures { IfOk result (λ cells. cells.0.items ≡ map char_cell characters.now) }
+{
+    characters.into_cells(alloc)
 }

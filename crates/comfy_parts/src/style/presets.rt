@@ -1,4 +1,50 @@
-//! Styles that are ready to be used, each with a picture.
+//! Styles that are ready to be used. There are thirteen:
+//!
+//! ```text
+//! ASCII_FULL            ASCII_FULL_CONDENSED   ASCII_NO_BORDERS
+//! +-------+-------+     +-------+-------+       Hello | there
+//! | Hello | there |     | Hello | there |      ===============
+//! +===============+     +===============+       a     | b
+//! | a     | b     |     | a     | b     |      -------+-------
+//! |-------+-------|     | c     | d     |       c     | d
+//! | c     | d     |     +-------+-------+
+//! +-------+-------+
+//!
+//! ASCII_BORDERS_ONLY    ASCII_HORIZONTAL_ONLY  ASCII_BORDERS_ONLY_CONDENSED
+//! +---------------+     ---------------        +---------------+
+//! | Hello   there |      Hello   there         | Hello   there |
+//! +===============+     ===============        +===============+
+//! | a       b     |      a       b             | a       b     |
+//! |               |     ---------------        | c       d     |
+//! | c       d     |      c       d             +---------------+
+//! +---------------+     ---------------
+//!
+//! ASCII_MARKDOWN        NOTHING
+//! | Hello | there |      Hello  there
+//! |-------|-------|      a      b
+//! | a     | b     |      c      d
+//! | c     | d     |
+//!
+//! UTF8_FULL             UTF8_FULL_CONDENSED    UTF8_NO_BORDERS
+//! ┌───────┬───────┐     ┌───────┬───────┐       Hello ┆ there
+//! │ Hello ┆ there │     │ Hello ┆ there │      ═══════╪═══════
+//! ╞═══════╪═══════╡     ╞═══════╪═══════╡       a     ┆ b
+//! │ a     ┆ b     │     │ a     ┆ b     │      ╌╌╌╌╌╌╌┼╌╌╌╌╌╌╌
+//! ├╌╌╌╌╌╌╌┼╌╌╌╌╌╌╌┤     │ c     ┆ d     │       c     ┆ d
+//! │ c     ┆ d     │     └───────┴───────┘
+//! └───────┴───────┘
+//!
+//! UTF8_BORDERS_ONLY     UTF8_HORIZONTAL_ONLY
+//! ┌───────────────┐     ───────────────
+//! │ Hello   there │      Hello   there
+//! ╞═══════════════╡     ═══════════════
+//! │ a       b     │      a       b
+//! │ c       d     │     ───────────────
+//! └───────────────┘      c       d
+//!                       ───────────────
+//! ```
+//!
+//! A table takes one by `load_style`, changed or as it is, and `by_name` finds one by its name:
 //!
 //! ```
 //! table.load_style(UTF8_FULL.with_rounded_corners());

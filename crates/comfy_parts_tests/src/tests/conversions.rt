@@ -1,6 +1,7 @@
 //! That each conversion succeeds, and gives the texts that the original's would.
 
 use super::support::{assert_content, assert_contents};
+use comfy_parts::style::Color;
 use comfy_parts::{Cell, Cells, IntoCell, IntoCells, IntoRow, Result};
 use std::alloc::{Alloc, Global};
 use std::fmt::{self, Display, Formatter, Write};
@@ -81,6 +82,42 @@ fn lists_are_rows_in_order(rt: HostRuntime) -> Result<()> {
     assert_row(&rt, [-1i64], &["-1"])?;
     assert_row(&rt, ['a', 'b'].into_cells(rt.alloc())?, &["a", "b"])?;
     assert_row(&rt, ["a", "b"].into_row(rt.alloc())?, &["a", "b"])
+}
+
+#[test]
+fn cells_in_an_array_keep_their_settings(rt: HostRuntime) -> Result<()> {
+    let alloc = rt.alloc();
+    let open = Cell::new(alloc, "open")?.fg(Color::Green);
+    let row = [open, Cell::new(alloc, "dock 3")?].into_row(alloc)?;
+    assert_contents(&rt, row.cell_iter().as_slice(), &["open", "dock 3"])?;
+    let colours = row.cell_iter().map(Cell::foreground);
+    assert!(rt; colours.eq([Some(Color::Green), None]));
+    Ok(())
+}
+
+#[test]
+fn borrowed_lists_are_rows(rt: HostRuntime) -> Result<()> {
+    let list = Vec::from_array(rt.alloc(), ["17", "dock 3"])?;
+    assert_row(&rt, &list, &["17", "dock 3"])?;
+    assert_row(&rt, list.as_slice(), &["17", "dock 3"])?;
+    assert_row(&rt, &[-1i64, 7], &["-1", "7"])
+}
+
+#[test]
+fn short_tuples_are_rows(rt: HostRuntime) -> Result<()> {
+    assert_row(&rt, ("width", 80u16), &["width", "80"])?;
+    assert_row(&rt, ('a', true, 3u8), &["a", "true", "3"])?;
+    assert_row(&rt, (1u8, "b", 3i64, false), &["1", "b", "3", "false"])?;
+    assert_row(&rt, (1u8, 2u8, "c", 4u8, 5u8), &["1", "2", "c", "4", "5"])
+}
+
+#[test]
+fn long_tuples_are_rows(rt: HostRuntime) -> Result<()> {
+    assert_row(&rt, (1u8, 2u8, 3u8, "d", 5u8, 6u8), &["1", "2", "3", "d", "5", "6"])?;
+    let seven = (1u8, 2u8, 3u8, 4u8, "e", 6u8, 7u8);
+    assert_row(&rt, seven, &["1", "2", "3", "4", "e", "6", "7"])?;
+    let eight = (1u8, 2u8, 3u8, 4u8, 5u8, 6u8, "g", 8u8);
+    assert_row(&rt, eight, &["1", "2", "3", "4", "5", "6", "g", "8"])
 }
 
 // A value that refuses to be printed.

@@ -5,7 +5,22 @@ ghost use Rattle.comfy_table.specs.TableValue.{is_tty, should_style, table_width
 
 use crate::table::Table;
 
-/// Facts about a terminal, as the caller found them. `Table::set_terminal` passes them in.
+/// Facts about a terminal, as the caller found them. `Table::set_terminal` passes them in. With them colours and attributes
+/// are written where the output is a terminal, and nowhere else, and a table without a width of its own takes the
+/// terminal's.
+///
+/// A program finds them so, where the shell passes on the width in `COLUMNS`:
+///
+/// ```
+/// use std::env;
+/// use std::io::IsTerminal;
+///
+/// table.set_terminal(Terminal {
+///     stdout_is_tty: rt.stdout().is_terminal(),
+///     stderr_is_tty: rt.stderr().is_terminal(),
+///     width: env::var(&rt, "COLUMNS").ok().and_then(|columns| columns.parse().ok()),
+/// });
+/// ```
 #[derive(Copy, Clone, Debug)]
 pub struct Terminal {
     /// Whether standard output is a terminal.
@@ -27,11 +42,7 @@ impl Terminal {
 
 impl Table {
     /// Passes in what is known of the terminal; a new table knows of none. No call asks the terminal itself, so the caller
-    /// looks up these facts.
-    ///
-    /// ```
-    /// table.set_terminal(Terminal { stdout_is_tty: true, stderr_is_tty: false, width: Some(80) });
-    /// ```
+    /// looks up these facts, as the example at `Terminal` does.
     pub fn set_terminal(&mut self, terminal: Terminal) -> &mut Self
         ensures same_reference { result.ghost_name ≡ self.entry.ghost_name }
         ensures value { result.now ≡ record self.old { terminal = terminal } }
@@ -59,7 +70,7 @@ impl Table {
         self
     }
 
-    /// Has colours and attributes written, also where the output is no terminal.
+    /// Has colours and attributes written, also where the output is no terminal: a file, or the input of another program.
     pub fn enforce_styling(&mut self) -> &mut Self
         ensures same_reference { result.ghost_name ≡ self.entry.ghost_name }
         ensures value { result.now ≡ record self.old { enforce_styling = true } }
