@@ -7,7 +7,7 @@
 # column in that width, paddings included. All programs on an input have to write the same. A ratio is the first
 # program's instructions divided by those of the program that it stands at.
 set -eu
-. "$(dirname "$0")/sentences.sh"
+. "$(dirname "$0")/inputs.sh"
 . "$(dirname "$0")/counting.sh"
 IFS='
 '
@@ -32,20 +32,6 @@ for word in "$@"; do
 done
 work=$(mktemp -d)
 trap 'rm -rf "$work"' EXIT
-
-# A header and so many rows of so many cells, each a word and a number below 1,000.
-short_cells() {
-  awk -v rows="$1" -v cells="$2" -v word="$3" 'BEGIN {
-    for (row = -1; row < rows; row++) {
-      line = ""
-      for (cell = 0; cell < cells; cell++) {
-        text = row < 0 ? "col" cell : word ((row * 7 + cell * 13) % 1000)
-        line = line (cell > 0 ? "\t" : "") text
-      }
-      print line
-    }
-  }'
-}
 
 # Counts for programs, one a line, on an input of the folder.
 count() {

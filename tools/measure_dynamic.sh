@@ -6,7 +6,7 @@
 # All programs have to write the same. A ratio is the first program's instructions divided by those of the program that
 # it stands at. Instructions are in millions.
 set -eu
-. "$(dirname "$0")/sentences.sh"
+. "$(dirname "$0")/inputs.sh"
 work=$(mktemp -d)
 trap 'rm -rf "$work"' EXIT
 
