@@ -27,7 +27,7 @@ def functions_of(crate):
     found = {}
     for path in glob.glob("crates/" + crate + "/src/**/*.rt", root_dir=TOP, recursive=True):
         text = text_of(path)
-        starts = list(re.finditer(r"^[ \t]*(?:pub(?:\(\w+\))? )?(?:extern "C" )?fn (\w+)", text, re.M))
+        starts = list(re.finditer(r"^[ \t]*(?:pub(?:\(\w+\))? )?(?:extern \S+ )?fn (\w+)", text, re.M))
         for start, after in zip(starts, [it.start() for it in starts[1:]] + [len(text)]):
             block = ""
             for it in re.finditer(r"^(?:(?:pub )?(?:impl|trait)\b.*|\})", text[: start.start()], re.M):

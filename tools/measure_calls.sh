@@ -1,6 +1,7 @@
 #!/bin/sh
-# Counts the instructions of one call of the static library from a program in Rust, beside those of the original in the
-# same process, on the inputs below, and takes the best time of 20 calls of each. Both have to give the same drawing.
+# Counts the instructions of one call of the static library from a program in Rust, and of the original in the same
+# program, on the inputs below. It takes the best time of 20 calls of each, made by turns in one process, where both have
+# to give the same drawing.
 # It needs cargo and valgrind.
 #
 # usage: tools/measure_calls.sh ORIGINAL
@@ -33,15 +34,15 @@ END
 (cd "$original" && COMFY_C=$work cargo build -q --release --manifest-path "$work/calls/Cargo.toml")
 calls=$work/calls/target/release/calls
 
-# The instructions of one function of the program, with all that it calls, on an input of the folder.
+# The instructions of the first call of a library, with all that it calls, on an input of the folder.
 count() {
-  valgrind --tool=callgrind --callgrind-out-file=/dev/null --toggle-collect="$1" "$calls" $3 < "$work/$2" 2>&1 > /dev/null | sed -n 's/.*Collected : //p'
+  ONLY=$1 valgrind --tool=callgrind --callgrind-out-file=/dev/null --toggle-collect="by_$1" "$calls" $3 < "$work/$2" 2>&1 > /dev/null | sed -n 's/.*Collected : //p'
 }
 
 # Counts on an input, with a width where there is one.
 measure() {
-  by_original=$(count by_original "$1" "${2-}")
-  by_proved=$(count by_proved "$1" "${2-}")
+  by_original=$(count original "$1" "${2-}")
+  by_proved=$(count proved "$1" "${2-}")
   awk -v name="$1${2:+, width $2}" -v proved="$by_proved" -v original="$by_original" 'BEGIN {
     printf "%s: %.2f million instructions, the original %.2f, ratio %.2f\n", name, proved / 1e6, original / 1e6, proved / original
   }'

@@ -1,5 +1,6 @@
 //! calls [WIDTH]: draws standard input by the original and by the proved library, in one process, and compares. It prints
-//! the best time of each out of as many calls as TIMES says, one where it isn't set.
+//! the best time of each out of as many calls as TIMES says, one where it isn't set. With ONLY=original or ONLY=proved it
+//! makes one call of that library alone.
 use comfy_table::{Cell, ContentArrangement, Row, Table, presets};
 use comfy_table_proved::{Arrangement, Options, Style, draw};
 use std::io::{Read, stdin};
@@ -48,6 +49,11 @@ fn main() {
     let times = std::env::var("TIMES").map_or(1, |word| word.parse().expect("a number"));
     let mut text = String::new();
     stdin().read_to_string(&mut text).expect("UTF-8 on standard input");
+    if let Ok(library) = std::env::var("ONLY") {
+        let drawing = if library == "original" { by_original(&text, width) } else { by_proved(&text, width) };
+        println!("{} bytes", drawing.len());
+        return;
+    }
     let mut best = [f64::MAX; 2];
     for _ in 0..times {
         let begun = Instant::now();
