@@ -63,7 +63,7 @@ pub extern "C" fn comfy_table_draw(
     let Some(settings) = settings_of(width, arrangement, style) else {
         return UNKNOWN_SETTING;
     };
-    let Ok(text) = str::from_utf8(input) else {
+    let Ok(text) = simdutf8::compat::from_utf8(input) else {
         return NOT_UTF8;
     };
     let Ok(drawing) = drawing_of(alloc, text, settings) else {
