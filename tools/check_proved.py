@@ -13,7 +13,7 @@ import re
 import sys
 
 TOP = os.path.dirname(os.path.dirname(os.path.realpath(__file__)))
-LIBRARIES = ["comfy_parts", "comfy_table", "comfy_run"]
+LIBRARIES = ["comfy_parts", "comfy_table", "comfy_run", "comfy_c"]
 WORDS = {"IsAfter", "IsTableDrawing", "input_table"}  # definitions, not functions
 
 
@@ -27,7 +27,7 @@ def functions_of(crate):
     found = {}
     for path in glob.glob("crates/" + crate + "/src/**/*.rt", root_dir=TOP, recursive=True):
         text = text_of(path)
-        starts = list(re.finditer(r"^[ \t]*(?:pub(?:\(\w+\))? )?fn (\w+)", text, re.M))
+        starts = list(re.finditer(r"^[ \t]*(?:pub(?:\(\w+\))? )?(?:extern \S+ )?fn (\w+)", text, re.M))
         for start, after in zip(starts, [it.start() for it in starts[1:]] + [len(text)]):
             block = ""
             for it in re.finditer(r"^(?:(?:pub )?(?:impl|trait)\b.*|\})", text[: start.start()], re.M):

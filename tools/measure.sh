@@ -10,24 +10,10 @@ if [ $# -eq 0 ]; then
   sed -n 's/^# usage: //p' "$0" >&2
   exit 2
 fi
-. "$(dirname "$0")/sentences.sh"
+. "$(dirname "$0")/inputs.sh"
 . "$(dirname "$0")/counting.sh"
 work=$(mktemp -d)
 trap 'rm -rf "$work"' EXIT
-
-# A header and so many rows of so many cells, each a word and a number below 1,000.
-short_cells() {
-  awk -v rows="$1" -v cells="$2" -v word="$3" 'BEGIN {
-    for (row = -1; row < rows; row++) {
-      line = ""
-      for (cell = 0; cell < cells; cell++) {
-        text = row < 0 ? "col" cell : word ((row * 7 + cell * 13) % 1000)
-        line = line (cell > 0 ? "\t" : "") text
-      }
-      print line
-    }
-  }'
-}
 
 # A header and so many rows of so many cells of five words. All words of a column have one length: the average room at
 # the column's turn, less 3. So each column shrinks where the table is 23 * columns + 1 wide.

@@ -7,7 +7,7 @@
 # All programs have to write the same. A ratio is the first program's instructions divided by those of the program that
 # it stands at.
 set -eu
-. "$(dirname "$0")/sentences.sh"
+. "$(dirname "$0")/inputs.sh"
 . "$(dirname "$0")/counting.sh"
 work=$(mktemp -d)
 trap 'rm -rf "$work"' EXIT

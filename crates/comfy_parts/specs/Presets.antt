@@ -1,5 +1,5 @@
 -- The thirteen presets. A part of a style is written as its characters: left, fill, junction and right of a frame line, left, junction and right of a content line; `_` is one that isn't set.
-use Rattle.std.specs.Prelude.{ℕ, ◌==◌, List, [], ◌∷◌, Option, Some, None, option_map, find, slice_index, codes, bytes_eq, if◌then◌else◌}
+use Rattle.std.specs.Prelude.{ℕ, ◌==◌, List, [], ◌∷◌, Option, Some, None, option_map, find, slice_get, slice_index, codes, bytes_eq, if◌then◌else◌}
 use Prim.Native.String.{String}
 use Rattle.comfy_parts.specs.Text.{Text}
 use Rattle.comfy_parts.specs.declared.style.table_style.ContentLineStyle.{ContentLineStyle}
@@ -75,7 +75,7 @@ utf8_horizontal_only = style_of "_──_" "___" "_══_" "___" "_──_" "_�
 abbrev pub nothing : TableStyle
 nothing = style_of "____" "___" "____" "___" "____" "____"
 
--- the presets by their names
+-- the presets by their names, in the order of their positions
 abbrev pub named_presets : List (Text × TableStyle)
 named_presets =
     (codes "ASCII_FULL", ascii_full)
@@ -100,3 +100,7 @@ beside table word = option_map (λ entry. entry.1) (find (λ entry. bytes_eq wor
 -- the preset of this name
 abbrev pub preset_named : Text → Option TableStyle
 preset_named = beside named_presets
+
+-- the preset at this position of them, counted from 0
+abbrev pub preset_at : ℕ → Option TableStyle
+preset_at position = option_map (λ entry. entry.1) (slice_get named_presets position)

@@ -18,4 +18,4 @@ pub use memory::{MemorySink, MemorySource};
 pub use process::run_with_arguments;
 pub use settings::Settings;
 pub use stream::{FromReader, ToWriter};
-pub use transfer::run;
+pub use transfer::{drawing_of, run};

@@ -51,7 +51,7 @@
 //! ```
 
 ghost use Rattle.std.specs.Prelude.{◌≡◌};
-ghost use Rattle.comfy_parts.specs.Presets.{ascii_full, ascii_full_condensed, ascii_no_borders, ascii_borders_only, ascii_borders_only_condensed, ascii_horizontal_only, ascii_markdown, utf8_full, utf8_full_condensed, utf8_no_borders, utf8_borders_only, utf8_horizontal_only, nothing, preset_named};
+ghost use Rattle.comfy_parts.specs.Presets.{ascii_full, ascii_full_condensed, ascii_no_borders, ascii_borders_only, ascii_borders_only_condensed, ascii_horizontal_only, ascii_markdown, utf8_full, utf8_full_condensed, utf8_no_borders, utf8_borders_only, utf8_horizontal_only, nothing, preset_at, preset_named};
 
 use crate::style::table_style::{ContentLineStyle, LineStyle, TableStyle};
 
@@ -514,6 +514,35 @@ pub fn by_name(name: &str) -> Option<TableStyle>
         "UTF8_BORDERS_ONLY" => UTF8_BORDERS_ONLY,
         "UTF8_HORIZONTAL_ONLY" => UTF8_HORIZONTAL_ONLY,
         "NOTHING" => NOTHING,
+        _ => return None,
+    };
+    Some(style)
+}
+
+/// The preset at this position, counted from 0 in the order in which this module has them: `ASCII_FULL` comes first,
+/// `NOTHING` last. A preset keeps its position, so programs in other languages can name it by a number. At a greater
+/// position there is none.
+///
+/// ```
+/// by_position(7); // Some(UTF8_FULL)
+/// ```
+pub fn by_position(position: usize) -> Option<TableStyle>
+    ensures { result ≡ preset_at position }
+{
+    let style = match position {
+        0 => ASCII_FULL,
+        1 => ASCII_FULL_CONDENSED,
+        2 => ASCII_NO_BORDERS,
+        3 => ASCII_BORDERS_ONLY,
+        4 => ASCII_BORDERS_ONLY_CONDENSED,
+        5 => ASCII_HORIZONTAL_ONLY,
+        6 => ASCII_MARKDOWN,
+        7 => UTF8_FULL,
+        8 => UTF8_FULL_CONDENSED,
+        9 => UTF8_NO_BORDERS,
+        10 => UTF8_BORDERS_ONLY,
+        11 => UTF8_HORIZONTAL_ONLY,
+        12 => NOTHING,
         _ => return None,
     };
     Some(style)

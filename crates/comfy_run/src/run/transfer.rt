@@ -90,8 +90,13 @@ fn read_all<R: Source>(alloc: Global, source: &mut R) -> Result<Vec<u8>, RunErro
     }
 }
 
-// The drawing of a text's table, each line followed by a line feed.
-fn drawing_of(alloc: Global, text: &str, settings: Settings) -> comfy_table::Result<String>
+/// The drawing of the table that a text stands for, each line followed by a line feed: what `run` writes for this input.
+/// The text's first line is the header, the others are rows, and cells stand between TABs.
+///
+/// ```
+/// let drawing = drawing_of(rt.alloc(), "name\tdays\noats\t3\n", settings)?;
+/// ```
+pub fn drawing_of(alloc: Global, text: &str, settings: Settings) -> comfy_table::Result<String>
     ensures { IfOk result (λ output. IsOutputFor settings.width settings.arrangement settings.style text.now (string_bytes output)) }
 {
     table_of(alloc, text, settings)?.to_terminated_text()

@@ -3,7 +3,8 @@
 use super::program::README;
 use super::support::{assert_bytes, assert_lines, joined};
 use comfy_run::run::{
-    FromReader, MemorySink, MemorySource, RunError, Settings, Sink, Source, ToWriter, run,
+    FromReader, MemorySink, MemorySource, RunError, Settings, Sink, Source, ToWriter, drawing_of,
+    run,
 };
 use comfy_table::presets::{ASCII_FULL, ASCII_MARKDOWN};
 use comfy_table::{ContentArrangement, Result, TableError};
@@ -106,6 +107,12 @@ fn each_failing_read_ends_the_run(rt: HostRuntime) -> Result<()> {
     }
     assert!(rt; failures > 2 && failures < 99);
     Ok(())
+}
+
+#[test]
+fn a_text_in_memory_is_drawn(rt: HostRuntime) -> Result<()> {
+    let drawing = drawing_of(rt.alloc(), "a\tb\nc\td\n", PLAIN)?;
+    assert_lines(&rt, drawing.as_bytes(), &OUTPUT)
 }
 
 #[test]

@@ -1,5 +1,19 @@
 # Inputs of the measurements, for the scripts that read this file.
 
+# A header and so many rows of so many cells, each a word and a number below 1,000.
+short_cells() {
+  awk -v rows="$1" -v cells="$2" -v word="$3" 'BEGIN {
+    for (row = -1; row < rows; row++) {
+      line = ""
+      for (cell = 0; cell < cells; cell++) {
+        text = row < 0 ? "col" cell : word ((row * 7 + cell * 13) % 1000)
+        line = line (cell > 0 ? "\t" : "") text
+      }
+      print line
+    }
+  }'
+}
+
 # A header and 2,000 rows of 6 sentences: so many words, each of 2 letters up to so many, out of these letters.
 sentences() {
   awk -v words="$1" -v longest="$2" -v alphabet="$3" '

@@ -1,0 +1,75 @@
+//! Prints what a run of tests gave: PASS and FAIL in colours, times at the right, and long messages cut at three lines.
+//!
+//! The report is as wide as COLUMNS says, and has colours where it is printed on a terminal and NO_COLOR isn't set. Its
+//! arguments say otherwise: `color` or `plain`, and then one or more widths, at each of which the report is printed.
+#![tactic(auto)]
+
+mod report;
+
+use anyhow::Context;
+use comfy_table::{Table, Terminal};
+use report::{Test, report};
+use std::env;
+use std::io::IsTerminal;
+
+const TESTS: [Test; 4] = [
+    Test {
+        name: "parse::empty",
+        millis: 3,
+        failure: None,
+    },
+    Test {
+        name: "parse::nested",
+        millis: 1_204,
+        failure: None,
+    },
+    Test {
+        name: "store::crash",
+        millis: 61_007,
+        failure: Some(
+            "17 records wanted, 16 found: the second of two writes is lost although the log was flushed before it (src/log.rs:214)",
+        ),
+    },
+    Test {
+        name: "store::open",
+        millis: 12,
+        failure: None,
+    },
+];
+
+fn main(rt: HostRuntime) -> anyhow::Result<()> {
+    let mut report = report(rt.alloc(), &TESTS)?;
+    let mut terminal = terminal(&rt);
+    let mut is_printed = false;
+    for word in env::args(&rt)?.skip(1) {
+        match word.as_str() {
+            "color" => terminal.stdout_is_tty = true,
+            "plain" => terminal.stdout_is_tty = false,
+            width => {
+                report.set_width(width.parse::<u16>().context("no such width")?);
+                print(&rt, report.set_terminal(terminal))?;
+                is_printed = true;
+            }
+        }
+    }
+    if !is_printed {
+        report.set_width(terminal.width.unwrap_or(80));
+        print(&rt, report.set_terminal(terminal))?;
+    }
+    Ok(())
+}
+
+fn print(rt: &HostRuntime, table: &Table) -> anyhow::Result<()> {
+    println!(rt; "{}", table.to_text()?)?;
+    Ok(())
+}
+
+// what is known of the terminal; colours are written where standard output is one
+fn terminal(rt: &HostRuntime) -> Terminal {
+    let columns = env::var(rt, "COLUMNS").ok();
+    Terminal {
+        stdout_is_tty: rt.stdout().is_terminal() && env::var(rt, "NO_COLOR").is_err(),
+        stderr_is_tty: false,
+        width: columns.and_then(|text| text.parse::<u16>().ok()),
+    }
+}
