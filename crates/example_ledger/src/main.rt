@@ -6,38 +6,24 @@ use comfy_table::presets::UTF8_FULL;
 use comfy_table::{CellAlignment, ContentArrangement, Result, Table};
 use std::alloc::Global;
 
-struct Entry {
-    day: &'static str,
-    payee: &'static str,
-    purpose: &'static str,
-    cents: u32,
-}
+// Day, payee, purpose and cents.
+type Entry = (&'static str, &'static str, &'static str, u32);
 
 const ENTRIES: [Entry; 4] = [
-    Entry {
-        day: "2 May",
-        payee: "Housing Union",
-        purpose: "rent",
-        cents: 120_000,
-    },
-    Entry {
-        day: "3 May",
-        payee: "Wheel & Chain",
-        purpose: "brake pads, a chain and two new tyres for the tandem",
-        cents: 18_450,
-    },
-    Entry {
-        day: "9 May",
-        payee: "Baker",
-        purpose: "rolls",
-        cents: 705,
-    },
-    Entry {
-        day: "17 May",
-        payee: "Railways",
-        purpose: "two tickets to Lübeck and back, with both bicycles",
-        cents: 12_160,
-    },
+    ("2 May", "Housing Union", "rent", 120_000),
+    (
+        "3 May",
+        "Wheel & Chain",
+        "brake pads, a chain and two new tyres for the tandem",
+        18_450,
+    ),
+    ("9 May", "Baker", "rolls", 705),
+    (
+        "17 May",
+        "Railways",
+        "two tickets to Lübeck and back, with both bicycles",
+        12_160,
+    ),
 ];
 
 fn main(rt: HostRuntime) -> anyhow::Result<()> {
@@ -48,8 +34,8 @@ fn main(rt: HostRuntime) -> anyhow::Result<()> {
 
 fn sum(entries: &[Entry]) -> Option<u32> {
     let mut sum: u32 = 0;
-    for entry in entries {
-        sum = sum.checked_add(entry.cents)?;
+    for (_day, _payee, _purpose, cents) in entries {
+        sum = sum.checked_add(*cents)?;
     }
     Some(sum)
 }
@@ -61,19 +47,16 @@ fn ledger(alloc: Global, entries: &[Entry], sum: u32) -> Result<Table> {
         .set_content_arrangement(ContentArrangement::Dynamic)
         .set_width(70)
         .set_header(["Day", "Paid to", "For", "Euros"])?;
-    for entry in entries {
-        let words = [entry.day, entry.payee, entry.purpose];
-        add_row(alloc, &mut ledger, words, entry.cents)?;
+    for (day, payee, purpose, cents) in entries {
+        ledger.add_row((*day, *payee, *purpose, euros(alloc, *cents)?))?;
     }
-    add_row(alloc, &mut ledger, ["", "", "Sum"], sum)?;
+    ledger.add_row(("", "", "Sum", euros(alloc, sum)?))?;
     if let Some(amounts) = ledger.column_mut(3) {
         amounts.set_cell_alignment(CellAlignment::Right);
     }
     Ok(ledger)
 }
 
-fn add_row(alloc: Global, ledger: &mut Table, words: [&str; 3], cents: u32) -> Result<()> {
-    let euros = format!(in alloc; "{}.{:02}", cents / 100, cents % 100)?;
-    ledger.add_row([words[0], words[1], words[2], euros.as_str()])?;
-    Ok(())
+fn euros(alloc: Global, cents: u32) -> Result<String> {
+    Ok(format!(in alloc; "{}.{:02}", cents / 100, cents % 100)?)
 }
