@@ -1,11 +1,13 @@
 #!/usr/bin/env python3
-"""Compares docs/PROVED.md with the code: do the functions, clauses, fields and mutations that it names exist?
+"""Compares the pages with the code. It prints what doesn't agree, and ends with 1 where anything doesn't.
 
     tools/check_proved.py
 
-Each row's clauses are looked for in the crate of its section. A mutation has to be named in a row, or to change a
-function that a row names. Each label that README.md cites has to be a row. The page has to say how many lines of
-definitions a reader must believe. It prints what is missing, and ends with 1 where anything is.
+- docs/PROVED.md: each function, clause and field that it names exists, and each public function has a mutation, one of
+  its `try_` form, or stands in OVER_OTHERS. It says how many lines of definitions a reader must believe.
+- README.md: each label that it cites is a heading of PROVED.md, and what it prints is the output of the stored run.
+- CALLING.md of each library: each clause that it quotes stands in the library's source or in comfy_callers.
+- Each mutation changes a function that exists.
 """
 import glob
 import os
@@ -13,8 +15,14 @@ import re
 import sys
 
 TOP = os.path.dirname(os.path.dirname(os.path.realpath(__file__)))
-LIBRARIES = ["comfy_parts", "comfy_table", "comfy_run", "comfy_c"]
+LIBRARIES = ["comfy_parts", "comfy_table", "comfy_run"]
 WORDS = {"IsAfter", "IsTableDrawing", "input_table"}  # definitions, not functions
+# public calls of a few words over functions that have mutations
+OVER_OTHERS = set(
+    "build_table trim_fmt format_row style has_custom_styling visible_lines settings_of "
+    "should_draw_left_border should_draw_right_border should_draw_vertical_lines".split()
+)
+STORED = ["example_ledger/stdout", "example_ledger/src/main.rt", "ctable_words/stdout"]
 
 
 def text_of(path):
@@ -22,12 +30,16 @@ def text_of(path):
         return file.read()
 
 
+def sources_of(crate):
+    return [text_of(path) for path in glob.glob("crates/" + crate + "/src/**/*.rt", root_dir=TOP, recursive=True)]
+
+
 def functions_of(crate):
-    """For each function's name: the names by which a row may call its place, and the names of its clauses."""
+    """For each function's name: the names by which a page may call its place, and the names of its clauses."""
     found = {}
     for path in glob.glob("crates/" + crate + "/src/**/*.rt", root_dir=TOP, recursive=True):
         text = text_of(path)
-        starts = list(re.finditer(r"^[ \t]*(?:pub(?:\(\w+\))? )?(?:extern \S+ )?fn (\w+)", text, re.M))
+        starts = list(re.finditer(r"^[ \t]*(?:pub(?:\(\w+\))? )?(?:extern \"C\" )?(?:fn|ghost) (\w+)", text, re.M))
         for start, after in zip(starts, [it.start() for it in starts[1:]] + [len(text)]):
             block = ""
             for it in re.finditer(r"^(?:(?:pub )?(?:impl|trait)\b.*|\})", text[: start.start()], re.M):
@@ -38,6 +50,41 @@ def functions_of(crate):
     return found
 
 
+def mutations_of(crate):
+    paths = glob.glob(f"crates/{crate}/m*/*.edit", root_dir=TOP)
+    return {os.path.basename(path).split("__")[0] for path in paths}
+
+
+def wrong_in_section(crate, section):
+    """What doesn't agree in the section of a crate: its promises name functions, clauses and fields."""
+    wrong, functions, mutated = [], functions_of(crate), mutations_of(crate)
+    fields = set(re.findall(r"pub (\w+) :", text_of("crates/comfy_table/specs/Headline.antt")))
+    for promise in re.findall(r"^Clauses: (.*?)\.\n\n", section + "\n\n", re.M | re.S):
+        clauses, _, more = " ".join(promise.split()).partition("; ")
+        wrong += [f"no field {it}" for it in re.findall(r"`(\w+)`", more) if it not in fields | WORDS]
+        for it in re.finditer(r"`([\w:]+)`(?: \(([^)]*)\))?", clauses):
+            *place, name = it[1].split("::")
+            found = [one for one in functions.get(name, []) if set(place[-1:]) <= one[0]]
+            if not found and name not in WORDS:
+                wrong.append(f"{crate} has no function {it[1]}")
+            known = set().union(*(one[1] for one in found))
+            wrong += [f"{it[1]} has no clause {clause}" for clause in re.findall(r"\w+", it[2] or "") if clause not in known]
+            if place[-1:] != ["laws"] and not {name, f"try_{name}"} & mutated and name not in OVER_OTHERS | WORDS:
+                wrong.append(f"{crate} has no mutation of {it[1]}")
+    return wrong
+
+
+def wrong_in_calling(crate):
+    """The clauses that a CALLING.md quotes and its library doesn't have."""
+    source = " ".join(" ".join(sources_of(crate) + sources_of("comfy_callers")).split())
+    wrong = []
+    for block in re.findall(r"```rust\n(.*?)```", text_of(f"crates/{crate}/CALLING.md"), re.S):
+        for clause in re.findall(r"^\s*((?:ensures|requires)\b.*?);?$", block, re.M):
+            if " ".join(clause.split()) not in source:
+                wrong.append(f"{crate}/CALLING.md quotes what isn't there: {clause}")
+    return wrong
+
+
 def lines_to_believe():
     """Lines of the definitions in which public contracts are written: of the files that don't say that they are private."""
     paths = [it for crate in LIBRARIES for it in glob.glob(f"crates/{crate}/specs/**/*.antt", root_dir=TOP, recursive=True)]
@@ -46,37 +93,23 @@ def lines_to_believe():
 
 
 def main():
-    page, wrong, named, crate, functions = text_of("docs/PROVED.md"), [], set(), "", {}
-    fields = set(re.findall(r"pub (\w+) :", text_of("crates/comfy_table/specs/Headline.antt")))
-    for line in page.split("\n"):
-        if line.startswith("## "):
-            crate = line[3:]
-            functions = functions_of(crate) if os.path.isdir(f"{TOP}/crates/{crate}") else {}
-        if not line.startswith("| **"):
-            continue
-        clauses, _, more = line.split(" | ")[2].partition("; ")
-        wrong += [f"no field {it}" for it in re.findall(r"`(\w+)`", more) if it not in fields | WORDS]
-        for it in re.finditer(r"`([\w:]+)`(?: \(([^)]*)\))?", clauses):
-            *place, name = it[1].split("::")
-            found = [one for one in functions.get(name, []) if set(place[-1:]) <= one[0]]
-            named.add(f"{crate}/{name}")
-            if not found and name not in WORDS:
-                wrong.append(f"{crate} has no function {it[1]}")
-            known = set().union(*(one[1] for one in found))
-            wrong += [f"{it[1]} has no clause {clause}" for clause in re.findall(r"\w+", it[2] or "") if clause not in known]
-    edits = [(it.split("/")[1], os.path.basename(it)[: -len(".edit")]) for it in glob.glob("crates/*/m*/*.edit", root_dir=TOP)]
-    cited = set(re.findall(r"`(\w+__\w+)`", page))
-    wrong += [f"no mutation {it}" for it in sorted(cited - {name for _, name in edits})]
-    for crate, name in sorted(edits):
-        if name not in cited and f"{crate}/{name.split('__')[0]}" not in named:
-            wrong.append(f"no row names the mutation {name}")
-    labels = set(re.findall(r"\*\*(P\d+) ", page))
-    for group in re.findall(r"\[(P\d+(?:, P\d+)*)\]", text_of("README.md")):
-        wrong += [f"README.md cites {it}, which isn't a row" for it in group.split(", ") if it not in labels]
+    page, readme, wrong = text_of("docs/PROVED.md"), text_of("README.md"), []
+    for section in re.split(r"^## ", page, flags=re.M)[1:]:
+        crate = section.split("\n")[0]
+        if os.path.isdir(f"{TOP}/crates/{crate}"):
+            wrong += wrong_in_section(crate, section)
+    for crate in {path.split("/")[1] for path in glob.glob("crates/*/m*/*.edit", root_dir=TOP)}:
+        wrong += [f"{crate} has no function {it}, which a mutation names" for it in mutations_of(crate) - set(functions_of(crate))]
+    labels = {"P0", *re.findall(r"^### (P\d+) ", page, re.M)}
+    for group in re.findall(r"\[(P\d+(?:, P\d+)*)\]", readme):
+        wrong += [f"README.md cites {it}, which isn't a heading" for it in group.split(", ") if it not in labels]
+    wrong += [f"README.md doesn't print crates/{path}" for path in STORED if text_of(f"crates/{path}") not in readme]
+    for path in glob.glob("crates/*/CALLING.md", root_dir=TOP):
+        wrong += wrong_in_calling(path.split("/")[1])
     believed = lines_to_believe()
     if f"the {believed} lines" not in page:
         wrong.append(f"docs/PROVED.md doesn't name the {believed} lines of definitions to believe")
-    print("\n".join(wrong) or f"{len(labels)} labels, {len(edits)} mutations: all found")
+    print("\n".join(wrong) or f"{len(labels)} labels: all found")
     return 1 if wrong else 0
 
 

@@ -1,13 +1,12 @@
 //! Draws a ledger: titles above the columns, amounts at the right, long texts wrapped, and the sum at the end.
 #![tactic(auto)]
 
-use anyhow::Context;
 use comfy_table::presets::UTF8_FULL;
 use comfy_table::{CellAlignment, ContentArrangement, Result, Table};
 use std::alloc::Global;
 
 // Day, payee, purpose and cents.
-type Entry = (&'static str, &'static str, &'static str, u32);
+type Entry = (&'static str, &'static str, &'static str, u64);
 
 const ENTRIES: [Entry; 4] = [
     ("2 May", "Housing Union", "rent", 120_000),
@@ -27,27 +26,20 @@ const ENTRIES: [Entry; 4] = [
 ];
 
 fn main(rt: HostRuntime) -> anyhow::Result<()> {
-    let sum = sum(&ENTRIES).context("the sum is too large")?;
-    println!(rt; "{}", ledger(rt.alloc(), &ENTRIES, sum)?.to_text()?)?;
+    println!(rt; "{}", ledger(rt.alloc(), &ENTRIES)?.to_text()?)?;
     Ok(())
 }
 
-fn sum(entries: &[Entry]) -> Option<u32> {
-    let mut sum: u32 = 0;
-    for (_day, _payee, _purpose, cents) in entries {
-        sum = sum.checked_add(*cents)?;
-    }
-    Some(sum)
-}
-
-fn ledger(alloc: Global, entries: &[Entry], sum: u32) -> Result<Table> {
+fn ledger(alloc: Global, entries: &[Entry]) -> Result<Table> {
     let mut ledger = Table::new(alloc);
     ledger
         .load_style(UTF8_FULL.with_rounded_corners())
         .set_content_arrangement(ContentArrangement::Dynamic)
         .set_width(70)
         .set_header(["Day", "Paid to", "For", "Euros"])?;
+    let mut sum: u64 = 0;
     for (day, payee, purpose, cents) in entries {
+        sum = sum.saturating_add(*cents);
         ledger.add_row((*day, *payee, *purpose, euros(alloc, *cents)?))?;
     }
     ledger.add_row(("", "", "Sum", euros(alloc, sum)?))?;
@@ -57,6 +49,6 @@ fn ledger(alloc: Global, entries: &[Entry], sum: u32) -> Result<Table> {
     Ok(ledger)
 }
 
-fn euros(alloc: Global, cents: u32) -> Result<String> {
+fn euros(alloc: Global, cents: u64) -> Result<String> {
     Ok(format!(in alloc; "{}.{:02}", cents / 100, cents % 100)?)
 }
