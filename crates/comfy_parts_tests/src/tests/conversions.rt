@@ -113,7 +113,11 @@ fn short_tuples_are_rows(rt: HostRuntime) -> Result<()> {
 
 #[test]
 fn long_tuples_are_rows(rt: HostRuntime) -> Result<()> {
-    assert_row(&rt, (1u8, 2u8, 3u8, "d", 5u8, 6u8), &["1", "2", "3", "d", "5", "6"])?;
+    assert_row(
+        &rt,
+        (1u8, 2u8, 3u8, "d", 5u8, 6u8),
+        &["1", "2", "3", "d", "5", "6"],
+    )?;
     let seven = (1u8, 2u8, 3u8, 4u8, "e", 6u8, 7u8);
     assert_row(&rt, seven, &["1", "2", "3", "4", "e", "6", "7"])?;
     let eight = (1u8, 2u8, 3u8, 4u8, 5u8, 6u8, "g", 8u8);
