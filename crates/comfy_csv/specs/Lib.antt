@@ -3,7 +3,6 @@ pub mod Cleaning
 pub mod Columns
 pub mod Drawn
 pub mod Input
-pub mod Laws
 pub mod Markdown
 pub mod Number
 pub mod Output
