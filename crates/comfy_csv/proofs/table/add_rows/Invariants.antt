@@ -1,0 +1,8 @@
+use Rattle.std.proofs.Common.{◌≡◌, map, take}
+use Rattle.csv.specs.Records.{Row, fields_of}
+use Rattle.comfy_csv.specs.Cells.{row_for}
+use Rattle.comfy_table.specs.TableValue.{with_rows}
+use Rattle.comfy_csv.proofs.table.add_rows.Given as goal
+
+abbrev pub invariant-loop-row : goal.invariant-loop-row
+invariant-loop-row l = l.table ≡ with_rows (map (λ (row : Row). row_for l.look l.columns (fields_of row)) (take l.row-index l.rows)) l.initial.table

@@ -1,0 +1,8 @@
+-- What a sink over a writer is.
+use Rattle.std.specs.Prelude.{Bool}
+
+-- a writer, whether it has failed, and whether that was for want of a reader
+pub record OutputValue (W : Type 0) : Type 0 where
+  pub writer : W
+  pub failed : Bool
+  pub unread : Bool

@@ -1,0 +1,293 @@
+//! The words after the program's name, and what they ask for.
+
+use crate::options::{ColumnChoice, Look, Options};
+use clap::error::ErrorKind;
+use clap::parser::ArgMatches;
+use clap::{Arg, ArgAction, Command, Error, value_parser};
+use comfy_table::TableStyle;
+use comfy_table::presets::{ASCII_MARKDOWN, UTF8_FULL, by_name};
+use std::alloc::{AllocError, Global};
+
+/// What the words ask for.
+#[derive(Debug, Drop)]
+pub struct Asked {
+    /// How the records are drawn.
+    pub options: Options,
+    /// The file to read; standard input where there is none.
+    pub file: Option<String>,
+}
+
+/// What is known of where the output goes.
+#[derive(Clone, Copy, Debug)]
+pub struct Surroundings {
+    /// Whether standard output is a terminal.
+    pub is_terminal: bool,
+    /// The width that the environment says, in terminal columns.
+    pub width: Option<u16>,
+    /// Whether the environment asks for no colours.
+    pub has_no_color: bool,
+}
+
+// The names of the presets, as `by_name` knows them.
+static STYLES: [&str; 13] = [
+    "ASCII_FULL",
+    "ASCII_FULL_CONDENSED",
+    "ASCII_NO_BORDERS",
+    "ASCII_BORDERS_ONLY",
+    "ASCII_BORDERS_ONLY_CONDENSED",
+    "ASCII_HORIZONTAL_ONLY",
+    "ASCII_MARKDOWN",
+    "UTF8_FULL",
+    "UTF8_FULL_CONDENSED",
+    "UTF8_NO_BORDERS",
+    "UTF8_BORDERS_ONLY",
+    "UTF8_HORIZONTAL_ONLY",
+    "NOTHING",
+];
+
+static COLORS: [&str; 3] = ["auto", "always", "never"];
+
+/// What these words ask for; the first one is the program's name. Help, the version and words that aren't known are
+/// returned as errors, as clap has them.
+pub fn asked_of<'a>(
+    alloc: Global,
+    words: &'a [&'a str],
+    surroundings: Surroundings,
+) -> Result<Asked, Error> {
+    let mut command = command(alloc)?;
+    let matches = command.try_get_matches_from_mut(words)?;
+    let Some(delimiter) = delimiter_of(matches.get_str("delimiter")) else {
+        return Err(command.error(
+            ErrorKind::InvalidValue,
+            "the delimiter is one ASCII character, or `tab`; it's no quote and no line end",
+        )?);
+    };
+    let options = options_of(alloc, &matches, delimiter, surroundings)?;
+    let file = match matches.get_str("file") {
+        None | Some("-") => None,
+        Some(path) => Some(String::from_str(alloc, path)?),
+    };
+    Ok(Asked { options, file })
+}
+
+// The program's words, for clap.
+fn command<'a>(alloc: Global) -> Result<Command<'a>, AllocError> {
+    let command = Command::new(alloc, "csvtable")
+        .version("1.0.0")
+        .about("Draws the records of a CSV file as a table");
+    with_looks(alloc, with_columns(alloc, with_input(alloc, command)?)?)
+}
+
+// The words on the input.
+fn with_input<'a>(alloc: Global, command: Command<'a>) -> Result<Command<'a>, AllocError> {
+    command
+        .arg(
+            Arg::new(alloc, "file").value_name("FILE").help(
+                "The file to read; standard input where it is missing or `-`",
+            ),
+        )?
+        .arg(valued(alloc, "delimiter", 'd', "CHAR").help(
+            "What stands between fields; a comma without it, `tab` for TAB",
+        ))?
+        .arg(
+            Arg::new(alloc, "no-header")
+                .short('n')
+                .long("no-header")
+                .action(ArgAction::SetTrue)
+                .help("The first record is a row, not the header"),
+        )?
+        .arg(
+            Arg::new(alloc, "limit")
+                .long("limit")
+                .value_name("N")
+                .value_parser(value_parser!(usize))
+                .help("Draw the first N records, and say below how many there are"),
+        )
+}
+
+// An option with a value and a letter.
+fn valued<'a>(alloc: Global, name: &'a str, letter: char, value: &'a str) -> Arg<'a> {
+    Arg::new(alloc, name)
+        .short(letter)
+        .long(name)
+        .value_name(value)
+}
+
+// The words on columns.
+fn with_columns<'a>(alloc: Global, command: Command<'a>) -> Result<Command<'a>, AllocError> {
+    command
+        .arg(valued(alloc, "columns", 'c', "LIST").help(
+            "Draw these columns, by name or number and in this order, as `name,3-5`",
+        ))?
+        .arg(valued(alloc, "right", 'r', "LIST").help(
+            "Columns at the right, beside those that hold numbers alone",
+        ))?
+        .arg(
+            Arg::new(alloc, "left")
+                .long("left")
+                .value_name("LIST")
+                .help("Columns at the left, numbers or not"),
+        )
+}
+
+// The words on what the table looks like.
+fn with_looks<'a>(alloc: Global, command: Command<'a>) -> Result<Command<'a>, AllocError> {
+    with_text(
+        alloc,
+        command
+            .arg(
+                valued(alloc, "width", 'w', "N")
+                    .value_parser(value_parser!(u16))
+                    .help(
+                        "The width to keep to; COLUMNS without it, where standard output is a terminal",
+                    ),
+            )?
+            .arg(flag(alloc, "full").help("Fill the width"))?
+            .arg(
+                valued(alloc, "style", 's', "NAME")
+                    .value_parser(STYLES.as_slice())
+                    .help("A preset; UTF8_FULL with rounded corners without it"),
+            )?
+            .arg(
+                valued(alloc, "max-height", 'm', "N")
+                    .value_parser(value_parser!(usize))
+                    .help("How many lines a row has at most"),
+            )?,
+    )
+}
+
+// The words on how fields are written.
+fn with_text<'a>(alloc: Global, command: Command<'a>) -> Result<Command<'a>, AllocError> {
+    command
+        .arg(
+            flag(alloc, "markdown")
+                .conflicts_with("style")?
+                .help("Draw a table for Markdown"),
+        )?
+        .arg(
+            Arg::new(alloc, "color")
+                .long("color")
+                .value_name("WHEN")
+                .value_parser(COLORS.as_slice())
+                .default_value("auto")
+                .help("The header in bold; `auto` is in a terminal, unless NO_COLOR is set"),
+        )?
+        .arg(flag(alloc, "ansi").help("SGR sequences in fields count no columns"))?
+        .arg(flag(alloc, "raw").help("Leave TABs and control characters in fields as they are"))
+}
+
+// An option without a value.
+fn flag<'a>(alloc: Global, name: &'a str) -> Arg<'a> {
+    Arg::new(alloc, name).long(name).action(ArgAction::SetTrue)
+}
+
+// The byte that a word asks for.
+fn delimiter_of(word: Option<&str>) -> Option<u8> {
+    match word {
+        None => Some(b','),
+        Some("tab") => Some(b'\t'),
+        Some(word) => match word.as_bytes() {
+            [b'"' | b'\n' | b'\r'] => None,
+            [byte] => Some(*byte),
+            _ => None,
+        },
+    }
+}
+
+// What the matches ask for.
+fn options_of<'a>(
+    alloc: Global,
+    matches: &ArgMatches<'a>,
+    delimiter: u8,
+    surroundings: Surroundings,
+) -> Result<Options, AllocError> {
+    Ok(Options {
+        delimiter,
+        has_header: !matches.get_flag("no-header"),
+        limit: matches.get_one::<usize>("limit"),
+        columns: choices_of(alloc, matches.get_str("columns"))?,
+        right: choices_of(alloc, matches.get_str("right"))?,
+        left: choices_of(alloc, matches.get_str("left"))?,
+        look: look_of(matches, surroundings),
+    })
+}
+
+fn look_of<'a>(matches: &ArgMatches<'a>, surroundings: Surroundings) -> Look {
+    let is_markdown = matches.get_flag("markdown");
+    Look {
+        style: style_of(matches.get_str("style"), is_markdown),
+        width: width_of(matches.get_one::<u16>("width"), surroundings),
+        fills_width: matches.get_flag("full"),
+        max_height: matches.get_one::<usize>("max-height"),
+        has_bold_header: is_bold(matches.get_str("color"), surroundings),
+        has_sequences: matches.get_flag("ansi"),
+        is_raw: matches.get_flag("raw"),
+        is_markdown,
+    }
+}
+
+fn style_of(name: Option<&str>, is_markdown: bool) -> TableStyle {
+    if is_markdown {
+        return ASCII_MARKDOWN;
+    }
+    match name {
+        None => UTF8_FULL.with_rounded_corners(),
+        Some(name) => by_name(name).unwrap_or(UTF8_FULL),
+    }
+}
+
+// The width that was asked for, else that of the terminal.
+fn width_of(asked: Option<u16>, surroundings: Surroundings) -> Option<u16> {
+    match asked {
+        Some(width) => Some(width),
+        None if surroundings.is_terminal => surroundings.width,
+        None => None,
+    }
+}
+
+fn is_bold(word: Option<&str>, surroundings: Surroundings) -> bool {
+    match word {
+        Some("always") => true,
+        Some("never") => false,
+        _ => surroundings.is_terminal && !surroundings.has_no_color,
+    }
+}
+
+// The columns of a list; none without a list.
+fn choices_of(alloc: Global, list: Option<&str>) -> Result<Vec<ColumnChoice>, AllocError> {
+    let mut choices = Vec::new(alloc);
+    if let Some(list) = list {
+        for word in list.split(',') {
+            choices.push(choice_of(alloc, word)?)?;
+        }
+    }
+    Ok(choices)
+}
+
+// A number, two numbers around a hyphen, or else a name.
+fn choice_of(alloc: Global, word: &str) -> Result<ColumnChoice, AllocError> {
+    if let Some(number) = number_of(word) {
+        return Ok(ColumnChoice::Numbers {
+            first: number,
+            last: number,
+        });
+    }
+    if let Some((first, last)) = range_of(word) {
+        return Ok(ColumnChoice::Numbers { first, last });
+    }
+    Ok(ColumnChoice::Named(String::from_str(alloc, word)?))
+}
+
+fn range_of(word: &str) -> Option<(usize, usize)> {
+    let (first, last) = word.split_once('-')?;
+    Some((number_of(first)?, number_of(last)?))
+}
+
+// A number of digits alone: `parse` would take a plus sign too.
+fn number_of(word: &str) -> Option<usize> {
+    if word.bytes().all(|byte| byte.is_ascii_digit()) {
+        word.parse::<usize>().ok()
+    } else {
+        None
+    }
+}

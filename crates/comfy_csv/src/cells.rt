@@ -1,0 +1,102 @@
+//! The cells and rows of records.
+
+ghost use Rattle.std.specs.Prelude.{◌≡◌, IfOk, string_bytes};
+ghost use Rattle.csv.specs.Records.{fields_of};
+ghost use Rattle.comfy_csv.specs.Cells.{cell_for, cells_for, drawn_text, header_for, row_for, with_weight};
+
+use crate::cleaning::cleaned;
+use crate::markdown::escaped;
+use crate::options::{Look, ShownColumn};
+use comfy_table::{Attribute, Cell, CellAlignment, Cells, IntoRow, Result, Row};
+use csv::StringRecord;
+use std::alloc::Global;
+
+/// The row of a record: a cell for each column, blank where the record has no such field.
+pub fn row_of(
+    alloc: Global,
+    record: &StringRecord,
+    columns: &[ShownColumn],
+    look: &Look,
+) -> Result<Row>
+    ensures { IfOk result (λ row. row ≡ row_for look.now columns.now (fields_of record.now)) }
+{
+    let mut row = cells_of(alloc, record, columns, look, false)?;
+    if let Some(lines) = look.max_height {
+        row.max_height(lines);
+    }
+    Ok(row)
+}
+
+/// The row of the header.
+pub fn header_of(
+    alloc: Global,
+    record: &StringRecord,
+    columns: &[ShownColumn],
+    look: &Look,
+) -> Result<Row>
+    ensures { IfOk result (λ row. row ≡ header_for look.now columns.now (fields_of record.now)) }
+{
+    cells_of(alloc, record, columns, look, look.has_bold_header)
+}
+
+// The row of a record, with bold cells or without.
+fn cells_of(
+    alloc: Global,
+    record: &StringRecord,
+    columns: &[ShownColumn],
+    look: &Look,
+    is_bold: bool,
+) -> Result<Row>
+    ensures { IfOk result (λ row. row ≡ cells_for look.now is_bold columns.now (fields_of record.now)) }
+{
+    let mut row = Cells(Vec::with_capacity(alloc, columns.len())?).into_row(alloc)?;
+    for column in columns {
+        let field = record.get(column.position).unwrap_or("");
+        let cell = cell_of(alloc, field, column.alignment, look)?;
+        row.add_cell(with_weight(cell, is_bold)?)?;
+    }
+    Ok(row)
+}
+
+// The cell of a field.
+fn cell_of(
+    alloc: Global,
+    field: &str,
+    alignment: Option<CellAlignment>,
+    look: &Look,
+) -> Result<Cell>
+    ensures { IfOk result (λ cell. cell ≡ cell_for look.now alignment field.now) }
+{
+    let cell = Cell::new_owned(alloc, drawn_text(alloc, field, look)?)?;
+    match alignment {
+        Some(alignment) => Ok(cell.set_alignment(alignment)),
+        None => Ok(cell),
+    }
+}
+
+// A cell in bold, or as it is.
+fn with_weight(cell: Cell, is_bold: bool) -> Result<Cell>
+    ensures { IfOk result (λ c. c ≡ with_weight is_bold cell) }
+{
+    if is_bold {
+        cell.add_attribute(Attribute::Bold)
+    } else {
+        Ok(cell)
+    }
+}
+
+// A field as its cell has it.
+fn drawn_text(alloc: Global, field: &str, look: &Look) -> Result<String>
+    ensures { IfOk result (λ text. string_bytes text ≡ drawn_text look.now field.now) }
+{
+    let text = if look.is_raw {
+        String::from_str(alloc, field)?
+    } else {
+        cleaned(alloc, field, look.has_sequences)?
+    };
+    if look.is_markdown {
+        Ok(escaped(alloc, text.as_str())?)
+    } else {
+        Ok(text)
+    }
+}

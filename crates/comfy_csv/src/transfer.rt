@@ -1,0 +1,142 @@
+//! Reads an input, draws the table of its records, and writes the drawing.
+
+ghost use Rattle.std.specs.Prelude.{◌≡◌, ◌++◌, List, ℕ, true, false, Some, OnOk, IfOk, IfErr, length, map, string_bytes};
+ghost use Rattle.csv.specs.Records.{fields_of};
+ghost use Rattle.comfy_csv.specs.Columns.{IsColumnRefusal};
+ghost use Rattle.comfy_csv.specs.Drawn.{IsOutputFor, IsOutputOf, note_for, row_count, table_for};
+ghost use Rattle.comfy_csv.specs.Run.{IsAfter, IsReadFailure, IsRefusal, is_read_fault, is_write_fault};
+ghost use Rattle.comfy_csv.specs.declared.error.CsvError.TheVariants.{Write};
+ghost use Rattle.comfy_run.specs.Outcome.{IsBeginningOnly};
+ghost use Rattle.comfy_run.specs.Run.{Between};
+
+use crate::error::CsvError;
+use crate::options::Options;
+use crate::records::records_of;
+use crate::table::table_of;
+use comfy_run::run::{Sink, Source};
+use csv::StringRecord;
+use std::alloc::{AllocError, Global};
+use std::fmt::Write;
+
+// How many bytes are asked for at a time.
+const CHUNK: usize = 65536;
+
+/// Reads the whole source, and writes the drawing of the table of its records to the sink, each line followed by a line
+/// feed. Where not all records are drawn, a line says how many there are.
+///
+/// All memory is asked for before the first write. Where the input can't be read, a record isn't UTF-8, a column that is
+/// named isn't there, or memory runs out, nothing is written. Where the output can't be written, a beginning of it was.
+///
+/// ```
+/// let mut source = FromReader::new(rt.stdin());
+/// let mut sink = ToWriter::new(rt.stdout());
+/// draw(rt.alloc(), &mut source, &mut sink, &options)?;
+/// ```
+pub fn draw<R: Source, W: Sink>(
+    alloc: Global,
+    source: &mut R,
+    sink: &mut W,
+    options: &Options,
+) -> Result<(), CsvError>
+    ensures ended { OnOk result (R.end_was_read source.new ≡ true) }
+    ensures source { R.has_failed source.new ≡ is_read_fault result }
+    ensures sink { W.has_failed sink.old ≡ false → W.has_failed sink.new ≡ is_write_fault result }
+    ensures known { Between
+        (record { remaining = R.remaining source.old; end_was_read = R.end_was_read source.old; read_failed = R.has_failed source.old; taken = W.taken sink.old; write_failed = W.has_failed sink.old })
+        (record { remaining = R.remaining source.new; end_was_read = R.end_was_read source.new; read_failed = R.has_failed source.new; taken = W.taken sink.new; write_failed = W.has_failed sink.new })
+        (IsAfter options.now result) }
+{
+    let output = output_for(alloc, source, options)?;
+    write_all(sink, output.as_bytes())
+}
+
+// Reads the whole source, and draws the table of its records into one text.
+fn output_for<R: Source>(
+    alloc: Global,
+    source: &mut R,
+    options: &Options,
+) -> Result<String, CsvError>
+    ensures ended { OnOk result (R.end_was_read source.new ≡ true) }
+    ensures fault { R.has_failed source.new ≡ is_read_fault result }
+    ensures no_write { is_write_fault result ≡ false }
+    ensures output { IfOk result (λ output. (input : List ℕ) → R.remaining source.old ≡ Some input → IsOutputFor options.now input (string_bytes output)) }
+    ensures refused { IfErr result (λ e. (input : List ℕ) → R.remaining source.old ≡ Some input → IsRefusal options.now e input (R.end_was_read source.new) (R.has_failed source.new)) }
+{
+    let input = read_all(alloc, source)?;
+    let records = records_of(alloc, input.as_slice(), options.delimiter)?;
+    output_of(alloc, records.as_slice(), options)
+}
+
+// All that the source has left.
+fn read_all<R: Source>(alloc: Global, source: &mut R) -> Result<Vec<u8>, CsvError>
+    ensures ended { OnOk result (R.end_was_read source.new ≡ true) }
+    ensures fault { R.has_failed source.new ≡ is_read_fault result }
+    ensures no_write { is_write_fault result ≡ false }
+    ensures input { IfOk result (λ bytes. (input : List ℕ) → R.remaining source.old ≡ Some input → bytes.items ≡ input) }
+    ensures refused { IfErr result (λ e. (input : List ℕ) → R.remaining source.old ≡ Some input → IsReadFailure e (R.has_failed source.new)) }
+{
+    let mut bytes = Vec::new(alloc);
+    let mut buffer = [0u8; CHUNK];
+    loop {
+        let Ok(count) = source.read(&mut buffer) else {
+            return Err(CsvError::Read);
+        };
+        if count == 0 {
+            return Ok(bytes);
+        }
+        bytes.extend_from_slice(&buffer[..count])?;
+    }
+}
+
+// The output for these records.
+fn output_of(alloc: Global, records: &[StringRecord], options: &Options) -> Result<String, CsvError>
+    ensures output { IfOk result (λ output. IsOutputOf options.now (map fields_of records.now) (string_bytes output)) }
+    ensures refused { IfErr result (λ e. IsColumnRefusal e (table_for options.now (map fields_of records.now))) }
+{
+    let mut output = table_of(alloc, records, options)?.to_terminated_text()?;
+    push_note(
+        &mut output,
+        options.limit,
+        row_count(options.has_header, records.len()),
+    )?;
+    Ok(output)
+}
+
+// How many records stand below the header.
+fn row_count(has_header: bool, count: usize) -> usize
+    ensures { result ≡ row_count has_header count }
+{
+    if has_header {
+        count.saturating_sub(1)
+    } else {
+        count
+    }
+}
+
+// Appends the line on records that aren't drawn.
+fn push_note(output: &mut String, limit: Option<usize>, count: usize) -> Result<(), AllocError>
+    ensures { OnOk result (string_bytes output.new ≡ string_bytes output.old ++ note_for limit count) }
+{
+    match limit {
+        Some(limit) if limit < count => write!(output, "{limit} of {count} records\n"),
+        _ => Ok(()),
+    }
+}
+
+// Writes the whole piece. Where the sink fails, a beginning of the piece was written, not all of it.
+fn write_all<W: Sink>(sink: &mut W, piece: &[u8]) -> Result<(), CsvError>
+    ensures written { OnOk result ((had : List ℕ) → W.taken sink.old ≡ Some had → W.taken sink.new ≡ Some (had ++ piece.now)) }
+    ensures no_fault { OnOk result (W.has_failed sink.old ≡ false → W.has_failed sink.new ≡ false) }
+    ensures error { IfErr result (λ e. (e ≡ Write) × (W.has_failed sink.new ≡ true)) }
+    ensures beginning { IfErr result (λ _. (had : List ℕ) → W.taken sink.old ≡ Some had → (part : List ℕ) × (W.taken sink.new ≡ Some (had ++ part)) × IsBeginningOnly part piece.now) }
+{
+    let mut rest = piece;
+    while !rest.is_empty() {
+        let Ok(count) = sink.write(rest) else {
+            return Err(CsvError::Write);
+        };
+        let (_written, others) = rest.split_at(count);
+        rest = others;
+    }
+    Ok(())
+}

@@ -1,0 +1,122 @@
+//! One case: words, an input, and the output that is wanted.
+
+use crate::text::text;
+use comfy_csv::{Asked, Surroundings, asked_of, draw};
+use comfy_run::run::{MemorySink, MemorySource};
+use std::alloc::{AllocError, Global};
+
+// How many bytes an output has at most.
+const ROOM: usize = 65536;
+
+/// A case that is being read.
+#[derive(Drop)]
+pub struct Case {
+    alloc: Global,
+    name: String,
+    words: Vec<String>,
+    input: String,
+    wanted: String,
+    surroundings: Surroundings,
+}
+
+impl Case {
+    /// A case with nothing in it.
+    pub fn new(alloc: Global) -> Case {
+        Case {
+            alloc,
+            name: String::new(alloc),
+            words: Vec::new(alloc),
+            input: String::new(alloc),
+            wanted: String::new(alloc),
+            surroundings: Surroundings {
+                is_terminal: false,
+                width: None,
+                has_no_color: false,
+            },
+        }
+    }
+
+    /// The case's name.
+    pub fn name(&self) -> &str {
+        self.name.as_str()
+    }
+
+    /// Reads a line: `=` and a line of the output, or a word and what follows it after a space.
+    pub fn take(&mut self, line: &str) -> Result<(), AllocError> {
+        if let Some(wanted) = line.strip_prefix("=") {
+            let wanted = text(self.alloc, wanted)?;
+            self.wanted.push_str(wanted.as_str())?;
+            return self.wanted.push('\n');
+        }
+        match line.split_once(' ') {
+            Some((kind, rest)) => self.set(kind, rest),
+            None => Ok(()),
+        }
+    }
+
+    fn set(&mut self, kind: &str, rest: &str) -> Result<(), AllocError> {
+        match kind {
+            "case" => self.name.push_str(rest),
+            "words" => self.add_words(rest),
+            "input" => {
+                let line = text(self.alloc, rest)?;
+                self.input.push_str(line.as_str())?;
+                self.input.push('\n')
+            }
+            "terminal" => {
+                self.surroundings.is_terminal = true;
+                self.surroundings.width = rest.parse::<u16>().ok();
+                Ok(())
+            }
+            "no_color" => {
+                self.surroundings.has_no_color = true;
+                Ok(())
+            }
+            _ => Ok(()),
+        }
+    }
+
+    fn add_words(&mut self, words: &str) -> Result<(), AllocError> {
+        for word in words.split(' ') {
+            let word = String::from_str(self.alloc, word)?;
+            self.words.push(word)?;
+        }
+        Ok(())
+    }
+
+    /// The output for the input, or a line that says why there is none.
+    pub fn drawn(&self) -> Result<String, AllocError> {
+        let mut words = Vec::new(self.alloc);
+        words.push("csvtable")?;
+        for word in &self.words {
+            words.push(word.as_str())?;
+        }
+        match asked_of(self.alloc, words.as_slice(), self.surroundings) {
+            Ok(asked) => self.drawn_as(&asked),
+            Err(_) => String::from_str(self.alloc, "the words aren't known\n"),
+        }
+    }
+
+    fn drawn_as(&self, asked: &Asked) -> Result<String, AllocError> {
+        let mut source = MemorySource::new(self.input.as_bytes(), 0);
+        let Ok(mut sink) = MemorySink::new(self.alloc, ROOM, 0) else {
+            return Err(AllocError);
+        };
+        match draw(self.alloc, &mut source, &mut sink, &asked.options) {
+            Ok(()) => self.written(sink.bytes()),
+            Err(error) => format!(in self.alloc; "{error}\n"),
+        }
+    }
+
+    fn written(&self, bytes: &[u8]) -> Result<String, AllocError> {
+        match std::str::from_utf8(bytes) {
+            Ok(text) => String::from_str(self.alloc, text),
+            Err(_) => String::from_str(self.alloc, "the output isn't UTF-8\n"),
+        }
+    }
+
+    /// Whether this is the output that is wanted.
+    pub fn is_wanted(&self, drawn: &str) -> bool {
+        self.wanted.as_str() == drawn
+    }
+}

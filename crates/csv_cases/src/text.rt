@@ -1,0 +1,30 @@
+//! Texts with escapes.
+
+use std::alloc::{AllocError, Global};
+
+/// A text in which `\n`, `\t`, `\r`, `\e`, `\a` and `\\` stand for characters.
+pub fn text(alloc: Global, word: &str) -> Result<String, AllocError> {
+    let mut text = String::new(alloc);
+    let mut is_escaped = false;
+    for c in word.chars() {
+        if is_escaped {
+            text.push(meant(c))?;
+        } else if c != '\\' {
+            text.push(c)?;
+        }
+        is_escaped = c == '\\' && !is_escaped;
+    }
+    Ok(text)
+}
+
+// The character that is meant by one after a backslash.
+fn meant(c: char) -> char {
+    match c {
+        'n' => '\n',
+        't' => '\t',
+        'r' => '\r',
+        'e' => '\u{1b}',
+        'a' => '\u{7}',
+        other => other,
+    }
+}
