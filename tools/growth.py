@@ -3,8 +3,8 @@
 
     tools/growth.py WRAP LONGEST [TEXTS] [SEED]
 
-WRAP wraps what it reads: the first line is the width. LONGEST prints the bytes of the longest cluster of what it reads.
-docs/PERFORMANCE.md has the source of both. Random texts are made of up to five parts, of which one or two are repeated,
+WRAP is a program over comfy_parts: it reads a line with a width and then a text, and prints how many lines `split_line`
+gives at a space. LONGEST prints the bytes of the longest of the `graphemes(true)` of what it reads. Random texts are made of up to five parts, of which one or two are repeated,
 or all. The instructions of WRAP are counted by valgrind at 400 and at 1,600 characters, and divided by the bytes of the
 longest cluster. Where this quotient grows more than 5 times it is also counted at 6,400. Such texts are printed with both
 growths; four is proportion, and the logarithm of the length adds up to one.
