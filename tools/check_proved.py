@@ -22,7 +22,7 @@ OVER_OTHERS = set(
     "build_table trim_fmt format_row style has_custom_styling visible_lines settings_of "
     "should_draw_left_border should_draw_right_border should_draw_vertical_lines".split()
 )
-STORED = ["example_ledger/stdout", "example_ledger/src/main.rt", "ctable_words/stdout"]
+STORED = ["example_ledger/stdout", "example_ledger/src/main.rt", "ctable/stdout", "csvtable/stdout"]
 
 
 def text_of(path):

@@ -10,19 +10,9 @@ type Entry = (&'static str, &'static str, &'static str, u64);
 
 const ENTRIES: [Entry; 4] = [
     ("2 May", "Housing Union", "rent", 120_000),
-    (
-        "3 May",
-        "Wheel & Chain",
-        "brake pads, a chain and two new tyres for the tandem",
-        18_450,
-    ),
+    ("3 May", "Wheel & Chain", "two tyres and a chain", 18_450),
     ("9 May", "Baker", "rolls", 705),
-    (
-        "17 May",
-        "Railways",
-        "two tickets to Lübeck and back, with both bicycles",
-        12_160,
-    ),
+    ("17 May", "Railways", "two tickets to Lübeck", 12_160),
 ];
 
 fn main(rt: HostRuntime) -> anyhow::Result<()> {
@@ -35,7 +25,7 @@ fn ledger(alloc: Global, entries: &[Entry]) -> Result<Table> {
     ledger
         .load_style(UTF8_FULL.with_rounded_corners())
         .set_content_arrangement(ContentArrangement::Dynamic)
-        .set_width(70)
+        .set_width(52)
         .set_header(["Day", "Paid to", "For", "Euros"])?;
     let mut sum: u64 = 0;
     for (day, payee, purpose, cents) in entries {
