@@ -7,6 +7,7 @@ use crate::output::Output;
 use crate::transfer::draw;
 use clap::error::{Error, ErrorKind};
 use comfy_run::run::FromReader;
+use std::env::VarError;
 use std::fs::File;
 use std::io::IsTerminal;
 use std::process::ExitCode;
@@ -51,7 +52,10 @@ fn run_with_words(rt: &HostRuntime, words: &[String]) -> ExitCode {
             return failed(rt, &CsvError::OutOfMemory);
         }
     }
-    match asked_of(rt.alloc(), texts.as_slice(), surroundings(rt)) {
+    let Ok(surroundings) = surroundings(rt) else {
+        return failed(rt, &CsvError::OutOfMemory);
+    };
+    match asked_of(rt.alloc(), texts.as_slice(), surroundings) {
         Ok(asked) => run(rt, &asked),
         Err(error) => said(rt, &error),
     }
@@ -70,29 +74,37 @@ fn said(rt: &HostRuntime, error: &Error) -> ExitCode {
 }
 
 // What is known of the terminal and the environment.
-fn surroundings(rt: &HostRuntime) -> Surroundings {
-    Surroundings {
+fn surroundings(rt: &HostRuntime) -> Result<Surroundings, CsvError> {
+    Ok(Surroundings {
         is_terminal: rt.stdout().is_terminal(),
-        width: width(rt),
-        has_no_color: has_no_color(rt),
-    }
+        width: width(rt)?,
+        has_no_color: has_no_color(rt)?,
+    })
 }
 
 // The width that COLUMNS says; none where it says 0 or nothing.
-fn width(rt: &HostRuntime) -> Option<u16> {
-    let columns = env::var(rt, "COLUMNS").ok()?;
-    columns
-        .as_str()
-        .parse::<u16>()
-        .ok()
-        .filter(|width| *width > 0)
+fn width(rt: &HostRuntime) -> Result<Option<u16>, CsvError> {
+    let Some(columns) = variable(rt, "COLUMNS")? else {
+        return Ok(None);
+    };
+    let width = columns.as_str().parse::<u16>().ok();
+    Ok(width.filter(|width| *width > 0))
 }
 
 // Whether NO_COLOR is set and not empty.
-fn has_no_color(rt: &HostRuntime) -> bool {
-    match env::var(rt, "NO_COLOR") {
-        Ok(value) => !value.is_empty(),
-        Err(_) => false,
+fn has_no_color(rt: &HostRuntime) -> Result<bool, CsvError> {
+    match variable(rt, "NO_COLOR")? {
+        Some(value) => Ok(!value.is_empty()),
+        None => Ok(false),
+    }
+}
+
+// A variable of the environment, where it is set and is text.
+fn variable(rt: &HostRuntime, name: &str) -> Result<Option<String>, CsvError> {
+    match env::var(rt, name) {
+        Ok(value) => Ok(Some(value)),
+        Err(VarError::OutOfMemory) => Err(CsvError::OutOfMemory),
+        Err(_) => Ok(None),
     }
 }
 
