@@ -1,7 +1,7 @@
 #!/bin/sh
-# Runs a built ctable where its memory, its input or its output ends, and with words that aren't text. It compares its
-# status and what it says on standard error. In each of these runs nothing may stand on standard output. It prints a line
-# for each, and ends with status 1 where one is otherwise than written here.
+# Runs a built ctable or csvtable where its memory, its input or its output ends, and with words that aren't text. It
+# compares its status and what it says on standard error. In each of these runs nothing may stand on standard output. It
+# prints a line for each, and ends with status 1 where one is otherwise than written here.
 #
 # usage: tools/edges.sh PROGRAM, as tools/edges.sh crates/ctable/out/ctable
 set -u
@@ -10,9 +10,22 @@ if [ $# -ne 1 ] || [ ! -x "$1" ]; then
   exit 2
 fi
 program=$1
+name=$(basename "$program")
 work=$(mktemp -d) || exit 2
 trap 'rm -rf "$work"' EXIT
 ended=0
+
+# What each program says of words that aren't text, and of a pipe that has no reader any more.
+case $name in
+  csvtable)
+    misused="csvtable: a word isn't UTF-8"
+    unread=
+    ;;
+  *)
+    misused='usage: ctable [WIDTH|- [disabled|dynamic|full [STYLE]]]'
+    unread="$name: the output can't be written"
+    ;;
+esac
 
 line='one text\tanother text\ta third text'
 printf "$line\n" > "$work/small"
@@ -39,7 +52,7 @@ run_limited() {
 for limit in 5000 20000 50000 75000 100000 200000 400000; do
   if run_limited $limit "$work/small"; then
     run_limited $limit "$work/huge"
-    compare "50 MB within a limit of $limit kB" $? 1 'ctable: out of memory'
+    compare "50 MB within a limit of $limit kB" $? 1 "$name: out of memory"
   else
     echo "a limit of $limit kB: BROKEN: the program doesn't start"
     ended=1
@@ -52,19 +65,19 @@ done
   "$program" < "$work/large" 2> "$work/err"
   echo $? > "$work/status"
 } | head -c 10 > "$work/begun"
-compare 'a reader that ends after 10 bytes' "$(cat "$work/status")" 1 "ctable: the output can't be written"
+compare 'a reader that ends after 10 bytes' "$(cat "$work/status")" 1 "$unread"
 
 "$program" < "$work/small" > /dev/full 2> "$work/err"
-compare 'a full disk' $? 1 "ctable: the output can't be written"
+compare 'a full disk' $? 1 "$name: the output can't be written"
 
 "$program" < "$work/small" >&- 2> "$work/err"
-compare 'a closed standard output' $? 1 "ctable: the output can't be written"
+compare 'a closed standard output' $? 1 "$name: the output can't be written"
 
 "$program" <&- > "$work/out" 2> "$work/err"
-compare 'a closed standard input' $? 1 "ctable: the input can't be read"
+compare 'a closed standard input' $? 1 "$name: the input can't be read"
 
 "$program" < "$work" > "$work/out" 2> "$work/err"
-compare 'a folder as input' $? 1 "ctable: the input can't be read"
+compare 'a folder as input' $? 1 "$name: the input can't be read"
 
 "$program" < "$work" > "$work/out" 2>&-
 status=$?
@@ -76,12 +89,11 @@ compare 'a folder as input, and a closed standard error' $status 1 ''
 byte=$(printf '\377')
 behind=$(printf 'dynamic\377')
 early=$(printf 'UTF8_FULL\342\202')
-usage='usage: ctable [WIDTH|- [disabled|dynamic|full [STYLE]]]'
 misuse() {
-  name=$1
+  run=$1
   shift
   "$program" "$@" < "$work" > "$work/out" 2> "$work/err"
-  compare "$name" $? 2 "$usage"
+  compare "$run" $? 2 "$misused"
 }
 misuse 'a width that is no text' "$byte"
 misuse 'an arrangement that is no text' 40 "$behind"

@@ -1,10 +1,10 @@
 #!/bin/sh
-# Refuses each request for memory of three built programs, one after another: those of ctable on its stored input, without
-# words and with some, those of table_cases on two of its cases, and those of refused_calls on each call by itself. Each
-# such run of the first two must end with status 1, print nothing, and say that there is no memory. One of refused_calls
-# must say that the call was refused as promised, or end with status 3 and print nothing, where the request wasn't the
-# call's. Of a call that adds three rows it must also say how many are kept: 0 at first, then 1, then 2, as later requests
-# are refused.
+# Refuses each request for memory of four built programs, one after another: those of ctable and csvtable on their stored
+# inputs, without words and with some, those of table_cases on two of its cases, and those of refused_calls on each call by
+# itself. Each such run of the first three must end with status 1, print nothing, and say that there is no memory. One of
+# refused_calls must say that the call was refused as promised, or end with status 3 and print nothing, where the request
+# wasn't the call's. Of a call that adds three rows it must also say how many are kept: 0 at first, then 1, then 2, as
+# later requests are refused.
 #
 # usage: tools/refused_requests.sh RUNNER
 # RUNNER is called as `RUNNER INPUT PROGRAM [WORD]..`. It runs PROGRAM with the words on INPUT with its first request
@@ -85,6 +85,9 @@ refuse_call() {
 build ctable
 refuse ctable "$crates/ctable/stdin" 'ctable: out of memory'
 refuse ctable "$crates/ctable/stdin" 'ctable: out of memory' 40 dynamic UTF8_FULL
+build csvtable
+refuse csvtable "$crates/csvtable/stdin" 'csvtable: out of memory'
+refuse csvtable "$crates/csvtable/stdin" 'csvtable: out of memory' -w 40 -c 2,1 --right 1 --limit 1 --markdown
 build table_cases
 awk '/^case\theight-(0-is-1-line|with-an-indicator-of-three-dots)$/, /^end$/' "$crates/table_cases/stdin" > "$work/two.cases"
 refuse table_cases "$work/two.cases" 'Error: out of memory'
