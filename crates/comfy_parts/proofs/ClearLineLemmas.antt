@@ -45,7 +45,7 @@ up_to_clear (suc n) (b ∷ bs) = ap (λ (t : Text). b ∷ t) (up_to_clear n bs)
 abbrev AreClear : List Text → Type 0
 AreClear texts = open_after (flat_map parts texts) ≡ []
 
--- so nothing is active in a text without ESC behind them
+-- so nothing is active in a text without ESC after them
 none_active : (earlier : List Text) (text : Text) (n : ℕ) → AreClear earlier → has_escape text ≡ false → active earlier text n ≡ []
 none_active earlier text n before clear =
     opened-append [] (flat_map parts earlier) (parts_before n (parts text))

@@ -46,7 +46,7 @@ boundary text done x rest u e =
     let here = subst (All (IsPieceOf text)) (sym e) all (length done) x (omega (arith, length-append done (x ∷ rest))) in
     (subst (IsPieceOf text) (get_or-append_seam done x rest x) here).start
 
--- clusters that fit are taken, and the head goes on behind them with the columns that they leave
+-- clusters that fit are taken, and the head goes on after them with the columns that they leave
 within-front : (k : ℕ) (qs more : List Text) → sum_by measure qs ≤ k → clusters_within k (qs ++ more) ≡ concat qs ++ clusters_within (k - sum_by measure qs) more
 within-front k [] more fits =
     let same : k ≡ k - 0 = omega arith in

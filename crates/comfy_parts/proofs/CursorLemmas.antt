@@ -53,7 +53,7 @@ from_further (suc n) k (suc m) (p ∷ ps) is =
     from_further (if p.is_sequence then suc n else n) k (if p.is_sequence then suc m else m) ps
     (elim p.is_sequence as (λ b. (if b then suc m else m) ≡ (if b then suc n else n) + k) [ true ↦ is | false ↦ omega (arith, is) ])
 
--- the parts up to a visible byte, and those behind it
+-- the parts up to a visible byte, and those after it
 pub up_to_behind : (n : ℕ) (ps : List Part) → parts_up_to n ps ++ parts_behind n ps ≡ ps
 up_to_behind zero ps = refl
 up_to_behind (suc n) [] = refl
@@ -79,17 +79,17 @@ at_further n k c =
     (sym (opened-append c.sequences (parts_before n c.ahead) (parts_before k (parts_from n c.ahead))) ∙ ap (opened c.sequences) (sym (before_further n k (n + k) c.ahead refl)))
     (from_further n k (n + k) c.ahead refl)
 
--- behind the sequences that come next
+-- after the sequences that come next
 pub stands-itself : (c : CursorValue) → StandsAt (at_byte 0 c) 0 c
 stands-itself c = at_further 0 0 c
 
--- behind a cursor that stands further on
+-- after a cursor that stands further on
 pub stands-more : (n k : ℕ) (old mid new : CursorValue) → StandsAt mid n old → StandsAt new k mid → StandsAt new (n + k) old
 stands-more n k old mid new first next =
     let plain : 0 + k ≡ k = omega arith in
     next ∙ ap (λ j. at_byte j mid) (sym plain) ∙ sym (at_further 0 k mid) ∙ ap (at_byte k) first ∙ at_further n k old
 
--- behind a visible byte
+-- after a visible byte
 pub stands-behind : (n : ℕ) (c : CursorValue) → StandsAt (behind_bytes n c) n c
 stands-behind n c =
     ap₂ at
@@ -105,9 +105,9 @@ end-at n c =
 pub end-stands : (n : ℕ) (new old : CursorValue) → StandsAt new n old → open_at_end new ≡ open_at_end old
 end-stands n new old stands = sym (end-at 0 new) ∙ ap open_at_end stands ∙ end-at n old
 
--- ---- behind sequences
+-- ---- after sequences
 
--- behind the sequences none comes next
+-- after the sequences none comes next
 pub front-free : (ps : List Part) → begins_with_sequence (parts_from zero ps) ≡ false
 front-free [] = refl
 front-free (p ∷ ps) = cond_both p.is_sequence _ _ (λ qs. begins_with_sequence qs ≡ false) (λ _. front-free ps) (λ is. is)
@@ -136,7 +136,7 @@ visible-behind (suc n) ss (b ∷ bs) ps few =
     let same : n - length bs ≡ suc n - suc (length bs) = omega arith in
     visible-behind n ss bs ps (omega (arith, few)) ∙ ap (λ k. behind_bytes k (at ss ps)) same
 
--- a cursor behind a character stands as many bytes on
+-- a cursor after a character stands as many bytes on
 visible-stands : (ss : List Text) (bs : Text) (ps : List Part) → StandsAt (at ss ps) (length bs) (at ss (map visible_part bs ++ ps))
 visible-stands ss [] ps = refl
 visible-stands ss (b ∷ bs) ps = visible-stands ss bs ps
@@ -171,7 +171,7 @@ begins_visible d text (c ∷ cs, (scalars, is)) free otherwise =
 
 -- ---- whole characters
 
--- behind whole characters whole characters are left
+-- after whole characters whole characters are left
 pub whole-behind : (n : ℕ) (run rest : Text) → IsUtf8 run → length run ≤ n → IsUtf8 (take n (run ++ rest)) → IsUtf8 (take (n - length run) rest)
 whole-behind n run rest whole few all =
     subst IsUtf8 (ap (drop (length run)) cut ∙ drop-append_seam run (take (n - length run) rest)) (IsUtf8-drop (take n (run ++ rest)) (length run) all place)

@@ -42,7 +42,7 @@ follow-delimiter d more rest splits = by_elements (elements d more) refl
 pub first-none : (d : ℕ) (text : Text) → IsUtf8 text → NoCharPasses (λ c. c == d) text → IsFirstElement d text text []
 first-none d text utf8 none = record { others = []; elements_are = elements-none d text utf8 none; follow = refl; joined = append-nil text; whole_first = utf8; whole_behind = IsUtf8-nil }
 
--- the elements of a text with a delimiter at i, and what is behind it from j on
+-- the elements of a text with a delimiter at i, and what is after it from j on
 pub elements-found : (d : ℕ) (text : Text) (i j : ℕ) → IsScalar d → IsUtf8 text → FindsChar d text (Some (i, j)) → IsCharBoundary text i
     → elements d text ≡ take i text ∷ elements d (drop j text)
 elements-found d text i j scalar utf8 (none, at) boundary =
@@ -71,7 +71,7 @@ elements-around d text front behind scalar utf8 (i, j, found, before, after, ord
     let splits : text ≡ take i text ++ (encode_utf8 d ++ drop j text) = sym (take-append-drop i text) ∙ ap (λ rest. take i text ++ rest) found.1.split in
     ap (elements d) splits ∙ elements-first d (take i text) (drop j text) scalar (utf8-found d text i j utf8 found) found.0 ∙ ap₂ (λ x y. x ∷ elements d y) (sym before) (sym after)
 
--- and what is behind it is whole characters
+-- and what is after it is whole characters
 pub utf8-around : (d : ℕ) (text front behind : Text) → IsUtf8 text → SplitsAroundMatch (FindsChar d) text front behind → IsUtf8 behind
 utf8-around d text front behind utf8 (i, j, found, before, after, order, front_len, behind_len) =
     subst IsUtf8 (sym after) (IsUtf8-drop text j utf8 (subst (IsCharBoundary text) (sym found.1.ends) found.1.after))
@@ -82,7 +82,7 @@ utf8-around d text front behind utf8 (i, j, found, before, after, order, front_l
 pub stripped : (d : ℕ) (text behind : Text) → StripsPrefix (FindsCharPrefix d) text behind → text ≡ encode_utf8 d ++ behind
 stripped d text behind (n, at, same, bytes) = at.split ∙ ap (λ t. encode_utf8 d ++ t) (sym same)
 
--- where a delimiter is stripped of what follows an element, the next element is the one behind it
+-- where a delimiter is stripped of what follows an element, the next element is the one after it
 pub follow-next : (d : ℕ) (es : List Text) (rest more next behind : Text) → Follow d es rest → rest ≡ encode_utf8 d ++ more → IsFirstElement d more next behind
     → (others : List Text) × (es ≡ next ∷ others) × Follow d others behind
 follow-next d [] rest more next behind none splits first =
@@ -98,7 +98,7 @@ follow-none d (e ∷ es) rest (more, same, parts) absent = absurd (absent more s
 
 -- ---- the rest of a first element
 
--- behind the front of its first part, a list has the rest of that part and the other parts
+-- after the front of its first part, a list has the rest of that part and the other parts
 slice_split-rest : (p : ℕ → Bool) (xs ys zs : List ℕ) (parts : List (List ℕ)) → slice_split p (xs ++ ys) ≡ (xs ++ zs) ∷ parts → slice_split p ys ≡ zs ∷ parts
 slice_split-rest p [] ys zs parts same = same
 slice_split-rest p (x ∷ xs) ys zs parts same =
@@ -114,7 +114,7 @@ slice_split-rest p (x ∷ xs) ys zs parts same =
     rest : (q : List ℕ) (qs : List (List ℕ)) → (x ∷ q) ∷ qs ≡ (x ∷ (xs ++ zs)) ∷ parts → q ∷ qs ≡ (xs ++ zs) ∷ parts
     rest q qs same = cc same
 
--- where a text is cut inside its first element, the rest of that element is the first of what is behind
+-- where a text is cut inside its first element, the rest of that element is the first of what is after
 pub first-rest : (d : ℕ) (text front rest behind : Text) → IsUtf8 front → IsUtf8 rest → IsFirstElement d text (front ++ rest) behind → IsFirstElement d (rest ++ behind) rest behind
 first-rest d text front rest behind utf8 utf8' first = by_parts (slice_split (λ c. c == d) (chars text)) refl
   where
@@ -149,7 +149,7 @@ first-at d text first behind is =
     let back : drop (length first) text ≡ behind = ap (drop (length first)) (sym is.joined) ∙ drop_at first behind (length first) refl in
     (IsCharBoundary-at_seam text first behind (sym is.joined) is.whole_behind, rw (front, back) is)
 
--- behind a place inside the first element, the rest of that element is the first
+-- after a place inside the first element, the rest of that element is the first
 pub first-inside : (d : ℕ) (text : Text) (first end : ℕ) → IsUtf8 text → IsFirstElement d text (take first text) (drop first text) → IsCharBoundary text first → IsCharBoundary text end → end < first
     → IsCharBoundary (drop end text) (first - end) × IsFirstElement d (drop end text) (take (first - end) (drop end text)) (drop (first - end) (drop end text)) × (begins_with d (drop end text) ≡ false)
 first-inside d text first end utf8 is place cut inside =

@@ -14,7 +14,7 @@ use Rattle.comfy_parts.proofs.ScanLemmas.{AreScanned, bytes_of, parts-scanned, s
 use Rattle.comfy_parts.proofs.SequenceLemmas.{IsSequence, Stops-nil, Stops-escape}
 use Rattle.comfy_parts.proofs.ShownLemmas.{Shows, Shows-nil, Shows-append, Shows-byte, Shows-sequence}
 
--- ---- parts before and behind a visible byte
+-- ---- parts before and after a visible byte
 
 -- what is seen of some parts
 abbrev pub seen_of : List Part → Text
@@ -47,7 +47,7 @@ up_to_more (suc n) (p ∷ ps) =
     let rest = up_to_more (if p.is_sequence then suc n else n) ps in
     (rest.0, ap (λ xs. p ∷ xs) rest.1)
 
--- a sequence stands before each visible byte behind it
+-- a sequence stands before each visible byte after it
 before_sequence : (k : ℕ) (p : Part) (ps : List Part) → p.is_sequence ≡ true → parts_before k (p ∷ ps) ≡ p ∷ parts_before k ps
 before_sequence zero p ps is = ap (λ b. if b then p ∷ parts_before zero ps else []) is
 before_sequence (suc k) p ps is = ap (λ b. p ∷ parts_before (if b then suc k else k) ps) is
@@ -79,7 +79,7 @@ before_further (suc n) k (suc m) (p ∷ ps) is =
     ap (λ xs. p ∷ xs) (before_further (if p.is_sequence then suc n else n) k (if p.is_sequence then suc m else m) ps
     (elim p.is_sequence as (λ b. (if b then suc m else m) ≡ (if b then suc n else n) + k) [ true ↦ is | false ↦ omega (arith, is) ]))
 
--- behind enough visible bytes nothing matters
+-- after enough visible bytes nothing matters
 before_within : (k len : ℕ) (ps more : List Part) → k < len → k < visible_count ps → parts_before k (parts_up_to len ps ++ more) ≡ parts_before k ps
 before_within k zero ps more short some = absurd (omega (arith, short))
 before_within k (suc len) [] more short some = absurd (omega (arith, some))

@@ -101,7 +101,7 @@ module _ (w d : ℕ) (Word : Text → Type 0) (breaks : BreaksWell w Word) (scal
       let none = measure-nil in
       ap measure (sym (append-nil (encode_utf8 d))) ∙ adds [] [] IsUtf8-nil ∙ omega (arith, none)
 
-  -- what a line takes behind its first elements, which measure `filled`
+  -- what a line takes after its first elements, which measure `filled`
   record IsTaken (filled n : ℕ) (behind : Text) : Type 0 where
     taken : Text
     rest : Text
@@ -202,7 +202,7 @@ module _ (w d : ℕ) (Word : Text → Type 0) (breaks : BreaksWell w Word) (scal
 
   -- ---- a line and what follows it
 
-  -- the line at a text's front fits, and all elements behind it are such words
+  -- the line at a text's front fits, and all elements after it are such words
   record IsLineThatFits (line tail : Text) : Type 0 where
     fits : measure line ≤ w
     whole : IsUtf8 tail
@@ -249,7 +249,7 @@ module _ (w d : ℕ) (Word : Text → Type 0) (breaks : BreaksWell w Word) (scal
 
   -- ---- all lines
 
-  -- behind a gap of delimiters the elements are such words too
+  -- after a gap of delimiters the elements are such words too
   words-past_gap : (n : ℕ) (rest : Text) → Words (encode_utf8_all (replicate n d) ++ rest) → Words rest
   words-past_gap zero rest words = words
   words-past_gap (suc n) rest words =

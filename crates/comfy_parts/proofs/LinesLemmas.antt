@@ -1,4 +1,4 @@
--- The next of the lines that are still to come, and those behind it.
+-- The next of the lines that are still to come, and those after it.
 use Rattle.std.proofs.Common.{◌≡◌, ◌<◌, ℕ, ◌-◌, Bool, true, false, Some, List, ◌∷◌, length, take, drop, refl, sym, ap, ap₂, ◌∙◌, subst, arith}
 use Rattle.std.specs.Borrow.{Bor}
 use Rattle.std.specs.Iterator.{MakesProgress, item_count}
@@ -54,7 +54,7 @@ line-place plain w d text first columns shown at some end ends =
     let (whole, otherwise) = starts plain w d text first columns shown at in
     subst (IsCharBoundary text) (sym ends) (line-cut w d text whole some otherwise).place
 
--- a call that took the first line has fewer behind it
+-- a call that took the first line has fewer after it
 pub goes : (can : List Text → Type 0) → ((l : List Text) → can l) → (all behind : List Text) (line : Bor Text) → all ≡ line.now ∷ behind
     → MakesProgress can (item_count (λ rest. rest)) all (Some line) behind
 goes can always all behind line first = record {

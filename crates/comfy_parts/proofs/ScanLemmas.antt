@@ -1,4 +1,4 @@
--- Parts that are scanned: a list of parts is that of its own bytes, and so are its fronts and ends, also with sequences before it and a reset behind it.
+-- Parts that are scanned: a list of parts is that of its own bytes, and so are its fronts and ends, also with sequences before it and a reset after it.
 use Rattle.std.proofs.Common.{◌≡◌, ◌⊎◌, inl, inr, ◌≤◌, ℕ, zero, suc, true, false, List, [], ◌∷◌, ◌++◌, length, refl, sym, ap, ap₂, ◌∙◌, subst, arith, append_assoc, append-nil, length-append}
 use Rattle.std.specs.List.{list_all, flat_map}
 use Rattle.std.proofs.lemmas.Grind.{flat_map-append}

@@ -37,7 +37,7 @@ pub record BeginsWithSequence (text : Text) : Type 0 where
   pub parameters : list_all is_parameter code ≡ true
   pub is : text ≡ 0x1B ∷ 0x5B ∷ (code ++ (0x6D ∷ rest))
 
--- what is behind ESC and `[` and ends so is parameters, an `m` and a rest
+-- what is after ESC and `[` and ends so is parameters, an `m` and a rest
 ends_here-is : (text : Text) → ends_here text ≡ true → (code : Text) × (rest : Text) × (list_all is_parameter code ≡ true) × (text ≡ code ++ (0x6D ∷ rest))
 ends_here-is [] ends = absurd (true_is_false (sym ends))
 ends_here-is (c ∷ cs) ends =
@@ -56,7 +56,7 @@ begins_with_sequence text =
 pub no_sequence : (b : ℕ) (bs : Text) → (b == 0x1B) ≡ false → begins_with_sequence (b ∷ bs) ≡ false
 no_sequence b bs other = rw other refl
 
--- two bytes in, what is told of the bytes behind them
+-- the byte after the parameters, counted from two bytes before them
 two_on : (a b : ℕ) (text : Text) → slice_index (a ∷ b ∷ text) (2 + prefix_len is_parameter text) ≡ slice_index text (prefix_len is_parameter text)
 two_on a b text =
     let next : 2 + prefix_len is_parameter text ≡ suc (suc (prefix_len is_parameter text)) = omega arith in
@@ -135,7 +135,7 @@ prefix_len-parameters (c ∷ cs) rest all =
     let more = prefix_len-parameters cs rest both.1 in
     ap (λ t. cond t (1 + prefix_len is_parameter (cs ++ (0x6D ∷ rest))) 0) both.0 ∙ omega (arith, more)
 
--- the byte behind a front
+-- the byte after a front
 pub slice_index_behind : (xs : Text) (x : ℕ) (ys : Text) → slice_index (xs ++ (x ∷ ys)) (length xs) ≡ x
 slice_index_behind [] x ys = refl
 slice_index_behind (c ∷ cs) x ys = slice_index_behind cs x ys

@@ -23,7 +23,7 @@ pub wrapped-delimiter : (w d : ℕ) (text behind : Text) → IsScalar d → text
 wrapped-delimiter w d text behind scalar splits =
     sym (ap (wrapped w d) splits ∙ lines_past-delimiter w d behind (encode_utf8_nonempty d) (begins_with-delimiter d behind scalar))
 
--- a line is cut from the front of a text at a place between characters, and the other lines are those of what is behind it
+-- a line is cut from the front of a text at a place between characters, and the other lines are those of what is after it
 pub record IsLineCut (w d : ℕ) (text : Text) : Type 0 where
   pub place : IsCharBoundary text (line_end w d text)
   pub some : 0 < line_end w d text

@@ -55,7 +55,7 @@ zip-each Q [] (y ∷ ys) each = absurd each
 zip-each Q (x ∷ xs) [] each = absurd each
 zip-each Q (x ∷ xs) (y ∷ ys) each = (each.0, zip-each Q xs ys each.1)
 
--- pairs behind others
+-- pairs after others
 zip-append : {A B : Type 0} (R : A → B → Type 0) (xs : List A) (ys : List B) (xs' : List A) (ys' : List B) → AllZip R xs ys → AllZip R xs' ys' → AllZip R (xs ++ xs') (ys ++ ys')
 zip-append R [] [] xs' ys' each more = more
 zip-append R [] (y ∷ ys) xs' ys' each more = absurd each

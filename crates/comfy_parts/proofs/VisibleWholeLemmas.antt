@@ -24,7 +24,7 @@ past_sequence text s n place =
     let whole : n ≡ length front = omega (arith, place, length-append s.code (0x6D ∷ [])) in
     ap (λ i. drop i text) whole ∙ front_rest text front s.rest (s.is ∙ ap (λ xs. 0x1B ∷ 0x5B ∷ xs) (sym (append_assoc s.code (0x6D ∷ []) s.rest)))
 
--- what stands behind a sequence is whole characters
+-- what stands after a sequence is whole characters
 rest_whole : (text : Text) (s : BeginsWithSequence text) → IsUtf8 text → IsUtf8 s.rest
 rest_whole text s utf8 =
     subst IsUtf8 (past_sequence text s (length s.code + 2 + 1) (omega arith))
@@ -49,7 +49,7 @@ WholeWithin fuel = (text : Text) → length text ≤ fuel → IsUtf8 text → Is
 pub visible_character : (c : ℕ) (more : Text) → begins_with_sequence (encode_utf8 c ++ more) ≡ false → visible_text (encode_utf8 c ++ more) ≡ encode_utf8 c ++ visible_text more
 visible_character c more free = ap (flat_map visible_bytes) (parts-character c more free) ∙ character-seen c (parts more)
 
--- behind a visible character
+-- after a visible character
 behind_character : (fuel c : ℕ) (cs : List ℕ) (text : Text) → text ≡ encode_utf8 c ++ encode_utf8_all cs → all_scalars (c ∷ cs) ≡ true → begins_with_sequence text ≡ false → length text ≤ suc fuel → WholeWithin fuel → IsUtf8 (visible_text text)
 behind_character fuel c cs text is scalars free short rest =
     subst IsUtf8 (sym shown) (IsUtf8-append (encode_utf8 c) (visible_text more) first (rest more shorter (cs, ((and_parts (scalar_of c) (all_scalars cs) scalars).1, refl))))
@@ -94,7 +94,7 @@ pub none_at_front : (text : Text) → sequence_len text ≡ 0 → begins_with_se
 none_at_front text none =
     cond_both (begins_with_sequence text) _ _ (λ n. n ≡ 0 → begins_with_sequence text ≡ false) (λ _ len. absurd (omega (arith, len))) (λ free _. free) none
 
--- what stands behind a sequence at the front
+-- what stands after a sequence at the front
 pub record IsBehind (text rest : Text) : Type 0 where
   pub seen : visible_text text ≡ visible_text rest
   pub whole : IsUtf8 rest

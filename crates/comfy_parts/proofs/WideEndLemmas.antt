@@ -26,7 +26,7 @@ pub wide-behind : (w bytes : ℕ) (word front rest : Text) → word ≡ front ++
 wide-behind w bytes word a rest joins utf8 wide front tail splits before behind long =
     wide (a ++ front) tail (joins ∙ ap (λ t. a ++ t) splits ∙ sym (append_assoc a front tail)) (IsUtf8-append a front utf8 before) behind long
 
--- it stays so for what is left of a text's first bytes behind a place in them
+-- it stays so for what is left of a text's first bytes after a place in them
 pub rest-wide : (text : Text) (first end : ℕ) → IsUtf8 text → IsCharBoundary text end → end < first → (w bytes : ℕ) → IsWideFrom w bytes (take first text) → IsWideFrom w bytes (take (first - end) (drop end text))
 rest-wide text first end utf8 cut inside w bytes wide =
     let sum : first ≡ end + (first - end) = omega arith in

@@ -81,7 +81,7 @@ module _ (w d : ℕ) where
       ap₂ (λ t n. (if t then [] else 0 ∷ []) ++ starts_past w d (0 + 1) n (bs ++ rest)) begins back
       ∙ ap (λ xs. (if t then [] else 0 ∷ []) ++ xs) (starts-skip (0 + 1) bs rest ∙ ap (λ m. starts_past w d m 0 rest) sum ∙ starts-further (suc (length bs)) 0 0 rest)
 
-  -- behind a delimiter the lines begin further on
+  -- after a delimiter the lines begin further on
   positions-delimiter : (rest : Text) → IsScalar d → wrapped_positions w d (encode_utf8 d ++ rest) ≡ map (further (length (encode_utf8 d))) (wrapped_positions w d rest)
   positions-delimiter rest scalar =
       let some = encode_utf8_nonempty d in
@@ -90,7 +90,7 @@ module _ (w d : ℕ) where
       ap₂ (λ starts (lines : List Text). zip starts (map length lines)) (starts-part (encode_utf8 d) rest true some ends begins) (lines_past-delimiter w d rest some begins)
       ∙ zip-further (length (encode_utf8 d)) (starts_past w d 0 0 rest) (map length (wrapped w d rest))
 
-  -- and so they do behind a gap
+  -- and so they do after a gap
   positions-gap : (gap rest : Text) → IsScalar d → IsOnly d gap → wrapped_positions w d (gap ++ rest) ≡ map (further (length gap)) (wrapped_positions w d rest)
   positions-gap gap rest scalar (n, only) = subst (λ g. wrapped_positions w d (g ++ rest) ≡ map (further (length g)) (wrapped_positions w d rest)) (sym only) (delimiters n)
     where
@@ -128,7 +128,7 @@ unfolding lines_past
 some_bytes w d line behind [] is = absurd (let len = ap length is in omega (arith, len))
 some_bytes w d line behind (b ∷ bs) is = omega arith
 
--- the first line of a wrapped text, with those behind it, where a cursor stands before its gap and another behind that
+-- the first line of a wrapped text, with those after it, where a cursor stands before its gap and another after that
 pub record IsNextLine (w d : ℕ) (old mid : CursorValue) (line : Text) (behind : List Text) : Type 0 where
   pub whole : IsUtf8 (take (length line) (seen_ahead mid))
   pub rest_whole : IsUtf8 (drop (length line) (seen_ahead mid))
@@ -187,14 +187,14 @@ next_line w d old mid line behind scalar utf8 gap lines =
     halves : line ++ drop end seen ≡ seen
     halves = ap (λ t. t ++ drop end seen) first ∙ take-append-drop end seen
 
--- behind the last line nothing is written
+-- after the last line nothing is written
 pub written-none : (w d : ℕ) (c : CursorValue) (text : Text) → [] ≡ wrapped w d text → written_at c (wrapped_positions w d text) ≡ []
 written-none w d c text none =
     ap (λ (lines : List Text). written_at c (zip (starts_past w d 0 0 text) (map length lines))) (sym none) ∙ ap (written_at c) (zip-none (starts_past w d 0 0 text))
 
 -- ---- the texts of the lines of a cell
 
--- the sequences that are open behind what a line takes
+-- the sequences that are open after what a line takes
 open-taken : (earlier : List Text) (text : Text) (start len : ℕ)
     → open_after (parts (concat (active earlier text start) ++ text_between text start len)) ≡ opened (active earlier text start) (parts_up_to len (parts_from start (parts text)))
 open-taken earlier text start len =
@@ -288,6 +288,6 @@ next_text w d texts done more place text old mid new below is begins writes stay
     ∙ append_assoc done (written_of_text w d (at (open_at_end old) (parts text))) (written_past w d (opened (open_at_end old) (parts text)) (drop (place + 1) texts))
     ∙ ap (λ (ts : List Text). done ++ written_past w d (open_at_end old) ts) (ap (λ (t : Text). t ∷ drop (place + 1) texts) (sym is) ∙ sym (drop_more texts place [] below))
 
--- behind the last one nothing is
+-- after the last one nothing is
 pub texts_written : (w d : ℕ) (texts done : List Text) (place : ℕ) (ss : List Text) → length texts ≤ place → done ++ written_past w d ss (drop place texts) ≡ done
 texts_written w d texts done place ss past = ap (λ (ts : List Text). done ++ written_past w d ss ts) (drop_all place texts past) ∙ append-nil done

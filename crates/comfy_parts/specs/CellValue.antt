@@ -73,15 +73,15 @@ plain_cell text =
 abbrev pub number_cell : ℕ → CellValue
 number_cell n = plain_cell (decimal n)
 
--- likewise of a number with a sign
+-- the cell of a number with a sign: what `Display` writes
 abbrev pub signed_cell : ℤ → CellValue
 signed_cell z = plain_cell (signed_decimal z)
 
--- likewise of a truth value
+-- the cell of a truth value: `true` or `false`
 abbrev pub bool_cell : Bool → CellValue
 bool_cell b = plain_cell (if b then codes "true" else codes "false")
 
--- likewise of a character
+-- the cell of a character: the character alone
 abbrev pub char_cell : ℕ → CellValue
 char_cell c = plain_cell (encode_utf8 c)
 

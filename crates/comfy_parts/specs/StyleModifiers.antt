@@ -12,10 +12,10 @@ abbrev pub with_solid_inner_borders : TableStyle → TableStyle
 with_solid_inner_borders style =
     record style { header_lines = record style.header_lines { junction = Some 0x2502 }; content_lines = record style.content_lines { junction = Some 0x2502 }; row_separator = record style.row_separator { fill = Some 0x2500 } }
 
--- twice is once
+-- corners that are rounded twice are rounded once
 abbrev pub RoundingTwiceIsOnce : TableStyle → Type 0
 RoundingTwiceIsOnce style = with_rounded_corners (with_rounded_corners style) ≡ with_rounded_corners style
 
--- likewise for the solid lines
+-- inner borders that are made solid twice are made so once
 abbrev pub SolidTwiceIsOnce : TableStyle → Type 0
 SolidTwiceIsOnce style = with_solid_inner_borders (with_solid_inner_borders style) ≡ with_solid_inner_borders style

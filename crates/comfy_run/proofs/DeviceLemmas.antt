@@ -13,7 +13,7 @@ front count text behind fits =
     let len : length (take count text) ≡ count = length-take-le count text fits in
     ap (λ n. take n (take count text ++ behind)) (sym len) ∙ take-append_seam (take count text) behind
 
--- what is left behind a call
+-- what is left after a call
 pub left-after : (rest : Option Text) (room : ℕ) → unwrap_or (rest_after rest room) [] ≡ drop (min (length (unwrap_or rest [])) room) (unwrap_or rest [])
 left-after None room = grind (arith, common_steps)
 left-after (Some []) zero = grind (arith, common_steps)

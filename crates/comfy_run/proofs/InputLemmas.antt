@@ -50,7 +50,7 @@ module _ {P : Type 0} (now : P → List ℕ) (pieces : List P) (piece : P) (text
       let bare : pieces ≡ [] = empty pieces (search (rules, tests)) in
       rw (is, bare) refl
 
-  -- a piece behind others
+  -- a piece after others
   pub joined-more : (length pieces == 0) ≡ false → text ≡ join_with_byte 0x0A (map now pieces) → (text ++ 0x0A ∷ []) ++ now piece ≡ join_with_byte 0x0A (map now (pieces ++ piece ∷ []))
   joined-more some is =
       let are : 0 < length (map now pieces) = rw length-map (search (rules, tests)) in

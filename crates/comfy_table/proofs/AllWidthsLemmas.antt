@@ -45,7 +45,7 @@ AreFrom all at numbers = (i : ℕ) → slice_index all (at + i) ≡ slice_index 
 first_from : (all : List ℕ) (at x : ℕ) (numbers : List ℕ) → AreFrom all at (x ∷ numbers) → slice_index all at ≡ x
 first_from all at x numbers each = let moved : at ≡ at + 0 = omega arith in ap (slice_index all) moved ∙ each 0
 
--- and those behind it
+-- and those after it
 behind_first : (all : List ℕ) (at x : ℕ) (numbers : List ℕ) → AreFrom all at (x ∷ numbers) → AreFrom all (at + 1) numbers
 behind_first all at x numbers each i = let moved : at + 1 + i ≡ at + suc i = omega arith in ap (slice_index all) moved ∙ each (suc i)
 

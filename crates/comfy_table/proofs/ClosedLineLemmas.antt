@@ -50,7 +50,7 @@ opens_spaces n = keeps_spaces 0x1B (λ shown text. OpensNone text) opens_joined 
 
 -- ---- pieces
 
--- a space stands behind each text of the column, or this one opens no sequence whatever follows it
+-- a space stands after each text of the column, or this one opens no sequence whatever follows it
 abbrev EndsInside : ColumnInfo → Text → Type 0
 EndsInside info text = (1 ≤ info.padding.1) ⊎ OpensNone text
 

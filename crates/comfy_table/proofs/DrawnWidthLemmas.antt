@@ -152,7 +152,7 @@ module _ (table : TableValue) (w : ℕ) (widths : List ℕ) (full : Bool) (none 
       let drawn = sum-whole_widths table widths arranged.one_for_each (some_width (room_beside_borders table w) (visible_needs table) (unconstrained_visible table none) full steps (widths_at widths (visible_columns table)) by) in
       omega (arith, drawn, paddings_of_needs table (visible_columns table))
 
-  -- and the least total is made likewise
+  -- the least total is the border characters, the paddings and one for each column
   least_total-is : border_count table.style (visible_count table) + least_with_steps (visible_needs table) steps ≡ least_total table
   least_total-is =
       let least = least_with_steps-unconstrained (room_beside_borders table w) (visible_needs table) (unconstrained_visible table none) full steps (widths_at widths (visible_columns table)) by in

@@ -7,7 +7,7 @@ use Rattle.comfy_parts.specs.declared.style.table_style.TableStyle.{TableStyle}
 use Rattle.comfy_table.proofs.JoinLemmas.{join_by-map}
 use Rattle.comfy_table.specs.Frame.{character, draws_left_border, draws_right_border, draws_vertical_lines, between_borders}
 
--- behind a text: the left border, the pieces with what stands between them, the right border
+-- after a text: the left border, the pieces with what stands between them, the right border
 between_borders-behind : {X : Type 0} (style : TableStyle) (left junction right : Option ℕ) (f : X → Text) (xs : List X) (l v r : Bool) (start before inside whole : Text)
     → l ≡ draws_left_border style → v ≡ draws_vertical_lines style → r ≡ draws_right_border style
     → before ≡ start ++ (if l then character left else [])

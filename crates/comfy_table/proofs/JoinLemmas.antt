@@ -19,7 +19,7 @@ repeat_more n xs = ap (λ k. repeat k xs) (add-one n) ∙ behind n
     behind zero = append-nil xs
     behind (suc n) = ap (λ ys. xs ++ ys) (behind n) ∙ sym (append_assoc xs (repeat n xs) xs)
 
--- one part more, behind the separator where it isn't the first
+-- one part more, after the separator where it isn't the first
 pub join_by_push : {X A : Type 0} (f : X → List A) (separator : List A) (xs : List X) (x : X)
     → join_by f separator (xs ++ x ∷ []) ≡ (join_by f separator xs ++ (if nat_lt 0 (length xs) then separator else [])) ++ f x
 join_by_push f separator [] x = append-nil (f x)
@@ -43,7 +43,7 @@ between false false xs = refl
 
 -- ---- a text that is made part by part
 
--- one part more behind a text that has joined parts at its end
+-- one part more after a text that has joined parts at its end
 pub joined_more : {X A : Type 0} (f : X → List A) (drawn : Bool) (separator : List A) (xs : List X) (i : ℕ) (x : X) (start text : List A) → i < length xs → x ≡ slice_index_or xs i x
     → text ≡ start ++ join_by f (if drawn then separator else []) (take i xs)
     → (text ++ (if drawn && nat_lt 0 i then separator else [])) ++ f x ≡ start ++ join_by f (if drawn then separator else []) (take (i + 1) xs)

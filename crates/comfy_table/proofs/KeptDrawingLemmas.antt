@@ -39,7 +39,7 @@ pub record IsClearFrame (b : ℕ) (line : LineStyle) : Type 0 where
   pub junction : IsClear b line.junction
   pub right : IsClear b line.right
 
--- likewise the three of a content line
+-- the three characters of a content line are not the byte either
 pub record IsClearContent (b : ℕ) (line : ContentLineStyle) : Type 0 where
   pub left : IsClear b line.left
   pub junction : IsClear b line.junction

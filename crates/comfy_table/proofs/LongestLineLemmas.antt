@@ -10,7 +10,7 @@ use Rattle.comfy_table.specs.LongestLine.{cell_longest_line, optional_longest_li
 use Rattle.comfy_table.proofs.SeenLemmas.{cell_seen, get_seen, row_seen, seen_rows-is}
 use Rattle.comfy_table.specs.TableValue.{TableValue, header_and_rows}
 
--- of two lists behind each other
+-- of two lists after each other
 greatest-append : (xs ys : List ℕ) → greatest (xs ++ ys) ≡ max (greatest xs) (greatest ys)
 greatest-append [] ys = omega arith
 greatest-append (x ∷ xs) ys = let rest = greatest-append xs ys in omega (arith, rest)

@@ -30,7 +30,7 @@ four-written one two three four writer =
     ∙ written-append two (three ++ four) (with_written one writer)
     ∙ written-append one (two ++ (three ++ four)) writer
 
--- behind the last of some lines stands one line feed more than between them
+-- after the last of some lines stands one line feed more than between them
 terminated : (line : Text) (lines : List Text) → terminated_text_of (line ∷ lines) ≡ text_of (line ∷ lines) ++ 0x0A ∷ []
 terminated line [] = append-nil (line ++ 0x0A ∷ [])
 terminated line (next ∷ lines) = grind (arith, append_assoc, terminated next lines)

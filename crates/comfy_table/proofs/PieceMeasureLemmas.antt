@@ -63,7 +63,7 @@ spaced-end zero zero rest some = absurd (omega (arith, some))
 spaced-end zero (suc n) rest some = apart_follows.spaced (spaces n ++ rest)
 spaced-end (suc a) n rest some = apart_follows.spaced ((spaces a ++ spaces n) ++ rest)
 
--- what stands behind a line in its column
+-- what stands after a line in its column
 abbrev behind : CellValue → ColumnInfo → Text → Text
 behind cell info line = spaces_after cell info (measure line) ++ spaces info.padding.1
 
@@ -103,7 +103,7 @@ pub record IsGoodPiece (Follows : Text → Type 0) (v : Bool) (width : ℕ) (pie
   pub has : HasMeasure Follows width piece
   pub fronts : (c : ℕ) → AddsOneColumn c → Fronts Follows ((if v then encode_utf8 c else []) ++ piece)
 
--- behind a junction
+-- after a junction
 pub good-junction : (v : Bool) (width : ℕ) (piece : Text) → v ≡ true → HasMeasure IsApart width piece → IsGoodPiece IsApart v width piece
 good-junction true width piece drawn has =
     record { has = has; fronts = λ c adds rest may. subst IsApart (sym (append_assoc (encode_utf8 c) piece rest)) (apart_follows.seals c adds (piece ++ rest)) }

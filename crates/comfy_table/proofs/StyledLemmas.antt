@@ -117,7 +117,7 @@ module _ (b : ℕ) (R : Text → Text → Type 0) (kept : KeptByDrawing b R) whe
       (kept.joins.of_both [] [] (optional_sequence foreground_code cell.foreground) (attribute_sequences cell.attributes)
       (keeps_optional_sequence foreground_code cell.foreground foreground-parameters) (keeps_attributes (has_attribute cell.attributes) all_attributes refl))
 
-  -- what stands behind a styled text
+  -- what stands after a styled text
   keeps_style_end : (cell : CellValue) → R [] (style_end cell)
   keeps_style_end cell =
       cond_both (length cell.attributes == 0) _ _ (R [])

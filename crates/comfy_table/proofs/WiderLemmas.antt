@@ -155,7 +155,7 @@ keeps_to_wider_total table w widths dynamic known arranged =
     let bound = keeps_to_wider_bound (room_beside_borders table w) (visible_needs table) found.0 (visible_contents table widths) found.1 in
     (found.0, found.1, omega (arith, bound, line_total-parts table w widths false found.0 arranged found.1))
 
--- likewise under `DynamicFullWidth`
+-- under `DynamicFullWidth` a line keeps to the width, or to the wider total
 pub keeps_to_wider_total_in_full : (table : TableValue) (w : ℕ) (widths : List ℕ) → KeepsToWiderTotalInFull table w widths
 keeps_to_wider_total_in_full table w widths full known arranged =
     let found = dynamic_widths table DynamicFullWidth w widths refl full known arranged in

@@ -28,7 +28,7 @@ uncut-are : (cut : CellLine → CellLine) (limit : Option ℕ) (lines : List Cel
 uncut-are cut None lines = refl
 uncut-are cut (Some h) lines = grind (arith, nat_tests, take-append-le, take-take, length-take)
 
--- behind them there is at most the line that is cut
+-- after them there is at most the line that is cut
 cut-is : (cut : CellLine → CellLine) (h : ℕ) (lines : List CellLine) → drop (uncut_count (Some h) lines) (cut_to_limit cut (Some h) lines) ≡ (if nat_le (length lines) h then [] else map cut (take 1 (drop (h - 1) lines)))
 cut-is cut h lines = grind (arith, nat_tests, drop_all, drop_at, length-take)
 

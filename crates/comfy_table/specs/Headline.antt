@@ -100,7 +100,7 @@ pub record IsTableDrawing (table : TableValue) (lines : List Text) : Type 0 wher
 abbrev pub IsTextOf : TableValue → Text → Type 0
 IsTextOf table text = (lines : List Text) × IsTableDrawing table lines × (text ≡ text_of lines)
 
--- likewise, each line without its trailing white space
+-- the text is that of such a drawing: its lines without their trailing white space, joined by line feeds
 abbrev pub IsTrimmedTextOf : TableValue → Text → Type 0
 IsTrimmedTextOf table text = (lines : List Text) × IsTableDrawing table lines × (text ≡ trimmed_text_of lines)
 

@@ -54,7 +54,7 @@ KeepsToWiderTotal table w widths =
     → (steps : Steps) × IsArrangedBy (room_beside_borders table w) (visible_needs table) false steps (visible_contents table widths)
     × (line_total table widths ≤ max w (wider_total table steps))
 
--- likewise under `DynamicFullWidth`, also where no column is visible
+-- under `DynamicFullWidth` a line keeps to the width, or to this total, also where no column is visible
 abbrev pub KeepsToWiderTotalInFull : TableValue → ℕ → List ℕ → Type 0
 KeepsToWiderTotalInFull table w widths =
     table.arrangement ≡ DynamicFullWidth → table_width table ≡ Some w → IsArranged table widths

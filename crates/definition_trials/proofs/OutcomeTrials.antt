@@ -29,7 +29,7 @@ all_written = record { input = []; end_was_read = true; written = codes "++\n++\
 after_ok : IsAfterOk None Disabled ascii_full all_written
 after_ok = record { no_device_failed = record { no_read_failed = refl; no_write_failed = refl }; has_text = record { whole = refl; is_text = ([], (refl, refl)) }; output = both_lines }
 
--- the writer failed behind the first line
+-- the writer failed after the first line
 abbrev half_written : RunFacts
 half_written = record { input = []; end_was_read = true; written = codes "++\n"; read_failed = false; write_failed = true }
 

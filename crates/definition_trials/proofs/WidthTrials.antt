@@ -96,7 +96,7 @@ percentages = (refl, refl)
 columns_only_grow : length (with_header (row_of ("a" ∷ "b" ∷ [])) (with_header (row_of ("a" ∷ "b" ∷ "c" ∷ "d" ∷ [])) (with_header (row_of ("a" ∷ "b" ∷ "c" ∷ [])) (new_table ascii_full)))).columns ≡ 4
 columns_only_grow = refl
 
--- a cell that was added to a row behind the columns is not drawn
+-- a cell that was added to a row after the columns is not drawn
 late_cell : IsDrawingOf (record (rows_of ascii_full (("one" ∷ "two" ∷ []) ∷ [])) { rows = row_of ("one" ∷ "two" ∷ "three" ∷ []) ∷ [] }) (texts ("+-----+-----+" ∷ "| one | two |" ∷ "+-----+-----+" ∷ []))
 unfolding wrapping
 late_cell = (3 ∷ 3 ∷ [], record { one_for_each = refl; hidden_widths = refl; visible_widths = refl }, refl)

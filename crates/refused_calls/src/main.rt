@@ -50,7 +50,7 @@ fn print(rt: &HostRuntime, name: &str, outcome: Outcome) -> io::Result<()> {
     println!(rt; "{name}: {outcome}")
 }
 
-// The names on standard input. All of it is read before the first call, so that no call stands behind it.
+// The names on standard input. All of it is read before the first call, so that no call stands after it.
 fn names(rt: &HostRuntime) -> io::Result<Vec<String>> {
     let mut names = Vec::new(rt.alloc());
     for line in rt.lines(rt.alloc()) {

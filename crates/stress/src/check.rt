@@ -197,7 +197,7 @@ fn keeps_cell(
     Ok(is_as_wanted(wanted.found.as_str(), drawn.found.as_str(), is_limited))
 }
 
-// reads the piece of each line at this place; no sequence stays open behind a line
+// reads the piece of each line at this place; no sequence stays open after a line
 fn read_pieces(scan: &mut Scan, lines: &[String], place: usize, delimiter: char) -> Result<()> {
     for line in lines {
         scan.read(piece_at(line.as_str(), place), delimiter)?;

@@ -3,7 +3,7 @@
 use comfy_table::Result;
 use std::alloc::Global;
 
-/// What stands behind a line that was cut, unless a table has an indicator of its own.
+/// What stands after a line that was cut, unless a table has an indicator of its own.
 pub const INDICATOR: char = '…';
 
 /// What was read of one text or of several.
@@ -13,7 +13,7 @@ pub struct Scan {
     pub knows_sequences: bool,
     // the parameters of the sequences that are open
     open: String,
-    /// The characters but for spaces, line feeds, delimiters and the indicator of a cut, each behind the sequences that are
+    /// The characters but for spaces, line feeds, delimiters and the indicator of a cut, each after the sequences that are
     /// open before it.
     pub found: String,
     /// All characters that were seen.
@@ -93,7 +93,7 @@ impl Scan {
     }
 }
 
-// the parameters of the sequence at a text's front, and what is behind it
+// the parameters of the sequence at a text's front, and what is after it
 fn sequence_of<'a>(text: &'a str) -> Option<(&'a str, &'a str)> {
     let (parameters, behind) = text.strip_prefix("\u{1b}[")?.split_once('m')?;
     let is_sequence = parameters

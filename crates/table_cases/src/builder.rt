@@ -33,7 +33,7 @@ impl Builder {
         }
     }
 
-    /// Does what a line asks for by its first word and the words behind it.
+    /// Does what a line asks for by its first word and the words after it.
     pub fn apply(&mut self, first: &str, words: &[&str]) -> Result<()> {
         match first {
             "cell" => self.add_cell(words),
@@ -77,7 +77,7 @@ impl Builder {
         }
     }
 
-    // the words that have one word or none behind them
+    // the words that have one word or none after them
     fn set_one(&mut self, first: &str, words: &[&str]) -> Result<()> {
         match first {
             "width" => {

@@ -110,7 +110,7 @@ fn read(place: Place, character: char) -> Result<(Place, Option<char>)> {
     }
 }
 
-// the character behind a backslash
+// the character after a backslash
 fn read_letter(letter: char) -> Result<(Place, Option<char>)> {
     let meant = match letter {
         'n' => '\n',

@@ -58,7 +58,7 @@ pub fn swapped(cell: Cell) -> Cell
     }
 }
 
-/// Adds the attributes of another cell behind those of a cell.
+/// Adds the attributes of another cell after those of a cell.
 pub fn with_attributes_of(alloc: Global, cell: Cell, other: &Cell) -> Result<Cell>
     ensures { IfOk result (λ both. both ≡ record cell { attributes = cell.attributes ++ other.now.attributes }) }
 {

@@ -38,7 +38,7 @@ pub fn drawn_height(table: &Table) -> Result<usize>
     Ok(build_table(table)?.count())
 }
 
-/// A title, and the text of a table behind it.
+/// A title, and the text of a table after it.
 pub fn titled(alloc: Global, title: &str, table: &Table) -> Result<String>
     ensures { IfOk result (λ text. (drawn : Text) × IsTextOf table.now drawn × (string_bytes text ≡ title.now ++ drawn)) }
 {
@@ -47,7 +47,7 @@ pub fn titled(alloc: Global, title: &str, table: &Table) -> Result<String>
     Ok(text)
 }
 
-/// A table as it is printed, and behind it another one without trailing white space.
+/// A table as it is printed, and after it another one without trailing white space.
 pub fn printed_before(first: &Table, second: &Table) -> Result<String>
     ensures { IfOk result (λ text. (one other : Text) × IsTerminatedTextOf first.now one × IsTrimmedTextOf second.now other × (string_bytes text ≡ one ++ other)) }
 {

@@ -105,7 +105,7 @@ pub fn lawful_columns(table: &Table) -> Result<Vec<ColumnDisplayInfo>>
     arrange_content(table)
 }
 
-/// A text behind the sequence that makes it bold. What is visible of it is what is visible of the text.
+/// A text after the sequence that makes it bold. What is visible of it is what is visible of the text.
 pub fn bold(alloc: Global, text: &str) -> Result<String>
     ensures { IfOk result (λ bold. visible_text (string_bytes bold) ≡ visible_text text.now) }
 {

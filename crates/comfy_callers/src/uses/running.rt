@@ -55,7 +55,7 @@ pub fn read_once<R: Source>(source: &mut R, buffer: &mut [u8]) -> Result<usize, 
     source.read(buffer)
 }
 
-/// Writes once. Of a sink that says its bytes, it has the front of the piece behind those that it had.
+/// Writes once. Of a sink that says its bytes, it has the front of the piece after those that it had.
 pub fn write_once<W: Sink>(sink: &mut W, piece: &[u8]) -> Result<usize, DeviceFault>
     ensures { IfOk result (λ count. (had : List ℕ) → W.taken sink.old ≡ Some had → W.taken sink.new ≡ Some (had ++ take count piece.now)) }
 {

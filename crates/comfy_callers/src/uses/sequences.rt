@@ -60,7 +60,7 @@ pub fn before_and_after(alloc: Global) -> (bool, bool)
     (before, table.custom_styling().has_custom_styling())
 }
 
-/// A text, and a reset behind it where it leaves a sequence open.
+/// A text, and a reset after it where it leaves a sequence open.
 pub fn closed_text(alloc: Global, text: &str) -> Result<String>
     ensures { IfOk result (λ whole. string_bytes whole ≡ closed text.now) }
 {

@@ -14,7 +14,7 @@ const CHARACTERS: [(char, bool); 9] = [
     (' ', true),
     ('─', true),
     ('…', true),
-    // a variation selector behind one of these makes it wide
+    // a variation selector after one of these makes it wide
     ('#', false),
     ('*', false),
     ('7', false),

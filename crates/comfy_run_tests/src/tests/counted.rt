@@ -1,4 +1,4 @@
-//! Devices that count their calls: nothing is read behind the end, and no message follows a success.
+//! Devices that count their calls: nothing is read after the end, and no message follows a success.
 
 ghost use Rattle.std.specs.Prelude.{Some, is_none};
 ghost use Rattle.comfy_run.specs.Device.{left_in};

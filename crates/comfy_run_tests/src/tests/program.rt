@@ -193,7 +193,7 @@ fn bytes_that_are_no_text_are_refused(rt: HostRuntime) -> Result<()> {
     assert_ends(&rt, sound(&[], b"a\n\xe2\x9c"), 1, &[], &NOT_UTF8)
 }
 
-// Other widths, and other words behind a width.
+// Other widths, and other words after a width.
 const REFUSED: [&[&str]; 8] = [
     &[""],
     &["65536"],

@@ -115,7 +115,7 @@ impl Table {
     /// table.add_row(["\u{1b}[1mabcdef\u{1b}[0m"])?;
     /// // +-----+
     /// // | abc |   `abc` between `ESC[1m` and `ESC[0m`
-    /// // | def |   `def` likewise
+    /// // | def |   `def` between them too
     /// // +-----+
     /// ```
     pub fn custom_styling(&mut self) -> &mut Self

@@ -116,7 +116,7 @@ fn rows_and_columns_are_borrowed_mutably_in_order(rt: HostRuntime) -> Result<()>
     assert_drawn(&rt, &table, &["+---+--+", "|  …|cd|", "+---+--+"])
 }
 
-// A cell behind the last info is left out.
+// A cell after the last info is left out.
 #[test]
 fn a_row_is_formatted_by_its_infos(rt: HostRuntime) -> Result<()> {
     let row = ["ab cd", "behind the last info"].into_row(rt.alloc())?;
