@@ -1,8 +1,8 @@
 //! One case: words, an input, and the output that is wanted.
 
 use crate::text::text;
-use comfy_csv::{Asked, Surroundings, asked_of, draw};
-use comfy_run::run::{MemorySink, MemorySource};
+use crate::uses::output_for;
+use comfy_csv::{Asked, Surroundings, asked_of};
 use std::alloc::{AllocError, Global};
 
 // How many bytes an output has at most.
@@ -103,12 +103,8 @@ impl Case {
     }
 
     fn drawn_as(&self, asked: &Asked) -> Result<String, AllocError> {
-        let mut source = MemorySource::new(self.input.as_slice(), 0);
-        let Ok(mut sink) = MemorySink::new(self.alloc, ROOM, 0) else {
-            return Err(AllocError);
-        };
-        match draw(self.alloc, &mut source, &mut sink, &asked.options) {
-            Ok(()) => self.written(sink.bytes()),
+        match output_for(self.alloc, self.input.as_slice(), ROOM, &asked.options) {
+            Ok(sink) => self.written(sink.bytes()),
             Err(error) => format!(in self.alloc; "{error}\n"),
         }
     }
