@@ -6,7 +6,7 @@
 - docs/PROVED.md: each function, clause and field that it names exists, and each public function has a mutation, one of
   its `try_` form, or stands in OVER_OTHERS. It says how many lines of definitions a reader must believe.
 - README.md: each label that it cites is a heading of PROVED.md, and what it prints is the output of the stored run.
-- CALLING.md of each library: each clause that it quotes stands in the library's source or in comfy_callers.
+- CALLING.md of each library: each clause that it quotes stands in the library's source or in that of a caller.
 - Each mutation changes a function that exists.
 """
 import glob
@@ -15,13 +15,14 @@ import re
 import sys
 
 TOP = os.path.dirname(os.path.dirname(os.path.realpath(__file__)))
-LIBRARIES = ["comfy_parts", "comfy_table", "comfy_run"]
+LIBRARIES = ["comfy_parts", "comfy_table", "comfy_run", "comfy_csv"]
 WORDS = {"IsAfter", "IsTableDrawing", "input_table"}  # definitions, not functions
 # public calls of a few words over functions that have mutations
 OVER_OTHERS = set(
     "build_table trim_fmt format_row style has_custom_styling visible_lines settings_of "
     "should_draw_left_border should_draw_right_border should_draw_vertical_lines".split()
 )
+CALLERS = ["comfy_callers", "csv_cases"]
 STORED = ["example_ledger/stdout", "example_ledger/src/main.rt", "ctable/stdout", "csvtable/stdout"]
 
 
@@ -76,7 +77,7 @@ def wrong_in_section(crate, section):
 
 def wrong_in_calling(crate):
     """The clauses that a CALLING.md quotes and its library doesn't have."""
-    source = " ".join(" ".join(sources_of(crate) + sources_of("comfy_callers")).split())
+    source = " ".join(" ".join(it for name in (crate, *CALLERS) for it in sources_of(name)).split())
     wrong = []
     for block in re.findall(r"```rust\n(.*?)```", text_of(f"crates/{crate}/CALLING.md"), re.S):
         for clause in re.findall(r"^\s*((?:ensures|requires)\b.*?);?$", block, re.M):

@@ -1,5 +1,5 @@
 -- A field without control characters is drawn as it is.
-use Rattle.std.proofs.Common.{◌≡◌, ◌==◌, ◌||◌, ◌&&◌, ℕ, Bool, true, false, not, List, [], ◌∷◌, ◌++◌, cond, chars, encode_utf8, fold, refl, ap, sym, subst, ◌∙◌, append_assoc, append-nil, eqb-true}
+use Rattle.std.proofs.Common.{◌≡◌, ◌==◌, ◌||◌, ℕ, Bool, true, false, List, [], ◌∷◌, ◌++◌, chars, encode_utf8, fold, refl, ap, sym, ◌∙◌, append_assoc, append-nil, eqb-true}
 use Rattle.std.proofs.lemmas.Str.{encodes-chars}
 use Rattle.std.specs.Char.{is_control}
 use Rattle.std.specs.List.{list_any}

@@ -1,6 +1,10 @@
+pub mod BuiltLemmas
 pub mod CleaningLemmas
 pub mod ColumnLemmas
+pub mod LineLemmas
 pub mod MarkdownLemmas
+pub mod PlainLemmas
 pub mod RecordLemmas
+pub mod RowLemmas
 pub mod RunLemmas
 pub mod TableLemmas

@@ -1,9 +1,9 @@
 -- Why a record wasn't read.
-use Rattle.std.proofs.Common.{◌≡◌, ◌+◌, ◌^◌, ◌-◌, ℕ, zero, suc, arith, Bool, true, false, List, [], ◌∷◌, ◌++◌, Option, Some, None, All, length, map, min, refl, ap, sym, subst, ◌∙◌}
+use Rattle.std.proofs.Common.{◌≡◌, ℕ, zero, suc, arith, true, List, [], ◌∷◌, ◌++◌, Option, Some, None, All, length, refl, ap, sym, subst}
 use Rattle.std.proofs.lemmas.List.Elements.{All-append}
 use Rattle.comfy_parts.specs.Text.{Text}
 use Rattle.csv.specs.Machine.{Read as FoundRecord, next_record}
-use Rattle.csv.specs.Reading.{ExplainsRead, NextIs, Reached, ReadsNext, pending_of, source_of, strip_bom}
+use Rattle.csv.specs.Reading.{ExplainsRead, NextIs, Reached, ReadsNext, source_of, strip_bom}
 use Rattle.csv.specs.Records.{AllText}
 use Rattle.csv.specs.declared.error.ErrorKind.{ErrorKind}
 use Rattle.csv.specs.declared.error.ErrorKind.TheVariants as kind
@@ -11,9 +11,9 @@ use Rattle.csv.specs.declared.parser.Config.{Config}
 use Rattle.csv.specs.declared.parser.State.{State}
 use Rattle.csv.specs.declared.parser.State.TheVariants as st
 use Rattle.csv.specs.declared.reader.Reader.{Reader}
-use Rattle.comfy_csv.specs.Input.{IsFirstUnread, IsReadingRefusal, IsRecordRefusal, config_for, number_after}
+use Rattle.comfy_csv.specs.Input.{IsReadingRefusal, IsRecordRefusal, config_for, number_after}
 use Rattle.comfy_csv.specs.declared.error.CsvError.{CsvError}
-use Rattle.comfy_csv.specs.declared.error.CsvError.TheVariants.{NotUtf8, OutOfMemory}
+use Rattle.comfy_csv.specs.declared.error.CsvError.TheVariants.{OutOfMemory}
 
 -- the record that was taken is the next one
 is_next : (next : Option FoundRecord) (fields : List Text) (s : State) (rest : Text) → NextIs next true fields s rest → (p : FoundRecord) × (next ≡ Some p) × (fields ≡ p.0)

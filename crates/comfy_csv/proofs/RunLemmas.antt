@@ -1,5 +1,5 @@
 -- What the parts of a call of `draw` ensure, put together.
-use Rattle.std.proofs.Common.{◌≡◌, Bool, true, false, [], List, ◌++◌, Option, Some, Result, Ok, Err, OnOk, IfErr, refl, subst, sym}
+use Rattle.std.proofs.Common.{◌≡◌, Bool, true, false, [], List, ◌++◌, Option, Some, Result, Ok, Err, OnOk, IfErr, refl}
 use Rattle.comfy_parts.specs.Text.{Text}
 use Rattle.comfy_run.specs.Outcome.{IsBeginningOnly, NoDeviceFailed, RunFacts}
 use Rattle.comfy_csv.specs.Columns.{IsColumnRefusal}
@@ -78,7 +78,7 @@ records_fault T Read delimiter input why = absurd why
 records_fault T Write delimiter input why = absurd why
 records_fault T (NoColumn name) delimiter input why = absurd why
 
-pub columns_fault : {A : Type 0} (T : Type 0) (e : CsvError) (found : Option A) → IsColumnRefusal e found → (is_read_fault {T = T} (Err e) ≡ false) × (is_write_fault {T = T} (Err e) ≡ false)
+pub columns_fault : {A : Type 0} (T : Type 0) (e : CsvError) (found : Result A Text) → IsColumnRefusal e found → (is_read_fault {T = T} (Err e) ≡ false) × (is_write_fault {T = T} (Err e) ≡ false)
 columns_fault T (NoColumn name) found why = (refl, refl)
 columns_fault T OutOfMemory found why = (refl, refl)
 columns_fault T Read found why = absurd why

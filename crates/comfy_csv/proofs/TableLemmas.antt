@@ -1,5 +1,5 @@
 -- The table of some records, by whether there is a header.
-use Rattle.std.proofs.Common.{◌≡◌, ℕ, true, false, List, [], ◌∷◌, Option, Some, None, length, map, take, arith, refl, ap, sym, ◌∙◌}
+use Rattle.std.proofs.Common.{◌≡◌, ℕ, true, false, List, [], ◌∷◌, Option, Some, None, length, map, arith, refl, ap}
 use Rattle.std.proofs.lemmas.List.{take-map}
 use Rattle.comfy_parts.specs.Text.{Text}
 use Rattle.comfy_csv.specs.Drawn.{limited, table_for, titled_table, untitled_table}

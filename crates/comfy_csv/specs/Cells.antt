@@ -1,5 +1,5 @@
 -- The cells and rows of records.
-use Rattle.std.specs.Prelude.{ℕ, Bool, false, List, [], ◌∷◌, ◌++◌, Option, Some, None, chars, map, option_map, unwrap_or, max, if◌then◌else◌}
+use Rattle.std.specs.Prelude.{ℕ, Bool, false, List, [], ◌∷◌, ◌++◌, Option, chars, map, option_map, unwrap_or, max, if◌then◌else◌}
 use Rattle.std.specs.Str.{encode_utf8_all}
 use Rattle.comfy_parts.specs.CellValue.{CellValue, RowValue, plain_cell, plain_row}
 use Rattle.comfy_parts.specs.Text.{Text}

@@ -1,5 +1,5 @@
 -- Fields without control characters.
-use Rattle.std.specs.Prelude.{ℕ, Bool, false, not, ◌+◌, ◌%◌, ◌==◌, ◌&&◌, ◌||◌, List, [], ◌∷◌, ◌++◌, Option, fold, chars, codes, encode_utf8, unwrap_or, if◌then◌else◌}
+use Rattle.std.specs.Prelude.{ℕ, Bool, false, not, ◌+◌, ◌%◌, ◌==◌, ◌&&◌, ◌||◌, [], ◌∷◌, ◌++◌, fold, chars, codes, encode_utf8, unwrap_or, if◌then◌else◌}
 use Rattle.std.specs.Char.{is_control}
 use Rattle.unicode_width.specs.Width.{char_width}
 use Rattle.comfy_parts.specs.Text.{Text}

@@ -3,7 +3,9 @@ pub mod Cleaning
 pub mod Columns
 pub mod Drawn
 pub mod Input
+pub mod Laws
 pub mod Markdown
 pub mod Number
 pub mod Output
 pub mod Run
+pub mod Words

@@ -1,4 +1,4 @@
--- What a sink over a writer is.
+-- Private: what a sink over a writer is.
 use Rattle.std.specs.Prelude.{Bool}
 
 -- a writer, whether it has failed, and whether that was for want of a reader

@@ -1,5 +1,5 @@
 -- What a call of `draw` ensures, by its result.
-use Rattle.std.specs.Prelude.{◌≡◌, ℕ, Bool, true, false, [], Result, Ok, Err}
+use Rattle.std.specs.Prelude.{◌≡◌, ℕ, Bool, true, false, [], Result, Ok, Err, string_bytes}
 use Rattle.comfy_parts.specs.Text.{Text}
 use Rattle.comfy_run.specs.Outcome.{IsBeginningOnly, NoDeviceFailed, RunFacts}
 use Rattle.comfy_csv.specs.Drawn.{HasNoColumn, IsOutputFor}
@@ -31,7 +31,7 @@ abbrev pub IsRefusal : Options → CsvError → Text → Bool → Bool → Type 
 IsRefusal options Read input ended failed = failed ≡ true
 IsRefusal options Write input ended failed = ⊥
 IsRefusal options (NotUtf8 number) input ended failed = (failed ≡ false) × (ended ≡ true) × IsFirstUnread options.delimiter input number
-IsRefusal options (NoColumn name) input ended failed = (failed ≡ false) × (ended ≡ true) × HasNoColumn options input
+IsRefusal options (NoColumn name) input ended failed = (failed ≡ false) × (ended ≡ true) × HasNoColumn options input (string_bytes name)
 IsRefusal options OutOfMemory input ended failed = failed ≡ false
 
 module _ (options : Options) (facts : RunFacts) where
@@ -63,11 +63,11 @@ module _ (options : Options) (facts : RunFacts) where
     pub first : IsFirstUnread options.delimiter facts.input number
     pub nothing_written : facts.written ≡ []
 
-  -- a list names a column that isn't there: the input was read whole, and nothing was written
-  pub record IsAfterNoColumn : Type 0 where
+  -- this is the first name of a column that isn't there: the input was read whole, and nothing was written
+  pub record IsAfterNoColumn (name : Text) : Type 0 where
     pub no_device_failed : NoDeviceFailed facts
     pub whole : facts.end_was_read ≡ true
-    pub no_column : HasNoColumn options facts.input
+    pub no_column : HasNoColumn options facts.input name
     pub nothing_written : facts.written ≡ []
 
   -- memory was refused: nothing was written, and no call of a device failed
@@ -81,5 +81,5 @@ IsAfter options (Ok _) facts = IsAfterOk options facts
 IsAfter options (Err Read) facts = IsAfterRead options facts
 IsAfter options (Err Write) facts = IsAfterWrite options facts
 IsAfter options (Err (NotUtf8 number)) facts = IsAfterNotUtf8 options facts number
-IsAfter options (Err (NoColumn name)) facts = IsAfterNoColumn options facts
+IsAfter options (Err (NoColumn name)) facts = IsAfterNoColumn options facts (string_bytes name)
 IsAfter options (Err OutOfMemory) facts = IsAfterOutOfMemory options facts

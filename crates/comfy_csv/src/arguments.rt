@@ -1,5 +1,9 @@
 //! The words after the program's name, and what they ask for.
 
+ghost use Rattle.std.specs.Prelude.{◌≡◌, IfOk, option_map};
+ghost use Rattle.clap.specs.Words.{found_of};
+ghost use Rattle.comfy_csv.specs.Words.{AreAsked, LookIsAsked, delimiter_for, is_bold_for, style_for, width_for};
+
 use crate::options::{ColumnChoice, Look, Options};
 use clap::error::ErrorKind;
 use clap::parser::ArgMatches;
@@ -48,12 +52,15 @@ static STYLES: [&str; 13] = [
 static COLORS: [&str; 3] = ["auto", "always", "never"];
 
 /// What these words ask for; the first one is the program's name. Help, the version and words that aren't known are
-/// returned as errors, as clap has them.
+/// returned as errors, as clap has them. Which values clap finds in the words is a matter of clap; the delimiter, the
+/// style and bold headers follow from these and from the surroundings.
 pub fn asked_of<'a>(
     alloc: Global,
     words: &'a [&'a str],
     surroundings: Surroundings,
-) -> Result<Asked, Error> {
+) -> Result<Asked, Error>
+    ensures { IfOk result (λ asked. AreAsked surroundings asked.options) }
+{
     let mut command = command(alloc)?;
     let matches = command.try_get_matches_from_mut(words)?;
     let Some(delimiter) = delimiter_of(matches.get_str("delimiter")) else {
@@ -182,7 +189,9 @@ fn flag<'a>(alloc: Global, name: &'a str) -> Arg<'a> {
 }
 
 // The byte that a word asks for.
-fn delimiter_of(word: Option<&str>) -> Option<u8> {
+fn delimiter_of(word: Option<&str>) -> Option<u8>
+    ensures { result ≡ delimiter_for (option_map (λ w. w.now) word.entry) }
+{
     match word {
         None => Some(b','),
         Some("tab") => Some(b'\t'),
@@ -200,7 +209,9 @@ fn options_of<'a>(
     matches: &ArgMatches<'a>,
     delimiter: u8,
     surroundings: Surroundings,
-) -> Result<Options, AllocError> {
+) -> Result<Options, AllocError>
+    ensures { IfOk result (λ options. (options.delimiter ≡ delimiter) × LookIsAsked surroundings (found_of matches.now) options.look) }
+{
     Ok(Options {
         delimiter,
         has_header: !matches.get_flag("no-header"),
@@ -212,7 +223,9 @@ fn options_of<'a>(
     })
 }
 
-fn look_of<'a>(matches: &ArgMatches<'a>, surroundings: Surroundings) -> Look {
+fn look_of<'a>(matches: &ArgMatches<'a>, surroundings: Surroundings) -> Look
+    ensures { LookIsAsked surroundings (found_of matches.now) result }
+{
     let is_markdown = matches.get_flag("markdown");
     Look {
         style: style_of(matches.get_str("style"), is_markdown),
@@ -226,7 +239,9 @@ fn look_of<'a>(matches: &ArgMatches<'a>, surroundings: Surroundings) -> Look {
     }
 }
 
-fn style_of(name: Option<&str>, is_markdown: bool) -> TableStyle {
+fn style_of(name: Option<&str>, is_markdown: bool) -> TableStyle
+    ensures { result ≡ style_for (option_map (λ w. w.now) name.entry) is_markdown }
+{
     if is_markdown {
         return ASCII_MARKDOWN;
     }
@@ -237,7 +252,9 @@ fn style_of(name: Option<&str>, is_markdown: bool) -> TableStyle {
 }
 
 // The width that was asked for, else that of the terminal.
-fn width_of(asked: Option<u16>, surroundings: Surroundings) -> Option<u16> {
+fn width_of(asked: Option<u16>, surroundings: Surroundings) -> Option<u16>
+    ensures { result ≡ width_for asked surroundings }
+{
     match asked {
         Some(width) => Some(width),
         None if surroundings.is_terminal => surroundings.width,
@@ -245,7 +262,9 @@ fn width_of(asked: Option<u16>, surroundings: Surroundings) -> Option<u16> {
     }
 }
 
-fn is_bold(word: Option<&str>, surroundings: Surroundings) -> bool {
+fn is_bold(word: Option<&str>, surroundings: Surroundings) -> bool
+    ensures { result ≡ is_bold_for (option_map (λ w. w.now) word.entry) surroundings }
+{
     match word {
         Some("always") => true,
         Some("never") => false,

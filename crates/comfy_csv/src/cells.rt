@@ -14,13 +14,13 @@ use std::alloc::Global;
 /// The row of a record: a cell for each column, blank where the record has no such field.
 pub fn row_of(
     alloc: Global,
-    record: &StringRecord,
+    fields: &StringRecord,
     columns: &[ShownColumn],
     look: &Look,
 ) -> Result<Row>
-    ensures { IfOk result (λ row. row ≡ row_for look.now columns.now (fields_of record.now)) }
+    ensures { IfOk result (λ row. row ≡ row_for look.now columns.now (fields_of fields.now)) }
 {
-    let mut row = cells_of(alloc, record, columns, look, false)?;
+    let mut row = cells_of(alloc, fields, columns, look, false)?;
     if let Some(lines) = look.max_height {
         row.max_height(lines);
     }
@@ -30,28 +30,28 @@ pub fn row_of(
 /// The row of the header.
 pub fn header_of(
     alloc: Global,
-    record: &StringRecord,
+    fields: &StringRecord,
     columns: &[ShownColumn],
     look: &Look,
 ) -> Result<Row>
-    ensures { IfOk result (λ row. row ≡ header_for look.now columns.now (fields_of record.now)) }
+    ensures { IfOk result (λ row. row ≡ header_for look.now columns.now (fields_of fields.now)) }
 {
-    cells_of(alloc, record, columns, look, look.has_bold_header)
+    cells_of(alloc, fields, columns, look, look.has_bold_header)
 }
 
 // The row of a record, with bold cells or without.
 fn cells_of(
     alloc: Global,
-    record: &StringRecord,
+    fields: &StringRecord,
     columns: &[ShownColumn],
     look: &Look,
     is_bold: bool,
 ) -> Result<Row>
-    ensures { IfOk result (λ row. row ≡ cells_for look.now is_bold columns.now (fields_of record.now)) }
+    ensures { IfOk result (λ row. row ≡ cells_for look.now is_bold columns.now (fields_of fields.now)) }
 {
     let mut row = Cells(Vec::with_capacity(alloc, columns.len())?).into_row(alloc)?;
     for column in columns {
-        let field = record.get(column.position).unwrap_or("");
+        let field = fields.get(column.position).unwrap_or("");
         let cell = cell_of(alloc, field, column.alignment, look)?;
         row.add_cell(with_weight(cell, is_bold)?)?;
     }

@@ -1,9 +1,9 @@
 //! Which columns are drawn, and how their cells are aligned.
 
-ghost use Rattle.std.specs.Prelude.{◌≡◌, ◌≤◌, ◌-◌, ◌∷◌, [], IfOk, IfErr, Some, map};
+ghost use Rattle.std.specs.Prelude.{◌≡◌, ◌≤◌, ◌-◌, ◌∷◌, [], IfOk, IfErr, Ok, map, string_bytes};
 ghost use Rattle.std.specs.List.{list_all, position_from, range_with_len};
 ghost use Rattle.csv.specs.Records.{Row as CsvRow, field_at, fields_of};
-ghost use Rattle.comfy_csv.specs.Columns.{IsColumnRefusal, alignment_for, chosen_columns, columns_for, count_of, is_number_at, is_number_column, is_number_or_empty, is_text, position_named, positions_of, positions_of_choice, shown_columns};
+ghost use Rattle.comfy_csv.specs.Columns.{IsColumnRefusal, alignment_for, chosen_columns, columns_for, count_of, is_number_at, is_number_column, is_number_or_empty, is_text, position_named, positions_of, positions_of_choice, range_name, shown_columns};
 
 use crate::error::CsvError;
 use crate::number::is_number;
@@ -19,7 +19,7 @@ pub fn columns_of(
     rows: &[StringRecord],
     options: &Options,
 ) -> Result<Vec<ShownColumn>, CsvError>
-    ensures ok { IfOk result (λ columns. columns_for options.now (fields_of names.now) (map fields_of rows.now) ≡ Some columns.items) }
+    ensures ok { IfOk result (λ columns. columns_for options.now (fields_of names.now) (map fields_of rows.now) ≡ Ok columns.items) }
     ensures refused { IfErr result (λ e. IsColumnRefusal e (columns_for options.now (fields_of names.now) (map fields_of rows.now))) }
 {
     let count = count_of(names, rows);
@@ -54,7 +54,7 @@ fn chosen_columns(
     names: &StringRecord,
     count: usize,
 ) -> Result<Vec<usize>, CsvError>
-    ensures ok { IfOk result (λ positions. chosen_columns (fields_of names.now) count choices.now ≡ Some positions.items) }
+    ensures ok { IfOk result (λ positions. chosen_columns (fields_of names.now) count choices.now ≡ Ok positions.items) }
     ensures refused { IfErr result (λ e. IsColumnRefusal e (chosen_columns (fields_of names.now) count choices.now)) }
 {
     if choices.is_empty() {
@@ -71,7 +71,7 @@ fn positions_of(
     names: &StringRecord,
     count: usize,
 ) -> Result<Vec<usize>, CsvError>
-    ensures ok { IfOk result (λ positions. positions_of (fields_of names.now) count choices.now ≡ Some positions.items) }
+    ensures ok { IfOk result (λ positions. positions_of (fields_of names.now) count choices.now ≡ Ok positions.items) }
     ensures refused { IfErr result (λ e. IsColumnRefusal e (positions_of (fields_of names.now) count choices.now)) }
 {
     let mut positions = Vec::new(alloc);
@@ -89,7 +89,7 @@ fn positions_of_choice(
     names: &StringRecord,
     count: usize,
 ) -> Result<Vec<usize>, CsvError>
-    ensures ok { IfOk result (λ positions. positions_of_choice (fields_of names.now) count choice.now ≡ Some positions.items) }
+    ensures ok { IfOk result (λ positions. positions_of_choice (fields_of names.now) count choice.now ≡ Ok positions.items) }
     ensures refused { IfErr result (λ e. IsColumnRefusal e (positions_of_choice (fields_of names.now) count choice.now)) }
 {
     match choice {
@@ -101,9 +101,23 @@ fn positions_of_choice(
             if 0 < *first && *first <= *last && *last <= count {
                 Ok(positions_between(alloc, *first - 1, *last)?)
             } else {
-                Err(CsvError::NoColumn(format!(in alloc; "{last}")?))
+                Err(CsvError::NoColumn(range_name(alloc, *first, *last)?))
             }
         }
+    }
+}
+
+// What the message on a range says: 0, which is no column's number, or the range where it ends before it begins, or its
+// last number.
+fn range_name(alloc: Global, first: usize, last: usize) -> Result<String, AllocError>
+    ensures { IfOk result (λ name. string_bytes name ≡ range_name first last) }
+{
+    if first == 0 {
+        String::from_str(alloc, "0")
+    } else if last < first {
+        format!(in alloc; "{first}-{last}")
+    } else {
+        format!(in alloc; "{last}")
     }
 }
 

@@ -19,7 +19,8 @@ pub enum CsvError {
     /// The record of this number isn't UTF-8. The first one has the number 1, a header or not.
     #[error("record {0} isn't UTF-8")]
     NotUtf8(u64),
-    /// A list of columns has this name or number, and there is no such column.
+    /// A list of columns has this name, number or range, and there is no such column. Of a range it is the number of a
+    /// missing column, or the range where it ends before it begins.
     #[error("there is no column {0}")]
     NoColumn(String),
     /// There was no memory for the records, their table or its drawing.

@@ -1,9 +1,40 @@
-//! What is so of every drawing. Each function does nothing: its clauses are the law.
+//! What is so of every drawing. Each function does nothing: its clauses are the law, so that a proof of yours can cite it.
 
 ghost use Rattle.std.specs.Prelude.{List, ℕ};
+ghost use Rattle.comfy_parts.specs.Text.{Text};
+ghost use Rattle.comfy_csv.specs.Laws.{OutputFillsWidth, OutputIsStraight, OutputKeepsToWidth, PrintableTableIsPlain, TableKeepsRows};
 ghost use Rattle.comfy_csv.specs.Markdown.{IsReadBack};
+ghost use Rattle.comfy_csv.specs.declared.options.Options.{Options};
+ghost use Rattle.comfy_table.specs.TableValue.{TableValue};
 
 /// What was escaped for Markdown is read back.
 pub fn escaped_texts_are_read_back()
     ensures { (text : List ℕ) → IsReadBack text }
+{}
+
+/// Picking columns loses no row. The table has a row for each record that is drawn, in order, with the fields of the same
+/// columns, and these are the chosen ones.
+pub fn tables_keep_their_rows()
+    ensures { (options : Options) (records : List (List Text)) (table : TableValue) → TableKeepsRows options records table }
+{}
+
+/// With a width, a frame line of an output has at most as many characters, or as many as borders, paddings and one
+/// character for each column. Where the width is filled, it has exactly so many, where there is a column. Where all
+/// cells are printable ASCII, so has each line, but for sequences.
+pub fn outputs_keep_to_a_width()
+    ensures dynamic { (w : ℕ) (options : Options) (records : List (List Text)) (output : Text) → OutputKeepsToWidth w options records output }
+    ensures full { (w : ℕ) (options : Options) (records : List (List Text)) (output : Text) → OutputFillsWidth w options records output }
+{}
+
+/// Fields of printable ASCII make a table of printable ASCII, where nothing is in bold, no sequence counts nothing, and no
+/// row is cut.
+pub fn printable_tables_are_plain()
+    ensures { (options : Options) (records : List (List Text)) (table : TableValue) (widths : List ℕ) → PrintableTableIsPlain options records table widths }
+{}
+
+/// Where no width is kept to and each character of the style adds one terminal column, all lines of an output are equally
+/// many terminal columns wide, for texts of every script up to 65535 columns. Nothing is in bold, no sequence counts
+/// nothing, and no row is cut.
+pub fn outputs_are_straight()
+    ensures { (options : Options) (records : List (List Text)) (output : Text) → OutputIsStraight options records output }
 {}

@@ -1,6 +1,6 @@
 //! The table of some records.
 
-ghost use Rattle.std.specs.Prelude.{◌≡◌, IfOk, IfErr, OnOk, Some, map};
+ghost use Rattle.std.specs.Prelude.{◌≡◌, IfOk, IfErr, OnOk, Ok, map};
 ghost use Rattle.csv.specs.Records.{fields_of};
 ghost use Rattle.comfy_csv.specs.Cells.{row_for};
 ghost use Rattle.comfy_csv.specs.Columns.{IsColumnRefusal};
@@ -15,14 +15,14 @@ use comfy_table::{ContentArrangement, Table};
 use csv::StringRecord;
 use std::alloc::Global;
 
-/// The table of these records, with the columns, rows and looks that are wanted. Where a list names a column that isn't
-/// there, `NoColumn` is returned.
+/// The table of these records, with the columns, rows and looks that are wanted. `NoColumn` has the first name of a
+/// column that isn't there: in the list of columns, then in those of the right and the left.
 pub fn table_of(
     alloc: Global,
     records: &[StringRecord],
     options: &Options,
 ) -> Result<Table, CsvError>
-    ensures ok { IfOk result (λ table. table_for options.now (map fields_of records.now) ≡ Some table) }
+    ensures ok { IfOk result (λ table. table_for options.now (map fields_of records.now) ≡ Ok table) }
     ensures refused { IfErr result (λ e. IsColumnRefusal e (table_for options.now (map fields_of records.now))) }
 {
     if !options.has_header {
@@ -50,7 +50,7 @@ fn titled_table(
     rows: &[StringRecord],
     options: &Options,
 ) -> Result<Table, CsvError>
-    ensures ok { IfOk result (λ table. titled_table options.now (fields_of names.now) (map fields_of rows.now) ≡ Some table) }
+    ensures ok { IfOk result (λ table. titled_table options.now (fields_of names.now) (map fields_of rows.now) ≡ Ok table) }
     ensures refused { IfErr result (λ e. IsColumnRefusal e (titled_table options.now (fields_of names.now) (map fields_of rows.now))) }
 {
     let columns = columns_of(alloc, names, rows, options)?;
@@ -65,7 +65,7 @@ fn untitled_table(
     rows: &[StringRecord],
     options: &Options,
 ) -> Result<Table, CsvError>
-    ensures ok { IfOk result (λ table. untitled_table options.now (map fields_of rows.now) ≡ Some table) }
+    ensures ok { IfOk result (λ table. untitled_table options.now (map fields_of rows.now) ≡ Ok table) }
     ensures refused { IfErr result (λ e. IsColumnRefusal e (untitled_table options.now (map fields_of rows.now))) }
 {
     let columns = columns_of(alloc, &StringRecord::new(alloc), rows, options)?;

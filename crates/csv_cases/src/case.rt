@@ -1,8 +1,8 @@
 //! One case: words, an input, and the output that is wanted.
 
 use crate::text::text;
-use comfy_csv::{Asked, Surroundings, asked_of, draw};
-use comfy_run::run::{MemorySink, MemorySource};
+use crate::uses::output_for;
+use comfy_csv::{Asked, Surroundings, asked_of};
 use std::alloc::{AllocError, Global};
 
 // How many bytes an output has at most.
@@ -14,7 +14,7 @@ pub struct Case {
     alloc: Global,
     name: String,
     words: Vec<String>,
-    input: String,
+    input: Vec<u8>,
     wanted: String,
     surroundings: Surroundings,
 }
@@ -26,7 +26,7 @@ impl Case {
             alloc,
             name: String::new(alloc),
             words: Vec::new(alloc),
-            input: String::new(alloc),
+            input: Vec::new(alloc),
             wanted: String::new(alloc),
             surroundings: Surroundings {
                 is_terminal: false,
@@ -60,9 +60,13 @@ impl Case {
             "words" => self.add_words(rest),
             "input" => {
                 let line = text(self.alloc, rest)?;
-                self.input.push_str(line.as_str())?;
-                self.input.push('\n')
+                self.input.extend_from_slice(line.as_bytes())?;
+                Ok(self.input.push(b'\n')?)
             }
+            "byte" => match rest.parse::<u8>() {
+                Ok(byte) => Ok(self.input.push(byte)?),
+                Err(_) => Ok(()),
+            },
             "terminal" => {
                 self.surroundings.is_terminal = true;
                 self.surroundings.width = rest.parse::<u16>().ok();
@@ -84,7 +88,7 @@ impl Case {
         Ok(())
     }
 
-    /// The output for the input, or a line that says why there is none.
+    /// The output for the input, or a line that says why there is none. Help and the version are outputs too.
     pub fn drawn(&self) -> Result<String, AllocError> {
         let mut words = Vec::new(self.alloc);
         words.push("csvtable")?;
@@ -93,17 +97,14 @@ impl Case {
         }
         match asked_of(self.alloc, words.as_slice(), self.surroundings) {
             Ok(asked) => self.drawn_as(&asked),
+            Err(error) if error.exit_code() == 0 => format!(in self.alloc; "{error}"),
             Err(_) => String::from_str(self.alloc, "the words aren't known\n"),
         }
     }
 
     fn drawn_as(&self, asked: &Asked) -> Result<String, AllocError> {
-        let mut source = MemorySource::new(self.input.as_bytes(), 0);
-        let Ok(mut sink) = MemorySink::new(self.alloc, ROOM, 0) else {
-            return Err(AllocError);
-        };
-        match draw(self.alloc, &mut source, &mut sink, &asked.options) {
-            Ok(()) => self.written(sink.bytes()),
+        match output_for(self.alloc, self.input.as_slice(), ROOM, &asked.options) {
+            Ok(sink) => self.written(sink.bytes()),
             Err(error) => format!(in self.alloc; "{error}\n"),
         }
     }

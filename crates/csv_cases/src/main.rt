@@ -4,6 +4,7 @@
 
 mod case;
 mod text;
+mod uses;
 
 use case::Case;
 use std::process::ExitCode;

@@ -4,4 +4,4 @@ use Rattle.comfy_csv.specs.Cells.{cells_for}
 use Rattle.comfy_csv.proofs.cells.cells_of.Given as goal
 
 abbrev pub invariant-loop-column : goal.invariant-loop-column
-invariant-loop-column l = l.row ≡ cells_for l.look l.is_bold (take l.column-index l.columns) (fields_of l.record)
+invariant-loop-column l = l.row ≡ cells_for l.look l.is_bold (take l.column-index l.columns) (fields_of l.fields)

@@ -1,4 +1,4 @@
-use Rattle.std.proofs.Common.{◌≡◌, sym, ap, ◌∙◌, add-one}
+use Rattle.std.proofs.Common.{sym, ◌∙◌, add-one}
 use Rattle.csv.specs.Records.{fields_of}
 use Rattle.comfy_csv.proofs.ColumnLemmas.{found_at, not_at}
 use Rattle.comfy_csv.proofs.columns.position_named.Goals as goal

@@ -1,6 +1,6 @@
-use Rattle.std.proofs.Common.{◌≡◌, Err, rules, arith, subst, sym}
+use Rattle.std.proofs.Common.{◌≡◌, Err, rules, arith, subst}
 use Rattle.csv.specs.Records.{fields_of}
-use Rattle.comfy_csv.specs.Columns.{IsColumnRefusal, positions_of, positions_of_choice}
+use Rattle.comfy_csv.specs.Columns.{IsColumnRefusal, positions_of_choice}
 use Rattle.comfy_csv.specs.declared.options.ColumnChoice.{ColumnChoice}
 use Rattle.comfy_csv.proofs.ColumnLemmas.{refused_choice}
 use Rattle.comfy_csv.proofs.columns.positions_of.Goals as goal
@@ -11,4 +11,4 @@ returns-in_err-more-clause-refused c =
     let names = fields_of c.args.names.now in
     let same : c.from_residual.result ≡ Err e = search rules in
     let why = subst (λ (choice : ColumnChoice). IsColumnRefusal e (positions_of_choice names c.args.count choice)) c.choice-item.is c.in_err-more.ensures.refused in
-    rw same (refused_choice names c.args.count c.args.choices.now c.loop-choice.choice-index c.choice-item.result e (omega arith) why)
+    rw same (refused_choice names c.args.count c.args.choices.now c.loop-choice.choice-index c.choice-item.result _ e (omega arith) c.loop-choice.invariant why)

@@ -1,11 +1,11 @@
 use Rattle.std.proofs.Common.{Bor, arith, List, ℕ, ◌≡◌, ◌∙◌, sym, refl, rules, inl, inr, true, map, Some, ◌∷◌, []}
 use Rattle.std.specs.Result.{is_ok}
 use Rattle.std.proofs.lemmas.List.{map-append}
-use Rattle.csv.specs.Reading.{Reached, default_config, strip_bom}
+use Rattle.csv.specs.Reading.{Reached, strip_bom}
 use Rattle.csv.specs.Records.{fields_of}
 use Rattle.csv.specs.declared.parser.State.TheVariants as st
 use Rattle.csv.proofs.ReadFacts.{rows-end, rows-more}
-use Rattle.comfy_csv.proofs.RecordLemmas.{more_text, refused}
+use Rattle.comfy_csv.proofs.RecordLemmas.{more_text}
 use Rattle.comfy_csv.specs.Input.{config_for}
 use Rattle.comfy_csv.proofs.records.records_of.Goals as goal
 

@@ -1,0 +1,85 @@
+-- The lines of an output: how many characters they have, and how wide they are.
+use Rattle.std.proofs.Common.{◌≡◌, ℕ, ◌≤◌, ◌++◌, arith, false, List, [], None, Ok, length, map, refl, ap, sym, ◌∙◌, subst}
+use Rattle.std.specs.List.{All}
+use Rattle.std.proofs.lemmas.List.Elements.{All-cons, All-map, All-nil, All-weaker}
+use Rattle.comfy_parts.proofs.CallerLemmas.{measure-nil}
+use Rattle.comfy_parts.specs.CellValue.{CellValue, RowValue, plain_cell}
+use Rattle.comfy_parts.specs.Text.{Text, measure}
+use Rattle.comfy_table.proofs.BuiltTableLemmas.{built_is_equally_wide, built_is_straight, unconstrained}
+use Rattle.comfy_table.proofs.ListLemmas.{All-every}
+use Rattle.comfy_table.specs.Arrangement.{width_kept}
+use Rattle.comfy_table.specs.NewTables.{IsShortRow}
+use Rattle.comfy_table.specs.TableValue.{TableValue, should_style, table_width}
+use Rattle.comfy_csv.proofs.BuiltLemmas.{Built, MakesRow, blank_drawn, built, each_field}
+use Rattle.comfy_csv.specs.Cells.{cell_for, drawn_text, field_or_blank, header_for, row_for, with_weight}
+use Rattle.comfy_csv.specs.Drawn.{empty_table, note_for, row_count, table_for}
+use Rattle.comfy_csv.specs.Laws.{IsPlainLook, OutputFillsWidth, OutputIsStraight, OutputKeepsToWidth}
+use Rattle.comfy_csv.specs.declared.options.Look.{Look}
+use Rattle.comfy_csv.specs.declared.options.Options.{Options}
+use Rattle.comfy_csv.specs.declared.options.ShownColumn.{ShownColumn}
+
+abbrev Any : RowValue → Type 0
+Any row = Unit {0}
+
+-- the table of some records, whatever its rows
+any_built : (options : Options) (plain : options.look.has_sequences ≡ false) (records : List (List Text)) (table : TableValue) → table_for options records ≡ Ok table → Built options plain Any table
+any_built options plain records table = built options plain Any records table (λ columns. All-every (MakesRow options plain Any columns) records (λ fields. (tt, tt)))
+
+pub keeps_to_width : (w : ℕ) (options : Options) (records : List (List Text)) (output : Text) → OutputKeepsToWidth w options records output
+keeps_to_width w options records output wide kept plain made =
+    let known = any_built options plain records made.table made.is_table in
+    let drawing = made.is_drawing.1 in
+    record {
+      table = made.table;
+      is_table = made.is_table;
+      lines = made.is_drawing.0;
+      drawing = drawing;
+      counts = drawing.keeps_to_width w (unconstrained (empty_table options.look) plain Any made.table known) (ap (λ (t : TableValue). t.arrangement) known.is ∙ rw (wide, kept) refl) (ap table_width known.is ∙ rw wide refl);
+      joined = made.joined ∙ ap (λ t. t ++ note_for options.limit (row_count options.has_header (length records))) made.is_drawing.2;
+    }
+
+pub fills_width : (w : ℕ) (options : Options) (records : List (List Text)) (output : Text) → OutputFillsWidth w options records output
+fills_width w options records output wide filled plain made =
+    let known = any_built options plain records made.table made.is_table in
+    let drawing = made.is_drawing.1 in
+    let counts = drawing.fills_width w (unconstrained (empty_table options.look) plain Any made.table known) (ap (λ (t : TableValue). t.arrangement) known.is ∙ rw (wide, filled) refl) (ap table_width known.is ∙ rw wide refl) in
+    record {
+      table = made.table;
+      is_table = made.is_table;
+      lines = made.is_drawing.0;
+      drawing = drawing;
+      counts = record { frame_lines = λ line some. (counts some).frame_lines line; plain_lines = λ is k default below some. (counts some).plain_lines is k default below; straight_lines = λ is k default below some. (counts some).straight_lines is k default below };
+      joined = made.joined ∙ ap (λ t. t ++ note_for options.limit (row_count options.has_header (length records))) made.is_drawing.2;
+    }
+
+-- P holds of each text line of a field as it is drawn
+abbrev pub EachLine : (Text → Type 0) → Look → Text → Type 0
+EachLine P look field = All P (plain_cell (drawn_text look field)).text_lines
+
+module _ (P : Text → Type 0) (empty : P []) (look : Look) where
+  -- so P does of each cell of a row
+  pub cells_each : (columns : List ShownColumn) (fields : List Text) → All (EachLine P look) fields
+      → All (λ (cell : CellValue). All P cell.text_lines) (map (λ (column : ShownColumn). with_weight false (cell_for look column.alignment (field_or_blank fields column.position))) columns)
+  cells_each columns fields each =
+      All-map (λ (cell : CellValue). All P cell.text_lines) (λ (column : ShownColumn). with_weight false (cell_for look column.alignment (field_or_blank fields column.position))) columns
+      (All-every (λ (column : ShownColumn). EachLine P look (field_or_blank fields column.position)) columns (λ column. each_field (EachLine P look) (subst (λ (text : Text). All P (plain_cell text).text_lines) (sym (blank_drawn look)) (All-cons P [] [] empty (All-nil P))) fields column.position each))
+
+short_row : (look : Look) (columns : List ShownColumn) (fields : List Text) → IsPlainLook look → All (EachLine (λ text. measure text ≤ 65535) look) fields → IsShortRow (header_for look columns fields) × IsShortRow (row_for look columns fields)
+short_row look columns fields plain each =
+    let cells = cells_each (λ text. measure text ≤ 65535) (rw measure-nil (omega arith)) look columns fields each in (
+      record { uncut = refl; short = rw plain.no_bold cells },
+      record { uncut = rw plain.uncut refl; short = cells },
+    )
+
+pub is_straight : (options : Options) (records : List (List Text)) (output : Text) → OutputIsStraight options records output
+is_straight options records output characters plain no_width short made =
+    let known : Built options plain.no_sequences IsShortRow made.table =
+    built options plain.no_sequences IsShortRow records made.table (λ columns. All-weaker (All (EachLine (λ text. measure text ≤ 65535) options.look)) (MakesRow options plain.no_sequences IsShortRow columns) (λ fields each. short_row options.look columns fields plain each) records short) made.is_table in
+    let drawing = made.is_drawing.1 in
+    let base = empty_table options.look in
+    let none : width_kept made.table.arrangement (table_width made.table) ≡ None = ap (λ (t : TableValue). width_kept t.arrangement (table_width t)) known.is ∙ rw no_width refl in
+    let unstyled : should_style base ≡ false = rw plain.no_bold refl in (
+      made.is_drawing.0,
+      made.joined ∙ ap (λ t. t ++ note_for options.limit (row_count options.has_header (length records))) made.is_drawing.2,
+      built_is_equally_wide base plain.no_sequences unstyled IsShortRow made.table known made.is_drawing.0 drawing (built_is_straight base plain.no_sequences made.table drawing.widths known characters none),
+    )

@@ -1,0 +1,84 @@
+-- Fields of printable ASCII make a table of printable ASCII.
+use Rattle.std.proofs.Common.{◌≡◌, ℕ, true, false, List, [], ◌∷◌, Option, Some, None, map, refl, ap, ◌∙◌, unwrap_or}
+use Rattle.std.specs.Int.{is_in_range}
+use Rattle.std.specs.List.{All, cons_option, filter_map, slice_get}
+use Rattle.std.proofs.lemmas.List.Elements.{All-cons, All-head, All-map, All-nil, All-tail, All-weaker}
+use Rattle.comfy_parts.specs.CellValue.{CellValue, ColumnValue, RowValue}
+use Rattle.comfy_parts.specs.Text.{Text, is_printable_ascii}
+use Rattle.comfy_table.proofs.BuiltTableLemmas.{IsNewColumn, columns_known, rows_known}
+use Rattle.comfy_table.proofs.ListLemmas.{All-at, All-every}
+use Rattle.comfy_table.specs.Drawing.{infos_of}
+use Rattle.comfy_table.specs.Laws.{AddsOneColumnEachWhereWritten, HasPlainCells, IsPlainCell}
+use Rattle.comfy_table.specs.Lines.{cell_delimiter}
+use Rattle.comfy_table.specs.Pieces.{visible_infos}
+use Rattle.comfy_table.specs.TableValue.{TableValue, column_cells, seen_rows, visible_columns}
+use Rattle.comfy_csv.proofs.BuiltLemmas.{Built, MakesRow, built}
+use Rattle.comfy_csv.proofs.LineLemmas.{EachLine, cells_each}
+use Rattle.comfy_csv.specs.Cells.{cell_for, field_or_blank, header_for, row_for, with_weight}
+use Rattle.comfy_csv.specs.Drawn.{empty_table}
+use Rattle.comfy_csv.specs.Laws.{IsPlainLook, PrintableTableIsPlain}
+use Rattle.comfy_csv.specs.declared.options.Look.{Look}
+use Rattle.comfy_csv.specs.declared.options.Options.{Options}
+use Rattle.comfy_csv.specs.declared.options.ShownColumn.{ShownColumn}
+
+abbrev IsPrintable : Text → Type 0
+IsPrintable text = is_printable_ascii text ≡ true
+
+-- a row without a greatest height, of cells of printable ASCII without delimiters of their own
+record IsBareRow (row : RowValue) : Type 0 where
+  uncut : row.max_height ≡ None
+  printable : All (λ (cell : CellValue). All IsPrintable cell.text_lines) row.cells
+  no_delimiter : All (λ (cell : CellValue). cell.delimiter ≡ None) row.cells
+
+bare_row : (look : Look) (columns : List ShownColumn) (fields : List Text) → IsPlainLook look → All (EachLine IsPrintable look) fields → IsBareRow (header_for look columns fields) × IsBareRow (row_for look columns fields)
+bare_row look columns fields plain each =
+    let cells = cells_each IsPrintable refl look columns fields each in (
+      record { uncut = refl; printable = rw plain.no_bold cells; no_delimiter = rw plain.no_bold without },
+      record { uncut = rw plain.uncut refl; printable = cells; no_delimiter = without },
+    )
+  where
+    without : All (λ (cell : CellValue). cell.delimiter ≡ None) (map (λ (column : ShownColumn). with_weight false (cell_for look column.alignment (field_or_blank fields column.position))) columns)
+    without = All-map (λ (cell : CellValue). cell.delimiter ≡ None) (λ (column : ShownColumn). with_weight false (cell_for look column.alignment (field_or_blank fields column.position))) columns (All-every (λ (column : ShownColumn). (with_weight false (cell_for look column.alignment (field_or_blank fields column.position))).delimiter ≡ None) columns (λ column. refl))
+
+-- what was found, in front of others
+found-one : {Y : Type 0} (P : Y → Type 0) (found : Option Y) (ys : List Y) → ((y : Y) → found ≡ Some y → P y) → All P ys → All P (cons_option found ys)
+found-one P None ys own rest = rest
+found-one P (Some y) ys own rest = All-cons P y ys (own y refl) rest
+
+-- what is found in some elements
+found_each : {X Y : Type 0} (P : Y → Type 0) (h : X → Option Y) (xs : List X) → All (λ x. (y : Y) → h x ≡ Some y → P y) xs → All P (filter_map h xs)
+found_each P h [] each = All-nil P
+found_each {X} {Y} P h (x ∷ xs) each =
+    found-one P (h x) (filter_map h xs) (All-head (λ (z : X). (y : Y) → h z ≡ Some y → P y) x xs each) (found_each P h xs (All-tail (λ (z : X). (y : Y) → h z ≡ Some y → P y) x xs each))
+
+module _ (options : Options) (plain : IsPlainLook options.look) (table : TableValue) (known : Built options plain.no_sequences IsBareRow table) where
+  abbrev base : TableValue
+  base = empty_table options.look
+
+  rows : All IsBareRow (seen_rows table)
+  rows = rows_known base plain.no_sequences IsBareRow table known
+
+  plain_cell-is : (delimiter : Option ℕ) (row : RowValue) (i : ℕ) (cell : CellValue) → delimiter ≡ None → IsBareRow row → slice_get row.cells i ≡ Some cell → IsPlainCell table delimiter cell
+  plain_cell-is delimiter row i cell none is found =
+      let own : cell.delimiter ≡ None = All-at (λ (c : CellValue). c.delimiter ≡ None) row.cells i cell is.no_delimiter found in
+      let space : cell_delimiter table delimiter cell ≡ 0x20 =
+      ap (λ o. unwrap_or o (unwrap_or delimiter (unwrap_or table.delimiter 0x20))) own ∙ ap (λ o. unwrap_or o (unwrap_or table.delimiter 0x20)) none ∙ ap (λ (t : TableValue). unwrap_or t.delimiter 0x20) known.is in
+      (All-at (λ (c : CellValue). All IsPrintable c.text_lines) row.cells i cell is.printable found, ap (is_in_range 0x20 0x7E) space)
+
+  plain_cells : HasPlainCells table
+  plain_cells =
+      All-weaker (λ (p : ℕ × ColumnValue). IsNewColumn p.1) (λ (p : ℕ × ColumnValue). All (IsPlainCell table p.1.delimiter) (column_cells table p.0))
+      (λ p new. found_each (IsPlainCell table p.1.delimiter) (λ (row : RowValue). slice_get row.cells p.0) (seen_rows table)
+      (All-weaker IsBareRow (λ (row : RowValue). (cell : CellValue) → slice_get row.cells p.0 ≡ Some cell → IsPlainCell table p.1.delimiter cell) (λ row is cell found. plain_cell-is p.1.delimiter row p.0 cell new.no_delimiter is found) (seen_rows table) rows))
+      (visible_columns table) (columns_known base plain.no_sequences IsBareRow table known)
+
+  -- no indicator is written
+  uncut : (widths : List ℕ) → All (λ (row : RowValue). All (AddsOneColumnEachWhereWritten table row) (visible_infos (infos_of table widths))) (seen_rows table)
+  uncut widths =
+      All-weaker IsBareRow (λ (row : RowValue). All (AddsOneColumnEachWhereWritten table row) (visible_infos (infos_of table widths)))
+      (λ row is. All-every (AddsOneColumnEachWhereWritten table row) (visible_infos (infos_of table widths)) (λ p cell h found limited. absurd (cc (is.uncut, limited)))) (seen_rows table) rows
+
+pub printable_is_plain : (options : Options) (records : List (List Text)) (table : TableValue) (widths : List ℕ) → PrintableTableIsPlain options records table widths
+printable_is_plain options records table widths plain each is =
+    let known = built options plain.no_sequences IsBareRow records table (λ columns. All-weaker (All (EachLine IsPrintable options.look)) (MakesRow options plain.no_sequences IsBareRow columns) (λ fields own. bare_row options.look columns fields plain own) records each) is in
+    record { plain_cells = plain_cells options plain table known; indicator_adds_one_column_each = uncut options plain table known widths }

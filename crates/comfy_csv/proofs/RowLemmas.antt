@@ -1,0 +1,74 @@
+-- The rows of the table of some records.
+use Rattle.std.proofs.Common.{◌≡◌, ℕ, zero, suc, Bool, true, false, List, [], ◌∷◌, ◌++◌, Option, Some, None, Result, Ok, Err, length, map, refl, ap, sym, ◌∙◌, append_assoc, append-nil}
+use Rattle.std.proofs.lemmas.List.{length-map}
+use Rattle.comfy_parts.specs.CellValue.{RowValue}
+use Rattle.comfy_parts.specs.Text.{Text}
+use Rattle.comfy_table.specs.TableValue.{TableValue, with_header, with_row, with_rows}
+use Rattle.comfy_csv.proofs.BuiltLemmas.{made_of}
+use Rattle.comfy_csv.specs.Cells.{header_for, row_for}
+use Rattle.comfy_csv.specs.Columns.{columns_for, columns_with, shown_columns}
+use Rattle.comfy_csv.specs.Drawn.{empty_table, limited, ok_map}
+use Rattle.comfy_csv.specs.Laws.{KeepsRows, TableKeepsRows, drawn_records, names_in}
+use Rattle.comfy_csv.specs.declared.options.Options.{Options}
+use Rattle.comfy_csv.specs.declared.options.ShownColumn.{ShownColumn}
+
+with_rows-rows : (rows : List RowValue) (t : TableValue) → (with_rows rows t).rows ≡ t.rows ++ rows
+with_rows-rows [] t = sym (append-nil t.rows)
+with_rows-rows (row ∷ rows) t = with_rows-rows rows (with_row row t) ∙ append_assoc t.rows (row ∷ []) rows
+
+positions-shown : (right left : List ℕ) (rows : List (List Text)) (ps : List ℕ) → map (λ (column : ShownColumn). column.position) (shown_columns right left rows ps) ≡ ps
+positions-shown right left rows [] = refl
+positions-shown right left rows (p ∷ ps) = ap (λ t. p ∷ t) (positions-shown right left rows ps)
+
+-- the columns that are drawn stand at the chosen positions
+chosen : (rows : List (List Text)) (positions right left : Result (List ℕ) Text) (columns : List ShownColumn) → columns_with rows positions right left ≡ Ok columns → positions ≡ Ok (map (λ (column : ShownColumn). column.position) columns)
+chosen rows (Ok ps) (Ok right) (Ok left) columns is =
+    let same : shown_columns right left rows ps ≡ columns = cc is in
+    ap Ok (sym (positions-shown right left rows ps) ∙ ap (map (λ (column : ShownColumn). column.position)) same)
+chosen rows (Ok ps) (Ok right) (Err name) columns is = absurd (cc is)
+chosen rows (Ok ps) (Err name) left columns is = absurd (cc is)
+chosen rows (Err name) right left columns is = absurd (cc is)
+
+-- a table that was made of columns has the rows that were appended
+rows_made : (row_of : List ShownColumn → List RowValue) (base : List ShownColumn → TableValue) → ((columns : List ShownColumn) → (base columns).rows ≡ []) → (found : Result (List ShownColumn) Text) (table : TableValue)
+    → ok_map (λ (columns : List ShownColumn). with_rows (row_of columns) (base columns)) found ≡ Ok table → (columns : List ShownColumn) × (found ≡ Ok columns) × (table.rows ≡ row_of columns)
+rows_made row_of base none found table is =
+    let made = made_of (λ (columns : List ShownColumn). with_rows (row_of columns) (base columns)) found table is in (
+      made.0,
+      made.1,
+      ap (λ (t : TableValue). t.rows) (sym made.2) ∙ with_rows-rows (row_of made.0) (base made.0) ∙ ap (λ (t : List RowValue). t ++ row_of made.0) (none made.0),
+    )
+
+module _ (options : Options) (table : TableValue) where
+  kept : (records : List (List Text)) (names : List Text) (rows : List (List Text)) (base : List ShownColumn → TableValue) → ((columns : List ShownColumn) → (base columns).rows ≡ [])
+      → names_in options.has_header records ≡ names → drawn_records options records ≡ rows
+      → ok_map (λ (columns : List ShownColumn). with_rows (map (row_for options.look columns) rows) (base columns)) (columns_for options names rows) ≡ Ok table → KeepsRows options records table
+  kept records names rows base none names_are rows_are is =
+      let found = rows_made (λ columns. map (row_for options.look columns) rows) base none (columns_for options names rows) table is in
+      let same : table.rows ≡ map (row_for options.look found.0) (drawn_records options records) = found.2 ∙ ap (map (row_for options.look found.0)) (sym rows_are) in
+      record {
+        columns = found.0;
+        rows = same;
+        as_many = ap length same ∙ length-map (drawn_records options records) (row_for options.look found.0);
+        chosen = rw (names_are, rows_are) (chosen rows _ _ _ found.0 found.1);
+      }
+
+  headed : (records : List (List Text)) → options.has_header ≡ true → TableKeepsRows options records table
+  headed [] some is = kept [] [] [] (λ columns. empty_table options.look) (λ columns. refl) (rw some refl) (rw some (none_limited options.limit)) (rw some at is)
+    where
+      none_limited : (limit : Option ℕ) → limited {A = List Text} limit [] ≡ []
+      none_limited None = refl
+      none_limited (Some n) = none_taken n
+        where
+          none_taken : (n : ℕ) → limited {A = List Text} (Some n) [] ≡ []
+          none_taken zero = refl
+          none_taken (suc n) = refl
+  headed (names ∷ rows) some is =
+      kept (names ∷ rows) names (limited options.limit rows) (λ columns. with_header (header_for options.look columns names) (empty_table options.look)) (λ columns. refl) (rw some refl) (rw some refl) (rw some at is)
+
+  pub keeps_rows : (records : List (List Text)) → TableKeepsRows options records table
+  keeps_rows records = by_header options.has_header refl
+    where
+      by_header : (b : Bool) → options.has_header ≡ b → TableKeepsRows options records table
+      by_header true some = headed records some
+      by_header false none = λ is. kept records [] (limited options.limit records) (λ columns. empty_table options.look) (λ columns. refl) (rw none refl) (rw none refl) (rw none at is)

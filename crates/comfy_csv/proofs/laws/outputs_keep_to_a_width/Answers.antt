@@ -1,0 +1,8 @@
+use Rattle.comfy_csv.proofs.LineLemmas.{fills_width, keeps_to_width}
+use Rattle.comfy_csv.proofs.laws.outputs_keep_to_a_width.Goals as goal
+
+pub returns-clause-dynamic : goal.returns-clause-dynamic
+returns-clause-dynamic c = keeps_to_width
+
+pub returns-clause-full : goal.returns-clause-full
+returns-clause-full c = fills_width

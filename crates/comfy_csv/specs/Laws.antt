@@ -1,0 +1,89 @@
+-- What is so of every output.
+use Rattle.std.specs.Prelude.{◌≡◌, ℕ, ◌<◌, ◌≤◌, Bool, true, false, List, [], ◌++◌, Some, None, Ok, All, drop, length, map, max, slice_get, unwrap_or, if◌then◌else◌}
+use Rattle.comfy_parts.specs.CellValue.{plain_cell}
+use Rattle.comfy_parts.specs.Columns.{IsOneColumnStyle}
+use Rattle.comfy_parts.specs.Text.{Text, is_printable_ascii, measure}
+use Rattle.comfy_table.specs.Drawing.{terminated_text_of}
+use Rattle.comfy_table.specs.Headline.{EachLineCounts, IsTableDrawing}
+use Rattle.comfy_table.specs.Laws.{IsPlainTable, least_total}
+use Rattle.comfy_table.specs.NewTables.{AreEquallyWide}
+use Rattle.comfy_table.specs.TableValue.{TableValue}
+use Rattle.comfy_table.specs.Widths.{visible_count}
+use Rattle.comfy_csv.specs.Cells.{drawn_text, row_for}
+use Rattle.comfy_csv.specs.Columns.{chosen_columns, count_of}
+use Rattle.comfy_csv.specs.Drawn.{IsOutputOf, limited, note_for, row_count, table_for}
+use Rattle.comfy_csv.specs.declared.options.Look.{Look}
+use Rattle.comfy_csv.specs.declared.options.Options.{Options}
+use Rattle.comfy_csv.specs.declared.options.ShownColumn.{ShownColumn}
+
+-- ---- rows
+
+-- the names of the columns: the fields of the header, where there is one
+abbrev pub names_in : Bool → List (List Text) → List Text
+names_in has_header records = if has_header then unwrap_or (slice_get records 0) [] else []
+
+-- the records that are rows
+abbrev pub drawn_records : Options → List (List Text) → List (List Text)
+drawn_records options records = limited options.limit (if options.has_header then drop 1 records else records)
+
+-- a row for each record that is drawn, in order, with the fields of the same columns, and these are the chosen ones
+pub record KeepsRows (options : Options) (records : List (List Text)) (table : TableValue) : Type 0 where
+  pub columns : List ShownColumn
+  pub rows : table.rows ≡ map (row_for options.look columns) (drawn_records options records)
+  pub as_many : length table.rows ≡ length (drawn_records options records)
+  pub chosen : chosen_columns (names_in options.has_header records) (count_of (names_in options.has_header records) (drawn_records options records)) options.columns.items ≡ Ok (map (λ (column : ShownColumn). column.position) columns)
+
+abbrev pub TableKeepsRows : Options → List (List Text) → TableValue → Type 0
+TableKeepsRows options records table = table_for options records ≡ Ok table → KeepsRows options records table
+
+-- ---- widths of lines
+
+-- an output is the lines of a drawing, each followed by a line feed, before the line on records that aren't drawn; P holds of their counts
+pub record EachLineHas (P : TableValue → ℕ → Type 0) (options : Options) (records : List (List Text)) (output : Text) : Type 0 where
+  pub table : TableValue
+  pub is_table : table_for options records ≡ Ok table
+  pub lines : List Text
+  pub drawing : IsTableDrawing table lines
+  pub counts : EachLineCounts (P table) table drawing.widths
+  pub joined : output ≡ terminated_text_of lines ++ note_for options.limit (row_count options.has_header (length records))
+
+-- with a width, a line keeps to it, or to borders, paddings and one for each column
+abbrev pub OutputKeepsToWidth : ℕ → Options → List (List Text) → Text → Type 0
+OutputKeepsToWidth w options records output =
+    options.look.width ≡ Some w → options.look.fills_width ≡ false → options.look.has_sequences ≡ false → IsOutputOf options records output
+    → EachLineHas (λ table n. n ≤ max w (least_total table)) options records output
+
+-- where the width is filled, it has exactly so many, where there is a column
+abbrev pub OutputFillsWidth : ℕ → Options → List (List Text) → Text → Type 0
+OutputFillsWidth w options records output =
+    options.look.width ≡ Some w → options.look.fills_width ≡ true → options.look.has_sequences ≡ false → IsOutputOf options records output
+    → EachLineHas (λ table n. 0 < visible_count table → n ≡ max w (least_total table)) options records output
+
+-- ---- straight edges
+
+-- P holds of each field as it is drawn, cut at its line feeds
+abbrev pub EachText : (Text → Type 0) → Look → List (List Text) → Type 0
+EachText P look records = All (λ (fields : List Text). All (λ (field : Text). All P (plain_cell (drawn_text look field)).text_lines) fields) records
+
+-- nothing is in bold, no sequence counts nothing, and no row is cut
+pub record IsPlainLook (look : Look) : Type 0 where
+  pub no_bold : look.has_bold_header ≡ false
+  pub no_sequences : look.has_sequences ≡ false
+  pub uncut : look.max_height ≡ None
+
+-- an output is lines of the same width, each followed by a line feed, before the line on records that aren't drawn
+abbrev pub IsStraightOutput : Options → List (List Text) → Text → Type 0
+IsStraightOutput options records output =
+    (lines : List Text) × (output ≡ terminated_text_of lines ++ note_for options.limit (row_count options.has_header (length records))) × AreEquallyWide lines
+
+-- so it is where no width is kept to, for texts of every script
+abbrev pub OutputIsStraight : Options → List (List Text) → Text → Type 0
+OutputIsStraight options records output =
+    IsOneColumnStyle options.look.style → IsPlainLook options.look → options.look.width ≡ None → EachText (λ text. measure text ≤ 65535) options.look records
+    → IsOutputOf options records output → IsStraightOutput options records output
+
+-- for texts of printable ASCII each line of the table is counted, under every width
+abbrev pub PrintableTableIsPlain : Options → List (List Text) → TableValue → List ℕ → Type 0
+PrintableTableIsPlain options records table widths =
+    IsPlainLook options.look → EachText (λ text. is_printable_ascii text ≡ true) options.look records → table_for options records ≡ Ok table
+    → IsPlainTable table widths
