@@ -1,5 +1,5 @@
 -- Spaces that are written in runs, and the pieces that they make.
-use Rattle.std.proofs.Common.{◌≡◌, true, false, ℕ, ◌+◌, ◌-◌, ◌<◌, ◌≤◌, ◌++◌, length, take, ap, sym, ◌∙◌, arith, append_assoc, slice_index_or}
+use Rattle.std.proofs.Common.{◌≡◌, true, false, ℕ, ◌+◌, ◌-◌, ◌<◌, ◌≤◌, [], ◌++◌, length, take, ap, sym, ◌∙◌, arith, append-nil, append_assoc, slice_index_or}
 use Rattle.std.proofs.lemmas.List.{get_or-replicate, length-replicate, replicate-append-replicate, take-replicate}
 use Rattle.std.proofs.lemmas.List.Elements.{All-replicate}
 use Rattle.std.proofs.lemmas.Str.{IsUtf8-from_ascii}
@@ -52,15 +52,15 @@ module _ (cell : CellValue) (info : ColumnInfo) (columns left right : ℕ)
       ∙ append_assoc (spaces info.padding.0) (spaces before) (text ++ spaces (free_places info columns - before + info.padding.1))
       ∙ ap (λ (t : Text). spaces info.padding.0 ++ (spaces before ++ (text ++ t))) (sym (spaces-append (free_places info columns - before) info.padding.1))
 
-  -- the piece of a line with its text without styling, with its text styled, and styled as a whole
+  -- the piece of a line without styling, with its text styled, and styled as a whole
   pub plain-made : (table : TableValue) (text : Text) → should_style table ≡ false → spaces left ++ (text ++ spaces right) ≡ text_piece table cell info columns text
   plain-made table text off = grind (arith, padded-made)
 
-  pub line-styled : (table : TableValue) (text : Text) → should_style table ≡ true → table.style_text_only ≡ true → spaces left ++ (styled cell text ++ spaces right) ≡ text_piece table cell info columns text
-  line-styled table text on alone = grind (arith, padded-made)
+  pub line-styled : (table : TableValue) (text : Text) → should_style table ≡ true → table.style_text_only ≡ true → spaces left ++ (styled cell (text ++ []) ++ spaces right) ≡ text_piece table cell info columns text
+  line-styled table text on alone = ap (λ (t : Text). spaces left ++ (styled cell t ++ spaces right)) (append-nil text) ∙ grind (arith, padded-made)
 
-  pub all-styled : (table : TableValue) (text : Text) → should_style table ≡ true → table.style_text_only ≡ false → styled cell (spaces left ++ (text ++ spaces right)) ≡ text_piece table cell info columns text
-  all-styled table text on whole = grind (arith, padded-made)
+  pub all-styled : (table : TableValue) (text : Text) → should_style table ≡ true → table.style_text_only ≡ false → styled cell (spaces left ++ (text ++ spaces right)) ++ [] ≡ text_piece table cell info columns text
+  all-styled table text on whole = append-nil (styled cell (spaces left ++ (text ++ spaces right))) ∙ grind (arith, padded-made)
 
 -- what a call appends, said in another way
 pub pushed-as : {T E : Type 0} (r : Result T E) (new old made wanted : Text) → made ≡ wanted → OnOk r (new ≡ old ++ made) → OnOk r (new ≡ old ++ wanted)
@@ -71,10 +71,6 @@ pushed-as (Err e) new old made wanted same pushed = pushed
 pub five-pushed : (old a b c d one two three four new : Text) (e : Text)
     → one ≡ old ++ a → two ≡ one ++ b → three ≡ two ++ c → four ≡ three ++ d → new ≡ four ++ e → new ≡ old ++ (a ++ ((b ++ (c ++ d)) ++ e))
 five-pushed old a b c d one two three four new e first second third fourth fifth = grind (arith, append_assoc)
-
--- three texts appended in turn
-pub three-pushed : (old a b one two new : Text) (c : Text) → one ≡ old ++ a → two ≡ one ++ b → new ≡ two ++ c → new ≡ old ++ (a ++ (b ++ c))
-three-pushed old a b one two new c first second third = grind (arith, append_assoc)
 
 -- the last text appended on success
 pub last-pushed : {T E : Type 0} (r : Result T E) (new before c : Text) (wanted : Text) → (new ≡ before ++ c → new ≡ wanted) → OnOk r (new ≡ before ++ c) → OnOk r (new ≡ wanted)

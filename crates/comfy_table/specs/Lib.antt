@@ -7,6 +7,7 @@ pub mod Drawing
 pub mod DrawnCells
 pub mod Dynamic
 pub mod Frame
+pub mod Gaps
 pub mod Headline
 pub mod Laws
 pub mod Levels

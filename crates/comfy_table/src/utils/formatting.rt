@@ -9,6 +9,7 @@ mod gap;
 mod output;
 mod piece;
 mod plain_rows;
+mod row_gaps;
 mod styling;
 
 pub(crate) use drawing::draw;

@@ -2,13 +2,11 @@
 
 ghost use Rattle.std.specs.Prelude.{◌≡◌, ◌++◌, ◌&&◌, nat_lt, [], IfOk, OnOk, map, string_bytes, option_to_list, encode_utf8, if◌then◌else◌};
 ghost use Rattle.std.specs.List.{repeat};
-ghost use Rattle.comfy_table.specs.DrawnCells.{piece_at};
-ghost use Rattle.comfy_table.specs.Frame.{character, content_line, draws_left_border, draws_right_border, draws_vertical_lines, frame_line, is_drawn, optional_frame_line};
+ghost use Rattle.comfy_table.specs.Frame.{character, draws_left_border, draws_right_border, draws_vertical_lines, frame_line, is_drawn, optional_frame_line};
 
 use crate::table::Table;
-use crate::utils::formatting::drawn_cell::DrawnCell;
 use comfy_parts::Result;
-use comfy_parts::style::{ContentLineStyle, LineStyle};
+use comfy_parts::style::LineStyle;
 
 /// Whether lines begin with a border: any of the six lines of the style has a left character.
 pub fn should_draw_left_border(table: &Table) -> bool
@@ -29,26 +27,6 @@ pub fn should_draw_vertical_lines(table: &Table) -> bool
     ensures { result ≡ draws_vertical_lines table.now.style }
 {
     table.style.draws_vertical_lines()
-}
-
-/// Appends a line of content: the pieces of these cells between the drawn borders, with junctions where vertical lines are
-/// drawn. Lines of a row are counted from 0.
-pub(crate) fn push_content_line(
-    text: &mut String,
-    table: &Table,
-    style: &ContentLineStyle,
-    cells: &[DrawnCell],
-    line: usize,
-) -> Result<()>
-    ensures { OnOk result (string_bytes text.new ≡ string_bytes text.old ++ content_line table.now.style style.now (map (piece_at line) cells.now)) }
-{
-    let vertical = table.style.draws_vertical_lines();
-    push_border(text, table.style.draws_left_border(), style.left)?;
-    for (position, cell) in cells.iter().enumerate() {
-        push_border(text, needs_junction(vertical, position), style.junction)?;
-        cell.push_piece_at(text, line)?;
-    }
-    push_border(text, table.style.draws_right_border(), style.right)
 }
 
 /// A line of the frame over columns of these whole widths, where it is drawn: any of its four parts is set.

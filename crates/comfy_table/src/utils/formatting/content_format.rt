@@ -1,12 +1,13 @@
 //! The lines of a row, as pieces side by side.
 
-ghost use Rattle.std.specs.Prelude.{◌≡◌, IfOk, map, option_to_list, string_bytes};
+ghost use Rattle.std.specs.Prelude.{◌≡◌, [], IfOk, map, option_to_list, string_bytes};
 ghost use Rattle.comfy_table.specs.Lines.{cell_delimiter};
 ghost use Rattle.comfy_table.specs.Pieces.{content_lines, row_lines};
 ghost use Rattle.comfy_table.specs.DrawnCells.{piece_at};
 
 use crate::table::Table;
 use crate::utils::formatting::drawn_cell::{DrawnCell, drawn_cells, greatest_height};
+use crate::utils::formatting::gap::{Gap, push_spaces};
 use comfy_parts::content_split::ColumnDisplayInfo;
 use comfy_parts::{Cell, Result, Row};
 use std::alloc::Global;
@@ -28,9 +29,10 @@ pub fn format_row(
     let alloc = *table.columns.allocator();
     let drawn = drawn_cells(row, display_infos, table)?;
     let cells = drawn.as_slice();
+    let none = Gap::new(String::new(alloc))?;
     let mut lines = Vec::new(alloc);
     for line in 0..greatest_height(cells) {
-        lines.push(row_line(alloc, cells, line)?)?;
+        lines.push(row_line(alloc, &none, cells, line)?)?;
     }
     Ok(lines)
 }
@@ -72,14 +74,16 @@ pub fn delimiter(cell: &Cell, info: &ColumnDisplayInfo, table: &Table) -> char
     table.delimiter_of(cell, info.delimiter)
 }
 
-// One line of a row.
-fn row_line(alloc: Global, cells: &[DrawnCell], line: usize) -> Result<Vec<String>>
+// One line of a row. No gap stands between its pieces.
+fn row_line(alloc: Global, none: &Gap, cells: &[DrawnCell], line: usize) -> Result<Vec<String>>
+    requires { none.now ≡ [] }
     ensures { IfOk result (λ pieces. map string_bytes pieces.items ≡ map (piece_at line) cells.now) }
 {
     let mut pieces = Vec::new(alloc);
     for cell in cells {
         let mut piece = String::with_capacity(alloc, cell.width())?;
-        cell.push_piece_at(&mut piece, line)?;
+        let free = cell.piece_at(line).push(&mut piece, none, 0)?;
+        push_spaces(&mut piece, free)?;
         pieces.push(piece)?;
     }
     Ok(pieces)

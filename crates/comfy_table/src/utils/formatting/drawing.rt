@@ -3,15 +3,17 @@
 ghost use Rattle.std.specs.Prelude.{◌≡◌, ◌∷◌, [], nat_lt, IfOk, OnOk, map, string_bytes, option_to_list, if◌then◌else◌};
 ghost use Rattle.std.specs.List.{join_by};
 ghost use Rattle.comfy_table.specs.DrawnCells.{piece_at};
-ghost use Rattle.comfy_table.specs.Drawing.{drawing_of_infos, drawn_header, drawn_row, drawn_rows, whole_widths};
-ghost use Rattle.comfy_table.specs.Frame.{content_line, optional_frame_line};
+ghost use Rattle.comfy_table.specs.Drawing.{drawing_of_infos, drawn_header, drawn_rows, whole_widths};
+ghost use Rattle.comfy_table.specs.Frame.{optional_frame_line};
+ghost use Rattle.comfy_table.specs.Gaps.{gap_line, row_between};
 ghost use Rattle.comfy_table.specs.Output.{new_output, with_lines, with_written};
 
 use crate::table::Table;
-use crate::utils::formatting::borders::{optional_frame_line, push_content_line};
+use crate::utils::formatting::borders::optional_frame_line;
 use crate::utils::formatting::drawn_cell::{DrawnCell, drawn_cells, greatest_height};
 use crate::utils::formatting::output::{Output, OutputForm};
 use crate::utils::formatting::plain_rows::PlainRows;
+use crate::utils::formatting::row_gaps::RowGaps;
 use comfy_parts::content_split::ColumnDisplayInfo;
 use comfy_parts::style::{ContentLineStyle, LineStyle};
 use comfy_parts::{Result, Row};
@@ -87,7 +89,8 @@ impl<'a> Writer<'a> {
     {
         let table = self.table;
         if let Some(header) = &table.header {
-            self.write_row(&table.style.header_lines, header)?;
+            let gaps = RowGaps::new(table, &table.style.header_lines)?;
+            self.write_row(&gaps, header)?;
             self.write_frame_line(&table.style.header_separator)?;
         }
         Ok(())
@@ -103,17 +106,18 @@ impl<'a> Writer<'a> {
             &table.style.row_separator,
             self.widths.as_slice(),
         )?;
-        self.write_separated_rows(&separator)
+        let gaps = RowGaps::new(table, &table.style.content_lines)?;
+        self.write_separated_rows(&gaps, &separator)
     }
 
-    fn write_separated_rows(&mut self, separator: &Option<String>) -> Result<()>
-        ensures { OnOk result (self.new ≡ with_written (join_by (drawn_row self.old.table self.old.infos self.old.table.style.content_lines) (map string_bytes (option_to_list separator.now)) self.old.table.rows) self.old) }
+    fn write_separated_rows(&mut self, gaps: &RowGaps, separator: &Option<String>) -> Result<()>
+        ensures { OnOk result (self.new ≡ with_written (join_by (row_between gaps.now self.old.table self.old.infos) (map string_bytes (option_to_list separator.now)) self.old.table.rows) self.old) }
     {
         let table = self.table;
         let rows = table.rows.as_slice();
         for (position, row) in rows.iter().enumerate() {
             self.write_separator(separator, position)?;
-            self.write_content_row(row)?;
+            self.write_row(gaps, row)?;
         }
         Ok(())
     }
@@ -130,42 +134,36 @@ impl<'a> Writer<'a> {
         Ok(())
     }
 
-    // The lines of a row that isn't the header. Most rows of most tables are plain.
-    fn write_content_row(&mut self, row: &'a Row) -> Result<()>
-        ensures { OnOk result (self.new ≡ with_written (drawn_row self.old.table self.old.infos self.old.table.style.content_lines row.now) self.old) }
+    // The lines of a row. Most rows of most tables are plain.
+    fn write_row(&mut self, gaps: &RowGaps, row: &'a Row) -> Result<()>
+        ensures { OnOk result (self.new ≡ with_written (row_between gaps.now self.old.table self.old.infos row.now) self.old) }
     {
         if let Some(plain) = &self.plain
-            && plain.set_line(&mut self.line, row)?
+            && plain.set_line(&mut self.line, gaps, row)?
         {
             return self.output.push_line(self.line.as_str());
         }
-        let table = self.table;
-        self.write_row(&table.style.content_lines, row)
+        self.write_row_lines(gaps, row)
     }
 
-    // The lines of a row, framed as header lines or as content lines.
-    fn write_row(&mut self, style: &ContentLineStyle, row: &'a Row) -> Result<()>
-        ensures { OnOk result (self.new ≡ with_written (drawn_row self.old.table self.old.infos style.now row.now) self.old) }
+    // The lines of a row, each of which may have several pieces.
+    fn write_row_lines(&mut self, gaps: &RowGaps, row: &'a Row) -> Result<()>
+        ensures { OnOk result (self.new ≡ with_written (row_between gaps.now self.old.table self.old.infos row.now) self.old) }
     {
         let drawn = drawn_cells(row, self.infos, self.table)?;
         let cells = drawn.as_slice();
         for line in 0..greatest_height(cells) {
-            self.write_content_line(style, cells, line)?;
+            self.write_row_line(gaps, cells, line)?;
         }
         Ok(())
     }
 
     // One line of a row, counted from 0.
-    fn write_content_line(
-        &mut self,
-        style: &ContentLineStyle,
-        cells: &[DrawnCell<'a>],
-        line: usize,
-    ) -> Result<()>
-        ensures { OnOk result (self.new ≡ with_written (content_line self.old.table.style style.now (map (piece_at line) cells.now) ∷ []) self.old) }
+    fn write_row_line(&mut self, gaps: &RowGaps, cells: &[DrawnCell<'a>], line: usize) -> Result<()>
+        ensures { OnOk result (self.new ≡ with_written (gap_line gaps.now (map (piece_at line) cells.now) ∷ []) self.old) }
     {
         self.line.clear();
-        push_content_line(&mut self.line, self.table, style, cells, line)?;
+        gaps.push_line(&mut self.line, cells, line)?;
         self.output.push_line(self.line.as_str())
     }
 }

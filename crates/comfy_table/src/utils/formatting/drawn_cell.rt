@@ -1,6 +1,6 @@
 //! The cells of a row as the visible columns draw them.
 
-ghost use Rattle.std.specs.Prelude.{◌≡◌, ◌++◌, IfOk, OnOk, length, map, string_bytes};
+ghost use Rattle.std.specs.Prelude.{◌≡◌, IfOk, length, map};
 ghost use Rattle.std.specs.List.{range_with_len};
 ghost use Rattle.comfy_parts.specs.CellValue.{info_width};
 ghost use Rattle.comfy_table.specs.Pieces.{row_lines, visible_infos};
@@ -9,7 +9,7 @@ ghost use Rattle.comfy_table.specs.DrawnCells.{drawn_cell, greatest_height, piec
 use crate::table::Table;
 use crate::table::column_cells::cell_at;
 use crate::utils::formatting::cell_lines::{CellLines, row_cell_lines};
-use crate::utils::formatting::piece::{push_piece, push_spaces};
+use crate::utils::formatting::piece::Piece;
 use comfy_parts::content_split::ColumnDisplayInfo;
 use comfy_parts::{Cell, Result, Row};
 use std::marker::Model;
@@ -50,17 +50,17 @@ impl<'a> DrawnCell<'a> {
         self.info.width()
     }
 
-    /// Appends the piece of the cell in a line of its row, which is counted from 0.
-    pub fn push_piece_at(&self, text: &mut String, line: usize) -> Result<()>
-        ensures { OnOk result (string_bytes text.new ≡ string_bytes text.old ++ piece_at line self.now) }
+    /// The piece of the cell in a line of its row, which is counted from 0.
+    pub fn piece_at(&self, line: usize) -> Piece<'_>
+        ensures { result ≡ piece_at line self.now }
     {
         let Some((cell, lines)) = &self.content else {
-            return push_spaces(text, self.info.width());
+            return Piece::blank(self.info);
         };
         let Some((columns, written)) = lines.get(line) else {
-            return push_spaces(text, self.info.width());
+            return Piece::blank(self.info);
         };
-        push_piece(text, self.table, cell, self.info, columns, written)
+        Piece::new(self.table, cell, self.info, columns, written)
     }
 }
 

@@ -1,45 +1,144 @@
 //! A line of a cell as it stands in its column.
 
-ghost use Rattle.std.specs.Prelude.{◌≡◌, ◌+◌, ◌-◌, ◌≤◌, ◌++◌, OnOk, string_bytes};
+ghost use Rattle.std.specs.Prelude.{◌≡◌, ◌+◌, ◌-◌, ◌≤◌, ◌++◌, IfOk, OnOk, option_map, string_bytes};
 ghost use Rattle.comfy_parts.specs.Text.{spaces};
-ghost use Rattle.comfy_table.specs.Pieces.{cell_alignment, free_before, text_piece};
+ghost use Rattle.comfy_table.specs.Gaps.{spaced, styled_text};
+ghost use Rattle.comfy_table.specs.Pieces.{blank_piece, cell_alignment, free_before, padded, text_piece};
+ghost use Rattle.comfy_table.specs.Styling.{styled};
 
 use crate::table::Table;
+use crate::utils::formatting::gap::{Gap, push_spaces};
 use crate::utils::formatting::styling::{push_style_begin, push_style_end};
 use comfy_parts::content_split::ColumnDisplayInfo;
 use comfy_parts::style::CellAlignment;
 use comfy_parts::{Cell, Result};
+use std::marker::Model;
 
-/// Appends a line of a cell as it stands in its column: the text that is written for it, aligned by the columns of what is
-/// seen. Where styles are written, they stand round the whole piece, or round the text alone.
-pub fn push_piece(
-    text: &mut String,
-    table: &Table,
-    cell: &Cell,
-    info: &ColumnDisplayInfo,
-    columns: usize,
-    line: &str,
-) -> Result<()>
-    ensures { OnOk result (string_bytes text.new ≡ string_bytes text.old ++ text_piece table.now cell.now info.now columns line.now) }
-{
-    let (left, right) = spaces_beside(cell, info, columns);
-    if !table.should_style() {
-        return push_padded(text, left, line, right);
-    }
-    if table.style_text_only {
-        push_spaces(text, left)?;
-        push_style_begin(text, cell)?;
-        text.push_str(line)?;
-        push_style_end(text, cell)?;
-        return push_spaces(text, right);
-    }
-    push_style_begin(text, cell)?;
-    push_padded(text, left, line, right)?;
-    push_style_end(text, cell)
+/// A line of a cell as it stands in its column: a text between spaces. Where styles are written, they stand round the whole
+/// piece, or round the text alone.
+#[derive(Drop)]
+pub struct Piece<'a> {
+    left: usize,
+    text: &'a str,
+    right: usize,
+    // the cell whose styles are written, and the spaces between them and the text
+    styles: Option<(&'a Cell, (usize, usize))>,
 }
 
-/// The spaces before and after a line of this measure: those that its alignment leaves, and the paddings.
-pub(crate) fn spaces_beside(cell: &Cell, info: &ColumnDisplayInfo, width: usize) -> (usize, usize)
+impl<'a> Model for Piece<'a> {
+    ghost use Rattle.std.specs.Prelude.{option_map};
+    ghost use Rattle.comfy_parts.specs.Text.{Text};
+    ghost use Rattle.comfy_table.specs.Gaps.{spaced, styled_text};
+
+    ghost Value = { Text };
+
+    ghost view = { λ p. spaced (p.left, p.right) (styled_text (option_map (λ s. (s.0.now, s.1)) p.styles) p.text.now) };
+}
+
+impl<'a> Piece<'a> {
+    /// The piece of a line: the text that is written for it, aligned by the columns of what is seen of it.
+    pub fn new(
+        table: &Table,
+        cell: &'a Cell,
+        info: &ColumnDisplayInfo,
+        columns: usize,
+        text: &'a str,
+    ) -> Piece<'a>
+        ensures { result ≡ text_piece table.now cell.now info.now columns text.now }
+    {
+        let (left, right) = spaces_beside(cell, info, columns);
+        if !table.should_style() {
+            return Piece {
+                left,
+                text,
+                right,
+                styles: None,
+            };
+        }
+        if table.style_text_only {
+            return Piece {
+                left,
+                text,
+                right,
+                styles: Some((cell, (0, 0))),
+            };
+        }
+        Piece {
+            left: 0,
+            text,
+            right: 0,
+            styles: Some((cell, (left, right))),
+        }
+    }
+
+    /// The piece of a line where no styles are written.
+    pub fn unstyled(
+        cell: &Cell,
+        info: &ColumnDisplayInfo,
+        columns: usize,
+        text: &'a str,
+    ) -> Piece<'a>
+        ensures { result ≡ padded cell.now info.now columns text.now }
+    {
+        let (left, right) = spaces_beside(cell, info, columns);
+        Piece {
+            left,
+            text,
+            right,
+            styles: None,
+        }
+    }
+
+    /// What stands where a column has no line.
+    pub fn blank(info: &ColumnDisplayInfo) -> Piece<'a>
+        ensures { result ≡ blank_piece info.now }
+    {
+        Piece {
+            left: info.width(),
+            text: "",
+            right: 0,
+            styles: None,
+        }
+    }
+
+    /// Appends a gap, with so many spaces before it, and the piece without the spaces at its end. Returns how many these are:
+    /// the next gap takes them.
+    #[inline(always)]
+    pub fn push(&self, line: &mut String, gap: &Gap, free: usize) -> Result<usize>
+        ensures { IfOk result (λ right. string_bytes line.new ++ spaces right ≡ string_bytes line.old ++ (spaces free ++ (gap.now ++ self.now))) }
+    {
+        gap.push(line, free, self.left)?;
+        push_text(line, self.text, self.styles)?;
+        Ok(self.right)
+    }
+}
+
+// Appends a text, in the styles of a cell where there is one.
+fn push_text(line: &mut String, text: &str, styles: Option<(&Cell, (usize, usize))>) -> Result<()>
+    ensures { OnOk result (string_bytes line.new ≡ string_bytes line.old ++ styled_text (option_map (λ s. (s.0.now, s.1)) styles.entry) text.now) }
+{
+    if let Some((cell, beside)) = styles {
+        return push_styled(line, text, cell, beside);
+    }
+    line.push_str(text)?;
+    Ok(())
+}
+
+// Appends a text between spaces, in the styles of a cell. Most tables write none.
+#[inline(never)]
+fn push_styled(line: &mut String, text: &str, cell: &Cell, beside: (usize, usize)) -> Result<()>
+    ensures { OnOk result (string_bytes line.new ≡ string_bytes line.old ++ styled cell.now (spaced beside text.now)) }
+{
+    let (left, right) = beside;
+    push_style_begin(line, cell)?;
+    push_spaces(line, left)?;
+    line.push_str(text)?;
+    push_spaces(line, right)?;
+    push_style_end(line, cell)
+}
+
+// The spaces before and after a line of this measure: those that its alignment leaves, and the paddings.
+fn spaces_beside(cell: &Cell, info: &ColumnDisplayInfo, width: usize) -> (usize, usize)
     ensures left { result.0 ≡ info.now.padding.0 + free_before (cell_alignment cell.now info.now) (info.now.content_width - width) }
     ensures right { result.1 ≡ info.now.content_width - width - free_before (cell_alignment cell.now info.now) (info.now.content_width - width) + info.now.padding.1 }
 {
@@ -47,37 +146,6 @@ pub(crate) fn spaces_beside(cell: &Cell, info: &ColumnDisplayInfo, width: usize)
     let before = free_before(cell_alignment(cell, info), free);
     let (left, right) = info.padding;
     (left as usize + before, free - before + right as usize)
-}
-
-// Appends a line between spaces.
-fn push_padded(text: &mut String, left: usize, line: &str, right: usize) -> Result<()>
-    ensures { OnOk result (string_bytes text.new ≡ string_bytes text.old ++ (spaces left ++ (line.now ++ spaces right))) }
-{
-    push_spaces(text, left)?;
-    text.push_str(line)?;
-    push_spaces(text, right)
-}
-
-/// Appends that many spaces.
-pub fn push_spaces(text: &mut String, count: usize) -> Result<()>
-    ensures { OnOk result (string_bytes text.new ≡ string_bytes text.old ++ spaces count) }
-{
-    let run = run_of_spaces();
-    let mut left = count;
-    while left > run.len() {
-        text.push_str(run)?;
-        left -= run.len();
-    }
-    let (front, _) = run.split_at(left);
-    text.push_str(front)?;
-    Ok(())
-}
-
-/// As many spaces as are copied at once.
-pub(crate) fn run_of_spaces() -> &'static str
-    ensures { result.now ≡ spaces 64 }
-{
-    "                                                                "
 }
 
 // The cell's own alignment, else its column's, else left.

@@ -29,4 +29,4 @@ returns c =
     let is : c.as_str.result.now ≡ spaces n ++ (border ++ spaces n) = grind (arith, long) in
     let left : c.split_at.result.1.now ≡ spaces c.args.before ++ (border ++ spaces n) = c.split_at.ensures.back ∙ first_left c.as_str.result.now border n c.args.before c.args.after is c.as_str-border.utf8 c.if-before-run.false c.if-after-run.false in
     let gap : c.split_at-2.result.0.now ≡ spaces c.args.before ++ (border ++ spaces c.args.after) = c.split_at-2.ensures.front ∙ ap (take (c.args.before + length border + c.args.after)) left ∙ copied c.as_str.result.now border n c.args.before c.args.after is c.as_str-border.utf8 c.if-before-run.false c.if-after-run.false in
-    c.in_ok-push_str-2.ensures.bytes ∙ ap (λ (t : Text). string_bytes c.args.text.now ++ t) (gap ∙ ap (λ (t : Text). spaces c.args.before ++ (t ++ spaces c.args.after)) (c.as_str-border.ensures.value ∙ c.self.view_is))
+    c.in_ok-push_str.ensures.bytes ∙ ap (λ (t : Text). string_bytes c.args.text.now ++ t) (gap ∙ ap (λ (t : Text). spaces c.args.before ++ (t ++ spaces c.args.after)) (c.as_str-border.ensures.value ∙ c.self.view_is))

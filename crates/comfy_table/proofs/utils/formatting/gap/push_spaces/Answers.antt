@@ -1,7 +1,7 @@
 use Rattle.std.proofs.Common.{◌<◌, ◌-◌, ◌++◌, length, ap, ◌∙◌, arith, string_bytes}
 use Rattle.comfy_parts.specs.Text.{Text, spaces}
 use Rattle.comfy_table.proofs.SpaceLemmas.{space-at, spaces-front, spaces-taken}
-use Rattle.comfy_table.proofs.utils.formatting.piece.push_spaces.Goals as goal
+use Rattle.comfy_table.proofs.utils.formatting.gap.push_spaces.Goals as goal
 
 pub loop-left-preserved : goal.loop-left-preserved
 loop-left-preserved c =

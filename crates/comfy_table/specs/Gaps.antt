@@ -1,0 +1,47 @@
+-- Private: the lines of a row as pieces between gaps.
+use Rattle.std.specs.Prelude.{ℕ, Bool, List, [], ◌++◌, Option, Some, None, map, nat_lt, if◌then◌else◌}
+use Rattle.std.specs.List.{join_by}
+use Rattle.comfy_parts.specs.CellValue.{CellValue, ColumnInfo, RowValue}
+use Rattle.comfy_parts.specs.Text.{Text, spaces}
+use Rattle.comfy_parts.specs.declared.style.table_style.ContentLineStyle.{ContentLineStyle}
+use Rattle.comfy_parts.specs.declared.style.table_style.TableStyle.{TableStyle}
+use Rattle.comfy_table.specs.Frame.{character, draws_left_border, draws_right_border, draws_vertical_lines}
+use Rattle.comfy_table.specs.Pieces.{row_lines}
+use Rattle.comfy_table.specs.Styling.{styled}
+use Rattle.comfy_table.specs.TableValue.{TableValue}
+
+-- a text between so many spaces
+abbrev pub spaced : ℕ × ℕ → Text → Text
+spaced beside text = spaces beside.0 ++ (text ++ spaces beside.1)
+
+-- a text, or the text between spaces in the styles of a cell
+abbrev pub styled_text : Option (CellValue × (ℕ × ℕ)) → Text → Text
+styled_text None text = text
+styled_text (Some styles) text = styled styles.0 (spaced styles.1 text)
+
+-- what stands before the first piece of a line, between two, and after the last
+pub record RowGapsValue : Type 0 where
+  pub left : Text
+  pub junction : Text
+  pub right : Text
+
+-- a character of the style, where it is drawn
+abbrev pub drawn_character : Bool → Option ℕ → Text
+drawn_character drawn part = if drawn then character part else []
+
+-- the gaps of the drawn borders of a line
+abbrev pub row_gaps : TableStyle → ContentLineStyle → RowGapsValue
+row_gaps style line =
+    record { left = drawn_character (draws_left_border style) line.left; junction = drawn_character (draws_vertical_lines style) line.junction; right = drawn_character (draws_right_border style) line.right }
+
+-- the gap before the piece at a position
+abbrev pub gap_before : ℕ → RowGapsValue → Text
+gap_before position gaps = if nat_lt 0 position then gaps.junction else gaps.left
+
+-- a line of these pieces
+abbrev pub gap_line : RowGapsValue → List Text → Text
+gap_line gaps pieces = gaps.left ++ (join_by (λ (piece : Text). piece) gaps.junction pieces ++ gaps.right)
+
+-- the lines of a row
+abbrev pub row_between : RowGapsValue → TableValue → List ColumnInfo → RowValue → List Text
+row_between gaps table infos row = map (gap_line gaps) (row_lines table infos row)

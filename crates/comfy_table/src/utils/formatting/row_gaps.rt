@@ -1,0 +1,88 @@
+//! The lines of a row as pieces between gaps.
+
+ghost use Rattle.std.specs.Prelude.{◌≡◌, ◌++◌, IfOk, OnOk, map, string_bytes};
+ghost use Rattle.comfy_parts.specs.Text.{spaces};
+ghost use Rattle.comfy_table.specs.DrawnCells.{piece_at};
+ghost use Rattle.comfy_table.specs.Gaps.{drawn_character, gap_before, gap_line, row_gaps};
+
+use crate::table::Table;
+use crate::utils::formatting::borders::push_border;
+use crate::utils::formatting::drawn_cell::DrawnCell;
+use crate::utils::formatting::gap::Gap;
+use comfy_parts::Result;
+use comfy_parts::style::ContentLineStyle;
+use std::alloc::Global;
+use std::marker::Model;
+
+/// The gaps in the lines of a row: before the first piece, between two, and after the last.
+#[derive(Drop)]
+pub struct RowGaps {
+    left: Gap,
+    junction: Gap,
+    right: Gap,
+}
+
+impl Model for RowGaps {
+    ghost use Rattle.comfy_table.specs.Gaps.{RowGapsValue};
+
+    ghost Value = { RowGapsValue };
+
+    ghost view = { λ g. record { left = g.left; junction = g.junction; right = g.right } };
+}
+
+impl RowGaps {
+    /// The gaps of a line of a table's rows.
+    pub fn new(table: &Table, line: &ContentLineStyle) -> Result<RowGaps>
+        ensures { IfOk result (λ gaps. gaps ≡ row_gaps table.now.style line.now) }
+    {
+        let alloc = *table.columns.allocator();
+        let style = &table.style;
+        Ok(RowGaps {
+            left: gap(alloc, style.draws_left_border(), line.left)?,
+            junction: gap(alloc, style.draws_vertical_lines(), line.junction)?,
+            right: gap(alloc, style.draws_right_border(), line.right)?,
+        })
+    }
+
+    /// The gap before the piece at this position.
+    pub fn before(&self, position: usize) -> &Gap
+        ensures { result.now ≡ gap_before position self.now }
+    {
+        if position > 0 {
+            &self.junction
+        } else {
+            &self.left
+        }
+    }
+
+    /// Appends what ends a line: so many spaces and the last gap.
+    pub fn push_end(&self, text: &mut String, free: usize) -> Result<()>
+        ensures { OnOk result (string_bytes text.new ≡ string_bytes text.old ++ (spaces free ++ self.now.right)) }
+    {
+        self.right.push(text, free, 0)
+    }
+
+    /// Appends a line of these cells. Lines of a row are counted from 0.
+    pub fn push_line(&self, text: &mut String, cells: &[DrawnCell], line: usize) -> Result<()>
+        ensures { OnOk result (string_bytes text.new ≡ string_bytes text.old ++ gap_line self.now (map (piece_at line) cells.now)) }
+    {
+        if cells.is_empty() {
+            self.left.push(text, 0, 0)?;
+            return self.push_end(text, 0);
+        }
+        let mut free = 0;
+        for (position, cell) in cells.iter().enumerate() {
+            free = cell.piece_at(line).push(text, self.before(position), free)?;
+        }
+        self.push_end(text, free)
+    }
+}
+
+// The gap of a character of the style, where it is drawn.
+fn gap(alloc: Global, drawn: bool, part: Option<char>) -> Result<Gap>
+    ensures { IfOk result (λ gap. gap ≡ drawn_character drawn part) }
+{
+    let mut border = String::new(alloc);
+    push_border(&mut border, drawn, part)?;
+    Gap::new(border)
+}
