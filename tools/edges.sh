@@ -100,4 +100,49 @@ misuse 'an arrangement that is no text' 40 "$behind"
 misuse 'a style that is no text' 40 dynamic "$early"
 misuse 'a fourth word that is no text' 40 dynamic UTF8_FULL "$byte"
 
+[ "$name" = csvtable ] || exit $ended
+
+# The rest is said of csvtable alone: its files, and inputs that it refuses.
+refused() {
+  run=$1
+  line=$2
+  shift 2
+  "$program" "$@" < "$work/input" > "$work/out" 2> "$work/err"
+  compare "$run" $? 1 "csvtable: $line"
+}
+printf 'a,b\nx,y\n' > "$work/input"
+refused 'a file that is not there' "the input can't be read" "$work/none"
+refused 'a folder as a file' "the input can't be read" "$work"
+refused 'a column that is not there' 'there is no column 9' -c 9
+printf 'a,b\nx,\377\n' > "$work/input"
+refused 'a record that is not UTF-8' "record 2 isn't UTF-8"
+refused 'such a record in a file' "record 2 isn't UTF-8" "$work/input"
+
+# Compares two runs that have to write the same, and not nothing.
+same() {
+  if [ -s "$work/first" ] && cmp -s "$work/first" "$work/second"; then
+    echo "$1: the same is written"
+  else
+    echo "$1: BROKEN: not the same is written"
+    ended=1
+  fi
+}
+printf 'a,b\nx,y\n' > "$work/input"
+"$program" < "$work/input" > "$work/first"
+"$program" "$work/input" > "$work/second" < /dev/null
+same 'a file, and standard input'
+"$program" - < "$work/input" > "$work/second"
+same 'a hyphen, and no file'
+COLUMNS=5 "$program" < "$work/input" > "$work/second"
+same 'COLUMNS where standard output is no terminal'
+"$program" -h > "$work/first"
+"$program" --help > "$work/second"
+same '-h and --help'
+"$program" -V > "$work/first"
+echo 'csvtable 1.0.0' > "$work/second"
+same '-V'
+: > "$work/out"
+"$program" --wide < "$work/input" > "$work/out" 2> "$work/err"
+compare 'a word that is not known' $? 2 "$(cat "$work/err")"
+
 exit $ended

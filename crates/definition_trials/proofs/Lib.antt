@@ -5,6 +5,7 @@ mod InputTrials
 mod OutcomeTrials
 mod PremiseTrials
 mod PresetTrials
+mod RecordTrials
 mod StraightTrials
 mod StyleModifierTrials
 mod StylingTrials

@@ -1,0 +1,98 @@
+-- What `csvtable` makes of fields and columns: numbers, control characters, Markdown, chosen columns, alignment.
+use Rattle.std.proofs.Common.{◌≡◌, ℕ, Bool, true, false, List, [], ◌∷◌, ◌++◌, Option, Some, None, Ok, Err, codes, fold, map, refl}
+use Prim.Native.String.{String}
+use Rattle.comfy_parts.specs.Text.{Text}
+use Rattle.comfy_parts.specs.declared.style.cell.CellAlignment.{CellAlignment}
+use Rattle.comfy_parts.specs.declared.style.cell.CellAlignment.TheVariants.{Left, Right}
+use Rattle.comfy_csv.specs.Cleaning.{after_character, start}
+use Rattle.comfy_csv.specs.Columns.{alignment_for, columns_with, position_named, positions_of}
+use Rattle.comfy_csv.specs.Drawn.{limited, note_for}
+use Rattle.comfy_csv.specs.Markdown.{escaped, unescaped}
+use Rattle.comfy_csv.specs.Number.{is_number}
+use Rattle.comfy_csv.specs.declared.options.ColumnChoice.{ColumnChoice}
+use Rattle.comfy_csv.specs.declared.options.ColumnChoice.TheVariants.{Numbers}
+
+abbrev texts : List String → List Text
+texts words = map (λ (word : String). codes word) words
+
+-- ---- numbers
+
+numbers : map is_number (texts ("0" ∷ "-12" ∷ "+12.50" ∷ "1_000" ∷ "-1,234.5" ∷ ".5" ∷ "8.1e4" ∷ "2E-3" ∷ "7%" ∷ "-$12" ∷ "$3e2%" ∷ [])) ≡ true ∷ true ∷ true ∷ true ∷ true ∷ true ∷ true ∷ true ∷ true ∷ true ∷ true ∷ []
+numbers = refl
+
+-- a pound, a yen and a euro in UTF-8
+other_currencies : map is_number ((0xC2 ∷ 0xA3 ∷ 0x35 ∷ []) ∷ (0xC2 ∷ 0xA5 ∷ 0x35 ∷ []) ∷ (0x2D ∷ 0xE2 ∷ 0x82 ∷ 0xAC ∷ 0x35 ∷ []) ∷ (0xC2 ∷ 0x35 ∷ []) ∷ []) ≡ true ∷ true ∷ true ∷ false ∷ []
+other_currencies = refl
+
+no_numbers : map is_number (texts ("" ∷ "-" ∷ "." ∷ "$" ∷ "%" ∷ "e5" ∷ "1e" ∷ "1e+" ∷ "1e2.5" ∷ "1-2" ∷ "--1" ∷ "1 2" ∷ " 1" ∷ "12a" ∷ "5$" ∷ "%5" ∷ [])) ≡ false ∷ false ∷ false ∷ false ∷ false ∷ false ∷ false ∷ false ∷ false ∷ false ∷ false ∷ false ∷ false ∷ false ∷ false ∷ false ∷ []
+no_numbers = refl
+
+-- ---- fields as they are drawn
+
+abbrev drawn : Bool → List ℕ → Text
+drawn keeps_escape characters = (fold (after_character keeps_escape) start characters).text
+
+-- TABs go to the next multiple of four, and each line begins anew
+tabs : drawn false (0x61 ∷ 0x09 ∷ 0x62 ∷ 0x09 ∷ 0x09 ∷ 0x63 ∷ 0x0A ∷ 0x09 ∷ 0x64 ∷ []) ≡ codes "a   b       c" ++ 0x0A ∷ codes "    d"
+tabs = refl
+
+-- a wide character takes two terminal columns
+wide_before_a_tab : drawn false (0x738B ∷ 0x09 ∷ 0x62 ∷ []) ≡ 0xE7 ∷ 0x8E ∷ 0x8B ∷ codes "  b"
+wide_before_a_tab = refl
+
+line_breaks : drawn false (0x61 ∷ 0x0D ∷ 0x0A ∷ 0x62 ∷ 0x0D ∷ 0x63 ∷ 0x0A ∷ 0x0D ∷ 0x64 ∷ []) ≡ 0x61 ∷ 0x0A ∷ 0x62 ∷ 0x0A ∷ 0x63 ∷ 0x0A ∷ 0x0A ∷ 0x64 ∷ []
+line_breaks = refl
+
+-- BEL and ESC become U+FFFD; ESC stays where sequences count nothing
+control_characters : drawn false (0x07 ∷ 0x1B ∷ []) ≡ 0xEF ∷ 0xBF ∷ 0xBD ∷ 0xEF ∷ 0xBF ∷ 0xBD ∷ []
+control_characters = refl
+
+kept_escape : drawn true (0x07 ∷ 0x1B ∷ []) ≡ 0xEF ∷ 0xBF ∷ 0xBD ∷ 0x1B ∷ []
+kept_escape = refl
+
+-- ---- Markdown
+
+escapes : escaped (codes "a|b<c" ++ 0x0A ∷ 0x5C ∷ []) ≡ codes "a" ++ 0x5C ∷ codes "|b" ++ 0x5C ∷ codes "<c<br>" ++ 0x5C ∷ 0x5C ∷ []
+escapes = refl
+
+read_back : unescaped (codes "<br>" ++ 0x5C ∷ codes "<br>") ≡ 0x0A ∷ codes "<br>"
+read_back = refl
+
+-- ---- columns
+
+by_number : positions_of [] 4 (Numbers 4 4 ∷ Numbers 1 2 ∷ []) ≡ Ok (3 ∷ 0 ∷ 1 ∷ [])
+by_number = refl
+
+by_name : position_named (codes "b") (texts ("a" ∷ "b" ∷ "b" ∷ [])) ≡ Some 1
+by_name = refl
+
+no_such_name : position_named (codes "c") (texts ("a" ∷ "b" ∷ [])) ≡ None
+no_such_name = refl
+
+-- what a message names: the range that ends before it begins, 0, the number past the last column, the first of two
+missing_columns :
+    map (positions_of [] 3) ((Numbers 3 1 ∷ []) ∷ (Numbers 0 1 ∷ []) ∷ (Numbers 9 9 ∷ []) ∷ (Numbers 2 9 ∷ []) ∷ (Numbers 1 1 ∷ Numbers 5 5 ∷ Numbers 4 4 ∷ []) ∷ [])
+    ≡ Err (codes "3-1") ∷ Err (codes "0") ∷ Err (codes "9") ∷ Err (codes "9") ∷ Err (codes "5") ∷ []
+missing_columns = refl
+
+columns_before_right : columns_with [] (Err (codes "a")) (Err (codes "b")) (Err (codes "c")) ≡ Err (codes "a")
+columns_before_right = refl
+
+abbrev rows : List (List Text)
+rows = texts ("x" ∷ "1" ∷ "2" ∷ []) ∷ texts ("3" ∷ "" ∷ []) ∷ []
+
+-- a column with a word, one with an empty field, one with a missing field, and one that has none
+alignments : map (alignment_for [] [] rows) (0 ∷ 1 ∷ 2 ∷ 3 ∷ []) ≡ None ∷ Some Right ∷ Some Right ∷ Some Right ∷ []
+alignments = refl
+
+-- the right wins over the left, and both over numbers
+chosen_alignments : map (alignment_for (0 ∷ []) (0 ∷ 1 ∷ []) rows) (0 ∷ 1 ∷ []) ≡ Some Right ∷ Some Left ∷ []
+chosen_alignments = refl
+
+-- ---- the line on records that aren't drawn
+
+notes : map (note_for (Some 2)) (1 ∷ 2 ∷ 3 ∷ []) ≡ [] ∷ [] ∷ codes "2 of 3 records" ++ 0x0A ∷ [] ∷ []
+notes = refl
+
+first_rows : limited (Some 2) (1 ∷ 2 ∷ 3 ∷ []) ≡ 1 ∷ 2 ∷ []
+first_rows = refl
