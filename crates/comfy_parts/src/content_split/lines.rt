@@ -1,9 +1,10 @@
 //! The lines of a wrapped text, one after another.
 
-ghost use Rattle.std.specs.Prelude.{◌≡◌, ◌≤◌};
+ghost use Rattle.std.specs.Prelude.{◌≡◌, ◌≤◌, ◌∷◌, [], IfSome, None};
 ghost use Rattle.std.specs.Iterator.{YieldsFirstBy, item_count};
 ghost use Rattle.comfy_parts.specs.Following.{AreColumnsUpTo, IsWideFrom};
 ghost use Rattle.comfy_parts.specs.Laws.{IsPlain};
+ghost use Rattle.comfy_parts.specs.Text.{measure};
 ghost use Rattle.comfy_parts.specs.Wrapping.{IsWrapped, wrapped};
 
 use crate::content_split::display_info::ColumnDisplayInfo;
@@ -104,6 +105,22 @@ fn lines_behind<'a>(text: &'a str, width: usize, delimiter: char) -> WrappedLine
         wide: word.len() + 1,
         width,
         delimiter,
+    }
+}
+
+impl<'a> WrappedLines<'a> {
+    /// The next line, and the terminal columns that it takes. Printable ASCII isn't measured again.
+    pub fn next_measured(&mut self) -> Option<(&'a str, usize)>
+        ensures ended { result ≡ None → self.old ≡ [] }
+        ensures line { IfSome result (λ line. self.old ≡ line.0.now ∷ self.new) }
+        ensures columns { IfSome result (λ line. line.1 ≡ measure line.0.now) }
+    {
+        let is_plain = self.is_plain;
+        let line = self.next()?;
+        if is_plain {
+            return Some((line, line.len()));
+        }
+        Some((line, measure_text_width(line)))
     }
 }
 

@@ -9,7 +9,7 @@ ghost use Rattle.comfy_table.specs.TableValue.{seen_cell};
 
 use crate::table::Table;
 use crate::table::column_cells::cell_at;
-use comfy_parts::content_split::{ColumnDisplayInfo, measure_text_width, wrapped_lines};
+use comfy_parts::content_split::{ColumnDisplayInfo, wrapped_lines};
 use comfy_parts::{Cell, Result, Row};
 
 /// The terminal columns that the widest line of a table's column takes, over header and rows, where each cell is
@@ -119,8 +119,9 @@ fn wrapped_longest_line(text: &str, info: &ColumnDisplayInfo, delimiter: char) -
     ensures { result ≡ greatest (map measure (wrapped info.now.content_width delimiter text.now)) }
 {
     let mut longest = 0;
-    for line in wrapped_lines(text, info, delimiter) {
-        longest = measure_text_width(line).max(longest);
+    let mut wrapped = wrapped_lines(text, info, delimiter);
+    while let Some((_line, columns)) = wrapped.next_measured() {
+        longest = columns.max(longest);
     }
     longest
 }

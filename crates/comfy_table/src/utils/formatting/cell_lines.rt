@@ -203,8 +203,8 @@ fn push_wrapped<'a>(
 ) -> Result<()>
     ensures { OnOk result (lines.new.items ≡ lines.old.items ++ map drawn_text (wrapped info.now.content_width delimiter text.now)) }
 {
-    for line in wrapped_lines(text, info, delimiter) {
-        let columns = measure_text_width(line);
+    let mut wrapped = wrapped_lines(text, info, delimiter);
+    while let Some((line, columns)) = wrapped.next_measured() {
         let text = CowStr::Borrowed(line);
         lines.push(Line { columns, text })?;
     }
