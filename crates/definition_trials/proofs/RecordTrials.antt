@@ -1,15 +1,15 @@
 -- What `csvtable` makes of fields and columns: numbers, control characters, Markdown, chosen columns, alignment.
-use Rattle.std.proofs.Common.{◌≡◌, ℕ, Bool, true, false, List, [], ◌∷◌, ◌++◌, Option, Some, None, Ok, Err, codes, fold, map, refl}
+use Rattle.std.proofs.Common.{◌≡◌, ℕ, Bool, true, false, List, [], ◌∷◌, ◌++◌, Some, None, Ok, Err, codes, decimal, fold, map, refl}
 use Prim.Native.String.{String}
+use Rattle.comfy_parts.proofs.Computing.{wrapping}
 use Rattle.comfy_parts.specs.Text.{Text}
-use Rattle.comfy_parts.specs.declared.style.cell.CellAlignment.{CellAlignment}
 use Rattle.comfy_parts.specs.declared.style.cell.CellAlignment.TheVariants.{Left, Right}
+use Rattle.csv.specs.Records.{field_at}
 use Rattle.comfy_csv.specs.Cleaning.{after_character, start}
 use Rattle.comfy_csv.specs.Columns.{alignment_for, columns_with, position_named, positions_of}
 use Rattle.comfy_csv.specs.Drawn.{limited, note_for}
 use Rattle.comfy_csv.specs.Markdown.{escaped, unescaped}
 use Rattle.comfy_csv.specs.Number.{is_number}
-use Rattle.comfy_csv.specs.declared.options.ColumnChoice.{ColumnChoice}
 use Rattle.comfy_csv.specs.declared.options.ColumnChoice.TheVariants.{Numbers}
 
 abbrev texts : List String → List Text
@@ -34,20 +34,25 @@ drawn keeps_escape characters = (fold (after_character keeps_escape) start chara
 
 -- TABs go to the next multiple of four, and each line begins anew
 tabs : drawn false (0x61 ∷ 0x09 ∷ 0x62 ∷ 0x09 ∷ 0x09 ∷ 0x63 ∷ 0x0A ∷ 0x09 ∷ 0x64 ∷ []) ≡ codes "a   b       c" ++ 0x0A ∷ codes "    d"
+unfolding wrapping lib.Utf8.encode
 tabs = refl
 
 -- a wide character takes two terminal columns
 wide_before_a_tab : drawn false (0x738B ∷ 0x09 ∷ 0x62 ∷ []) ≡ 0xE7 ∷ 0x8E ∷ 0x8B ∷ codes "  b"
+unfolding wrapping lib.Utf8.encode
 wide_before_a_tab = refl
 
 line_breaks : drawn false (0x61 ∷ 0x0D ∷ 0x0A ∷ 0x62 ∷ 0x0D ∷ 0x63 ∷ 0x0A ∷ 0x0D ∷ 0x64 ∷ []) ≡ 0x61 ∷ 0x0A ∷ 0x62 ∷ 0x0A ∷ 0x63 ∷ 0x0A ∷ 0x0A ∷ 0x64 ∷ []
+unfolding wrapping lib.Utf8.encode
 line_breaks = refl
 
 -- BEL and ESC become U+FFFD; ESC stays where sequences count nothing
 control_characters : drawn false (0x07 ∷ 0x1B ∷ []) ≡ 0xEF ∷ 0xBF ∷ 0xBD ∷ 0xEF ∷ 0xBF ∷ 0xBD ∷ []
+unfolding wrapping lib.Utf8.encode
 control_characters = refl
 
 kept_escape : drawn true (0x07 ∷ 0x1B ∷ []) ≡ 0xEF ∷ 0xBF ∷ 0xBD ∷ 0x1B ∷ []
+unfolding wrapping lib.Utf8.encode
 kept_escape = refl
 
 -- ---- Markdown
@@ -72,7 +77,7 @@ no_such_name = refl
 -- what a message names: the range that ends before it begins, 0, the number past the last column, the first of two
 missing_columns :
     map (positions_of [] 3) ((Numbers 3 1 ∷ []) ∷ (Numbers 0 1 ∷ []) ∷ (Numbers 9 9 ∷ []) ∷ (Numbers 2 9 ∷ []) ∷ (Numbers 1 1 ∷ Numbers 5 5 ∷ Numbers 4 4 ∷ []) ∷ [])
-    ≡ Err (codes "3-1") ∷ Err (codes "0") ∷ Err (codes "9") ∷ Err (codes "9") ∷ Err (codes "5") ∷ []
+    ≡ Err (decimal 3 ++ (codes "-" ++ decimal 1)) ∷ Err (codes "0") ∷ Err (decimal 9) ∷ Err (decimal 9) ∷ Err (decimal 5) ∷ []
 missing_columns = refl
 
 columns_before_right : columns_with [] (Err (codes "a")) (Err (codes "b")) (Err (codes "c")) ≡ Err (codes "a")
@@ -83,16 +88,18 @@ rows = texts ("x" ∷ "1" ∷ "2" ∷ []) ∷ texts ("3" ∷ "" ∷ []) ∷ []
 
 -- a column with a word, one with an empty field, one with a missing field, and one that has none
 alignments : map (alignment_for [] [] rows) (0 ∷ 1 ∷ 2 ∷ 3 ∷ []) ≡ None ∷ Some Right ∷ Some Right ∷ Some Right ∷ []
+unfolding field_at
 alignments = refl
 
 -- the right wins over the left, and both over numbers
 chosen_alignments : map (alignment_for (0 ∷ []) (0 ∷ 1 ∷ []) rows) (0 ∷ 1 ∷ []) ≡ Some Right ∷ Some Left ∷ []
+unfolding field_at
 chosen_alignments = refl
 
 -- ---- the line on records that aren't drawn
 
-notes : map (note_for (Some 2)) (1 ∷ 2 ∷ 3 ∷ []) ≡ [] ∷ [] ∷ codes "2 of 3 records" ++ 0x0A ∷ [] ∷ []
+notes : map (note_for (Some 2)) (1 ∷ 2 ∷ 3 ∷ []) ≡ [] ∷ [] ∷ (((decimal 2 ++ codes " of ") ++ decimal 3) ++ codes " records\n") ∷ []
 notes = refl
 
-first_rows : limited (Some 2) (1 ∷ 2 ∷ 3 ∷ []) ≡ 1 ∷ 2 ∷ []
+first_rows : limited {A = ℕ} (Some 2) (1 ∷ 2 ∷ 3 ∷ []) ≡ 1 ∷ 2 ∷ []
 first_rows = refl
