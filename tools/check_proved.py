@@ -8,10 +8,12 @@
 - README.md: each label that it cites is a heading of PROVED.md, and what it prints is the output of the stored run.
 - CALLING.md of each library: each clause that it quotes stands in the library's source or in that of a caller.
 - Each mutation changes a function that exists.
+- The examples of doc comments are those that documented_examples runs (tools/doc_examples.py).
 """
 import glob
 import os
 import re
+import subprocess
 import sys
 
 TOP = os.path.dirname(os.path.dirname(os.path.realpath(__file__)))
@@ -107,6 +109,9 @@ def main():
     wrong += [f"README.md doesn't print crates/{path}" for path in STORED if text_of(f"crates/{path}") not in readme]
     for path in glob.glob("crates/*/CALLING.md", root_dir=TOP):
         wrong += wrong_in_calling(path.split("/")[1])
+    examples = subprocess.run([f"{TOP}/tools/doc_examples.py", "--check"], stdout=subprocess.PIPE, text=True, check=False)
+    if examples.returncode != 0:
+        wrong.append(examples.stdout.strip())
     believed = lines_to_believe()
     if f"the {believed} lines" not in page:
         wrong.append(f"docs/PROVED.md doesn't name the {believed} lines of definitions to believe")

@@ -19,7 +19,9 @@ use text_lines::TextLines;
 /// One cell of a table. It has at least one text line, and no text line holds a line feed.
 ///
 /// ```
-/// let cell = Cell::new(alloc, "rent")?.fg(Color::Red).set_alignment(CellAlignment::Right);
+/// let cell = Cell::new(alloc, "rent")?
+///     .fg(Color::Red)
+///     .set_alignment(CellAlignment::Right);
 /// ```
 #[derive(Debug, Drop)]
 pub struct Cell {
@@ -44,6 +46,10 @@ impl Model for Cell {
 impl Cell {
     /// The cell of the text that `content` prints: its text lines are what stands between the line feeds. After running
     /// out of memory `content` is dropped. An error of its own `Display` is returned as `OutOfMemory` too.
+    ///
+    /// ```
+    /// let cells = [Cell::new(alloc, "rent")?, Cell::new(alloc, 1200)?];
+    /// ```
     pub fn new<T: Display + Drop>(alloc: Global, content: T) -> Result<Cell>
         ensures value { IfOk result (λ cell. IfSome (T.output content) (λ text. cell ≡ plain_cell text)) }
         ensures content { IfOk result (λ cell. IfSome (T.output content) (λ text. content_of cell ≡ text)) }
@@ -108,6 +114,12 @@ impl Cell {
     }
 
     /// Sets the colour of the text.
+    ///
+    /// ```
+    /// let amount = -12;
+    /// let color = if amount < 0 { Color::Red } else { Color::Green };
+    /// let cell = Cell::new(alloc, amount)?.fg(color);
+    /// ```
     pub fn fg(mut self, color: Color) -> Cell
         ensures { result ≡ record self { foreground = Some color } }
     {
@@ -125,6 +137,10 @@ impl Cell {
 
     /// Adds an attribute after those that the cell has. Attributes are written once each, in a fixed order, however
     /// often they were added. After running out of memory the cell is dropped.
+    ///
+    /// ```
+    /// let cell = Cell::new(alloc, "Sum")?.add_attribute(Attribute::Bold)?;
+    /// ```
     pub fn add_attribute(mut self, attribute: Attribute) -> Result<Cell>
         ensures { IfOk result (λ cell. cell ≡ record self { attributes = self.attributes ++ attribute ∷ [] }) }
     {

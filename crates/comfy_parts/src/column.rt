@@ -115,6 +115,10 @@ impl Column {
     }
 
     /// Sets the constraint on the column's width, in place of an earlier one.
+    ///
+    /// ```
+    /// column.set_constraint(ColumnConstraint::Absolute(Width::Percentage(33)));
+    /// ```
     pub fn set_constraint(&mut self, constraint: ColumnConstraint) -> &mut Self
         ensures same_reference { result.ghost_name ≡ self.entry.ghost_name }
         ensures value { result.now ≡ record self.old { constraint = Some constraint } }
@@ -133,6 +137,10 @@ impl Column {
     }
 
     /// Sets where the texts of the column stand, unless a cell has an alignment of its own.
+    ///
+    /// ```
+    /// column.set_cell_alignment(CellAlignment::Right);
+    /// ```
     pub fn set_cell_alignment(&mut self, alignment: CellAlignment)
         ensures { self.new ≡ record self.old { alignment = Some alignment } }
     {

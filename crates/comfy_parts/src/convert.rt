@@ -15,6 +15,10 @@ pub use items::Items;
 use std::alloc::Global;
 
 /// A value that a cell can be made of: a text, a whole number, a truth value, a character, or a cell.
+///
+/// ```
+/// let cell = "dock 3".into_cell(alloc)?.fg(Color::Green);
+/// ```
 pub trait IntoCell: Drop {
     // the cell that the value stands for
     ghost cell_of: { Self → CellValue };
@@ -28,7 +32,8 @@ pub trait IntoCell: Drop {
 /// of. A borrowed `Vec`, array or slice is such a list where its items are `Copy`, as `&str` and numbers are.
 ///
 /// ```
-/// [Cell::new(alloc, "open")?.fg(Color::Green), Cell::new(alloc, "dock 3")?].into_cells(alloc)?
+/// let open = Cell::new(alloc, "open")?.fg(Color::Green);
+/// let cells = [open, Cell::new(alloc, "dock 3")?].into_cells(alloc)?;
 /// ```
 pub trait IntoCells: Drop {
     // the cells that the value stands for
@@ -42,7 +47,7 @@ pub trait IntoCells: Drop {
 /// A value that a row can be made of: a row, or a list that cells can be made of (`IntoCells`).
 ///
 /// ```
-/// ("width", 80u16, true).into_row(alloc)?
+/// let row = ("width", 80u16, true).into_row(alloc)?;
 /// ```
 pub trait IntoRow: Drop {
     // the row that the value stands for

@@ -7,6 +7,12 @@ use std::alloc::{AllocError, AllocFailed};
 use thiserror::Error;
 
 /// Why a cell, a row, a table or a drawing couldn't be made.
+///
+/// ```
+/// if let Err(TableError::OutOfMemory) = table.try_add_row(["17", "dock 3"]) {
+///     println!(rt; "the first {} rows fit", table.row_count())?;
+/// }
+/// ```
 #[derive(Clone, Copy, Debug, PartialEq, Eq, Error)]
 pub enum TableError {
     /// A request for memory was refused. `Cell::new` also returns this for an error of its value's own `Display`.

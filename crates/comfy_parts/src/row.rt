@@ -94,6 +94,18 @@ impl Row {
 
     /// Sets how many lines of each cell are drawn at the most; 0 counts as 1. Of a cell with more lines the first ones are
     /// drawn, and the last of these ends with the table's truncation indicator, unless that is wider than the column.
+    ///
+    /// ```
+    /// let mut row = ["17", "rented\nreturned\nrented"].into_row(alloc)?;
+    /// row.max_height(2);
+    /// let mut table = Table::new(alloc);
+    /// table.add_row(row)?;
+    /// println!(rt; "{}", table.to_text()?)?;
+    /// // +----+----------+
+    /// // | 17 | rented   |
+    /// // |    | returne… |
+    /// // +----+----------+
+    /// ```
     pub fn max_height(&mut self, lines: usize) -> &mut Self
         ensures same_reference { result.ghost_name ≡ self.entry.ghost_name }
         ensures value { result.now ≡ with_max_height lines self.old }

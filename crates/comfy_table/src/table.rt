@@ -31,7 +31,12 @@ use terminal::Terminal;
 /// table
 ///     .set_header(["Bike", "Where it stands"])?
 ///     .add_row(["17", "dock 3"])?;
-/// let text = table.to_text()?;
+/// println!(rt; "{}", table.to_text()?)?;
+/// // +------+-----------------+
+/// // | Bike | Where it stands |
+/// // +========================+
+/// // | 17   | dock 3          |
+/// // +------+-----------------+
 /// ```
 #[derive(Debug, Drop)]
 pub struct Table {
@@ -90,6 +95,12 @@ impl Table {
     /// Replaces the header, and appends default columns until there are as many as its cells. Returns the table for
     /// further calls. After `OutOfMemory` the table is unchanged and the new header is dropped; a caller's own proof can
     /// use that of `try_set_header` only.
+    ///
+    /// ```
+    /// table
+    ///     .set_header(["Day", "Euros"])?
+    ///     .add_row(("3 May", 84u32))?;
+    /// ```
     pub fn set_header<T: IntoRow>(&mut self, row: T) -> Result<&mut Self>
         ensures* err { sem 𝓛 (TableStaysIfErr self.entry result) }
         ensures same_reference { IfOk result (λ table. table.ghost_name ≡ self.entry.ghost_name) }
@@ -101,6 +112,10 @@ impl Table {
     /// Appends a row, and default columns until there are as many as its cells. Returns the table for further calls. After
     /// `OutOfMemory` the table is unchanged and the row is dropped; a caller's own proof can use that of `try_add_row`
     /// only.
+    ///
+    /// ```
+    /// table.add_row(["17", "dock 3"])?.add_row((18u32, "rented"))?;
+    /// ```
     pub fn add_row<T: IntoRow>(&mut self, row: T) -> Result<&mut Self>
         ensures* err { sem 𝓛 (TableStaysIfErr self.entry result) }
         ensures same_reference { IfOk result (λ table. table.ghost_name ≡ self.entry.ghost_name) }

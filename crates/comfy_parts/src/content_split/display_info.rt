@@ -11,7 +11,11 @@ use std::marker::Model;
 ///
 /// ```
 /// let info = ColumnDisplayInfo::new(&Column::new(0), 12);
-/// let lines = split_line(rt.alloc(), "Now add some text", &info, ' ')?;
+/// for line in &split_line(alloc, "Now add some text", &info, ' ')? {
+///     println!(rt; "{line}")?;
+/// }
+/// // Now add some
+/// // text
 /// ```
 #[derive(Debug, Drop)]
 pub struct ColumnDisplayInfo {

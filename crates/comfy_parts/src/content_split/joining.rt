@@ -61,11 +61,13 @@ fn is_frame_character(character: char) -> bool
 /// Texts in Chinese, Japanese, Korean, Greek, Cyrillic, in Latin letters with accents and in most other scripts are such,
 /// and so are emoji without a joiner, a variation selector or a skin tone. An Arabic alef, a Hebrew lamed and Khmer letters
 /// join others. Of a text with one of these this says no, though its widths may still add up. So it does of a control
-/// character and of U+00A0.
+/// character and of U+00A0. The second text here has three emoji and two joiners, which are drawn as one.
 ///
 /// ```
-/// adds_up("年度 Ωmega é ✅"); // true
-/// adds_up("👨‍👩‍👧"); // false: three emoji and two joiners are drawn as one
+/// println!(rt; "{}", adds_up("年度 Ωmega é ✅"))?;
+/// println!(rt; "{}", adds_up("👨‍👩‍👧"))?;
+/// // true
+/// // false
 /// ```
 pub fn adds_up(text: &str) -> bool
     ensures { result ≡ adds_up text.now }

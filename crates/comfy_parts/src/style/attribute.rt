@@ -1,6 +1,17 @@
 //! What a terminal does to a text beside colouring it.
 
-/// An attribute of a text in a terminal.
+/// An attribute of a text in a terminal. Without the sequences that it writes, the second line here is `| Sum |`.
+///
+/// ```
+/// let mut table = Table::new(alloc);
+/// table
+///     .enforce_styling()
+///     .add_row([Cell::new(alloc, "Sum")?.add_attribute(Attribute::Bold)?])?;
+/// println!(rt; "{}", table.to_text()?)?;
+/// // +-----+
+/// // |\u{1b}[1m Sum \u{1b}[0m|
+/// // +-----+
+/// ```
 #[derive(Copy, Clone, Debug, PartialEq, Eq, PartialOrd, Ord, Hash)]
 pub enum Attribute {
     /// Ends all attributes and colours.

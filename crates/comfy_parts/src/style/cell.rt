@@ -1,6 +1,22 @@
 //! Where the text of a cell stands.
 
 /// Where a line of a cell stands within the width of its column.
+///
+/// ```
+/// let mut table = Table::new(alloc);
+/// table
+///     .set_header(["Position"])?
+///     .add_row([Cell::new(alloc, "right")?.set_alignment(CellAlignment::Right)])?
+///     .add_row([Cell::new(alloc, "mid")?.set_alignment(CellAlignment::Center)])?;
+/// println!(rt; "{}", table.to_text()?)?;
+/// // +----------+
+/// // | Position |
+/// // +==========+
+/// // |    right |
+/// // |----------|
+/// // |    mid   |
+/// // +----------+
+/// ```
 #[derive(Copy, Clone, Debug, PartialEq, Eq, Hash)]
 pub enum CellAlignment {
     /// At the left.

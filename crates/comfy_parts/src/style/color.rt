@@ -1,6 +1,11 @@
 //! The colours of a terminal.
 
 /// A colour of a terminal: the terminal's own, one of sixteen, one by its three parts, or one of 256.
+///
+/// ```
+/// let late = Cell::new(alloc, "late")?.fg(Color::Black).bg(Color::Yellow);
+/// let orange = Cell::new(alloc, "door")?.fg(Color::AnsiValue(208));
+/// ```
 #[derive(Copy, Clone, Debug, PartialEq, Eq, PartialOrd, Ord, Hash)]
 pub enum Color {
     /// The terminal's own colour.

@@ -1,6 +1,10 @@
 //! Widths of columns, and constraints on them.
 
 /// The whole width of a column, its paddings included.
+///
+/// ```
+/// let third = ColumnConstraint::UpperBoundary(Width::Percentage(33));
+/// ```
 #[derive(Copy, Clone, Debug, PartialEq, Eq)]
 pub enum Width {
     /// That many terminal columns.
@@ -13,9 +17,19 @@ pub enum Width {
 /// A constraint on the width of a column.
 ///
 /// ```
-/// if let Some(column) = table.column_mut(0) {
-///     column.set_constraint(ColumnConstraint::LowerBoundary(Width::Fixed(12)));
-/// }
+/// let mut table = Table::new(alloc);
+/// table
+///     .add_row(["three", "columns", "here"])?
+///     .set_constraints([
+///         ColumnConstraint::LowerBoundary(Width::Fixed(9)),
+///         ColumnConstraint::Hidden,
+///         ColumnConstraint::Absolute(Width::Fixed(4)),
+///     ]);
+/// println!(rt; "{}", table.to_text()?)?;
+/// // +---------+----+
+/// // | three   | he |
+/// // |         | re |
+/// // +---------+----+
 /// ```
 #[derive(Copy, Clone, Debug, PartialEq, Eq)]
 pub enum ColumnConstraint {

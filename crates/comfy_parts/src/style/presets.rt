@@ -495,7 +495,7 @@ pub const NOTHING: TableStyle = TableStyle {
 /// The preset of this name, written as its constant is. Of another name there is none.
 ///
 /// ```
-/// by_name("UTF8_FULL"); // Some(UTF8_FULL)
+/// table.load_style(by_name("UTF8_FULL").unwrap_or(ASCII_FULL));
 /// ```
 pub fn by_name(name: &str) -> Option<TableStyle>
     ensures { result ≡ preset_named name.now }
@@ -524,7 +524,8 @@ pub fn by_name(name: &str) -> Option<TableStyle>
 /// position there is none.
 ///
 /// ```
-/// by_position(7); // Some(UTF8_FULL)
+/// println!(rt; "{}", by_position(7) == Some(UTF8_FULL))?;
+/// // true
 /// ```
 pub fn by_position(position: usize) -> Option<TableStyle>
     ensures { result ≡ preset_at position }

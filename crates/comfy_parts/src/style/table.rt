@@ -3,9 +3,17 @@
 /// How the widths of a table's columns are found.
 ///
 /// ```
+/// let mut table = Table::new(alloc);
 /// table
 ///     .set_content_arrangement(ContentArrangement::Dynamic)
-///     .set_width(40);
+///     .set_width(20)
+///     .add_row(["17", "at dock 3 since Monday"])?;
+/// println!(rt; "{}", table.to_text()?)?;
+/// // +----+-------------+
+/// // | 17 | at dock 3   |
+/// // |    | since       |
+/// // |    | Monday      |
+/// // +----+-------------+
 /// ```
 #[derive(Copy, Clone, Debug, PartialEq, Eq)]
 pub enum ContentArrangement {

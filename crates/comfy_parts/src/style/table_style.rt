@@ -107,6 +107,11 @@ impl LineStyle {
 /// ^        ^        ^
 /// left     junction right
 /// ```
+///
+/// ```
+/// let solid = ContentLineStyle::new('│', '│', '│');
+/// let open = ContentLineStyle::none().junction('│');
+/// ```
 #[derive(Copy, Clone, Debug, Default, PartialEq, Eq)]
 pub struct ContentLineStyle {
     /// The left border's character.
@@ -182,6 +187,15 @@ impl ContentLineStyle {
 /// let style = TableStyle::new()
 ///     .header_separator(LineStyle::none().fill('='))
 ///     .content_lines(ContentLineStyle::none().junction('|'));
+/// let mut table = Table::new(alloc);
+/// table
+///     .load_style(style)
+///     .set_header(["a", "b"])?
+///     .add_row(["c", "d"])?;
+/// println!(rt; "{}", table.trim_fmt()?)?;
+/// //  a   b
+/// // === ===
+/// //  c | d
 /// ```
 #[derive(Copy, Clone, Debug, Default, PartialEq, Eq)]
 pub struct TableStyle {

@@ -42,6 +42,12 @@ impl Table {
 
     /// The column at a position, counted from 0, to be changed; none past the last. What is written through it changes
     /// that column, and nothing else of the table.
+    ///
+    /// ```
+    /// if let Some(column) = table.column_mut(1) {
+    ///     column.set_constraint(ColumnConstraint::Hidden);
+    /// }
+    /// ```
     pub fn column_mut(&mut self, index: usize) -> Option<&mut Column>
         ensures* lent { sem 𝓛 (LendsColumn self.entry index result) }
         ensures found { IsSome result ↔ (index < length self.old.columns) }

@@ -19,9 +19,7 @@ use std::vec;
 /// neither the style nor the indicator holds ESC, and each visible column has a padding at its right.
 ///
 /// ```
-/// for line in table.lines()? {
-///     println!(rt; "{line}")?;
-/// }
+/// let top = table.lines()?.next();
 /// ```
 #[derive(Drop)]
 pub struct Lines {
@@ -74,6 +72,17 @@ impl Table {
     /// width, what they need stands in its place. A column with a constraint may need more than the one character: where
     /// its width is fixed or its lower boundary is taken, it needs that width. For printable ASCII this holds for every
     /// line, without its styles, and for a straight table in terminal columns.
+    ///
+    /// ```
+    /// let mut table = Table::new(alloc);
+    /// table.add_row(["17", "dock 3"])?;
+    /// for line in table.lines()? {
+    ///     println!(rt; "{line}")?;
+    /// }
+    /// // +----+--------+
+    /// // | 17 | dock 3 |
+    /// // +----+--------+
+    /// ```
     pub fn lines(&self) -> Result<Lines>
         ensures drawing { IfOk result (λ lines. IsDrawingOf self.now lines) }
         ensures headline { IfOk result (λ lines. IsTableDrawing self.now lines) }
@@ -83,6 +92,15 @@ impl Table {
 
     /// The drawn lines, joined by line feeds. Where neither the style nor the truncation indicator holds a line feed, the
     /// lines are what stands between these: `laws::lines_are_found_in_their_texts`.
+    ///
+    /// ```
+    /// let mut table = Table::new(alloc);
+    /// table.load_style(UTF8_FULL).add_row(["17", "dock 3"])?;
+    /// println!(rt; "{}", table.to_text()?)?;
+    /// // ┌────┬────────┐
+    /// // │ 17 ┆ dock 3 │
+    /// // └────┴────────┘
+    /// ```
     pub fn to_text(&self) -> Result<String>
         ensures { IfOk result (λ text. IsTextOf self.now (string_bytes text)) }
     {

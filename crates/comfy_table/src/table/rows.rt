@@ -14,6 +14,10 @@ impl Table {
     /// Appends rows in their order, each as `add_row` does. Returns the table for further calls. After `OutOfMemory` it
     /// has the rows before the refused one, which is dropped with those after it. A caller's own proof knows only from
     /// `try_add_rows` that these are the first rows, and not all.
+    ///
+    /// ```
+    /// table.add_rows([["17", "dock 3"], ["18", "rented"]])?;
+    /// ```
     pub fn add_rows<I>(&mut self, rows: I) -> Result<&mut Self>
     where
         I: Items,

@@ -12,6 +12,10 @@ use comfy_parts::{Cell, Result};
 
 impl Table {
     /// Replaces the style.
+    ///
+    /// ```
+    /// table.load_style(UTF8_FULL.with_solid_inner_borders());
+    /// ```
     pub fn load_style(&mut self, style: TableStyle) -> &mut Self
         ensures same_reference { result.ghost_name ≡ self.entry.ghost_name }
         ensures value { result.now ≡ record self.old { style = style } }
@@ -97,6 +101,12 @@ impl Table {
 
     /// Sets the width of the table in terminal columns. The dynamic arrangements keep to it, and the percentages of
     /// constraints are taken of it.
+    ///
+    /// ```
+    /// table
+    ///     .set_content_arrangement(ContentArrangement::DynamicFullWidth)
+    ///     .set_width(80);
+    /// ```
     pub fn set_width(&mut self, width: u16) -> &mut Self
         ensures same_reference { result.ghost_name ≡ self.entry.ghost_name }
         ensures value { result.now ≡ record self.old { set_width = Some width } }
@@ -111,11 +121,16 @@ impl Table {
     /// turns this off, and a new table has it off.
     ///
     /// ```
-    /// table.custom_styling().set_width(7).set_content_arrangement(ContentArrangement::Dynamic);
-    /// table.add_row(["\u{1b}[1mabcdef\u{1b}[0m"])?;
+    /// let mut table = Table::new(alloc);
+    /// table
+    ///     .custom_styling()
+    ///     .set_content_arrangement(ContentArrangement::Dynamic)
+    ///     .set_width(7)
+    ///     .add_row(["\u{1b}[1mabcdef\u{1b}[0m"])?;
+    /// println!(rt; "{}", table.to_text()?)?;
     /// // +-----+
-    /// // | abc |   `abc` between `ESC[1m` and `ESC[0m`
-    /// // | def |   `def` between them too
+    /// // | \u{1b}[1mabc\u{1b}[0m |
+    /// // | \u{1b}[1mdef\u{1b}[0m |
     /// // +-----+
     /// ```
     pub fn custom_styling(&mut self) -> &mut Self

@@ -18,7 +18,9 @@ use crate::table::Table;
 /// table.set_terminal(Terminal {
 ///     stdout_is_tty: rt.stdout().is_terminal(),
 ///     stderr_is_tty: rt.stderr().is_terminal(),
-///     width: env::var(&rt, "COLUMNS").ok().and_then(|columns| columns.parse().ok()),
+///     width: env::var(&rt, "COLUMNS")
+///         .ok()
+///         .and_then(|columns| columns.parse().ok()),
 /// });
 /// ```
 #[derive(Copy, Clone, Debug)]

@@ -1,0 +1,124 @@
+//! The examples of `comfy_table`.
+
+use super::sample;
+use comfy_table::presets::UTF8_FULL;
+use comfy_table::{ColumnConstraint, ContentArrangement, Result, Table, Terminal};
+use std::alloc::Global;
+use std::env;
+use std::io::IsTerminal;
+
+/// Calls each example.
+pub fn run(rt: &HostRuntime) -> anyhow::Result<()> {
+    let mut table = sample(rt.alloc())?;
+    table_example(rt, rt.alloc())?;
+    table_set_header_example(&mut table)?;
+    table_add_row_example(&mut table)?;
+    table_column_mut_example(&mut table);
+    column_cell_iter_example(rt, rt.alloc())?;
+    lines_example(&mut table)?;
+    table_lines_example(rt, rt.alloc())?;
+    table_to_text_example(rt, rt.alloc())?;
+    table_add_rows_example(&mut table)?;
+    table_load_style_example(&mut table);
+    table_set_width_example(&mut table);
+    table_custom_styling_example(rt, rt.alloc())?;
+    terminal_example(rt, &mut table)?;
+    Ok(())
+}
+
+fn table_example(rt: &HostRuntime, alloc: Global) -> anyhow::Result<()> {
+    let mut table = Table::new(alloc);
+    table
+        .set_header(["Bike", "Where it stands"])?
+        .add_row(["17", "dock 3"])?;
+    println!(rt; "{}", table.to_text()?)?;
+    Ok(())
+}
+
+fn table_set_header_example(table: &mut Table) -> Result<()> {
+    table
+        .set_header(["Day", "Euros"])?
+        .add_row(("3 May", 84u32))?;
+    Ok(())
+}
+
+fn table_add_row_example(table: &mut Table) -> Result<()> {
+    table.add_row(["17", "dock 3"])?.add_row((18u32, "rented"))?;
+    Ok(())
+}
+
+fn table_column_mut_example(table: &mut Table) {
+    if let Some(column) = table.column_mut(1) {
+        column.set_constraint(ColumnConstraint::Hidden);
+    }
+}
+
+fn column_cell_iter_example(rt: &HostRuntime, alloc: Global) -> anyhow::Result<()> {
+    let mut table = Table::new(alloc);
+    table.add_row(["17", "dock 3"])?.add_row(["18"])?;
+    for cell in table.column_cells_iter(1) {
+        match cell {
+            Some(cell) => println!(rt; "{}", cell.content()?)?,
+            None => println!(rt; "none")?,
+        }
+    }
+    Ok(())
+}
+
+fn lines_example(table: &mut Table) -> Result<()> {
+    let top = table.lines()?.next();
+    Ok(())
+}
+
+fn table_lines_example(rt: &HostRuntime, alloc: Global) -> anyhow::Result<()> {
+    let mut table = Table::new(alloc);
+    table.add_row(["17", "dock 3"])?;
+    for line in table.lines()? {
+        println!(rt; "{line}")?;
+    }
+    Ok(())
+}
+
+fn table_to_text_example(rt: &HostRuntime, alloc: Global) -> anyhow::Result<()> {
+    let mut table = Table::new(alloc);
+    table.load_style(UTF8_FULL).add_row(["17", "dock 3"])?;
+    println!(rt; "{}", table.to_text()?)?;
+    Ok(())
+}
+
+fn table_add_rows_example(table: &mut Table) -> Result<()> {
+    table.add_rows([["17", "dock 3"], ["18", "rented"]])?;
+    Ok(())
+}
+
+fn table_load_style_example(table: &mut Table) {
+    table.load_style(UTF8_FULL.with_solid_inner_borders());
+}
+
+fn table_set_width_example(table: &mut Table) {
+    table
+        .set_content_arrangement(ContentArrangement::DynamicFullWidth)
+        .set_width(80);
+}
+
+fn table_custom_styling_example(rt: &HostRuntime, alloc: Global) -> anyhow::Result<()> {
+    let mut table = Table::new(alloc);
+    table
+        .custom_styling()
+        .set_content_arrangement(ContentArrangement::Dynamic)
+        .set_width(7)
+        .add_row(["\u{1b}[1mabcdef\u{1b}[0m"])?;
+    println!(rt; "{}", table.to_text()?)?;
+    Ok(())
+}
+
+fn terminal_example(rt: &HostRuntime, table: &mut Table) -> anyhow::Result<()> {
+    table.set_terminal(Terminal {
+        stdout_is_tty: rt.stdout().is_terminal(),
+        stderr_is_tty: rt.stderr().is_terminal(),
+        width: env::var(rt, "COLUMNS")
+            .ok()
+            .and_then(|columns| columns.parse().ok()),
+    });
+    Ok(())
+}

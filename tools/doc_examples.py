@@ -1,0 +1,189 @@
+#!/usr/bin/env python3
+"""Gathers the examples of doc comments into the crate `documented_examples`, which the gate proves and runs.
+
+    tools/doc_examples.py            writes the crate's source and its stored output
+    tools/doc_examples.py --check    prints which file isn't what the comments say, and ends with 1 where one isn't
+
+An example is a fenced block without a language in a doc comment of comfy_parts or comfy_table. It becomes a function named
+for the item that it stands at. What it uses without making it, such as `table`, is a parameter. Lines that begin with `//`
+are what it prints, so the stored output is what the comments say; `\\u{1b}` in them stands for ESC.
+"""
+import glob
+import os
+import re
+import sys
+import textwrap
+
+TOP = os.path.dirname(os.path.dirname(os.path.realpath(__file__)))
+CRATE = "crates/documented_examples"
+MODULES = {"comfy_parts": "parts", "comfy_table": "tables"}
+PARAMETERS = {
+    "rt": ("&HostRuntime", "rt"),
+    "alloc": ("Global", "rt.alloc()"),
+    "table": ("&mut Table", "&mut table"),
+    "column": ("&mut Column", "&mut Column::new(0)"),
+}
+SPLIT = "comfy_table::utils::formatting::content_split"
+PATHS = {"Global": "std::alloc", "adds_up": SPLIT, "split_line": SPLIT, "ColumnDisplayInfo": SPLIT}
+PATHS |= {it: "comfy_table::presets" for it in ("by_name", "by_position")}
+TRAITS = {f"into_{it}": f"Into{it.capitalize()}" for it in ("cell", "cells", "row")}
+
+
+def text_of(path):
+    with open(f"{TOP}/{path}", encoding="utf-8") as file:
+        return file.read()
+
+
+def snake(word):
+    return re.sub(r"(?<=[a-z0-9])(?=[A-Z])", "_", word).lower()
+
+
+def name_of(path, before, after):
+    """The name of the item that a doc comment stands at, after the type that it belongs to."""
+    if after is None:
+        return os.path.basename(path)[: -len(".rt")]
+    indent, kind, item = re.match(r"(?:\s*#\[.*\n)*( *)pub (?:const )?(\w+) (\w+)", after).groups()
+    owner = [it[1] for it in re.finditer(r"^impl (\w+) \{", before, re.M)]
+    return snake(f"{owner[-1]}_{item}" if kind == "fn" and indent else item)
+
+
+class Example:
+    def __init__(self, name, lines):
+        self.name = name
+        self.uses = [it for it in lines if it.startswith("use ")]
+        self.prints = [it[2:].removeprefix(" ") for it in lines if it.startswith("//")]
+        code = [it for it in lines if it not in self.uses and not it.startswith("//")]
+        self.code = "\n".join(code).strip("\n").replace("&rt,", "rt,")
+        self.bare = re.sub(r'"[^"]*"', '""', self.code)
+        made = r"(?:let (?:mut )?|Some\(|for )"
+        self.parameters = [
+            it for it in PARAMETERS if re.search(rf"\b{it}\b", self.bare) and not re.search(rf"{made}{it}\b", self.bare)
+        ]
+
+    def result(self):
+        if "rt" in self.parameters:
+            return "anyhow::Result<()>"
+        return "Result<()>" if "?" in self.bare else ""
+
+    def function(self):
+        parameters = ", ".join(f"{it}: {PARAMETERS[it][0]}" for it in self.parameters)
+        result = self.result()
+        body = textwrap.indent(self.code + ("\nOk(())" if result else ""), "    ")
+        return f"fn {self.name}_example({parameters}){' -> ' * bool(result)}{result} {{\n{body}\n}}\n"
+
+    def call(self):
+        arguments = ", ".join(PARAMETERS[it][1] for it in self.parameters)
+        return f"    {self.name}_example({arguments}){'?' * bool(self.result())};"
+
+
+def examples_of(crate):
+    found = []
+    for path in sorted(glob.glob(f"crates/{crate}/src/**/*.rt", root_dir=TOP, recursive=True)):
+        text = text_of(path)
+        for comment in re.finditer(r"(?:^ *//[/!].*\n)+", text, re.M):
+            mark = comment[0].split()[0]
+            after = text[comment.end() :] if mark == "///" else None
+            lines = re.sub(r"^ *//[/!] ?", "", comment[0], flags=re.M)
+            for block in re.finditer(r"^```(\w*)\n(.*?)^```\n", lines, re.M | re.S):
+                if not block[1]:
+                    name = name_of(path, text[: comment.start()], after)
+                    found.append(Example(name, block[2].splitlines()))
+    return found
+
+
+def import_lines(code, uses):
+    """The `use` lines for the names in some code, in the layout of `rt fmt`."""
+    offered = re.findall(r"\w+", " ".join(re.findall(r"pub use (.*?);", text_of("crates/comfy_table/src/lib.rt"), re.S)))
+    presets = re.findall(r"pub const (\w+)", text_of("crates/comfy_parts/src/style/presets.rt"))
+    words = set(re.findall(r"(?<![:\w])\w+", re.sub(r'"[^"]*"', "", re.sub(r"anyhow::\w+", "", code))))
+    words |= {TRAITS[it] for it in TRAITS if f".{it}(" in code}
+    groups = {}
+    for word in words:
+        path = PATHS.get(word)
+        if path is None and word in presets:
+            path = "comfy_table::presets"
+        if path is None and word in offered and word[0].isupper():
+            path = "comfy_table"
+        if path:
+            groups.setdefault(path, []).append(word)
+    lines = set(uses)
+    for path, names in groups.items():
+        names.sort(key=lambda it: (it[0].islower(), it.isupper(), it))
+        line = f"use {path}::{{{', '.join(names)}}};" if len(names) > 1 else f"use {path}::{names[0]};"
+        if len(line) > 100:
+            inner = textwrap.fill(", ".join(names) + ",", 100, initial_indent="    ", subsequent_indent="    ")
+            line = f"use {path}::{{\n{inner}\n}};"
+        lines.add(line)
+    return sorted(lines, key=lambda it: (not it.startswith("use super"), it.replace("{", "~")))
+
+
+def module(crate, examples):
+    calls = "\n".join(it.call() for it in examples)
+    run = f"""/// Calls each example.
+pub fn run(rt: &HostRuntime) -> anyhow::Result<()> {{
+    let mut table = sample(rt.alloc())?;
+{calls}
+    Ok(())
+}}
+"""
+    code = "\n".join([run] + [it.function() for it in examples])
+    uses = [use for it in examples for use in it.uses] + ["use super::sample;"]
+    return f"//! The examples of `{crate}`.\n\n" + "\n".join(import_lines(code, uses)) + "\n\n" + code
+
+
+MAIN = """//! The examples of the doc comments, which `tools/doc_examples.py` wrote.
+#![tactic(auto)]
+
+mod parts;
+mod tables;
+
+use comfy_table::{Result, Table};
+use std::alloc::Global;
+
+fn main(rt: HostRuntime) -> anyhow::Result<()> {
+    parts::run(&rt)?;
+    tables::run(&rt)
+}
+
+// the table that stands for one which an example has, but doesn't make
+fn sample(alloc: Global) -> Result<Table> {
+    let mut table = Table::new(alloc);
+    table
+        .set_header(["Bike", "Place", "Since"])?
+        .add_row(["17", "dock 3", "Monday"])?;
+    Ok(table)
+}
+"""
+
+
+def files():
+    """Each file of the crate that follows from the comments, and its text."""
+    found = {"src/main.rt": MAIN}
+    printed = []
+    for crate, name in MODULES.items():
+        examples = examples_of(crate)
+        found[f"src/{name}.rt"] = module(crate, examples)
+        printed += [line for it in examples for line in it.prints]
+    found["stdout"] = "".join(line + "\n" for line in printed).replace("\\u{1b}", "\x1b")
+    return {f"{CRATE}/{path}": text for path, text in found.items()}
+
+
+def wrong_examples():
+    """What isn't as the comments say."""
+    return [f"{path} isn't what tools/doc_examples.py writes" for path, text in files().items() if text_of(path) != text]
+
+
+def main():
+    if sys.argv[1:] == ["--check"]:
+        wrong = wrong_examples()
+        print("\n".join(wrong) or "the examples are those of the comments")
+        return 1 if wrong else 0
+    for path, text in files().items():
+        os.makedirs(os.path.dirname(f"{TOP}/{path}"), exist_ok=True)
+        with open(f"{TOP}/{path}", "w", encoding="utf-8") as file:
+            file.write(text)
+    return 0
+
+
+if __name__ == "__main__":
+    sys.exit(main())
