@@ -18,11 +18,11 @@ use Rattle.comfy_csv.specs.declared.options.Look.{Look}
 use Rattle.comfy_csv.specs.declared.options.Options.{Options}
 use Rattle.comfy_csv.specs.declared.options.ShownColumn.{ShownColumn}
 
-abbrev Any : RowValue → Type 0
+abbrev pub Any : RowValue → Type 0
 Any row = Unit {0}
 
 -- the table of some records, whatever its rows
-any_built : (options : Options) (plain : options.look.has_sequences ≡ false) (records : List (List Text)) (table : TableValue) → table_for options records ≡ Ok table → Built options plain Any table
+pub any_built : (options : Options) (plain : options.look.has_sequences ≡ false) (records : List (List Text)) (table : TableValue) → table_for options records ≡ Ok table → Built options plain Any table
 any_built options plain records table = built options plain Any records table (λ columns. All-every (MakesRow options plain Any columns) records (λ fields. (tt, tt)))
 
 pub keeps_to_width : (w : ℕ) (options : Options) (records : List (List Text)) (output : Text) → OutputKeepsToWidth w options records output

@@ -1,5 +1,5 @@
 -- Fields of printable ASCII make a table of printable ASCII.
-use Rattle.std.proofs.Common.{◌≡◌, ℕ, true, false, List, [], ◌∷◌, Option, Some, None, map, refl, ap, ◌∙◌, unwrap_or}
+use Rattle.std.proofs.Common.{◌≡◌, ℕ, true, false, List, [], ◌∷◌, Option, Some, None, map, refl, ap, sym, subst, ◌∙◌, unwrap_or}
 use Rattle.std.specs.Int.{is_in_range}
 use Rattle.std.specs.List.{All, cons_option, filter_map, slice_get}
 use Rattle.std.proofs.lemmas.List.Elements.{All-cons, All-head, All-map, All-nil, All-tail, All-weaker}
@@ -8,15 +8,16 @@ use Rattle.comfy_parts.specs.Text.{Text, is_printable_ascii}
 use Rattle.comfy_table.proofs.BuiltTableLemmas.{IsNewColumn, columns_known, rows_known}
 use Rattle.comfy_table.proofs.ListLemmas.{All-at, All-every}
 use Rattle.comfy_table.specs.Drawing.{infos_of}
-use Rattle.comfy_table.specs.Laws.{AddsOneColumnEachWhereWritten, HasPlainCells, IsPlainCell}
+use Rattle.comfy_table.specs.Laws.{AddsOneColumnEachWhereWritten, HasPlainCells, IsPlainCell, count}
 use Rattle.comfy_table.specs.Lines.{cell_delimiter}
 use Rattle.comfy_table.specs.Pieces.{visible_infos}
-use Rattle.comfy_table.specs.TableValue.{TableValue, column_cells, seen_rows, visible_columns}
+use Rattle.comfy_table.specs.TableValue.{TableValue, column_cells, seen_rows, should_style, visible_columns}
 use Rattle.comfy_csv.proofs.BuiltLemmas.{Built, MakesRow, built}
-use Rattle.comfy_csv.proofs.LineLemmas.{EachLine, cells_each}
+use Rattle.comfy_csv.proofs.FieldLemmas.{fields_stay}
+use Rattle.comfy_csv.proofs.LineLemmas.{EachLine, any_built, cells_each}
 use Rattle.comfy_csv.specs.Cells.{cell_for, field_or_blank, header_for, row_for, with_weight}
 use Rattle.comfy_csv.specs.Drawn.{empty_table}
-use Rattle.comfy_csv.specs.Laws.{IsPlainLook, PrintableTableIsPlain}
+use Rattle.comfy_csv.specs.Laws.{IsPlainLook, PrintableLinesHave, PrintableTableIsPlain}
 use Rattle.comfy_csv.specs.declared.options.Look.{Look}
 use Rattle.comfy_csv.specs.declared.options.Options.{Options}
 use Rattle.comfy_csv.specs.declared.options.ShownColumn.{ShownColumn}
@@ -82,3 +83,11 @@ pub printable_is_plain : (options : Options) (records : List (List Text)) (table
 printable_is_plain options records table widths plain each is =
     let known = built options plain.no_sequences IsBareRow records table (λ columns. All-weaker (All (EachLine IsPrintable options.look)) (MakesRow options plain.no_sequences IsBareRow columns) (λ fields own. bare_row options.look columns fields plain own) records each) is in
     record { plain_cells = plain_cells options plain table known; indicator_adds_one_column_each = uncut options plain table known widths }
+
+-- the lines of an output of such records are counted
+pub lines_have : (P : TableValue → ℕ → Type 0) (options : Options) (records : List (List Text)) (output : Text) → PrintableLinesHave P options records output
+lines_have P options records output has plain each =
+    let texts = All-weaker (All IsPrintable) (All (EachLine IsPrintable options.look)) (λ fields own. All-weaker IsPrintable (EachLine IsPrintable options.look) (fields_stay options.look) fields own) records each in
+    let known = any_built options plain.no_sequences records has.table has.is_table in
+    let same = has.drawing.unstyled_lines (ap should_style known.is ∙ rw plain.no_bold refl) (ap (λ (t : TableValue). t.custom_styling) known.is ∙ plain.no_sequences) in
+    subst (All (λ line. P has.table (count line))) (sym same) (has.counts.plain_lines (printable_is_plain options records has.table has.drawing.widths plain texts has.is_table))

@@ -5,7 +5,7 @@ use Rattle.comfy_parts.specs.Columns.{IsOneColumnStyle}
 use Rattle.comfy_parts.specs.Text.{Text, is_printable_ascii, measure}
 use Rattle.comfy_table.specs.Drawing.{terminated_text_of}
 use Rattle.comfy_table.specs.Headline.{EachLineCounts, IsTableDrawing}
-use Rattle.comfy_table.specs.Laws.{IsPlainTable, least_total}
+use Rattle.comfy_table.specs.Laws.{IsPlainTable, count, least_total}
 use Rattle.comfy_table.specs.NewTables.{AreEquallyWide}
 use Rattle.comfy_table.specs.TableValue.{TableValue}
 use Rattle.comfy_table.specs.Widths.{visible_count}
@@ -47,29 +47,43 @@ pub record EachLineHas (P : TableValue → ℕ → Type 0) (options : Options) (
   pub counts : EachLineCounts (P table) table drawing.widths
   pub joined : output ≡ terminated_text_of lines ++ note_for options.limit (row_count options.has_header (length records))
 
--- with a width, a line keeps to it, or to borders, paddings and one for each column
+-- a count keeps to a width, or to borders, paddings and one for each column
+abbrev pub IsWithin : ℕ → TableValue → ℕ → Type 0
+IsWithin w table n = n ≤ max w (least_total table)
+
+-- a count is exactly that, where there is a column
+abbrev pub IsFilling : ℕ → TableValue → ℕ → Type 0
+IsFilling w table n = 0 < visible_count table → n ≡ max w (least_total table)
+
+-- with a width, a frame line keeps to it
 abbrev pub OutputKeepsToWidth : ℕ → Options → List (List Text) → Text → Type 0
 OutputKeepsToWidth w options records output =
     options.look.width ≡ Some w → options.look.fills_width ≡ false → options.look.has_sequences ≡ false → IsOutputOf options records output
-    → EachLineHas (λ table n. n ≤ max w (least_total table)) options records output
+    → EachLineHas (IsWithin w) options records output
 
--- where the width is filled, it has exactly so many, where there is a column
+-- where the width is filled, it fills it
 abbrev pub OutputFillsWidth : ℕ → Options → List (List Text) → Text → Type 0
 OutputFillsWidth w options records output =
     options.look.width ≡ Some w → options.look.fills_width ≡ true → options.look.has_sequences ≡ false → IsOutputOf options records output
-    → EachLineHas (λ table n. 0 < visible_count table → n ≡ max w (least_total table)) options records output
-
--- ---- straight edges
-
--- P holds of each field as it is drawn, cut at its line feeds
-abbrev pub EachText : (Text → Type 0) → Look → List (List Text) → Type 0
-EachText P look records = All (λ (fields : List Text). All (λ (field : Text). All P (plain_cell (drawn_text look field)).text_lines) fields) records
+    → EachLineHas (IsFilling w) options records output
 
 -- nothing is in bold, no sequence counts nothing, and no row is cut
 pub record IsPlainLook (look : Look) : Type 0 where
   pub no_bold : look.has_bold_header ≡ false
   pub no_sequences : look.has_sequences ≡ false
   pub uncut : look.max_height ≡ None
+
+-- then each line does, where each field is printable ASCII
+abbrev pub PrintableLinesHave : (TableValue → ℕ → Type 0) → Options → List (List Text) → Text → Type 0
+PrintableLinesHave P options records output =
+    (has : EachLineHas P options records output) → IsPlainLook options.look → All (λ (fields : List Text). All (λ (field : Text). is_printable_ascii field ≡ true) fields) records
+    → All (λ line. P has.table (count line)) has.lines
+
+-- ---- straight edges
+
+-- P holds of each field as it is drawn, cut at its line feeds
+abbrev pub EachText : (Text → Type 0) → Look → List (List Text) → Type 0
+EachText P look records = All (λ (fields : List Text). All (λ (field : Text). All P (plain_cell (drawn_text look field)).text_lines) fields) records
 
 -- an output is lines of the same width, each followed by a line feed, before the line on records that aren't drawn
 abbrev pub IsStraightOutput : Options → List (List Text) → Text → Type 0
@@ -81,6 +95,10 @@ abbrev pub OutputIsStraight : Options → List (List Text) → Text → Type 0
 OutputIsStraight options records output =
     IsOneColumnStyle options.look.style → IsPlainLook options.look → options.look.width ≡ None → EachText (λ text. measure text ≤ 65535) options.look records
     → IsOutputOf options records output → IsStraightOutput options records output
+
+-- a field of printable ASCII is drawn as such text
+abbrev pub PrintableFieldsStay : Look → Text → Type 0
+PrintableFieldsStay look field = is_printable_ascii field ≡ true → All (λ text. is_printable_ascii text ≡ true) (plain_cell (drawn_text look field)).text_lines
 
 -- for texts of printable ASCII each line of the table is counted, under every width
 abbrev pub PrintableTableIsPlain : Options → List (List Text) → TableValue → List ℕ → Type 0

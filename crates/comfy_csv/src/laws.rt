@@ -2,8 +2,9 @@
 
 ghost use Rattle.std.specs.Prelude.{List, ℕ};
 ghost use Rattle.comfy_parts.specs.Text.{Text};
-ghost use Rattle.comfy_csv.specs.Laws.{OutputFillsWidth, OutputIsStraight, OutputKeepsToWidth, PrintableTableIsPlain, TableKeepsRows};
+ghost use Rattle.comfy_csv.specs.Laws.{IsFilling, IsWithin, OutputFillsWidth, OutputIsStraight, OutputKeepsToWidth, PrintableFieldsStay, PrintableLinesHave, PrintableTableIsPlain, TableKeepsRows};
 ghost use Rattle.comfy_csv.specs.Markdown.{IsReadBack};
+ghost use Rattle.comfy_csv.specs.declared.options.Look.{Look};
 ghost use Rattle.comfy_csv.specs.declared.options.Options.{Options};
 ghost use Rattle.comfy_table.specs.TableValue.{TableValue};
 
@@ -19,17 +20,20 @@ pub fn tables_keep_their_rows()
 {}
 
 /// With a width, a frame line of an output has at most as many characters, or as many as borders, paddings and one
-/// character for each column. Where the width is filled, it has exactly so many, where there is a column. Where all
-/// cells are printable ASCII, so has each line, but for sequences.
+/// character for each column. Where the width is filled, it has exactly so many, where there is a column. So has each line
+/// where all fields are printable ASCII, nothing is in bold, no sequence counts nothing, and no row is cut.
 pub fn outputs_keep_to_a_width()
     ensures dynamic { (w : ℕ) (options : Options) (records : List (List Text)) (output : Text) → OutputKeepsToWidth w options records output }
     ensures full { (w : ℕ) (options : Options) (records : List (List Text)) (output : Text) → OutputFillsWidth w options records output }
+    ensures each_line { (w : ℕ) (options : Options) (records : List (List Text)) (output : Text) → PrintableLinesHave (IsWithin w) options records output }
+    ensures each_full_line { (w : ℕ) (options : Options) (records : List (List Text)) (output : Text) → PrintableLinesHave (IsFilling w) options records output }
 {}
 
-/// Fields of printable ASCII make a table of printable ASCII, where nothing is in bold, no sequence counts nothing, and no
-/// row is cut.
+/// Fields of printable ASCII are drawn as such texts. These make a table of printable ASCII, where nothing is in bold, no
+/// sequence counts nothing, and no row is cut.
 pub fn printable_tables_are_plain()
-    ensures { (options : Options) (records : List (List Text)) (table : TableValue) (widths : List ℕ) → PrintableTableIsPlain options records table widths }
+    ensures fields { (look : Look) (field : Text) → PrintableFieldsStay look field }
+    ensures tables { (options : Options) (records : List (List Text)) (table : TableValue) (widths : List ℕ) → PrintableTableIsPlain options records table widths }
 {}
 
 /// Where no width is kept to and each character of the style adds one terminal column, all lines of an output are equally

@@ -1,4 +1,6 @@
 use Rattle.comfy_csv.proofs.LineLemmas.{fills_width, keeps_to_width}
+use Rattle.comfy_csv.proofs.PlainLemmas.{lines_have}
+use Rattle.comfy_csv.specs.Laws.{IsFilling, IsWithin}
 use Rattle.comfy_csv.proofs.laws.outputs_keep_to_a_width.Goals as goal
 
 pub returns-clause-dynamic : goal.returns-clause-dynamic
@@ -6,3 +8,9 @@ returns-clause-dynamic c = keeps_to_width
 
 pub returns-clause-full : goal.returns-clause-full
 returns-clause-full c = fills_width
+
+pub returns-clause-each_line : goal.returns-clause-each_line
+returns-clause-each_line c = λ w. lines_have (IsWithin w)
+
+pub returns-clause-each_full_line : goal.returns-clause-each_full_line
+returns-clause-each_full_line c = λ w. lines_have (IsFilling w)
