@@ -1,15 +1,75 @@
--- The columns of a line of printable ASCII are its bytes.
-use Rattle.std.proofs.Common.{◌≡◌, ℕ, List, ◌∷◌, length, subst, sym, arith}
+-- What is known of the columns of a line or an element without measuring it again.
+use Rattle.std.proofs.Common.{◌≡◌, ◌≤◌, ℕ, ◌+◌, false, List, ◌∷◌, ◌++◌, Option, None, Some, length, take, drop, refl, sym, ap, ◌∙◌, subst, arith, append_assoc, length-append}
+use Rattle.std.proofs.Math.Seq.{drop-append_seam}
+use Rattle.std.proofs.lemmas.List.{length-take-le}
 use Rattle.std.specs.List.{All}
+use Rattle.std.specs.Prelude.{IfSome, IsUtf8}
+use Rattle.std.specs.Str.{IsCharBoundary}
+use Rattle.comfy_parts.proofs.FollowingLemmas.{first-at}
 use Rattle.comfy_parts.proofs.PlainTextLemmas.{IsPlainLine, wrapped-plain}
 use Rattle.comfy_parts.proofs.PrintableLemmas.{measure-printable}
+use Rattle.comfy_parts.proofs.WideEndLemmas.{exact-columns, first-is, none-wider}
+use Rattle.comfy_parts.specs.Following.{IsAtLine, IsFirstElement, IsMeasured, IsMeasuredBehind, IsWideFrom}
 use Rattle.comfy_parts.specs.Laws.{IsPlain}
-use Rattle.comfy_parts.specs.Text.{Text, measure}
+use Rattle.comfy_parts.specs.Text.{Text, begins_with, measure}
 use Rattle.comfy_parts.specs.Wrapping.{wrapped}
+use Rattle.comfy_parts.specs.declared.content_split.ends.Measured.{Measured}
 
--- that of the first line of a text that is plain
+-- the columns of the first line of a plain text are its bytes
 pub first-measured : (w d : ℕ) (text line : Text) (others : List Text) → IsPlain w d text → wrapped w d text ≡ line ∷ others → length line ≡ measure line
 first-measured w d text line others plain is =
     let all : All (IsPlainLine w) (line ∷ others) = subst (All (IsPlainLine w)) is (wrapped-plain w d text plain) in
     let first : IsPlainLine w line = all 0 line (omega arith) in
     sym (measure-printable line first.printable)
+
+-- ends of one text that have the same length are the same
+same_end : (whole front front' end end' : Text) → whole ≡ front ++ end → whole ≡ front' ++ end' → length end ≡ length end' → end ≡ end'
+same_end whole front front' end end' one two same =
+    let long : length whole ≡ length front + length end = ap length one ∙ length-append front end in
+    let long' : length whole ≡ length front' + length end' = ap length two ∙ length-append front' end' in
+    let fronts : length front ≡ length front' = omega (arith, long, long', same) in
+    sym (drop-append_seam front end) ∙ ap (drop (length front)) (sym one ∙ two) ∙ ap (λ n. drop n (front' ++ end')) fronts ∙ drop-append_seam front' end'
+
+-- an element that was measured
+pub measured-at : (d : ℕ) (text front others next behind : Text) (columns : ℕ) → text ≡ front ++ others → IsFirstElement d others next behind → columns ≡ measure next
+    → IsMeasured d text (length others) (length next) columns
+measured-at d text front others next behind columns splits element measured =
+    let at = first-at d others next behind element in
+    record { front = front; others = others; splits = splits; left_is = refl; boundary = at.0; element = at.1; columns_are = measured ∙ ap measure (sym (first-is d others next behind element)) }
+
+-- seen from a text that has more at its front
+pub measured-past : (d : ℕ) (text word behind : Text) (m : Option Measured) → text ≡ word ++ behind → IfSome m (λ m. IsMeasured d behind m.left m.first m.columns)
+    → IfSome m (λ m. IsMeasured d text m.left m.first m.columns)
+measured-past d text word behind None splits is = is
+measured-past d text word behind (Some m) splits is = record {
+  front = word ++ is.front;
+  others = is.others;
+  splits = splits ∙ ap (λ (t : Text). word ++ t) is.splits ∙ sym (append_assoc word is.front is.others);
+  left_is = is.left_is;
+  boundary = is.boundary;
+  element = is.element;
+  columns_are = is.columns_are;
+}
+
+-- and from one that has less
+pub measured-behind : (d : ℕ) (whole before text : Text) (m : Option Measured) → whole ≡ before ++ text → IfSome m (λ m. IsMeasured d whole m.left m.first m.columns)
+    → IfSome m (λ m. IsMeasuredBehind d text m.left m.first m.columns)
+measured-behind d whole before text None splits is = is
+measured-behind d whole before text (Some m) splits is = (whole, before, splits, is)
+
+-- a line that begins with it
+pub at-measured : (w d : ℕ) (text start rest : Text) (left first columns : ℕ) → w ≤ 65535 → IsUtf8 rest → begins_with d rest ≡ false → text ≡ start ++ rest
+    → IsMeasuredBehind d text left first columns → left ≡ length rest → IsAtLine w d rest first columns (first + 1)
+at-measured w d text start rest left first columns narrow utf8 otherwise begun (whole, before, splits, is) left_is =
+    let same : is.others ≡ rest =
+    same_end whole is.front (before ++ start) is.others rest is.splits (splits ∙ ap (λ (t : Text). before ++ t) begun ∙ sym (append_assoc before start rest)) (is.left_is ∙ left_is) in
+    let boundary : IsCharBoundary rest first = subst (λ (t : Text). IsCharBoundary t first) same is.boundary in
+    record {
+      narrow = narrow;
+      whole = utf8;
+      begins_otherwise = otherwise;
+      boundary = boundary;
+      element = subst (λ (t : Text). IsFirstElement d t (take first t) (drop first t)) same is.element;
+      columns_are = exact-columns w columns (take first rest) (is.columns_are ∙ ap (λ (t : Text). measure (take first t)) same);
+      wide_from = subst (λ n. IsWideFrom w (n + 1) (take first rest)) (length-take-le first rest boundary.0) (none-wider w (take first rest));
+    }

@@ -45,3 +45,22 @@ pub record IsAtLine (w d : ℕ) (text : Text) (first columns shown : ℕ) : Type
 abbrev pub IsAtNext : Bool → ℕ → ℕ → Text → ℕ → ℕ → ℕ → Type 0
 IsAtNext true w d text first columns shown = IsPlain w d text × (begins_with d text ≡ false)
 IsAtNext false w d text first columns shown = IsAtLine w d text first columns shown
+
+-- a text with so many bytes at its end that begin with an element of so many bytes and terminal columns
+pub record IsMeasured (d : ℕ) (text : Text) (left first columns : ℕ) : Type 0 where
+  pub front : Text
+  pub others : Text
+  pub splits : text ≡ front ++ others
+  pub left_is : length others ≡ left
+  pub boundary : IsCharBoundary others first
+  pub element : IsFirstElement d others (take first others) (drop first others)
+  pub columns_are : columns ≡ measure (take first others)
+
+-- a text that ends with this one has so many bytes at its end, as above
+abbrev pub IsMeasuredBehind : ℕ → Text → ℕ → ℕ → ℕ → Type 0
+IsMeasuredBehind d text left first columns =
+    (whole : Text) × (before : Text) × (whole ≡ before ++ text) × IsMeasured d whole left first columns
+
+-- a text ends with another
+abbrev pub EndsWith : Text → Text → Type 0
+EndsWith text end = (front : Text) × (text ≡ front ++ end)

@@ -1,9 +1,9 @@
 //! Where the lines of a wrapped text begin and end. An end is a number of bytes from a text's front.
 
-ghost use Rattle.std.specs.Prelude.{◌≡◌, ℕ, ◌+◌, ◌*◌, ◌==◌, ◌≤◌, List, length, take, drop, true, false};
+ghost use Rattle.std.specs.Prelude.{◌≡◌, IfSome, ℕ, ◌+◌, ◌*◌, ◌==◌, ◌≤◌, List, length, take, drop, true, false};
 ghost use Rattle.std.specs.List.{list_any};
 ghost use Rattle.std.specs.Str.{IsCharBoundary};
-ghost use Rattle.comfy_parts.specs.Following.{AreColumnsUpTo, EndsElement, Follow, IsFirstElement};
+ghost use Rattle.comfy_parts.specs.Following.{AreColumnsUpTo, EndsElement, EndsWith, Follow, IsFirstElement, IsMeasured};
 ghost use Rattle.comfy_parts.specs.Text.{Text, begins_with, is_printable_ascii, measure};
 ghost use Rattle.comfy_parts.specs.Wrapping.{bytes_taken, head_or_first, line_end, part_taken, wrapped};
 
@@ -14,6 +14,7 @@ use crate::content_split::width::{char_width, measure_text_width};
 pub fn line_start(text: &str, delimiter: char) -> &str
     ensures begins { begins_with delimiter result.now ≡ false }
     ensures bound { length result.now ≤ length text.now }
+    ensures ends { EndsWith text.now result.now }
     ensures printable { is_printable_ascii text.now ≡ true → is_printable_ascii result.now ≡ true }
     ensures lines { (w : ℕ) → wrapped w delimiter result.now ≡ wrapped w delimiter text.now }
 {
@@ -76,26 +77,40 @@ fn printable_run(bytes: &[u8], delimiter: char) -> usize
     run
 }
 
+/// The measure of an element that had no room in a line.
+#[derive(Clone, Copy, Drop)]
+pub struct Measured {
+    // the bytes from its first character to the text's end
+    pub left: usize,
+    // its own bytes
+    pub first: usize,
+    // its terminal columns
+    pub columns: usize,
+}
+
 /// The end of the line that begins at the text's front. The text's first element has `first` bytes and takes `columns`
-/// terminal columns; where it is wider than a line, any number above the line's width is passed for `columns`.
+/// terminal columns; where it is wider than a line, any number above the line's width is passed for `columns`. Beside the end
+/// stands the measure of the element that had no room, where one was measured.
 pub(crate) fn line_end(
     text: &str,
     first: usize,
     columns: usize,
     width: usize,
     delimiter: char,
-) -> usize
+) -> (usize, Option<Measured>)
     requires boundary { IsCharBoundary text.now first }
     requires element { IsFirstElement delimiter text.now (take first text.now) (drop first text.now) }
     requires columns { AreColumnsUpTo width columns (take first text.now) }
     requires narrow { width ≤ 65535 }
-    ensures { result ≡ line_end width delimiter text.now }
+    ensures end { result.0 ≡ line_end width delimiter text.now }
+    ensures measured { IfSome result.1 (λ m. IsMeasured delimiter text.now m.left m.first m.columns) }
 {
     let (word, behind) = text.split_at(first);
     if columns > width {
-        return end_within(word, width);
+        return (end_within(word, width), None);
     }
-    first + taken_behind(columns, behind, width, delimiter)
+    let (taken, measured) = taken_behind(columns, behind, width, delimiter);
+    (first + taken, measured)
 }
 
 // The bytes of a word that is wider than a line which the line takes: its head, or at least its first character.
@@ -112,11 +127,18 @@ fn end_within(word: &str, width: usize) -> usize
     }
 }
 
-// The bytes that a line takes after its first element, which fills so many terminal columns.
-fn taken_behind(first: usize, behind: &str, width: usize, delimiter: char) -> usize
+// The bytes that a line takes after its first element, which fills so many terminal columns, and the measure of the element
+// that had no room.
+fn taken_behind(
+    first: usize,
+    behind: &str,
+    width: usize,
+    delimiter: char,
+) -> (usize, Option<Measured>)
     requires narrow { width ≤ 65535 }
-    ensures value { (es : List Text) → Follow delimiter es behind.now → result ≡ bytes_taken width delimiter first es }
-    ensures bound { result ≤ length behind.now + 4 }
+    ensures value { (es : List Text) → Follow delimiter es behind.now → result.0 ≡ bytes_taken width delimiter first es }
+    ensures bound { result.0 ≤ length behind.now + 4 }
+    ensures measured { IfSome result.1 (λ m. IsMeasured delimiter behind.now m.left m.first m.columns) }
 {
     let mut filled = first;
     let mut rest = behind;
@@ -126,13 +148,18 @@ fn taken_behind(first: usize, behind: &str, width: usize, delimiter: char) -> us
         };
         let (next, following, columns) = measured_element(others, delimiter);
         if columns >= width.saturating_sub(filled) {
-            return behind.len() - rest.len()
-                + part_of_next(next, columns, filled, width, delimiter);
+            let part = part_of_next(next, columns, filled, width, delimiter);
+            let measured = Measured {
+                left: others.len(),
+                first: next.len(),
+                columns,
+            };
+            return (behind.len() - rest.len() + part, Some(measured));
         }
         filled += columns + char_width(delimiter);
         rest = following;
     }
-    behind.len() - rest.len()
+    (behind.len() - rest.len(), None)
 }
 
 // The bytes that a line takes of the next element, which takes so many terminal columns and has no room as a whole, and

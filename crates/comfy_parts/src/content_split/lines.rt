@@ -2,13 +2,13 @@
 
 ghost use Rattle.std.specs.Prelude.{◌≡◌, ◌≤◌, ◌∷◌, [], IfSome, None};
 ghost use Rattle.std.specs.Iterator.{YieldsFirstBy, item_count};
-ghost use Rattle.comfy_parts.specs.Following.{AreColumnsUpTo, IsWideFrom};
+ghost use Rattle.comfy_parts.specs.Following.{AreColumnsUpTo, IsMeasuredBehind, IsWideFrom};
 ghost use Rattle.comfy_parts.specs.Laws.{IsPlain};
 ghost use Rattle.comfy_parts.specs.Text.{measure};
 ghost use Rattle.comfy_parts.specs.Wrapping.{IsWrapped, wrapped};
 
 use crate::content_split::display_info::ColumnDisplayInfo;
-use crate::content_split::ends::{first_element, line_end, line_start, measured_element};
+use crate::content_split::ends::{Measured, first_element, line_end, line_start, measured_element};
 use crate::content_split::printable::printable_line_end;
 use crate::content_split::width::{is_printable, measure_text_width, wide_end};
 use std::marker::Model;
@@ -58,7 +58,7 @@ pub fn wrapped_lines<'a>(
     if width > 0 && (' '..='~').contains(&delimiter) && is_printable(line.as_bytes()) {
         return plain_lines(line, width, delimiter);
     }
-    lines_behind(line, width, delimiter)
+    lines_behind(line, width, delimiter, None)
 }
 
 // The lines of printable ASCII after the delimiters at its front.
@@ -77,12 +77,33 @@ fn plain_lines<'a>(text: &'a str, width: usize, delimiter: char) -> WrappedLines
     }
 }
 
-// The lines of a text after the delimiters at its front.
-fn lines_behind<'a>(text: &'a str, width: usize, delimiter: char) -> WrappedLines<'a>
+// The lines of a text after the delimiters at its front. Where it begins with a measured element that fits a line, that isn't
+// measured again.
+fn lines_behind<'a>(
+    text: &'a str,
+    width: usize,
+    delimiter: char,
+    measured: Option<Measured>,
+) -> WrappedLines<'a>
     requires narrow { width ≤ 65535 }
+    requires measured { IfSome measured (λ m. IsMeasuredBehind delimiter text.now m.left m.first m.columns) }
     ensures { result ≡ wrapped width delimiter text.now }
 {
     let rest = line_start(text, delimiter);
+    if let Some(next) = measured
+        && next.left == rest.len()
+        && next.columns <= width
+    {
+        return WrappedLines {
+            rest,
+            is_plain: false,
+            first: next.first,
+            columns: next.columns,
+            wide: next.first + 1,
+            width,
+            delimiter,
+        };
+    }
     if rest.len() / FAR > width {
         let (word, _) = first_element(rest, delimiter);
         let wide = wide_end(word, width);
@@ -141,7 +162,7 @@ impl<'a> Iterator for WrappedLines<'a> {
             *self = plain_lines(behind, self.width, self.delimiter);
             return Some(line);
         }
-        let end = line_end(
+        let (end, measured) = line_end(
             self.rest,
             self.first,
             self.columns,
@@ -150,7 +171,7 @@ impl<'a> Iterator for WrappedLines<'a> {
         );
         let (line, behind) = self.rest.split_at(end);
         if end >= self.first {
-            *self = lines_behind(behind, self.width, self.delimiter);
+            *self = lines_behind(behind, self.width, self.delimiter, measured);
             return Some(line);
         }
         // The line ends inside a long element, and its rest comes next.

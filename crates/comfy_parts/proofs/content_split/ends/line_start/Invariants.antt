@@ -1,6 +1,7 @@
 use Rattle.std.proofs.Common.{◌≡◌, ℕ, ◌≤◌, true, length}
 use denote.Text.{Utf8}
 use denote.Shadow.{shadow}
+use Rattle.comfy_parts.specs.Following.{EndsWith}
 use Rattle.comfy_parts.specs.Text.{is_printable_ascii}
 use Rattle.comfy_parts.specs.Wrapping.{wrapped}
 use Rattle.comfy_parts.proofs.content_split.ends.line_start.Given as goal
@@ -10,6 +11,7 @@ invariant-loop-behind l =
     record {
       utf8 : shadow (Utf8 l.rest);
       bound : length l.rest ≤ length l.text;
+      ends : EndsWith l.text l.rest;
       printable : is_printable_ascii l.text ≡ true → is_printable_ascii l.rest ≡ true;
       lines : (w : ℕ) → wrapped w l.delimiter l.rest ≡ wrapped w l.delimiter l.text;
     }

@@ -1,8 +1,9 @@
-use Rattle.std.proofs.Common.{◌≡◌, ◌+◌, ◌∙◌, length, ap, arith, length-append}
+use Rattle.std.proofs.Common.{◌≡◌, ◌+◌, ◌++◌, ◌∙◌, length, ap, sym, arith, append_assoc, length-append}
 use Rattle.std.specs.Prelude.{encode_utf8}
 use Rattle.comfy_parts.specs.Wrapping.{bytes_taken}
-use Rattle.comfy_parts.specs.Text.{measure}
+use Rattle.comfy_parts.specs.Text.{Text, measure}
 use Rattle.comfy_parts.proofs.FollowingLemmas.{follow-next, stripped, taken-more, taken-part}
+use Rattle.comfy_parts.proofs.MeasuredLineLemmas.{measured-at}
 use Rattle.comfy_parts.proofs.content_split.ends.taken_behind.Goals as goal
 
 pub returns-then-columns-saturating_sub : goal.returns-then-columns-saturating_sub
@@ -20,8 +21,12 @@ returns-then-columns-saturating_sub c =
           let step = follow-next d before.0 rest c.in-Some.others.now next c.measured_element-columns.result.1.now before.1 splits c.measured_element-columns.ensures.element in
           let part = ap (bytes_taken c.args.width d c.loop-filled.filled) step.1 ∙ taken-part c.args.width d c.loop-filled.filled next step.0 (omega arith) (omega (arith, c.measured_element-columns.ensures.columns)) in
           let sum = before.2 in
-          omega (arith, part, sum, c.part_of_next.ensures.value);
+          omega (arith, part, sum, c.part_of_next-part.ensures.value);
       bound = omega (arith, bytes, more, joined);
+      measured =
+          let (front, ended) = c.loop-filled.invariant.ends in
+          measured-at d c.args.behind.now (front ++ encode_utf8 d) c.in-Some.others.now next c.measured_element-columns.result.1.now c.measured_element-columns.result.2
+          (ended ∙ ap (λ (t : Text). front ++ t) splits ∙ sym (append_assoc front (encode_utf8 d) c.in-Some.others.now)) c.measured_element-columns.ensures.element c.measured_element-columns.ensures.columns;
     }
 
 pub loop-filled-preserved : goal.loop-filled-preserved
@@ -36,6 +41,11 @@ loop-filled-preserved c =
     record {
       utf8 = c.measured_element-columns.ensures.element.whole_behind;
       bound = omega (arith, bytes, more, joined);
+      ends =
+          let (front, ended) = c.loop-filled.invariant.ends in
+          let following = c.measured_element-columns.result.1.now in
+          let passed : rest ≡ (encode_utf8 d ++ next) ++ following = splits ∙ ap (λ (t : Text). encode_utf8 d ++ t) (sym c.measured_element-columns.ensures.element.joined) ∙ sym (append_assoc (encode_utf8 d) next following) in
+          (front ++ (encode_utf8 d ++ next), ended ∙ ap (λ (t : Text). front ++ t) passed ∙ sym (append_assoc front (encode_utf8 d ++ next) following));
       taken = λ es follow.
           let before = c.loop-filled.invariant.taken es follow in
           let step = follow-next d before.0 rest c.in-Some.others.now next c.measured_element-columns.result.1.now before.1 splits c.measured_element-columns.ensures.element in

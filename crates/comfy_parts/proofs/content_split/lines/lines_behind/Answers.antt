@@ -1,11 +1,21 @@
-use Rattle.std.proofs.Common.{◌+◌, length, sym, subst}
-use Rattle.comfy_parts.specs.Following.{AreColumnsUpTo, IsWideFrom}
+use Rattle.std.proofs.Common.{◌+◌, Option, length, sym, subst}
+use Rattle.std.specs.Prelude.{IfSome}
+use Rattle.comfy_parts.specs.Following.{AreColumnsUpTo, IsMeasuredBehind, IsWideFrom}
+use Rattle.comfy_parts.specs.declared.content_split.ends.Measured.{Measured}
 use Rattle.comfy_parts.proofs.FollowingLemmas.{first-at}
 use Rattle.comfy_parts.proofs.WideEndLemmas.{exact-columns, first-is, none-wider}
+use Rattle.comfy_parts.proofs.MeasuredLineLemmas.{at-measured}
 use Rattle.comfy_parts.proofs.content_split.lines.lines_behind.Goals as goal
 
 pub invariant_of-result : goal.invariant_of-result
 invariant_of-result c =
+    let m = c.in-Some.next in
+    let (start, begun) = c.line_start-rest.ensures.ends in
+    at-measured c.args.width c.args.delimiter c.args.text.now start c.line_start-rest.result.now m.left m.first m.columns c.requires.narrow c.line_start-rest.utf8 c.line_start-rest.ensures.begins begun
+    (subst (λ (o : Option Measured). IfSome o (λ m. IsMeasuredBehind c.args.delimiter c.args.text.now m.left m.first m.columns)) c.in-Some.is c.requires.measured) c.if-next-rest.true
+
+pub invariant_of-result-then-rest-width : goal.invariant_of-result-then-rest-width
+invariant_of-result-then-rest-width c =
     let w = c.args.width in
     let d = c.args.delimiter in
     let rest = c.line_start-rest.result.now in
