@@ -8,13 +8,14 @@
 - README.md: each label that it cites is a heading of PROVED.md, and what it prints is the output of the stored run.
 - CALLING.md of each library: each clause that it quotes stands in the library's source or in that of a caller.
 - Each mutation changes a function that exists.
-- The examples of doc comments are those that documented_examples runs (tools/doc_examples.py).
+- The crate of documented examples is what the doc comments say.
 """
 import glob
 import os
 import re
-import subprocess
 import sys
+
+from doc_examples import wrong_examples
 
 TOP = os.path.dirname(os.path.dirname(os.path.realpath(__file__)))
 LIBRARIES = ["comfy_parts", "comfy_table", "comfy_run", "comfy_csv"]
@@ -109,9 +110,7 @@ def main():
     wrong += [f"README.md doesn't print crates/{path}" for path in STORED if text_of(f"crates/{path}") not in readme]
     for path in glob.glob("crates/*/CALLING.md", root_dir=TOP):
         wrong += wrong_in_calling(path.split("/")[1])
-    examples = subprocess.run([f"{TOP}/tools/doc_examples.py", "--check"], stdout=subprocess.PIPE, text=True, check=False)
-    if examples.returncode != 0:
-        wrong.append(examples.stdout.strip())
+    wrong += wrong_examples()
     believed = lines_to_believe()
     if f"the {believed} lines" not in page:
         wrong.append(f"docs/PROVED.md doesn't name the {believed} lines of definitions to believe")

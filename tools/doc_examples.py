@@ -6,7 +6,8 @@
 
 An example is a fenced block without a language in a doc comment of comfy_parts or comfy_table. It becomes a function named
 for the item that it stands at. What it uses without making it, such as `table`, is a parameter. Lines that begin with `//`
-are what it prints, so the stored output is what the comments say; `\\u{1b}` in them stands for ESC.
+are what it prints, or the value of its last `let`: a `text`, or `is_so`. So the stored output is what the comments say;
+`\\u{1b}` in them stands for ESC.
 """
 import glob
 import os
@@ -20,12 +21,14 @@ MODULES = {"comfy_parts": "parts", "comfy_table": "tables"}
 PARAMETERS = {
     "rt": ("&HostRuntime", "rt"),
     "alloc": ("Global", "rt.alloc()"),
-    "table": ("&mut Table", "&mut table"),
+    "table": ("&mut Table", "table"),
     "column": ("&mut Column", "&mut Column::new(0)"),
 }
 SPLIT = "comfy_table::utils::formatting::content_split"
 PATHS = {"Global": "std::alloc", "adds_up": SPLIT, "split_line": SPLIT, "ColumnDisplayInfo": SPLIT}
 PATHS |= {it: "comfy_table::presets" for it in ("by_name", "by_position")}
+VALUES = {None: "()", "text": "String", "is_so": "bool"}
+AT_ONCE = 7  # so many calls stand in one function, since a long one takes long to prove
 TRAITS = {f"into_{it}": f"Into{it.capitalize()}" for it in ("cell", "cells", "row")}
 
 
@@ -60,20 +63,34 @@ class Example:
             it for it in PARAMETERS if re.search(rf"\b{it}\b", self.bare) and not re.search(rf"{made}{it}\b", self.bare)
         ]
 
+        last = re.search(r"let (\w+) = (.*);$", self.code)
+        self.value = last[1] if last and self.prints else None
+
     def result(self):
         if "rt" in self.parameters:
             return "anyhow::Result<()>"
-        return "Result<()>" if "?" in self.bare else ""
+        given = VALUES[self.value]
+        return f"Result<{given}>" if "?" in self.bare else given.strip("()")
 
     def function(self):
         parameters = ", ".join(f"{it}: {PARAMETERS[it][0]}" for it in self.parameters)
         result = self.result()
-        body = textwrap.indent(self.code + ("\nOk(())" if result else ""), "    ")
+        code = re.sub(rf"let {self.value} = (.*);$", r"\1", self.code) if self.value else self.code
+        if self.value and "?" in self.bare:
+            code = code[:-1] if code.endswith("?") else re.sub(r"(.*)$", r"Ok(\1)", code)
+        elif "Result" in result:
+            code += "\nOk(())"
+        body = textwrap.indent(code, "    ")
         return f"fn {self.name}_example({parameters}){' -> ' * bool(result)}{result} {{\n{body}\n}}\n"
 
     def call(self):
         arguments = ", ".join(PARAMETERS[it][1] for it in self.parameters)
-        return f"    {self.name}_example({arguments}){'?' * bool(self.result())};"
+        call = f"{self.name}_example({arguments})"
+        if self.value == "text":
+            return f"    show(rt, {call})?;"
+        if self.value:
+            return f'    println!(rt; "{{}}", {call})?;'
+        return f"    {call}{'?' * bool(self.result())};"
 
 
 def examples_of(crate):
@@ -117,17 +134,20 @@ def import_lines(code, uses):
     return sorted(lines, key=lambda it: (not it.startswith("use super"), it.replace("{", "~")))
 
 
+RUN = """/// Calls each example.
+pub fn run(rt: &HostRuntime, table: &mut Table) -> anyhow::Result<()>"""
+
+
 def module(crate, examples):
-    calls = "\n".join(it.call() for it in examples)
-    run = f"""/// Calls each example.
-pub fn run(rt: &HostRuntime) -> anyhow::Result<()> {{
-    let mut table = sample(rt.alloc())?;
-{calls}
-    Ok(())
-}}
-"""
+    parts = [examples[at : at + AT_ONCE] for at in range(0, len(examples), AT_ONCE)]
+    names = [f"examples_{at}" for at in range(1, len(parts) + 1)]
+    calls = "\n".join(f"    {name}(rt, table)?;" for name in names)
+    run = f"{RUN} {{\n{calls}\n    Ok(())\n}}\n"
+    for name, part in zip(names, parts):
+        calls = "\n".join(it.call() for it in part)
+        run += f"\nfn {name}(rt: &HostRuntime, table: &mut Table) -> anyhow::Result<()> {{\n{calls}\n    Ok(())\n}}\n"
     code = "\n".join([run] + [it.function() for it in examples])
-    uses = [use for it in examples for use in it.uses] + ["use super::sample;"]
+    uses = [use for it in examples for use in it.uses] + ["use super::show;"] * ("show(" in code)
     return f"//! The examples of `{crate}`.\n\n" + "\n".join(import_lines(code, uses)) + "\n\n" + code
 
 
@@ -141,8 +161,9 @@ use comfy_table::{Result, Table};
 use std::alloc::Global;
 
 fn main(rt: HostRuntime) -> anyhow::Result<()> {
-    parts::run(&rt)?;
-    tables::run(&rt)
+    let mut table = sample(rt.alloc())?;
+    parts::run(&rt, &mut table)?;
+    tables::run(&rt, &mut table)
 }
 
 // the table that stands for one which an example has, but doesn't make
@@ -152,6 +173,11 @@ fn sample(alloc: Global) -> Result<Table> {
         .set_header(["Bike", "Place", "Since"])?
         .add_row(["17", "dock 3", "Monday"])?;
     Ok(table)
+}
+
+fn show(rt: &HostRuntime, text: Result<String>) -> anyhow::Result<()> {
+    println!(rt; "{}", text?)?;
+    Ok(())
 }
 """
 

@@ -100,7 +100,7 @@ impl Row {
     /// row.max_height(2);
     /// let mut table = Table::new(alloc);
     /// table.add_row(row)?;
-    /// println!(rt; "{}", table.to_text()?)?;
+    /// let text = table.to_text()?;
     /// // +----+----------+
     /// // | 17 | rented   |
     /// // |    | returne… |

@@ -31,7 +31,7 @@ use terminal::Terminal;
 /// table
 ///     .set_header(["Bike", "Where it stands"])?
 ///     .add_row(["17", "dock 3"])?;
-/// println!(rt; "{}", table.to_text()?)?;
+/// let text = table.to_text()?;
 /// // +------+-----------------+
 /// // | Bike | Where it stands |
 /// // +========================+

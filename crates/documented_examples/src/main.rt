@@ -8,8 +8,9 @@ use comfy_table::{Result, Table};
 use std::alloc::Global;
 
 fn main(rt: HostRuntime) -> anyhow::Result<()> {
-    parts::run(&rt)?;
-    tables::run(&rt)
+    let mut table = sample(rt.alloc())?;
+    parts::run(&rt, &mut table)?;
+    tables::run(&rt, &mut table)
 }
 
 // the table that stands for one which an example has, but doesn't make
@@ -19,4 +20,9 @@ fn sample(alloc: Global) -> Result<Table> {
         .set_header(["Bike", "Place", "Since"])?
         .add_row(["17", "dock 3", "Monday"])?;
     Ok(table)
+}
+
+fn show(rt: &HostRuntime, text: Result<String>) -> anyhow::Result<()> {
+    println!(rt; "{}", text?)?;
+    Ok(())
 }

@@ -1,6 +1,6 @@
 //! The examples of `comfy_parts`.
 
-use super::sample;
+use super::show;
 use comfy_table::presets::{ASCII_FULL, UTF8_FULL, by_name, by_position};
 use comfy_table::utils::formatting::content_split::{ColumnDisplayInfo, adds_up, split_line};
 use comfy_table::{
@@ -11,36 +11,55 @@ use comfy_table::{
 use std::alloc::Global;
 
 /// Calls each example.
-pub fn run(rt: &HostRuntime) -> anyhow::Result<()> {
-    let mut table = sample(rt.alloc())?;
+pub fn run(rt: &HostRuntime, table: &mut Table) -> anyhow::Result<()> {
+    examples_1(rt, table)?;
+    examples_2(rt, table)?;
+    examples_3(rt, table)?;
+    examples_4(rt, table)?;
+    Ok(())
+}
+
+fn examples_1(rt: &HostRuntime, table: &mut Table) -> anyhow::Result<()> {
     cell_example(rt.alloc())?;
     cell_new_example(rt.alloc())?;
     cell_fg_example(rt.alloc())?;
     cell_add_attribute_example(rt.alloc())?;
-    column_example(&mut table);
+    column_example(table);
     column_set_constraint_example(&mut Column::new(0));
     column_set_cell_alignment_example(&mut Column::new(0));
-    column_display_info_example(rt, rt.alloc())?;
-    adds_up_example(rt)?;
+    Ok(())
+}
+
+fn examples_2(rt: &HostRuntime, table: &mut Table) -> anyhow::Result<()> {
+    column_display_info_example(rt.alloc())?;
+    println!(rt; "{}", adds_up_example())?;
     into_cell_example(rt.alloc())?;
     into_cells_example(rt.alloc())?;
     into_row_example(rt.alloc())?;
-    items_example(&mut table);
-    table_error_example(rt, &mut table)?;
+    items_example(table);
+    table_error_example(rt, table)?;
+    Ok(())
+}
+
+fn examples_3(rt: &HostRuntime, table: &mut Table) -> anyhow::Result<()> {
     row_example(rt.alloc())?;
-    row_max_height_example(rt, rt.alloc())?;
-    attribute_example(rt, rt.alloc())?;
-    cell_alignment_example(rt, rt.alloc())?;
+    show(rt, row_max_height_example(rt.alloc()))?;
+    show(rt, attribute_example(rt.alloc()))?;
+    show(rt, cell_alignment_example(rt.alloc()))?;
     color_example(rt.alloc())?;
     width_example();
-    column_constraint_example(rt, rt.alloc())?;
-    presets_example(&mut table);
-    by_name_example(&mut table);
-    by_position_example(rt)?;
-    content_arrangement_example(rt, rt.alloc())?;
+    show(rt, column_constraint_example(rt.alloc()))?;
+    Ok(())
+}
+
+fn examples_4(rt: &HostRuntime, table: &mut Table) -> anyhow::Result<()> {
+    presets_example(table);
+    by_name_example(table);
+    println!(rt; "{}", by_position_example())?;
+    show(rt, content_arrangement_example(rt.alloc()))?;
     line_style_example();
     content_line_style_example();
-    table_style_example(rt, rt.alloc())?;
+    show(rt, table_style_example(rt.alloc()))?;
     Ok(())
 }
 
@@ -85,18 +104,14 @@ fn column_set_cell_alignment_example(column: &mut Column) {
     column.set_cell_alignment(CellAlignment::Right);
 }
 
-fn column_display_info_example(rt: &HostRuntime, alloc: Global) -> anyhow::Result<()> {
+fn column_display_info_example(alloc: Global) -> Result<()> {
     let info = ColumnDisplayInfo::new(&Column::new(0), 12);
-    for line in &split_line(alloc, "Now add some text", &info, ' ')? {
-        println!(rt; "{line}")?;
-    }
+    let lines = split_line(alloc, "Now add some text", &info, ' ')?;
     Ok(())
 }
 
-fn adds_up_example(rt: &HostRuntime) -> anyhow::Result<()> {
-    println!(rt; "{}", adds_up("年度 Ωmega é ✅"))?;
-    println!(rt; "{}", adds_up("👨‍👩‍👧"))?;
-    Ok(())
+fn adds_up_example() -> bool {
+    adds_up("年度 Ωmega é ✅") && !adds_up("👨‍👩‍👧")
 }
 
 fn into_cell_example(alloc: Global) -> Result<()> {
@@ -135,32 +150,29 @@ fn row_example(alloc: Global) -> Result<()> {
     Ok(())
 }
 
-fn row_max_height_example(rt: &HostRuntime, alloc: Global) -> anyhow::Result<()> {
+fn row_max_height_example(alloc: Global) -> Result<String> {
     let mut row = ["17", "rented\nreturned\nrented"].into_row(alloc)?;
     row.max_height(2);
     let mut table = Table::new(alloc);
     table.add_row(row)?;
-    println!(rt; "{}", table.to_text()?)?;
-    Ok(())
+    table.to_text()
 }
 
-fn attribute_example(rt: &HostRuntime, alloc: Global) -> anyhow::Result<()> {
+fn attribute_example(alloc: Global) -> Result<String> {
     let mut table = Table::new(alloc);
     table
         .enforce_styling()
         .add_row([Cell::new(alloc, "Sum")?.add_attribute(Attribute::Bold)?])?;
-    println!(rt; "{}", table.to_text()?)?;
-    Ok(())
+    table.to_text()
 }
 
-fn cell_alignment_example(rt: &HostRuntime, alloc: Global) -> anyhow::Result<()> {
+fn cell_alignment_example(alloc: Global) -> Result<String> {
     let mut table = Table::new(alloc);
     table
         .set_header(["Position"])?
         .add_row([Cell::new(alloc, "right")?.set_alignment(CellAlignment::Right)])?
         .add_row([Cell::new(alloc, "mid")?.set_alignment(CellAlignment::Center)])?;
-    println!(rt; "{}", table.to_text()?)?;
-    Ok(())
+    table.to_text()
 }
 
 fn color_example(alloc: Global) -> Result<()> {
@@ -173,7 +185,7 @@ fn width_example() {
     let third = ColumnConstraint::UpperBoundary(Width::Percentage(33));
 }
 
-fn column_constraint_example(rt: &HostRuntime, alloc: Global) -> anyhow::Result<()> {
+fn column_constraint_example(alloc: Global) -> Result<String> {
     let mut table = Table::new(alloc);
     table
         .add_row(["three", "columns", "here"])?
@@ -182,8 +194,7 @@ fn column_constraint_example(rt: &HostRuntime, alloc: Global) -> anyhow::Result<
             ColumnConstraint::Hidden,
             ColumnConstraint::Absolute(Width::Fixed(4)),
         ]);
-    println!(rt; "{}", table.to_text()?)?;
-    Ok(())
+    table.to_text()
 }
 
 fn presets_example(table: &mut Table) {
@@ -194,19 +205,17 @@ fn by_name_example(table: &mut Table) {
     table.load_style(by_name("UTF8_FULL").unwrap_or(ASCII_FULL));
 }
 
-fn by_position_example(rt: &HostRuntime) -> anyhow::Result<()> {
-    println!(rt; "{}", by_position(7) == Some(UTF8_FULL))?;
-    Ok(())
+fn by_position_example() -> bool {
+    by_position(7) == Some(UTF8_FULL)
 }
 
-fn content_arrangement_example(rt: &HostRuntime, alloc: Global) -> anyhow::Result<()> {
+fn content_arrangement_example(alloc: Global) -> Result<String> {
     let mut table = Table::new(alloc);
     table
         .set_content_arrangement(ContentArrangement::Dynamic)
         .set_width(20)
         .add_row(["17", "at dock 3 since Monday"])?;
-    println!(rt; "{}", table.to_text()?)?;
-    Ok(())
+    table.to_text()
 }
 
 fn line_style_example() {
@@ -219,7 +228,7 @@ fn content_line_style_example() {
     let open = ContentLineStyle::none().junction('│');
 }
 
-fn table_style_example(rt: &HostRuntime, alloc: Global) -> anyhow::Result<()> {
+fn table_style_example(alloc: Global) -> Result<String> {
     let style = TableStyle::new()
         .header_separator(LineStyle::none().fill('='))
         .content_lines(ContentLineStyle::none().junction('|'));
@@ -228,6 +237,5 @@ fn table_style_example(rt: &HostRuntime, alloc: Global) -> anyhow::Result<()> {
         .load_style(style)
         .set_header(["a", "b"])?
         .add_row(["c", "d"])?;
-    println!(rt; "{}", table.trim_fmt()?)?;
-    Ok(())
+    table.trim_fmt()
 }

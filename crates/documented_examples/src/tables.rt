@@ -1,6 +1,6 @@
 //! The examples of `comfy_table`.
 
-use super::sample;
+use super::show;
 use comfy_table::presets::UTF8_FULL;
 use comfy_table::{ColumnConstraint, ContentArrangement, Result, Table, Terminal};
 use std::alloc::Global;
@@ -8,31 +8,39 @@ use std::env;
 use std::io::IsTerminal;
 
 /// Calls each example.
-pub fn run(rt: &HostRuntime) -> anyhow::Result<()> {
-    let mut table = sample(rt.alloc())?;
-    table_example(rt, rt.alloc())?;
-    table_set_header_example(&mut table)?;
-    table_add_row_example(&mut table)?;
-    table_column_mut_example(&mut table);
-    column_cell_iter_example(rt, rt.alloc())?;
-    lines_example(&mut table)?;
-    table_lines_example(rt, rt.alloc())?;
-    table_to_text_example(rt, rt.alloc())?;
-    table_add_rows_example(&mut table)?;
-    table_load_style_example(&mut table);
-    table_set_width_example(&mut table);
-    table_custom_styling_example(rt, rt.alloc())?;
-    terminal_example(rt, &mut table)?;
+pub fn run(rt: &HostRuntime, table: &mut Table) -> anyhow::Result<()> {
+    examples_1(rt, table)?;
+    examples_2(rt, table)?;
     Ok(())
 }
 
-fn table_example(rt: &HostRuntime, alloc: Global) -> anyhow::Result<()> {
+fn examples_1(rt: &HostRuntime, table: &mut Table) -> anyhow::Result<()> {
+    show(rt, table_example(rt.alloc()))?;
+    table_set_header_example(table)?;
+    table_add_row_example(table)?;
+    table_column_mut_example(table);
+    column_cell_iter_example(table)?;
+    lines_example(table)?;
+    table_lines_example(rt, rt.alloc())?;
+    Ok(())
+}
+
+fn examples_2(rt: &HostRuntime, table: &mut Table) -> anyhow::Result<()> {
+    table_to_text_example(table)?;
+    table_add_rows_example(table)?;
+    table_load_style_example(table);
+    table_set_width_example(table);
+    show(rt, table_custom_styling_example(rt.alloc()))?;
+    terminal_example(rt, table)?;
+    Ok(())
+}
+
+fn table_example(alloc: Global) -> Result<String> {
     let mut table = Table::new(alloc);
     table
         .set_header(["Bike", "Where it stands"])?
         .add_row(["17", "dock 3"])?;
-    println!(rt; "{}", table.to_text()?)?;
-    Ok(())
+    table.to_text()
 }
 
 fn table_set_header_example(table: &mut Table) -> Result<()> {
@@ -53,14 +61,9 @@ fn table_column_mut_example(table: &mut Table) {
     }
 }
 
-fn column_cell_iter_example(rt: &HostRuntime, alloc: Global) -> anyhow::Result<()> {
-    let mut table = Table::new(alloc);
-    table.add_row(["17", "dock 3"])?.add_row(["18"])?;
-    for cell in table.column_cells_iter(1) {
-        match cell {
-            Some(cell) => println!(rt; "{}", cell.content()?)?,
-            None => println!(rt; "none")?,
-        }
+fn column_cell_iter_example(table: &mut Table) -> Result<()> {
+    if let Some(Some(cell)) = table.column_cells_iter(1).next() {
+        let first = cell.content()?;
     }
     Ok(())
 }
@@ -79,10 +82,8 @@ fn table_lines_example(rt: &HostRuntime, alloc: Global) -> anyhow::Result<()> {
     Ok(())
 }
 
-fn table_to_text_example(rt: &HostRuntime, alloc: Global) -> anyhow::Result<()> {
-    let mut table = Table::new(alloc);
-    table.load_style(UTF8_FULL).add_row(["17", "dock 3"])?;
-    println!(rt; "{}", table.to_text()?)?;
+fn table_to_text_example(table: &mut Table) -> Result<()> {
+    let drawing = table.to_text()?;
     Ok(())
 }
 
@@ -101,15 +102,14 @@ fn table_set_width_example(table: &mut Table) {
         .set_width(80);
 }
 
-fn table_custom_styling_example(rt: &HostRuntime, alloc: Global) -> anyhow::Result<()> {
+fn table_custom_styling_example(alloc: Global) -> Result<String> {
     let mut table = Table::new(alloc);
     table
         .custom_styling()
         .set_content_arrangement(ContentArrangement::Dynamic)
         .set_width(7)
         .add_row(["\u{1b}[1mabcdef\u{1b}[0m"])?;
-    println!(rt; "{}", table.to_text()?)?;
-    Ok(())
+    table.to_text()
 }
 
 fn terminal_example(rt: &HostRuntime, table: &mut Table) -> anyhow::Result<()> {

@@ -11,11 +11,7 @@ use std::marker::Model;
 ///
 /// ```
 /// let info = ColumnDisplayInfo::new(&Column::new(0), 12);
-/// for line in &split_line(alloc, "Now add some text", &info, ' ')? {
-///     println!(rt; "{line}")?;
-/// }
-/// // Now add some
-/// // text
+/// let lines = split_line(alloc, "Now add some text", &info, ' ')?;
 /// ```
 #[derive(Debug, Drop)]
 pub struct ColumnDisplayInfo {

@@ -64,10 +64,8 @@ fn is_frame_character(character: char) -> bool
 /// character and of U+00A0. The second text here has three emoji and two joiners, which are drawn as one.
 ///
 /// ```
-/// println!(rt; "{}", adds_up("年度 Ωmega é ✅"))?;
-/// println!(rt; "{}", adds_up("👨‍👩‍👧"))?;
+/// let is_so = adds_up("年度 Ωmega é ✅") && !adds_up("👨‍👩‍👧");
 /// // true
-/// // false
 /// ```
 pub fn adds_up(text: &str) -> bool
     ensures { result ≡ adds_up text.now }

@@ -7,7 +7,7 @@
 /// table
 ///     .enforce_styling()
 ///     .add_row([Cell::new(alloc, "Sum")?.add_attribute(Attribute::Bold)?])?;
-/// println!(rt; "{}", table.to_text()?)?;
+/// let text = table.to_text()?;
 /// // +-----+
 /// // |\u{1b}[1m Sum \u{1b}[0m|
 /// // +-----+

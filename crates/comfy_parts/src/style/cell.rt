@@ -8,7 +8,7 @@
 ///     .set_header(["Position"])?
 ///     .add_row([Cell::new(alloc, "right")?.set_alignment(CellAlignment::Right)])?
 ///     .add_row([Cell::new(alloc, "mid")?.set_alignment(CellAlignment::Center)])?;
-/// println!(rt; "{}", table.to_text()?)?;
+/// let text = table.to_text()?;
 /// // +----------+
 /// // | Position |
 /// // +==========+

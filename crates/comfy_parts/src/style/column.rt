@@ -25,7 +25,7 @@ pub enum Width {
 ///         ColumnConstraint::Hidden,
 ///         ColumnConstraint::Absolute(Width::Fixed(4)),
 ///     ]);
-/// println!(rt; "{}", table.to_text()?)?;
+/// let text = table.to_text()?;
 /// // +---------+----+
 /// // | three   | he |
 /// // |         | re |

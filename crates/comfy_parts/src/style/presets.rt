@@ -524,7 +524,7 @@ pub fn by_name(name: &str) -> Option<TableStyle>
 /// position there is none.
 ///
 /// ```
-/// println!(rt; "{}", by_position(7) == Some(UTF8_FULL))?;
+/// let is_so = by_position(7) == Some(UTF8_FULL);
 /// // true
 /// ```
 pub fn by_position(position: usize) -> Option<TableStyle>

@@ -8,7 +8,7 @@
 ///     .set_content_arrangement(ContentArrangement::Dynamic)
 ///     .set_width(20)
 ///     .add_row(["17", "at dock 3 since Monday"])?;
-/// println!(rt; "{}", table.to_text()?)?;
+/// let text = table.to_text()?;
 /// // +----+-------------+
 /// // | 17 | at dock 3   |
 /// // |    | since       |

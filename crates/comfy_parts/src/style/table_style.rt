@@ -192,7 +192,7 @@ impl ContentLineStyle {
 ///     .load_style(style)
 ///     .set_header(["a", "b"])?
 ///     .add_row(["c", "d"])?;
-/// println!(rt; "{}", table.trim_fmt()?)?;
+/// let text = table.trim_fmt()?;
 /// //  a   b
 /// // === ===
 /// //  c | d

@@ -12,16 +12,9 @@ use std::marker::Model;
 /// `Table::column_cells_with_header_iter` make it.
 ///
 /// ```
-/// let mut table = Table::new(alloc);
-/// table.add_row(["17", "dock 3"])?.add_row(["18"])?;
-/// for cell in table.column_cells_iter(1) {
-///     match cell {
-///         Some(cell) => println!(rt; "{}", cell.content()?)?,
-///         None => println!(rt; "none")?,
-///     }
+/// if let Some(Some(cell)) = table.column_cells_iter(1).next() {
+///     let first = cell.content()?;
 /// }
-/// // dock 3
-/// // none
 /// ```
 #[derive(Drop)]
 pub struct ColumnCellIter<'a> {

@@ -94,12 +94,7 @@ impl Table {
     /// lines are what stands between these: `laws::lines_are_found_in_their_texts`.
     ///
     /// ```
-    /// let mut table = Table::new(alloc);
-    /// table.load_style(UTF8_FULL).add_row(["17", "dock 3"])?;
-    /// println!(rt; "{}", table.to_text()?)?;
-    /// // ┌────┬────────┐
-    /// // │ 17 ┆ dock 3 │
-    /// // └────┴────────┘
+    /// let drawing = table.to_text()?;
     /// ```
     pub fn to_text(&self) -> Result<String>
         ensures { IfOk result (λ text. IsTextOf self.now (string_bytes text)) }

@@ -127,7 +127,7 @@ impl Table {
     ///     .set_content_arrangement(ContentArrangement::Dynamic)
     ///     .set_width(7)
     ///     .add_row(["\u{1b}[1mabcdef\u{1b}[0m"])?;
-    /// println!(rt; "{}", table.to_text()?)?;
+    /// let text = table.to_text()?;
     /// // +-----+
     /// // | \u{1b}[1mabc\u{1b}[0m |
     /// // | \u{1b}[1mdef\u{1b}[0m |
