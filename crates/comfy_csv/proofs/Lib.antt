@@ -8,4 +8,5 @@ pub mod PlainLemmas
 pub mod RecordLemmas
 pub mod RowLemmas
 pub mod RunLemmas
+pub mod StraightLemmas
 pub mod TableLemmas

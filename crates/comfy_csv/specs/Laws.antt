@@ -1,12 +1,14 @@
 -- What is so of every output.
 use Rattle.std.specs.Prelude.{◌≡◌, ℕ, ◌<◌, ◌≤◌, Bool, true, false, List, [], ◌++◌, Some, None, Ok, All, drop, length, map, max, slice_get, unwrap_or, if◌then◌else◌}
-use Rattle.comfy_parts.specs.CellValue.{plain_cell}
-use Rattle.comfy_parts.specs.Columns.{IsOneColumnStyle}
+use Rattle.comfy_parts.specs.CellValue.{ColumnInfo, plain_cell}
+use Rattle.comfy_parts.specs.Columns.{AddsUp, IsOneColumnStyle}
 use Rattle.comfy_parts.specs.Text.{Text, is_printable_ascii, measure}
-use Rattle.comfy_table.specs.Drawing.{terminated_text_of}
+use Rattle.comfy_table.specs.Arrangement.{IsArranged}
+use Rattle.comfy_table.specs.Drawing.{infos_of, terminated_text_of}
 use Rattle.comfy_table.specs.Headline.{EachLineCounts, IsTableDrawing}
 use Rattle.comfy_table.specs.Laws.{IsPlainTable, count, least_total}
 use Rattle.comfy_table.specs.NewTables.{AreEquallyWide}
+use Rattle.comfy_table.specs.Pieces.{visible_infos}
 use Rattle.comfy_table.specs.TableValue.{TableValue}
 use Rattle.comfy_table.specs.Widths.{visible_count}
 use Rattle.comfy_csv.specs.Cells.{drawn_text, row_for}
@@ -94,6 +96,13 @@ IsStraightOutput options records output =
 abbrev pub OutputIsStraight : Options → List (List Text) → Text → Type 0
 OutputIsStraight options records output =
     IsOneColumnStyle options.look.style → IsPlainLook options.look → options.look.width ≡ None → EachText (λ text. measure text ≤ 65535) options.look records
+    → IsOutputOf options records output → IsStraightOutput options records output
+
+-- and under every width, for texts whose characters add up, where each column has at least two terminal columns
+abbrev pub WideOutputIsStraight : Options → List (List Text) → Text → Type 0
+WideOutputIsStraight options records output =
+    IsOneColumnStyle options.look.style → IsPlainLook options.look → EachText AddsUp options.look records
+    → ((table : TableValue) (widths : List ℕ) → table_for options records ≡ Ok table → IsArranged table widths → All (λ (p : ℕ × ColumnInfo). 2 ≤ p.1.content_width) (visible_infos (infos_of table widths)))
     → IsOutputOf options records output → IsStraightOutput options records output
 
 -- a field of printable ASCII is drawn as such text
