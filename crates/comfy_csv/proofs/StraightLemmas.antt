@@ -48,7 +48,7 @@ wide_is_straight options records output characters plain each wide made = (
   made.is_drawing.0,
   made.joined ∙ ap (λ t. t ++ note_for options.limit (row_count options.has_header (length records))) made.is_drawing.2,
   built_is_equally_wide base plain.no_sequences (rw plain.no_bold refl) AddsUpInRow table known made.is_drawing.0 drawing
-  (record { characters = characters_known base plain.no_sequences AddsUpInRow table known characters; apart = inr (inl (padded base plain.no_sequences AddsUpInRow table known)); fits = inr (inl fits) }),
+      (record { characters = characters_known base plain.no_sequences AddsUpInRow table known characters; apart = inr (inl (padded base plain.no_sequences AddsUpInRow table known)); fits = inr (inl fits) }),
 )
   where
     base : TableValue
