@@ -1,7 +1,8 @@
 #!/bin/sh
 # Runs a built ctable or csvtable where its memory, its input or its output ends, and with words that aren't text. It
-# compares its status and what it says on standard error. In each of these runs nothing may stand on standard output. It
-# prints a line for each, and ends with status 1 where one is otherwise than written here.
+# compares its status and what it says on standard error. In each of these runs nothing may stand on standard output. Of
+# csvtable it also compares what is written of a file and of standard input. It prints a line for each run, and ends with
+# status 1 where one is otherwise than written here.
 #
 # usage: tools/edges.sh PROGRAM, as tools/edges.sh crates/ctable/out/ctable
 set -u
