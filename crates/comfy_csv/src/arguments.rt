@@ -64,17 +64,25 @@ pub fn asked_of<'a>(
     let mut command = command(alloc)?;
     let matches = command.try_get_matches_from_mut(words)?;
     let Some(delimiter) = delimiter_of(matches.get_str("delimiter")) else {
-        return Err(command.error(
-            ErrorKind::InvalidValue,
-            "the delimiter is one ASCII character, or `tab`; it's no quote and no line end",
-        )?);
+        return Err(no_delimiter(&mut command)?);
     };
     let options = options_of(alloc, &matches, delimiter, surroundings)?;
-    let file = match matches.get_str("file") {
-        None | Some("-") => None,
-        Some(path) => Some(String::from_str(alloc, path)?),
-    };
+    let file = file_of(alloc, matches.get_str("file"))?;
     Ok(Asked { options, file })
+}
+
+fn no_delimiter<'a>(command: &mut Command<'a>) -> Result<Error, AllocError> {
+    command.error(
+        ErrorKind::InvalidValue,
+        "the delimiter is one ASCII character, or `tab`; it's no quote and no line end",
+    )
+}
+
+fn file_of(alloc: Global, word: Option<&str>) -> Result<Option<String>, AllocError> {
+    match word {
+        None | Some("-") => Ok(None),
+        Some(path) => Ok(Some(String::from_str(alloc, path)?)),
+    }
 }
 
 // The program's words, for clap.
@@ -82,110 +90,165 @@ fn command<'a>(alloc: Global) -> Result<Command<'a>, AllocError> {
     let command = Command::new(alloc, "csvtable")
         .version("1.0.0")
         .about("Draws the records of a CSV file as a table");
-    with_looks(alloc, with_columns(alloc, with_input(alloc, command)?)?)
+    let command = with_columns(alloc, with_input(alloc, command)?)?;
+    with_text(alloc, with_looks(alloc, command)?)
 }
 
 // The words on the input.
 fn with_input<'a>(alloc: Global, command: Command<'a>) -> Result<Command<'a>, AllocError> {
     command
-        .arg(
-            Arg::new(alloc, "file").value_name("FILE").help(
-                "The file to read; standard input where it is missing or `-`",
-            ),
-        )?
-        .arg(valued(alloc, "delimiter", 'd', "CHAR").help(
+        .arg(file(alloc))?
+        .arg(valued(
+            alloc,
+            "delimiter",
+            'd',
+            "CHAR",
             "What stands between fields; a comma without it, `tab` for TAB",
         ))?
-        .arg(
-            Arg::new(alloc, "no-header")
-                .short('n')
-                .long("no-header")
-                .action(ArgAction::SetTrue)
-                .help("The first record is a row, not the header"),
-        )?
-        .arg(
-            Arg::new(alloc, "limit")
-                .long("limit")
-                .value_name("N")
-                .value_parser(value_parser!(usize))
-                .help("Draw the first N records, and say below how many there are"),
-        )
+        .arg(no_header(alloc))?
+        .arg(limit(alloc))
 }
 
-// An option with a value and a letter.
-fn valued<'a>(alloc: Global, name: &'a str, letter: char, value: &'a str) -> Arg<'a> {
-    Arg::new(alloc, name)
-        .short(letter)
-        .long(name)
-        .value_name(value)
+fn file<'a>(alloc: Global) -> Arg<'a> {
+    Arg::new(alloc, "file").value_name("FILE").help(
+        "The file to read; standard input where it is missing or `-`",
+    )
+}
+
+fn no_header<'a>(alloc: Global) -> Arg<'a> {
+    flag(
+        alloc,
+        "no-header",
+        "The first record is a row, not the header",
+    )
+    .short('n')
+}
+
+fn limit<'a>(alloc: Global) -> Arg<'a> {
+    long(
+        alloc,
+        "limit",
+        "N",
+        "Draw the first N records, and say below how many there are",
+    )
+    .value_parser(value_parser!(usize))
 }
 
 // The words on columns.
 fn with_columns<'a>(alloc: Global, command: Command<'a>) -> Result<Command<'a>, AllocError> {
     command
-        .arg(valued(alloc, "columns", 'c', "LIST").help(
+        .arg(valued(
+            alloc,
+            "columns",
+            'c',
+            "LIST",
             "Draw these columns, by name or number and in this order, as `name,3-5`",
         ))?
-        .arg(valued(alloc, "right", 'r', "LIST").help(
+        .arg(valued(
+            alloc,
+            "right",
+            'r',
+            "LIST",
             "Columns at the right, beside those that hold numbers alone",
         ))?
-        .arg(
-            Arg::new(alloc, "left")
-                .long("left")
-                .value_name("LIST")
-                .help("Columns at the left, numbers or not"),
-        )
+        .arg(long(alloc, "left", "LIST", "Columns at the left, numbers or not"))
 }
 
 // The words on what the table looks like.
 fn with_looks<'a>(alloc: Global, command: Command<'a>) -> Result<Command<'a>, AllocError> {
-    with_text(
+    command
+        .arg(width(alloc))?
+        .arg(flag(alloc, "full", "Fill the width"))?
+        .arg(style(alloc))?
+        .arg(max_height(alloc))
+}
+
+fn width<'a>(alloc: Global) -> Arg<'a> {
+    valued(
         alloc,
-        command
-            .arg(
-                valued(alloc, "width", 'w', "N")
-                    .value_parser(value_parser!(u16))
-                    .help(
-                        "The width to keep to; COLUMNS without it, where standard output is a terminal",
-                    ),
-            )?
-            .arg(flag(alloc, "full").help("Fill the width"))?
-            .arg(
-                valued(alloc, "style", 's', "NAME")
-                    .value_parser(STYLES.as_slice())
-                    .help("A preset; UTF8_FULL with rounded corners without it"),
-            )?
-            .arg(
-                valued(alloc, "max-height", 'm', "N")
-                    .value_parser(value_parser!(usize))
-                    .help("How many lines a row has at most"),
-            )?,
+        "width",
+        'w',
+        "N",
+        "The width to keep to; COLUMNS without it, where standard output is a terminal",
     )
+    .value_parser(value_parser!(u16))
+}
+
+fn style<'a>(alloc: Global) -> Arg<'a> {
+    valued(
+        alloc,
+        "style",
+        's',
+        "NAME",
+        "A preset; UTF8_FULL with rounded corners without it",
+    )
+    .value_parser(STYLES.as_slice())
+}
+
+fn max_height<'a>(alloc: Global) -> Arg<'a> {
+    valued(
+        alloc,
+        "max-height",
+        'm',
+        "N",
+        "How many lines a row has at most",
+    )
+    .value_parser(value_parser!(usize))
 }
 
 // The words on how fields are written.
 fn with_text<'a>(alloc: Global, command: Command<'a>) -> Result<Command<'a>, AllocError> {
     command
-        .arg(
-            flag(alloc, "markdown")
-                .conflicts_with("style")?
-                .help("Draw a table for Markdown"),
-        )?
-        .arg(
-            Arg::new(alloc, "color")
-                .long("color")
-                .value_name("WHEN")
-                .value_parser(COLORS.as_slice())
-                .default_value("auto")
-                .help("The header in bold; `auto` is in a terminal, unless NO_COLOR is set"),
-        )?
-        .arg(flag(alloc, "ansi").help("SGR sequences in fields count no columns"))?
-        .arg(flag(alloc, "raw").help("Leave TABs and control characters in fields as they are"))
+        .arg(markdown(alloc)?)?
+        .arg(color(alloc))?
+        .arg(flag(alloc, "ansi", "SGR sequences in fields count no columns"))?
+        .arg(flag(
+            alloc,
+            "raw",
+            "Leave TABs and control characters in fields as they are",
+        ))
+}
+
+fn markdown<'a>(alloc: Global) -> Result<Arg<'a>, AllocError> {
+    flag(alloc, "markdown", "Draw a table for Markdown").conflicts_with("style")
+}
+
+fn color<'a>(alloc: Global) -> Arg<'a> {
+    long(
+        alloc,
+        "color",
+        "WHEN",
+        "The header in bold; `auto` is in a terminal, unless NO_COLOR is set",
+    )
+    .value_parser(COLORS.as_slice())
+    .default_value("auto")
+}
+
+// An option with a value and a letter.
+fn valued<'a>(
+    alloc: Global,
+    name: &'a str,
+    letter: char,
+    value: &'a str,
+    help: &'a str,
+) -> Arg<'a> {
+    long(alloc, name, value, help).short(letter)
+}
+
+// An option with a value.
+fn long<'a>(alloc: Global, name: &'a str, value: &'a str, help: &'a str) -> Arg<'a> {
+    Arg::new(alloc, name)
+        .long(name)
+        .value_name(value)
+        .help(help)
 }
 
 // An option without a value.
-fn flag<'a>(alloc: Global, name: &'a str) -> Arg<'a> {
-    Arg::new(alloc, name).long(name).action(ArgAction::SetTrue)
+fn flag<'a>(alloc: Global, name: &'a str, help: &'a str) -> Arg<'a> {
+    Arg::new(alloc, name)
+        .long(name)
+        .action(ArgAction::SetTrue)
+        .help(help)
 }
 
 // The byte that a word asks for.

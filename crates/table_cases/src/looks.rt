@@ -25,8 +25,10 @@ fn rgb(word: &str) -> Result<Color> {
 }
 
 fn byte(word: &str) -> Result<u8> {
-    word.parse::<u8>()
-        .map_err(|_| Fault::NotRead("a number isn't of 0 to 255"))
+    match word.parse::<u8>() {
+        Ok(byte) => Ok(byte),
+        Err(_) => Err(Fault::NotRead("a number isn't of 0 to 255")),
+    }
 }
 
 fn named_color(word: &str) -> Result<Color> {

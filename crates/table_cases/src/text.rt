@@ -52,13 +52,18 @@ pub fn number(word: &str) -> Result<usize> {
     if !word.bytes().all(|byte| byte.is_ascii_digit()) {
         return Err(Fault::NotRead("a number has digits alone"));
     }
-    word.parse::<usize>()
-        .map_err(|_| Fault::NotRead("a number is empty or too great"))
+    match word.parse::<usize>() {
+        Ok(number) => Ok(number),
+        Err(_) => Err(Fault::NotRead("a number is empty or too great")),
+    }
 }
 
 /// The number of terminal columns that some digits stand for, at most 65535.
 pub fn width(word: &str) -> Result<u16> {
-    u16::try_from(number(word)?).map_err(|_| Fault::NotRead("a number is past 65535"))
+    match u16::try_from(number(word)?) {
+        Ok(width) => Ok(width),
+        Err(_) => Err(Fault::NotRead("a number is past 65535")),
+    }
 }
 
 /// The one word that is wanted.

@@ -500,23 +500,23 @@ pub const NOTHING: TableStyle = TableStyle {
 pub fn by_name(name: &str) -> Option<TableStyle>
     ensures { result ≡ preset_named name.now }
 {
-    let style = match name {
-        "ASCII_FULL" => ASCII_FULL,
-        "ASCII_FULL_CONDENSED" => ASCII_FULL_CONDENSED,
-        "ASCII_NO_BORDERS" => ASCII_NO_BORDERS,
-        "ASCII_BORDERS_ONLY" => ASCII_BORDERS_ONLY,
-        "ASCII_BORDERS_ONLY_CONDENSED" => ASCII_BORDERS_ONLY_CONDENSED,
-        "ASCII_HORIZONTAL_ONLY" => ASCII_HORIZONTAL_ONLY,
-        "ASCII_MARKDOWN" => ASCII_MARKDOWN,
-        "UTF8_FULL" => UTF8_FULL,
-        "UTF8_FULL_CONDENSED" => UTF8_FULL_CONDENSED,
-        "UTF8_NO_BORDERS" => UTF8_NO_BORDERS,
-        "UTF8_BORDERS_ONLY" => UTF8_BORDERS_ONLY,
-        "UTF8_HORIZONTAL_ONLY" => UTF8_HORIZONTAL_ONLY,
-        "NOTHING" => NOTHING,
+    let position = match name {
+        "ASCII_FULL" => 0,
+        "ASCII_FULL_CONDENSED" => 1,
+        "ASCII_NO_BORDERS" => 2,
+        "ASCII_BORDERS_ONLY" => 3,
+        "ASCII_BORDERS_ONLY_CONDENSED" => 4,
+        "ASCII_HORIZONTAL_ONLY" => 5,
+        "ASCII_MARKDOWN" => 6,
+        "UTF8_FULL" => 7,
+        "UTF8_FULL_CONDENSED" => 8,
+        "UTF8_NO_BORDERS" => 9,
+        "UTF8_BORDERS_ONLY" => 10,
+        "UTF8_HORIZONTAL_ONLY" => 11,
+        "NOTHING" => 12,
         _ => return None,
     };
-    Some(style)
+    by_position(position)
 }
 
 /// The preset at this position, counted from 0 in the order in which this module has them: `ASCII_FULL` comes first,

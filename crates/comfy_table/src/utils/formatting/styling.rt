@@ -1,6 +1,6 @@
 //! Colours and attributes as the sequences that a terminal takes them in: ESC, `[`, a code, `m`.
 
-ghost use Rattle.std.specs.Prelude.{◌≡◌, ◌++◌, OnOk, filter, flat_map, string_bytes};
+ghost use Rattle.std.specs.Prelude.{◌≡◌, ◌++◌, OnOk, codes, filter, flat_map, string_bytes};
 ghost use Rattle.comfy_parts.specs.VisibleText.{reset};
 ghost use Rattle.comfy_table.specs.Styling.{sequence, color_code, foreground_code, background_code, attribute_code, has_attribute, attribute_sequences, optional_sequence, style_begin, style_end};
 
@@ -50,11 +50,28 @@ pub(crate) fn push_style_begin(line: &mut String, cell: &Cell) -> Result<()>
     Ok(())
 }
 
+/// Appends what stands after a styled text.
+pub(crate) fn push_style_end(line: &mut String, cell: &Cell) -> Result<()>
+    ensures { OnOk result (string_bytes line.new ≡ string_bytes line.old ++ style_end cell.now) }
+{
+    if !cell.attributes().is_empty() {
+        return push_reset(line);
+    }
+    if cell.background().is_some() {
+        line.push_str("\u{1b}[49m")?;
+    }
+    if cell.foreground().is_some() {
+        line.push_str("\u{1b}[39m")?;
+    }
+    Ok(())
+}
+
 /// Appends the sequence that closes all others.
 pub(crate) fn push_reset(line: &mut String) -> Result<()>
     ensures { OnOk result (string_bytes line.new ≡ string_bytes line.old ++ reset) }
 {
-    push_sequence(line, "0")
+    line.push_str("\u{1b}[0m")?;
+    Ok(())
 }
 
 fn push_background(line: &mut String, color: Option<Color>) -> Result<()>
@@ -63,10 +80,12 @@ fn push_background(line: &mut String, color: Option<Color>) -> Result<()>
     let Some(color) = color else {
         return Ok(());
     };
-    line.push_str("\u{1b}[")?;
-    push_background_code(line, color)?;
-    line.push_str("m")?;
-    Ok(())
+    if color == Color::Reset {
+        line.push_str("\u{1b}[49m")?;
+        return Ok(());
+    }
+    line.push_str("\u{1b}[48;")?;
+    push_color_code(line, color)
 }
 
 fn push_foreground(line: &mut String, color: Option<Color>) -> Result<()>
@@ -75,37 +94,27 @@ fn push_foreground(line: &mut String, color: Option<Color>) -> Result<()>
     let Some(color) = color else {
         return Ok(());
     };
-    line.push_str("\u{1b}[")?;
-    push_foreground_code(line, color)?;
-    line.push_str("m")?;
-    Ok(())
-}
-
-/// Appends what stands after a styled text.
-pub(crate) fn push_style_end(line: &mut String, cell: &Cell) -> Result<()>
-    ensures { OnOk result (string_bytes line.new ≡ string_bytes line.old ++ style_end cell.now) }
-{
-    if !cell.attributes().is_empty() {
-        return push_sequence(line, "0");
+    if color == Color::Reset {
+        line.push_str("\u{1b}[39m")?;
+        return Ok(());
     }
-    if cell.background().is_some() {
-        push_sequence(line, "49")?;
-    }
-    if cell.foreground().is_some() {
-        push_sequence(line, "39")?;
-    }
-    Ok(())
+    line.push_str("\u{1b}[38;")?;
+    push_color_code(line, color)
 }
 
 // The sequences of these attributes, each once and in the order of all.
 fn push_attributes(line: &mut String, given: &[Attribute]) -> Result<()>
     ensures { OnOk result (string_bytes line.new ≡ string_bytes line.old ++ attribute_sequences given.now) }
 {
-    // most cells have none
-    if given.is_empty() {
-        return Ok(());
+    // most cells have none, or one
+    match given {
+        [] => Ok(()),
+        [attribute] => {
+            line.push_str(attribute_sequence(*attribute))?;
+            Ok(())
+        }
+        _ => push_given(line, &ALL_ATTRIBUTES, given),
     }
-    push_given(line, &ALL_ATTRIBUTES, given)
 }
 
 // The sequences of those attributes that were given.
@@ -114,7 +123,7 @@ fn push_given(line: &mut String, attributes: &[Attribute], given: &[Attribute]) 
 {
     for attribute in attributes {
         if has_attribute(given, *attribute) {
-            push_sequence(line, attribute_code(*attribute))?;
+            line.push_str(attribute_sequence(*attribute))?;
         }
     }
     Ok(())
@@ -126,103 +135,73 @@ fn has_attribute(given: &[Attribute], attribute: Attribute) -> bool
     given.iter().any(|other| attribute == *other)
 }
 
-fn push_sequence(line: &mut String, code: &str) -> Result<()>
-    ensures { OnOk result (string_bytes line.new ≡ string_bytes line.old ++ sequence code.now) }
-{
-    line.push_str("\u{1b}[")?;
-    line.push_str(code)?;
-    line.push_str("m")?;
-    Ok(())
-}
-
-fn push_background_code(line: &mut String, color: Color) -> Result<()>
-    ensures { OnOk result (string_bytes line.new ≡ string_bytes line.old ++ background_code color) }
-{
-    if color == Color::Reset {
-        line.push_str("49")?;
-        return Ok(());
-    }
-    line.push_str("48;")?;
-    push_color_code(line, color)
-}
-
-fn push_foreground_code(line: &mut String, color: Color) -> Result<()>
-    ensures { OnOk result (string_bytes line.new ≡ string_bytes line.old ++ foreground_code color) }
-{
-    if color == Color::Reset {
-        line.push_str("39")?;
-        return Ok(());
-    }
-    line.push_str("38;")?;
-    push_color_code(line, color)
-}
-
-// The code of a colour other than `Reset`: by its number of sixteen or of 256, or by its three parts.
-fn push_color_code(code: &mut String, color: Color) -> Result<()>
-    ensures { OnOk result (string_bytes code.new ≡ string_bytes code.old ++ color_code color) }
+// Appends the code of a colour other than `Reset`, and the `m` that ends its sequence: by its number of sixteen or of 256,
+// or by its three parts.
+fn push_color_code(line: &mut String, color: Color) -> Result<()>
+    ensures { OnOk result (string_bytes line.new ≡ string_bytes line.old ++ (color_code color ++ codes "m")) }
 {
     let named = match color {
-        Color::Reset => "",
-        Color::Black => "5;0",
-        Color::DarkRed => "5;1",
-        Color::DarkGreen => "5;2",
-        Color::DarkYellow => "5;3",
-        Color::DarkBlue => "5;4",
-        Color::DarkMagenta => "5;5",
-        Color::DarkCyan => "5;6",
-        Color::Grey => "5;7",
-        Color::DarkGrey => "5;8",
-        Color::Red => "5;9",
-        Color::Green => "5;10",
-        Color::Yellow => "5;11",
-        Color::Blue => "5;12",
-        Color::Magenta => "5;13",
-        Color::Cyan => "5;14",
-        Color::White => "5;15",
+        Color::Reset => "m",
+        Color::Black => "5;0m",
+        Color::DarkRed => "5;1m",
+        Color::DarkGreen => "5;2m",
+        Color::DarkYellow => "5;3m",
+        Color::DarkBlue => "5;4m",
+        Color::DarkMagenta => "5;5m",
+        Color::DarkCyan => "5;6m",
+        Color::Grey => "5;7m",
+        Color::DarkGrey => "5;8m",
+        Color::Red => "5;9m",
+        Color::Green => "5;10m",
+        Color::Yellow => "5;11m",
+        Color::Blue => "5;12m",
+        Color::Magenta => "5;13m",
+        Color::Cyan => "5;14m",
+        Color::White => "5;15m",
         Color::AnsiValue(value) => {
-            write!(code, "5;{value}")?;
+            write!(line, "5;{value}m")?;
             return Ok(());
         }
         Color::Rgb { r, g, b } => {
-            write!(code, "2;{r};{g};{b}")?;
+            write!(line, "2;{r};{g};{b}m")?;
             return Ok(());
         }
     };
-    code.push_str(named)?;
+    line.push_str(named)?;
     Ok(())
 }
 
-fn attribute_code(attribute: Attribute) -> &'static str
-    ensures { result.now ≡ attribute_code attribute }
+fn attribute_sequence(attribute: Attribute) -> &'static str
+    ensures { result.now ≡ sequence (attribute_code attribute) }
 {
     match attribute {
-        Attribute::Reset => "0",
-        Attribute::Bold => "1",
-        Attribute::Dim => "2",
-        Attribute::Italic => "3",
-        Attribute::Underlined => "4",
-        Attribute::DoubleUnderlined => "4:2",
-        Attribute::Undercurled => "4:3",
-        Attribute::Underdotted => "4:4",
-        Attribute::Underdashed => "4:5",
-        Attribute::SlowBlink => "5",
-        Attribute::RapidBlink => "6",
-        Attribute::Reverse => "7",
-        Attribute::Hidden => "8",
-        Attribute::CrossedOut => "9",
-        Attribute::Fraktur => "20",
-        Attribute::NoBold => "21",
-        Attribute::NormalIntensity => "22",
-        Attribute::NoItalic => "23",
-        Attribute::NoUnderline => "24",
-        Attribute::NoBlink => "25",
-        Attribute::NoReverse => "27",
-        Attribute::NoHidden => "28",
-        Attribute::NotCrossedOut => "29",
-        Attribute::Framed => "51",
-        Attribute::Encircled => "52",
-        Attribute::OverLined => "53",
-        Attribute::NotFramedOrEncircled => "54",
-        Attribute::NotOverLined => "55",
+        Attribute::Reset => "\u{1b}[0m",
+        Attribute::Bold => "\u{1b}[1m",
+        Attribute::Dim => "\u{1b}[2m",
+        Attribute::Italic => "\u{1b}[3m",
+        Attribute::Underlined => "\u{1b}[4m",
+        Attribute::DoubleUnderlined => "\u{1b}[4:2m",
+        Attribute::Undercurled => "\u{1b}[4:3m",
+        Attribute::Underdotted => "\u{1b}[4:4m",
+        Attribute::Underdashed => "\u{1b}[4:5m",
+        Attribute::SlowBlink => "\u{1b}[5m",
+        Attribute::RapidBlink => "\u{1b}[6m",
+        Attribute::Reverse => "\u{1b}[7m",
+        Attribute::Hidden => "\u{1b}[8m",
+        Attribute::CrossedOut => "\u{1b}[9m",
+        Attribute::Fraktur => "\u{1b}[20m",
+        Attribute::NoBold => "\u{1b}[21m",
+        Attribute::NormalIntensity => "\u{1b}[22m",
+        Attribute::NoItalic => "\u{1b}[23m",
+        Attribute::NoUnderline => "\u{1b}[24m",
+        Attribute::NoBlink => "\u{1b}[25m",
+        Attribute::NoReverse => "\u{1b}[27m",
+        Attribute::NoHidden => "\u{1b}[28m",
+        Attribute::NotCrossedOut => "\u{1b}[29m",
+        Attribute::Framed => "\u{1b}[51m",
+        Attribute::Encircled => "\u{1b}[52m",
+        Attribute::OverLined => "\u{1b}[53m",
+        Attribute::NotFramedOrEncircled => "\u{1b}[54m",
+        Attribute::NotOverLined => "\u{1b}[55m",
     }
 }

@@ -1,0 +1,10 @@
+//! Tests of `comfy_parts`, `comfy_table` and `comfy_run`: what no clause says, above all that calls succeed where there is
+//! memory. Expected values come from outside. Nothing stands on this crate.
+#![tactic(auto)]
+
+#[cfg(test)]
+mod parts;
+#[cfg(test)]
+mod run;
+#[cfg(test)]
+mod table;

@@ -1,0 +1,9 @@
+//! Tests of `comfy_parts`.
+
+mod cells;
+mod clones;
+mod columns;
+mod conversions;
+mod sequences;
+mod support;
+mod wrapping;

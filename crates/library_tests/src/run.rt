@@ -1,0 +1,6 @@
+//! Tests of `comfy_run`.
+
+mod counted;
+mod devices;
+mod program;
+mod support;
