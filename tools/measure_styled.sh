@@ -7,7 +7,7 @@
 # that count nothing, and columns are as wide as their contents, or 12, 20 and 40 wide, paddings included.
 #
 # A PROGRAM does what tools/styled/main.rt.txt does. To build that, copy it to crates/styled/src/main.rt, add the line
-# `styled: comfy_table anyhow` to crates.txt, and call `rt run` in crates/styled. tools/original has the same program over
+# `styled: comfy_table anyhow simdutf8` to crates.txt, and call `rt run` in crates/styled. tools/original has the same program over
 # the original, which is built by `cargo build --release --features tty`, or custom_styling for sequences. All programs
 # have to write the same. A ratio is the first program's instructions divided by those of the program that it stands at.
 set -eu
