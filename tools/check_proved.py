@@ -3,8 +3,8 @@
 
     tools/check_proved.py
 
-- docs/PROVED.md: each function, clause and field that it names exists, and each public function has a mutation, one of
-  its `try_` form, or stands in OVER_OTHERS. It says how many lines of definitions a reader must believe.
+- docs/PROVED.md: each function, type, clause and field that it names exists, and each public function has a mutation, one
+  of its `try_` form, or stands in OVER_OTHERS. It says how many lines of definitions a reader must believe.
 - README.md: each label that it cites is a heading of PROVED.md, and what it prints is the output of the stored run.
 - CALLING.md of each library: each clause that it quotes stands in the library's source or in that of a caller.
 - Each mutation changes a function that exists.
@@ -39,7 +39,7 @@ def sources_of(crate):
 
 
 def functions_of(crate):
-    """For each function's name: the names by which a page may call its place, and the names of its clauses."""
+    """For each function's name: the names by which a page may call its place, its clauses, and whether it is public."""
     found = {}
     for path in glob.glob("crates/" + crate + "/src/**/*.rt", root_dir=TOP, recursive=True):
         text = text_of(path)
@@ -50,7 +50,7 @@ def functions_of(crate):
                 block = it[0]
             places = {os.path.basename(path)[: -len(".rt")], *re.findall(r"\w+", block)}
             clauses = set(re.findall(r"ensures\*? (\w+) \{", text[start.start() : after]))
-            found.setdefault(start[1], []).append((places, clauses))
+            found.setdefault(start[1], []).append((places, clauses, "pub " in start[0]))
     return found
 
 
@@ -66,8 +66,15 @@ def wrong_in_section(crate, section):
     for promise in re.findall(r"^Clauses: (.*?)\.\n\n", section + "\n\n", re.M | re.S):
         clauses, _, more = " ".join(promise.split()).partition("; ")
         wrong += [f"no field {it}" for it in re.findall(r"`(\w+)`", more) if it not in fields | WORDS]
+        named = re.findall(r"`([A-Z]\w+)`", clauses)
+        for of_type in set(named) - WORDS:
+            own = {name for name, found in functions.items() if any(of_type in it[0] and it[2] for it in found)}
+            wrong += [f"{crate} has no mutation of {of_type}::{it}" for it in own - mutated - OVER_OTHERS]
+            wrong += [f"{crate} has no type {of_type}"] * (not own)
         for it in re.finditer(r"`([\w:]+)`(?: \(([^)]*)\))?", clauses):
             *place, name = it[1].split("::")
+            if not place and name in named:
+                continue
             found = [one for one in functions.get(name, []) if set(place[-1:]) <= one[0]]
             if not found and name not in WORDS:
                 wrong.append(f"{crate} has no function {it[1]}")
