@@ -7,4 +7,6 @@ mod parts;
 #[cfg(test)]
 mod run;
 #[cfg(test)]
+mod support;
+#[cfg(test)]
 mod table;

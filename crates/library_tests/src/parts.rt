@@ -5,5 +5,4 @@ mod clones;
 mod columns;
 mod conversions;
 mod sequences;
-mod support;
 mod wrapping;

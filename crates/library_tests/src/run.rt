@@ -3,4 +3,3 @@
 mod counted;
 mod devices;
 mod program;
-mod support;

@@ -3,6 +3,5 @@
 mod clones;
 mod extremes;
 mod sequences;
-mod support;
 mod surface;
 mod tables;

@@ -1,6 +1,6 @@
 //! Cells, rows and the error.
 
-use super::support::{assert_content, assert_contents, assert_text, assert_texts};
+use crate::support::{assert_content, assert_contents, assert_text, assert_texts};
 use comfy_parts::style::Attribute;
 use comfy_parts::{Cell, IntoRow, Result, Row, TableError};
 use std::alloc::{Alloc, Global};

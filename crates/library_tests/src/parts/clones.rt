@@ -1,6 +1,6 @@
 //! Copies: they are equal, and stay as they are when what they were made of is changed.
 
-use super::support::assert_content;
+use crate::support::assert_content;
 use comfy_parts::style::{Attribute, Color};
 use comfy_parts::{Cell, IntoRow, Result, Row};
 use std::alloc::{Alloc, Global};

@@ -1,6 +1,6 @@
 //! That each conversion succeeds, and gives the texts that the original's would.
 
-use super::support::{assert_content, assert_contents};
+use crate::support::{assert_content, assert_contents};
 use comfy_parts::style::Color;
 use comfy_parts::{Cell, Cells, IntoCell, IntoCells, IntoRow, Result};
 use std::alloc::{Alloc, Global};

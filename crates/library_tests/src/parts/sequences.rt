@@ -1,6 +1,6 @@
 //! Sequences inside texts and cells: what is visible, and the lines that are written.
 
-use super::support::{assert_content, assert_text, assert_texts};
+use crate::support::{assert_content, assert_text, assert_texts};
 use comfy_parts::content_split::{ColumnDisplayInfo, leaves_sequence_open, visible_text};
 use comfy_parts::for_tables::{has_escape, visible_lines, visible_widths, written_lines};
 use comfy_parts::{Cell, Column, Result};

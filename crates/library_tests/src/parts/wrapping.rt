@@ -1,6 +1,6 @@
 //! Texts and the lines that they are wrapped into.
 
-use super::support::assert_text;
+use crate::support::assert_text;
 use comfy_parts::content_split::{
     ColumnDisplayInfo, measure_text_width, split_line, split_line_by_delimiter, split_line_ref,
     split_long_word,

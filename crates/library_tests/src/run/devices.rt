@@ -1,7 +1,7 @@
 //! Devices that fail, and what a run leaves behind then.
 
 use super::program::README;
-use super::support::{assert_bytes, assert_lines, joined};
+use crate::support::{assert_bytes, assert_output, joined};
 use comfy_run::run::{
     FromReader, MemorySink, MemorySource, RunError, Settings, Sink, Source, ToWriter, drawing_of,
     run,
@@ -58,7 +58,7 @@ fn assert_drawn<R: Source + Drop>(
 ) -> Result<()> {
     let mut sink = MemorySink::new(rt.alloc(), 200, 0)?;
     assert_ends(rt, &mut source, &mut sink, settings, Ok(()));
-    assert_lines(rt, sink.bytes(), lines)
+    assert_output(rt, sink.bytes(), lines)
 }
 
 // Runs on a source that fails: nothing is written, and the source fails from then on.
@@ -112,14 +112,14 @@ fn each_failing_read_ends_the_run(rt: HostRuntime) -> Result<()> {
 #[test]
 fn a_text_in_memory_is_drawn(rt: HostRuntime) -> Result<()> {
     let drawing = drawing_of(rt.alloc(), "a\tb\nc\td\n", PLAIN)?;
-    assert_lines(&rt, drawing.as_bytes(), &OUTPUT)
+    assert_output(&rt, drawing.as_bytes(), &OUTPUT)
 }
 
 #[test]
 fn no_second_write_occurs(rt: HostRuntime) -> Result<()> {
     let mut sink = MemorySink::new(rt.alloc(), 200, 2)?;
     assert_written(&rt, &mut sink);
-    assert_lines(&rt, sink.bytes(), &OUTPUT)
+    assert_output(&rt, sink.bytes(), &OUTPUT)
 }
 
 // Runs on an input into a sink that fails, and compares what it holds then.
@@ -265,7 +265,7 @@ fn a_sink_keeps_that_its_writer_failed(rt: HostRuntime) -> Result<()> {
 fn a_slow_writer_takes_everything(rt: HostRuntime) -> Result<()> {
     let mut writer = slow_writer(rt.alloc(), 18, false);
     assert_written(&rt, &mut ToWriter::new(&mut writer));
-    assert_lines(&rt, writer.bytes.as_slice(), &OUTPUT)
+    assert_output(&rt, writer.bytes.as_slice(), &OUTPUT)
 }
 
 const HELLO: &[u8] = b"Hello\tthere\na\tb\n";
@@ -310,5 +310,5 @@ fn streams_of_std_are_served(rt: HostRuntime) -> Result<()> {
     assert_drawn(&rt, FromReader::new(INPUT), PLAIN, &OUTPUT)?;
     let mut bytes = Vec::new(rt.alloc());
     assert_written(&rt, &mut ToWriter::new(&mut bytes));
-    assert_lines(&rt, bytes.as_slice(), &OUTPUT)
+    assert_output(&rt, bytes.as_slice(), &OUTPUT)
 }

@@ -1,6 +1,6 @@
 //! What the program writes and reports, and its statuses.
 
-use super::support::{assert_bytes, assert_lines};
+use crate::support::{assert_bytes, assert_output};
 use comfy_run::run::{MemorySink, MemorySource, RunError, program};
 use comfy_table::{Result, TableError};
 use std::alloc::{Alloc, AllocError, Global};
@@ -78,8 +78,8 @@ fn assert_ends(
         &mut reports,
     );
     assert_eq!(rt; ended, status);
-    assert_lines(rt, sink.bytes(), output)?;
-    assert_lines(rt, reports.bytes(), messages)
+    assert_output(rt, sink.bytes(), output)?;
+    assert_output(rt, reports.bytes(), messages)
 }
 
 // The words and the input of a run that succeeds, and what it draws.

@@ -1,6 +1,6 @@
 //! Copies of tables: they stay as they are when what they were made of is changed.
 
-use super::support::assert_drawn;
+use crate::support::assert_drawn;
 use comfy_table::{Result, Table};
 use std::alloc::Global;
 

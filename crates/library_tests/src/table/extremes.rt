@@ -1,6 +1,6 @@
 //! Columns in each other's place, replaced rows, and numbers at the ends of their types.
 
-use super::support::assert_drawn;
+use crate::support::assert_drawn;
 use comfy_table::utils::arrangement::arrange_content;
 use comfy_table::{Column, ContentArrangement, IntoRow, Result, Table};
 use std::alloc::Global;

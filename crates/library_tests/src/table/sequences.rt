@@ -1,6 +1,6 @@
 //! Sequences inside the cells of tables: the longest lines and the formatted rows.
 
-use super::support::assert_formatted;
+use crate::support::assert_formatted;
 use comfy_table::utils::arrangement::longest_line;
 use comfy_table::{IntoRow, Result, Table};
 use std::alloc::Global;

@@ -1,6 +1,6 @@
 //! Several rows at once, rows on a condition, and columns: that the calls succeed, and what they mean.
 
-use super::support::{assert_cell, assert_drawn};
+use crate::support::{assert_content, assert_drawn};
 use comfy_table::{ColumnCellIter, ColumnConstraint, IntoRow, Items, Result, Row, Table, Width};
 use std::alloc::{Alloc, Global};
 use std::cell::Cell;
@@ -268,6 +268,21 @@ fn rows_of_two_and_one(alloc: Global) -> Result<Table> {
         .add_row(["Third"])?
         .add_row(["Fourth", "Fifth"])?;
     Ok(table)
+}
+
+// Compares the content of a cell with a text, or that there is no cell.
+fn assert_cell(
+    rt: &impl Abort,
+    cell: Option<&comfy_table::Cell>,
+    wanted: Option<&str>,
+) -> Result<()> {
+    match (cell, wanted) {
+        (Some(cell), Some(text)) => assert_content(rt, cell, text),
+        _ => {
+            assert_eq!(rt; cell.is_some(), wanted.is_some());
+            Ok(())
+        }
+    }
 }
 
 // The cells have these contents, and then there is none.

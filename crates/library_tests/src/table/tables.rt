@@ -1,6 +1,6 @@
 //! Tables: their lines, their text, and the calls that `lines` makes.
 
-use super::support::{assert_drawn, assert_formatted, assert_text, assert_texts};
+use crate::support::{assert_drawn, assert_formatted, assert_text, assert_texts};
 use comfy_table::presets::NOTHING;
 use comfy_table::utils::arrangement::{arrange_content, longest_line};
 use comfy_table::utils::build_table;
