@@ -22,7 +22,7 @@ use Rattle.comfy_parts.specs.contracts.style.color.Color as color
 use Rattle.comfy_parts.specs.contracts.style.color.ColorEq.TheImpl.Laws as color_equiv
 use Rattle.comfy_parts.specs.contracts.style.color.ColorOrd.TheImpl.Laws as color_ord
 
--- an order answers `Equal` where `==` holds, which is where the values are the same
+-- an order returns `Equal` where `==` holds, which is where the values are the same
 pub equal_is_same : {K : Type 0} (E : K → K → Bool) (R : K → K → Ordering) → EqIsSame E → ((a b : K) → E a b ≡ eq_by_cmp R a b) → EqualIsSame R
 equal_is_same E R same ties a b =
     (λ e. (same a b).0 (ties a b ∙ (Equal-is (R a b)).1 e), λ e. (Equal-is (R a b)).0 (sym (ties a b) ∙ (same a b).1 e))

@@ -66,7 +66,7 @@ width-sealed c xs ys seals =
     ap (λ q. q.0) (read-append xs (c ∷ ys) (0, plain)) ∙ ap (λ q. (read_before false xs q).0) (seals r.0 r.1) ∙ read-from xs (r.0 + 1)
     ∙ ap (λ n. str_width false xs + n) more
 
--- the same of a text's bytes
+-- between the bytes of any two texts such a character adds one column
 pub measure-sealed : (c : ℕ) (front back : Text) → IsScalar c → Seals c → IsUtf8 front → measure (front ++ (encode_utf8 c ++ back)) ≡ measure front + (1 + measure back)
 measure-sealed c front back scalar seals utf8 =
     let one = one_character c scalar in

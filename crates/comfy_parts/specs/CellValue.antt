@@ -139,6 +139,6 @@ info_width info = info.padding.0 + info.content_width + info.padding.1
 abbrev pub column_padding : ColumnValue → ℕ
 column_padding column = column.padding.0 + column.padding.1
 
--- the same as `padding_width` returns it: at most 65535
+-- both paddings as `padding_width` returns them: at most 65535
 abbrev pub saturated_padding : ColumnValue → ℕ
 saturated_padding column = min 65535 (column_padding column)

@@ -27,7 +27,7 @@ style_of top header separator body between bottom =
 abbrev pub ascii_full : TableStyle
 ascii_full = style_of "+-++" "|||" "+==+" "|||" "|-+|" "+-++"
 
--- the same without lines between rows
+-- `ascii_full` without lines between rows
 abbrev pub ascii_full_condensed : TableStyle
 ascii_full_condensed = style_of "+-++" "|||" "+==+" "|||" "____" "+-++"
 
@@ -39,7 +39,7 @@ ascii_no_borders = style_of "____" "_|_" "_==_" "_|_" "_-+_" "____"
 abbrev pub ascii_borders_only : TableStyle
 ascii_borders_only = style_of "+--+" "|_|" "+==+" "|_|" "|__|" "+--+"
 
--- the same without lines between rows
+-- `ascii_borders_only` without lines between rows
 abbrev pub ascii_borders_only_condensed : TableStyle
 ascii_borders_only_condensed = style_of "+--+" "|_|" "+==+" "|_|" "____" "+--+"
 
@@ -55,7 +55,7 @@ ascii_markdown = style_of "____" "|||" "|-||" "|||" "____" "____"
 abbrev pub utf8_full : TableStyle
 utf8_full = style_of "┌─┬┐" "│┆│" "╞═╪╡" "│┆│" "├╌┼┤" "└─┴┘"
 
--- the same without lines between rows
+-- `utf8_full` without lines between rows
 abbrev pub utf8_full_condensed : TableStyle
 utf8_full_condensed = style_of "┌─┬┐" "│┆│" "╞═╪╡" "│┆│" "____" "└─┴┘"
 

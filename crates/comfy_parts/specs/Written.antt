@@ -21,7 +21,7 @@ written_at c positions = map (λ (p : ℕ × ℕ). written p.1 (at_byte p.0 c)) 
 abbrev pub wrapped_positions : ℕ → ℕ → Text → List (ℕ × ℕ)
 wrapped_positions w d text = zip (starts_past w d 0 0 text) (map length (wrapped w d text))
 
--- the same of any text
+-- where the lines of any text begin, wrapped only where it doesn't fit, and how long they are
 abbrev pub positions_of_text : ℕ → ℕ → Text → List (ℕ × ℕ)
 positions_of_text w d text = zip (starts_of_text w d text) (map length (lines_of_text w d text))
 

@@ -83,7 +83,7 @@ pub fn printable_measures_its_length()
     ensures clusters { (text : Text) → PrintableClustersAreCharacters text }
 {}
 
-/// Behind any printable ASCII text, a printable ASCII indicator adds one terminal column for each of its characters.
+/// After any printable ASCII text, a printable ASCII indicator adds one terminal column for each of its characters.
 pub fn printable_adds_one_column_each()
     ensures { (indicator : Text) → PrintableAddsOneColumnEach indicator }
 {}

@@ -38,7 +38,7 @@ empty : (text : Text) → length text ≡ 0 → text ≡ []
 empty [] e = refl
 empty (x ∷ xs) e = absurd (omega arith)
 
--- the clauses of a call of a source over memory: what it answers, and what it leaves
+-- the clauses of a call of a source over memory: what it returns, and what it leaves
 pub record IsMemoryRead {E : Type 0} (old new : MemorySourceValue) (was now : Text) (r : Result ℕ E) : Type 0 where
   pub fails : is_err r ≡ is_due old.failed old.fails_at
   pub failed : OnErr r (new ≡ record old { failed = true })

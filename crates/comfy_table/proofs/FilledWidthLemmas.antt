@@ -32,7 +32,7 @@ fixed-places n (column ∷ more) = by_fixed column.fixed (fixed-places (n + 1) m
         let later = rest ∙ map-places (width_at others) (width_at ((n, w) ∷ others)) (n + 1) more (λ i from. sym (width_at-other (n, w) others i (ne_eqb n i (λ same. omega arith)))) in
         λ k. first k ∷ later k
 
--- the same of all columns
+-- the fixed widths of all columns are those that their shares give
 pub fixed-widths_of : (needs : List ColumnNeeds) → map (λ (c : ColumnNeeds). c.fixed) needs ≡ widths_of needs (fixed_shares (places_of needs))
 fixed-widths_of needs = fixed-places 0 needs
 

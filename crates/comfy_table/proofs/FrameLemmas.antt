@@ -23,7 +23,7 @@ between_borders-behind {X} style left junction right f xs l v r start before ins
     ∙ (λ i. start ++ ((if el i then character left else []) ++ (join_by f (if ev i then character junction else []) xs ++ (if er i then character right else []))))
     ∙ ap (λ (t : Text). start ++ ((if draws_left_border style then character left else []) ++ (t ++ (if draws_right_border style then character right else [])))) (sym (join_by-map (λ (p : Text). p) f (if draws_vertical_lines style then character junction else []) xs))
 
--- the same of a line of its own
+-- a line that was made piece by piece is what stands between its borders
 pub between_borders-made : {X : Type 0} (style : TableStyle) (left junction right : Option ℕ) (f : X → Text) (xs : List X) (l v r : Bool) (start before inside whole : Text)
     → l ≡ draws_left_border style → v ≡ draws_vertical_lines style → r ≡ draws_right_border style
     → start ≡ [] → before ≡ start ++ (if l then character left else [])

@@ -13,7 +13,7 @@ use Rattle.comfy_table.specs.TableValue.{TableValue, visible_columns}
 abbrev pub columns_from : ℕ → List ColumnValue → List (ℕ × ColumnValue)
 columns_from n columns = filter (λ (p : ℕ × ColumnValue). not (is_hidden_column p.1)) (enumerate_from n columns)
 
--- the same as they are drawn with some widths
+-- the columns from a position on that aren't hidden, as they are drawn with some widths
 abbrev pub infos_from : ℕ → List ColumnValue → List ℕ → List (ℕ × ColumnInfo)
 infos_from n columns widths =
     filter (λ (p : ℕ × ColumnInfo). not p.1.is_hidden) (enumerate_from n (map (λ (p : ColumnValue × ℕ). info_of p.0 p.1) (zip columns widths)))

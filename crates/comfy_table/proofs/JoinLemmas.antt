@@ -25,7 +25,7 @@ pub join_by_push : {X A : Type 0} (f : X → List A) (separator : List A) (xs : 
 join_by_push f separator [] x = append-nil (f x)
 join_by_push {X} {A} f separator (y ∷ ys) x = grind (arith, flat_map-append, append-nil, append_assoc)
 
--- the same of the front of a list
+-- the front of a list, joined, with one element more
 pub join_by_more : {X A : Type 0} (f : X → List A) (separator : List A) (xs : List X) (i : ℕ) (x : X) → i < length xs → x ≡ slice_index_or xs i x
     → join_by f separator (take (i + 1) xs) ≡ (join_by f separator (take i xs) ++ (if nat_lt 0 i then separator else [])) ++ f x
 join_by_more f separator xs i x below is =

@@ -73,7 +73,7 @@ HasMeasure-spaces n = record { measures = λ rest _. measure-spaces_before n res
 pub HasMeasure-append : (Follows : Text → Type 0) (m n : ℕ) (xs ys : Text) → HasMeasure Follows m xs → Fronts Follows ys → HasMeasure Follows n ys → HasMeasure Follows (m + n) (xs ++ ys)
 HasMeasure-append Follows m n xs ys front fronts back = grind (arith, append_assoc)
 
--- the same where the first adds its columns before every text
+-- two texts of which the first adds its columns before every text
 pub HasMeasure-behind : (Follows : Text → Type 0) (m n : ℕ) (xs ys : Text) → HasMeasure IsAny m xs → HasMeasure Follows n ys → HasMeasure Follows (m + n) (xs ++ ys)
 HasMeasure-behind Follows m n xs ys front back = grind (arith, append_assoc)
 
@@ -90,7 +90,7 @@ pub HasMeasure-when : (b : Bool) (text : Text) → HasMeasure IsAny 1 text → H
 HasMeasure-when true text one = one
 HasMeasure-when false text one = HasMeasure-nil
 
--- the same may follow
+-- a character that is drawn or not may follow
 pub Fronts-when : (Follows : Text → Type 0) (b : Bool) (c : ℕ) → IsFollowing Follows → AddsOneColumn c → Fronts Follows (if b then encode_utf8 c else [])
 Fronts-when Follows true c follows adds rest may = follows.seals c adds rest
 Fronts-when Follows false c follows adds rest may = may

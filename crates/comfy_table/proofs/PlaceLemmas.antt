@@ -4,13 +4,13 @@ use Rattle.std.specs.Prelude.{slice_set}
 use Rattle.std.specs.List.{enumerate_from}
 use Rattle.std.proofs.lemmas.Bool.{eq-eqb, ne_eqb}
 
--- functions that agree from a place on give the columns from there the same
+-- functions that agree from a position on give the columns from there the same
 pub map-places : {A X : Type 0} (f g : ℕ → X) (n : ℕ) (xs : List A) → ((i : ℕ) → n ≤ i → f i ≡ g i) → map (λ (p : ℕ × A). f p.0) (enumerate_from n xs) ≡ map (λ (p : ℕ × A). g p.0) (enumerate_from n xs)
 map-places f g n [] same = refl
 map-places f g n (x ∷ xs) same =
     let first = same n (omega arith) in let rest = map-places f g (n + 1) xs (λ i from. same i (omega arith)) in λ k. first k ∷ rest k
 
--- tests that agree on the places keep the same columns
+-- tests that agree on the positions keep the same columns
 pub filter-places : {A : Type 0} (f g : ℕ → Bool) (n : ℕ) (xs : List A) → ((i : ℕ) → n ≤ i → i < n + length xs → f i ≡ g i)
     → filter (λ (p : ℕ × A). f p.0) (enumerate_from n xs) ≡ filter (λ (p : ℕ × A). g p.0) (enumerate_from n xs)
 filter-places f g n [] same = refl

@@ -67,7 +67,7 @@ undecided_among-widths_of needs shares =
     filter-places (is_undecided (widths_of needs shares)) (λ i. not (has_share shares i)) 0 needs
     (λ i from below. let place : 0 + i ≡ i = omega arith in ap is_none (index-places (width_at shares) 0 needs i (Some 0) (omega arith) ∙ ap (width_at shares) place) ∙ is_none-width_at i shares)
 
--- the same of a test of the widths that shares give
+-- the columns for which shares give no width are those without a share
 pub none-widths_of : (needs : List ColumnNeeds) (shares : List Share) → filter (λ (p : Placed). is_none (width_at shares p.0)) (places_of needs) ≡ without_shares shares (places_of needs)
 none-widths_of needs shares = filter-places (λ i. is_none (width_at shares i)) (λ i. not (has_share shares i)) 0 needs (λ i from below. is_none-width_at i shares)
 

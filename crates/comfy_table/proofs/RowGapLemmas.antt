@@ -21,7 +21,7 @@ module _ {X : Type 0} (gaps : RowGapsValue) (f : X → Text) where
       let more = join_by_more f gaps.junction (y ∷ ys) (suc i) x below is in
       grind (arith, more, append_assoc)
 
-  -- the same of a text with spaces that wait at its end: the next gap takes them
+  -- a piece more, where spaces wait at the text's end: the next gap takes them
   pub gap_more : (xs : List X) (i : ℕ) (x : X) (start line gap before piece : Text) → i < length xs → x ≡ slice_index_or xs i x
       → line ++ before ≡ start ++ made_of xs i → gap ≡ gap_before i gaps → piece ≡ f x
       → line ++ (before ++ (gap ++ piece)) ≡ start ++ made_of xs (i + 1)

@@ -18,20 +18,20 @@ use Rattle.comfy_table.proofs.UndecidedLemmas.{is_undecided-set, length-undecide
 abbrev pub IsBehind : ℕ → ℕ → ℕ → ℕ → Type 0
 IsBehind n place passed i = (i < n) × (((i < place) × (place ≤ i + passed)) ⊎ ((place ≤ i) × (n + place ≤ i + passed)))
 
--- one place on, it is the place itself or was behind it before
+-- one position on, it is the position itself or was passed before
 behind_one_more : (n place passed i : ℕ) → place < n → IsBehind n (position_after n place) (passed + 1) i → (place ≡ i) ⊎ IsBehind n place passed i
 behind_one_more n place passed i within = grind arith
 
--- what was behind the place, and the place itself, are behind the next one
+-- what was passed, and the position itself, are passed at the next one
 behind_next : (n place passed i : ℕ) → place < n → passed < n → IsBehind n place passed i ⊎ (place ≡ i) → IsBehind n (position_after n place) (passed + 1) i
 behind_next n place passed i within fewer behind = grind arith
 
--- all places are behind where as many were passed
+-- all positions are passed where as many were
 all_behind : (n place passed i : ℕ) → place < n → n ≤ passed → i < n → IsBehind n place passed i
 all_behind n place passed i within all below =
     ⊎_elim (λ earlier. (below, inl (earlier, omega (arith, within, all)))) (λ later. (below, inr (later, omega (arith, later, all)))) (cases_lt i place)
 
--- the places since one that is behind are behind
+-- the positions since one that is passed are passed
 between_behind : (n place passed from i : ℕ) → place < n → i < n → IsBehind n place passed from ⊎ (place ≡ from) → IsBetween from place i → IsBehind n place passed i
 between_behind n place passed from i within below since between = grind arith
 
@@ -177,7 +177,7 @@ module _ (rule : Rule) (needs : List ColumnNeeds) (old : Budget) where
             ⊎_elim (λ one. subst (λ (n : ℕ). IsBehind (length needs) (position_after (length needs) place) n place) (sym one) (behind_next (length needs) place 0 place below (omega (arith, below)) (inr refl)))
             (λ more. subst (λ (n : ℕ). IsBehind (length needs) (position_after (length needs) place) n place) (sym more.1) (behind_next (length needs) place passed place below fewer (inr refl))) by
 
-        -- the columns that are left behind the next place were left behind this one
+        -- the columns that are left after the next position were left after this one
         nothing_new : ((j w : ℕ) → is_undecided (slice_set now.widths.items place (Some w)) j ≡ (is_undecided now.widths.items j && not (place == j)))
             → (i : ℕ) (d : ColumnNeeds) → slice_get needs i ≡ Some d → IsBehind (length needs) (position_after (length needs) place) passed' i → is_undecided new.widths.items i ≡ true → width_by_rule rule average' d ≡ None
         nothing_new set i d found behind left =

@@ -36,7 +36,7 @@ undecided_set : (widths : List (Option ℕ)) (t : Share) (columns : List Placed)
 undecided_set widths t [] = refl
 undecided_set widths t (p ∷ more) = grind (arith, is_undecided-set, undecided_set widths t more)
 
--- the same of all columns
+-- where a column gets its share, the undecided columns are those without it
 pub undecided_among-set : (needs : List ColumnNeeds) (widths : List (Option ℕ)) (t : Share) → undecided_among needs (slice_set widths t.0 (Some t.1)) ≡ without_shares (t ∷ []) (undecided_among needs widths)
 undecided_among-set needs widths t = undecided_set widths t (places_of needs)
 

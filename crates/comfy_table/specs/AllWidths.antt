@@ -12,6 +12,6 @@ given_in_order table widths (p ∷ columns) =
     then max 1 (column_content_width table p.0) ∷ given_in_order table widths columns
     else slice_index_or widths 0 1 ∷ given_in_order table (drop 1 widths) columns
 
--- the same for all columns of a table
+-- the widths of all columns of a table, in list order
 abbrev pub all_widths : TableValue → List ℕ → List ℕ
 all_widths table widths = given_in_order table widths (enumerate_from 0 table.columns)

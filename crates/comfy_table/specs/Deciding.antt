@@ -15,7 +15,7 @@ abbrev pub needs_in : TableValue → VisibleColumn → ColumnNeeds
 needs_in table v =
     record { content = v.content; padding = column_padding v.column.now; fixed = v.fixed; lower = v.lower; upper = v.upper; longest = longest_line table v.position v.column.now.delimiter }
 
--- the same of all of them, in list order
+-- what the widths of all visible columns depend on, in list order
 abbrev pub all_needs : TableValue → List VisibleColumn → List ColumnNeeds
 all_needs table columns = map (needs_in table) columns
 
@@ -49,7 +49,7 @@ abbrev pub width_by_rule : Rule → ℕ → ColumnNeeds → Option ℕ
 width_by_rule Lower average column = lower_of_boundary average column.padding column.lower
 width_by_rule Shrunk average column = shrunk_at average column
 
--- the same of the column at a position, where it is undecided
+-- the width by a rule of the column at a position, where it is undecided
 abbrev pub width_at : Rule → ℕ → List ColumnNeeds → List (Option ℕ) → ℕ → Option ℕ
 width_at rule average needs widths position =
     if is_undecided widths position then option_and_then (width_by_rule rule average) (slice_get needs position) else None

@@ -47,7 +47,7 @@ drawing table widths = drawing_of_infos table (infos_of table widths)
 abbrev pub text_of : List Text → Text
 text_of lines = join_with_byte 0x0A lines
 
--- the same, each line without its trailing white space
+-- the lines without their trailing white space, joined by line feeds
 abbrev pub trimmed_text_of : List Text → Text
 trimmed_text_of lines = text_of (map trim_end lines)
 

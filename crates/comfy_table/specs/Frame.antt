@@ -12,7 +12,7 @@ abbrev pub border_count : TableStyle → ℕ → ℕ
 border_count style n =
     (if draws_left_border style then 1 else 0) + (if draws_right_border style then 1 else 0) + (if draws_vertical_lines style then n - 1 else 0)
 
--- the same as `count_border_columns` returns it: at most the greatest `usize`
+-- that count as `count_border_columns` returns it: at most the greatest `usize`
 abbrev pub saturated_border_count : TableStyle → ℕ → ℕ
 saturated_border_count style n = min (2 ^ 64 - 1) (border_count style n)
 

@@ -88,7 +88,7 @@ pub record IsTableDrawing (table : TableValue) (lines : List Text) : Type 0 wher
   pub keeps_to_width : (w : ℕ) → NoConstraints table → table.arrangement ≡ Dynamic → table_width table ≡ Some w → EachLineCounts (λ n. n ≤ max w (least_total table)) table widths
   -- under `DynamicFullWidth` it has exactly that count, where a column is visible
   pub fills_width : (w : ℕ) → NoConstraints table → table.arrangement ≡ DynamicFullWidth → table_width table ≡ Some w → 0 < visible_count table → EachLineCounts (λ n. n ≡ max w (least_total table)) table widths
-  -- under every constraint the same holds with the wider total of the steps that lead to the widths
+  -- under every constraint a line keeps to w or to the wider total of the steps that lead to the widths
   pub keeps_to_wider_total : (w : ℕ) → table.arrangement ≡ Dynamic → table_width table ≡ Some w
       → (steps : Steps) × LeadToWidths table w false widths steps × EachLineCounts (λ n. n ≤ max w (wider_total table steps)) table widths
   pub keeps_to_wider_total_in_full : (w : ℕ) → table.arrangement ≡ DynamicFullWidth → table_width table ≡ Some w

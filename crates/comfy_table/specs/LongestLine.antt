@@ -14,7 +14,7 @@ text_longest_line w d text = greatest (map measure (lines_of_text w d text))
 abbrev pub cell_longest_line : TableValue → ColumnInfo → CellValue → ℕ
 cell_longest_line table info cell = greatest (map (text_longest_line info.content_width (cell_delimiter table info.delimiter cell)) cell.text_lines)
 
--- the same of a cell, as it is seen, that may be missing
+-- the longest line of a cell, as it is seen, that may be missing
 abbrev pub optional_longest_line : TableValue → ColumnInfo → Option CellValue → ℕ
 optional_longest_line table info None = 0
 optional_longest_line table info (Some cell) = cell_longest_line table info (seen_cell table cell)

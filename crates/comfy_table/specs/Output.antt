@@ -40,6 +40,6 @@ pub record WriterValue : Type 0 where
   pub infos : List ColumnInfo
   pub output : OutputValue
 
--- the same with these lines after those of its output
+-- a writer with these lines after those of its output
 abbrev pub with_written : List Text → WriterValue → WriterValue
 with_written more writer = record writer { output = with_lines more writer.output }

@@ -98,7 +98,7 @@ cells_at rows i = map (λ (row : RowValue). slice_get row.cells i) rows
 abbrev pub cells_by_row : TableValue → ℕ → List (Option CellValue)
 cells_by_row table i = cells_at table.rows i
 
--- the same after that of the header, none where there is no header
+-- the header's cell at a position, none where there is no header, and then that of each row
 abbrev pub cells_with_header : TableValue → ℕ → List (Option CellValue)
 cells_with_header table i = option_and_then (λ (row : RowValue). slice_get row.cells i) table.header ∷ cells_by_row table i
 
@@ -123,7 +123,7 @@ should_style table = table.enforce_styling || is_tty table
 abbrev pub visible_cell : CellValue → CellValue
 visible_cell cell = record cell { text_lines = map visible_text cell.text_lines }
 
--- the same of each cell of a row
+-- each text line of a row's cells is replaced by its visible text
 abbrev pub visible_row : RowValue → RowValue
 visible_row row = record row { cells = map visible_cell row.cells }
 
@@ -131,7 +131,7 @@ visible_row row = record row { cells = map visible_cell row.cells }
 abbrev pub seen_cell : TableValue → CellValue → CellValue
 seen_cell table cell = record cell { text_lines = if table.custom_styling then map visible_text cell.text_lines else cell.text_lines }
 
--- the same of a whole table, which then has no custom styling: what joins where a sequence was taken out isn't looked at again
+-- a table as its widths, line ends and cuts are found, which then has no custom styling: what joins where a sequence was taken out isn't looked at again
 abbrev pub seen_table : TableValue → TableValue
 seen_table table =
     record table { header = if table.custom_styling then option_map visible_row table.header else table.header; rows = if table.custom_styling then map visible_row table.rows else table.rows; custom_styling = false }

@@ -1,4 +1,4 @@
--- What `run` may answer on an empty input and on half a character.
+-- What `run` may return on an empty input and on half a character.
 use Rattle.std.proofs.Common.{[], ◌∷◌, refl, Global, None, true, false, arith}
 use Rattle.std.specs.Prelude.{codes}
 use Rattle.comfy_parts.proofs.Computing.{wrapping}

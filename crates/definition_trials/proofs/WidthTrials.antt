@@ -205,7 +205,7 @@ unfolding wrapping
 absolute_widths_and_cuts =
     (14 ∷ 6 ∷ 5 ∷ [], record { one_for_each = refl; hidden_widths = refl; visible_widths = (record { lower = []; level = Some 14; shrunk = [] }, record { lower_taken = refl; level_found = (lit≤ tt, lit≤ tt, lit≤ tt, λ some. refl); shrunk_taken = refl; widths_are = refl }) }, refl)
 
--- the same with an indicator of three places
+-- with an indicator of three columns
 cuts_with_three_points : IsDrawingOf
     (with_indicator "..." (arranged Dynamic 35 (with_constraints (None ∷ Some (Absolute (Fixed 8)) ∷ Some (Absolute (Fixed 7)) ∷ []) (with_heights 4 (table_of ascii_full ("Header1" ∷ "Header2" ∷ "Head" ∷ []) (("This is a very long line with a lot of text" ∷ "This is anotherverylongtextwithlongwords text" ∷ "smol" ∷ []) ∷ ("Now let's\nadd a really long line in the middle of the cell \n and add more multi line stuff" ∷ "This is another text" ∷ "smol" ∷ []) ∷ [])))))) (texts
     ("+----------------+--------+-------+"

@@ -1,4 +1,4 @@
-//! A row that always answers that memory was refused, and what stands in a table after it.
+//! A row that always returns that memory was refused, and what stands in a table after it.
 
 ghost use Rattle.comfy_parts.specs.CellValue.{plain_row};
 ghost use Rattle.std.specs.Prelude.{[]};

@@ -20,7 +20,7 @@ use comfy_table::presets::ASCII_FULL;
 use std::alloc::Global;
 use std::io::{Read, Write};
 
-/// Asks the program for a width that is no number. It answers 2, reads nothing and draws nothing.
+/// Asks the program for a width that is no number. It returns 2, reads nothing and draws nothing.
 pub fn asks_for_no_number<R: Source, W: Sink, F: Sink>(
     alloc: Global,
     source: &mut R,

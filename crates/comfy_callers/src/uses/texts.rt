@@ -77,7 +77,7 @@ pub fn lines_at(alloc: Global, text: &str, width: u16) -> Result<Vec<String>>
     split_line(alloc, text, &info, ' ')
 }
 
-/// The same lines, borrowed, are as many as those of their own.
+/// The borrowed lines of a text are as many as its own.
 pub fn borrows_as_many(alloc: Global, text: &str, info: &ColumnDisplayInfo) -> Result<bool>
     ensures { IfOk result (λ same. same ≡ true) }
 {

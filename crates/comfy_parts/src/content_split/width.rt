@@ -96,7 +96,7 @@ pub fn wide_end(word: &str, columns: usize) -> usize
     wide
 }
 
-// The same, of ends that double.
+// The first of the ends that double by which the word is known to be wide; more bytes than it has where none is.
 fn first_wide_end(word: &str, columns: usize) -> usize
     ensures { IsWideFrom columns result word.now }
 {

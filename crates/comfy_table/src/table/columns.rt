@@ -25,7 +25,7 @@ impl Table {
 
     /// Appends default columns until there are as many as each row has cells. The calls that add rows do this themselves;
     /// it serves after cells were added to a row through `row_mut` or `row_iter_mut`. After `OutOfMemory` the table is
-    /// unchanged. Where no column is wanting it takes no memory and succeeds.
+    /// unchanged. Where no column is missing it takes no memory and succeeds.
     pub fn discover_columns(&mut self) -> Result<()>
         ensures ok { OnOk result (self.new ≡ discovered self.old) }
         ensures every_cell { OnOk result (AllCellsHaveColumns (discovered self.old)) }
@@ -37,7 +37,7 @@ impl Table {
     }
 
     /// The number of columns, once `discover_columns` was called, as this does first. After `OutOfMemory` the table is
-    /// unchanged. Where no column is wanting it takes no memory and succeeds.
+    /// unchanged. Where no column is missing it takes no memory and succeeds.
     pub fn column_count(&mut self) -> Result<usize>
         ensures value { IfOk result (λ count. count ≡ length (discovered self.old).columns) }
         ensures ok { OnOk result (self.new ≡ discovered self.old) }

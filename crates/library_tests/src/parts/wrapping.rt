@@ -47,7 +47,7 @@ fn assert_wrapped(
     Ok(())
 }
 
-// The same of the borrowed lines.
+// The borrowed lines of a text, joined by bars, are these.
 fn assert_wrapped_borrowed(
     rt: &(impl Abort + Alloc<A = Global>),
     text: &str,

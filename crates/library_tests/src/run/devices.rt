@@ -1,4 +1,4 @@
-//! Devices that fail, and what a run leaves behind then.
+//! Devices that fail, and what a run leaves then.
 
 use super::program::README;
 use crate::support::{assert_bytes, assert_output, joined};

@@ -44,7 +44,7 @@ pub(crate) fn optional_frame_line(
     Ok(Some(text))
 }
 
-// The same line, drawn in any case.
+// A line of the frame, drawn whatever parts are set.
 fn frame_line(table: &Table, line: &LineStyle, widths: &[usize]) -> Result<String>
     ensures { IfOk result (λ text. string_bytes text ≡ frame_line table.now.style line.now widths.now) }
 {

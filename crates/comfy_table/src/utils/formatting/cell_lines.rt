@@ -127,7 +127,7 @@ fn has_own_texts(table: &Table, cell: &Cell) -> bool
     table.custom_styling && has_escape(cell)
 }
 
-// The same lines, each made by itself. Most cells need none.
+// The lines of a cell in its row, each made by itself. Most cells need none.
 #[inline(never)]
 fn made_lines<'a>(
     table: &Table,

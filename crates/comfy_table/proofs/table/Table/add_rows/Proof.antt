@@ -1,4 +1,4 @@
--- `add_rows` hands on what `with_rows_added` answers, under the same clauses. Assumes `Logic`.
+-- `add_rows` returns what `with_rows_added` returns, under the same clauses. Assumes `Logic`.
 use Rattle.std.proofs.Common.{[], ◌∷◌, refl}
 use mir.MapTy.{inst_fn}
 use mir.Syntax.{a_type, dcons, dnil}

@@ -1,4 +1,4 @@
--- `add_rows_if` hands on what `with_rows_added_if` answers, under the same clauses. Assumes `Logic`.
+-- `add_rows_if` returns what `with_rows_added_if` returns, under the same clauses. Assumes `Logic`.
 use Rattle.std.proofs.Common.{[], ◌∷◌, refl}
 use mir.MapTy.{inst_fn}
 use mir.Syntax.{a_type, dcons, dnil}

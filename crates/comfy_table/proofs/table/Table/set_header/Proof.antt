@@ -1,4 +1,4 @@
--- `set_header` hands on what `with_header_set` answers, under the same clauses. Assumes `Logic`.
+-- `set_header` returns what `with_header_set` returns, under the same clauses. Assumes `Logic`.
 use Rattle.std.proofs.Common.{[], ◌∷◌, refl}
 use mir.MapTy.{inst_fn}
 use mir.Syntax.{a_type, dcons, dnil}

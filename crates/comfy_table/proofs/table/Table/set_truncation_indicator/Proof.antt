@@ -1,4 +1,4 @@
--- `set_truncation_indicator` hands on what `with_indicator_set` answers, under the same clauses. Assumes `Logic`.
+-- `set_truncation_indicator` returns what `with_indicator_set` returns, under the same clauses. Assumes `Logic`.
 use Rattle.std.proofs.Common.{◌≡◌, [], ◌∷◌, refl, sym}
 use mir.Syntax.{ty_int, ty_ref, imm, named, w8}
 use denote.Plain.{UInt}
