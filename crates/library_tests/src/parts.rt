@@ -1,7 +1,6 @@
 //! Tests of `comfy_parts`.
 
 mod cells;
-mod clones;
 mod columns;
 mod conversions;
 mod sequences;

@@ -1,7 +1,6 @@
 //! That each conversion succeeds, and gives the texts that the original's would.
 
 use crate::support::{assert_content, assert_contents};
-use comfy_parts::style::Color;
 use comfy_parts::{Cell, Cells, IntoCell, IntoCells, IntoRow, Result};
 use std::alloc::{Alloc, Global};
 use std::fmt::{self, Display, Formatter, Write};
@@ -82,17 +81,6 @@ fn lists_are_rows_in_order(rt: HostRuntime) -> Result<()> {
     assert_row(&rt, [-1i64], &["-1"])?;
     assert_row(&rt, ['a', 'b'].into_cells(rt.alloc())?, &["a", "b"])?;
     assert_row(&rt, ["a", "b"].into_row(rt.alloc())?, &["a", "b"])
-}
-
-#[test]
-fn cells_in_an_array_keep_their_settings(rt: HostRuntime) -> Result<()> {
-    let alloc = rt.alloc();
-    let open = Cell::new(alloc, "open")?.fg(Color::Green);
-    let row = [open, Cell::new(alloc, "dock 3")?].into_row(alloc)?;
-    assert_contents(&rt, row.cell_iter().as_slice(), &["open", "dock 3"])?;
-    let colours = row.cell_iter().map(Cell::foreground);
-    assert!(rt; colours.eq([Some(Color::Green), None]));
-    Ok(())
 }
 
 #[test]
