@@ -1,7 +1,7 @@
-//! Several rows at once, and rows on a condition: that the calls succeed, and how often a predicate is asked.
+//! Several rows at once, rows on a condition, and columns: that the calls succeed, and what they mean.
 
 use crate::support::assert_drawn;
-use comfy_table::{IntoRow, Items, Result, Row, Table};
+use comfy_table::{Column, ColumnConstraint, IntoRow, Items, Result, Row, Table, Width};
 use std::alloc::{Alloc, Global};
 use std::cell::Cell;
 use std::process::Abort;
@@ -149,5 +149,82 @@ fn a_predicate_is_asked_with_the_number_of_rows_and_not_of_columns(rt: HostRunti
     assert_asked(&rt, asked, (1, 1));
     let asked = offer_rows(&mut table, Vec::new(rt.alloc()), false)?;
     assert_asked(&rt, asked, (1, 1));
+    Ok(())
+}
+
+fn add_three_rows(table: &mut Table) -> Result<()> {
+    table.try_add_rows([["a", "b"]])?;
+    table.try_add_row_if(|count, _row| count == 1, ["c", "d"])?;
+    table.try_add_rows_if(|count, _rows| count == 2, [["e", "f"]])
+}
+
+#[test]
+fn rows_are_added_by_calls_that_leave_the_table_known(rt: HostRuntime) -> Result<()> {
+    let mut table = Table::new(rt.alloc());
+    add_three_rows(&mut table)?;
+    assert_drawn(&rt, &table, &THREE_ROWS)
+}
+
+// After this header there are so many columns.
+fn assert_count<T: IntoRow>(
+    rt: &impl Abort,
+    table: &mut Table,
+    header: T,
+    wanted: usize,
+) -> Result<()> {
+    table.set_header(header)?;
+    assert_eq!(rt; table.column_count()?, wanted);
+    Ok(())
+}
+
+#[test]
+fn columns_are_counted_and_only_grow(rt: HostRuntime) -> Result<()> {
+    let mut table = Table::new(rt.alloc());
+    assert_count(&rt, &mut table, ["a", "b", "c"], 3)?;
+    assert_count(&rt, &mut table, ["a", "b", "c", "d"], 4)?;
+    assert_count(&rt, &mut table, ["a", "b"], 4)
+}
+
+// The columns of a table have these constraints.
+fn assert_constraints(rt: &impl Abort, table: &Table, wanted: &[Option<ColumnConstraint>]) {
+    assert_eq!(rt; table.column_iter().count(), wanted.len());
+    for (column, constraint) in table.column_iter().zip(wanted) {
+        assert!(rt; column.constraint() == constraint.as_ref());
+    }
+}
+
+const HIDDEN: ColumnConstraint = ColumnConstraint::Hidden;
+
+const FIVE: ColumnConstraint = ColumnConstraint::Absolute(Width::Fixed(5));
+
+#[test]
+fn columns_past_the_last_constraint_keep_theirs(rt: HostRuntime) -> Result<()> {
+    let mut table = two_row_table(rt.alloc())?;
+    table.set_constraints([HIDDEN]);
+    assert_constraints(&rt, &table, &[Some(HIDDEN), None]);
+    Ok(())
+}
+
+#[test]
+fn constraints_past_the_last_column_are_ignored(rt: HostRuntime) -> Result<()> {
+    let mut table = two_row_table(rt.alloc())?;
+    table.set_constraints([FIVE, HIDDEN, FIVE]);
+    assert_constraints(&rt, &table, &[Some(FIVE), Some(HIDDEN)]);
+    Ok(())
+}
+
+fn is_column(column: Option<&Column>, padding: (u16, u16), index: usize) -> bool {
+    column.is_some_and(|column| column.padding() == padding && column.index == index)
+}
+
+#[test]
+fn a_column_with_a_constraint_keeps_its_other_settings(rt: HostRuntime) -> Result<()> {
+    let mut table = two_row_table(rt.alloc())?;
+    if let Some(column) = table.column_mut(0) {
+        column.set_padding((3, 4));
+    }
+    table.set_constraints([FIVE]);
+    assert!(rt; is_column(table.column(0), (3, 4), 0));
+    assert!(rt; is_column(table.column(1), (1, 1), 1));
     Ok(())
 }
