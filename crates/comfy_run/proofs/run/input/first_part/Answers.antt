@@ -1,4 +1,4 @@
-use Rattle.std.proofs.Common.{◌≡◌, arith, ap, map, take, subst}
+use Rattle.std.proofs.Common.{◌≡◌, arith, map, take, subst}
 use Rattle.std.proofs.lemmas.Bool.Decides.{nat_tests}
 use Rattle.comfy_parts.proofs.CallerLemmas.{none_of_control}
 use Rattle.comfy_run.proofs.InputLemmas.{kept_breaks}
