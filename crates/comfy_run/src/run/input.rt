@@ -117,7 +117,7 @@ fn has_control(bytes: &[u8]) -> bool
     found
 }
 
-// The cell of what stands between TABs, with its breaks as line feeds where the line has any.
+// The cell of what stands between TABs, with its breaks as line feeds where it may have any.
 fn cell_of(alloc: Global, part: &str, has_breaks: bool) -> Result<Cell>
     ensures { IfOk result (λ cell. cell ≡ plain_cell (if has_breaks then map break_of part.now else part.now)) }
 {
