@@ -2,6 +2,7 @@
 pub use Rattle.comfy_parts.proofs.AbsentByteLemmas.{HasNo-append, HasNo-parts, HasNo-take, encoded_clear}
 pub use Rattle.comfy_parts.proofs.BreakLemmas.{HasNo-visible, breaks_are_seen, sequence_clear}
 pub use Rattle.comfy_parts.proofs.ClearLineLemmas.{IsAsSeen, clear_written}
+pub use Rattle.comfy_parts.proofs.EscapedLemmas.{none_of_control}
 pub use Rattle.comfy_parts.proofs.FrameCharacterLemmas.{frame_adds, frame_apart, one_column_characters}
 pub use Rattle.comfy_parts.proofs.KeptLemmas.{lines_keep_the_text}
 pub use Rattle.comfy_parts.proofs.LineTextLemmas.{Shows-seen, none_open, seen-closed}

@@ -1,4 +1,5 @@
 pub mod Borders
+pub mod CellBody
 pub mod CellEquality
 pub mod CellValue
 pub mod Columns

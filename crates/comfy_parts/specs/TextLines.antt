@@ -9,23 +9,23 @@ use Rattle.comfy_parts.specs.declared.cell.text_lines.Lines.TheVariants.{One, Se
 -- the texts
 abbrev pub texts_of : Lines → List Text
 texts_of (One text width) = string_bytes text ∷ []
-texts_of (Several lines) = map string_bytes lines.value.texts.items
-texts_of (Escaped lines) = map string_bytes lines.value.whole.texts.items
+texts_of (Several lines) = map string_bytes lines.texts.items
+texts_of (Escaped lines) = map string_bytes lines.whole.texts.items
 
 -- their kept widths
 abbrev pub widths_of : Lines → List ℕ
 widths_of (One text width) = width ∷ []
-widths_of (Several lines) = lines.value.widths.items
-widths_of (Escaped lines) = lines.value.whole.widths.items
+widths_of (Several lines) = lines.widths.items
+widths_of (Escaped lines) = lines.whole.widths.items
 
 -- what is kept as visible of them
 abbrev pub visible_of : Lines → List Text
-visible_of (Escaped lines) = map string_bytes lines.value.visible.texts.items
+visible_of (Escaped lines) = map string_bytes lines.visible.texts.items
 visible_of lines = texts_of lines
 
 -- the kept widths of that
 abbrev pub visible_widths_of : Lines → List ℕ
-visible_widths_of (Escaped lines) = lines.value.visible.widths.items
+visible_widths_of (Escaped lines) = lines.visible.widths.items
 visible_widths_of lines = widths_of lines
 
 -- whether they are kept as lines in which ESC stands

@@ -5,16 +5,17 @@ ghost use Rattle.std.specs.Cmp.{partial_equiv_from_equiv};
 ghost use Rattle.comfy_parts.specs.CellEquality.{cell_eq, cell_eq_equiv, cell_hash, cell_hash_respects_eq};
 ghost use Rattle.comfy_parts.specs.CellValue.{IsCell, content_of, plain_cell};
 
+mod body;
 pub mod for_tables;
 mod text_lines;
 
+use crate::cell::body::Body;
 use crate::error::Result;
 use crate::style::{Attribute, CellAlignment, Color};
 use std::alloc::{AllocError, Global};
 use std::fmt::Display;
 use std::hash::{Hash, Hasher};
 use std::marker::Model;
-use text_lines::TextLines;
 
 /// One cell of a table. It has at least one text line, and no text line holds a line feed.
 ///
@@ -25,12 +26,11 @@ use text_lines::TextLines;
 /// ```
 #[derive(Debug, Drop)]
 pub struct Cell {
-    text_lines: TextLines,
+    body: Body,
     delimiter: Option<char>,
     alignment: Option<CellAlignment>,
     foreground: Option<Color>,
     background: Option<Color>,
-    attributes: Vec<Attribute>,
 }
 
 impl Model for Cell {
@@ -38,9 +38,9 @@ impl Model for Cell {
 
     ghost Value = { CellValue };
 
-    ghost view = { λ c. record { text_lines = c.text_lines; delimiter = c.delimiter; alignment = c.alignment; foreground = c.foreground; background = c.background; attributes = c.attributes.items } };
+    ghost view = { λ c. record { text_lines = c.body.text_lines; delimiter = c.delimiter; alignment = c.alignment; foreground = c.foreground; background = c.background; attributes = c.body.attributes } };
 
-    ghost invariant = { λ c. HasTextLines (c.text_lines) × IsDelimiter c.delimiter };
+    ghost invariant = { λ c. HasTextLines c.body.text_lines × IsDelimiter c.delimiter };
 }
 
 impl Cell {
@@ -64,12 +64,11 @@ impl Cell {
         ensures content { IfOk result (λ cell. content_of cell ≡ string_bytes text) }
     {
         Ok(Cell {
-            text_lines: TextLines::new(alloc, text)?,
+            body: Body::new(alloc, text)?,
             delimiter: None,
             alignment: None,
             foreground: None,
             background: None,
-            attributes: Vec::new(alloc),
         })
     }
 
@@ -77,8 +76,8 @@ impl Cell {
     pub fn content(&self) -> Result<String>
         ensures { IfOk result (λ text. string_bytes text ≡ content_of self.now) }
     {
-        let mut text = String::new(*self.attributes.allocator());
-        let Some((first, others)) = self.text_lines.texts().split_first() else {
+        let mut text = String::new(self.body.allocator());
+        let Some((first, others)) = self.body.texts().split_first() else {
             return Ok(text);
         };
         text.push_str(first.as_str())?;
@@ -94,7 +93,7 @@ impl Cell {
         ensures value { map string_bytes result.now ≡ self.now.text_lines }
         ensures is_cell { IsCell self.now }
     {
-        self.text_lines.texts()
+        self.body.texts()
     }
 
     /// Sets the character at which the cell's texts may break, whatever its column and its table have.
@@ -141,19 +140,37 @@ impl Cell {
     /// ```
     /// let cell = Cell::new(alloc, "Sum")?.add_attribute(Attribute::Bold)?;
     /// ```
-    pub fn add_attribute(mut self, attribute: Attribute) -> Result<Cell>
+    pub fn add_attribute(self, attribute: Attribute) -> Result<Cell>
         ensures { IfOk result (λ cell. cell ≡ record self { attributes = self.attributes ++ attribute ∷ [] }) }
     {
-        self.attributes.push(attribute)?;
-        Ok(self)
+        self.with_attributes(&[attribute])
     }
 
     /// Adds attributes in their order, as `add_attribute` adds one. After running out of memory the cell is dropped.
-    pub fn add_attributes(mut self, attributes: Vec<Attribute>) -> Result<Cell>
+    pub fn add_attributes(self, attributes: Vec<Attribute>) -> Result<Cell>
         ensures { IfOk result (λ cell. cell ≡ record self { attributes = self.attributes ++ attributes.items }) }
     {
-        self.attributes.extend_from_slice(attributes.as_slice())?;
-        Ok(self)
+        self.with_attributes(attributes.as_slice())
+    }
+
+    // The cell with attributes after those that it has.
+    fn with_attributes(self, attributes: &[Attribute]) -> Result<Cell>
+        ensures { IfOk result (λ cell. cell ≡ record self { attributes = self.attributes ++ attributes.now }) }
+    {
+        let Cell {
+            body,
+            delimiter,
+            alignment,
+            foreground,
+            background,
+        } = self;
+        Ok(Cell {
+            body: body.with_attributes(attributes)?,
+            delimiter,
+            alignment,
+            foreground,
+            background,
+        })
     }
 
     /// The character at which the cell's texts may break; none where its column's or its table's is taken.
@@ -188,7 +205,7 @@ impl Cell {
     pub fn attributes(&self) -> &[Attribute]
         ensures { result.now ≡ self.now.attributes }
     {
-        self.attributes.as_slice()
+        self.body.attributes()
     }
 }
 
@@ -198,12 +215,11 @@ impl Clone for Cell {
 
     fn clone(&self) -> std::result::Result<Cell, AllocError> {
         Ok(Cell {
-            text_lines: self.text_lines.clone()?,
+            body: self.body.clone()?,
             delimiter: self.delimiter,
             alignment: self.alignment,
             foreground: self.foreground,
             background: self.background,
-            attributes: self.attributes.clone()?,
         })
     }
 }
@@ -220,7 +236,7 @@ impl PartialEq for Cell {
             && self.alignment == other.alignment
             && self.foreground == other.foreground
             && self.background == other.background
-            && self.attributes == other.attributes
+            && self.attributes() == other.attributes()
     }
 }
 
@@ -239,6 +255,6 @@ impl Hash for Cell {
         self.alignment.hash(state);
         self.foreground.hash(state);
         self.background.hash(state);
-        self.attributes.hash(state);
+        self.attributes().hash(state);
     }
 }

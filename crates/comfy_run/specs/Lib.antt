@@ -4,6 +4,7 @@ pub mod Device
 pub mod DeviceLaws
 pub mod Input
 pub mod Outcome
+pub mod Parts
 pub mod Program
 pub mod Run
 pub mod Straight

@@ -15,7 +15,7 @@ use crate::error::Result;
 pub fn text_widths(cell: &Cell) -> &[usize]
     ensures { result.now ≡ map measure cell.now.text_lines }
 {
-    cell.text_lines.widths()
+    cell.body.widths()
 }
 
 /// What is visible of each text line, in order: the text line without its SGR sequences. It was found when the cell was
@@ -23,21 +23,21 @@ pub fn text_widths(cell: &Cell) -> &[usize]
 pub fn visible_lines(cell: &Cell) -> &[String]
     ensures { map string_bytes result.now ≡ map visible_text cell.now.text_lines }
 {
-    cell.text_lines.visible()
+    cell.body.visible()
 }
 
 /// The terminal columns that what is visible of each text line takes, in order. They were measured when the cell was made.
 pub fn visible_widths(cell: &Cell) -> &[usize]
     ensures { result.now ≡ map measure (map visible_text cell.now.text_lines) }
 {
-    cell.text_lines.visible_widths()
+    cell.body.visible_widths()
 }
 
 /// Whether ESC stands in the cell's text. Where it doesn't, the cell holds no sequence.
 pub fn has_escape(cell: &Cell) -> bool
     ensures { result ≡ list_any has_escape cell.now.text_lines }
 {
-    cell.text_lines.has_escape()
+    cell.body.has_escape()
 }
 
 /// The texts that are written for the lines of the cell in a column where SGR sequences count nothing, from the top.
@@ -49,7 +49,7 @@ pub fn written_lines(cell: &Cell, info: &ColumnDisplayInfo, delimiter: char) -> 
     ensures { IfOk result (λ texts. map string_bytes texts.items ≡ map (λ (line : CellLine). line.written) (line_texts info.now.content_width delimiter cell.now.text_lines)) }
 {
     crate::content_split::written_lines(
-        *cell.attributes.allocator(),
+        cell.body.allocator(),
         cell.text_lines(),
         visible_lines(cell),
         visible_widths(cell),

@@ -1,18 +1,18 @@
 //! The text lines of a cell, each with its measure.
 
-ghost use Rattle.std.specs.Prelude.{◌≡◌, ◌==◌, true, false, nat_lt, IfOk, map, string_bytes};
+ghost use Rattle.std.specs.Prelude.{◌≡◌, ◌==◌, ◌∷◌, [], false, IfOk, map, string_bytes};
 ghost use Rattle.std.specs.List.{list_any, slice_split};
 ghost use Rattle.comfy_parts.specs.CellValue.{HasTextLines, plain_cell};
 ghost use Rattle.comfy_parts.specs.Text.{measure};
 ghost use Rattle.comfy_parts.specs.VisibleText.{has_escape, visible_text};
 
-use crate::content_split::{has_escape, is_printable, measure_text_width, visible_text};
+use crate::content_split::{has_escape, measure_text_width, visible_text};
 use crate::error::Result;
 use std::alloc::{AllocError, Global};
 use std::marker::Model;
 use std::slice;
 
-// The text lines of a cell. A single one, as most cells have, takes no list and no memory but its text's.
+// The text lines of a cell. A single one takes no list.
 #[derive(Debug, Drop)]
 pub(crate) struct TextLines {
     lines: Lines,
@@ -22,10 +22,9 @@ pub(crate) struct TextLines {
 #[derive(Debug, Drop)]
 enum Lines {
     One { text: String, width: usize },
-    // behind a box, so that a cell of one text line stays small
-    Several(Box<SeveralLines>),
+    Several(SeveralLines),
     // where ESC stands in one of them
-    Escaped(Box<EscapedLines>),
+    Escaped(EscapedLines),
 }
 
 #[derive(Debug, Drop)]
@@ -54,33 +53,31 @@ impl Model for TextLines {
 }
 
 impl TextLines {
-    // What stands between the line feeds of a text. A text without one is kept, and not copied.
-    pub(crate) fn new(alloc: Global, text: String) -> Result<TextLines>
-        ensures value { IfOk result (λ lines. lines ≡ (plain_cell (string_bytes text)).text_lines) }
+    // One text line without ESC, of this width.
+    pub(crate) fn one(text: String, width: usize) -> TextLines
+        requires width { width ≡ measure (string_bytes text) }
+        requires clear { has_escape (string_bytes text) ≡ false }
+        ensures { result ≡ string_bytes text ∷ [] }
+    {
+        TextLines {
+            lines: Lines::One { text, width },
+        }
+    }
+
+    // What stands between the line feeds of a text.
+    pub(crate) fn of_text(alloc: Global, text: &str) -> Result<TextLines>
+        ensures value { IfOk result (λ lines. lines ≡ (plain_cell text.now).text_lines) }
         ensures text_lines { IfOk result HasTextLines }
     {
-        // Printable ASCII is one text line without ESC, and each of its bytes takes a column.
-        if is_printable(text.as_str().as_bytes()) {
-            let width = text.len();
-            return Ok(TextLines {
-                lines: Lines::One { text, width },
-            });
-        }
-        if is_plain_line(text.as_str()) {
-            let width = measure_text_width(text.as_str());
-            return Ok(TextLines {
-                lines: Lines::One { text, width },
-            });
-        }
-        let whole = SeveralLines::of_text(alloc, text.as_str())?;
+        let whole = SeveralLines::of_text(alloc, text)?;
         if !whole.has_escape() {
             return Ok(TextLines {
-                lines: Lines::Several(Box::new(alloc, whole)?),
+                lines: Lines::Several(whole),
             });
         }
         let visible = whole.visible(alloc)?;
         Ok(TextLines {
-            lines: Lines::Escaped(Box::new(alloc, EscapedLines { whole, visible })?),
+            lines: Lines::Escaped(EscapedLines { whole, visible }),
         })
     }
 
@@ -136,28 +133,6 @@ impl TextLines {
             Lines::Escaped(_) => true,
         }
     }
-}
-
-// Whether a text is one text line without ESC. Most texts show it by one look at their bytes: they have no control
-// character at all.
-fn is_plain_line(text: &str) -> bool
-    ensures unbroken { result ≡ true → list_any (λ b. b == 0x0A) text.now ≡ false }
-    ensures clear { result ≡ true → has_escape text.now ≡ false }
-{
-    if !has_control(text.as_bytes()) {
-        return true;
-    }
-    !text.contains('\n') && !has_escape(text)
-}
-
-fn has_control(bytes: &[u8]) -> bool
-    ensures { result ≡ list_any (λ b. nat_lt b 0x20) bytes.now }
-{
-    let mut found = false;
-    for byte in bytes {
-        found |= *byte < 0x20;
-    }
-    found
 }
 
 impl SeveralLines {

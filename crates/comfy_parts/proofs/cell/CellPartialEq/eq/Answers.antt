@@ -53,7 +53,7 @@ found c =
 
 pub returns-then-eq-5 : goal.returns-then-eq-5
 returns-then-eq-5 c =
-    let test = c.eq-then-eq-5.ensures ∙ (λ i. pointwise attribute_eq (c.self.view_is i).attributes (c.other.view_is i).attributes) in
+    let test = c.eq-then-eq-5.ensures ∙ (λ i. pointwise attribute_eq (c.attributes.ensures i) (c.attributes-then-eq-5.ensures i)) in
     and_true c.if-eq-5.true refl test ∙ ap (λ b. b && pointwise attribute_eq c.args.self.now.attributes c.args.other.now.attributes) (found (goal.at.returns-then-eq-5 c).Joined-eq-4)
 
 pub returns-else-eq-5 : goal.returns-else-eq-5

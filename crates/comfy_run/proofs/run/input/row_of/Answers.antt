@@ -1,23 +1,34 @@
-use Rattle.std.proofs.Common.{◌==◌, ◌∙◌, List, ℕ, ap, map, lit<}
-use Rattle.std.specs.Prelude.{if◌then◌else◌}
-use Rattle.std.specs.Str.Iter.{split_text, split_has_more, split_pattern}
-use Rattle.std.proofs.lemmas.Iterator.Consumers.{YieldsList-end}
-use Rattle.std.proofs.lemmas.Iterator.Splits.{YieldsList-from_str_split}
-use Rattle.std.proofs.lemmas.Str.Pattern.{contains_char}
-use Rattle.comfy_parts.specs.CellValue.{plain_cell, plain_row}
-use Rattle.comfy_parts.specs.Text.{Text}
-use Rattle.comfy_run.proofs.InputLemmas.{mapped-found}
-use Rattle.comfy_run.specs.Input.{break_of}
+use Rattle.std.proofs.Common.{◌<◌, arith, length, subst, sym}
+use Rattle.std.specs.Str.{IsUtf8}
+use Rattle.std.proofs.lemmas.Str.{IsUtf8-drop}
+use Rattle.std.proofs.lemmas.Bool.Decides.{nat_tests}
+use Rattle.comfy_run.proofs.InputLemmas.{after_part, last_cell, more_cells, row_more, row_whole}
 use Rattle.comfy_run.proofs.run.input.row_of.Goals as goal
 
-pub returns : goal.returns
-returns c =
-    let line = c.args.line.now in
-    let same = c.into_iter-part-iterator.ensures.into_iter_gives in
-    let split = c.split-part-items.ensures in
-    let cut = YieldsList-from_str_split 0x09 line (lit< tt) (ap split_text same ∙ split.text) (ap split_has_more same ∙ split.has_more) (ap split_pattern same ∙ split.pattern) in
-    let all = YieldsList-end cut c.loop-part.yielded _ c.loop-part.yielded_by _ _ c.in-None.is c.next.ensures.steps in
-    let found = contains_char 0x0B line c.contains-has_breaks.result c.contains-has_breaks.ensures.cases (lit< tt) in
-    c.loop-part.invariant
-    ∙ ap (λ (parts : List Text). plain_row (map (λ (cell : Text). plain_cell (if c.contains-has_breaks.result then map break_of cell else cell)) parts)) all.0
-    ∙ ap plain_row (mapped-found plain_cell (λ (b : ℕ). b == 0x09) line c.contains-has_breaks.result found.1)
+pub returns-then-is_empty : goal.returns-then-is_empty
+returns-then-is_empty c =
+    let rest = c.loop-row.rest.now in
+    let p = c.first_part-len in
+    let last = last_cell rest c.as_bytes.result.now c.split_at.result.0.now c.split_at.result.1.now p.result.0 p.result.1 c.in_ok-cell_of.field-0 c.as_bytes.ensures.value p.ensures.part p.ensures.breaks c.split_at.ensures.front c.split_at.ensures.back c.in_ok-cell_of.ensures (grind (arith, nat_tests)) in
+    row_whole c.loop-row.row _ c.in_ok-cell_of.field-0 c.args.line.now rest c.loop-row.invariant.cells c.in_ok-try_add_cell.ensures.ok last
+
+pub split_at-requires-in-loop-row : goal.split_at-requires-in-loop-row
+split_at-requires-in-loop-row c =
+    let p = c.first_part-len in
+    let after = after_part c.loop-row.rest.now c.as_bytes.result.now c.split_at.result.0.now c.split_at.result.1.now p.result.0 p.result.1 c.in_ok-cell_of.field-0 c.as_bytes.ensures.value p.ensures.part p.ensures.breaks c.split_at.ensures.front c.split_at.ensures.back c.in_ok-cell_of.ensures c.loop-row.invariant.utf8 (grind (arith, nat_tests)) in
+    after.1
+
+pub loop-row-preserved : goal.loop-row-preserved
+loop-row-preserved c =
+    let rest = c.loop-row.rest.now in
+    let others = c.split_at.result.1.now in
+    let next = c.split_at-in-loop-row.result.1.now in
+    let p = c.first_part-len in
+    let cell = c.in_ok-cell_of.field-0 in
+    let some : 0 < length others = grind (arith, nat_tests) in
+    let after = after_part rest c.as_bytes.result.now c.split_at.result.0.now others p.result.0 p.result.1 cell c.as_bytes.ensures.value p.ensures.part p.ensures.breaks c.split_at.ensures.front c.split_at.ensures.back c.in_ok-cell_of.ensures c.loop-row.invariant.utf8 some in
+    let first = more_cells rest c.as_bytes.result.now c.split_at.result.0.now others p.result.0 p.result.1 cell c.as_bytes.ensures.value p.ensures.part p.ensures.breaks c.split_at.ensures.front c.split_at.ensures.back c.in_ok-cell_of.ensures next some c.split_at-in-loop-row.ensures.back in
+    record {
+      utf8 = subst IsUtf8 (sym c.split_at-in-loop-row.ensures.back) (IsUtf8-drop others 1 after.0 after.1);
+      cells = row_more c.loop-row.row _ cell c.args.line.now rest c.loop-row.invariant.cells c.in_ok-try_add_cell.ensures.ok next first;
+    }

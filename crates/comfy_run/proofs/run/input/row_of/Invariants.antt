@@ -1,10 +1,15 @@
-use Rattle.std.proofs.Common.{◌≡◌, map}
-use Rattle.std.specs.Prelude.{if◌then◌else◌}
-use Rattle.comfy_parts.specs.CellValue.{plain_cell, plain_row}
-use Rattle.comfy_parts.specs.Text.{Text}
-use Rattle.comfy_run.specs.Input.{break_of}
+use Rattle.std.proofs.Common.{◌≡◌, ◌++◌, length}
+use denote.Text.{Utf8}
+use denote.Shadow.{shadow}
+use Rattle.comfy_run.specs.Input.{cells_of_line, row_of_line}
 use Rattle.comfy_run.proofs.run.input.row_of.Given as goal
 
-abbrev pub invariant-loop-part : goal.invariant-loop-part
-invariant-loop-part l =
-    l.row ≡ plain_row (map (λ (cell : Text). plain_cell (if l.has_breaks then map break_of cell else cell)) (map (λ p. p.now) l.yielded))
+abbrev pub invariant-loop-row : goal.invariant-loop-row
+invariant-loop-row l =
+    record {
+      utf8 : shadow (Utf8 l.rest);
+      cells : record l.row { cells = l.row.cells ++ cells_of_line l.rest } ≡ row_of_line l.line;
+    }
+
+abbrev pub decreases-loop-row : goal.decreases-loop-row
+decreases-loop-row l = length l.rest
