@@ -24,8 +24,19 @@ enum Lines {
     One { text: String, width: usize },
     // behind a box, so that a cell of one text line stays small
     Several(Box<SeveralLines>),
-    // where ESC stands in one of them
+    // a single one in which ESC stands
+    EscapedOne(Box<EscapedLine>),
+    // where ESC stands in one of several
     Escaped(Box<EscapedLines>),
+}
+
+// A text line with ESC, and what is visible of it, each with its columns.
+#[derive(Debug, Drop)]
+struct EscapedLine {
+    text: String,
+    width: usize,
+    visible: String,
+    visible_width: usize,
 }
 
 #[derive(Debug, Drop)]
@@ -72,6 +83,12 @@ impl TextLines {
                 lines: Lines::One { text, width },
             });
         }
+        if is_escaped_line(text.as_str()) {
+            let line = EscapedLine::new(alloc, text)?;
+            return Ok(TextLines {
+                lines: Lines::EscapedOne(Box::new(alloc, line)?),
+            });
+        }
         let whole = SeveralLines::of_text(alloc, text.as_str())?;
         if !whole.has_escape() {
             return Ok(TextLines {
@@ -90,6 +107,7 @@ impl TextLines {
         match &self.lines {
             Lines::One { text, .. } => slice::from_ref(text),
             Lines::Several(several) => several.texts.as_slice(),
+            Lines::EscapedOne(line) => slice::from_ref(&line.text),
             Lines::Escaped(escaped) => escaped.whole.texts.as_slice(),
         }
     }
@@ -101,6 +119,7 @@ impl TextLines {
         match &self.lines {
             Lines::One { width, .. } => slice::from_ref(width),
             Lines::Several(several) => several.widths.as_slice(),
+            Lines::EscapedOne(line) => slice::from_ref(&line.width),
             Lines::Escaped(escaped) => escaped.whole.widths.as_slice(),
         }
     }
@@ -112,6 +131,7 @@ impl TextLines {
         match &self.lines {
             Lines::One { text, .. } => slice::from_ref(text),
             Lines::Several(several) => several.texts.as_slice(),
+            Lines::EscapedOne(line) => slice::from_ref(&line.visible),
             Lines::Escaped(escaped) => escaped.visible.texts.as_slice(),
         }
     }
@@ -123,6 +143,7 @@ impl TextLines {
         match &self.lines {
             Lines::One { width, .. } => slice::from_ref(width),
             Lines::Several(several) => several.widths.as_slice(),
+            Lines::EscapedOne(line) => slice::from_ref(&line.visible_width),
             Lines::Escaped(escaped) => escaped.visible.widths.as_slice(),
         }
     }
@@ -133,7 +154,7 @@ impl TextLines {
     {
         match &self.lines {
             Lines::One { .. } | Lines::Several(_) => false,
-            Lines::Escaped(_) => true,
+            Lines::EscapedOne(_) | Lines::Escaped(_) => true,
         }
     }
 }
@@ -150,6 +171,14 @@ fn is_plain_line(text: &str) -> bool
     !text.contains('\n') && !has_escape(text)
 }
 
+// Whether a text is one text line in which ESC stands.
+fn is_escaped_line(text: &str) -> bool
+    ensures unbroken { result ≡ true → list_any (λ b. b == 0x0A) text.now ≡ false }
+    ensures escaped { result ≡ true → has_escape text.now ≡ true }
+{
+    !text.contains('\n') && has_escape(text)
+}
+
 fn has_control(bytes: &[u8]) -> bool
     ensures { result ≡ list_any (λ b. nat_lt b 0x20) bytes.now }
 {
@@ -158,6 +187,23 @@ fn has_control(bytes: &[u8]) -> bool
         found |= *byte < 0x20;
     }
     found
+}
+
+impl EscapedLine {
+    fn new(alloc: Global, text: String) -> Result<EscapedLine>
+        ensures text { IfOk result (λ line. string_bytes line.text ≡ string_bytes text) }
+        ensures width { IfOk result (λ line. line.width ≡ measure (string_bytes line.text)) }
+        ensures visible { IfOk result (λ line. string_bytes line.visible ≡ visible_text (string_bytes line.text)) }
+        ensures visible_width { IfOk result (λ line. line.visible_width ≡ measure (string_bytes line.visible)) }
+    {
+        let visible = visible_text(alloc, text.as_str())?;
+        Ok(EscapedLine {
+            width: measure_text_width(text.as_str()),
+            visible_width: measure_text_width(visible.as_str()),
+            text,
+            visible,
+        })
+    }
 }
 
 impl SeveralLines {
@@ -212,6 +258,7 @@ impl Clone for TextLines {
                 width: *width,
             },
             Lines::Several(several) => Lines::Several(several.clone()?),
+            Lines::EscapedOne(line) => Lines::EscapedOne(line.clone()?),
             Lines::Escaped(escaped) => Lines::Escaped(escaped.clone()?),
         };
         Ok(TextLines { lines })
@@ -225,6 +272,19 @@ impl Clone for SeveralLines {
         Ok(SeveralLines {
             texts: self.texts.clone()?,
             widths: self.widths.clone()?,
+        })
+    }
+}
+
+impl Clone for EscapedLine {
+    ghost is_clone = { λ source copy. (string_bytes copy.text ≡ string_bytes source.text) × (copy.width ≡ source.width) × (string_bytes copy.visible ≡ string_bytes source.visible) × (copy.visible_width ≡ source.visible_width) };
+
+    fn clone(&self) -> std::result::Result<EscapedLine, AllocError> {
+        Ok(EscapedLine {
+            text: self.text.clone()?,
+            width: self.width,
+            visible: self.visible.clone()?,
+            visible_width: self.visible_width,
         })
     }
 }

@@ -44,17 +44,28 @@ pub returns-then-is_plain_line-clause-text_lines : goal.returns-then-is_plain_li
 returns-then-is_plain_line-clause-text_lines c =
     has_text_lines (string_bytes c.args.text) (c.args.text ∷ []) (returns-then-is_plain_line-clause-value c)
 
+-- one text line with ESC
+pub returns-then-is_escaped_line-clause-value : goal.returns-then-is_escaped_line-clause-value
+returns-then-is_escaped_line-clause-value c =
+    let text = string_bytes c.args.text in
+    let none : list_any (λ b. b == 0x0A) text ≡ false = subst (λ (text : List ℕ). list_any (λ b. b == 0x0A) text ≡ false) c.as_str-3.ensures.value (c.is_escaped_line.ensures.unbroken c.if-is_escaped_line.true) in
+    rw c.in_ok-new.ensures.ok (ap (λ (t : List ℕ). t ∷ []) c.in_ok-line.ensures.text ∙ sym (unbroken_line text none))
+
+pub returns-then-is_escaped_line-clause-text_lines : goal.returns-then-is_escaped_line-clause-text_lines
+returns-then-is_escaped_line-clause-text_lines c =
+    rw c.in_ok-new.ensures.ok (has_text_lines (string_bytes c.args.text) (c.in_ok-line.line.text ∷ []) (rw (← c.in_ok-new.ensures.ok) (returns-then-is_escaped_line-clause-value c)))
+
 -- several without ESC
 pub invariant_of-result-then-not-has_escape : goal.invariant_of-result-then-not-has_escape
 invariant_of-result-then-not-has_escape c =
     let texts = map string_bytes c.in_ok-whole.whole.texts.items in
     let none : list_any has_escape texts ≡ false = sym c.has_escape.ensures ∙ c.if-not-has_escape.true in
-    rw c.in_ok-new.ensures.ok record { widths = c.in_ok-whole.ensures.widths; visible = clear_lines texts none; widths_of_visible = c.in_ok-whole.ensures.widths; escaped = sym none }
+    rw c.in_ok-new-2.ensures.ok record { widths = c.in_ok-whole.ensures.widths; visible = clear_lines texts none; widths_of_visible = c.in_ok-whole.ensures.widths; escaped = sym none }
 
 pub returns-then-not-has_escape-clause-text_lines : goal.returns-then-not-has_escape-clause-text_lines
 returns-then-not-has_escape-clause-text_lines c =
-    rw c.in_ok-new.ensures.ok (has_text_lines (string_bytes c.args.text) c.in_ok-whole.whole.texts.items (c.in_ok-whole.ensures.texts ∙ ap (slice_split (λ b. b == 0x0A)) c.as_str-3.ensures.value))
+    rw c.in_ok-new-2.ensures.ok (has_text_lines (string_bytes c.args.text) c.in_ok-whole.whole.texts.items (c.in_ok-whole.ensures.texts ∙ ap (slice_split (λ b. b == 0x0A)) c.as_str-4.ensures.value))
 
 pub returns-clause-text_lines : goal.returns-clause-text_lines
 returns-clause-text_lines c =
-    rw c.in_ok-new-2.ensures.ok (has_text_lines (string_bytes c.args.text) c.in_ok-whole.whole.texts.items (c.in_ok-whole.ensures.texts ∙ ap (slice_split (λ b. b == 0x0A)) c.as_str-3.ensures.value))
+    rw c.in_ok-new-3.ensures.ok (has_text_lines (string_bytes c.args.text) c.in_ok-whole.whole.texts.items (c.in_ok-whole.ensures.texts ∙ ap (slice_split (λ b. b == 0x0A)) c.as_str-4.ensures.value))
