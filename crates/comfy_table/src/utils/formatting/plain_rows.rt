@@ -1,16 +1,16 @@
-//! Rows of which each visible cell is one text line that fits, in tables that style nothing: one line of texts and gaps.
+//! Rows of which each visible cell is one text line that fits and is written as it is: one line of texts and gaps.
 
-ghost use Rattle.std.specs.Prelude.{◌≡◌, ◌∷◌, [], IfOk, IfSome, None, false, string_bytes, true};
+ghost use Rattle.std.specs.Prelude.{◌≡◌, ◌∷◌, [], IfOk, IfSome, None, string_bytes, true};
 ghost use Rattle.comfy_table.specs.Gaps.{row_between};
 ghost use Rattle.comfy_table.specs.Pieces.{pieces_at, visible_infos};
-ghost use Rattle.comfy_table.specs.TableValue.{TableValue, should_style};
 
 use crate::table::Table;
 use crate::table::column_cells::cell_at;
+use crate::utils::formatting::cell_lines::has_own_texts;
 use crate::utils::formatting::piece::Piece;
 use crate::utils::formatting::row_gaps::RowGaps;
 use comfy_parts::content_split::ColumnDisplayInfo;
-use comfy_parts::for_tables::text_widths;
+use comfy_parts::for_tables::is_written_whole;
 use comfy_parts::{Result, Row};
 use std::alloc::Global;
 use std::marker::Model;
@@ -40,30 +40,28 @@ pub struct PlainRows<'a> {
 }
 
 impl<'a> Model for PlainRows<'a> {
-    ghost use Rattle.comfy_table.specs.PlainRows.{HasPlainRows, PlainRowsValue};
+    ghost use Rattle.std.specs.Prelude.{◌≡◌};
+    ghost use Rattle.comfy_table.specs.Pieces.{visible_infos};
+    ghost use Rattle.comfy_table.specs.PlainRows.{PlainRowsValue};
 
     ghost Value = { PlainRowsValue };
 
-    ghost invariant = { λ p. HasPlainRows (record { table = p.table.now; infos = p.infos.now }) p.columns.items };
+    ghost invariant = { λ p. p.columns.items ≡ visible_infos p.infos.now };
 
     ghost view = { λ p. record { table = p.table.now; infos = p.infos.now } };
 }
 
 impl<'a> PlainRows<'a> {
-    /// What draws the plain rows of a table with these infos. None where the table writes styles, or has sequences count
-    /// nothing.
-    pub fn new(table: &'a Table, infos: &'a [ColumnDisplayInfo]) -> Result<Option<PlainRows<'a>>>
-        ensures { IfOk result (λ rows. IfSome rows (λ rows. rows ≡ record { table = table.now; infos = infos.now })) }
+    /// What draws the plain rows of a table with these infos.
+    pub fn new(table: &'a Table, infos: &'a [ColumnDisplayInfo]) -> Result<PlainRows<'a>>
+        ensures { IfOk result (λ rows. rows ≡ record { table = table.now; infos = infos.now }) }
     {
-        if table.custom_styling || table.should_style() {
-            return Ok(None);
-        }
         let alloc = *table.columns.allocator();
-        Ok(Some(PlainRows {
+        Ok(PlainRows {
             table,
             infos,
             columns: visible_columns(alloc, infos)?,
-        }))
+        })
     }
 
     /// Makes a text the one line of a row that is plain. False for every other row.
@@ -76,7 +74,7 @@ impl<'a> PlainRows<'a> {
         }
         let mut free = 0;
         for (count, column) in self.columns.iter().enumerate() {
-            let Some(piece) = plain_piece(row, column) else {
+            let Some(piece) = plain_piece(self.table, row, column) else {
                 return Ok(false);
             };
             free = piece.push(line, gaps.before(count), free)?;
@@ -104,17 +102,21 @@ fn visible_columns<'a>(
 }
 
 // The one piece of a cell that is plain. A missing cell is blank.
-fn plain_piece<'a>(row: &'a Row, column: &VisibleColumn) -> Option<Piece<'a>>
-    ensures { IfSome result (λ piece. (table : TableValue) → should_style table ≡ false → table.custom_styling ≡ false → row.now.max_height ≡ None → pieces_at table row.now column.now ≡ piece ∷ []) }
+fn plain_piece<'a>(table: &Table, row: &'a Row, column: &VisibleColumn) -> Option<Piece<'a>>
+    ensures { IfSome result (λ piece. row.now.max_height ≡ None → pieces_at table.now row.now column.now ≡ piece ∷ []) }
 {
     let info = column.info;
     let Some(cell) = cell_at(row, column.position) else {
         return Some(Piece::blank(info));
     };
     let texts = cell.text_lines();
-    let widths = text_widths(cell);
+    let widths = table.seen_widths(cell);
     if texts.len() != 1 || widths[0] > usize::from(info.content_width) {
         return None;
     }
-    Some(Piece::unstyled(cell, info, widths[0], texts[0].as_str()))
+    let text = texts[0].as_str();
+    if has_own_texts(table, cell) && !is_written_whole(text) {
+        return None;
+    }
+    Some(Piece::new(table, cell, info, widths[0], text))
 }
