@@ -1,8 +1,9 @@
 //! Rows of which each visible cell is one text line that fits and is written as it is: one line of texts and gaps.
 
-ghost use Rattle.std.specs.Prelude.{◌≡◌, ◌∷◌, [], IfOk, IfSome, None, string_bytes, true};
+ghost use Rattle.std.specs.Prelude.{◌≡◌, ◌∷◌, [], IfOk, IfSome, None, false, string_bytes, true};
 ghost use Rattle.comfy_table.specs.Gaps.{row_between};
 ghost use Rattle.comfy_table.specs.Pieces.{pieces_at, visible_infos};
+ghost use Rattle.comfy_table.specs.TableValue.{TableValue, should_style};
 
 use crate::table::Table;
 use crate::table::column_cells::cell_at;
@@ -10,7 +11,7 @@ use crate::utils::formatting::cell_lines::has_own_texts;
 use crate::utils::formatting::piece::Piece;
 use crate::utils::formatting::row_gaps::RowGaps;
 use comfy_parts::content_split::ColumnDisplayInfo;
-use comfy_parts::for_tables::is_written_whole;
+use comfy_parts::for_tables::{is_written_whole, text_widths};
 use comfy_parts::{Result, Row};
 use std::alloc::Global;
 use std::marker::Model;
@@ -37,16 +38,16 @@ pub struct PlainRows<'a> {
     table: &'a Table,
     infos: &'a [ColumnDisplayInfo],
     columns: Vec<VisibleColumn<'a>>,
+    // whether no styles are written, and sequences count as any other text
+    styles_nothing: bool,
 }
 
 impl<'a> Model for PlainRows<'a> {
-    ghost use Rattle.std.specs.Prelude.{◌≡◌};
-    ghost use Rattle.comfy_table.specs.Pieces.{visible_infos};
-    ghost use Rattle.comfy_table.specs.PlainRows.{PlainRowsValue};
+    ghost use Rattle.comfy_table.specs.PlainRows.{HasPlainRows, PlainRowsValue};
 
     ghost Value = { PlainRowsValue };
 
-    ghost invariant = { λ p. p.columns.items ≡ visible_infos p.infos.now };
+    ghost invariant = { λ p. HasPlainRows (record { table = p.table.now; infos = p.infos.now }) p.columns.items p.styles_nothing };
 
     ghost view = { λ p. record { table = p.table.now; infos = p.infos.now } };
 }
@@ -61,6 +62,7 @@ impl<'a> PlainRows<'a> {
             table,
             infos,
             columns: visible_columns(alloc, infos)?,
+            styles_nothing: !table.custom_styling && !table.should_style(),
         })
     }
 
@@ -74,7 +76,7 @@ impl<'a> PlainRows<'a> {
         }
         let mut free = 0;
         for (count, column) in self.columns.iter().enumerate() {
-            let Some(piece) = plain_piece(self.table, row, column) else {
+            let Some(piece) = plain_piece(self.table, self.styles_nothing, row, column) else {
                 return Ok(false);
             };
             free = piece.push(line, gaps.before(count), free)?;
@@ -101,8 +103,43 @@ fn visible_columns<'a>(
     Ok(columns)
 }
 
-// The one piece of a cell that is plain. A missing cell is blank.
-fn plain_piece<'a>(table: &Table, row: &'a Row, column: &VisibleColumn) -> Option<Piece<'a>>
+// The one piece of a cell that is plain.
+fn plain_piece<'a>(
+    table: &Table,
+    styles_nothing: bool,
+    row: &'a Row,
+    column: &VisibleColumn,
+) -> Option<Piece<'a>>
+    requires unstyled { styles_nothing ≡ true → should_style table.now ≡ false }
+    requires without_custom { styles_nothing ≡ true → table.now.custom_styling ≡ false }
+    ensures { IfSome result (λ piece. row.now.max_height ≡ None → pieces_at table.now row.now column.now ≡ piece ∷ []) }
+{
+    if styles_nothing {
+        unstyled_piece(row, column)
+    } else {
+        styled_piece(table, row, column)
+    }
+}
+
+// That of a table that styles nothing. A missing cell is blank.
+fn unstyled_piece<'a>(row: &'a Row, column: &VisibleColumn) -> Option<Piece<'a>>
+    ensures { IfSome result (λ piece. (table : TableValue) → should_style table ≡ false → table.custom_styling ≡ false → row.now.max_height ≡ None → pieces_at table row.now column.now ≡ piece ∷ []) }
+{
+    let info = column.info;
+    let Some(cell) = cell_at(row, column.position) else {
+        return Some(Piece::blank(info));
+    };
+    let texts = cell.text_lines();
+    let widths = text_widths(cell);
+    if texts.len() != 1 || widths[0] > usize::from(info.content_width) {
+        return None;
+    }
+    Some(Piece::unstyled(cell, info, widths[0], texts[0].as_str()))
+}
+
+// That of any table.
+#[inline(never)]
+fn styled_piece<'a>(table: &Table, row: &'a Row, column: &VisibleColumn) -> Option<Piece<'a>>
     ensures { IfSome result (λ piece. row.now.max_height ≡ None → pieces_at table.now row.now column.now ≡ piece ∷ []) }
 {
     let info = column.info;

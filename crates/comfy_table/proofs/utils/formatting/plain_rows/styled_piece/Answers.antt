@@ -6,8 +6,8 @@ use Rattle.comfy_parts.specs.VisibleText.{has_escape}
 use Rattle.comfy_table.proofs.PlainRowLemmas.{one_piece, only_one, only_width, seen_line, whole_line}
 use Rattle.comfy_table.specs.Pieces.{pieces_at}
 use Rattle.comfy_table.specs.TableValue.{seen_cell}
-use Rattle.comfy_table.proofs.utils.formatting.plain_rows.plain_piece.Goals.{else-has_own_texts-via-then-has_own_texts+else-not-is_written_whole, else-has_own_texts-via-else-has_own_texts}
-use Rattle.comfy_table.proofs.utils.formatting.plain_rows.plain_piece.Goals as goal
+use Rattle.comfy_table.proofs.utils.formatting.plain_rows.styled_piece.Goals.{else-has_own_texts-via-then-has_own_texts+else-not-is_written_whole, else-has_own_texts-via-else-has_own_texts}
+use Rattle.comfy_table.proofs.utils.formatting.plain_rows.styled_piece.Goals as goal
 
 pub returns : goal.returns
 returns c =
