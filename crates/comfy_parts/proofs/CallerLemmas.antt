@@ -2,7 +2,7 @@
 pub use Rattle.comfy_parts.proofs.AbsentByteLemmas.{HasNo-append, HasNo-parts, HasNo-take, encoded_clear}
 pub use Rattle.comfy_parts.proofs.BreakLemmas.{HasNo-visible, breaks_are_seen, sequence_clear}
 pub use Rattle.comfy_parts.proofs.ClearLineLemmas.{IsAsSeen, clear_written}
-pub use Rattle.comfy_parts.proofs.EscapedLemmas.{none_of_control}
+pub use Rattle.comfy_parts.proofs.EscapedLemmas.{clear_lines, none_of_control}
 pub use Rattle.comfy_parts.proofs.FrameCharacterLemmas.{frame_adds, frame_apart, one_column_characters}
 pub use Rattle.comfy_parts.proofs.KeptLemmas.{lines_keep_the_text}
 pub use Rattle.comfy_parts.proofs.LineTextLemmas.{Shows-seen, none_open, seen-closed}
@@ -20,6 +20,7 @@ pub use Rattle.comfy_parts.proofs.ValueLemmas.{no_fewer_columns}
 pub use Rattle.comfy_parts.proofs.VisibleLineLemmas.{lines_closed, lines_resumed, lines_seen, seen_lines, zip-each}
 pub use Rattle.comfy_parts.proofs.VisibleWholeLemmas.{visible_text-whole}
 pub use Rattle.comfy_parts.proofs.WholeLineLemmas.{head-splits, lines_of_text-utf8}
+pub use Rattle.comfy_parts.proofs.WholeTextLemmas.{line_of_whole}
 pub use Rattle.comfy_parts.proofs.WordLemmas.{head-utf8}
 pub use Rattle.comfy_parts.proofs.WrappedLemmas.{wrapped_is_wrapped}
 pub use Rattle.comfy_parts.proofs.WrappingLemmas.{one_character}

@@ -203,7 +203,7 @@ open-taken earlier text start len =
     ap open_after (parts-written earlier text start len) ∙ open_after-again before taken ∙ opened-append [] before taken
 
 -- the text of a line is what a cursor writes that comes from its text line's front
-line_text-written : (earlier : List Text) (text : Text) (start len : ℕ) → written len (at_byte start (at (open_after (flat_map parts earlier)) (parts text))) ≡ line_text earlier text start len
+pub line_text-written : (earlier : List Text) (text : Text) (start len : ℕ) → written len (at_byte start (at (open_after (flat_map parts earlier)) (parts text))) ≡ line_text earlier text start len
 line_text-written earlier text start len =
     elim (len == 0) as (λ b. (if b then [] else concat resumed ++ (between ++ closing (opened resumed taken))) ≡ (if b then [] else closed (concat (active earlier text start) ++ between))) [
       | true ↦ refl

@@ -4,32 +4,37 @@ use Rattle.std.specs.List.{list_any}
 use Rattle.comfy_parts.specs.Text.{Text, measure}
 use Rattle.comfy_parts.specs.VisibleText.{has_escape, visible_text}
 use Rattle.comfy_parts.specs.declared.cell.text_lines.Lines.{Lines}
-use Rattle.comfy_parts.specs.declared.cell.text_lines.Lines.TheVariants.{One, Several, Escaped}
+use Rattle.comfy_parts.specs.declared.cell.text_lines.Lines.TheVariants.{One, Several, EscapedOne, Escaped}
 
 -- the texts
 abbrev pub texts_of : Lines → List Text
 texts_of (One text width) = string_bytes text ∷ []
 texts_of (Several lines) = map string_bytes lines.texts.items
+texts_of (EscapedOne line) = string_bytes line.text ∷ []
 texts_of (Escaped lines) = map string_bytes lines.whole.texts.items
 
 -- their kept widths
 abbrev pub widths_of : Lines → List ℕ
 widths_of (One text width) = width ∷ []
 widths_of (Several lines) = lines.widths.items
+widths_of (EscapedOne line) = line.width ∷ []
 widths_of (Escaped lines) = lines.whole.widths.items
 
 -- what is kept as visible of them
 abbrev pub visible_of : Lines → List Text
+visible_of (EscapedOne line) = string_bytes line.visible ∷ []
 visible_of (Escaped lines) = map string_bytes lines.visible.texts.items
 visible_of lines = texts_of lines
 
 -- the kept widths of that
 abbrev pub visible_widths_of : Lines → List ℕ
+visible_widths_of (EscapedOne line) = line.visible_width ∷ []
 visible_widths_of (Escaped lines) = lines.visible.widths.items
 visible_widths_of lines = widths_of lines
 
 -- whether they are kept as lines in which ESC stands
 abbrev pub is_escaped : Lines → Bool
+is_escaped (EscapedOne line) = true
 is_escaped (Escaped lines) = true
 is_escaped lines = false
 

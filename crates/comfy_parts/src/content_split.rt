@@ -19,7 +19,7 @@ pub use joining::{adds_one_column, adds_up};
 pub use lines::{WrappedLines, wrapped_lines};
 pub use prefix::split_long_word;
 pub(crate) use sequences::has_escape;
-pub(crate) use sequences::written::written_lines;
+pub(crate) use sequences::written::{is_written_whole, written_lines};
 pub use sequences::{leaves_sequence_open, visible_text};
 use std::alloc::Global;
 pub(crate) use width::is_printable;

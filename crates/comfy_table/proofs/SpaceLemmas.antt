@@ -1,16 +1,18 @@
 -- Spaces that are written in runs, and the pieces that they make.
-use Rattle.std.proofs.Common.{◌≡◌, true, false, ℕ, ◌+◌, ◌-◌, ◌<◌, ◌≤◌, [], ◌++◌, length, take, ap, sym, ◌∙◌, arith, append-nil, append_assoc, slice_index_or}
+use Rattle.std.proofs.Common.{◌≡◌, Bool, true, false, ℕ, ◌+◌, ◌-◌, ◌<◌, ◌≤◌, ◌==◌, List, [], ◌++◌, Option, None, length, take, ap, refl, sym, ◌∙◌, arith, append-nil, append_assoc, slice_index_or}
 use Rattle.std.proofs.lemmas.List.{get_or-replicate, length-replicate, replicate-append-replicate, take-replicate}
 use Rattle.std.proofs.lemmas.List.Elements.{All-replicate}
 use Rattle.std.proofs.lemmas.Str.{IsUtf8-from_ascii}
 use Rattle.std.proofs.lemmas.Str.Ascii.{IsAscii-from_all}
-use Rattle.std.specs.Prelude.{Result, Ok, Err, OnOk, IsUtf8}
+use Rattle.std.specs.Prelude.{Result, Ok, Err, OnOk, IsUtf8, codes, if◌then◌else◌}
 use Rattle.comfy_parts.specs.CellValue.{CellValue, ColumnInfo}
 use Rattle.comfy_parts.specs.Text.{Text, spaces}
+use Rattle.comfy_parts.specs.declared.style.attribute.Attribute.{Attribute}
 use Rattle.comfy_parts.specs.declared.style.cell.CellAlignment.{CellAlignment}
 use Rattle.comfy_parts.specs.declared.style.cell.CellAlignment.TheVariants.{Left, Right, Center}
+use Rattle.comfy_parts.specs.declared.style.color.Color.{Color}
 use Rattle.comfy_table.specs.Pieces.{cell_alignment, free_before, free_places, padded, text_piece}
-use Rattle.comfy_table.specs.Styling.{styled}
+use Rattle.comfy_table.specs.Styling.{attribute_sequences, background_code, foreground_code, optional_sequence, sequence, style_begin, style_end, style_end_without_attributes, styled}
 use Rattle.comfy_table.specs.TableValue.{TableValue, should_style}
 
 -- two runs side by side
@@ -39,6 +41,23 @@ free_before-le Center free = omega arith
 pub whole_width : (alignment : CellAlignment) (left m right w : ℕ) → m ≤ w → left + (free_before alignment (w - m) + (m + ((w - m - free_before alignment (w - m)) + right))) ≡ left + w + right
 whole_width alignment left m right w fits = let among = free_before-le alignment (w - m) in omega (arith, among, fits)
 
+-- a cell without colours and attributes leaves a text as it is
+pub no_styles : (cell : CellValue) (text : Text) → cell.background ≡ None → cell.foreground ≡ None → cell.attributes ≡ [] → styled cell text ≡ text
+no_styles cell text background foreground attributes =
+    ap (λ (t : Text). t ++ (text ++ style_end cell)) begins ∙ ap (λ (t : Text). text ++ t) ends ∙ append-nil text
+  where
+    begins : style_begin cell ≡ []
+    begins =
+        ap (λ (b : Option Color). optional_sequence background_code b ++ (optional_sequence foreground_code cell.foreground ++ attribute_sequences cell.attributes)) background
+        ∙ ap (λ (f : Option Color). optional_sequence foreground_code f ++ attribute_sequences cell.attributes) foreground
+        ∙ ap attribute_sequences attributes
+
+    ends : style_end cell ≡ []
+    ends =
+        ap (λ (given : List Attribute). if length given == 0 then style_end_without_attributes cell.background cell.foreground else sequence (codes "0")) attributes
+        ∙ ap (λ (b : Option Color). style_end_without_attributes b cell.foreground) background
+        ∙ ap (style_end_without_attributes None) foreground
+
 module _ (cell : CellValue) (info : ColumnInfo) (columns left right : ℕ)
     (is_left : left ≡ info.padding.0 + free_before (cell_alignment cell info) (free_places info columns))
     (is_right : right ≡ free_places info columns - free_before (cell_alignment cell info) (free_places info columns) + info.padding.1) where
@@ -52,9 +71,17 @@ module _ (cell : CellValue) (info : ColumnInfo) (columns left right : ℕ)
       ∙ append_assoc (spaces info.padding.0) (spaces before) (text ++ spaces (free_places info columns - before + info.padding.1))
       ∙ ap (λ (t : Text). spaces info.padding.0 ++ (spaces before ++ (text ++ t))) (sym (spaces-append (free_places info columns - before) info.padding.1))
 
-  -- the piece of a line without styling, with its text styled, and styled as a whole
+  -- the piece of a line without styling, of a cell without styles, with its text styled, and styled as a whole
   pub plain-made : (table : TableValue) (text : Text) → should_style table ≡ false → spaces left ++ (text ++ spaces right) ≡ text_piece table cell info columns text
   plain-made table text off = grind (arith, padded-made)
+
+  pub bare-made : (table : TableValue) (text : Text) → ((t : Text) → styled cell t ≡ t) → spaces left ++ (text ++ spaces right) ≡ text_piece table cell info columns text
+  bare-made table text bare = padded-made text ∙ sym (by_settings (should_style table) table.style_text_only)
+    where
+      by_settings : (styles alone : Bool) → (if styles then (if alone then padded cell info columns (styled cell text) else styled cell (padded cell info columns text)) else padded cell info columns text) ≡ padded cell info columns text
+      by_settings true true = ap (padded cell info columns) (bare text)
+      by_settings true false = bare (padded cell info columns text)
+      by_settings false alone = refl
 
   pub line-styled : (table : TableValue) (text : Text) → should_style table ≡ true → table.style_text_only ≡ true → spaces left ++ (styled cell (text ++ []) ++ spaces right) ≡ text_piece table cell info columns text
   line-styled table text on alone = ap (λ (t : Text). spaces left ++ (styled cell t ++ spaces right)) (append-nil text) ∙ grind (arith, padded-made)

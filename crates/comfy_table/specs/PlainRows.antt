@@ -1,5 +1,5 @@
--- Private: rows that are drawn as one line each, in tables that style nothing.
-use Rattle.std.specs.Prelude.{ℕ, ◌≡◌, false, List}
+-- Private: rows that are drawn as one line each.
+use Rattle.std.specs.Prelude.{ℕ, ◌≡◌, Bool, true, false, List}
 use Rattle.comfy_parts.specs.CellValue.{ColumnInfo}
 use Rattle.comfy_table.specs.Pieces.{visible_infos}
 use Rattle.comfy_table.specs.TableValue.{TableValue, should_style}
@@ -9,8 +9,8 @@ pub record PlainRowsValue : Type 0 where
   pub table : TableValue
   pub infos : List ColumnInfo
 
--- the table styles nothing, and these are its visible columns
-pub record HasPlainRows (rows : PlainRowsValue) (columns : List (ℕ × ColumnInfo)) : Type 0 where
-  pub unstyled : should_style rows.table ≡ false
-  pub without_custom : rows.table.custom_styling ≡ false
+-- these are its visible columns, and where it is said to style nothing, it does
+pub record HasPlainRows (rows : PlainRowsValue) (columns : List (ℕ × ColumnInfo)) (styles_nothing : Bool) : Type 0 where
   pub is_columns : columns ≡ visible_infos rows.infos
+  pub unstyled : styles_nothing ≡ true → should_style rows.table ≡ false
+  pub without_custom : styles_nothing ≡ true → rows.table.custom_styling ≡ false

@@ -46,7 +46,7 @@ impl Model for Body {
 }
 
 impl Body {
-    // The body of a text, without attributes. A text that is one text line without ESC is kept, and not copied.
+    // The body of a text, without attributes. A text that is one text line is kept, and not copied.
     pub(crate) fn new(alloc: Global, text: String) -> Result<Body>
         ensures value { IfOk result (λ body. body ≡ record { text_lines = (plain_cell (string_bytes text)).text_lines; attributes = [] }) }
         ensures text_lines { IfOk result (λ body. HasTextLines body.text_lines) }
@@ -56,7 +56,7 @@ impl Body {
                 kept: Kept::Plain { text, width },
             });
         }
-        let lines = TextLines::of_text(alloc, text.as_str())?;
+        let lines = TextLines::of_text(alloc, text)?;
         let full = FullBody {
             lines,
             attributes: Vec::new(alloc),

@@ -1,11 +1,11 @@
 //! What a table reads of its cells to draw them: the widths of their text lines, what is visible of these, and what is
 //! written for their lines. It is public for the crate of tables, and whoever calls that needs none of it.
 
-ghost use Rattle.std.specs.Prelude.{◌≡◌, IfOk, map, string_bytes};
+ghost use Rattle.std.specs.Prelude.{◌≡◌, [], IfOk, length, map, string_bytes, true};
 ghost use Rattle.std.specs.List.{list_any};
 ghost use Rattle.comfy_parts.specs.Text.{measure};
 ghost use Rattle.comfy_parts.specs.VisibleLines.{CellLine, line_texts};
-ghost use Rattle.comfy_parts.specs.VisibleText.{has_escape, visible_text};
+ghost use Rattle.comfy_parts.specs.VisibleText.{has_escape, line_text, visible_text};
 
 use crate::cell::Cell;
 use crate::content_split::ColumnDisplayInfo;
@@ -38,6 +38,14 @@ pub fn has_escape(cell: &Cell) -> bool
     ensures { result ≡ list_any has_escape cell.now.text_lines }
 {
     cell.body.has_escape()
+}
+
+/// Whether a text line is written as it is where it is a cell's only line and SGR sequences count nothing. This is found
+/// faster than a copy is made.
+pub fn is_written_whole(text: &str) -> bool
+    ensures { result ≡ true → line_text [] text.now 0 (length (visible_text text.now)) ≡ text.now }
+{
+    crate::content_split::is_written_whole(text)
 }
 
 /// The texts that are written for the lines of the cell in a column where SGR sequences count nothing, from the top.

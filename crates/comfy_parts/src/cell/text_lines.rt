@@ -1,6 +1,6 @@
 //! The text lines of a cell, each with its measure.
 
-ghost use Rattle.std.specs.Prelude.{◌≡◌, ◌==◌, ◌∷◌, [], false, IfOk, map, string_bytes};
+ghost use Rattle.std.specs.Prelude.{◌≡◌, ◌==◌, ◌∷◌, [], true, false, IfOk, map, string_bytes};
 ghost use Rattle.std.specs.List.{list_any, slice_split};
 ghost use Rattle.comfy_parts.specs.CellValue.{HasTextLines, plain_cell};
 ghost use Rattle.comfy_parts.specs.Text.{measure};
@@ -23,8 +23,19 @@ pub(crate) struct TextLines {
 enum Lines {
     One { text: String, width: usize },
     Several(SeveralLines),
-    // where ESC stands in one of them
+    // a single one in which ESC stands
+    EscapedOne(EscapedLine),
+    // where ESC stands in one of several
     Escaped(EscapedLines),
+}
+
+// A text line with ESC, and what is visible of it, each with its columns.
+#[derive(Debug, Drop)]
+struct EscapedLine {
+    text: String,
+    width: usize,
+    visible: String,
+    visible_width: usize,
 }
 
 #[derive(Debug, Drop)]
@@ -64,12 +75,17 @@ impl TextLines {
         }
     }
 
-    // What stands between the line feeds of a text.
-    pub(crate) fn of_text(alloc: Global, text: &str) -> Result<TextLines>
-        ensures value { IfOk result (λ lines. lines ≡ (plain_cell text.now).text_lines) }
+    // What stands between the line feeds of a text. A single text line with ESC is kept, and not copied.
+    pub(crate) fn of_text(alloc: Global, text: String) -> Result<TextLines>
+        ensures value { IfOk result (λ lines. lines ≡ (plain_cell (string_bytes text)).text_lines) }
         ensures text_lines { IfOk result HasTextLines }
     {
-        let whole = SeveralLines::of_text(alloc, text)?;
+        if is_escaped_line(text.as_str()) {
+            return Ok(TextLines {
+                lines: Lines::EscapedOne(EscapedLine::new(alloc, text)?),
+            });
+        }
+        let whole = SeveralLines::of_text(alloc, text.as_str())?;
         if !whole.has_escape() {
             return Ok(TextLines {
                 lines: Lines::Several(whole),
@@ -87,6 +103,7 @@ impl TextLines {
         match &self.lines {
             Lines::One { text, .. } => slice::from_ref(text),
             Lines::Several(several) => several.texts.as_slice(),
+            Lines::EscapedOne(line) => slice::from_ref(&line.text),
             Lines::Escaped(escaped) => escaped.whole.texts.as_slice(),
         }
     }
@@ -98,6 +115,7 @@ impl TextLines {
         match &self.lines {
             Lines::One { width, .. } => slice::from_ref(width),
             Lines::Several(several) => several.widths.as_slice(),
+            Lines::EscapedOne(line) => slice::from_ref(&line.width),
             Lines::Escaped(escaped) => escaped.whole.widths.as_slice(),
         }
     }
@@ -109,6 +127,7 @@ impl TextLines {
         match &self.lines {
             Lines::One { text, .. } => slice::from_ref(text),
             Lines::Several(several) => several.texts.as_slice(),
+            Lines::EscapedOne(line) => slice::from_ref(&line.visible),
             Lines::Escaped(escaped) => escaped.visible.texts.as_slice(),
         }
     }
@@ -120,6 +139,7 @@ impl TextLines {
         match &self.lines {
             Lines::One { width, .. } => slice::from_ref(width),
             Lines::Several(several) => several.widths.as_slice(),
+            Lines::EscapedOne(line) => slice::from_ref(&line.visible_width),
             Lines::Escaped(escaped) => escaped.visible.widths.as_slice(),
         }
     }
@@ -130,8 +150,33 @@ impl TextLines {
     {
         match &self.lines {
             Lines::One { .. } | Lines::Several(_) => false,
-            Lines::Escaped(_) => true,
+            Lines::EscapedOne(_) | Lines::Escaped(_) => true,
         }
+    }
+}
+
+// Whether a text is one text line in which ESC stands.
+fn is_escaped_line(text: &str) -> bool
+    ensures unbroken { result ≡ true → list_any (λ b. b == 0x0A) text.now ≡ false }
+    ensures escaped { result ≡ true → has_escape text.now ≡ true }
+{
+    !text.contains('\n') && has_escape(text)
+}
+
+impl EscapedLine {
+    fn new(alloc: Global, text: String) -> Result<EscapedLine>
+        ensures text { IfOk result (λ line. string_bytes line.text ≡ string_bytes text) }
+        ensures width { IfOk result (λ line. line.width ≡ measure (string_bytes line.text)) }
+        ensures visible { IfOk result (λ line. string_bytes line.visible ≡ visible_text (string_bytes line.text)) }
+        ensures visible_width { IfOk result (λ line. line.visible_width ≡ measure (string_bytes line.visible)) }
+    {
+        let visible = visible_text(alloc, text.as_str())?;
+        Ok(EscapedLine {
+            width: measure_text_width(text.as_str()),
+            visible_width: measure_text_width(visible.as_str()),
+            text,
+            visible,
+        })
     }
 }
 
@@ -187,6 +232,7 @@ impl Clone for TextLines {
                 width: *width,
             },
             Lines::Several(several) => Lines::Several(several.clone()?),
+            Lines::EscapedOne(line) => Lines::EscapedOne(line.clone()?),
             Lines::Escaped(escaped) => Lines::Escaped(escaped.clone()?),
         };
         Ok(TextLines { lines })
@@ -200,6 +246,19 @@ impl Clone for SeveralLines {
         Ok(SeveralLines {
             texts: self.texts.clone()?,
             widths: self.widths.clone()?,
+        })
+    }
+}
+
+impl Clone for EscapedLine {
+    ghost is_clone = { λ source copy. (string_bytes copy.text ≡ string_bytes source.text) × (copy.width ≡ source.width) × (string_bytes copy.visible ≡ string_bytes source.visible) × (copy.visible_width ≡ source.visible_width) };
+
+    fn clone(&self) -> std::result::Result<EscapedLine, AllocError> {
+        Ok(EscapedLine {
+            text: self.text.clone()?,
+            width: self.width,
+            visible: self.visible.clone()?,
+            visible_width: self.visible_width,
         })
     }
 }

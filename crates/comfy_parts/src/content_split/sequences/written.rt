@@ -1,15 +1,16 @@
 //! The texts that are written for the lines of a cell whose text holds SGR sequences.
 
-ghost use Rattle.std.specs.Prelude.{◌≡◌, ◌++◌, map, IfOk, OnOk, string_bytes};
+ghost use Rattle.std.specs.Prelude.{◌≡◌, ◌++◌, [], false, length, map, true, IfOk, OnOk, string_bytes};
 ghost use Rattle.comfy_parts.specs.Cursor.{open_at_end, seen_ahead};
 ghost use Rattle.comfy_parts.specs.Text.{measure};
 ghost use Rattle.comfy_parts.specs.VisibleLines.{CellLine, line_texts};
-ghost use Rattle.comfy_parts.specs.VisibleText.{visible_text};
-ghost use Rattle.comfy_parts.specs.Written.{wrapped_positions, written_at, written_of_text};
+ghost use Rattle.comfy_parts.specs.VisibleText.{line_text, parts, visible_text};
+ghost use Rattle.comfy_parts.specs.Written.{closes_itself, wrapped_positions, written_at, written_of_text};
 
 use crate::content_split::display_info::ColumnDisplayInfo;
 use crate::content_split::lines::wrapped_lines;
 use crate::content_split::sequences::cursor::Cursor;
+use crate::content_split::sequences::{RESET, split_sequence, split_visible};
 use crate::error::Result;
 use std::alloc::Global;
 
@@ -81,4 +82,30 @@ fn push_wrapped(
         lines.push(cursor.take_line(line.len())?)?;
     }
     Ok(())
+}
+
+/// Whether a text that is a cell's only line is written as it is: each reset in it follows visible text and closes a
+/// sequence, and none is open at its end. Other texts may be written as they are too.
+pub(crate) fn is_written_whole(text: &str) -> bool
+    ensures { result ≡ true → line_text [] text.now 0 (length (visible_text text.now)) ≡ text.now }
+{
+    let mut is_open = false;
+    let mut follows_visible = false;
+    let mut rest = text;
+    'parts: while !rest.is_empty() {
+        if let Some((sequence, behind)) = split_sequence(rest) {
+            let is_reset = sequence == RESET;
+            if is_reset && !(is_open && follows_visible) {
+                return false;
+            }
+            is_open = !is_reset;
+            follows_visible = false;
+            rest = behind;
+        } else {
+            let (_, behind) = split_visible(rest);
+            follows_visible = true;
+            rest = behind;
+        }
+    }
+    !is_open
 }

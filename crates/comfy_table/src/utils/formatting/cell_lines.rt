@@ -120,8 +120,8 @@ fn all_fit(widths: &[usize], content_width: usize) -> bool
     widths.iter().all(|width| *width <= content_width)
 }
 
-// Whether what is written for the lines of the cell may differ from what is seen of them.
-fn has_own_texts(table: &Table, cell: &Cell) -> bool
+/// Whether what is written for the lines of the cell may differ from what is seen of them.
+pub fn has_own_texts(table: &Table, cell: &Cell) -> bool
     ensures { result ≡ (table.now.custom_styling && list_any has_escape cell.now.text_lines) }
 {
     table.custom_styling && has_escape(cell)

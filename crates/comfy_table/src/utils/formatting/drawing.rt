@@ -39,21 +39,21 @@ struct Writer<'a> {
     infos: &'a [ColumnDisplayInfo],
     // the whole widths of the visible columns
     widths: Vec<usize>,
-    // what draws the rows that are plain, where there may be such
-    plain: Option<PlainRows<'a>>,
+    // what draws the rows that are plain
+    plain: PlainRows<'a>,
     // the line that is drawn now
     line: String,
     output: Output,
 }
 
 impl<'a> Model for Writer<'a> {
-    ghost use Rattle.std.specs.Prelude.{◌≡◌, IfSome};
+    ghost use Rattle.std.specs.Prelude.{◌≡◌};
     ghost use Rattle.comfy_table.specs.Drawing.{whole_widths};
     ghost use Rattle.comfy_table.specs.Output.{WriterValue};
 
     ghost Value = { WriterValue };
 
-    ghost invariant = { λ w. (w.widths.items ≡ whole_widths w.infos.now) × IfSome w.plain (λ plain. plain ≡ record { table = w.table.now; infos = w.infos.now }) };
+    ghost invariant = { λ w. (w.widths.items ≡ whole_widths w.infos.now) × (w.plain ≡ record { table = w.table.now; infos = w.infos.now }) };
 
     ghost view = { λ w. record { table = w.table.now; infos = w.infos.now; output = w.output } };
 }
@@ -138,9 +138,7 @@ impl<'a> Writer<'a> {
     fn write_row(&mut self, gaps: &RowGaps, row: &'a Row) -> Result<()>
         ensures { OnOk result (self.new ≡ with_written (row_between gaps.now self.old.table self.old.infos row.now) self.old) }
     {
-        if let Some(plain) = &self.plain
-            && plain.set_line(&mut self.line, gaps, row)?
-        {
+        if self.plain.set_line(&mut self.line, gaps, row)? {
             return self.output.push_line(self.line.as_str());
         }
         self.write_row_lines(gaps, row)

@@ -1,6 +1,6 @@
 //! A line of a cell as it stands in its column.
 
-ghost use Rattle.std.specs.Prelude.{◌≡◌, ◌+◌, ◌-◌, ◌≤◌, ◌++◌, IfOk, OnOk, option_map, string_bytes};
+ghost use Rattle.std.specs.Prelude.{◌≡◌, ◌+◌, ◌-◌, ◌≤◌, ◌++◌, [], IfOk, None, OnOk, false, option_map, string_bytes};
 ghost use Rattle.comfy_parts.specs.Text.{spaces};
 ghost use Rattle.comfy_table.specs.Gaps.{spaced, styled_text};
 ghost use Rattle.comfy_table.specs.Pieces.{blank_piece, cell_alignment, free_before, padded, text_piece};
@@ -47,7 +47,7 @@ impl<'a> Piece<'a> {
         ensures { result ≡ text_piece table.now cell.now info.now columns text.now }
     {
         let (left, right) = spaces_beside(cell, info, columns);
-        if !table.should_style() {
+        if !table.should_style() || !has_styles(cell) {
             return Piece {
                 left,
                 text,
@@ -111,6 +111,15 @@ impl<'a> Piece<'a> {
         push_text(line, self.text, self.styles)?;
         Ok(self.right)
     }
+}
+
+// Whether the cell has a colour or an attribute.
+fn has_styles(cell: &Cell) -> bool
+    ensures background { result ≡ false → cell.now.background ≡ None }
+    ensures foreground { result ≡ false → cell.now.foreground ≡ None }
+    ensures attributes { result ≡ false → cell.now.attributes ≡ [] }
+{
+    cell.background().is_some() || cell.foreground().is_some() || !cell.attributes().is_empty()
 }
 
 // Appends a text, in the styles of a cell where there is one.

@@ -1,4 +1,4 @@
-//! Rows of which each visible cell is one text line that fits, in tables that style nothing: one line of texts and gaps.
+//! Rows of which each visible cell is one text line that fits and is written as it is: one line of texts and gaps.
 
 ghost use Rattle.std.specs.Prelude.{◌≡◌, ◌∷◌, [], IfOk, IfSome, None, false, string_bytes, true};
 ghost use Rattle.comfy_table.specs.Gaps.{row_between};
@@ -7,10 +7,11 @@ ghost use Rattle.comfy_table.specs.TableValue.{TableValue, should_style};
 
 use crate::table::Table;
 use crate::table::column_cells::cell_at;
+use crate::utils::formatting::cell_lines::has_own_texts;
 use crate::utils::formatting::piece::Piece;
 use crate::utils::formatting::row_gaps::RowGaps;
 use comfy_parts::content_split::ColumnDisplayInfo;
-use comfy_parts::for_tables::text_widths;
+use comfy_parts::for_tables::{is_written_whole, text_widths};
 use comfy_parts::{Result, Row};
 use std::alloc::Global;
 use std::marker::Model;
@@ -37,6 +38,8 @@ pub struct PlainRows<'a> {
     table: &'a Table,
     infos: &'a [ColumnDisplayInfo],
     columns: Vec<VisibleColumn<'a>>,
+    // whether no styles are written, and sequences count as any other text
+    styles_nothing: bool,
 }
 
 impl<'a> Model for PlainRows<'a> {
@@ -44,26 +47,23 @@ impl<'a> Model for PlainRows<'a> {
 
     ghost Value = { PlainRowsValue };
 
-    ghost invariant = { λ p. HasPlainRows (record { table = p.table.now; infos = p.infos.now }) p.columns.items };
+    ghost invariant = { λ p. HasPlainRows (record { table = p.table.now; infos = p.infos.now }) p.columns.items p.styles_nothing };
 
     ghost view = { λ p. record { table = p.table.now; infos = p.infos.now } };
 }
 
 impl<'a> PlainRows<'a> {
-    /// What draws the plain rows of a table with these infos. None where the table writes styles, or has sequences count
-    /// nothing.
-    pub fn new(table: &'a Table, infos: &'a [ColumnDisplayInfo]) -> Result<Option<PlainRows<'a>>>
-        ensures { IfOk result (λ rows. IfSome rows (λ rows. rows ≡ record { table = table.now; infos = infos.now })) }
+    /// What draws the plain rows of a table with these infos.
+    pub fn new(table: &'a Table, infos: &'a [ColumnDisplayInfo]) -> Result<PlainRows<'a>>
+        ensures { IfOk result (λ rows. rows ≡ record { table = table.now; infos = infos.now }) }
     {
-        if table.custom_styling || table.should_style() {
-            return Ok(None);
-        }
         let alloc = *table.columns.allocator();
-        Ok(Some(PlainRows {
+        Ok(PlainRows {
             table,
             infos,
             columns: visible_columns(alloc, infos)?,
-        }))
+            styles_nothing: !table.custom_styling && !table.should_style(),
+        })
     }
 
     /// Makes a text the one line of a row that is plain. False for every other row.
@@ -76,7 +76,7 @@ impl<'a> PlainRows<'a> {
         }
         let mut free = 0;
         for (count, column) in self.columns.iter().enumerate() {
-            let Some(piece) = plain_piece(row, column) else {
+            let Some(piece) = plain_piece(self.table, self.styles_nothing, row, column) else {
                 return Ok(false);
             };
             free = piece.push(line, gaps.before(count), free)?;
@@ -103,8 +103,26 @@ fn visible_columns<'a>(
     Ok(columns)
 }
 
-// The one piece of a cell that is plain. A missing cell is blank.
-fn plain_piece<'a>(row: &'a Row, column: &VisibleColumn) -> Option<Piece<'a>>
+// The one piece of a cell that is plain.
+fn plain_piece<'a>(
+    table: &Table,
+    styles_nothing: bool,
+    row: &'a Row,
+    column: &VisibleColumn,
+) -> Option<Piece<'a>>
+    requires unstyled { styles_nothing ≡ true → should_style table.now ≡ false }
+    requires without_custom { styles_nothing ≡ true → table.now.custom_styling ≡ false }
+    ensures { IfSome result (λ piece. row.now.max_height ≡ None → pieces_at table.now row.now column.now ≡ piece ∷ []) }
+{
+    if styles_nothing {
+        unstyled_piece(row, column)
+    } else {
+        styled_piece(table, row, column)
+    }
+}
+
+// That of a table that styles nothing. A missing cell is blank.
+fn unstyled_piece<'a>(row: &'a Row, column: &VisibleColumn) -> Option<Piece<'a>>
     ensures { IfSome result (λ piece. (table : TableValue) → should_style table ≡ false → table.custom_styling ≡ false → row.now.max_height ≡ None → pieces_at table row.now column.now ≡ piece ∷ []) }
 {
     let info = column.info;
@@ -117,4 +135,25 @@ fn plain_piece<'a>(row: &'a Row, column: &VisibleColumn) -> Option<Piece<'a>>
         return None;
     }
     Some(Piece::unstyled(cell, info, widths[0], texts[0].as_str()))
+}
+
+// That of any table.
+#[inline(never)]
+fn styled_piece<'a>(table: &Table, row: &'a Row, column: &VisibleColumn) -> Option<Piece<'a>>
+    ensures { IfSome result (λ piece. row.now.max_height ≡ None → pieces_at table.now row.now column.now ≡ piece ∷ []) }
+{
+    let info = column.info;
+    let Some(cell) = cell_at(row, column.position) else {
+        return Some(Piece::blank(info));
+    };
+    let texts = cell.text_lines();
+    let widths = table.seen_widths(cell);
+    if texts.len() != 1 || widths[0] > usize::from(info.content_width) {
+        return None;
+    }
+    let text = texts[0].as_str();
+    if has_own_texts(table, cell) && !is_written_whole(text) {
+        return None;
+    }
+    Some(Piece::new(table, cell, info, widths[0], text))
 }

@@ -1,4 +1,4 @@
-use Rattle.std.proofs.Common.{◌≡◌, ℕ, ◌<◌, ◌++◌, List, [], ◌∷◌, None, ap, length, sym, ◌∙◌, arith, append_assoc, slice_index_or, string_bytes, subst, take, false}
+use Rattle.std.proofs.Common.{◌≡◌, ℕ, ◌<◌, ◌++◌, List, [], ◌∷◌, None, ap, length, sym, ◌∙◌, arith, append_assoc, slice_index_or, string_bytes, subst, take}
 use Rattle.std.proofs.lemmas.Bool.Decides.{nat_tests}
 use Rattle.std.proofs.lemmas.List.{take_all}
 use Rattle.comfy_parts.specs.CellValue.{ColumnInfo}
@@ -7,7 +7,6 @@ use Rattle.comfy_table.proofs.PlainRowLemmas.{AreSingle, first_piece, one_line, 
 use Rattle.comfy_table.proofs.RowGapLemmas.{gap_more, made_of}
 use Rattle.comfy_table.specs.Pieces.{blank_piece, pieces_at, visible_infos}
 use Rattle.comfy_table.specs.PlainRows.{PlainRowsValue}
-use Rattle.comfy_table.specs.TableValue.{should_style}
 use Rattle.comfy_table.proofs.utils.formatting.plain_rows.PlainRows.set_line.Goals as goal
 
 pub loop-count-preserved : goal.loop-count-preserved
@@ -20,9 +19,7 @@ loop-count-preserved c =
     let i = c.loop-count.count in
     let piece : Text = c.in-Some.piece in
     let unlimited : row.max_height ≡ None = grind arith in
-    let unstyled : should_style table ≡ false = ap (λ (v : PlainRowsValue). should_style v.table) (sym c.self.view_is) ∙ c.self.invariant.unstyled in
-    let without : table.custom_styling ≡ false = ap (λ (v : PlainRowsValue). v.table.custom_styling) (sym c.self.view_is) ∙ c.self.invariant.without_custom in
-    let one : pieces_at table row p ≡ piece ∷ [] = c.in-Some.ensures table unstyled without unlimited in
+    let one : pieces_at table row p ≡ piece ∷ [] = ap (λ (v : PlainRowsValue). pieces_at v.table row p) (sym c.self.view_is) ∙ c.in-Some.ensures unlimited in
     let all : c.deref-column-items.result.now ≡ columns = c.deref-column-items.ensures.value ∙ c.self.invariant.is_columns ∙ ap (λ (v : PlainRowsValue). visible_infos v.infos) c.self.view_is in
     let below : i < length columns = omega (arith, c.loop-count-test.true, ap length all) in
     let is : p ≡ slice_index_or columns i p = c.column-item.is ∙ ap (λ (ps : List (ℕ × ColumnInfo)). slice_index_or ps i p) all in

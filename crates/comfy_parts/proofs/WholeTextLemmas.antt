@@ -1,0 +1,172 @@
+-- A text with sequences that is a cell's only line is written as it is where each reset follows visible text and closes a sequence, and none is open at the end.
+use Rattle.std.proofs.Common.{◌≡◌, ◌<◌, ◌≤◌, ◌⊎◌, inl, inr, ℕ, zero, suc, Bool, true, false, not, ◌==◌, ◌&&◌, List, [], ◌∷◌, ◌++◌, length, map, nat_le, zip, refl, sym, ap, ◌∙◌, subst, arith, append_assoc, append-nil, length-append}
+use Rattle.std.specs.List.{concat, flat_map}
+use Rattle.std.specs.Prelude.{if◌then◌else◌, bytes_eq}
+use Rattle.std.proofs.lemmas.Bool.{and_parts}
+use Rattle.std.proofs.lemmas.Bool.Decides.{nat_tests}
+use Rattle.std.proofs.lemmas.List.Folds.{concat-append}
+use Rattle.std.proofs.lemmas.Slice.Eq.{bytes_eq-Decides}
+use Rattle.comfy_parts.specs.Cursor.{sequence_part, visible_part}
+use Rattle.comfy_parts.specs.Text.{Text, measure}
+use Rattle.comfy_parts.specs.VisibleLines.{line_texts, starts_past}
+use Rattle.comfy_parts.specs.VisibleText.{Part, closing, line_text, opened, opened_by, parts, parts_before, parts_from, parts_up_to, reset, visible_bytes, visible_text}
+use Rattle.comfy_parts.specs.Wrapping.{wrapped}
+use Rattle.comfy_parts.specs.Written.{closes_itself}
+use Rattle.comfy_parts.proofs.ScanLemmas.{AreScanned, bytes_of, scan}
+use Rattle.comfy_parts.proofs.SequenceLemmas.{true_is_false}
+use Rattle.comfy_parts.proofs.WrittenLemmas.{line_text-written}
+
+-- how many bytes of some parts are visible
+abbrev seen_count : List Part → ℕ
+seen_count ps = length (flat_map visible_bytes ps)
+
+-- whether one of these sequences is open
+abbrev is_open : List Text → Bool
+is_open ss = not (length ss == 0)
+
+some_open : (ss : List Text) (s : Text) → true ≡ is_open (ss ++ s ∷ [])
+some_open ss s =
+    let some : (length (ss ++ s ∷ []) == 0) ≡ false = grind (arith, nat_tests, length-append ss (s ∷ [])) in
+    sym (ap not some)
+
+-- ---- at a sequence
+
+-- one that is the reset, or another
+record IsReset (ss : List Text) (o follows : Bool) (s : Text) (ps : List Part) : Type 0 where
+  is : reset ≡ s
+  opens : opened_by ss (sequence_part s) ≡ []
+  closes : o ≡ true
+  follows_visible : follows ≡ true
+  more : closes_itself false false ps ≡ true
+
+record IsOther (ss : List Text) (s : Text) (ps : List Part) : Type 0 where
+  opens : opened_by ss (sequence_part s) ≡ ss ++ s ∷ []
+  more : closes_itself true false ps ≡ true
+
+at_sequence : (ss : List Text) (o follows : Bool) (s : Text) (ps : List Part) → closes_itself o follows (sequence_part s ∷ ps) ≡ true → IsReset ss o follows s ps ⊎ IsOther ss s ps
+at_sequence ss o follows s ps = by_reset (bytes_eq reset s) refl
+  where
+    by_reset : (b : Bool) → bytes_eq reset s ≡ b → (if b then o && (follows && closes_itself false false ps) else closes_itself true false ps) ≡ true → IsReset ss o follows s ps ⊎ IsOther ss s ps
+    by_reset true is closes =
+        let first = and_parts o (follows && closes_itself false false ps) closes in
+        let second = and_parts follows (closes_itself false false ps) first.1 in
+        inl (record { is = (bytes_eq-Decides reset s).0 is; opens = ap (λ (b : Bool). if b then [] else ss ++ s ∷ []) is; closes = first.0; follows_visible = second.0; more = second.1 })
+    by_reset false is closes = inr (record { opens = ap (λ (b : Bool). if b then [] else ss ++ s ∷ []) is; more = closes })
+
+-- after visible bytes
+pub closes-visible : (o follows : Bool) (bs : Text) (ps : List Part) → 0 < length bs → closes_itself o follows (map visible_part bs ++ ps) ≡ closes_itself o true ps
+closes-visible o follows [] ps some = absurd (omega (arith, some))
+closes-visible o follows (b ∷ []) ps some = refl
+closes-visible o follows (b ∷ c ∷ bs) ps some = closes-visible o true (c ∷ bs) ps (omega arith)
+
+-- ---- where nothing more is seen
+
+-- no part is left then, and no sequence is open
+record AreNone (o : Bool) (ps : List Part) : Type 0 where
+  empty : ps ≡ []
+  closed : o ≡ false
+
+none_left : (o : Bool) (ps : List Part) (rest : Text) → AreScanned ps rest → seen_count ps ≡ 0 → closes_itself o false ps ≡ true → AreNone o ps
+none_left false [] rest scanned none closes = record { empty = refl; closed = refl }
+none_left true [] rest scanned none closes = absurd (true_is_false (sym closes))
+none_left o (p ∷ ps) rest (inr part, more) none closes =
+    let seen = ap (λ (x : Part). seen_count (x ∷ ps)) part.is in absurd (omega (arith, none, seen))
+none_left o (p ∷ ps) rest (inl part, more) none closes =
+    by_kind (at_sequence [] o false p.bytes ps (ap (λ (x : Part). closes_itself o false (x ∷ ps)) (sym part.is) ∙ closes))
+    (none_left true ps rest more (ap (λ (x : Part). seen_count (x ∷ ps)) (sym part.is) ∙ none))
+  where
+    by_kind : IsReset [] o false p.bytes ps ⊎ IsOther [] p.bytes ps → (closes_itself true false ps ≡ true → AreNone true ps) → AreNone o (p ∷ ps)
+    by_kind (inl same) behind = absurd (true_is_false (sym same.follows_visible))
+    by_kind (inr other) behind = absurd (true_is_false (behind other.more).closed)
+
+-- ---- what is written
+
+-- up to the last visible byte, and the reset that is needed then
+abbrev shut : ℕ → List Text → List Part → Text
+shut n ss ps = bytes_of (parts_up_to n ps) ++ closing (opened ss (parts_up_to n ps))
+
+-- that is all, where no sequence stands in front or it is known
+all_shut : (ss : List Text) (o follows : Bool) (ps : List Part) (rest : Text) → AreScanned ps rest → o ≡ is_open ss → closes_itself o follows ps ≡ true → shut (seen_count ps) ss ps ≡ bytes_of ps
+all_shut ss o follows [] rest scanned is closes = by_length (length ss == 0) (ap not (sym is) ∙ closes)
+  where
+    by_length : (b : Bool) → not (not b) ≡ true → (if b then [] else reset) ≡ []
+    by_length true closed = refl
+    by_length false closed = absurd (true_is_false (sym closed))
+all_shut ss o follows (p ∷ ps) rest (inr part, more) is closes =
+    subst (λ (x : Part). shut (seen_count (x ∷ ps)) ss (x ∷ ps) ≡ bytes_of (x ∷ ps)) (sym part.is)
+    (ap (λ (t : Text). part.byte ∷ t) (all_shut ss o true ps rest more is (ap (λ (x : Part). closes_itself o follows (x ∷ ps)) (sym part.is) ∙ closes)))
+all_shut ss o follows (p ∷ ps) rest (inl part, more) is closes =
+    subst (λ (x : Part). shut (seen_count (x ∷ ps)) ss (x ∷ ps) ≡ bytes_of (x ∷ ps)) (sym part.is)
+    (by_count (seen_count ps) refl (at_sequence ss o follows p.bytes ps (ap (λ (x : Part). closes_itself o follows (x ∷ ps)) (sym part.is) ∙ closes)) (λ ts t is. all_shut ts t false ps rest more is))
+  where
+    q : Part
+    q = sequence_part p.bytes
+
+    IsShut : List Text → Type 0
+    IsShut ts = shut (seen_count ps) ts ps ≡ bytes_of ps
+
+    needs_reset : (b : Bool) → not b ≡ true → (if b then [] else reset) ≡ reset
+    needs_reset true some = absurd (true_is_false (sym some))
+    needs_reset false some = refl
+
+    by_kind : IsReset ss o follows p.bytes ps ⊎ IsOther ss p.bytes ps → ((ts : List Text) (t : Bool) → t ≡ is_open ts → closes_itself t false ps ≡ true → IsShut ts) → IsShut (opened_by ss q)
+    by_kind (inl same) behind = subst IsShut (sym same.opens) (behind [] false refl same.more)
+    by_kind (inr other) behind = subst IsShut (sym other.opens) (behind (ss ++ p.bytes ∷ []) true (some_open ss p.bytes) other.more)
+
+    by_count : (n : ℕ) → seen_count ps ≡ n → IsReset ss o follows p.bytes ps ⊎ IsOther ss p.bytes ps → ((ts : List Text) (t : Bool) → t ≡ is_open ts → closes_itself t false ps ≡ true → IsShut ts)
+        → shut n ss (q ∷ ps) ≡ p.bytes ++ bytes_of ps
+    by_count zero none (inr other) behind = absurd (true_is_false (none_left true ps rest more none other.more).closed)
+    by_count zero none (inl same) behind =
+        let empty = (none_left false ps rest more none same.more).empty in
+        needs_reset (length ss == 0) (sym is ∙ same.closes) ∙ same.is ∙ sym (append-nil p.bytes) ∙ ap (λ (qs : List Part). p.bytes ++ bytes_of qs) (sym empty)
+    by_count (suc n) some kind behind =
+        append_assoc p.bytes (bytes_of (parts_up_to (suc n) ps)) (closing (opened (opened_by ss q) (parts_up_to (suc n) ps)))
+        ∙ ap (λ (t : Text). p.bytes ++ t) (subst (λ k. shut k (opened_by ss q) ps ≡ bytes_of ps) some (by_kind kind behind))
+
+-- with the sequences in front
+abbrev resumed : List Text → List Part → Text
+resumed ss ps = concat (opened ss (parts_before 0 ps)) ++ shut (seen_count ps) (opened ss (parts_before 0 ps)) (parts_from 0 ps)
+
+all_resumed : (ss : List Text) (o : Bool) (ps : List Part) (rest : Text) → AreScanned ps rest → o ≡ is_open ss → 0 < seen_count ps → closes_itself o false ps ≡ true → resumed ss ps ≡ concat ss ++ bytes_of ps
+all_resumed ss o [] rest scanned is some closes = absurd (omega (arith, some))
+all_resumed ss o (p ∷ ps) rest (inr part, more) is some closes =
+    subst (λ (x : Part). resumed ss (x ∷ ps) ≡ concat ss ++ shut (seen_count (x ∷ ps)) ss (x ∷ ps)) (sym part.is) refl
+    ∙ ap (λ (t : Text). concat ss ++ t) (all_shut ss o false (p ∷ ps) rest (inr part, more) is closes)
+all_resumed ss o (p ∷ ps) rest (inl part, more) is some closes =
+    subst (λ (x : Part). resumed ss (x ∷ ps) ≡ concat ss ++ bytes_of (x ∷ ps)) (sym part.is) (by_kind (at_sequence ss o false p.bytes ps (ap (λ (x : Part). closes_itself o false (x ∷ ps)) (sym part.is) ∙ closes))
+    (all_resumed (ss ++ p.bytes ∷ []) true ps rest more (some_open ss p.bytes) (subst (λ (x : Part). 0 < seen_count (x ∷ ps)) part.is some)))
+  where
+    s : Text
+    s = p.bytes
+
+    by_kind : IsReset ss o false s ps ⊎ IsOther ss s ps → (closes_itself true false ps ≡ true → resumed (ss ++ s ∷ []) ps ≡ concat (ss ++ s ∷ []) ++ bytes_of ps)
+        → resumed ss (sequence_part s ∷ ps) ≡ concat ss ++ (s ++ bytes_of ps)
+    by_kind (inl same) behind = absurd (true_is_false (sym same.follows_visible))
+    by_kind (inr other) behind =
+        ap (λ (ts : List Text). resumed ts ps) other.opens
+        ∙ behind other.more
+        ∙ ap (λ (t : Text). t ++ bytes_of ps) (concat-append ss (s ∷ []) ∙ ap (λ (t : Text). concat ss ++ t) (append-nil s))
+        ∙ append_assoc (concat ss) s (bytes_of ps)
+
+-- the line of such a text
+pub written_whole : (text : Text) → closes_itself false false (parts text) ≡ true → line_text [] text 0 (length (visible_text text)) ≡ text
+written_whole text closes = sym (line_text-written [] text 0 (seen_count ps)) ∙ by_count (seen_count ps) refl ∙ (scan text).bytes
+  where
+    ps : List Part
+    ps = parts text
+
+    by_count : (n : ℕ) → seen_count ps ≡ n → (if n == 0 then [] else concat (opened [] (parts_before 0 ps)) ++ shut n (opened [] (parts_before 0 ps)) (parts_from 0 ps)) ≡ bytes_of ps
+    by_count zero none = sym (ap bytes_of (none_left false ps [] (scan text).scanned none closes).empty)
+    by_count (suc n) some =
+        let more : (suc n == 0) ≡ false = grind (arith, nat_tests) in
+        ap (λ (b : Bool). if b then [] else concat (opened [] (parts_before 0 ps)) ++ shut (suc n) (opened [] (parts_before 0 ps)) (parts_from 0 ps)) more
+        ∙ ap (λ k. concat (opened [] (parts_before 0 ps)) ++ shut k (opened [] (parts_before 0 ps)) (parts_from 0 ps)) (sym some)
+        ∙ all_resumed [] false ps [] (scan text).scanned refl (omega (arith, some)) closes
+
+-- and of a cell of this text alone, where what is visible of it fits
+pub line_of_whole : (w d : ℕ) (text : Text) → measure (visible_text text) ≤ w → line_text [] text 0 (length (visible_text text)) ≡ text → line_texts w d (text ∷ []) ≡ record { seen = visible_text text; written = text } ∷ []
+line_of_whole w d text fits whole =
+    let seen = visible_text text in
+    let fit : nat_le (measure seen) w ≡ true = grind (arith, nat_tests, fits) in
+    ap (λ (b : Bool). map (λ (p : ℕ × Text). record { seen = p.1; written = line_text [] text p.0 (length p.1) }) (zip (if b then 0 ∷ [] else starts_past w d 0 0 seen) (if b then seen ∷ [] else wrapped w d seen)) ++ []) fit
+    ∙ ap (λ (t : Text). record { seen = seen; written = t } ∷ []) whole
