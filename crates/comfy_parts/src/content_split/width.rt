@@ -41,10 +41,12 @@ fn simple_columns(text: &str) -> Option<usize>
 fn simple_width(character: char) -> Option<usize>
     ensures { result ≡ simple_width character }
 {
-    // Ideographs come first: they are by far the most of them.
+    // Ideographs are by far the most of them. A test of their own keeps them from being looked for among all ranges.
+    if matches!(character, '\u{4e00}'..='\u{9fff}') {
+        return Some(2);
+    }
     match character {
-        '\u{4e00}'..='\u{9fff}'
-        | '\u{3000}'..='\u{3029}'
+        '\u{3000}'..='\u{3029}'
         | '\u{3041}'..='\u{3096}'
         | '\u{309b}'..='\u{30ff}'
         | '\u{3400}'..='\u{4dbf}'
