@@ -72,11 +72,12 @@ pub fn is_printable(bytes: &[u8]) -> bool
     if !bytes.is_empty() && bytes[0] > 0x7e {
         return false;
     }
-    let mut printable = true;
+    let mut highest = 0;
     for byte in bytes {
-        printable &= *byte >= 0x20 && *byte <= 0x7e;
+        // What stands before the space comes out above all others.
+        highest = byte.wrapping_sub(0x20).max(highest);
     }
-    printable
+    highest <= 0x7e - 0x20
 }
 
 /// How many bytes of a word's end show that the word is wider than these columns: each end of the word with at least so
