@@ -24,6 +24,10 @@ pub at-plain : (plain : Bool) → plain ≡ true → (w d : ℕ) (text : Text) (
 at-plain true is w d text first columns shown at = at
 at-plain false is w d text first columns shown at = absurd (grind (arith, is))
 
+pub next-plain : (plain : Bool) → plain ≡ true → (w d : ℕ) (text : Text) (first columns shown : ℕ) → IsPlain w d text → begins_with d text ≡ false → IsAtNext plain w d text first columns shown
+next-plain true is w d text first columns shown printable begins = (printable, begins)
+next-plain false is w d text first columns shown printable begins = absurd (grind (arith, is))
+
 pub at-line : (plain : Bool) → plain ≡ false → (w d : ℕ) (text : Text) (first columns shown : ℕ) → IsAtNext plain w d text first columns shown → IsAtLine w d text first columns shown
 at-line true is w d text first columns shown at = absurd (grind (arith, is))
 at-line false is w d text first columns shown at = at

@@ -1,15 +1,15 @@
 //! The lines of a wrapped text, one after another.
 
-ghost use Rattle.std.specs.Prelude.{◌≡◌, ◌≤◌, ◌∷◌, [], IfSome, None};
+ghost use Rattle.std.specs.Prelude.{◌≡◌, ◌<◌, ◌≤◌, ◌∷◌, [], IfSome, None, false, length, map};
 ghost use Rattle.std.specs.Iterator.{YieldsFirstBy, item_count};
 ghost use Rattle.comfy_parts.specs.Following.{AreColumnsUpTo, IsMeasuredBehind, IsWideFrom};
 ghost use Rattle.comfy_parts.specs.Laws.{IsPlain};
-ghost use Rattle.comfy_parts.specs.Text.{measure};
+ghost use Rattle.comfy_parts.specs.Text.{begins_with, greatest, measure};
 ghost use Rattle.comfy_parts.specs.Wrapping.{IsWrapped, wrapped};
 
 use crate::content_split::display_info::ColumnDisplayInfo;
 use crate::content_split::ends::{Measured, first_element, line_end, line_start, measured_element};
-use crate::content_split::printable::printable_line_end;
+use crate::content_split::printable::{printable_line_end, printable_longest_line};
 use crate::content_split::width::{is_printable, measure_text_width, wide_end};
 use std::marker::Model;
 
@@ -46,6 +46,7 @@ impl<'a> Model for WrappedLines<'a> {
 }
 
 /// The lines of a text that is wrapped at the column's content width, one after another. They are those of `split_line`.
+#[inline(always)]
 pub fn wrapped_lines<'a>(
     line: &'a str,
     info: &ColumnDisplayInfo,
@@ -75,6 +76,21 @@ fn plain_lines<'a>(text: &'a str, width: usize, delimiter: char) -> WrappedLines
         width,
         delimiter,
     }
+}
+
+// The line at the front of printable ASCII, and the text from the next line on.
+fn split_plain_line(text: &str, width: usize, delimiter: char) -> (&str, &str)
+    requires plain { IsPlain width delimiter text.now }
+    requires begins { begins_with delimiter text.now ≡ false }
+    requires some { 0 < length text.now }
+    ensures lines { wrapped width delimiter text.now ≡ result.0.now ∷ wrapped width delimiter result.1.now }
+    ensures columns { length result.0.now ≡ measure result.0.now }
+    ensures plain { IsPlain width delimiter result.1.now }
+    ensures begins { begins_with delimiter result.1.now ≡ false }
+{
+    let end = printable_line_end(text.as_bytes(), width, delimiter);
+    let (line, behind) = text.split_at(end);
+    (line, line_start(behind, delimiter))
 }
 
 // The lines of a text after the delimiters at its front. Where it begins with a measured element that fits a line, that isn't
@@ -136,12 +152,28 @@ impl<'a> WrappedLines<'a> {
         ensures line { IfSome result (λ line. self.old ≡ line.0.now ∷ self.new) }
         ensures columns { IfSome result (λ line. line.1 ≡ measure line.0.now) }
     {
-        let is_plain = self.is_plain;
-        let line = self.next()?;
-        if is_plain {
+        if self.is_plain && !self.rest.is_empty() {
+            let (line, rest) = split_plain_line(self.rest, self.width, self.delimiter);
+            self.rest = rest;
             return Some((line, line.len()));
         }
+        let line = self.next()?;
         Some((line, measure_text_width(line)))
+    }
+
+    /// The terminal columns of the longest line that is still to come.
+    pub fn longest(self) -> usize
+        ensures { result ≡ greatest (map measure self.entry) }
+    {
+        if self.is_plain {
+            return printable_longest_line(self.rest.as_bytes(), self.width, self.delimiter);
+        }
+        let mut longest = 0;
+        let mut lines = self;
+        while let Some((_line, columns)) = lines.next_measured() {
+            longest = columns.max(longest);
+        }
+        longest
     }
 }
 
@@ -157,9 +189,8 @@ impl<'a> Iterator for WrappedLines<'a> {
             return None;
         }
         if self.is_plain {
-            let end = printable_line_end(self.rest.as_bytes(), self.width, self.delimiter);
-            let (line, behind) = self.rest.split_at(end);
-            *self = plain_lines(behind, self.width, self.delimiter);
+            let (line, rest) = split_plain_line(self.rest, self.width, self.delimiter);
+            self.rest = rest;
             return Some(line);
         }
         let (end, measured) = line_end(

@@ -1,11 +1,41 @@
 //! Where lines of printable ASCII end. Each byte takes a terminal column, so an end is looked for from a line's last column
 //! backwards.
 
-ghost use Rattle.std.specs.Prelude.{◌≡◌, ◌<◌, ◌≤◌, ◌+◌, ◌-◌, ◌==◌, ◌∷◌, List, drop, false, length, nat_lt, take};
+ghost use Rattle.std.specs.Prelude.{◌≡◌, ◌<◌, ◌≤◌, ◌+◌, ◌-◌, ◌==◌, ◌∷◌, List, drop, false, length, map, max, nat_lt, take};
 ghost use Rattle.std.specs.List.{list_any, slice_index, slice_split};
 ghost use Rattle.comfy_parts.specs.Laws.{IsPlain};
-ghost use Rattle.comfy_parts.specs.Text.{Text, begins_with};
-ghost use Rattle.comfy_parts.specs.Wrapping.{line_end};
+ghost use Rattle.comfy_parts.specs.Text.{Text, begins_with, greatest, measure};
+ghost use Rattle.comfy_parts.specs.Wrapping.{line_end, wrapped};
+
+/// The terminal columns of the longest line that printable ASCII is wrapped into. No line is made for it.
+pub fn printable_longest_line(text: &[u8], width: usize, delimiter: char) -> usize
+    requires plain { IsPlain width delimiter text.now }
+    ensures { result ≡ greatest (map measure (wrapped width delimiter text.now)) }
+{
+    let mut longest = 0;
+    let mut rest = text;
+    while !rest.is_empty() {
+        let (end, columns) = part_at_front(rest, width, delimiter);
+        longest = columns.max(longest);
+        (_, rest) = rest.split_at(end);
+    }
+    longest
+}
+
+// The end of what is passed at once, a delimiter or a line, and the terminal columns of that line.
+fn part_at_front(text: &[u8], width: usize, delimiter: char) -> (usize, usize)
+    requires plain { IsPlain width delimiter text.now }
+    requires some { 0 < length text.now }
+    ensures some { 0 < result.0 }
+    ensures bound { result.0 ≤ length text.now }
+    ensures longest { greatest (map measure (wrapped width delimiter text.now)) ≡ max result.1 (greatest (map measure (wrapped width delimiter (drop result.0 text.now)))) }
+{
+    if u32::from(text[0]) == u32::from(delimiter) {
+        return (1, 0);
+    }
+    let end = printable_line_end(text, width, delimiter);
+    (end, end)
+}
 
 /// The end of the line that begins at the front of printable ASCII.
 pub fn printable_line_end(text: &[u8], width: usize, delimiter: char) -> usize

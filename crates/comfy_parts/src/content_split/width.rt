@@ -41,10 +41,12 @@ fn simple_columns(text: &str) -> Option<usize>
 fn simple_width(character: char) -> Option<usize>
     ensures { result ≡ simple_width character }
 {
-    // Ideographs come first: they are by far the most of them.
+    // Ideographs are by far the most of them. A test of their own keeps them from being looked for among all ranges.
+    if matches!(character, '\u{4e00}'..='\u{9fff}') {
+        return Some(2);
+    }
     match character {
-        '\u{4e00}'..='\u{9fff}'
-        | '\u{3000}'..='\u{3029}'
+        '\u{3000}'..='\u{3029}'
         | '\u{3041}'..='\u{3096}'
         | '\u{309b}'..='\u{30ff}'
         | '\u{3400}'..='\u{4dbf}'
@@ -70,11 +72,12 @@ pub fn is_printable(bytes: &[u8]) -> bool
     if !bytes.is_empty() && bytes[0] > 0x7e {
         return false;
     }
-    let mut printable = true;
+    let mut highest = 0;
     for byte in bytes {
-        printable &= *byte >= 0x20 && *byte <= 0x7e;
+        // What stands before the space comes out above all others.
+        highest = byte.wrapping_sub(0x20).max(highest);
     }
-    printable
+    highest <= 0x7e - 0x20
 }
 
 /// How many bytes of a word's end show that the word is wider than these columns: each end of the word with at least so

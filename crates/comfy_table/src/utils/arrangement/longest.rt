@@ -111,17 +111,5 @@ fn text_longest_line(text: &str, columns: usize, info: &ColumnDisplayInfo, delim
     if columns <= usize::from(info.content_width) {
         return columns;
     }
-    wrapped_longest_line(text, info, delimiter)
-}
-
-// The longest of the lines that a text line is wrapped into.
-fn wrapped_longest_line(text: &str, info: &ColumnDisplayInfo, delimiter: char) -> usize
-    ensures { result ≡ greatest (map measure (wrapped info.now.content_width delimiter text.now)) }
-{
-    let mut longest = 0;
-    let mut wrapped = wrapped_lines(text, info, delimiter);
-    while let Some((_line, columns)) = wrapped.next_measured() {
-        longest = columns.max(longest);
-    }
-    longest
+    wrapped_lines(text, info, delimiter).longest()
 }
