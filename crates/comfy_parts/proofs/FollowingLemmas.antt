@@ -91,11 +91,6 @@ follow-next d (e ∷ es) rest more next behind (more', same, parts) splits first
     let equal : more' ≡ more = append_cancel_left (encode_utf8 d) more' more (sym same ∙ splits) in
     (first.others, sym parts ∙ ap (elements d) equal ∙ first.elements_are, first.follow)
 
--- where there is no delimiter to strip, no element follows
-pub follow-none : (d : ℕ) (es : List Text) (rest : Text) → Follow d es rest → FindsCharPrefix d rest None → es ≡ []
-follow-none d [] rest none absent = refl
-follow-none d (e ∷ es) rest (more, same, parts) absent = absurd (absent more same)
-
 -- ---- the rest of a first element
 
 -- after the front of its first part, a list has the rest of that part and the other parts

@@ -170,17 +170,6 @@ module _ (w d : ℕ) where
   abbrev pub IsClearAfter : Text → ℕ → Type 0
   IsClearAfter text at = list_any (λ c. c == d) (take (w - at) (drop (at + 1) text)) ≡ false
 
-  -- nor from one position less
-  pub clear-more : (text : Text) (at : ℕ) → 0 < at → at ≤ w → at < length text → (slice_index_or text at 0 == d) ≡ false → IsClearAfter text at → IsClearAfter text (at - 1)
-  clear-more text at some within below other clear =
-      let count : w - (at - 1) ≡ suc (w - at) = omega (arith, some, within) in
-      let from : at - 1 + 1 ≡ at = omega (arith, some) in
-      ap (λ n. list_any (λ c. c == d) (take n (drop (at - 1 + 1) text))) count
-      ∙ ap (λ n. list_any (λ c. c == d) (take (suc (w - at)) (drop n text))) from
-      ∙ ap (λ (t : Text). list_any (λ c. c == d) (take (suc (w - at)) t)) (drop_more text at 0 below)
-      ∙ ap (λ (b : Bool). b || list_any (λ c. c == d) (take (w - at) (drop (at + 1) text))) other
-      ∙ clear
-
   -- a text that ends within the line is one line
   pub end-all : (text : Text) → IsPlain w d text → length text ≤ w → (length text < w) ⊎ EndsInPart (parts_of text) → line_end w d text ≡ length text
   end-all text plain within ends =

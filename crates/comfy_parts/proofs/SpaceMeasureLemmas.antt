@@ -97,10 +97,3 @@ measure-spaces front (suc (suc n)) back utf8 some =
 pub measure-spaces_before : (n : ℕ) (text : Text) → measure (spaces n ++ text) ≡ n + measure text
 measure-spaces_before zero text = omega arith
 measure-spaces_before (suc n) text = let none = measure-nil in measure-spaces [] (suc n) text IsUtf8-nil (omega arith) ∙ omega (arith, none)
-
--- and after it
-pub measure-spaces_behind : (text : Text) (n : ℕ) → IsUtf8 text → measure (text ++ spaces n) ≡ measure text + n
-measure-spaces_behind text zero utf8 = ap measure (append-nil text) ∙ omega arith
-measure-spaces_behind text (suc n) utf8 =
-    let none = measure-nil in
-    ap (λ t. measure (text ++ t)) (sym (append-nil (spaces (suc n)))) ∙ measure-spaces text (suc n) [] utf8 (omega arith) ∙ omega (arith, none)

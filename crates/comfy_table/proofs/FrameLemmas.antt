@@ -33,14 +33,3 @@ pub between_borders-made : {X : Type 0} (style : TableStyle) (left junction righ
 between_borders-made style left junction right f xs l v r start before inside whole el ev er none first second third =
     between_borders-behind style left junction right f xs l v r start before inside whole el ev er first second third
     ∙ ap (λ (t : Text). t ++ between_borders style left junction right (map f xs)) none
-
--- and where the right border is appended last
-pub between_borders-pushed : {T E X : Type 0} (result : Result T E) (style : TableStyle) (left junction right : Option ℕ) (f : X → Text) (xs : List X) (l v r : Bool) (start before inside whole : Text)
-    → l ≡ draws_left_border style → v ≡ draws_vertical_lines style → r ≡ draws_right_border style
-    → before ≡ start ++ (if l then character left else [])
-    → inside ≡ before ++ join_by f (if v then character junction else []) xs
-    → OnOk result (whole ≡ inside ++ (if r then character right else []))
-    → OnOk result (whole ≡ start ++ between_borders style left junction right (map f xs))
-between_borders-pushed (Ok x) style left junction right f xs l v r start before inside whole el ev er first second third =
-    between_borders-behind style left junction right f xs l v r start before inside whole el ev er first second third
-between_borders-pushed (Err e) style left junction right f xs l v r start before inside whole el ev er first second third = third

@@ -65,9 +65,3 @@ joined_all f separator xs i start text past made = made ∙ ap (λ ys. start ++ 
 pub join_by-map : {X Y A : Type 0} (f : Y → List A) (g : X → Y) (separator : List A) (xs : List X) → join_by f separator (map g xs) ≡ join_by (λ x. f (g x)) separator xs
 join_by-map f g separator [] = refl
 join_by-map f g separator (x ∷ xs) = ap (λ ys. f (g x) ++ ys) (flat_map-map (λ y. separator ++ f y) g xs)
-
--- texts with a byte between each two
-pub join_by-with_byte : {X : Type 0} (f : X → List ℕ) (c : ℕ) (xs : List X) → join_by f (c ∷ []) xs ≡ join_with_byte c (map f xs)
-join_by-with_byte f c [] = refl
-join_by-with_byte f c (x ∷ []) = append-nil (f x)
-join_by-with_byte f c (x ∷ y ∷ xs) = ap (λ (ys : List ℕ). f x ++ (c ∷ ys)) (join_by-with_byte f c (y ∷ xs))

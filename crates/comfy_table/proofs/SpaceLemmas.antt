@@ -89,16 +89,6 @@ module _ (cell : CellValue) (info : ColumnInfo) (columns left right : ℕ)
   pub all-styled : (table : TableValue) (text : Text) → should_style table ≡ true → table.style_text_only ≡ false → styled cell (spaces left ++ (text ++ spaces right)) ++ [] ≡ text_piece table cell info columns text
   all-styled table text on whole = append-nil (styled cell (spaces left ++ (text ++ spaces right))) ∙ grind (arith, padded-made)
 
--- what a call appends, said in another way
-pub pushed-as : {T E : Type 0} (r : Result T E) (new old made wanted : Text) → made ≡ wanted → OnOk r (new ≡ old ++ made) → OnOk r (new ≡ old ++ wanted)
-pushed-as (Ok x) new old made wanted same pushed = pushed ∙ ap (λ (t : Text). old ++ t) same
-pushed-as (Err e) new old made wanted same pushed = pushed
-
--- five texts appended in turn
-pub five-pushed : (old a b c d one two three four new : Text) (e : Text)
-    → one ≡ old ++ a → two ≡ one ++ b → three ≡ two ++ c → four ≡ three ++ d → new ≡ four ++ e → new ≡ old ++ (a ++ ((b ++ (c ++ d)) ++ e))
-five-pushed old a b c d one two three four new e first second third fourth fifth = grind (arith, append_assoc)
-
 -- the last text appended on success
 pub last-pushed : {T E : Type 0} (r : Result T E) (new before c : Text) (wanted : Text) → (new ≡ before ++ c → new ≡ wanted) → OnOk r (new ≡ before ++ c) → OnOk r (new ≡ wanted)
 last-pushed (Ok x) new before c wanted gives pushed = gives pushed
