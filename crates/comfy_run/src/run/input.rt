@@ -95,8 +95,8 @@ fn clear_run(bytes: &[u8]) -> usize
     run
 }
 
-// How many of these stand in whole blocks. The bytes of a block are looked at without a test between them, which is faster
-// in long texts.
+// How many bytes at the front stand in whole blocks without a control character. The bytes of a block are looked at without
+// a test between them, which is faster in long texts.
 fn clear_blocks(bytes: &[u8]) -> usize
     ensures { IsClearFront bytes.now result }
 {

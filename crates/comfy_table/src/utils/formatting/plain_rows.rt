@@ -121,7 +121,7 @@ fn plain_piece<'a>(
     }
 }
 
-// That of a table that styles nothing. A missing cell is blank.
+// The one piece of a plain cell in a table that styles nothing. A missing cell is blank.
 fn unstyled_piece<'a>(row: &'a Row, column: &VisibleColumn) -> Option<Piece<'a>>
     ensures { IfSome result (λ piece. (table : TableValue) → should_style table ≡ false → table.custom_styling ≡ false → row.now.max_height ≡ None → pieces_at table row.now column.now ≡ piece ∷ []) }
 {
@@ -137,7 +137,7 @@ fn unstyled_piece<'a>(row: &'a Row, column: &VisibleColumn) -> Option<Piece<'a>>
     Some(Piece::unstyled(cell, info, widths[0], texts[0].as_str()))
 }
 
-// That of any table.
+// The one piece of a plain cell in any table. A missing cell is blank.
 #[inline(never)]
 fn styled_piece<'a>(table: &Table, row: &'a Row, column: &VisibleColumn) -> Option<Piece<'a>>
     ensures { IfSome result (λ piece. row.now.max_height ≡ None → pieces_at table.now row.now column.now ≡ piece ∷ []) }
