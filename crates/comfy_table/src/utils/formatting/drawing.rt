@@ -1,6 +1,6 @@
 //! The lines of a table, in their order.
 
-ghost use Rattle.std.specs.Prelude.{◌≡◌, ◌∷◌, [], nat_lt, IfOk, OnOk, map, string_bytes, option_to_list, if◌then◌else◌};
+ghost use Rattle.std.specs.Prelude.{◌≡◌, ◌∷◌, [], nat_lt, IfOk, OnOk, Some, map, string_bytes, option_to_list, if◌then◌else◌};
 ghost use Rattle.std.specs.List.{join_by};
 ghost use Rattle.comfy_table.specs.DrawnCells.{piece_at};
 ghost use Rattle.comfy_table.specs.Drawing.{drawing_of_infos, drawn_header, drawn_rows, whole_widths};
@@ -25,10 +25,7 @@ pub fn draw(table: &Table, infos: &[ColumnDisplayInfo], form: OutputForm) -> Res
     ensures { IfOk result (λ output. output ≡ with_lines (drawing_of_infos table.now infos.now) (new_output form)) }
 {
     let mut writer = Writer::new(table, infos, form)?;
-    writer.write_frame_line(&table.style.top_border)?;
-    writer.write_header()?;
-    writer.write_rows()?;
-    writer.write_frame_line(&table.style.bottom_border)?;
+    writer.write()?;
     Ok(writer.output)
 }
 
@@ -73,6 +70,17 @@ impl<'a> Writer<'a> {
         })
     }
 
+    // All lines.
+    fn write(&mut self) -> Result<()>
+        ensures { OnOk result (self.new ≡ with_written (drawing_of_infos self.old.table self.old.infos) self.old) }
+    {
+        let table = self.table;
+        self.write_frame_line(&table.style.top_border)?;
+        self.write_header()?;
+        self.write_rows()?;
+        self.write_frame_line(&table.style.bottom_border)
+    }
+
     // A line of the frame, where it is drawn.
     fn write_frame_line(&mut self, style: &LineStyle) -> Result<()>
         ensures { OnOk result (self.new ≡ with_written (optional_frame_line self.old.table.style style.now (whole_widths self.old.infos)) self.old) }
@@ -88,12 +96,20 @@ impl<'a> Writer<'a> {
         ensures { OnOk result (self.new ≡ with_written (drawn_header self.old.table self.old.infos self.old.table.header) self.old) }
     {
         let table = self.table;
-        if let Some(header) = &table.header {
-            let gaps = RowGaps::new(table, &table.style.header_lines)?;
-            self.write_row(&gaps, header)?;
-            self.write_frame_line(&table.style.header_separator)?;
+        match &table.header {
+            Some(header) => self.write_header_lines(header),
+            None => Ok(()),
         }
-        Ok(())
+    }
+
+    // The lines of this header, and the header separator.
+    fn write_header_lines(&mut self, header: &'a Row) -> Result<()>
+        ensures { OnOk result (self.new ≡ with_written (drawn_header self.old.table self.old.infos (Some header.now)) self.old) }
+    {
+        let table = self.table;
+        let gaps = RowGaps::new(table, &table.style.header_lines)?;
+        self.write_row(&gaps, header)?;
+        self.write_frame_line(&table.style.header_separator)
     }
 
     // The rows' lines, with the row separator between each two rows.
