@@ -53,7 +53,7 @@ fn cells_of(
     for column in columns {
         let field = fields.get(column.position).unwrap_or("");
         let cell = cell_of(alloc, field, column.alignment, look)?;
-        row.add_cell(with_weight(cell, is_bold)?)?;
+        row.try_add_cell(with_weight(cell, is_bold)?)?;
     }
     Ok(row)
 }

@@ -55,7 +55,7 @@ fn titled_table(
 {
     let columns = columns_of(alloc, names, rows, options)?;
     let mut table = empty_table(alloc, &options.look);
-    table.set_header(header_of(alloc, names, columns.as_slice(), &options.look)?)?;
+    table.try_set_header(header_of(alloc, names, columns.as_slice(), &options.look)?)?;
     add_rows(&mut table, alloc, rows, columns.as_slice(), &options.look)?;
     Ok(table)
 }

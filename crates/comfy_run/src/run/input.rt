@@ -29,11 +29,11 @@ pub fn table_of(alloc: Global, text: &str, settings: Settings) -> Result<Table>
     };
     let header = row_of(alloc, first, 0)?;
     let mut count = header.cell_count();
-    table.set_header(header)?;
+    table.try_set_header(header)?;
     for line in lines {
         let row = row_of(alloc, line, count)?;
         count = row.cell_count();
-        table.add_row(row)?;
+        table.try_add_row(row)?;
     }
     Ok(table)
 }
