@@ -16,12 +16,13 @@ const ENTRIES: [Entry; 4] = [
 ];
 
 fn main(rt: HostRuntime) -> anyhow::Result<()> {
-    println!(rt; "{}", ledger(rt.alloc(), &ENTRIES)?.to_text()?)?;
+    let mut ledger = Table::new(rt.alloc());
+    fill(&mut ledger, rt.alloc(), &ENTRIES)?;
+    println!(rt; "{}", ledger.to_text()?)?;
     Ok(())
 }
 
-fn ledger(alloc: Global, entries: &[Entry]) -> Result<Table> {
-    let mut ledger = Table::new(alloc);
+fn fill(ledger: &mut Table, alloc: Global, entries: &[Entry]) -> Result<()> {
     ledger
         .load_style(UTF8_FULL.with_rounded_corners())
         .set_content_arrangement(ContentArrangement::Dynamic)
@@ -36,7 +37,7 @@ fn ledger(alloc: Global, entries: &[Entry]) -> Result<Table> {
     if let Some(amounts) = ledger.column_mut(3) {
         amounts.set_cell_alignment(CellAlignment::Right);
     }
-    Ok(ledger)
+    Ok(())
 }
 
 fn euros(alloc: Global, cents: u64) -> Result<String> {

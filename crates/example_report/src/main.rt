@@ -8,7 +8,7 @@ mod report;
 
 use anyhow::Context;
 use comfy_table::{Table, Terminal};
-use report::{Test, report};
+use report::{Test, fill};
 use std::env;
 use std::io::IsTerminal;
 
@@ -38,25 +38,31 @@ const TESTS: [Test; 4] = [
 ];
 
 fn main(rt: HostRuntime) -> anyhow::Result<()> {
-    let mut report = report(rt.alloc(), &TESTS)?;
-    let mut terminal = terminal(&rt);
+    let mut report = Table::new(rt.alloc());
+    fill(&mut report, rt.alloc(), &TESTS)?;
+    obey(&rt, &mut report)
+}
+
+// prints the report as the arguments say
+fn obey(rt: &HostRuntime, report: &mut Table) -> anyhow::Result<()> {
+    let mut terminal = terminal(rt);
     let mut is_printed = false;
-    for word in env::args(&rt)?.skip(1) {
+    for word in env::args(rt)?.skip(1) {
         match word.as_str() {
             "color" => terminal.stdout_is_tty = true,
             "plain" => terminal.stdout_is_tty = false,
             width => {
-                report.set_width(width.parse::<u16>().context("no such width")?);
-                print(&rt, report.set_terminal(terminal))?;
+                let width = width.parse::<u16>().context("no such width")?;
+                print(rt, report.set_width(width).set_terminal(terminal))?;
                 is_printed = true;
             }
         }
     }
-    if !is_printed {
-        report.set_width(terminal.width.unwrap_or(80));
-        print(&rt, report.set_terminal(terminal))?;
+    if is_printed {
+        return Ok(());
     }
-    Ok(())
+    let width = terminal.width.unwrap_or(80);
+    print(rt, report.set_width(width).set_terminal(terminal))
 }
 
 fn print(rt: &HostRuntime, table: &Table) -> anyhow::Result<()> {

@@ -10,8 +10,8 @@ pub struct Test {
     pub failure: Option<&'static str>,
 }
 
-pub fn report(alloc: Global, tests: &[Test]) -> Result<Table> {
-    let mut report = Table::new(alloc);
+/// Fills a new table with the report of these tests.
+pub fn fill(report: &mut Table, alloc: Global, tests: &[Test]) -> Result<()> {
     report
         .load_style(UTF8_FULL_CONDENSED)
         .set_content_arrangement(ContentArrangement::Dynamic)
@@ -23,7 +23,7 @@ pub fn report(alloc: Global, tests: &[Test]) -> Result<Table> {
     if let Some(times) = report.column_mut(2) {
         times.set_cell_alignment(CellAlignment::Right);
     }
-    Ok(report)
+    Ok(())
 }
 
 // a message has at most three lines

@@ -7,7 +7,8 @@ use std::io::IsTerminal;
 
 /// Prints the states of two doors: first with whole cells in colours and attributes, then with their texts alone.
 pub fn print_doors(rt: &HostRuntime) -> anyhow::Result<()> {
-    let mut doors = doors(rt.alloc())?;
+    let mut doors = Table::new(rt.alloc());
+    fill(rt.alloc(), &mut doors)?;
     // Colours are written where the output is a terminal, and nowhere else: this is the line to copy.
     doors.set_terminal(terminal(rt));
     // This writes them wherever the output goes. It stands here since the stored output of this example, which is no
@@ -34,11 +35,9 @@ fn print(rt: &HostRuntime, table: &Table) -> anyhow::Result<()> {
     Ok(())
 }
 
-fn doors(alloc: Global) -> Result<Table> {
-    let mut table = Table::new(alloc);
-    add_door(alloc, &mut table, "front", open(alloc)?)?;
-    add_door(alloc, &mut table, "cellar", ajar(alloc)?)?;
-    Ok(table)
+fn fill(alloc: Global, doors: &mut Table) -> Result<()> {
+    add_door(alloc, doors, "front", open(alloc)?)?;
+    add_door(alloc, doors, "cellar", ajar(alloc)?)
 }
 
 fn open(alloc: Global) -> Result<Cell> {

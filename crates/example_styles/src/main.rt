@@ -1,9 +1,12 @@
 //! Shows styles side by side: a small table in four presets, with rounded corners, and with solid inner borders. Then
-//! colours and attributes: round whole cells, and round their texts alone.
+//! colours and attributes: round whole cells, and round their texts alone. At last columns that share a width, and
+//! constraints.
 #![tactic(auto)]
 
+mod books;
 mod doors;
 
+use books::print_books;
 use comfy_table::presets::{ASCII_FULL, ASCII_MARKDOWN, NOTHING, UTF8_FULL, UTF8_HORIZONTAL_ONLY};
 use comfy_table::{Result, Table, TableStyle};
 use doors::print_doors;
@@ -12,7 +15,8 @@ use std::alloc::Global;
 fn main(rt: HostRuntime) -> anyhow::Result<()> {
     println!(rt; "{}", presets(rt.alloc())?)?;
     println!(rt; "{}", changes(rt.alloc())?)?;
-    print_doors(&rt)
+    print_doors(&rt)?;
+    print_books(&rt)
 }
 
 fn presets(alloc: Global) -> Result<String> {
@@ -40,19 +44,23 @@ fn gallery(alloc: Global, names: [&str; 3], drawings: Vec<String>) -> Result<Str
 
 // the small table in each style
 fn drawings(alloc: Global, styles: &[TableStyle]) -> Result<Vec<String>> {
-    let mut moons = moons(alloc)?;
     let mut texts = Vec::new(alloc);
     for style in styles {
-        texts.push(moons.load_style(*style).to_text()?)?;
+        texts.push(drawing(alloc, *style)?)?;
     }
     Ok(texts)
 }
 
-fn moons(alloc: Global) -> Result<Table> {
+fn drawing(alloc: Global, style: TableStyle) -> Result<String> {
     let mut table = Table::new(alloc);
+    add_moons(&mut table)?;
+    table.load_style(style).to_text()
+}
+
+fn add_moons(table: &mut Table) -> Result<()> {
     table
         .set_header(["Planet", "Moons"])?
         .add_row(["Earth", "1"])?
         .add_row(["Mars", "2"])?;
-    Ok(table)
+    Ok(())
 }

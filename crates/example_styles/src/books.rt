@@ -1,15 +1,15 @@
-//! Draws one table of three scripts twice at a width of 44: as its columns share the room, and by constraints, one of which
-//! hides a column. Its right edge is straight in terminal columns: a Chinese character takes two.
-#![tactic(auto)]
+//! Widths: a table of three scripts at a width of 44.
 
 use comfy_table::{ColumnConstraint, ContentArrangement, Result, Table, Width};
-use std::alloc::Global;
 
-fn main(rt: HostRuntime) -> anyhow::Result<()> {
-    let mut books = books(rt.alloc())?;
-    print(&rt, &books)?;
+/// Prints the table twice: as its columns share the room, and by constraints, one of which hides a column. Its right edge
+/// is straight in terminal columns: a Chinese character takes two.
+pub fn print_books(rt: &HostRuntime) -> anyhow::Result<()> {
+    let mut books = Table::new(rt.alloc());
+    fill(&mut books)?;
+    print(rt, &books)?;
     constrain(&mut books);
-    print(&rt, &books)
+    print(rt, &books)
 }
 
 fn print(rt: &HostRuntime, table: &Table) -> anyhow::Result<()> {
@@ -17,8 +17,7 @@ fn print(rt: &HostRuntime, table: &Table) -> anyhow::Result<()> {
     Ok(())
 }
 
-fn books(alloc: Global) -> Result<Table> {
-    let mut books = Table::new(alloc);
+fn fill(books: &mut Table) -> Result<()> {
     books
         .set_content_arrangement(ContentArrangement::Dynamic)
         .set_width(44)
@@ -26,7 +25,7 @@ fn books(alloc: Global) -> Result<Table> {
         .add_row(["A", "Emma", "474", "a matchmaker who errs"])?
         .add_row(["B", "紅樓夢", "1120", "石頭記, a novel of a great house"])?
         .add_row(["C", "Кобзар", "260", "songs of a kobza player"])?;
-    Ok(books)
+    Ok(())
 }
 
 fn constrain(books: &mut Table) {
