@@ -72,22 +72,28 @@ fn print(rt: &HostRuntime, name: &str, count: Result<usize>) -> io::Result<()> {
     }
 }
 
-fn table_of_cells(alloc: Global, count: usize) -> Result<Table> {
+// A table of one row.
+fn table_of<T: IntoRow>(alloc: Global, row: T) -> Result<Table> {
+    let mut table = Table::new(alloc);
+    table.try_add_row(row)?;
+    Ok(table)
+}
+
+fn cells(alloc: Global, count: usize) -> Result<Vec<&'static str>> {
     let mut cells = Vec::new(alloc);
     for _ in 0..count {
         cells.push("x")?;
     }
-    let mut table = Table::new(alloc);
-    table.try_add_row(cells)?;
-    Ok(table)
+    Ok(cells)
 }
 
 fn columns_of_cells(alloc: Global, count: usize) -> Result<usize> {
-    Ok(table_of_cells(alloc, count)?.column_iter().count())
+    let table = table_of(alloc, cells(alloc, count)?)?;
+    Ok(table.column_iter().count())
 }
 
 fn characters_of_a_line(alloc: Global, count: usize) -> Result<usize> {
-    let table = table_of_cells(alloc, count)?;
+    let table = table_of(alloc, cells(alloc, count)?)?;
     characters_at(&table, 0)
 }
 
@@ -101,13 +107,17 @@ fn characters_at(table: &Table, position: usize) -> Result<usize> {
 }
 
 fn columns_of_numbers(alloc: Global, count: u64) -> Result<usize> {
+    let mut table = Table::new(alloc);
+    table.try_set_header(numbers(alloc, count)?)?;
+    Ok(table.column_iter().count())
+}
+
+fn numbers(alloc: Global, count: u64) -> Result<Vec<u64>> {
     let mut numbers = Vec::new(alloc);
     for number in 0..count {
         numbers.push(number)?;
     }
-    let mut table = Table::new(alloc);
-    table.try_set_header(numbers)?;
-    Ok(table.column_iter().count())
+    Ok(numbers)
 }
 
 fn contents_of_none(alloc: Global) -> Result<usize> {
@@ -117,37 +127,46 @@ fn contents_of_none(alloc: Global) -> Result<usize> {
 fn lines_of_any_height(alloc: Global) -> Result<usize> {
     let mut row = ["one\ntwo\nthree"].into_row(alloc)?;
     row.max_height(usize::MAX);
-    let mut table = Table::new(alloc);
-    table.try_add_row(row)?;
-    Ok(table.lines()?.count())
+    lines_of(&table_of(alloc, row)?)
 }
 
 fn lines_of_a_copy(alloc: Global) -> Result<usize> {
-    let mut table = Table::new(alloc);
-    table.try_add_row(["one"])?;
-    Ok(table.clone()?.lines()?.count())
+    let table = table_of(alloc, ["one"])?;
+    lines_of(&table.clone()?)
+}
+
+fn lines_of(table: &Table) -> Result<usize> {
+    Ok(table.lines()?.count())
 }
 
 fn characters_of_a_cut_line(alloc: Global) -> Result<usize> {
     let mut row = ["one\ntwo"].into_row(alloc)?;
     row.max_height(1);
-    let mut table = Table::new(alloc);
+    let mut table = table_of(alloc, row)?;
     table.try_set_truncation_indicator("")?;
-    table.try_add_row(row)?;
     characters_at(&table, 1)
 }
 
 // The input: 1,000 lines of one cell of 2,000 characters. Its drawing has 2,001 lines of 2,005 bytes.
 fn bytes_drawn(alloc: Global) -> Result<usize> {
     let mut input = String::new(alloc);
+    fill(&mut input)?;
+    bytes_drawn_of(alloc, input.as_str())
+}
+
+fn fill(input: &mut String) -> Result<()> {
     for _ in 0..1000 {
         for _ in 0..400 {
             input.push_str("word ")?;
         }
         input.push('\n')?;
     }
-    let mut source = MemorySource::new(input.as_bytes(), 0);
+    Ok(())
+}
+
+fn bytes_drawn_of(alloc: Global, input: &str) -> Result<usize> {
     let mut sink = MemorySink::new(alloc, 5_000_000, 0)?;
+    let mut source = MemorySource::new(input.as_bytes(), 0);
     let settings = Settings {
         width: None,
         arrangement: ContentArrangement::Disabled,
