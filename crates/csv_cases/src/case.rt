@@ -58,11 +58,7 @@ impl Case {
         match kind {
             "case" => self.name.push_str(rest),
             "words" => self.add_words(rest),
-            "input" => {
-                let line = text(self.alloc, rest)?;
-                self.input.extend_from_slice(line.as_bytes())?;
-                Ok(self.input.push(b'\n')?)
-            }
+            "input" => self.add_line(rest),
             "byte" => match rest.parse::<u8>() {
                 Ok(byte) => Ok(self.input.push(byte)?),
                 Err(_) => Ok(()),
@@ -80,26 +76,37 @@ impl Case {
         }
     }
 
+    fn add_line(&mut self, line: &str) -> Result<(), AllocError> {
+        let line = text(self.alloc, line)?;
+        self.input.extend_from_slice(line.as_bytes())?;
+        Ok(self.input.push(b'\n')?)
+    }
+
     fn add_words(&mut self, words: &str) -> Result<(), AllocError> {
         for word in words.split(' ') {
-            let word = String::from_str(self.alloc, word)?;
-            self.words.push(word)?;
+            self.words.push(String::from_str(self.alloc, word)?)?;
         }
         Ok(())
     }
 
     /// The output for the input, or a line that says why there is none. Help and the version are outputs too.
     pub fn drawn(&self) -> Result<String, AllocError> {
-        let mut words = Vec::new(self.alloc);
-        words.push("csvtable")?;
-        for word in &self.words {
-            words.push(word.as_str())?;
-        }
+        let words = self.all_words()?;
         match asked_of(self.alloc, words.as_slice(), self.surroundings) {
             Ok(asked) => self.drawn_as(&asked),
             Err(error) if error.exit_code() == 0 => format!(in self.alloc; "{error}"),
             Err(_) => String::from_str(self.alloc, "the words aren't known\n"),
         }
+    }
+
+    // The words, with the program's name before them.
+    fn all_words(&self) -> Result<Vec<&str>, AllocError> {
+        let mut words = Vec::new(self.alloc);
+        words.push("csvtable")?;
+        for word in &self.words {
+            words.push(word.as_str())?;
+        }
+        Ok(words)
     }
 
     fn drawn_as(&self, asked: &Asked) -> Result<String, AllocError> {

@@ -9,31 +9,48 @@ mod uses;
 use case::Case;
 use std::process::ExitCode;
 
+// How many cases passed, and how many failed.
+#[derive(Clone, Copy)]
+struct Counts {
+    passed: u64,
+    failed: u64,
+}
+
 fn main(rt: HostRuntime) -> anyhow::Result<ExitCode> {
-    let alloc = rt.alloc();
-    let mut case = Case::new(alloc);
-    let mut passed = 0u64;
-    let mut failed = 0u64;
-    for line in rt.lines(alloc) {
-        let line = line?;
-        if line.as_str() != "end" {
-            case.take(line.as_str())?;
-            continue;
-        }
-        let drawn = case.drawn()?;
-        if case.is_wanted(drawn.as_str()) {
-            passed = passed.saturating_add(1);
-        } else {
-            failed = failed.saturating_add(1);
-            println!(rt; "{}: drawn", case.name())?;
-            println!(rt; "{drawn}")?;
-        }
-        case = Case::new(alloc);
+    let mut case = Case::new(rt.alloc());
+    let mut counts = Counts {
+        passed: 0,
+        failed: 0,
+    };
+    for line in rt.lines(rt.alloc()) {
+        take(&rt, &mut case, &mut counts, line?.as_str())?;
     }
-    println!(rt; "{passed} passed, {failed} failed")?;
-    if passed > 0 && failed == 0 {
+    println!(rt; "{} passed, {} failed", counts.passed, counts.failed)?;
+    if counts.passed > 0 && counts.failed == 0 {
         Ok(ExitCode::SUCCESS)
     } else {
         Ok(ExitCode::FAILURE)
     }
+}
+
+// A line belongs to the case, or ends it.
+fn take(rt: &HostRuntime, case: &mut Case, counts: &mut Counts, line: &str) -> anyhow::Result<()> {
+    if line != "end" {
+        return Ok(case.take(line)?);
+    }
+    *counts = compared(rt, case, *counts)?;
+    *case = Case::new(rt.alloc());
+    Ok(())
+}
+
+// The counts after this case, of which is printed what it draws where that isn't wanted.
+fn compared(rt: &HostRuntime, case: &Case, counts: Counts) -> anyhow::Result<Counts> {
+    let drawn = case.drawn()?;
+    if case.is_wanted(drawn.as_str()) {
+        let passed = counts.passed.saturating_add(1);
+        return Ok(Counts { passed, ..counts });
+    }
+    println!(rt; "{}: drawn\n{drawn}", case.name())?;
+    let failed = counts.failed.saturating_add(1);
+    Ok(Counts { failed, ..counts })
 }
