@@ -5,8 +5,8 @@
     tools/doc_examples.py --check    prints which file isn't what the comments say, and ends with 1 where one isn't
 
 An example is a fenced block without a language in a doc comment of comfy_parts or comfy_table. It becomes a function named
-for the item that it stands at. What it uses without making it, such as `table`, is a parameter. Lines that begin with `//`
-are what it prints, or the value of its last `let`: a `text`, or `is_so`. So the stored output is what the comments say;
+for the item that it stands at. What it uses without making it, such as `table`, is a parameter, and so is a new table: a
+function that owns a table takes long to prove. Lines that begin with `//` are what it prints, or the value of its last `let`: a `text`, or `is_so`. So the stored output is what the comments say;
 `\\u{1b}` in them stands for ESC.
 """
 import glob
@@ -20,7 +20,7 @@ CRATE = "crates/documented_examples"
 MODULES = {"comfy_parts": "parts", "comfy_table": "tables"}
 PARAMETERS = {
     "rt": ("&HostRuntime", "rt"),
-    "alloc": ("Global", "rt.alloc()"),
+    "alloc": ("Global", "alloc"),
     "table": ("&mut Table", "table"),
     "column": ("&mut Column", "&mut Column::new(0)"),
 }
@@ -28,6 +28,7 @@ SPLIT = "comfy_table::utils::formatting::content_split"
 PATHS = {"Global": "std::alloc", "adds_up": SPLIT, "split_line": SPLIT, "ColumnDisplayInfo": SPLIT}
 PATHS |= {it: "comfy_table::presets" for it in ("by_name", "by_position")}
 VALUES = {None: "()", "text": "String", "is_so": "bool"}
+NEW_TABLE = "let mut table = Table::new(alloc);\n"
 AT_ONCE = 7  # so many calls stand in one function, since a long one takes long to prove
 TRAITS = {f"into_{it}": f"Into{it.capitalize()}" for it in ("cell", "cells", "row")}
 
@@ -56,7 +57,11 @@ class Example:
         self.uses = [it for it in lines if it.startswith("use ")]
         self.prints = [it[2:].removeprefix(" ") for it in lines if it.startswith("//")]
         code = [it for it in lines if it not in self.uses and not it.startswith("//")]
-        self.code = "\n".join(code).strip("\n").replace("&rt,", "rt,")
+        code = "\n".join(code).strip("\n").replace("&rt,", "rt,")
+        self.given = {it: given for it, (_, given) in PARAMETERS.items()}
+        if NEW_TABLE in code:
+            self.given["table"] = "&mut Table::new(alloc)"
+        self.code = code.replace(NEW_TABLE, "")
         self.bare = re.sub(r'"[^"]*"', '""', self.code)
         made = r"(?:let (?:mut )?|Some\(|for )"
         self.parameters = [
@@ -84,7 +89,7 @@ class Example:
         return f"fn {self.name}_example({parameters}){' -> ' * bool(result)}{result} {{\n{body}\n}}\n"
 
     def call(self):
-        arguments = ", ".join(PARAMETERS[it][1] for it in self.parameters)
+        arguments = ", ".join(self.given[it] for it in self.parameters)
         call = f"{self.name}_example({arguments})"
         if self.value == "text":
             return f"    show(rt, {call})?;"
@@ -145,6 +150,8 @@ def module(crate, examples):
     run = f"{RUN} {{\n{calls}\n    Ok(())\n}}\n"
     for name, part in zip(names, parts):
         calls = "\n".join(it.call() for it in part)
+        if "alloc" in calls:
+            calls = f"    let alloc = rt.alloc();\n{calls}"
         run += f"\nfn {name}(rt: &HostRuntime, table: &mut Table) -> anyhow::Result<()> {{\n{calls}\n    Ok(())\n}}\n"
     code = "\n".join([run] + [it.function() for it in examples])
     uses = [use for it in examples for use in it.uses] + ["use super::show;"] * ("show(" in code)
@@ -158,21 +165,20 @@ mod parts;
 mod tables;
 
 use comfy_table::{Result, Table};
-use std::alloc::Global;
 
 fn main(rt: HostRuntime) -> anyhow::Result<()> {
-    let mut table = sample(rt.alloc())?;
+    let mut table = Table::new(rt.alloc());
+    fill(&mut table)?;
     parts::run(&rt, &mut table)?;
     tables::run(&rt, &mut table)
 }
 
-// the table that stands for one which an example has, but doesn't make
-fn sample(alloc: Global) -> Result<Table> {
-    let mut table = Table::new(alloc);
+// fills the table that stands for one which an example has, but doesn't make
+fn fill(table: &mut Table) -> Result<()> {
     table
         .set_header(["Bike", "Place", "Since"])?
         .add_row(["17", "dock 3", "Monday"])?;
-    Ok(table)
+    Ok(())
 }
 
 fn show(rt: &HostRuntime, text: Result<String>) -> anyhow::Result<()> {

@@ -5,21 +5,20 @@ mod parts;
 mod tables;
 
 use comfy_table::{Result, Table};
-use std::alloc::Global;
 
 fn main(rt: HostRuntime) -> anyhow::Result<()> {
-    let mut table = sample(rt.alloc())?;
+    let mut table = Table::new(rt.alloc());
+    fill(&mut table)?;
     parts::run(&rt, &mut table)?;
     tables::run(&rt, &mut table)
 }
 
-// the table that stands for one which an example has, but doesn't make
-fn sample(alloc: Global) -> Result<Table> {
-    let mut table = Table::new(alloc);
+// fills the table that stands for one which an example has, but doesn't make
+fn fill(table: &mut Table) -> Result<()> {
     table
         .set_header(["Bike", "Place", "Since"])?
         .add_row(["17", "dock 3", "Monday"])?;
-    Ok(table)
+    Ok(())
 }
 
 fn show(rt: &HostRuntime, text: Result<String>) -> anyhow::Result<()> {

@@ -20,10 +20,11 @@ pub fn run(rt: &HostRuntime, table: &mut Table) -> anyhow::Result<()> {
 }
 
 fn examples_1(rt: &HostRuntime, table: &mut Table) -> anyhow::Result<()> {
-    cell_example(rt.alloc())?;
-    cell_new_example(rt.alloc())?;
-    cell_fg_example(rt.alloc())?;
-    cell_add_attribute_example(rt.alloc())?;
+    let alloc = rt.alloc();
+    cell_example(alloc)?;
+    cell_new_example(alloc)?;
+    cell_fg_example(alloc)?;
+    cell_add_attribute_example(alloc)?;
     column_example(table);
     column_set_constraint_example(&mut Column::new(0));
     column_set_cell_alignment_example(&mut Column::new(0));
@@ -31,35 +32,38 @@ fn examples_1(rt: &HostRuntime, table: &mut Table) -> anyhow::Result<()> {
 }
 
 fn examples_2(rt: &HostRuntime, table: &mut Table) -> anyhow::Result<()> {
-    column_display_info_example(rt.alloc())?;
+    let alloc = rt.alloc();
+    column_display_info_example(alloc)?;
     println!(rt; "{}", adds_up_example())?;
-    into_cell_example(rt.alloc())?;
-    into_cells_example(rt.alloc())?;
-    into_row_example(rt.alloc())?;
+    into_cell_example(alloc)?;
+    into_cells_example(alloc)?;
+    into_row_example(alloc)?;
     items_example(table);
     table_error_example(rt, table)?;
     Ok(())
 }
 
 fn examples_3(rt: &HostRuntime, table: &mut Table) -> anyhow::Result<()> {
-    row_example(rt.alloc())?;
-    show(rt, row_max_height_example(rt.alloc()))?;
-    show(rt, attribute_example(rt.alloc()))?;
-    show(rt, cell_alignment_example(rt.alloc()))?;
-    color_example(rt.alloc())?;
+    let alloc = rt.alloc();
+    row_example(alloc)?;
+    show(rt, row_max_height_example(alloc, &mut Table::new(alloc)))?;
+    show(rt, attribute_example(alloc, &mut Table::new(alloc)))?;
+    show(rt, cell_alignment_example(alloc, &mut Table::new(alloc)))?;
+    color_example(alloc)?;
     width_example();
-    show(rt, column_constraint_example(rt.alloc()))?;
+    show(rt, column_constraint_example(&mut Table::new(alloc)))?;
     Ok(())
 }
 
 fn examples_4(rt: &HostRuntime, table: &mut Table) -> anyhow::Result<()> {
+    let alloc = rt.alloc();
     presets_example(table);
     by_name_example(table);
     println!(rt; "{}", by_position_example())?;
-    show(rt, content_arrangement_example(rt.alloc()))?;
+    show(rt, content_arrangement_example(&mut Table::new(alloc)))?;
     line_style_example();
     content_line_style_example();
-    show(rt, table_style_example(rt.alloc()))?;
+    show(rt, table_style_example(&mut Table::new(alloc)))?;
     Ok(())
 }
 
@@ -150,24 +154,21 @@ fn row_example(alloc: Global) -> Result<()> {
     Ok(())
 }
 
-fn row_max_height_example(alloc: Global) -> Result<String> {
+fn row_max_height_example(alloc: Global, table: &mut Table) -> Result<String> {
     let mut row = ["17", "rented\nreturned\nrented"].into_row(alloc)?;
     row.max_height(2);
-    let mut table = Table::new(alloc);
     table.add_row(row)?;
     table.to_text()
 }
 
-fn attribute_example(alloc: Global) -> Result<String> {
-    let mut table = Table::new(alloc);
+fn attribute_example(alloc: Global, table: &mut Table) -> Result<String> {
     table
         .enforce_styling()
         .add_row([Cell::new(alloc, "Sum")?.add_attribute(Attribute::Bold)?])?;
     table.to_text()
 }
 
-fn cell_alignment_example(alloc: Global) -> Result<String> {
-    let mut table = Table::new(alloc);
+fn cell_alignment_example(alloc: Global, table: &mut Table) -> Result<String> {
     table
         .set_header(["Position"])?
         .add_row([Cell::new(alloc, "right")?.set_alignment(CellAlignment::Right)])?
@@ -185,8 +186,7 @@ fn width_example() {
     let third = ColumnConstraint::UpperBoundary(Width::Percentage(33));
 }
 
-fn column_constraint_example(alloc: Global) -> Result<String> {
-    let mut table = Table::new(alloc);
+fn column_constraint_example(table: &mut Table) -> Result<String> {
     table
         .add_row(["three", "columns", "here"])?
         .set_constraints([
@@ -209,8 +209,7 @@ fn by_position_example() -> bool {
     by_position(7) == Some(UTF8_FULL)
 }
 
-fn content_arrangement_example(alloc: Global) -> Result<String> {
-    let mut table = Table::new(alloc);
+fn content_arrangement_example(table: &mut Table) -> Result<String> {
     table
         .set_content_arrangement(ContentArrangement::Dynamic)
         .set_width(20)
@@ -228,11 +227,10 @@ fn content_line_style_example() {
     let open = ContentLineStyle::none().junction('│');
 }
 
-fn table_style_example(alloc: Global) -> Result<String> {
+fn table_style_example(table: &mut Table) -> Result<String> {
     let style = TableStyle::new()
         .header_separator(LineStyle::none().fill('='))
         .content_lines(ContentLineStyle::none().junction('|'));
-    let mut table = Table::new(alloc);
     table
         .load_style(style)
         .set_header(["a", "b"])?

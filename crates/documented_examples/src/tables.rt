@@ -3,7 +3,6 @@
 use super::show;
 use comfy_table::presets::UTF8_FULL;
 use comfy_table::{ColumnConstraint, ContentArrangement, Result, Table, Terminal};
-use std::alloc::Global;
 use std::env;
 use std::io::IsTerminal;
 
@@ -15,28 +14,29 @@ pub fn run(rt: &HostRuntime, table: &mut Table) -> anyhow::Result<()> {
 }
 
 fn examples_1(rt: &HostRuntime, table: &mut Table) -> anyhow::Result<()> {
-    show(rt, table_example(rt.alloc()))?;
+    let alloc = rt.alloc();
+    show(rt, table_example(&mut Table::new(alloc)))?;
     table_set_header_example(table)?;
     table_add_row_example(table)?;
     table_column_mut_example(table);
     column_cell_iter_example(table)?;
     lines_example(table)?;
-    table_lines_example(rt, rt.alloc())?;
+    table_lines_example(rt, &mut Table::new(alloc))?;
     Ok(())
 }
 
 fn examples_2(rt: &HostRuntime, table: &mut Table) -> anyhow::Result<()> {
+    let alloc = rt.alloc();
     table_to_text_example(table)?;
     table_add_rows_example(table)?;
     table_load_style_example(table);
     table_set_width_example(table);
-    show(rt, table_custom_styling_example(rt.alloc()))?;
+    show(rt, table_custom_styling_example(&mut Table::new(alloc)))?;
     terminal_example(rt, table)?;
     Ok(())
 }
 
-fn table_example(alloc: Global) -> Result<String> {
-    let mut table = Table::new(alloc);
+fn table_example(table: &mut Table) -> Result<String> {
     table
         .set_header(["Bike", "Where it stands"])?
         .add_row(["17", "dock 3"])?;
@@ -73,8 +73,7 @@ fn lines_example(table: &mut Table) -> Result<()> {
     Ok(())
 }
 
-fn table_lines_example(rt: &HostRuntime, alloc: Global) -> anyhow::Result<()> {
-    let mut table = Table::new(alloc);
+fn table_lines_example(rt: &HostRuntime, table: &mut Table) -> anyhow::Result<()> {
     table.add_row(["17", "dock 3"])?;
     for line in table.lines()? {
         println!(rt; "{line}")?;
@@ -102,8 +101,7 @@ fn table_set_width_example(table: &mut Table) {
         .set_width(80);
 }
 
-fn table_custom_styling_example(alloc: Global) -> Result<String> {
-    let mut table = Table::new(alloc);
+fn table_custom_styling_example(table: &mut Table) -> Result<String> {
     table
         .custom_styling()
         .set_content_arrangement(ContentArrangement::Dynamic)
