@@ -1,8 +1,9 @@
 //! Sequences inside texts: what is visible, and whether one is left open.
 
 use crate::support::assert_text;
-use comfy_parts::Result;
 use comfy_parts::content_split::{leaves_sequence_open, visible_text};
+use std::alloc::{Alloc, Global};
+use std::process::Abort;
 
 // Each text, and what is visible of it.
 const VISIBLE: [(&str, &str); 5] = [
@@ -23,12 +24,17 @@ const OPEN: [(&str, bool); 6] = [
     ("abc", false),
 ];
 
+// This is visible of the text.
+fn assert_visible(rt: &(impl Abort + Alloc<A = Global>), text: &str, wanted: &str) {
+    let visible = visible_text(rt.alloc(), text).expect(rt, "memory");
+    assert_text(rt, visible.as_str(), wanted);
+}
+
 #[test]
-fn sequences_are_not_visible(rt: HostRuntime) -> Result<()> {
+fn sequences_are_not_visible(rt: HostRuntime) {
     for (text, wanted) in &VISIBLE {
-        assert_text(&rt, visible_text(rt.alloc(), text)?.as_str(), wanted);
+        assert_visible(&rt, text, wanted);
     }
-    Ok(())
 }
 
 #[test]

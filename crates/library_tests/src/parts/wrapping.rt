@@ -1,11 +1,11 @@
 //! Texts and the lines that they are wrapped into.
 
 use crate::support::assert_text;
+use comfy_parts::Column;
 use comfy_parts::content_split::{
     ColumnDisplayInfo, measure_text_width, split_line, split_line_by_delimiter, split_line_ref,
     split_long_word,
 };
-use comfy_parts::{Column, Result};
 use std::alloc::{Alloc, Global};
 use std::process::Abort;
 
@@ -41,10 +41,10 @@ fn assert_wrapped(
     info: &ColumnDisplayInfo,
     delimiter: char,
     expected: &str,
-) -> Result<()> {
-    let lines = split_line(rt.alloc(), text, info, delimiter)?;
-    assert_text(rt, lines.join(rt.alloc(), "|")?.as_str(), expected);
-    Ok(())
+) {
+    let lines = split_line(rt.alloc(), text, info, delimiter).expect(rt, "memory");
+    let joined = lines.join(rt.alloc(), "|").expect(rt, "memory");
+    assert_text(rt, joined.as_str(), expected);
 }
 
 // The borrowed lines of a text, joined by bars, are these.
@@ -54,25 +54,24 @@ fn assert_wrapped_borrowed(
     info: &ColumnDisplayInfo,
     delimiter: char,
     expected: &str,
-) -> Result<()> {
-    let lines = split_line_ref(rt.alloc(), text, info, delimiter)?;
-    assert_text(rt, lines.join(rt.alloc(), "|")?.as_str(), expected);
-    Ok(())
+) {
+    let lines = split_line_ref(rt.alloc(), text, info, delimiter).expect(rt, "memory");
+    let joined = lines.join(rt.alloc(), "|").expect(rt, "memory");
+    assert_text(rt, joined.as_str(), expected);
 }
 
 #[test]
-fn texts_are_wrapped(rt: HostRuntime) -> Result<()> {
+fn texts_are_wrapped(rt: HostRuntime) {
     for (text, width, delimiter, expected) in &WRAPPED {
         let info = info_of(*width);
-        assert_wrapped(&rt, text, &info, *delimiter, expected)?;
-        assert_wrapped_borrowed(&rt, text, &info, *delimiter, expected)?;
+        assert_wrapped(&rt, text, &info, *delimiter, expected);
+        assert_wrapped_borrowed(&rt, text, &info, *delimiter, expected);
     }
-    Ok(())
 }
 
 #[test]
-fn a_line_is_divided_at_each_delimiter(rt: HostRuntime) -> Result<()> {
-    let parts = split_line_by_delimiter(rt.alloc(), "a--b", '-')?;
-    assert_text(&rt, parts.join(rt.alloc(), "|")?.as_str(), "a||b");
-    Ok(())
+fn a_line_is_divided_at_each_delimiter(rt: HostRuntime) {
+    let parts = split_line_by_delimiter(rt.alloc(), "a--b", '-').expect(&rt, "memory");
+    let joined = parts.join(rt.alloc(), "|").expect(&rt, "memory");
+    assert_text(&rt, joined.as_str(), "a||b");
 }
