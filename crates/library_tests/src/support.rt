@@ -4,6 +4,7 @@ use comfy_parts::{Cell, IntoRow, Row};
 use comfy_run::run::MemorySink;
 use comfy_table::Table;
 use std::alloc::{Alloc, Global};
+use std::fmt::Debug;
 use std::process::Abort;
 
 /// Compares two numbers.
@@ -16,15 +17,20 @@ pub fn assert_text(rt: &impl Abort, text: &str, wanted: &str) {
     assert_eq!(rt; text, wanted);
 }
 
-/// Compares bytes.
-pub fn assert_bytes(rt: &impl Abort, bytes: &[u8], wanted: &[u8]) {
-    assert_eq!(rt; bytes, wanted);
+/// Compares a text that a call gives.
+pub fn assert_given<E: Debug + Drop>(rt: &impl Abort, text: Result<String, E>, wanted: &str) {
+    let text = text.expect(rt, "memory");
+    assert_text(rt, text.as_str(), wanted);
 }
 
-/// Compares the content of a cell with a text.
-pub fn assert_content(rt: &impl Abort, cell: &Cell, wanted: &str) {
-    let content = cell.content().expect(rt, "memory");
-    assert_text(rt, content.as_str(), wanted);
+/// Compares bytes with a text.
+pub fn assert_bytes(rt: &impl Abort, bytes: &[u8], wanted: &str) {
+    assert_eq!(rt; bytes, wanted.as_bytes());
+}
+
+/// Compares what a sink holds with a text.
+pub fn assert_holds(rt: &impl Abort, sink: &MemorySink, wanted: &str) {
+    assert_bytes(rt, sink.bytes(), wanted);
 }
 
 /// Compares the contents of cells, each followed by a bar, with a text.
@@ -59,10 +65,16 @@ pub fn table_of<T: IntoRow>(rt: &(impl Abort + Alloc<A = Global>), row: T) -> Ta
     table
 }
 
+/// Sets the paddings of the first column.
+pub fn set_padding(table: &mut Table, padding: (u16, u16)) {
+    if let Some(column) = table.column_mut(0) {
+        column.set_padding(padding);
+    }
+}
+
 /// Compares the drawing of a table with a text.
 pub fn assert_drawn(rt: &impl Abort, table: &Table, wanted: &str) {
-    let text = table.to_text().expect(rt, "memory");
-    assert_text(rt, text.as_str(), wanted);
+    assert_given(rt, table.to_text(), wanted);
 }
 
 /// A sink in memory with room for so many bytes, and the call at which it fails.

@@ -1,5 +1,6 @@
 //! Which characters add one terminal column, and which texts add up.
 
+use crate::support::{assert_text, push_with};
 use comfy_parts::content_split::{adds_one_column, adds_up};
 use comfy_parts::style::TableStyle;
 use comfy_parts::style::presets::{
@@ -7,22 +8,17 @@ use comfy_parts::style::presets::{
     ASCII_HORIZONTAL_ONLY, ASCII_MARKDOWN, ASCII_NO_BORDERS, NOTHING, UTF8_BORDERS_ONLY, UTF8_FULL,
     UTF8_FULL_CONDENSED, UTF8_HORIZONTAL_ONLY, UTF8_NO_BORDERS,
 };
+use std::alloc::{Alloc, Global};
 use std::process::Abort;
 
-// Each of these is known to add one column wherever it stands.
-const OF_ONE_COLUMN: &str = "| ─…";
-
-// After the first three a variation selector makes them wide, and the others are never said to add one column.
-const OF_OTHERS: &str = "#*7é中";
-
 // Texts whose characters join no other: Chinese, Japanese, Korean, Cyrillic, Greek, a Latin letter with an accent behind
-// it, Arabic without an alef, an emoji alone, and no text.
-const ADDING_UP: &str = "年度报告|日本語カナ|한국어|Отчёт|Έκθεση|e\u{301}|\u{645}\u{62d}\u{645}\u{62f}|✅|";
+// it, Arabic without an alef, an emoji alone, and no text. A bar follows each.
+const ADDING_UP: &str = "年度报告|日本語カナ|한국어|Отчёт|Έκθεση|e\u{301}|\u{645}\u{62d}\u{645}\u{62f}|✅||";
 
 // Texts with a character that joins another, or that isn't printed: Arabic with an alef, Hebrew with a lamed, Khmer, a
 // family of emoji, a flag, ESC, and Chinese with a variation selector.
 const NOT_ADDING_UP: &str = "\u{643}\u{62a}\u{627}\u{628}|\u{5e9}\u{5dc}\u{5d5}\u{5dd}|\
-    \u{1781}\u{17d2}\u{1798}\u{17c2}\u{179a}|\u{1f468}\u{200d}\u{1f469}|\u{1f1eb}\u{1f1f7}|\u{1b}|年\u{fe0f}";
+    \u{1781}\u{17d2}\u{1798}\u{17c2}\u{179a}|\u{1f468}\u{200d}\u{1f469}|\u{1f1eb}\u{1f1f7}|\u{1b}|年\u{fe0f}|";
 
 const PRESETS: [TableStyle; 13] = [
     ASCII_FULL,
@@ -40,34 +36,45 @@ const PRESETS: [TableStyle; 13] = [
     NOTHING,
 ];
 
-// Whether each character of a text adds one column is this.
-fn assert_columns(rt: &impl Abort, text: &str, wanted: bool) {
+// The characters of a text that are known to add one column wherever they stand.
+fn of_one_column(rt: &(impl Abort + Alloc<A = Global>), text: &str) -> String {
+    let mut told = String::new(rt.alloc());
     for character in text.chars() {
-        assert!(rt; adds_one_column(character) == wanted, "{character:?}");
+        if adds_one_column(character) {
+            told.push(character).expect(rt, "memory");
+        }
     }
+    told
 }
 
-// Whether each of the texts, between which there are bars, adds up is this.
-fn assert_add_up(rt: &impl Abort, texts: &str, wanted: bool) {
-    for text in texts.split('|') {
-        assert!(rt; adds_up(text) == wanted, "{text:?}");
+// Those of the texts that add up.
+fn adding_up(rt: &(impl Abort + Alloc<A = Global>), texts: &str) -> String {
+    let mut told = String::new(rt.alloc());
+    for text in texts.split_terminator('|') {
+        if adds_up(text) {
+            push_with(rt, &mut told, text, '|');
+        }
     }
+    told
 }
 
+// A variation selector after a `#`, a `*` or a digit makes it wide. The last two are never said to add one column.
 #[test]
 fn characters_of_one_column_are_told(rt: HostRuntime) {
-    assert_columns(&rt, OF_ONE_COLUMN, true);
-    assert_columns(&rt, OF_OTHERS, false);
+    let told = of_one_column(&rt, "| ─…#*7é中");
+    assert_text(&rt, told.as_str(), "| ─…");
 }
 
 #[test]
 fn most_scripts_add_up(rt: HostRuntime) {
-    assert_add_up(&rt, ADDING_UP, true);
+    let told = adding_up(&rt, ADDING_UP);
+    assert_text(&rt, told.as_str(), ADDING_UP);
 }
 
 #[test]
 fn texts_that_join_do_not_add_up(rt: HostRuntime) {
-    assert_add_up(&rt, NOT_ADDING_UP, false);
+    let told = adding_up(&rt, NOT_ADDING_UP);
+    assert_text(&rt, told.as_str(), "");
 }
 
 #[test]

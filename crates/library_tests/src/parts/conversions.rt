@@ -1,6 +1,6 @@
 //! That each conversion succeeds, and gives the texts that the original's would.
 
-use crate::support::{assert_content, assert_contents, row_of};
+use crate::support::{assert_contents, assert_given, row_of};
 use comfy_parts::{Cell, Cells, IntoCell, IntoCells, IntoRow};
 use std::alloc::{Alloc, Global};
 use std::fmt::{self, Display, Formatter, Write};
@@ -9,7 +9,7 @@ use std::process::Abort;
 // The cell that a value is made into has this content.
 fn assert_cell<T: IntoCell>(rt: &(impl Abort + Alloc<A = Global>), value: T, wanted: &str) {
     let cell = value.into_cell(rt.alloc()).expect(rt, "memory");
-    assert_content(rt, &cell, wanted);
+    assert_given(rt, cell.content(), wanted);
 }
 
 // The cells that a list is made into have these contents, each followed by a bar.

@@ -1,10 +1,9 @@
 //! Texts and the lines that they are wrapped into.
 
-use crate::support::assert_text;
+use crate::support::assert_given;
 use comfy_parts::Column;
 use comfy_parts::content_split::{
-    ColumnDisplayInfo, measure_text_width, split_line, split_line_by_delimiter, split_line_ref,
-    split_long_word,
+    ColumnDisplayInfo, split_line, split_line_by_delimiter, split_line_ref,
 };
 use std::alloc::{Alloc, Global};
 use std::process::Abort;
@@ -43,8 +42,7 @@ fn assert_wrapped(
     expected: &str,
 ) {
     let lines = split_line(rt.alloc(), text, info, delimiter).expect(rt, "memory");
-    let joined = lines.join(rt.alloc(), "|").expect(rt, "memory");
-    assert_text(rt, joined.as_str(), expected);
+    assert_given(rt, lines.join(rt.alloc(), "|"), expected);
 }
 
 // The borrowed lines of a text, joined by bars, are these.
@@ -56,8 +54,7 @@ fn assert_wrapped_borrowed(
     expected: &str,
 ) {
     let lines = split_line_ref(rt.alloc(), text, info, delimiter).expect(rt, "memory");
-    let joined = lines.join(rt.alloc(), "|").expect(rt, "memory");
-    assert_text(rt, joined.as_str(), expected);
+    assert_given(rt, lines.join(rt.alloc(), "|"), expected);
 }
 
 #[test]
@@ -72,6 +69,5 @@ fn texts_are_wrapped(rt: HostRuntime) {
 #[test]
 fn a_line_is_divided_at_each_delimiter(rt: HostRuntime) {
     let parts = split_line_by_delimiter(rt.alloc(), "a--b", '-').expect(&rt, "memory");
-    let joined = parts.join(rt.alloc(), "|").expect(&rt, "memory");
-    assert_text(&rt, joined.as_str(), "a||b");
+    assert_given(&rt, parts.join(rt.alloc(), "|"), "a||b");
 }

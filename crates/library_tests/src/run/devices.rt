@@ -1,7 +1,7 @@
 //! Devices that fail, and what a run leaves then.
 
 use super::program::{README, SMALL};
-use crate::support::{assert_bytes, assert_text, sink_of};
+use crate::support::{assert_bytes, assert_given, assert_holds, sink_of};
 use comfy_run::run::{
     FromReader, MemorySink, MemorySource, RunError, Settings, Sink, Source, ToWriter, drawing_of,
     run,
@@ -50,7 +50,7 @@ fn assert_drawn<R: Source + Drop>(
 ) {
     let mut sink = sink_of(rt, 200, 0);
     assert_ends(rt, &mut source, &mut sink, settings, Ok(()));
-    assert_bytes(rt, sink.bytes(), wanted.as_bytes());
+    assert_holds(rt, &sink, wanted);
 }
 
 // Runs on a source that fails: nothing is written, and the source fails from then on.
@@ -98,15 +98,15 @@ fn each_failing_read_ends_the_run(rt: HostRuntime) {
 
 #[test]
 fn a_text_in_memory_is_drawn(rt: HostRuntime) {
-    let drawing = drawing_of(rt.alloc(), "a\tb\nc\td\n", PLAIN).expect(&rt, "memory");
-    assert_text(&rt, drawing.as_str(), SMALL);
+    let drawing = drawing_of(rt.alloc(), "a\tb\nc\td\n", PLAIN);
+    assert_given(&rt, drawing, SMALL);
 }
 
 #[test]
 fn no_second_write_occurs(rt: HostRuntime) {
     let mut sink = sink_of(&rt, 200, 2);
     assert_written(&rt, &mut sink);
-    assert_bytes(&rt, sink.bytes(), SMALL.as_bytes());
+    assert_holds(&rt, &sink, SMALL);
 }
 
 // Runs on an input into a sink that fails, and compares what it holds then.
@@ -115,24 +115,24 @@ fn assert_cut(
     input: &[u8],
     room: usize,
     failing_write: u64,
-    wanted: &[u8],
+    wanted: &str,
 ) {
     let mut sink = sink_of(rt, room, failing_write);
     assert_unwritten(rt, input, &mut sink);
-    assert_bytes(rt, sink.bytes(), wanted);
+    assert_holds(rt, &sink, wanted);
 }
 
 // The one write to a sink with ample room fails.
 #[test]
 fn the_failing_write_ends_the_run(rt: HostRuntime) {
-    assert_cut(&rt, INPUT, 200, 1, b"");
-    assert_cut(&rt, README, 1000, 1, b"");
+    assert_cut(&rt, INPUT, 200, 1, "");
+    assert_cut(&rt, README, 1000, 1, "");
 }
 
 #[test]
 fn a_full_sink_holds_the_beginning(rt: HostRuntime) {
-    assert_cut(&rt, INPUT, 10, 0, b"+---+---+\n");
-    assert_cut(&rt, README, 10, 0, b"+---------");
+    assert_cut(&rt, INPUT, 10, 0, "+---+---+\n");
+    assert_cut(&rt, README, 10, 0, "+---------");
 }
 
 #[test]
@@ -246,7 +246,7 @@ fn a_sink_keeps_that_its_writer_failed(rt: HostRuntime) {
 fn a_slow_writer_takes_everything(rt: HostRuntime) {
     let mut writer = slow_writer(rt.alloc(), 18, false);
     assert_written(&rt, &mut ToWriter::new(&mut writer));
-    assert_bytes(&rt, writer.bytes.as_slice(), SMALL.as_bytes());
+    assert_bytes(&rt, writer.bytes.as_slice(), SMALL);
 }
 
 const HELLO: &[u8] = b"Hello\tthere\na\tb\n";
@@ -288,5 +288,5 @@ fn streams_of_std_are_served(rt: HostRuntime) {
     assert_drawn(&rt, FromReader::new(INPUT), PLAIN, SMALL);
     let mut bytes = Vec::new(rt.alloc());
     assert_written(&rt, &mut ToWriter::new(&mut bytes));
-    assert_bytes(&rt, bytes.as_slice(), SMALL.as_bytes());
+    assert_bytes(&rt, bytes.as_slice(), SMALL);
 }

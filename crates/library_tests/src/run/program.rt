@@ -1,6 +1,6 @@
 //! What the program writes and reports, and its statuses.
 
-use crate::support::{assert_bytes, assert_number, assert_text, sink_of};
+use crate::support::{assert_given, assert_holds, assert_number, sink_of};
 use comfy_run::run::{MemorySink, MemorySource, RunError, program};
 use comfy_table::TableError;
 use std::alloc::{Alloc, AllocError, Global};
@@ -97,8 +97,8 @@ fn assert_ends(
     let mut reports = sink_of(rt, 256, given.failing_report);
     let ended = run_program(rt.alloc(), given, &mut sink, &mut reports);
     assert_number(rt, usize::from(ended), usize::from(status));
-    assert_bytes(rt, sink.bytes(), output.as_bytes());
-    assert_bytes(rt, reports.bytes(), messages.as_bytes());
+    assert_holds(rt, &sink, output);
+    assert_holds(rt, &reports, messages);
 }
 
 fn run_program(alloc: Global, given: Given, sink: &mut MemorySink, reports: &mut MemorySink) -> u8 {
@@ -262,8 +262,7 @@ const WORDS: [(RunError, &str); 4] = [
 #[test]
 fn errors_have_their_words(rt: HostRuntime) {
     for (error, words) in &WORDS {
-        let shown = error.to_string(rt.alloc()).expect(&rt, "memory");
-        assert_text(&rt, shown.as_str(), words);
+        assert_given(&rt, error.to_string(rt.alloc()), words);
     }
 }
 

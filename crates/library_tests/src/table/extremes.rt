@@ -1,17 +1,11 @@
 //! Columns in each other's place, replaced rows, and numbers at the ends of their types.
 
-use crate::support::{assert_drawn, assert_number, row_of, table_of};
+use crate::support::{assert_drawn, assert_number, row_of, set_padding, table_of};
 use comfy_table::utils::arrangement::arrange_content;
 use comfy_table::{Column, ContentArrangement, Table};
 use std::alloc::{Alloc, Global};
 use std::mem;
 use std::process::Abort;
-
-fn set_padding(table: &mut Table, padding: (u16, u16)) {
-    if let Some(column) = table.column_mut(0) {
-        column.set_padding(padding);
-    }
-}
 
 // The first two columns in each other's place.
 fn exchange_columns(table: &mut Table) {
@@ -38,6 +32,13 @@ fn assert_widths(rt: &impl Abort, table: &Table, width: usize, count: usize) {
     }
 }
 
+// Gives the columns one number.
+fn number_columns(table: &mut Table) {
+    for column in table.column_iter_mut() {
+        column.index = 7;
+    }
+}
+
 // The second column has paddings, and stands first.
 const PAIR: &str = "+----+--+\n| ab |cd|\n+----+--+";
 
@@ -47,9 +48,7 @@ fn the_place_of_a_column_decides(rt: HostRuntime) {
     set_padding(&mut table, (0, 0));
     exchange_columns(&mut table);
     assert_drawn(&rt, &table, PAIR);
-    for column in table.column_iter_mut() {
-        column.index = 7;
-    }
+    number_columns(&mut table);
     assert_drawn(&rt, &table, PAIR);
 }
 

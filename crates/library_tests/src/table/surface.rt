@@ -1,6 +1,6 @@
 //! Several rows at once, rows on a condition, and columns: that the calls succeed, and what they mean.
 
-use crate::support::{assert_drawn, assert_number, row_of, table_of};
+use crate::support::{assert_drawn, assert_number, row_of, set_padding, table_of};
 use comfy_table::{Column, ColumnConstraint, IntoRow, Items, Result, Row, Table, Width};
 use std::alloc::{Alloc, Global};
 use std::cell::Cell;
@@ -140,10 +140,18 @@ fn a_predicate_is_asked_with_the_number_of_rows_and_not_of_columns(rt: HostRunti
     offer_rows(&rt, &mut table, Vec::new(rt.alloc()), false, 1);
 }
 
+fn is_one<T>(count: usize, _row: &T) -> bool {
+    count == 1
+}
+
+fn is_two<T>(count: usize, _rows: &T) -> bool {
+    count == 2
+}
+
 fn add_three_rows(table: &mut Table) -> Result<()> {
     table.try_add_rows([["a", "b"]])?;
-    table.try_add_row_if(|count, _row| count == 1, ["c", "d"])?;
-    table.try_add_rows_if(|count, _rows| count == 2, [["e", "f"]])
+    table.try_add_row_if(is_one, ["c", "d"])?;
+    table.try_add_rows_if(is_two, [["e", "f"]])
 }
 
 #[test]
@@ -215,9 +223,7 @@ fn is_column(column: Option<&Column>, padding: (u16, u16), index: usize) -> bool
 #[test]
 fn a_column_with_a_constraint_keeps_its_other_settings(rt: HostRuntime) {
     let mut table = two_row_table(&rt);
-    if let Some(column) = table.column_mut(0) {
-        column.set_padding((3, 4));
-    }
+    set_padding(&mut table, (3, 4));
     table.set_constraints([FIVE]);
     assert!(rt; is_column(table.column(0), (3, 4), 0));
     assert!(rt; is_column(table.column(1), (1, 1), 1));

@@ -12,8 +12,11 @@ use std::process::Abort;
 #[test]
 fn a_table_is_built(rt: HostRuntime) {
     let table = table_of(&rt, ["a", "b"]);
-    let lines = build_table(&table).expect(&rt, "memory");
-    assert_number(&rt, lines.count(), 3);
+    let mut text = String::new(rt.alloc());
+    for line in build_table(&table).expect(&rt, "memory") {
+        push_with(&rt, &mut text, line.as_str(), '\n');
+    }
+    assert_text(&rt, text.as_str(), "+---+---+\n| a | b |\n+---+---+\n");
 }
 
 #[test]
