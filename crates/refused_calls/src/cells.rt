@@ -9,7 +9,7 @@ const TEXT: &str = "Now\nadd some\nmulti line stuff";
 /// What came of the call of this name.
 pub fn outcome_of(alloc: Global, call: &str) -> Result<Outcome> {
     match call {
-        "new" => Ok(Outcome::of(Cell::new(alloc, TEXT).is_ok())),
+        "new" => outcome(Cell::new(alloc, TEXT)),
         "new_owned" => new_owned(alloc),
         "add_attribute" => add_attribute(alloc),
         "add_attributes" => add_attributes(alloc),
@@ -18,20 +18,25 @@ pub fn outcome_of(alloc: Global, call: &str) -> Result<Outcome> {
     }
 }
 
+// What came of a call that makes a cell.
+fn outcome(cell: Result<Cell>) -> Result<Outcome> {
+    Ok(Outcome::of(cell.is_ok()))
+}
+
 fn new_owned(alloc: Global) -> Result<Outcome> {
     let text = String::from_str(alloc, TEXT)?;
-    Ok(Outcome::of(Cell::new_owned(alloc, text).is_ok()))
+    outcome(Cell::new_owned(alloc, text))
 }
 
 fn add_attribute(alloc: Global) -> Result<Outcome> {
     let cell = Cell::new(alloc, TEXT)?;
-    Ok(Outcome::of(cell.add_attribute(Attribute::Bold).is_ok()))
+    outcome(cell.add_attribute(Attribute::Bold))
 }
 
 fn add_attributes(alloc: Global) -> Result<Outcome> {
     let cell = Cell::new(alloc, TEXT)?;
     let attributes = vec![in alloc; Attribute::Bold, Attribute::SlowBlink]?;
-    Ok(Outcome::of(cell.add_attributes(attributes).is_ok()))
+    outcome(cell.add_attributes(attributes))
 }
 
 // The calls that only read the cell: it stays as it is.

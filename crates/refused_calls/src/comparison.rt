@@ -40,21 +40,25 @@ fn is_same_header(table: &Table, other: &Table) -> bool {
 }
 
 fn are_same_rows(table: &Table, other: &Table) -> bool {
-    for (row, wanted) in table.row_iter().zip(other.row_iter()) {
-        if !is_same_row(row, wanted) {
-            return false;
+    let mut others = other.row_iter();
+    for row in table.row_iter() {
+        match others.next() {
+            Some(wanted) if is_same_row(row, wanted) => {}
+            _ => return false,
         }
     }
-    table.row_count() == other.row_count()
+    others.next().is_none()
 }
 
 fn are_same_columns(table: &Table, other: &Table) -> bool {
-    for (column, wanted) in table.column_iter().zip(other.column_iter()) {
-        if !is_same_column(column, wanted) {
-            return false;
+    let mut others = other.column_iter();
+    for column in table.column_iter() {
+        match others.next() {
+            Some(wanted) if is_same_column(column, wanted) => {}
+            _ => return false,
         }
     }
-    table.column_iter().len() == other.column_iter().len()
+    others.next().is_none()
 }
 
 fn is_same_column(column: &Column, other: &Column) -> bool {

@@ -8,22 +8,21 @@ use comfy_table::{
 use std::alloc::Global;
 
 /// The drawing of `worked_table`.
-pub const WORKED: [&str; 14] = [
-    "+----------------+--------+-------+",
-    "| Header1        | Header | Head  |",
-    "|                | 2      |       |",
-    "+=================================+",
-    "| This is a very | This   | smol  |",
-    "| long line with | is ano |       |",
-    "| a lot of text  | therve |       |",
-    "|                | rylon… |       |",
-    "|----------------+--------+-------|",
-    "| Now let's      | This   | smol  |",
-    "| add a really   | is ano |       |",
-    "| long line in   | ther   |       |",
-    "| the middle of… | text   |       |",
-    "+----------------+--------+-------+",
-];
+pub const WORKED: &str = "\
++----------------+--------+-------+
+| Header1        | Header | Head  |
+|                | 2      |       |
++=================================+
+| This is a very | This   | smol  |
+| long line with | is ano |       |
+| a lot of text  | therve |       |
+|                | rylon… |       |
+|----------------+--------+-------|
+| Now let's      | This   | smol  |
+| add a really   | is ano |       |
+| long line in   | ther   |       |
+| the middle of… | text   |       |
++----------------+--------+-------+";
 
 const FIRST: [&str; 3] = [
     "This is a very long line with a lot of text",
@@ -48,9 +47,7 @@ pub fn worked_table(alloc: Global) -> Result<Table> {
 /// A table like `worked_table` in which more is set, with a cell that no column has yet.
 pub fn full_table(alloc: Global) -> Result<Table> {
     let mut table = worked_table(alloc)?;
-    add_late_cell(alloc, &mut table)?;
-    table.try_set_truncation_indicator("...")?;
-    set_more(&mut table);
+    set_all(alloc, &mut table)?;
     Ok(table)
 }
 
@@ -66,13 +63,23 @@ fn add_cut_row(alloc: Global, table: &mut Table, texts: [&'static str; 3]) -> Re
     table.try_add_row(row)
 }
 
+fn set_all(alloc: Global, table: &mut Table) -> Result<()> {
+    add_late_cell(alloc, table)?;
+    table.try_set_truncation_indicator("...")?;
+    set_more(table);
+    Ok(())
+}
+
 fn add_late_cell(alloc: Global, table: &mut Table) -> Result<()> {
-    let late = Cell::new(alloc, "late")?.fg(Color::Green);
-    let late = late.add_attribute(Attribute::Bold)?;
     match table.row_mut(0) {
-        Some(row) => row.try_add_cell(late),
+        Some(row) => row.try_add_cell(late_cell(alloc)?),
         None => Ok(()),
     }
+}
+
+fn late_cell(alloc: Global) -> Result<Cell> {
+    let cell = Cell::new(alloc, "late")?;
+    cell.fg(Color::Green).add_attribute(Attribute::Bold)
 }
 
 fn set_widths(table: &mut Table) {

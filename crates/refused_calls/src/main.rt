@@ -66,16 +66,13 @@ fn outcome_of(alloc: Global, name: &str) -> Result<Outcome> {
         Some(("Row", call)) => rows::outcome_of(alloc, call),
         Some(("Table", call)) => outcome_on_table(alloc, call),
         Some(("sequences", call)) => sequences::outcome_of(alloc, call),
-        Some(_) => conversions::outcome_of(alloc, name),
+        Some((source, conversion)) => conversions::outcome_of(alloc, source, conversion),
         None => runs::outcome_of(alloc, name),
     }
 }
 
 fn outcome_on_table(alloc: Global, call: &str) -> Result<Outcome> {
     match call {
-        "add_rows" | "try_add_rows" | "add_rows_if" | "try_add_rows_if" => {
-            several_rows::outcome_of(alloc, call)
-        }
         "clone"
         | "column_max_content_widths"
         | "lines"

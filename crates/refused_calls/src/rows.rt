@@ -23,14 +23,17 @@ fn outcome_on(alloc: Global, row: &mut Row, source: &Row, call: &str) -> Result<
 
 // Whether the call of this name succeeds; none where there is no such call.
 fn change(alloc: Global, row: &mut Row, call: &str) -> Result<Option<bool>> {
-    let cell = Cell::new(alloc, "dock 3")?;
     let succeeded = match call {
-        "add_cell" => row.add_cell(cell).is_ok(),
-        "try_add_cell" => row.try_add_cell(cell).is_ok(),
+        "add_cell" => row.add_cell(cell(alloc)?).is_ok(),
+        "try_add_cell" => row.try_add_cell(cell(alloc)?).is_ok(),
         "clone" => row.clone().is_ok(),
         _ => return Ok(None),
     };
     Ok(Some(succeeded))
+}
+
+fn cell(alloc: Global) -> Result<Cell> {
+    Cell::new(alloc, "dock 3")
 }
 
 fn difference(row: &Row, source: &Row) -> Option<&'static str> {

@@ -9,12 +9,11 @@ use std::alloc::Global;
 const TEXT: &str = "\u{1b}[1mabcdef\u{1b}[0m";
 
 // The drawing of `bold_table`.
-const BOLD: [&str; 4] = [
-    "+-----+",
-    "| \u{1b}[1mabc\u{1b}[0m |",
-    "| \u{1b}[1mdef\u{1b}[0m |",
-    "+-----+",
-];
+const BOLD: &str = "\
++-----+
+| \u{1b}[1mabc\u{1b}[0m |
+| \u{1b}[1mdef\u{1b}[0m |
++-----+";
 
 /// What came of the call of this name.
 pub fn outcome_of(alloc: Global, name: &str) -> Result<Outcome> {
@@ -28,7 +27,7 @@ pub fn outcome_of(alloc: Global, name: &str) -> Result<Outcome> {
 
 fn of_bold_table(alloc: Global, call: &str) -> Result<Outcome> {
     let table = bold_table(alloc)?;
-    outcome_on(&table, &BOLD, call)
+    outcome_on(&table, BOLD, call)
 }
 
 // A table of one bold cell, in a width that takes three of its characters.

@@ -1,25 +1,25 @@
 //! The calls that add several rows: where they are refused, the rows before the refused one are there.
 
 use crate::comparison::difference;
-use crate::fixtures::full_table;
 use crate::outcome::Outcome;
 use comfy_table::{Result, Table};
 use std::alloc::Global;
 
 type Texts = Vec<&'static str>;
 
+// The last row has all of these, the others fewer.
+const TEXTS: [&str; 6] = ["one", "two", "three", "four", "five", "six"];
+
 // How many rows are added.
 const ROWS: usize = 3;
 
-/// What came of the call of this name.
-pub fn outcome_of(alloc: Global, call: &str) -> Result<Outcome> {
-    let mut source = full_table(alloc)?;
-    // A copy has no room to spare, so that a further row or column takes memory.
-    let mut table = source.clone()?;
-    outcome_on(alloc, &mut table, &mut source, call)
-}
-
-fn outcome_on(alloc: Global, table: &mut Table, source: &mut Table, call: &str) -> Result<Outcome> {
+/// What came of the call of this name on a table that is like `source`.
+pub fn outcome_on(
+    alloc: Global,
+    table: &mut Table,
+    source: &mut Table,
+    call: &str,
+) -> Result<Outcome> {
     let rows = longer_rows(alloc)?;
     match add(table, call, rows) {
         Some(true) => Ok(Outcome::Succeeded),
@@ -30,14 +30,24 @@ fn outcome_on(alloc: Global, table: &mut Table, source: &mut Table, call: &str) 
 
 // Whether the call of this name succeeds; none where there is no such call.
 fn add(table: &mut Table, call: &str, rows: Vec<Texts>) -> Option<bool> {
-    let succeeded = match call {
-        "add_rows" => table.add_rows(rows).is_ok(),
-        "try_add_rows" => table.try_add_rows(rows).is_ok(),
-        "add_rows_if" => table.add_rows_if(|_count, _rows| true, rows).is_ok(),
-        "try_add_rows_if" => table.try_add_rows_if(|_count, _rows| true, rows).is_ok(),
-        _ => return None,
-    };
-    Some(succeeded)
+    match call {
+        "add_rows" => Some(table.add_rows(rows).is_ok()),
+        "try_add_rows" => Some(table.try_add_rows(rows).is_ok()),
+        _ => add_if(table, call, rows),
+    }
+}
+
+fn add_if(table: &mut Table, call: &str, rows: Vec<Texts>) -> Option<bool> {
+    match call {
+        "add_rows_if" => Some(table.add_rows_if(always, rows).is_ok()),
+        "try_add_rows_if" => Some(table.try_add_rows_if(always, rows).is_ok()),
+        _ => None,
+    }
+}
+
+/// The predicate that adds whatever it is asked for.
+pub fn always<T>(_count: usize, _added: &T) -> bool {
+    true
 }
 
 // Three rows, each of which needs one more column.
@@ -50,12 +60,10 @@ fn longer_rows(alloc: Global) -> Result<Vec<Texts>> {
 }
 
 fn longer_row(alloc: Global, position: usize) -> Result<Texts> {
-    let row = match position {
-        0 => vec![in alloc; "one", "two", "three", "four"]?,
-        1 => vec![in alloc; "one", "two", "three", "four", "five"]?,
-        _ => vec![in alloc; "one", "two", "three", "four", "five", "six"]?,
-    };
-    Ok(row)
+    match TEXTS.get(..position.saturating_add(4)) {
+        Some(texts) => Ok(texts.to_vec(alloc)?),
+        None => Ok(Vec::new(alloc)),
+    }
 }
 
 // Adds the first of the three rows, one by one.

@@ -1,5 +1,6 @@
 //! Which characters add one terminal column, and which texts add up.
 
+use crate::support::{assert_text, push_with};
 use comfy_parts::content_split::{adds_one_column, adds_up};
 use comfy_parts::style::TableStyle;
 use comfy_parts::style::presets::{
@@ -7,45 +8,17 @@ use comfy_parts::style::presets::{
     ASCII_HORIZONTAL_ONLY, ASCII_MARKDOWN, ASCII_NO_BORDERS, NOTHING, UTF8_BORDERS_ONLY, UTF8_FULL,
     UTF8_FULL_CONDENSED, UTF8_HORIZONTAL_ONLY, UTF8_NO_BORDERS,
 };
+use std::alloc::{Alloc, Global};
+use std::process::Abort;
 
-// Each character, and whether it is known to add one column wherever it stands.
-const CHARACTERS: [(char, bool); 9] = [
-    ('|', true),
-    (' ', true),
-    ('─', true),
-    ('…', true),
-    // a variation selector after one of these makes it wide
-    ('#', false),
-    ('*', false),
-    ('7', false),
-    // these are never said to
-    ('é', false),
-    ('中', false),
-];
+// Texts whose characters join no other: Chinese, Japanese, Korean, Cyrillic, Greek, a Latin letter with an accent behind
+// it, Arabic without an alef, an emoji alone, and no text. A bar follows each.
+const ADDING_UP: &str = "年度报告|日本語カナ|한국어|Отчёт|Έκθεση|e\u{301}|\u{645}\u{62d}\u{645}\u{62f}|✅||";
 
-// Texts whose characters join no other.
-const ADDING_UP: [(&str, &str); 9] = [
-    ("Chinese", "年度报告"),
-    ("Japanese", "日本語カナ"),
-    ("Korean", "한국어"),
-    ("Cyrillic", "Отчёт"),
-    ("Greek", "Έκθεση"),
-    ("a Latin letter with an accent behind it", "e\u{301}"),
-    ("Arabic without an alef", "\u{645}\u{62d}\u{645}\u{62f}"),
-    ("an emoji alone", "✅"),
-    ("no text", ""),
-];
-
-// Texts with a character that joins another, or that isn't printed.
-const NOT_ADDING_UP: [(&str, &str); 7] = [
-    ("Arabic with an alef", "\u{643}\u{62a}\u{627}\u{628}"),
-    ("Hebrew with a lamed", "\u{5e9}\u{5dc}\u{5d5}\u{5dd}"),
-    ("Khmer", "\u{1781}\u{17d2}\u{1798}\u{17c2}\u{179a}"),
-    ("a family of emoji", "\u{1f468}\u{200d}\u{1f469}"),
-    ("a flag", "\u{1f1eb}\u{1f1f7}"),
-    ("ESC", "\u{1b}"),
-    ("Chinese and a variation selector", "年\u{fe0f}"),
-];
+// Texts with a character that joins another, or that isn't printed: Arabic with an alef, Hebrew with a lamed, Khmer, a
+// family of emoji, a flag, ESC, and Chinese with a variation selector.
+const NOT_ADDING_UP: &str = "\u{643}\u{62a}\u{627}\u{628}|\u{5e9}\u{5dc}\u{5d5}\u{5dd}|\
+    \u{1781}\u{17d2}\u{1798}\u{17c2}\u{179a}|\u{1f468}\u{200d}\u{1f469}|\u{1f1eb}\u{1f1f7}|\u{1b}|年\u{fe0f}|";
 
 const PRESETS: [TableStyle; 13] = [
     ASCII_FULL,
@@ -63,25 +36,45 @@ const PRESETS: [TableStyle; 13] = [
     NOTHING,
 ];
 
+// The characters of a text that are known to add one column wherever they stand.
+fn of_one_column(rt: &(impl Abort + Alloc<A = Global>), text: &str) -> String {
+    let mut told = String::new(rt.alloc());
+    for character in text.chars() {
+        if adds_one_column(character) {
+            told.push(character).expect(rt, "memory");
+        }
+    }
+    told
+}
+
+// Those of the texts that add up.
+fn adding_up(rt: &(impl Abort + Alloc<A = Global>), texts: &str) -> String {
+    let mut told = String::new(rt.alloc());
+    for text in texts.split_terminator('|') {
+        if adds_up(text) {
+            push_with(rt, &mut told, text, '|');
+        }
+    }
+    told
+}
+
+// A variation selector after a `#`, a `*` or a digit makes it wide. The last two are never said to add one column.
 #[test]
 fn characters_of_one_column_are_told(rt: HostRuntime) {
-    for (character, wanted) in &CHARACTERS {
-        assert_eq!(rt; adds_one_column(*character), *wanted, "`{character}`");
-    }
+    let told = of_one_column(&rt, "| ─…#*7é中");
+    assert_text(&rt, told.as_str(), "| ─…");
 }
 
 #[test]
 fn most_scripts_add_up(rt: HostRuntime) {
-    for (name, text) in &ADDING_UP {
-        assert!(rt; adds_up(text), "{name}");
-    }
+    let told = adding_up(&rt, ADDING_UP);
+    assert_text(&rt, told.as_str(), ADDING_UP);
 }
 
 #[test]
 fn texts_that_join_do_not_add_up(rt: HostRuntime) {
-    for (name, text) in &NOT_ADDING_UP {
-        assert!(rt; !adds_up(text), "{name}");
-    }
+    let told = adding_up(&rt, NOT_ADDING_UP);
+    assert_text(&rt, told.as_str(), "");
 }
 
 #[test]
@@ -93,8 +86,9 @@ fn presets_are_of_one_column(rt: HostRuntime) {
 
 #[test]
 fn one_other_character_is_noticed(rt: HostRuntime) {
-    let lines = UTF8_FULL.content_lines.left('#');
-    assert!(rt; !UTF8_FULL.content_lines(lines).is_one_column());
-    let bottom = UTF8_FULL.bottom_border.fill('年');
-    assert!(rt; !UTF8_FULL.bottom_border(bottom).is_one_column());
+    let style = UTF8_FULL;
+    let lines = style.content_lines.left('#');
+    assert!(rt; !style.content_lines(lines).is_one_column());
+    let bottom = style.bottom_border.fill('年');
+    assert!(rt; !style.bottom_border(bottom).is_one_column());
 }

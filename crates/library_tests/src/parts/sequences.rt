@@ -1,8 +1,8 @@
 //! Sequences inside texts: what is visible, and whether one is left open.
 
-use crate::support::assert_text;
-use comfy_parts::Result;
+use crate::support::assert_given;
 use comfy_parts::content_split::{leaves_sequence_open, visible_text};
+use std::process::Abort;
 
 // Each text, and what is visible of it.
 const VISIBLE: [(&str, &str); 5] = [
@@ -13,27 +13,24 @@ const VISIBLE: [(&str, &str); 5] = [
     ("", ""),
 ];
 
-// Each text, and whether it leaves a sequence open. Only the literal reset closes.
-const OPEN: [(&str, bool); 6] = [
-    ("\u{1b}[1mabc", true),
-    ("\u{1b}[1mabc\u{1b}[0m", false),
-    ("\u{1b}[1mabc\u{1b}[m", true),
-    ("\u{1b}[1mabc\u{1b}[00m", true),
-    ("\u{1b}[2Jabc", false),
-    ("abc", false),
-];
-
 #[test]
-fn sequences_are_not_visible(rt: HostRuntime) -> Result<()> {
+fn sequences_are_not_visible(rt: HostRuntime) {
     for (text, wanted) in &VISIBLE {
-        assert_text(&rt, visible_text(rt.alloc(), text)?.as_str(), wanted);
+        assert_given(&rt, visible_text(rt.alloc(), text), wanted);
     }
-    Ok(())
 }
 
+// Whether each of the texts, between which there are bars, leaves a sequence open is this.
+fn assert_open(rt: &impl Abort, texts: &str, wanted: bool) {
+    for text in texts.split('|') {
+        assert!(rt; leaves_sequence_open(text) == wanted);
+    }
+}
+
+// Only the literal reset closes.
 #[test]
 fn only_the_reset_closes_a_text(rt: HostRuntime) {
-    for (text, wanted) in &OPEN {
-        assert_eq!(rt; leaves_sequence_open(text), *wanted);
-    }
+    let open = "\u{1b}[1mabc|\u{1b}[1mabc\u{1b}[m|\u{1b}[1mabc\u{1b}[00m";
+    assert_open(&rt, open, true);
+    assert_open(&rt, "\u{1b}[1mabc\u{1b}[0m|\u{1b}[2Jabc|abc", false);
 }

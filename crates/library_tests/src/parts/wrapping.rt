@@ -1,11 +1,10 @@
 //! Texts and the lines that they are wrapped into.
 
-use crate::support::assert_text;
+use crate::support::assert_given;
+use comfy_parts::Column;
 use comfy_parts::content_split::{
-    ColumnDisplayInfo, measure_text_width, split_line, split_line_by_delimiter, split_line_ref,
-    split_long_word,
+    ColumnDisplayInfo, split_line, split_line_by_delimiter, split_line_ref,
 };
-use comfy_parts::{Column, Result};
 use std::alloc::{Alloc, Global};
 use std::process::Abort;
 
@@ -41,10 +40,9 @@ fn assert_wrapped(
     info: &ColumnDisplayInfo,
     delimiter: char,
     expected: &str,
-) -> Result<()> {
-    let lines = split_line(rt.alloc(), text, info, delimiter)?;
-    assert_text(rt, lines.join(rt.alloc(), "|")?.as_str(), expected);
-    Ok(())
+) {
+    let lines = split_line(rt.alloc(), text, info, delimiter).expect(rt, "memory");
+    assert_given(rt, lines.join(rt.alloc(), "|"), expected);
 }
 
 // The borrowed lines of a text, joined by bars, are these.
@@ -54,25 +52,22 @@ fn assert_wrapped_borrowed(
     info: &ColumnDisplayInfo,
     delimiter: char,
     expected: &str,
-) -> Result<()> {
-    let lines = split_line_ref(rt.alloc(), text, info, delimiter)?;
-    assert_text(rt, lines.join(rt.alloc(), "|")?.as_str(), expected);
-    Ok(())
+) {
+    let lines = split_line_ref(rt.alloc(), text, info, delimiter).expect(rt, "memory");
+    assert_given(rt, lines.join(rt.alloc(), "|"), expected);
 }
 
 #[test]
-fn texts_are_wrapped(rt: HostRuntime) -> Result<()> {
+fn texts_are_wrapped(rt: HostRuntime) {
     for (text, width, delimiter, expected) in &WRAPPED {
         let info = info_of(*width);
-        assert_wrapped(&rt, text, &info, *delimiter, expected)?;
-        assert_wrapped_borrowed(&rt, text, &info, *delimiter, expected)?;
+        assert_wrapped(&rt, text, &info, *delimiter, expected);
+        assert_wrapped_borrowed(&rt, text, &info, *delimiter, expected);
     }
-    Ok(())
 }
 
 #[test]
-fn a_line_is_divided_at_each_delimiter(rt: HostRuntime) -> Result<()> {
-    let parts = split_line_by_delimiter(rt.alloc(), "a--b", '-')?;
-    assert_text(&rt, parts.join(rt.alloc(), "|")?.as_str(), "a||b");
-    Ok(())
+fn a_line_is_divided_at_each_delimiter(rt: HostRuntime) {
+    let parts = split_line_by_delimiter(rt.alloc(), "a--b", '-').expect(&rt, "memory");
+    assert_given(&rt, parts.join(rt.alloc(), "|"), "a||b");
 }

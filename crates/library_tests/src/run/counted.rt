@@ -4,6 +4,7 @@ ghost use Rattle.std.specs.Prelude.{Some, is_none};
 ghost use Rattle.comfy_run.specs.Device.{left_in};
 ghost use Rattle.comfy_run.specs.DeviceLaws.{none_is_left};
 
+use crate::support::sink_of;
 use comfy_run::run::{DeviceFault, MemorySink, MemorySource, Sink, Source, program};
 use std::alloc::{Alloc, Global};
 use std::process::Abort;
@@ -47,11 +48,11 @@ struct CountedSink {
 }
 
 impl CountedSink {
-    fn new(alloc: Global, fails_at: u64) -> comfy_table::Result<CountedSink> {
-        Ok(CountedSink {
-            sink: MemorySink::new(alloc, 4096, fails_at)?,
+    fn new(rt: &(impl Abort + Alloc<A = Global>), fails_at: u64) -> CountedSink {
+        CountedSink {
+            sink: sink_of(rt, 4096, fails_at),
             writes: 0,
-        })
+        }
     }
 }
 
@@ -74,27 +75,26 @@ fn assert_calls(
     input: &[u8],
     failing_write: u64,
     wanted: (u64, u64, u64, u8),
-) -> comfy_table::Result<()> {
+) {
     let mut source = CountedSource::new(input);
-    let mut sink = CountedSink::new(rt.alloc(), failing_write)?;
-    let mut messages = CountedSink::new(rt.alloc(), 1)?;
+    let mut sink = CountedSink::new(rt, failing_write);
+    let mut messages = CountedSink::new(rt, 1);
     let status = program(rt.alloc(), words, &mut source, &mut sink, &mut messages);
     let calls = (source.reads, sink.writes, messages.writes, status);
-    assert_eq!(rt; calls, wanted);
-    Ok(())
+    assert!(rt; calls == wanted);
 }
 
 // One read of a short input and one of its end, one write of all, and no message.
 #[test]
-fn a_success_calls_no_device_again(rt: HostRuntime) -> comfy_table::Result<()> {
-    assert_calls(&rt, &[], b"a\tb\nc\td\n", 0, (2, 1, 0, 0))?;
-    assert_calls(&rt, &[], b"", 0, (1, 1, 0, 0))
+fn a_success_calls_no_device_again(rt: HostRuntime) {
+    assert_calls(&rt, &[], b"a\tb\nc\td\n", 0, (2, 1, 0, 0));
+    assert_calls(&rt, &[], b"", 0, (1, 1, 0, 0));
 }
 
 // The first call of the message is its only one.
 #[test]
-fn a_failure_is_reported_by_one_call(rt: HostRuntime) -> comfy_table::Result<()> {
-    assert_calls(&rt, &[], b"\xff", 0, (2, 0, 1, 1))?;
-    assert_calls(&rt, &[], b"a\n", 1, (2, 1, 1, 1))?;
-    assert_calls(&rt, &["x"], b"a\n", 0, (0, 0, 1, 2))
+fn a_failure_is_reported_by_one_call(rt: HostRuntime) {
+    assert_calls(&rt, &[], b"\xff", 0, (2, 0, 1, 1));
+    assert_calls(&rt, &[], b"a\n", 1, (2, 1, 1, 1));
+    assert_calls(&rt, &["x"], b"a\n", 0, (0, 0, 1, 2));
 }
