@@ -10,10 +10,11 @@ use std::alloc::Global;
 /// What is wrong with the drawing of a sample, if anything is.
 pub fn fault_of(alloc: Global, sample: &Sample) -> Result<Option<&'static str>> {
     let drawing = Drawing::of(alloc, &sample.table)?;
-    match fault_of_counts(sample, &drawing) {
-        Some(fault) => Ok(Some(fault)),
-        None => fault_of_texts(alloc, sample, &drawing),
+    let fault = fault_of_counts(sample, &drawing);
+    if fault.is_some() {
+        return Ok(fault);
     }
+    fault_of_texts(alloc, sample, &drawing)
 }
 
 fn fault_of_counts(sample: &Sample, drawing: &Drawing) -> Option<&'static str> {
@@ -66,15 +67,12 @@ fn is_cut(sample: &Sample, drawing: &Drawing) -> bool {
 // whether as many characters are seen of each line as without sequences
 fn is_drawn_as_seen(alloc: Global, sample: &Sample, drawing: &Drawing) -> Result<bool> {
     let seen = sample.as_seen(alloc)?;
-    if seen.has_formed {
-        return Ok(true);
-    }
-    is_drawn_alike(alloc, &seen.table, drawing)
+    is_drawn_alike(alloc, &seen, drawing)
 }
 
-fn is_drawn_alike(alloc: Global, table: &Table, drawing: &Drawing) -> Result<bool> {
-    let other = Drawing::of(alloc, table)?;
-    Ok(other.has_counts_of(drawing))
+fn is_drawn_alike(alloc: Global, seen: &Sample, drawing: &Drawing) -> Result<bool> {
+    let other = Drawing::of(alloc, &seen.table)?;
+    Ok(seen.has_formed || other.has_counts_of(drawing))
 }
 
 /// Whether a frame line of so many characters keeps to the set width, where no constraint says otherwise.

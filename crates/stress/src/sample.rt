@@ -232,16 +232,11 @@ fn constraint(rng: &mut Pcg32, is_free: bool) -> ColumnConstraint {
 
 // the first two columns in each other's place, with labels that say nothing
 fn exchange_columns(table: &mut Table) {
-    let Some(first) = table.column_mut(0) else {
-        return;
-    };
-    let first = mem::replace(first, Column::new(7));
-    let Some(second) = table.column_mut(1) else {
-        return;
-    };
-    let second = mem::replace(second, first);
-    if let Some(first) = table.column_mut(0) {
-        *first = second;
+    let mut columns = table.column_iter_mut();
+    if let Some(first) = columns.next()
+        && let Some(second) = columns.next()
+    {
+        mem::swap(first, second);
     }
     for column in table.column_iter_mut() {
         column.index = 7;

@@ -81,17 +81,17 @@ fn fault_of_table(
 
 fn fault_of_lines(alloc: Global, table: &Table) -> Result<Option<&'static str>> {
     let mut first = None;
+    let mut are_alike = true;
     for line in table.lines()? {
         let width = seen_width(alloc, line.as_str())?;
-        if *first.get_or_insert(width) != width {
-            return Ok(Some("lines are unlike in width"));
-        }
+        are_alike &= *first.get_or_insert(width) == width;
     }
-    Ok(fault_of_width(table, first))
+    Ok(fault_of_widths(table, first, are_alike))
 }
 
-fn fault_of_width(table: &Table, width: Option<usize>) -> Option<&'static str> {
-    match width {
+fn fault_of_widths(table: &Table, first: Option<usize>, are_alike: bool) -> Option<&'static str> {
+    match first {
+        _ if !are_alike => Some("lines are unlike in width"),
         Some(width) if !keeps_to_width(table, width) => {
             Some("the width doesn't hold in terminal columns")
         }
