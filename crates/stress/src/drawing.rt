@@ -1,13 +1,14 @@
 //! A drawing in the style `UTF8_FULL`, read from outside.
 
-use crate::scan::Scan;
+use crate::scan::{INDICATOR, Scan};
 use comfy_table::{Result, Table};
 use std::alloc::Global;
+use std::mem;
 
 const BORDER: char = '│';
 
-/// What stands between two pieces of a line.
-pub const JUNCTION: char = '┆';
+// what stands between two pieces of a line
+const JUNCTION: char = '┆';
 
 /// A drawing: how many characters its lines have, and what stands in the cells of each row.
 #[derive(Drop)]
@@ -16,36 +17,75 @@ pub struct Drawing {
     pub frame_counts: Vec<usize>,
     /// The characters that are seen of each line of a row.
     pub row_counts: Vec<usize>,
+    /// Whether a line of a row has the indicator of a cut.
+    pub has_indicator: bool,
+    /// Whether a piece of a line leaves a sequence open.
+    pub leaves_open: bool,
     /// For each row that has a line, the header first: its lines.
     pub rows: Vec<Vec<String>>,
+    // the lines since the last frame line
+    row: Vec<String>,
+    // what was read of the last line
+    scan: Scan,
 }
 
 impl Drawing {
     /// The drawing of a table.
     pub fn of(alloc: Global, table: &Table) -> Result<Drawing> {
-        let mut drawing = Drawing {
-            frame_counts: Vec::new(alloc),
-            row_counts: Vec::new(alloc),
-            rows: Vec::new(alloc),
-        };
+        let mut drawing = Drawing::without_lines(alloc, table.has_custom_styling());
         drawing.add_lines(alloc, table)?;
         Ok(drawing)
     }
 
+    fn without_lines(alloc: Global, knows_sequences: bool) -> Drawing {
+        Drawing {
+            frame_counts: Vec::new(alloc),
+            row_counts: Vec::new(alloc),
+            has_indicator: false,
+            leaves_open: false,
+            rows: Vec::new(alloc),
+            row: Vec::new(alloc),
+            scan: Scan::new(alloc, knows_sequences),
+        }
+    }
+
     fn add_lines(&mut self, alloc: Global, table: &Table) -> Result<()> {
-        let mut row = Vec::new(alloc);
         for line in table.lines()? {
-            if line.as_str().starts_with(BORDER) {
-                let scan = Scan::of(alloc, line.as_str(), table.has_custom_styling())?;
-                self.row_counts.push(scan.count)?;
-                row.push(line)?;
-            } else {
-                self.frame_counts.push(line.as_str().chars().count())?;
-                self.rows.push(row)?;
-                row = Vec::new(alloc);
-            }
+            self.add_line(alloc, line)?;
         }
         Ok(())
+    }
+
+    fn add_line(&mut self, alloc: Global, line: String) -> Result<()> {
+        if !line.as_str().starts_with(BORDER) {
+            return self.add_frame_line(alloc, line.as_str());
+        }
+        self.read_pieces(line.as_str())?;
+        Ok(self.row.push(line)?)
+    }
+
+    fn add_frame_line(&mut self, alloc: Global, line: &str) -> Result<()> {
+        self.frame_counts.push(line.chars().count())?;
+        let row = mem::replace(&mut self.row, Vec::new(alloc));
+        Ok(self.rows.push(row)?)
+    }
+
+    // reads a line of a row piece by piece
+    fn read_pieces(&mut self, line: &str) -> Result<()> {
+        self.scan.begin(' ');
+        for piece in line.split_inclusive(JUNCTION) {
+            self.scan.read(piece)?;
+            self.leaves_open |= self.scan.is_open();
+            self.scan.forget_open();
+        }
+        self.has_indicator |= line.contains(INDICATOR);
+        Ok(self.row_counts.push(self.scan.count)?)
+    }
+
+    /// Whether another drawing has lines with the same numbers of characters.
+    pub fn has_counts_of(&self, other: &Drawing) -> bool {
+        self.frame_counts.as_slice() == other.frame_counts.as_slice()
+            && self.row_counts.as_slice() == other.row_counts.as_slice()
     }
 }
 

@@ -5,10 +5,10 @@
 
 mod check;
 mod drawing;
+mod kept;
 mod sample;
 mod scan;
 mod scripts;
-mod seen;
 mod straight;
 mod texts;
 
@@ -25,7 +25,18 @@ const WANTED: &str = "SEED COUNT is wanted";
 
 fn main(rt: HostRuntime) -> anyhow::Result<ExitCode> {
     let (seed, count) = asked_for(&rt)?;
-    let mut rng = Pcg32::seed_from_u64(seed);
+    let faults = count_faults(&rt, Pcg32::seed_from_u64(seed), count)?;
+    println!(rt; "{count} tables, {faults} faults")?;
+    if faults == 0 {
+        Ok(ExitCode::SUCCESS)
+    } else {
+        Ok(ExitCode::FAILURE)
+    }
+}
+
+// how many of so many tables have a fault; each is printed
+fn count_faults(rt: &HostRuntime, rng: Pcg32, count: u64) -> anyhow::Result<u64> {
+    let mut rng = rng;
     let mut faults: u64 = 0;
     for number in 0..count {
         if let Some(fault) = next_fault(rt.alloc(), &mut rng)? {
@@ -33,12 +44,7 @@ fn main(rt: HostRuntime) -> anyhow::Result<ExitCode> {
             faults = faults.saturating_add(1);
         }
     }
-    println!(rt; "{count} tables, {faults} faults")?;
-    if faults == 0 {
-        Ok(ExitCode::SUCCESS)
-    } else {
-        Ok(ExitCode::FAILURE)
-    }
+    Ok(faults)
 }
 
 // what is wrong with the next sample, or else with the next table of many scripts
@@ -56,10 +62,10 @@ fn fault_of_sample(alloc: Global, rng: &mut Pcg32) -> Result<Option<&'static str
 // the seed, and how many tables
 fn asked_for(rt: &HostRuntime) -> anyhow::Result<(u64, u64)> {
     let line = rt.lines(rt.alloc()).next().context(WANTED)??;
-    seed_and_count(line.as_str())
+    seed_and_count(line.as_str()).context(WANTED)
 }
 
-fn seed_and_count(line: &str) -> anyhow::Result<(u64, u64)> {
-    let (seed, count) = line.split_once(' ').context(WANTED)?;
-    Ok((seed.parse::<u64>()?, count.parse::<u64>()?))
+fn seed_and_count(line: &str) -> Option<(u64, u64)> {
+    let (seed, count) = line.split_once(' ')?;
+    Some((seed.parse::<u64>().ok()?, count.parse::<u64>().ok()?))
 }

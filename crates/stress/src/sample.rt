@@ -1,12 +1,12 @@
 //! Random tables, built through the public surface.
 
-use crate::texts::{Kind, delimiter, indicator, once_in, text};
+use crate::scan::Scan;
+use crate::texts::{Kind, delimiter, indicator, once_in, one_of, text};
 use comfy_table::presets::UTF8_FULL;
 use comfy_table::{
     Cell, CellAlignment, Column, ColumnConstraint, ContentArrangement, Result, Row, Table, Width,
 };
 use rand::RngExt;
-use rand::seq::IndexedRandom;
 use rand_pcg::Pcg32;
 use std::alloc::Global;
 use std::mem;
@@ -50,155 +50,195 @@ pub struct Sample {
     pub kind: Kind,
     /// Whether cut lines end in another indicator than that of a new table.
     pub has_own_indicator: bool,
+    /// Whether a row's height is limited.
+    pub is_limited: bool,
+    /// Whether a text without its sequences holds one that parts formed.
+    pub has_formed: bool,
+    // whether texts are without their sequences
+    is_seen: bool,
+    // the numbers that it was made of
+    numbers: Pcg32,
 }
 
 impl Sample {
     /// A table of up to five rows and four columns.
     pub fn new(alloc: Global, rng: &mut Pcg32) -> Result<Sample> {
-        let kind = Kind {
-            is_plain: once_in(rng, 3),
-            has_sequences: once_in(rng, 2),
-        };
-        let mut sample = Sample {
-            table: Table::new(alloc),
-            delimiter: delimiter(rng, kind),
-            kind,
-            has_own_indicator: false,
-        };
+        Sample::made_of(alloc, rng, false)
+    }
+
+    /// The same table with texts as they are seen: without their sequences.
+    pub fn as_seen(&self, alloc: Global) -> Result<Sample> {
+        Sample::made_of(alloc, &mut self.numbers.clone()?, true)
+    }
+
+    fn made_of(alloc: Global, rng: &mut Pcg32, is_seen: bool) -> Result<Sample> {
+        let mut sample = Sample::without_rows(alloc, rng.clone()?, is_seen);
         sample.fill(alloc, rng)?;
         Ok(sample)
     }
 
+    fn without_rows(alloc: Global, numbers: Pcg32, is_seen: bool) -> Sample {
+        Sample {
+            table: Table::new(alloc),
+            delimiter: ' ',
+            kind: Kind {
+                is_plain: false,
+                has_sequences: false,
+            },
+            has_own_indicator: false,
+            is_limited: false,
+            has_formed: false,
+            is_seen,
+            numbers,
+        }
+    }
+
     fn fill(&mut self, alloc: Global, rng: &mut Pcg32) -> Result<()> {
+        self.set_kind(rng);
+        self.add_rows(alloc, rng)?;
+        self.change_columns(rng);
+        if once_in(rng, 8) {
+            self.add_late_cell(alloc, rng)?;
+        }
+        self.know_sequences(rng)
+    }
+
+    fn set_kind(&mut self, rng: &mut Pcg32) {
+        self.kind.is_plain = once_in(rng, 3);
+        self.kind.has_sequences = once_in(rng, 2);
+        self.delimiter = delimiter(rng, self.kind);
         self.table
             .load_style(UTF8_FULL)
-            .set_delimiter(self.delimiter);
-        set_arrangement(rng, &mut self.table);
-        add_rows(alloc, rng, &mut self.table, self.kind)?;
-        set_columns(rng, &mut self.table, self.kind);
+            .set_delimiter(self.delimiter)
+            .set_content_arrangement(one_of(rng, &ARRANGEMENTS, ContentArrangement::Disabled))
+            .set_width(one_of(rng, &WIDTHS, 0));
+    }
+
+    fn add_rows(&mut self, alloc: Global, rng: &mut Pcg32) -> Result<()> {
+        if !once_in(rng, 3) {
+            let header = self.row(alloc, rng)?;
+            self.table.try_set_header(header)?;
+        }
+        for _ in 0..rng.random_range(0u32..6) {
+            let row = self.row(alloc, rng)?;
+            self.table.try_add_row(row)?;
+        }
+        Ok(())
+    }
+
+    fn row(&mut self, alloc: Global, rng: &mut Pcg32) -> Result<Row> {
+        let mut row = Row::new(alloc);
+        self.fill_row(alloc, rng, &mut row)?;
+        Ok(row)
+    }
+
+    fn fill_row(&mut self, alloc: Global, rng: &mut Pcg32, row: &mut Row) -> Result<()> {
+        for _ in 0..rng.random_range(0u32..5) {
+            row.try_add_cell(self.cell(alloc, rng)?)?;
+        }
+        if once_in(rng, if self.kind.has_sequences { 2 } else { 6 }) {
+            row.max_height(rng.random_range(0usize..4));
+            self.is_limited = true;
+        }
+        Ok(())
+    }
+
+    fn cell(&mut self, alloc: Global, rng: &mut Pcg32) -> Result<Cell> {
+        let text = self.text(alloc, rng)?;
+        let cell = Cell::new_owned(alloc, text)?;
+        Ok(with_settings(rng, cell, self.kind))
+    }
+
+    fn text(&mut self, alloc: Global, rng: &mut Pcg32) -> Result<String> {
+        let text = text(alloc, rng, self.kind)?;
+        if self.is_seen {
+            self.seen_text(alloc, text.as_str())
+        } else {
+            Ok(text)
+        }
+    }
+
+    fn seen_text(&mut self, alloc: Global, text: &str) -> Result<String> {
+        let scan = Scan::of(alloc, text)?;
+        self.has_formed |= count_seen(alloc, scan.seen.as_str())? != scan.count;
+        Ok(scan.seen)
+    }
+
+    // most columns stay as they are, and in three tables of four none has a constraint but that it is hidden
+    fn change_columns(&mut self, rng: &mut Pcg32) {
+        let is_free = !once_in(rng, 4);
+        for column in self.table.column_iter_mut() {
+            set_column(rng, column, self.kind, is_free);
+        }
         if once_in(rng, 8) {
             exchange_columns(&mut self.table);
         }
-        if once_in(rng, 8) {
-            add_late_cell(alloc, rng, &mut self.table, self.kind)?;
+    }
+
+    // a cell in the last row that no column knows, or that a column of the other rows knows
+    fn add_late_cell(&mut self, alloc: Global, rng: &mut Pcg32) -> Result<()> {
+        let cell = self.cell(alloc, rng)?;
+        let last = self.table.row_count().saturating_sub(1);
+        match self.table.row_mut(last) {
+            Some(row) => row.try_add_cell(cell),
+            None => Ok(()),
         }
-        if self.kind.has_sequences {
-            self.know_sequences(rng)?;
-        }
-        Ok(())
     }
 
     fn know_sequences(&mut self, rng: &mut Pcg32) -> Result<()> {
+        if !self.kind.has_sequences {
+            return Ok(());
+        }
         self.table.custom_styling();
         self.has_own_indicator = once_in(rng, 2);
-        if self.has_own_indicator {
-            self.table.try_set_truncation_indicator(indicator(rng))?;
+        if !self.has_own_indicator {
+            return Ok(());
         }
-        Ok(())
+        self.table.try_set_truncation_indicator(indicator(rng))
     }
 }
 
-fn add_rows(alloc: Global, rng: &mut Pcg32, table: &mut Table, kind: Kind) -> Result<()> {
-    if !once_in(rng, 3) {
-        table.try_set_header(row(alloc, rng, kind)?)?;
-    }
-    for _ in 0..rng.random_range(0u32..6) {
-        table.try_add_row(row(alloc, rng, kind)?)?;
-    }
-    Ok(())
+// how many characters are seen of a text
+fn count_seen(alloc: Global, text: &str) -> Result<usize> {
+    let scan = Scan::of(alloc, text)?;
+    Ok(scan.count)
 }
 
-fn set_arrangement(rng: &mut Pcg32, table: &mut Table) {
-    if let Some(arrangement) = ARRANGEMENTS.choose(rng) {
-        table.set_content_arrangement(*arrangement);
-    }
-    if let Some(width) = WIDTHS.choose(rng) {
-        table.set_width(*width);
-    }
-}
-
-fn row(alloc: Global, rng: &mut Pcg32, kind: Kind) -> Result<Row> {
-    let mut row = Row::new(alloc);
-    add_cells(alloc, rng, &mut row, kind)?;
-    if once_in(rng, if kind.has_sequences { 2 } else { 6 }) {
-        row.max_height(rng.random_range(0usize..4));
-    }
-    Ok(row)
-}
-
-fn add_cells(alloc: Global, rng: &mut Pcg32, row: &mut Row, kind: Kind) -> Result<()> {
-    for _ in 0..rng.random_range(0u32..5) {
-        row.try_add_cell(cell(alloc, rng, kind)?)?;
-    }
-    Ok(())
-}
-
-fn cell(alloc: Global, rng: &mut Pcg32, kind: Kind) -> Result<Cell> {
-    let mut cell = Cell::new_owned(alloc, text(alloc, rng, kind)?)?;
+fn with_settings(rng: &mut Pcg32, cell: Cell, kind: Kind) -> Cell {
+    let mut cell = cell;
     if once_in(rng, 6) {
         cell = cell.set_delimiter(delimiter(rng, kind));
     }
-    if let Some(alignment) = ALIGNMENTS.choose(rng) {
-        cell = cell.set_alignment(*alignment);
-    }
-    Ok(cell)
-}
-
-// most columns stay as they are, and in three tables of four none has a constraint but that it is hidden
-fn set_columns(rng: &mut Pcg32, table: &mut Table, kind: Kind) {
-    let is_free = !once_in(rng, 4);
-    for column in table.column_iter_mut() {
-        set_column(rng, column, kind, is_free);
-    }
+    cell.set_alignment(one_of(rng, &ALIGNMENTS, CellAlignment::Left))
 }
 
 fn set_column(rng: &mut Pcg32, column: &mut Column, kind: Kind, is_free: bool) {
-    if let Some(padding) = PADDINGS.choose(rng) {
-        column.set_padding(*padding);
-    }
+    column.set_padding(one_of(rng, &PADDINGS, (1, 1)));
     if once_in(rng, 5) {
         column.set_delimiter(delimiter(rng, kind));
     }
     if once_in(rng, 5) {
-        constrain(rng, column, is_free);
+        column.set_constraint(constraint(rng, is_free));
     }
 }
 
-fn constrain(rng: &mut Pcg32, column: &mut Column, is_free: bool) {
-    let constraint = if is_free {
-        CONSTRAINTS.first()
+fn constraint(rng: &mut Pcg32, is_free: bool) -> ColumnConstraint {
+    if is_free {
+        ColumnConstraint::Hidden
     } else {
-        CONSTRAINTS.choose(rng)
-    };
-    if let Some(constraint) = constraint {
-        column.set_constraint(*constraint);
+        one_of(rng, &CONSTRAINTS, ColumnConstraint::Hidden)
     }
 }
 
 // the first two columns in each other's place, with labels that say nothing
 fn exchange_columns(table: &mut Table) {
-    let Some(first) = table.column_mut(0) else {
-        return;
-    };
-    let first = mem::replace(first, Column::new(7));
-    let Some(second) = table.column_mut(1) else {
-        return;
-    };
-    let second = mem::replace(second, first);
-    if let Some(first) = table.column_mut(0) {
-        *first = second;
+    let mut columns = table.column_iter_mut();
+    if let Some(first) = columns.next()
+        && let Some(second) = columns.next()
+    {
+        mem::swap(first, second);
     }
     for column in table.column_iter_mut() {
         column.index = 7;
     }
-}
-
-// a cell in the last row that no column knows, or that a column of the other rows knows
-fn add_late_cell(alloc: Global, rng: &mut Pcg32, table: &mut Table, kind: Kind) -> Result<()> {
-    let cell = cell(alloc, rng, kind)?;
-    let last = table.row_count().saturating_sub(1);
-    if let Some(row) = table.row_mut(last) {
-        row.try_add_cell(cell)?;
-    }
-    Ok(())
 }

@@ -9,8 +9,9 @@ pub const INDICATOR: char = '…';
 /// What was read of one text or of several.
 #[derive(Drop)]
 pub struct Scan {
-    /// Whether sequences are read as such, and not as characters.
-    pub knows_sequences: bool,
+    // whether sequences are read as such, and not as characters
+    knows_sequences: bool,
+    delimiter: char,
     // the parameters of the sequences that are open
     open: String,
     /// The characters but for spaces, line feeds, delimiters and the indicator of a cut, each after the sequences that are
@@ -27,6 +28,7 @@ impl Scan {
     pub fn new(alloc: Global, knows_sequences: bool) -> Scan {
         Scan {
             knows_sequences,
+            delimiter: ' ',
             open: String::new(alloc),
             found: String::new(alloc),
             seen: String::new(alloc),
@@ -34,39 +36,27 @@ impl Scan {
         }
     }
 
-    /// What is read of one text.
-    pub fn of(alloc: Global, text: &str, knows_sequences: bool) -> Result<Scan> {
-        let mut scan = Scan::new(alloc, knows_sequences);
-        scan.read(text, ' ')?;
+    /// What is read of one text where sequences are known.
+    pub fn of(alloc: Global, text: &str) -> Result<Scan> {
+        let mut scan = Scan::new(alloc, true);
+        scan.read(text)?;
         Ok(scan)
     }
 
-    /// Reads a text with this delimiter.
-    pub fn read(&mut self, text: &str, delimiter: char) -> Result<()> {
+    /// Forgets all that was read, and begins with this delimiter.
+    pub fn begin(&mut self, delimiter: char) {
+        self.delimiter = delimiter;
+        self.open.clear();
+        self.found.clear();
+        self.seen.clear();
+        self.count = 0;
+    }
+
+    /// Reads a text.
+    pub fn read(&mut self, text: &str) -> Result<()> {
         let mut rest = text;
         for _ in 0..text.len() {
-            if self.knows_sequences
-                && let Some((parameters, behind)) = sequence_of(rest)
-            {
-                self.open_or_close(parameters)?;
-                rest = behind;
-                continue;
-            }
-            let mut characters = rest.chars();
-            let Some(character) = characters.next() else {
-                break;
-            };
-            rest = characters.as_str();
-            self.count = self.count.saturating_add(1);
-            self.seen.push(character)?;
-            let is_kept = character != ' '
-                && character != '\n'
-                && character != delimiter
-                && character != INDICATOR;
-            if is_kept {
-                self.found.push_str(self.open.as_str())?;
-                self.found.push(character)?;
-            }
+            rest = self.read_front(rest)?;
         }
         Ok(())
     }
@@ -81,15 +71,37 @@ impl Scan {
         self.open.clear();
     }
 
+    // reads the sequence or the character at a text's front, if there is one, and returns what is after it
+    fn read_front<'a>(&mut self, text: &'a str) -> Result<&'a str> {
+        if self.knows_sequences
+            && let Some((parameters, behind)) = sequence_of(text)
+        {
+            self.open_or_close(parameters)?;
+            return Ok(behind);
+        }
+        let mut characters = text.chars();
+        if let Some(character) = characters.next() {
+            self.see(character)?;
+        }
+        Ok(characters.as_str())
+    }
+
+    fn see(&mut self, character: char) -> Result<()> {
+        self.count = self.count.saturating_add(1);
+        self.seen.push(character)?;
+        if character == self.delimiter || matches!(character, ' ' | '\n' | INDICATOR) {
+            return Ok(());
+        }
+        self.found.push_str(self.open.as_str())?;
+        Ok(self.found.push(character)?)
+    }
+
     fn open_or_close(&mut self, parameters: &str) -> Result<()> {
         if parameters == "0" {
             self.open.clear();
-        } else {
-            self.open.push('<')?;
-            self.open.push_str(parameters)?;
-            self.open.push('>')?;
+            return Ok(());
         }
-        Ok(())
+        Ok(self.open.extend(["<", parameters, ">"])?)
     }
 }
 
@@ -99,9 +111,5 @@ fn sequence_of<'a>(text: &'a str) -> Option<(&'a str, &'a str)> {
     let is_sequence = parameters
         .bytes()
         .all(|byte| matches!(byte, b'0'..=b'9' | b';' | b':'));
-    if is_sequence {
-        Some((parameters, behind))
-    } else {
-        None
-    }
+    is_sequence.then_some((parameters, behind))
 }

@@ -1,9 +1,8 @@
 //! Words of many scripts that random texts are made of.
 
-use crate::texts::once_in;
+use crate::texts::{once_in, one_of};
 use comfy_table::Result;
 use rand::RngExt;
-use rand::seq::IndexedRandom;
 use rand_pcg::Pcg32;
 use std::alloc::Global;
 
@@ -87,24 +86,27 @@ pub struct Words {
 pub fn text(alloc: Global, rng: &mut Pcg32, words: Words) -> Result<String> {
     let mut text = String::new(alloc);
     for _ in 0..rng.random_range(0u32..8) {
-        text.push_str(word(rng, words))?;
-        if words.have_sequences && once_in(rng, 3) {
-            text.push_str(SEQUENCES.choose(rng).copied().unwrap_or(""))?;
-        }
-        text.push_str(between(rng, words))?;
+        text.extend([word(rng, words), sequence(rng, words), between(rng, words)])?;
     }
     Ok(text)
 }
 
 fn word(rng: &mut Pcg32, words: Words) -> &'static str {
-    let pieces = if words.are_wild && once_in(rng, 3) {
-        WILD.as_slice()
+    if words.are_wild && once_in(rng, 3) {
+        one_of(rng, &WILD, "")
     } else if words.are_joined && once_in(rng, 3) {
-        JOINED.as_slice()
+        one_of(rng, &JOINED, "")
     } else {
-        WORDS.as_slice()
-    };
-    pieces.choose(rng).copied().unwrap_or("")
+        one_of(rng, &WORDS, "")
+    }
+}
+
+fn sequence(rng: &mut Pcg32, words: Words) -> &'static str {
+    if words.have_sequences && once_in(rng, 3) {
+        one_of(rng, &SEQUENCES, "")
+    } else {
+        ""
+    }
 }
 
 fn between(rng: &mut Pcg32, words: Words) -> &'static str {

@@ -1,8 +1,8 @@
 //! Random tables whose edges have to be straight in terminal columns, whatever their script.
 
-use crate::check::{are_alike, keeps_to_width};
+use crate::check::keeps_to_width;
 use crate::scripts::{Words, text};
-use crate::texts::once_in;
+use crate::texts::{once_in, one_of};
 use comfy_table::presets::{
     ASCII_BORDERS_ONLY, ASCII_BORDERS_ONLY_CONDENSED, ASCII_FULL, ASCII_FULL_CONDENSED,
     ASCII_HORIZONTAL_ONLY, ASCII_MARKDOWN, ASCII_NO_BORDERS, NOTHING, UTF8_BORDERS_ONLY, UTF8_FULL,
@@ -11,11 +11,10 @@ use comfy_table::presets::{
 use comfy_table::utils::arrangement::arrange_content;
 use comfy_table::utils::formatting::content_split::{measure_text_width, visible_text};
 use comfy_table::{
-    Cell, CellAlignment, Color, Column, ColumnConstraint, ContentArrangement, Lines, Result, Row,
-    Table, TableStyle, Width,
+    Cell, CellAlignment, Color, Column, ColumnConstraint, ContentArrangement, Result, Row, Table,
+    TableStyle, Width,
 };
 use rand::RngExt;
-use rand::seq::IndexedRandom;
 use rand_pcg::Pcg32;
 use std::alloc::Global;
 
@@ -63,80 +62,82 @@ const CONSTRAINTS: [ColumnConstraint; 4] = [
 /// words fit their columns or consist of characters that join no other.
 pub fn fault_of(alloc: Global, rng: &mut Pcg32) -> Result<Option<&'static str>> {
     let is_shown_whole = once_in(rng, 2);
-    let table = random_table(alloc, rng, is_shown_whole)?;
-    if !is_shown_whole && has_narrow_column(&table)? {
-        return Ok(None);
-    }
-    fault_of_table(alloc, &table)
+    let mut table = Table::new(alloc);
+    fill(alloc, rng, &mut table, is_shown_whole)?;
+    fault_of_table(alloc, &table, is_shown_whole)
 }
 
-fn fault_of_table(alloc: Global, table: &Table) -> Result<Option<&'static str>> {
-    let widths = seen_widths(alloc, table.lines()?)?;
-    Ok(fault_of_widths(table, widths.as_slice()))
+fn fault_of_table(
+    alloc: Global,
+    table: &Table,
+    is_shown_whole: bool,
+) -> Result<Option<&'static str>> {
+    if is_shown_whole || !has_narrow_column(table)? {
+        fault_of_lines(alloc, table)
+    } else {
+        Ok(None)
+    }
 }
 
-fn fault_of_widths(table: &Table, widths: &[usize]) -> Option<&'static str> {
-    if !are_alike(widths) {
-        return Some("lines are unlike in width");
+fn fault_of_lines(alloc: Global, table: &Table) -> Result<Option<&'static str>> {
+    let mut first = None;
+    let mut are_alike = true;
+    for line in table.lines()? {
+        let width = seen_width(alloc, line.as_str())?;
+        are_alike &= *first.get_or_insert(width) == width;
     }
-    match widths.first() {
-        Some(width) if !keeps_to_width(table, *width) => {
+    Ok(fault_of_widths(table, first, are_alike))
+}
+
+fn fault_of_widths(table: &Table, first: Option<usize>, are_alike: bool) -> Option<&'static str> {
+    match first {
+        _ if !are_alike => Some("lines are unlike in width"),
+        Some(width) if !keeps_to_width(table, width) => {
             Some("the width doesn't hold in terminal columns")
         }
         _ => None,
     }
 }
 
-// the terminal columns that are seen of each line
-fn seen_widths(alloc: Global, lines: Lines) -> Result<Vec<usize>> {
-    let mut widths = Vec::new(alloc);
-    for line in lines {
-        let seen = visible_text(alloc, line.as_str())?;
-        widths.push(measure_text_width(seen.as_str()))?;
-    }
-    Ok(widths)
+// the terminal columns that are seen of a line
+fn seen_width(alloc: Global, line: &str) -> Result<usize> {
+    let seen = visible_text(alloc, line)?;
+    Ok(measure_text_width(seen.as_str()))
 }
 
 // whether a visible column is too narrow for a wide character
 fn has_narrow_column(table: &Table) -> Result<bool> {
-    let infos = arrange_content(table)?;
-    Ok(
-        infos
-            .iter()
-            .any(|info| info.content_width < 2 && !info.is_hidden()),
-    )
-}
-
-fn random_table(alloc: Global, rng: &mut Pcg32, is_shown_whole: bool) -> Result<Table> {
-    let mut table = Table::new(alloc);
-    fill(alloc, rng, &mut table, is_shown_whole)?;
-    Ok(table)
+    let mut is_narrow = false;
+    for info in &arrange_content(table)? {
+        is_narrow |= info.content_width < 2 && !info.is_hidden();
+    }
+    Ok(is_narrow)
 }
 
 fn fill(alloc: Global, rng: &mut Pcg32, table: &mut Table, is_shown_whole: bool) -> Result<()> {
-    let has_sequences = once_in(rng, 3);
-    let is_cut = !is_shown_whole && once_in(rng, 3);
-    let words = Words {
-        are_joined: !is_cut,
-        are_wild: is_shown_whole,
-        have_sequences: has_sequences,
-    };
+    let words = words(rng, is_shown_whole);
     table.load_style(style(rng));
-    table.try_set_header(row(alloc, rng, words)?)?;
+    table.try_set_header(row(alloc, rng, words, false)?)?;
     for _ in 0..rng.random_range(0u32..4) {
-        let mut row = row(alloc, rng, words)?;
-        if is_cut {
-            row.max_height(rng.random_range(1usize..4));
-        }
-        table.try_add_row(row)?;
+        table.try_add_row(row(alloc, rng, words, !words.are_joined)?)?;
     }
     set_columns(rng, table, is_shown_whole);
-    set_settings(rng, table, is_shown_whole, has_sequences);
+    set_settings(rng, table, is_shown_whole, words.have_sequences);
     Ok(())
 }
 
+// characters that join others are in no table whose rows are cut
+fn words(rng: &mut Pcg32, is_shown_whole: bool) -> Words {
+    let have_sequences = once_in(rng, 3);
+    Words {
+        are_joined: is_shown_whole || !once_in(rng, 3),
+        are_wild: is_shown_whole,
+        have_sequences,
+    }
+}
+
 fn style(rng: &mut Pcg32) -> TableStyle {
-    let mut style = STYLES.choose(rng).copied().unwrap_or(UTF8_FULL);
+    let mut style = one_of(rng, &STYLES, UTF8_FULL);
     if once_in(rng, 3) {
         style = style.with_rounded_corners();
     }
@@ -146,9 +147,12 @@ fn style(rng: &mut Pcg32) -> TableStyle {
     style
 }
 
-fn row(alloc: Global, rng: &mut Pcg32, words: Words) -> Result<Row> {
+fn row(alloc: Global, rng: &mut Pcg32, words: Words, is_cut: bool) -> Result<Row> {
     let mut row = Row::new(alloc);
     add_cells(alloc, rng, &mut row, words)?;
+    if is_cut {
+        row.max_height(rng.random_range(1usize..4));
+    }
     Ok(row)
 }
 
@@ -160,49 +164,47 @@ fn add_cells(alloc: Global, rng: &mut Pcg32, row: &mut Row, words: Words) -> Res
 }
 
 fn cell(alloc: Global, rng: &mut Pcg32, words: Words) -> Result<Cell> {
-    let mut cell = Cell::new_owned(alloc, text(alloc, rng, words)?)?;
-    if let Some(alignment) = ALIGNMENTS.choose(rng) {
-        cell = cell.set_alignment(*alignment);
-    }
+    let cell = Cell::new_owned(alloc, text(alloc, rng, words)?)?;
+    Ok(with_looks(rng, cell))
+}
+
+fn with_looks(rng: &mut Pcg32, cell: Cell) -> Cell {
+    let cell = cell.set_alignment(one_of(rng, &ALIGNMENTS, CellAlignment::Left));
     if once_in(rng, 4) {
-        cell = cell.fg(Color::Green);
+        cell.fg(Color::Green)
+    } else {
+        cell
     }
-    Ok(cell)
 }
 
 fn set_columns(rng: &mut Pcg32, table: &mut Table, is_shown_whole: bool) {
-    let paddings = if table.style().draws_vertical_lines() {
-        PADDINGS.as_slice()
+    let padding = if table.style().draws_vertical_lines() {
+        one_of(rng, &PADDINGS, (1, 1))
     } else {
-        &PADDINGS[..3]
+        one_of(rng, &PADDINGS[..3], (1, 1))
     };
-    let padding = paddings.choose(rng).copied().unwrap_or((1, 1));
     for column in table.column_iter_mut() {
         column.set_padding(padding);
-        constrain(rng, column, is_shown_whole);
+        if once_in(rng, 5) {
+            column.set_constraint(constraint(rng, is_shown_whole));
+        }
     }
 }
 
 // where the table is as wide as its texts a column may only be hidden
-fn constrain(rng: &mut Pcg32, column: &mut Column, is_shown_whole: bool) {
+fn constraint(rng: &mut Pcg32, is_shown_whole: bool) -> ColumnConstraint {
     let constraints = if is_shown_whole {
         &CONSTRAINTS[..1]
     } else {
         CONSTRAINTS.as_slice()
     };
-    if once_in(rng, 5)
-        && let Some(constraint) = constraints.choose(rng)
-    {
-        column.set_constraint(*constraint);
-    }
+    one_of(rng, constraints, ColumnConstraint::Hidden)
 }
 
 fn set_settings(rng: &mut Pcg32, table: &mut Table, is_shown_whole: bool, has_sequences: bool) {
-    if let Some(arrangement) = ARRANGEMENTS.choose(rng) {
-        table.set_content_arrangement(*arrangement);
-    }
-    if !is_shown_whole && let Some(width) = WIDTHS.choose(rng) {
-        table.set_width(*width);
+    table.set_content_arrangement(one_of(rng, &ARRANGEMENTS, ContentArrangement::Disabled));
+    if !is_shown_whole {
+        table.set_width(one_of(rng, &WIDTHS, 200));
     }
     if once_in(rng, 2) {
         table.enforce_styling();

@@ -98,28 +98,34 @@ pub fn text(alloc: Global, rng: &mut Pcg32, kind: Kind) -> Result<String> {
 }
 
 fn piece(rng: &mut Pcg32, kind: Kind) -> &'static str {
-    let pieces = match (kind.has_sequences && once_in(rng, 3), kind.is_plain) {
-        (true, true) => &SEQUENCES[..WHOLE],
-        (true, false) => SEQUENCES.as_slice(),
-        (false, true) => &PIECES[..PLAIN],
-        (false, false) => PIECES.as_slice(),
-    };
-    pieces.choose(rng).copied().unwrap_or("")
+    if kind.has_sequences && once_in(rng, 3) {
+        one_of(rng, allowed(&SEQUENCES, WHOLE, kind), "")
+    } else {
+        one_of(rng, allowed(&PIECES, PLAIN, kind), "")
+    }
 }
 
 /// A delimiter.
 pub fn delimiter(rng: &mut Pcg32, kind: Kind) -> char {
-    let delimiters = if kind.is_plain {
-        &DELIMITERS[..PLAIN_DELIMITERS]
-    } else {
-        DELIMITERS.as_slice()
-    };
-    delimiters.choose(rng).copied().unwrap_or(' ')
+    one_of(rng, allowed(&DELIMITERS, PLAIN_DELIMITERS, kind), ' ')
+}
+
+// so many from the front, where texts have to be plain, or else all
+fn allowed<'a, T>(all: &'a [T], plain: usize, kind: Kind) -> &'a [T] {
+    match all.get(..plain) {
+        Some(front) if kind.is_plain => front,
+        _ => all,
+    }
 }
 
 /// An indicator of cut lines other than that of a new table.
 pub fn indicator(rng: &mut Pcg32) -> &'static str {
-    INDICATORS.choose(rng).copied().unwrap_or("")
+    one_of(rng, &INDICATORS, "")
+}
+
+/// One of these values, or another where there is none.
+pub fn one_of<T: Copy>(rng: &mut Pcg32, values: &[T], otherwise: T) -> T {
+    values.choose(rng).copied().unwrap_or(otherwise)
 }
 
 /// Yes once in so many times, and never for 0.

@@ -1,12 +1,58 @@
 //! A case's table, built line by line through the public surface. A call that is new gets its words here.
 
 use crate::fault::{Fault, Result};
-use crate::settings::{arrangement, set_on_column, terminal, with_setting};
+use crate::settings::{arrangement, cell_setting, set_on_column, terminal, with_setting};
 use crate::styles::{read_style, set_part};
-use crate::text::{character, first_or_empty, no_words, number, only_word, text, width};
+use crate::text::{character, first_or_empty, named, no_words, number, only_word, text, width};
 use comfy_table::utils::arrangement::arrange_content;
 use comfy_table::{Cell, Row, Table};
 use std::alloc::Global;
+
+// what a line asks for, by its first word
+#[derive(Clone, Copy)]
+enum Request {
+    Cell,
+    Height,
+    Header,
+    Row,
+    Style,
+    Part,
+    Column,
+    Late,
+    Indicator,
+    Width,
+    Delimiter,
+    Arrangement,
+    Discover,
+    CustomStyling,
+    Terminal,
+    NoTty,
+    Stderr,
+    Enforce,
+    TextOnly,
+}
+
+const REQUESTS: [(&str, Request); 19] = [
+    ("cell", Request::Cell),
+    ("height", Request::Height),
+    ("header", Request::Header),
+    ("row", Request::Row),
+    ("style", Request::Style),
+    ("part", Request::Part),
+    ("column", Request::Column),
+    ("late", Request::Late),
+    ("indicator", Request::Indicator),
+    ("width", Request::Width),
+    ("delimiter", Request::Delimiter),
+    ("arrangement", Request::Arrangement),
+    ("discover", Request::Discover),
+    ("custom_styling", Request::CustomStyling),
+    ("terminal", Request::Terminal),
+    ("no_tty", Request::NoTty),
+    ("stderr", Request::Stderr),
+    ("enforce", Request::Enforce),
+    ("text_only", Request::TextOnly),
+];
 
 /// A table, and the row that was begun last.
 #[derive(Drop)]
@@ -35,92 +81,92 @@ impl Builder {
 
     /// Does what a line asks for by its first word and the words after it.
     pub fn apply(&mut self, first: &str, words: &[&str]) -> Result<()> {
-        match first {
-            "cell" => self.add_cell(words),
-            "height" => self.limit_height(only_word(words)?),
-            _ => {
+        match named(&REQUESTS, first, "a line isn't known")? {
+            Request::Cell => self.add_cell(words),
+            Request::Height => self.limit_height(only_word(words)?),
+            request => {
                 self.finish_row()?;
-                self.set(first, words)
+                self.set(request, words)
             }
         }
     }
 
-    /// What the table gives of one kind, as the lines of an expectation.
-    pub fn lines_of(&mut self, kind: &str) -> Result<Vec<String>> {
+    /// Adds what the table gives of one kind, as the lines of an expectation.
+    pub fn draw(&mut self, kind: &str, lines: &mut Vec<String>) -> Result<()> {
         self.finish_row()?;
         match kind {
-            "lines" => self.lines(),
-            "trim" => self.trimmed(),
-            "max_widths" => one_line(
-                self.alloc,
-                self.table.column_max_content_widths()?.as_slice(),
-            ),
-            "widths" => self.widths(),
-            _ => Err(Fault::NotRead("an expectation isn't known")),
+            "lines" => self.draw_lines(lines),
+            "trim" => self.draw_trimmed(lines),
+            _ => self.draw_numbers(kind, lines),
         }
     }
 
-    // the words that begin a row, or change the table, its style or its columns
-    fn set(&mut self, first: &str, words: &[&str]) -> Result<()> {
-        match first {
-            "header" => self.begin(words, true),
-            "row" => self.begin(words, false),
-            "style" => {
-                self.table.load_style(read_style(words)?);
-                Ok(())
+    // begins a row, or changes the table, its style or its columns
+    fn set(&mut self, request: Request, words: &[&str]) -> Result<()> {
+        match request {
+            Request::Header => self.begin(words, true),
+            Request::Row => self.begin(words, false),
+            Request::Style => self.load_style(words),
+            Request::Part => set_part(self.alloc, self.table.style_mut(), words),
+            Request::Column => self.set_column(words),
+            Request::Late => self.add_late_cell(words),
+            Request::Indicator => self.set_indicator(first_or_empty(words)),
+            Request::Discover => Ok(self.table.discover_columns()?),
+            Request::Terminal => self.set_terminal(words),
+            Request::Width | Request::Delimiter | Request::Arrangement => {
+                self.set_one(request, only_word(words)?)
             }
-            "part" => set_part(self.alloc, self.table.style_mut(), words),
-            "column" => self.set_column(words),
-            "late" => self.add_late_cell(words),
-            "indicator" => self.set_indicator(first_or_empty(words)),
-            _ => self.set_one(first, words),
+            _ => self.switch_on(request, words),
         }
     }
 
-    // the words that have one word or none after them
-    fn set_one(&mut self, first: &str, words: &[&str]) -> Result<()> {
-        match first {
-            "width" => {
-                self.table.set_width(width(only_word(words)?)?);
-                Ok(())
+    // what has one word after it
+    fn set_one(&mut self, request: Request, word: &str) -> Result<()> {
+        match request {
+            Request::Width => {
+                self.table.set_width(width(word)?);
             }
-            "delimiter" => {
-                let delimiter = character(self.alloc, only_word(words)?)?;
-                self.table.set_delimiter(delimiter);
-                Ok(())
+            Request::Delimiter => {
+                self.table.set_delimiter(character(self.alloc, word)?);
             }
-            "arrangement" => {
-                let chosen = arrangement(only_word(words)?)?;
-                self.table.set_content_arrangement(chosen);
-                Ok(())
+            _ => {
+                self.table.set_content_arrangement(arrangement(word)?);
             }
-            "discover" => Ok(self.table.discover_columns()?),
-            "custom_styling" => {
+        }
+        Ok(())
+    }
+
+    fn set_terminal(&mut self, words: &[&str]) -> Result<()> {
+        let [stdout, stderr, width] = words else {
+            return Err(Fault::NotRead("a line isn't known"));
+        };
+        self.table.set_terminal(terminal(stdout, stderr, width)?);
+        Ok(())
+    }
+
+    // the switches on terminals and styling
+    fn switch_on(&mut self, request: Request, words: &[&str]) -> Result<()> {
+        match request {
+            Request::CustomStyling => {
                 self.table.custom_styling();
-                Ok(())
             }
-            _ => self.set_terminal_facts(first, words),
-        }
-    }
-
-    // the words on the terminal and on what is written to one
-    fn set_terminal_facts(&mut self, first: &str, words: &[&str]) -> Result<()> {
-        match (first, words) {
-            ("terminal", [stdout, stderr, width]) => {
-                self.table.set_terminal(terminal(stdout, stderr, width)?);
-            }
-            ("no_tty", []) => {
+            _ if !words.is_empty() => return Err(Fault::NotRead("a line isn't known")),
+            Request::NoTty => {
                 self.table.force_no_tty();
             }
-            ("stderr", []) => {
+            Request::Stderr => {
                 self.table.use_stderr();
             }
-            ("enforce", []) => {
+            Request::Enforce => {
                 self.table.enforce_styling();
             }
-            ("text_only", []) => self.table.style_text_only(),
-            _ => return Err(Fault::NotRead("a line isn't known")),
+            _ => self.table.style_text_only(),
         }
+        Ok(())
+    }
+
+    fn load_style(&mut self, words: &[&str]) -> Result<()> {
+        self.table.load_style(read_style(words)?);
         Ok(())
     }
 
@@ -145,15 +191,12 @@ impl Builder {
 
     // adds a cell to the last row where it lies in the table
     fn add_late_cell(&mut self, words: &[&str]) -> Result<()> {
-        let cell = cell_of(self.alloc, words)?;
         let last = self.table.row_count().saturating_sub(1);
-        match self.table.row_mut(last) {
-            Some(row) => {
-                row.add_cell(cell)?;
-                Ok(())
-            }
-            None => Err(Fault::NotRead("a late cell has no row")),
-        }
+        let Some(row) = self.table.row_mut(last) else {
+            return Err(Fault::NotRead("a late cell has no row"));
+        };
+        row.add_cell(cell_of(self.alloc, words)?)?;
+        Ok(())
     }
 
     // gives the row begun last to the table
@@ -178,14 +221,11 @@ impl Builder {
     }
 
     fn add_cell(&mut self, words: &[&str]) -> Result<()> {
-        let cell = cell_of(self.alloc, words)?;
-        match &mut self.begun {
-            Some(begun) => {
-                begun.row.add_cell(cell)?;
-                Ok(())
-            }
-            None => Err(Fault::NotRead("a cell stands in no row")),
-        }
+        let Some(begun) = &mut self.begun else {
+            return Err(Fault::NotRead("a cell stands in no row"));
+        };
+        begun.row.add_cell(cell_of(self.alloc, words)?)?;
+        Ok(())
     }
 
     fn limit_height(&mut self, word: &str) -> Result<()> {
@@ -199,52 +239,60 @@ impl Builder {
         }
     }
 
-    fn lines(&self) -> Result<Vec<String>> {
-        let mut lines = Vec::new(self.alloc);
+    fn draw_lines(&self, lines: &mut Vec<String>) -> Result<()> {
         for line in self.table.lines()? {
             lines.push(line)?;
         }
-        Ok(lines)
+        Ok(())
     }
 
-    fn widths(&self) -> Result<Vec<String>> {
-        let infos = arrange_content(&self.table)?;
-        let mut widths = Vec::new(self.alloc);
-        for info in &infos {
-            widths.push(info.content_width)?;
-        }
-        one_line(self.alloc, widths.as_slice())
-    }
-
-    fn trimmed(&self) -> Result<Vec<String>> {
+    fn draw_trimmed(&self, lines: &mut Vec<String>) -> Result<()> {
         let text = self.table.trim_fmt()?;
-        let mut lines = Vec::new(self.alloc);
         for line in text.as_str().split('\n') {
             lines.push(String::from_str(self.alloc, line)?)?;
         }
-        Ok(lines)
+        Ok(())
+    }
+
+    // numbers with a space between, as one line
+    fn draw_numbers(&self, kind: &str, lines: &mut Vec<String>) -> Result<()> {
+        let mut line = String::new(self.alloc);
+        match kind {
+            "max_widths" => write_max_widths(&self.table, &mut line)?,
+            "widths" => write_widths(&self.table, &mut line)?,
+            _ => return Err(Fault::NotRead("an expectation isn't known")),
+        }
+        Ok(lines.push(line)?)
     }
 }
 
-// numbers with a space between, as one line
-fn one_line(alloc: Global, numbers: &[u16]) -> Result<Vec<String>> {
-    let mut line = String::new(alloc);
-    for number in numbers {
-        if !line.is_empty() {
-            line.push(' ')?;
-        }
-        write!(line, "{number}")?;
+fn write_max_widths(table: &Table, line: &mut String) -> Result<()> {
+    for width in &table.column_max_content_widths()? {
+        write_number(line, *width)?;
     }
-    let mut lines = Vec::new(alloc);
-    lines.push(line)?;
-    Ok(lines)
+    Ok(())
+}
+
+fn write_widths(table: &Table, line: &mut String) -> Result<()> {
+    for info in &arrange_content(table)? {
+        write_number(line, info.content_width)?;
+    }
+    Ok(())
+}
+
+fn write_number(line: &mut String, number: u16) -> Result<()> {
+    if !line.is_empty() {
+        line.push(' ')?;
+    }
+    Ok(write!(line, "{number}")?)
 }
 
 // the cell of a text, with its settings in their order
 fn cell_of(alloc: Global, words: &[&str]) -> Result<Cell> {
-    let mut cell = Cell::new_owned(alloc, text(alloc, first_or_empty(words))?)?;
+    let text = text(alloc, first_or_empty(words))?;
+    let mut cell = Cell::new_owned(alloc, text)?;
     for setting in words.iter().skip(1) {
-        cell = with_setting(alloc, cell, setting)?;
+        cell = with_setting(cell, cell_setting(alloc, setting)?)?;
     }
     Ok(cell)
 }

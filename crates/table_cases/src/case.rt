@@ -4,17 +4,18 @@ use crate::builder::Builder;
 use crate::fault::{Fault, Result};
 use crate::text::{only_word, text};
 use std::alloc::Global;
-use std::mem;
 
-/// A case that is being read.
+/// A case that is being read, or has ended.
 #[derive(Drop)]
 pub struct Case {
     alloc: Global,
-    name: String,
+    pub name: String,
     builder: Builder,
-    expectations: Vec<Expectation>,
-    // the first line that can't be read, and why
-    unread: Option<Unread>,
+    pub expectations: Vec<Expectation>,
+    /// The first line that can't be read, and why.
+    pub unread: Option<Unread>,
+    /// Whether an expectation isn't met; known once the case has ended.
+    pub differs: bool,
 }
 
 /// A line that can't be read, counted from 1, and why.
@@ -24,138 +25,123 @@ pub struct Unread {
     pub reason: &'static str,
 }
 
-/// The lines that the table has to give for one kind, and the line that asks for them, counted from 1.
+/// The lines that the table has to give for one kind, those that it gives once the case has ended, and the line that
+/// asks for them, counted from 1.
 #[derive(Drop)]
 pub struct Expectation {
     pub line: u64,
     pub kind: String,
     pub wanted: Vec<String>,
-}
-
-/// An expectation, and the lines that came in place of the wanted ones.
-#[derive(Drop)]
-pub struct Difference {
-    pub expectation: Expectation,
     pub drawn: Vec<String>,
 }
 
-/// A case's name, and what became of it.
-#[derive(Drop)]
-pub struct Judged {
-    pub name: String,
-    pub outcome: Outcome,
-}
-
-/// What became of a case.
-#[derive(Drop)]
-pub enum Outcome {
-    Passed,
-    Differs(Vec<Difference>),
-    NotRead(Unread),
+impl Expectation {
+    /// Whether the table gives other lines than the wanted ones.
+    pub fn differs(&self) -> bool {
+        self.drawn.as_slice() != self.wanted.as_slice()
+    }
 }
 
 impl Case {
     /// A case of this name with nothing in it.
-    pub fn new(alloc: Global, name: String) -> Case {
-        Case {
+    pub fn new(alloc: Global, name: &str) -> Result<Case> {
+        let name = String::from_str(alloc, name)?;
+        Ok(Case {
             alloc,
             name,
             builder: Builder::new(alloc),
             expectations: Vec::new(alloc),
             unread: None,
-        }
+            differs: false,
+        })
     }
 
-    /// Keeps the first line that can't be read. Only running out of memory is returned as an error.
-    pub fn note(&mut self, line: u64, fault: Fault) -> Result<()> {
-        match fault {
-            Fault::OutOfMemory => Err(fault),
-            Fault::NotRead(reason) => {
-                if self.unread.is_none() {
-                    self.unread = Some(Unread { line, reason });
-                }
-                Ok(())
-            }
-        }
+    /// Keeps the first line that can't be read.
+    pub fn refuse(&mut self, line: u64, reason: &'static str) {
+        self.unread.get_or_insert(Unread { line, reason });
     }
 
-    /// Does what a line asks for, unless an earlier line couldn't be read.
+    /// Does what a line asks for, unless an earlier line couldn't be read. Only running out of memory is returned as an
+    /// error.
     pub fn take(&mut self, number: u64, line: &str) -> Result<()> {
         if self.unread.is_some() {
             return Ok(());
         }
-        match self.apply(number, line) {
-            Ok(()) => Ok(()),
-            Err(fault) => self.note(number, fault),
-        }
+        let taken = self.apply(number, line);
+        self.note(number, taken)
     }
 
-    /// Compares what the table gives with what is wanted; `line` is that of the case's end.
-    pub fn judged(mut self, line: u64) -> Result<Judged> {
+    /// Draws what is wanted; `line` is that of the case's end.
+    pub fn end(&mut self, line: u64) -> Result<()> {
         if self.expectations.is_empty() {
-            self.note(line, Fault::NotRead("nothing is wanted"))?;
+            self.refuse(line, "nothing is wanted");
         }
-        let differences = self.differences()?;
-        let outcome = match self.unread {
-            Some(unread) => Outcome::NotRead(unread),
-            None if differences.is_empty() => Outcome::Passed,
-            None => Outcome::Differs(differences),
+        for position in 0..self.expectations.len() {
+            self.meet(position)?;
+        }
+        Ok(())
+    }
+
+    // draws what is wanted at a position; an expectation that can't be tried is noted
+    fn meet(&mut self, position: usize) -> Result<()> {
+        let Some(expectation) = self.expectations.get_mut(position) else {
+            return Ok(());
         };
-        Ok(Judged {
-            name: self.name,
-            outcome,
-        })
+        let drawn = self
+            .builder
+            .draw(expectation.kind.as_str(), &mut expectation.drawn);
+        let line = expectation.line;
+        self.differs |= expectation.differs();
+        self.note(line, drawn)
+    }
+
+    // keeps why a line can't be read; only running out of memory is returned as an error
+    fn note(&mut self, line: u64, done: Result<()>) -> Result<()> {
+        match done {
+            Err(Fault::NotRead(reason)) => {
+                self.refuse(line, reason);
+                Ok(())
+            }
+            done => done,
+        }
     }
 
     fn apply(&mut self, number: u64, line: &str) -> Result<()> {
-        if let Some(wanted) = line.strip_prefix("=") {
+        if let Some(wanted) = line.strip_prefix('=') {
             return self.want(wanted);
         }
-        let mut words: Vec<&str> = Vec::new(self.alloc);
-        for word in line.split('\t') {
-            words.push(word)?;
-        }
+        let words = words_of(self.alloc, line)?;
         match words.as_slice().split_first() {
-            Some((first, others)) if *first == "expect" => self.expect(number, only_word(others)?),
+            Some((first, others)) if *first == "expect" => self.expect(number, others),
             Some((first, others)) => self.builder.apply(first, others),
             None => Ok(()),
         }
     }
 
-    fn expect(&mut self, line: u64, kind: &str) -> Result<()> {
-        self.expectations.push(Expectation {
+    fn expect(&mut self, line: u64, words: &[&str]) -> Result<()> {
+        let kind = String::from_str(self.alloc, only_word(words)?)?;
+        let expectation = Expectation {
             line,
-            kind: String::from_str(self.alloc, kind)?,
+            kind,
             wanted: Vec::new(self.alloc),
-        })?;
-        Ok(())
+            drawn: Vec::new(self.alloc),
+        };
+        Ok(self.expectations.push(expectation)?)
     }
 
     fn want(&mut self, word: &str) -> Result<()> {
         let text = text(self.alloc, word)?;
         match self.expectations.last_mut() {
-            Some(expectation) => {
-                expectation.wanted.push(text)?;
-                Ok(())
-            }
+            Some(expectation) => Ok(expectation.wanted.push(text)?),
             None => Err(Fault::NotRead("a line is wanted of nothing")),
         }
     }
+}
 
-    // the expectations that the table doesn't meet; one that can't be tried is noted
-    fn differences(&mut self) -> Result<Vec<Difference>> {
-        let mut differences = Vec::new(self.alloc);
-        let expectations = mem::replace(&mut self.expectations, Vec::new(self.alloc));
-        for expectation in expectations {
-            match self.builder.lines_of(expectation.kind.as_str()) {
-                Ok(drawn) => {
-                    if drawn.as_slice() != expectation.wanted.as_slice() {
-                        differences.push(Difference { expectation, drawn })?;
-                    }
-                }
-                Err(fault) => self.note(expectation.line, fault)?,
-            }
-        }
-        Ok(differences)
+fn words_of<'a>(alloc: Global, line: &'a str) -> Result<Vec<&'a str>> {
+    let mut words = Vec::new(alloc);
+    for word in line.split('\t') {
+        words.push(word)?;
     }
+    Ok(words)
 }

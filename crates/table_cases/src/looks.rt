@@ -1,22 +1,78 @@
 //! Colours and attributes by their names.
 
 use crate::fault::{Fault, Result};
+use crate::text::named;
 use comfy_table::{Attribute, Color};
+
+const COLORS: [(&str, Color); 17] = [
+    ("Reset", Color::Reset),
+    ("Black", Color::Black),
+    ("DarkGrey", Color::DarkGrey),
+    ("Red", Color::Red),
+    ("DarkRed", Color::DarkRed),
+    ("Green", Color::Green),
+    ("DarkGreen", Color::DarkGreen),
+    ("Yellow", Color::Yellow),
+    ("DarkYellow", Color::DarkYellow),
+    ("Blue", Color::Blue),
+    ("DarkBlue", Color::DarkBlue),
+    ("Magenta", Color::Magenta),
+    ("DarkMagenta", Color::DarkMagenta),
+    ("Cyan", Color::Cyan),
+    ("DarkCyan", Color::DarkCyan),
+    ("White", Color::White),
+    ("Grey", Color::Grey),
+];
+
+const ATTRIBUTES: [(&str, Attribute); 28] = [
+    ("Reset", Attribute::Reset),
+    ("Bold", Attribute::Bold),
+    ("Dim", Attribute::Dim),
+    ("Italic", Attribute::Italic),
+    ("Underlined", Attribute::Underlined),
+    ("DoubleUnderlined", Attribute::DoubleUnderlined),
+    ("Undercurled", Attribute::Undercurled),
+    ("Underdotted", Attribute::Underdotted),
+    ("Underdashed", Attribute::Underdashed),
+    ("SlowBlink", Attribute::SlowBlink),
+    ("RapidBlink", Attribute::RapidBlink),
+    ("Reverse", Attribute::Reverse),
+    ("Hidden", Attribute::Hidden),
+    ("CrossedOut", Attribute::CrossedOut),
+    ("Fraktur", Attribute::Fraktur),
+    ("NoBold", Attribute::NoBold),
+    ("NormalIntensity", Attribute::NormalIntensity),
+    ("NoItalic", Attribute::NoItalic),
+    ("NoUnderline", Attribute::NoUnderline),
+    ("NoBlink", Attribute::NoBlink),
+    ("NoReverse", Attribute::NoReverse),
+    ("NoHidden", Attribute::NoHidden),
+    ("NotCrossedOut", Attribute::NotCrossedOut),
+    ("Framed", Attribute::Framed),
+    ("Encircled", Attribute::Encircled),
+    ("OverLined", Attribute::OverLined),
+    ("NotFramedOrEncircled", Attribute::NotFramedOrEncircled),
+    ("NotOverLined", Attribute::NotOverLined),
+];
 
 /// A colour: one of the names, `Rgb:R,G,B` or `Ansi:N`.
 pub fn color(word: &str) -> Result<Color> {
     match word.split_once(':') {
         Some(("Rgb", parts)) => rgb(parts),
-        Some(("Ansi", number)) => Ok(Color::AnsiValue(byte(number)?)),
+        Some(("Ansi", number)) => byte(number).map(Color::AnsiValue),
         Some(_) => Err(Fault::NotRead("a colour isn't known")),
-        None => named_color(word),
+        None => named(&COLORS, word, "a colour isn't known"),
     }
 }
 
 fn rgb(word: &str) -> Result<Color> {
-    let not_three = Fault::NotRead("a colour has three parts");
-    let (red, rest) = word.split_once(',').ok_or(not_three)?;
-    let (green, blue) = rest.split_once(',').ok_or(not_three)?;
+    let not_three = Err(Fault::NotRead("a colour has three parts"));
+    let Some((red, rest)) = word.split_once(',') else {
+        return not_three;
+    };
+    let Some((green, blue)) = rest.split_once(',') else {
+        return not_three;
+    };
     Ok(Color::Rgb {
         r: byte(red)?,
         g: byte(green)?,
@@ -31,70 +87,7 @@ fn byte(word: &str) -> Result<u8> {
     }
 }
 
-fn named_color(word: &str) -> Result<Color> {
-    let color = match word {
-        "Reset" => Color::Reset,
-        "Black" => Color::Black,
-        "DarkGrey" => Color::DarkGrey,
-        "Red" => Color::Red,
-        "DarkRed" => Color::DarkRed,
-        "Green" => Color::Green,
-        "DarkGreen" => Color::DarkGreen,
-        "Yellow" => Color::Yellow,
-        "DarkYellow" => Color::DarkYellow,
-        "Blue" => Color::Blue,
-        "DarkBlue" => Color::DarkBlue,
-        "Magenta" => Color::Magenta,
-        "DarkMagenta" => Color::DarkMagenta,
-        "Cyan" => Color::Cyan,
-        "DarkCyan" => Color::DarkCyan,
-        "White" => Color::White,
-        "Grey" => Color::Grey,
-        _ => return Err(Fault::NotRead("a colour isn't known")),
-    };
-    Ok(color)
-}
-
 /// An attribute by its name.
 pub fn attribute(word: &str) -> Result<Attribute> {
-    let attribute = match word {
-        "Reset" => Attribute::Reset,
-        "Bold" => Attribute::Bold,
-        "Dim" => Attribute::Dim,
-        "Italic" => Attribute::Italic,
-        "Underlined" => Attribute::Underlined,
-        "DoubleUnderlined" => Attribute::DoubleUnderlined,
-        "Undercurled" => Attribute::Undercurled,
-        "Underdotted" => Attribute::Underdotted,
-        "Underdashed" => Attribute::Underdashed,
-        "SlowBlink" => Attribute::SlowBlink,
-        "RapidBlink" => Attribute::RapidBlink,
-        "Reverse" => Attribute::Reverse,
-        "Hidden" => Attribute::Hidden,
-        "CrossedOut" => Attribute::CrossedOut,
-        _ => return ending(word),
-    };
-    Ok(attribute)
-}
-
-// an attribute of the second half of the enumeration
-fn ending(word: &str) -> Result<Attribute> {
-    let attribute = match word {
-        "Fraktur" => Attribute::Fraktur,
-        "NoBold" => Attribute::NoBold,
-        "NormalIntensity" => Attribute::NormalIntensity,
-        "NoItalic" => Attribute::NoItalic,
-        "NoUnderline" => Attribute::NoUnderline,
-        "NoBlink" => Attribute::NoBlink,
-        "NoReverse" => Attribute::NoReverse,
-        "NoHidden" => Attribute::NoHidden,
-        "NotCrossedOut" => Attribute::NotCrossedOut,
-        "Framed" => Attribute::Framed,
-        "Encircled" => Attribute::Encircled,
-        "OverLined" => Attribute::OverLined,
-        "NotFramedOrEncircled" => Attribute::NotFramedOrEncircled,
-        "NotOverLined" => Attribute::NotOverLined,
-        _ => return Err(Fault::NotRead("an attribute isn't known")),
-    };
-    Ok(attribute)
+    named(&ATTRIBUTES, word, "an attribute isn't known")
 }

@@ -17,21 +17,42 @@ use run::Run;
 use std::process::ExitCode;
 
 fn main(rt: HostRuntime) -> anyhow::Result<ExitCode> {
-    let alloc = rt.alloc();
-    let mut run = Run::new(alloc);
     let mut tally = Tally::default();
-    for line in rt.lines(alloc) {
-        if let Some(judged) = run.read(line?.as_str())? {
-            tally.count(&rt, judged)?;
-        }
-    }
-    if let Some(judged) = run.end_of_input()? {
-        tally.count(&rt, judged)?;
-    }
+    count_cases(&rt, &mut tally)?;
     tally.print(&rt)?;
     if tally.all_passed() {
         Ok(ExitCode::SUCCESS)
     } else {
         Ok(ExitCode::FAILURE)
+    }
+}
+
+fn count_cases(rt: &HostRuntime, tally: &mut Tally) -> anyhow::Result<()> {
+    let mut run = Run::new(rt.alloc());
+    read_cases(rt, tally, &mut run)
+}
+
+fn read_cases(rt: &HostRuntime, tally: &mut Tally, run: &mut Run) -> anyhow::Result<()> {
+    read_lines(rt, tally, run)?;
+    run.end_of_input()?;
+    count_ended(rt, tally, run)
+}
+
+fn read_lines(rt: &HostRuntime, tally: &mut Tally, run: &mut Run) -> anyhow::Result<()> {
+    for line in rt.lines(rt.alloc()) {
+        read_line(rt, tally, run, line?.as_str())?;
+    }
+    Ok(())
+}
+
+fn read_line(rt: &HostRuntime, tally: &mut Tally, run: &mut Run, line: &str) -> anyhow::Result<()> {
+    run.read(line)?;
+    count_ended(rt, tally, run)
+}
+
+fn count_ended(rt: &HostRuntime, tally: &mut Tally, run: &Run) -> anyhow::Result<()> {
+    match run.ended() {
+        Some(case) => Ok(tally.count(rt, case)?),
+        None => Ok(()),
     }
 }

@@ -1,6 +1,6 @@
 //! What is printed of the cases.
 
-use crate::case::{Difference, Judged, Outcome};
+use crate::case::{Case, Expectation, Unread};
 use std::io;
 
 /// How many cases came to what.
@@ -13,28 +13,18 @@ pub struct Tally {
 
 impl Tally {
     /// Counts a case, and prints it where it didn't pass.
-    pub fn count(&mut self, rt: &impl Print, judged: Judged) -> io::Result<()> {
-        let Judged { name, outcome } = judged;
-        let name = name.as_str();
-        match outcome {
-            Outcome::Passed => {
-                self.passed = self.passed.saturating_add(1);
-                Ok(())
-            }
-            Outcome::Differs(differences) => {
-                self.failed = self.failed.saturating_add(1);
-                for difference in differences {
-                    print_difference(rt, name, &difference)?;
-                }
-                Ok(())
-            }
-            Outcome::NotRead(unread) => {
-                self.not_read = self.not_read.saturating_add(1);
-                let line = unread.line;
-                let reason = unread.reason;
-                println!(rt; "{name}: not read: line {line}: {reason}")
-            }
+    pub fn count(&mut self, rt: &impl Print, case: &Case) -> io::Result<()> {
+        let name = case.name.as_str();
+        if let Some(unread) = case.unread {
+            self.not_read = self.not_read.saturating_add(1);
+            return print_unread(rt, name, unread);
         }
+        if case.differs {
+            self.failed = self.failed.saturating_add(1);
+            return print_differences(rt, name, case.expectations.as_slice());
+        }
+        self.passed = self.passed.saturating_add(1);
+        Ok(())
     }
 
     /// Whether there was a case, and every case passed.
@@ -58,12 +48,27 @@ impl Tally {
     }
 }
 
-fn print_difference(rt: &impl Print, name: &str, difference: &Difference) -> io::Result<()> {
-    let kind = difference.expectation.kind.as_str();
+fn print_unread(rt: &impl Print, name: &str, unread: Unread) -> io::Result<()> {
+    let line = unread.line;
+    let reason = unread.reason;
+    println!(rt; "{name}: not read: line {line}: {reason}")
+}
+
+fn print_differences(rt: &impl Print, name: &str, expectations: &[Expectation]) -> io::Result<()> {
+    for expectation in expectations {
+        if expectation.differs() {
+            print_difference(rt, name, expectation)?;
+        }
+    }
+    Ok(())
+}
+
+fn print_difference(rt: &impl Print, name: &str, expectation: &Expectation) -> io::Result<()> {
+    let kind = expectation.kind.as_str();
     println!(rt; "{name}: {kind}: expected")?;
-    print_lines(rt, difference.expectation.wanted.as_slice())?;
+    print_lines(rt, expectation.wanted.as_slice())?;
     println!(rt; "{name}: {kind}: drawn")?;
-    print_lines(rt, difference.drawn.as_slice())
+    print_lines(rt, expectation.drawn.as_slice())
 }
 
 fn print_lines(rt: &impl Print, lines: &[String]) -> io::Result<()> {

@@ -1,7 +1,7 @@
 //! The cases of an input, one after another.
 
-use crate::case::{Case, Judged};
-use crate::fault::{Fault, Result};
+use crate::case::Case;
+use crate::fault::Result;
 use std::alloc::Global;
 
 /// A run over the lines of an input.
@@ -11,6 +11,7 @@ pub struct Run {
     // how many lines were read
     line: u64,
     open: Option<Case>,
+    ended: Option<Case>,
 }
 
 impl Run {
@@ -20,57 +21,78 @@ impl Run {
             alloc,
             line: 0,
             open: None,
+            ended: None,
         }
     }
 
-    /// Reads one line. Where a case ends with it, what became of the case is returned.
-    pub fn read(&mut self, line: &str) -> Result<Option<Judged>> {
+    /// The case that ended with the last line, or with the input.
+    pub fn ended(&self) -> Option<&Case> {
+        self.ended.as_ref()
+    }
+
+    /// Reads one line.
+    pub fn read(&mut self, line: &str) -> Result<()> {
+        self.ended = None;
         self.line = self.line.saturating_add(1);
         if line.is_empty() || line.starts_with('#') {
-            return Ok(None);
+            return Ok(());
         }
-        if line == "end" {
-            return self.end();
+        match name_of_case(line) {
+            Some(name) => self.begin(name),
+            None => self.read_in_case(line),
         }
-        if let Some(name) = name_of_case(line) {
-            return self.begin(name);
-        }
-        let mut case = self.case()?;
-        case.take(self.line, line)?;
-        self.open = Some(case);
-        Ok(None)
     }
 
     /// Ends the input: a case that is still open isn't whole.
-    pub fn end_of_input(&mut self) -> Result<Option<Judged>> {
-        let Some(mut case) = self.open.take() else {
-            return Ok(None);
-        };
-        case.note(self.line, Fault::NotRead("the case has no end"))?;
-        Ok(Some(case.judged(self.line)?))
+    pub fn end_of_input(&mut self) -> Result<()> {
+        self.ended = None;
+        self.refuse("the case has no end");
+        self.end()
     }
 
     // begins a case; one that is still open isn't whole
-    fn begin(&mut self, name: &str) -> Result<Option<Judged>> {
-        let judged = self.end_of_input()?;
-        let name = String::from_str(self.alloc, name)?;
-        self.open = Some(Case::new(self.alloc, name));
-        Ok(judged)
+    fn begin(&mut self, name: &str) -> Result<()> {
+        self.end_of_input()?;
+        self.open_case(name)
     }
 
-    fn end(&mut self) -> Result<Option<Judged>> {
-        let case = self.case()?;
-        Ok(Some(case.judged(self.line)?))
+    fn open_case(&mut self, name: &str) -> Result<()> {
+        self.open = Some(Case::new(self.alloc, name)?);
+        Ok(())
     }
 
-    // takes the open case; a line outside of any case makes one that can't be tried
-    fn case(&mut self) -> Result<Case> {
-        if let Some(case) = self.open.take() {
-            return Ok(case);
+    fn read_in_case(&mut self, line: &str) -> Result<()> {
+        // a line outside of any case makes one that can't be tried
+        if self.open.is_none() {
+            self.open_case("(no case)")?;
+            self.refuse("a line stands in no case");
         }
-        let mut case = Case::new(self.alloc, String::from_str(self.alloc, "(no case)")?);
-        case.note(self.line, Fault::NotRead("a line stands in no case"))?;
-        Ok(case)
+        if line == "end" {
+            self.end()
+        } else {
+            self.take(line)
+        }
+    }
+
+    fn take(&mut self, line: &str) -> Result<()> {
+        match &mut self.open {
+            Some(case) => case.take(self.line, line),
+            None => Ok(()),
+        }
+    }
+
+    fn refuse(&mut self, reason: &'static str) {
+        if let Some(case) = &mut self.open {
+            case.refuse(self.line, reason);
+        }
+    }
+
+    fn end(&mut self) -> Result<()> {
+        if let Some(case) = &mut self.open {
+            case.end(self.line)?;
+        }
+        self.ended = self.open.take();
+        Ok(())
     }
 }
 

@@ -2,28 +2,58 @@
 
 use crate::fault::{Fault, Result};
 use crate::looks::{attribute, color};
-use crate::text::{character, width};
+use crate::text::{character, named, width};
 use comfy_table::style::{CellAlignment, ColumnConstraint, Width};
-use comfy_table::{Cell, Column, ContentArrangement, Terminal};
+use comfy_table::{Attribute, Cell, Color, Column, ContentArrangement, Terminal};
 use std::alloc::Global;
 
-/// The cell with one setting more.
-pub fn with_setting(alloc: Global, cell: Cell, word: &str) -> Result<Cell> {
+const TRUTHS: [(&str, bool); 2] = [("true", true), ("false", false)];
+
+const ARRANGEMENTS: [(&str, ContentArrangement); 3] = [
+    ("disabled", ContentArrangement::Disabled),
+    ("dynamic", ContentArrangement::Dynamic),
+    ("full", ContentArrangement::DynamicFullWidth),
+];
+
+const ALIGNMENTS: [(&str, CellAlignment); 3] = [
+    ("Left", CellAlignment::Left),
+    ("Right", CellAlignment::Right),
+    ("Center", CellAlignment::Center),
+];
+
+/// A setting of a cell.
+#[derive(Clone, Copy)]
+pub enum CellSetting {
+    Alignment(CellAlignment),
+    Delimiter(char),
+    Foreground(Color),
+    Background(Color),
+    Attribute(Attribute),
+}
+
+/// The setting of a cell that a word stands for.
+pub fn cell_setting(alloc: Global, word: &str) -> Result<CellSetting> {
     let (name, value) = name_and_value(word)?;
     match name {
-        "align" => {
-            let alignment = alignment(value)?;
-            Ok(cell.set_alignment(alignment))
-        }
-        "delimiter" => {
-            let delimiter = character(alloc, value)?;
-            Ok(cell.set_delimiter(delimiter))
-        }
-        "fg" => Ok(cell.fg(color(value)?)),
-        "bg" => Ok(cell.bg(color(value)?)),
-        "attribute" => Ok(cell.add_attribute(attribute(value)?)?),
+        "align" => alignment(value).map(CellSetting::Alignment),
+        "delimiter" => character(alloc, value).map(CellSetting::Delimiter),
+        "fg" => color(value).map(CellSetting::Foreground),
+        "bg" => color(value).map(CellSetting::Background),
+        "attribute" => attribute(value).map(CellSetting::Attribute),
         _ => Err(Fault::NotRead("a setting of a cell isn't known")),
     }
+}
+
+/// The cell with one setting more.
+pub fn with_setting(cell: Cell, setting: CellSetting) -> Result<Cell> {
+    let cell = match setting {
+        CellSetting::Alignment(alignment) => cell.set_alignment(alignment),
+        CellSetting::Delimiter(delimiter) => cell.set_delimiter(delimiter),
+        CellSetting::Foreground(color) => cell.fg(color),
+        CellSetting::Background(color) => cell.bg(color),
+        CellSetting::Attribute(attribute) => cell.add_attribute(attribute)?,
+    };
+    Ok(cell)
 }
 
 /// Changes one setting of a column.
@@ -60,21 +90,12 @@ pub fn terminal(stdout: &str, stderr: &str, columns: &str) -> Result<Terminal> {
 }
 
 fn truth(word: &str) -> Result<bool> {
-    match word {
-        "true" => Ok(true),
-        "false" => Ok(false),
-        _ => Err(Fault::NotRead("a truth value isn't known")),
-    }
+    named(&TRUTHS, word, "a truth value isn't known")
 }
 
 /// An arrangement by its name.
 pub fn arrangement(word: &str) -> Result<ContentArrangement> {
-    match word {
-        "disabled" => Ok(ContentArrangement::Disabled),
-        "dynamic" => Ok(ContentArrangement::Dynamic),
-        "full" => Ok(ContentArrangement::DynamicFullWidth),
-        _ => Err(Fault::NotRead("an arrangement isn't known")),
-    }
+    named(&ARRANGEMENTS, word, "an arrangement isn't known")
 }
 
 fn name_and_value<'a>(word: &'a str) -> Result<(&'a str, &'a str)> {
@@ -90,12 +111,7 @@ fn padding(word: &str) -> Result<(u16, u16)> {
 }
 
 fn alignment(word: &str) -> Result<CellAlignment> {
-    match word {
-        "Left" => Ok(CellAlignment::Left),
-        "Right" => Ok(CellAlignment::Right),
-        "Center" => Ok(CellAlignment::Center),
-        _ => Err(Fault::NotRead("an alignment isn't known")),
-    }
+    named(&ALIGNMENTS, word, "an alignment isn't known")
 }
 
 fn constraint(word: &str) -> Result<ColumnConstraint> {
@@ -108,9 +124,9 @@ fn constraint(word: &str) -> Result<ColumnConstraint> {
         return Err(Fault::NotRead("a constraint isn't known"));
     };
     match name {
-        "absolute" => Ok(ColumnConstraint::Absolute(column_width(value)?)),
-        "lower" => Ok(ColumnConstraint::LowerBoundary(column_width(value)?)),
-        "upper" => Ok(ColumnConstraint::UpperBoundary(column_width(value)?)),
+        "absolute" => column_width(value).map(ColumnConstraint::Absolute),
+        "lower" => column_width(value).map(ColumnConstraint::LowerBoundary),
+        "upper" => column_width(value).map(ColumnConstraint::UpperBoundary),
         "between" => boundaries(value),
         _ => Err(Fault::NotRead("a constraint isn't known")),
     }
@@ -118,9 +134,13 @@ fn constraint(word: &str) -> Result<ColumnConstraint> {
 
 // two widths, each of two words
 fn boundaries(word: &str) -> Result<ColumnConstraint> {
-    let not_two = Fault::NotRead("boundaries have two widths");
-    let (lower_kind, rest) = word.split_once(':').ok_or(not_two)?;
-    let (lower, upper) = rest.split_once(':').ok_or(not_two)?;
+    let not_two = Err(Fault::NotRead("boundaries have two widths"));
+    let Some((lower_kind, rest)) = word.split_once(':') else {
+        return not_two;
+    };
+    let Some((lower, upper)) = rest.split_once(':') else {
+        return not_two;
+    };
     Ok(ColumnConstraint::Boundaries {
         lower: width_of_kind(lower_kind, lower)?,
         upper: column_width(upper)?,
@@ -136,8 +156,8 @@ fn column_width(word: &str) -> Result<Width> {
 
 fn width_of_kind(kind: &str, value: &str) -> Result<Width> {
     match kind {
-        "fixed" => Ok(Width::Fixed(width(value)?)),
-        "percent" => Ok(Width::Percentage(width(value)?)),
+        "fixed" => width(value).map(Width::Fixed),
+        "percent" => width(value).map(Width::Percentage),
         _ => Err(Fault::NotRead("a width is fixed or percent")),
     }
 }

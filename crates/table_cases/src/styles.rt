@@ -26,26 +26,38 @@ pub fn read_style(words: &[&str]) -> Result<TableStyle> {
 
 /// Sets one of the six parts of a style.
 pub fn set_part(alloc: Global, style: &mut TableStyle, words: &[&str]) -> Result<()> {
-    match words {
-        [name, left, fill, junction, right] => {
+    let Some((name, words)) = words.split_first() else {
+        return Err(Fault::NotRead("a part has three or four characters"));
+    };
+    let characters = characters(alloc, words)?;
+    match characters.as_slice() {
+        [left, fill, junction, right] => {
             let line = LineStyle {
-                left: optional_character(alloc, left)?,
-                fill: optional_character(alloc, fill)?,
-                junction: optional_character(alloc, junction)?,
-                right: optional_character(alloc, right)?,
+                left: *left,
+                fill: *fill,
+                junction: *junction,
+                right: *right,
             };
             set_frame_part(style, name, line)
         }
-        [name, left, junction, right] => {
+        [left, junction, right] => {
             let line = ContentLineStyle {
-                left: optional_character(alloc, left)?,
-                junction: optional_character(alloc, junction)?,
-                right: optional_character(alloc, right)?,
+                left: *left,
+                junction: *junction,
+                right: *right,
             };
             set_content_part(style, name, line)
         }
         _ => Err(Fault::NotRead("a part has three or four characters")),
     }
+}
+
+fn characters(alloc: Global, words: &[&str]) -> Result<Vec<Option<char>>> {
+    let mut characters = Vec::new(alloc);
+    for word in words {
+        characters.push(optional_character(alloc, word)?)?;
+    }
+    Ok(characters)
 }
 
 fn set_frame_part(style: &mut TableStyle, name: &str, line: LineStyle) -> Result<()> {

@@ -12,6 +12,16 @@ enum Place {
     InNumber { value: u32, digits: u8 },
 }
 
+/// What a name stands for among these, or the reason why it can't be read.
+pub fn named<T: Copy>(names: &[(&str, T)], name: &str, reason: &'static str) -> Result<T> {
+    for (known, value) in names {
+        if *known == name {
+            return Ok(*value);
+        }
+    }
+    Err(Fault::NotRead(reason))
+}
+
 /// The text that a word stands for, its escapes resolved.
 pub fn text(alloc: Global, word: &str) -> Result<String> {
     let mut text = String::new(alloc);
