@@ -13,11 +13,11 @@ use Rattle.comfy_parts.proofs.CallerLemmas.{IsUtf8-printable, below_seven_bits}
 use Rattle.comfy_parts.specs.CellValue.{plain_cell}
 use Rattle.comfy_parts.specs.Text.{Text, is_printable_ascii}
 use Rattle.comfy_table.proofs.ListLemmas.{All-none}
-use Rattle.comfy_csv.proofs.CleaningLemmas.{drawn_so}
+use Rattle.csv_parts.proofs.CleaningLemmas.{drawn_so}
 use Rattle.comfy_csv.specs.Cells.{drawn_text, marked}
-use Rattle.comfy_csv.specs.Cleaning.{cleaned}
+use Rattle.csv_parts.specs.Cleaning.{cleaned}
 use Rattle.comfy_csv.specs.Laws.{PrintableFieldsStay}
-use Rattle.comfy_csv.specs.Markdown.{escaped, escaped_character, is_special}
+use Rattle.csv_parts.specs.Markdown.{escaped, escaped_character, is_special}
 use Rattle.comfy_csv.specs.declared.options.Look.{Look}
 
 abbrev is_printable : ℕ → Bool

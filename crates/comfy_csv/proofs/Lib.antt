@@ -1,9 +1,7 @@
 pub mod BuiltLemmas
-pub mod CleaningLemmas
 pub mod ColumnLemmas
 pub mod FieldLemmas
 pub mod LineLemmas
-pub mod MarkdownLemmas
 pub mod PlainLemmas
 pub mod RecordLemmas
 pub mod RowLemmas

@@ -6,8 +6,8 @@ use Rattle.comfy_parts.specs.Text.{Text}
 use Rattle.comfy_parts.specs.declared.style.attribute.Attribute.TheVariants.{Bold}
 use Rattle.comfy_parts.specs.declared.style.cell.CellAlignment.{CellAlignment}
 use Rattle.csv.specs.Records.{field_at}
-use Rattle.comfy_csv.specs.Cleaning.{cleaned}
-use Rattle.comfy_csv.specs.Markdown.{escaped}
+use Rattle.csv_parts.specs.Cleaning.{cleaned}
+use Rattle.csv_parts.specs.Markdown.{escaped}
 use Rattle.comfy_csv.specs.declared.options.Look.{Look}
 use Rattle.comfy_csv.specs.declared.options.ShownColumn.{ShownColumn}
 

@@ -5,7 +5,7 @@ use Rattle.comfy_parts.specs.Text.{Text}
 use Rattle.comfy_parts.specs.declared.style.cell.CellAlignment.{CellAlignment}
 use Rattle.comfy_parts.specs.declared.style.cell.CellAlignment.TheVariants.{Left, Right}
 use Rattle.comfy_csv.specs.Cells.{field_or_blank}
-use Rattle.comfy_csv.specs.Number.{is_number}
+use Rattle.csv_parts.specs.Number.{is_number}
 use Rattle.comfy_csv.specs.declared.error.CsvError.{CsvError}
 use Rattle.comfy_csv.specs.declared.error.CsvError.TheVariants.{Read, Write, NotUtf8, NoColumn, OutOfMemory}
 use Rattle.comfy_csv.specs.declared.options.ColumnChoice.{ColumnChoice}

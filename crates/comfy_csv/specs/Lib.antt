@@ -1,11 +1,8 @@
 pub mod Cells
-pub mod Cleaning
 pub mod Columns
 pub mod Drawn
 pub mod Input
 pub mod Laws
-pub mod Markdown
-pub mod Number
 pub mod Output
 pub mod Run
 pub mod Words

@@ -7,9 +7,10 @@ ghost use Rattle.comfy_csv.specs.Words.{AreAsked, LookIsAsked, delimiter_for, is
 use crate::options::{ColumnChoice, Look, Options};
 use clap::error::ErrorKind;
 use clap::parser::ArgMatches;
-use clap::{Arg, ArgAction, Command, Error, value_parser};
+use clap::{Command, Error};
 use comfy_table::TableStyle;
 use comfy_table::presets::{ASCII_MARKDOWN, UTF8_FULL, by_name};
+use csv_parts::command;
 use std::alloc::{AllocError, Global};
 
 /// What the words ask for.
@@ -32,25 +33,6 @@ pub struct Surroundings {
     pub has_no_color: bool,
 }
 
-// The names of the presets, as `by_name` knows them.
-static STYLES: [&str; 13] = [
-    "ASCII_FULL",
-    "ASCII_FULL_CONDENSED",
-    "ASCII_NO_BORDERS",
-    "ASCII_BORDERS_ONLY",
-    "ASCII_BORDERS_ONLY_CONDENSED",
-    "ASCII_HORIZONTAL_ONLY",
-    "ASCII_MARKDOWN",
-    "UTF8_FULL",
-    "UTF8_FULL_CONDENSED",
-    "UTF8_NO_BORDERS",
-    "UTF8_BORDERS_ONLY",
-    "UTF8_HORIZONTAL_ONLY",
-    "NOTHING",
-];
-
-static COLORS: [&str; 3] = ["auto", "always", "never"];
-
 /// What these words ask for; the first one is the program's name. Help, the version and words that aren't known are
 /// returned as errors, as clap has them. Which values clap finds in the words is a matter of clap; the delimiter, the
 /// style and bold headers follow from these and from the surroundings.
@@ -62,20 +44,44 @@ pub fn asked_of<'a>(
     ensures { IfOk result (λ asked. AreAsked surroundings asked.options) }
 {
     let mut command = command(alloc)?;
+    asked_by(alloc, &mut command, words, surroundings)
+}
+
+fn asked_by<'a>(
+    alloc: Global,
+    command: &mut Command<'a>,
+    words: &'a [&'a str],
+    surroundings: Surroundings,
+) -> Result<Asked, Error>
+    ensures { IfOk result (λ asked. AreAsked surroundings asked.options) }
+{
     let matches = command.try_get_matches_from_mut(words)?;
-    let Some(delimiter) = delimiter_of(matches.get_str("delimiter")) else {
-        return Err(no_delimiter(&mut command)?);
-    };
-    let options = options_of(alloc, &matches, delimiter, surroundings)?;
+    match delimiter_of(matches.get_str("delimiter")) {
+        Some(delimiter) => found_in(alloc, &matches, delimiter, surroundings),
+        None => Err(no_delimiter(command)),
+    }
+}
+
+// What the matches ask for, beside a delimiter.
+fn found_in<'a>(
+    alloc: Global,
+    matches: &ArgMatches<'a>,
+    delimiter: u8,
+    surroundings: Surroundings,
+) -> Result<Asked, Error>
+    ensures { IfOk result (λ asked. (asked.options.delimiter ≡ delimiter) × LookIsAsked surroundings (found_of matches.now) asked.options.look) }
+{
     let file = file_of(alloc, matches.get_str("file"))?;
+    let options = options_of(alloc, matches, delimiter, surroundings)?;
     Ok(Asked { options, file })
 }
 
-fn no_delimiter<'a>(command: &mut Command<'a>) -> Result<Error, AllocError> {
-    command.error(
+fn no_delimiter<'a>(command: &mut Command<'a>) -> Error {
+    let said = command.error(
         ErrorKind::InvalidValue,
         "the delimiter is one ASCII character, or `tab`; it's no quote and no line end",
-    )
+    );
+    said.unwrap_or_else(Error::from)
 }
 
 fn file_of(alloc: Global, word: Option<&str>) -> Result<Option<String>, AllocError> {
@@ -83,172 +89,6 @@ fn file_of(alloc: Global, word: Option<&str>) -> Result<Option<String>, AllocErr
         None | Some("-") => Ok(None),
         Some(path) => Ok(Some(String::from_str(alloc, path)?)),
     }
-}
-
-// The program's words, for clap.
-fn command<'a>(alloc: Global) -> Result<Command<'a>, AllocError> {
-    let command = Command::new(alloc, "csvtable")
-        .version("1.0.0")
-        .about("Draws the records of a CSV file as a table");
-    let command = with_columns(alloc, with_input(alloc, command)?)?;
-    with_text(alloc, with_looks(alloc, command)?)
-}
-
-// The words on the input.
-fn with_input<'a>(alloc: Global, command: Command<'a>) -> Result<Command<'a>, AllocError> {
-    command
-        .arg(file(alloc))?
-        .arg(valued(
-            alloc,
-            "delimiter",
-            'd',
-            "CHAR",
-            "What stands between fields; a comma without it, `tab` for TAB",
-        ))?
-        .arg(no_header(alloc))?
-        .arg(limit(alloc))
-}
-
-fn file<'a>(alloc: Global) -> Arg<'a> {
-    Arg::new(alloc, "file").value_name("FILE").help(
-        "The file to read; standard input where it is missing or `-`",
-    )
-}
-
-fn no_header<'a>(alloc: Global) -> Arg<'a> {
-    flag(
-        alloc,
-        "no-header",
-        "The first record is a row, not the header",
-    )
-    .short('n')
-}
-
-fn limit<'a>(alloc: Global) -> Arg<'a> {
-    long(
-        alloc,
-        "limit",
-        "N",
-        "Draw the first N records, and say below how many there are",
-    )
-    .value_parser(value_parser!(usize))
-}
-
-// The words on columns.
-fn with_columns<'a>(alloc: Global, command: Command<'a>) -> Result<Command<'a>, AllocError> {
-    command
-        .arg(valued(
-            alloc,
-            "columns",
-            'c',
-            "LIST",
-            "Draw these columns, by name or number and in this order, as `name,3-5`",
-        ))?
-        .arg(valued(
-            alloc,
-            "right",
-            'r',
-            "LIST",
-            "Columns at the right, beside those that hold numbers alone",
-        ))?
-        .arg(long(alloc, "left", "LIST", "Columns at the left, numbers or not"))
-}
-
-// The words on what the table looks like.
-fn with_looks<'a>(alloc: Global, command: Command<'a>) -> Result<Command<'a>, AllocError> {
-    command
-        .arg(width(alloc))?
-        .arg(flag(alloc, "full", "Fill the width"))?
-        .arg(style(alloc))?
-        .arg(max_height(alloc))
-}
-
-fn width<'a>(alloc: Global) -> Arg<'a> {
-    valued(
-        alloc,
-        "width",
-        'w',
-        "N",
-        "The width to keep to; COLUMNS without it, where standard output is a terminal",
-    )
-    .value_parser(value_parser!(u16))
-}
-
-fn style<'a>(alloc: Global) -> Arg<'a> {
-    valued(
-        alloc,
-        "style",
-        's',
-        "NAME",
-        "A preset; UTF8_FULL with rounded corners without it",
-    )
-    .value_parser(STYLES.as_slice())
-}
-
-fn max_height<'a>(alloc: Global) -> Arg<'a> {
-    valued(
-        alloc,
-        "max-height",
-        'm',
-        "N",
-        "How many lines a row has at most",
-    )
-    .value_parser(value_parser!(usize))
-}
-
-// The words on how fields are written.
-fn with_text<'a>(alloc: Global, command: Command<'a>) -> Result<Command<'a>, AllocError> {
-    command
-        .arg(markdown(alloc)?)?
-        .arg(color(alloc))?
-        .arg(flag(alloc, "ansi", "SGR sequences in fields count no columns"))?
-        .arg(flag(
-            alloc,
-            "raw",
-            "Leave TABs and control characters in fields as they are",
-        ))
-}
-
-fn markdown<'a>(alloc: Global) -> Result<Arg<'a>, AllocError> {
-    flag(alloc, "markdown", "Draw a table for Markdown").conflicts_with("style")
-}
-
-fn color<'a>(alloc: Global) -> Arg<'a> {
-    long(
-        alloc,
-        "color",
-        "WHEN",
-        "The header in bold; `auto` is in a terminal, unless NO_COLOR is set",
-    )
-    .value_parser(COLORS.as_slice())
-    .default_value("auto")
-}
-
-// An option with a value and a letter.
-fn valued<'a>(
-    alloc: Global,
-    name: &'a str,
-    letter: char,
-    value: &'a str,
-    help: &'a str,
-) -> Arg<'a> {
-    long(alloc, name, value, help).short(letter)
-}
-
-// An option with a value.
-fn long<'a>(alloc: Global, name: &'a str, value: &'a str, help: &'a str) -> Arg<'a> {
-    Arg::new(alloc, name)
-        .long(name)
-        .value_name(value)
-        .help(help)
-}
-
-// An option without a value.
-fn flag<'a>(alloc: Global, name: &'a str, help: &'a str) -> Arg<'a> {
-    Arg::new(alloc, name)
-        .long(name)
-        .action(ArgAction::SetTrue)
-        .help(help)
 }
 
 // The byte that a word asks for.

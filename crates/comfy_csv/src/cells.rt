@@ -4,11 +4,10 @@ ghost use Rattle.std.specs.Prelude.{◌≡◌, IfOk, string_bytes};
 ghost use Rattle.csv.specs.Records.{fields_of};
 ghost use Rattle.comfy_csv.specs.Cells.{cell_for, cells_for, drawn_text, header_for, row_for, with_weight};
 
-use crate::cleaning::cleaned;
-use crate::markdown::escaped;
 use crate::options::{Look, ShownColumn};
 use comfy_table::{Attribute, Cell, CellAlignment, Cells, IntoRow, Result, Row};
 use csv::StringRecord;
+use csv_parts::{cleaned, escaped};
 use std::alloc::Global;
 
 /// The row of a record: a cell for each column, blank where the record has no such field.
@@ -52,25 +51,25 @@ fn cells_of(
     let mut row = Cells(Vec::with_capacity(alloc, columns.len())?).into_row(alloc)?;
     for column in columns {
         let field = fields.get(column.position).unwrap_or("");
-        let cell = cell_of(alloc, field, column.alignment, look)?;
-        row.try_add_cell(with_weight(cell, is_bold)?)?;
+        row.try_add_cell(cell_of(alloc, field, column.alignment, look, is_bold)?)?;
     }
     Ok(row)
 }
 
-// The cell of a field.
+// The cell of a field, in bold or not.
 fn cell_of(
     alloc: Global,
     field: &str,
     alignment: Option<CellAlignment>,
     look: &Look,
+    is_bold: bool,
 ) -> Result<Cell>
-    ensures { IfOk result (λ cell. cell ≡ cell_for look.now alignment field.now) }
+    ensures { IfOk result (λ cell. cell ≡ with_weight is_bold (cell_for look.now alignment field.now)) }
 {
     let cell = Cell::new_owned(alloc, drawn_text(alloc, field, look)?)?;
     match alignment {
-        Some(alignment) => Ok(cell.set_alignment(alignment)),
-        None => Ok(cell),
+        Some(alignment) => with_weight(cell.set_alignment(alignment), is_bold),
+        None => with_weight(cell, is_bold),
     }
 }
 

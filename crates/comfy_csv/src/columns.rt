@@ -6,10 +6,10 @@ ghost use Rattle.csv.specs.Records.{Row as CsvRow, field_at, fields_of};
 ghost use Rattle.comfy_csv.specs.Columns.{IsColumnRefusal, alignment_for, chosen_columns, columns_for, count_of, is_number_at, is_number_column, is_number_or_empty, is_text, position_named, positions_of, positions_of_choice, range_name, shown_columns};
 
 use crate::error::CsvError;
-use crate::number::is_number;
 use crate::options::{ColumnChoice, Options, ShownColumn};
 use comfy_table::CellAlignment;
 use csv::StringRecord;
+use csv_parts::is_number;
 use std::alloc::{AllocError, Global};
 
 /// The columns that are drawn of these rows under these names.

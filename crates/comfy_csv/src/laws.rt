@@ -3,15 +3,11 @@
 ghost use Rattle.std.specs.Prelude.{List, ℕ};
 ghost use Rattle.comfy_parts.specs.Text.{Text};
 ghost use Rattle.comfy_csv.specs.Laws.{IsFilling, IsWithin, OutputFillsWidth, OutputIsStraight, OutputKeepsToWidth, PrintableFieldsStay, PrintableLinesHave, PrintableTableIsPlain, TableKeepsRows, WideOutputIsStraight};
-ghost use Rattle.comfy_csv.specs.Markdown.{IsReadBack};
 ghost use Rattle.comfy_csv.specs.declared.options.Look.{Look};
 ghost use Rattle.comfy_csv.specs.declared.options.Options.{Options};
 ghost use Rattle.comfy_table.specs.TableValue.{TableValue};
 
-/// What was escaped for Markdown is read back.
-pub fn escaped_texts_are_read_back()
-    ensures { (text : List ℕ) → IsReadBack text }
-{}
+pub use csv_parts::laws::escaped_texts_are_read_back;
 
 /// Picking columns loses no row. The table has a row for each record that is drawn, in order, with the fields of the same
 /// columns, and these are the chosen ones.

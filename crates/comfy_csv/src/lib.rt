@@ -3,12 +3,9 @@
 
 mod arguments;
 mod cells;
-mod cleaning;
 mod columns;
 mod error;
 pub mod laws;
-mod markdown;
-mod number;
 mod options;
 mod output;
 mod process;
@@ -17,10 +14,8 @@ mod table;
 mod transfer;
 
 pub use arguments::{Asked, Surroundings, asked_of};
-pub use cleaning::cleaned;
+pub use csv_parts::{cleaned, escaped, is_number};
 pub use error::CsvError;
-pub use markdown::escaped;
-pub use number::is_number;
 pub use options::{ColumnChoice, Look, Options, ShownColumn};
 pub use process::run_with_arguments;
 pub use records::records_of;

@@ -4,7 +4,7 @@ use Rattle.std.proofs.lemmas.Str.{encodes-chars}
 use Rattle.std.specs.Char.{is_control}
 use Rattle.std.specs.List.{list_any}
 use Rattle.std.specs.Str.{IsUtf8, encode_utf8_all}
-use Rattle.comfy_csv.specs.Cleaning.{CleanedText, after_character, cleaned, start}
+use Rattle.csv_parts.specs.Cleaning.{CleanedText, after_character, cleaned, start}
 
 -- a character that isn't a control character isn't this one
 other : (c n : ℕ) → is_control c ≡ false → is_control n ≡ true → (c == n) ≡ false

@@ -6,8 +6,8 @@ use Rattle.std.proofs.lemmas.List.Concat.{flat_map-append}
 use Rattle.std.proofs.lemmas.Str.{encodes-append}
 use Rattle.std.specs.Str.{encode_utf8_all}
 use Rattle.std.specs.Str.Iter.{chars_rest}
-use Rattle.comfy_csv.specs.Markdown.{escaped, escaped_character}
-use Rattle.comfy_csv.proofs.markdown.escaped.Goals as goal
+use Rattle.csv_parts.specs.Markdown.{escaped, escaped_character}
+use Rattle.csv_parts.proofs.markdown.escaped.Goals as goal
 
 more : (had : List ℕ) (c : ℕ) → encode_utf8_all (escaped (map (λ (x : ℕ). x) (had ++ c ∷ []))) ≡ encode_utf8_all (escaped (map (λ (x : ℕ). x) had)) ++ encode_utf8_all (escaped_character c)
 more had c =

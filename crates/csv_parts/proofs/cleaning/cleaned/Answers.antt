@@ -3,9 +3,9 @@ use Rattle.std.proofs.lemmas.Iterator.{YieldsList-from_chars}
 use Rattle.std.proofs.lemmas.Iterator.Consumers.{YieldsList-end}
 use Rattle.std.proofs.lemmas.Result.{IfOk-weaker}
 use Rattle.std.specs.Str.Iter.{chars_rest}
-use Rattle.comfy_csv.specs.Cleaning.{CleanedText, after_character, start}
-use Rattle.comfy_csv.proofs.CleaningLemmas.{drawn_so}
-use Rattle.comfy_csv.proofs.cleaning.cleaned.Goals as goal
+use Rattle.csv_parts.specs.Cleaning.{CleanedText, after_character, start}
+use Rattle.csv_parts.proofs.CleaningLemmas.{drawn_so}
+use Rattle.csv_parts.proofs.cleaning.cleaned.Goals as goal
 
 pub returns-then-not-has_control : goal.returns-then-not-has_control
 returns-then-not-has_control c =

@@ -1,6 +1,6 @@
 -- What was escaped is read back.
 use Rattle.std.proofs.Common.{◌≡◌, ◌==◌, ◌||◌, ℕ, Bool, true, false, List, [], ◌∷◌, ◌++◌, cond, codes, refl, ap, sym, ◌∙◌, eqb-true}
-use Rattle.comfy_csv.specs.Markdown.{escaped, is_special, unescaped}
+use Rattle.csv_parts.specs.Markdown.{escaped, is_special, unescaped}
 
 -- a character that isn't special, before others
 plain : (c : ℕ) (rest : List ℕ) → (c == 0x5C) ≡ false → (c == 0x3C) ≡ false → unescaped (c ∷ rest) ≡ c ∷ unescaped rest

@@ -3,7 +3,7 @@
 ghost use Rattle.std.specs.Prelude.{◌≡◌, IfOk, OnOk, chars, string_bytes};
 ghost use Rattle.std.specs.Char.{is_control};
 ghost use Rattle.std.specs.List.{list_any};
-ghost use Rattle.comfy_csv.specs.Cleaning.{after_character, blanks_at, cleaned, shown, start};
+ghost use Rattle.csv_parts.specs.Cleaning.{after_character, blanks_at, cleaned, shown, start};
 
 use std::alloc::{AllocError, Global};
 use std::marker::Model;
@@ -47,7 +47,7 @@ struct Cleaner {
 
 impl Model for Cleaner {
     ghost use Rattle.std.specs.Prelude.{string_bytes};
-    ghost use Rattle.comfy_csv.specs.Cleaning.{CleanedText};
+    ghost use Rattle.csv_parts.specs.Cleaning.{CleanedText};
 
     ghost Value = { CleanedText };
 

@@ -2,7 +2,7 @@
 
 ghost use Rattle.std.specs.Prelude.{◌≡◌, IfOk, OnOk, ◌++◌, chars, string_bytes};
 ghost use Rattle.std.specs.Str.{encode_utf8_all};
-ghost use Rattle.comfy_csv.specs.Markdown.{escaped, escaped_character};
+ghost use Rattle.csv_parts.specs.Markdown.{escaped, escaped_character};
 
 use std::alloc::{AllocError, Global};
 

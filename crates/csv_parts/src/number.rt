@@ -3,7 +3,7 @@
 ghost use Rattle.std.specs.Prelude.{◌≡◌, ◌<◌, IfSome, length};
 ghost use Rattle.std.specs.List.{list_all, list_any};
 ghost use Rattle.std.specs.Char.{is_ascii_digit};
-ghost use Rattle.comfy_csv.specs.Number.{exponent_start, is_decimal, is_digit_or_mark, is_exponent, is_number, is_scientific, without_currency, without_percent, without_sign};
+ghost use Rattle.csv_parts.specs.Number.{exponent_start, is_decimal, is_digit_or_mark, is_exponent, is_number, is_scientific, without_currency, without_percent, without_sign};
 
 /// Whether a field is a number: an optional sign, an optional currency sign, digits with `_`, `,` or `.` among them, an
 /// optional exponent and an optional `%`, in this order and without spaces.

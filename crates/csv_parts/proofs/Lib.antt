@@ -1,0 +1,2 @@
+pub mod CleaningLemmas
+pub mod MarkdownLemmas

@@ -1,0 +1,3 @@
+pub mod Cleaning
+pub mod Markdown
+pub mod Number
