@@ -9,4 +9,4 @@ invariant_of-result c =
     let texts = string_bytes c.args.text ∷ [] in
     let none : list_any has_escape texts ≡ false = rw c.requires.clear refl in
     let width = ap (λ n. n ∷ []) c.requires.width in
-    record { widths = width; visible = clear_lines texts none; widths_of_visible = width; escaped = sym none }
+    record { widths = width; shown = clear_lines texts none; shown_widths = width; escaped = sym none }

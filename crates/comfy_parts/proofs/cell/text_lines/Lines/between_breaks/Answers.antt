@@ -2,7 +2,7 @@ use Rattle.std.proofs.Common.{ap, ◌∙◌, lit<}
 use Rattle.std.specs.Str.Iter.{split_text, split_has_more, split_pattern}
 use Rattle.std.proofs.lemmas.Iterator.Consumers.{YieldsList-end}
 use Rattle.std.proofs.lemmas.Iterator.Splits.{YieldsList-from_str_split}
-use Rattle.comfy_parts.proofs.cell.text_lines.SeveralLines.of_text.Goals as goal
+use Rattle.comfy_parts.proofs.cell.text_lines.Lines.between_breaks.Goals as goal
 
 pub returns : goal.returns
 returns c =
