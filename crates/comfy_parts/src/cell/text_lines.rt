@@ -13,13 +13,13 @@ use std::marker::Model;
 use std::slice;
 
 // The text lines of a cell. A single one takes no list.
-#[derive(Debug, Drop)]
+#[derive(Drop)]
 pub(crate) struct TextLines {
     lines: Lines,
 }
 
 // Text lines, and the columns that each takes, in the same order.
-#[derive(Debug, Drop)]
+#[derive(Drop)]
 enum Lines {
     One { text: String, width: usize },
     Several(SeveralLines),
@@ -30,7 +30,7 @@ enum Lines {
 }
 
 // A text line with ESC, and what is visible of it, each with its columns.
-#[derive(Debug, Drop)]
+#[derive(Drop)]
 struct EscapedLine {
     text: String,
     width: usize,
@@ -38,7 +38,7 @@ struct EscapedLine {
     visible_width: usize,
 }
 
-#[derive(Debug, Drop)]
+#[derive(Drop)]
 struct SeveralLines {
     texts: Vec<String>,
     widths: Vec<usize>,
@@ -46,7 +46,7 @@ struct SeveralLines {
 
 // Text lines, and what is visible of each. A table asks for the visible ones again and again, and each time without
 // memory, so they are kept.
-#[derive(Debug, Drop)]
+#[derive(Drop)]
 struct EscapedLines {
     whole: SeveralLines,
     visible: SeveralLines,
