@@ -1,5 +1,5 @@
 -- The characters of all presets add one column wherever they stand.
-use Rattle.std.proofs.Common.{◌≡◌, ℕ, ◌+◌, ◌-◌, ◌==◌, ◌&&◌, ◌||◌, nat_le, Bool, true, false, cond, not, None, refl, sym, ap, ap₂, ◌∙◌, subst, arith}
+use Rattle.std.proofs.Common.{◌≡◌, ℕ, ◌+◌, ◌-◌, ◌≤◌, ◌==◌, ◌&&◌, ◌||◌, nat_le, Bool, true, false, cond, not, None, refl, sym, ap, ap₂, ◌∙◌, subst, arith}
 use Rattle.std.specs.Int.{is_in_range}
 use Rattle.std.proofs.lemmas.Bool.{and_parts, cond_both, not-true}
 use Rattle.std.proofs.lemmas.Bool.Decides.{nat_tests}
@@ -50,10 +50,11 @@ is_narrow kinds.Narrow = true
 is_narrow kinds.Ambiguous = true
 is_narrow _ = false
 
--- no rule speaks of the character
-abbrev pub is_lone : ℕ → Bool
+-- no rule speaks of the character: the numbers that the rules name are lower or higher, but for one
+abbrev is_lone : ℕ → Bool
 is_lone c =
-    is_narrow (kind c) && (not (is_emoji_variation_base c) && (not (is_ligature_transparent c) && (not (is_lam c) && not (is_emoji_modifier_base c))))
+    (is_in_range 0x2026 0x259F c && not (c == 0x20E3))
+    && (is_narrow (kind c) && (not (is_emoji_variation_base c) && (not (is_ligature_transparent c) && (not (is_lam c) && not (is_emoji_modifier_base c)))))
 
 -- so it is with all box and block characters, U+2500 to U+259F
 boxes_are_lone : all_below (λ k. is_lone (0x2500 + k)) 160 ≡ true
@@ -62,6 +63,9 @@ boxes_are_lone = refl
 
 -- what is known of such a character
 record IsLone (c : ℕ) : Type 0 where
+  low : 0x2026 ≤ c
+  high : c ≤ 0x259F
+  not_keycap : (c == 0x20E3) ≡ false
   alone : alone false c ≡ (1, plain)
   not_emoji : is_emoji (kind c) ≡ false
   not_variation_base : is_emoji_variation_base c ≡ false
@@ -86,100 +90,112 @@ of_narrow c kinds.Single h = absurd (cc h)
 lone_parts : (c : ℕ) → is_lone c ≡ true → IsLone c
 unfolding alone
 lone_parts c test =
-    let first = and_parts _ _ test in
+    let both = and_parts _ _ test in
+    let apart = and_parts (is_in_range 0x2026 0x259F c) (not (c == 0x20E3)) both.0 in
+    let first = and_parts _ _ both.1 in
     let second = and_parts _ _ first.1 in
     let third = and_parts _ _ second.1 in
     let fourth = and_parts _ _ third.1 in
     let own = of_narrow c (kind c) first.0 in
-    record { alone = own.0; not_emoji = own.1; not_variation_base = not-true _ second.0; not_transparent = not-true _ third.0; not_lam = not-true _ fourth.0; not_modifier_base = not-true _ fourth.1 }
+    record {
+      low = grind (arith, nat_tests, apart.0);
+      high = grind (arith, nat_tests, apart.0);
+      not_keycap = not-true _ apart.1;
+      alone = own.0;
+      not_emoji = own.1;
+      not_variation_base = not-true _ second.0;
+      not_transparent = not-true _ third.0;
+      not_lam = not-true _ fourth.0;
+      not_modifier_base = not-true _ fourth.1;
+    }
 
 -- nothing is joined with what follows it
-joins_none : (c : ℕ) → (is_in_range 0x2500 0x259F c || (c == 0x2026)) ≡ true → IsLone c → (after : After) → joins false after c ≡ None
+joins_none : (c : ℕ) → 0x2026 ≤ c → c ≤ 0x259F → (c == 0x20E3) ≡ false → IsLone c → (after : After) → joins false after c ≡ None
 unfolding joins before_alef
-joins_none c box lone Nothing = grind (arith, nat_tests, box)
-joins_none c box lone LineFeed = grind (arith, nat_tests, box)
-joins_none c box lone EmojiModifier = let m = lone.not_modifier_base in grind (arith, nat_tests, m, box)
-joins_none c box lone RegionalIndicator = grind (arith, nat_tests, box)
-joins_none c box lone RegionalIndicators = grind (arith, nat_tests, box)
-joins_none c box lone Emoji = grind (arith, nat_tests, box)
-joins_none c box lone ZwjEmoji = let e = lone.not_emoji in grind (arith, nat_tests, e, box)
-joins_none c box lone KeycapZwjEmoji = grind (arith, nat_tests, box)
-joins_none c box lone IndicatorZwj = grind (arith, nat_tests, box)
-joins_none c box lone EvenIndicatorsZwj = grind (arith, nat_tests, box)
-joins_none c box lone OddIndicatorsZwj = grind (arith, nat_tests, box)
-joins_none c box lone TagEnd = grind (arith, nat_tests, box)
-joins_none c box lone TagDigit1 = grind (arith, nat_tests, box)
-joins_none c box lone TagDigit2 = grind (arith, nat_tests, box)
-joins_none c box lone TagDigit3 = grind (arith, nat_tests, box)
-joins_none c box lone TagLetter1 = grind (arith, nat_tests, box)
-joins_none c box lone TagLetter2 = grind (arith, nat_tests, box)
-joins_none c box lone TagLetter3 = grind (arith, nat_tests, box)
-joins_none c box lone TagLetter4 = grind (arith, nat_tests, box)
-joins_none c box lone TagLetter5 = grind (arith, nat_tests, box)
-joins_none c box lone TagLetter6 = grind (arith, nat_tests, box)
-joins_none c box lone KiratE = grind (arith, nat_tests, box)
-joins_none c box lone KiratAi = grind (arith, nat_tests, box)
-joins_none c box lone Alef = let l = lone.not_lam in let w = ap (λ (r : ℕ × State). r.0 == 0) lone.alone in rw (l, w) refl
-joins_none c box lone Solidus = grind (arith, nat_tests, box)
-joins_none c box lone SolidusAlef = grind (arith, nat_tests, box)
-joins_none c box lone Lamed = grind (arith, nat_tests, box)
-joins_none c box lone ZwjLamed = grind (arith, nat_tests, box)
-joins_none c box lone Ya = grind (arith, nat_tests, box)
-joins_none c box lone ZwjYa = grind (arith, nat_tests, box)
-joins_none c box lone VowelZwjYa = grind (arith, nat_tests, box)
-joins_none c box lone Tifinagh = grind (arith, nat_tests, box)
-joins_none c box lone ZwjTifinagh = grind (arith, nat_tests, box)
-joins_none c box lone JoinerTifinagh = grind (arith, nat_tests, box)
-joins_none c box lone LisuTone = grind (arith, nat_tests, box)
-joins_none c box lone OrkhonI = grind (arith, nat_tests, box)
-joins_none c box lone ZwjOrkhonI = grind (arith, nat_tests, box)
-joins_none c box lone KhmerLetter = grind (arith, nat_tests, box)
+joins_none c low high keycap lone Nothing = refl
+joins_none c low high keycap lone LineFeed = refl
+joins_none c low high keycap lone EmojiModifier = let m = lone.not_modifier_base in grind (arith, nat_tests, m)
+joins_none c low high keycap lone RegionalIndicator = grind (arith, nat_tests)
+joins_none c low high keycap lone RegionalIndicators = grind (arith, nat_tests)
+joins_none c low high keycap lone Emoji = grind (arith, nat_tests)
+joins_none c low high keycap lone ZwjEmoji = let e = lone.not_emoji in grind (arith, nat_tests, e)
+joins_none c low high keycap lone KeycapZwjEmoji = refl
+joins_none c low high keycap lone IndicatorZwj = grind (arith, nat_tests)
+joins_none c low high keycap lone EvenIndicatorsZwj = grind (arith, nat_tests)
+joins_none c low high keycap lone OddIndicatorsZwj = grind (arith, nat_tests)
+joins_none c low high keycap lone TagEnd = grind (arith, nat_tests)
+joins_none c low high keycap lone TagDigit1 = grind (arith, nat_tests)
+joins_none c low high keycap lone TagDigit2 = grind (arith, nat_tests)
+joins_none c low high keycap lone TagDigit3 = grind (arith, nat_tests)
+joins_none c low high keycap lone TagLetter1 = grind (arith, nat_tests)
+joins_none c low high keycap lone TagLetter2 = grind (arith, nat_tests)
+joins_none c low high keycap lone TagLetter3 = grind (arith, nat_tests)
+joins_none c low high keycap lone TagLetter4 = grind (arith, nat_tests)
+joins_none c low high keycap lone TagLetter5 = grind (arith, nat_tests)
+joins_none c low high keycap lone TagLetter6 = grind (arith, nat_tests)
+joins_none c low high keycap lone KiratE = grind (arith, nat_tests)
+joins_none c low high keycap lone KiratAi = grind (arith, nat_tests)
+joins_none c low high keycap lone Alef = let l = lone.not_lam in let w = ap (λ (r : ℕ × State). r.0 == 0) lone.alone in rw (l, w) refl
+joins_none c low high keycap lone Solidus = refl
+joins_none c low high keycap lone SolidusAlef = refl
+joins_none c low high keycap lone Lamed = refl
+joins_none c low high keycap lone ZwjLamed = grind (arith, nat_tests)
+joins_none c low high keycap lone Ya = refl
+joins_none c low high keycap lone ZwjYa = grind (arith, nat_tests)
+joins_none c low high keycap lone VowelZwjYa = grind (arith, nat_tests)
+joins_none c low high keycap lone Tifinagh = grind (arith, nat_tests)
+joins_none c low high keycap lone ZwjTifinagh = grind (arith, nat_tests)
+joins_none c low high keycap lone JoinerTifinagh = grind (arith, nat_tests)
+joins_none c low high keycap lone LisuTone = grind (arith, nat_tests)
+joins_none c low high keycap lone OrkhonI = refl
+joins_none c low high keycap lone ZwjOrkhonI = grind (arith, nat_tests)
+joins_none c low high keycap lone KhmerLetter = grind (arith, nat_tests)
 
-past_selectors-lone : (c n : ℕ) (after : After) → (is_in_range 0x2500 0x259F c || (c == 0x2026)) ≡ true → IsLone c → past_selectors false c n after ≡ (n + 1, plain)
+past_selectors-lone : (c n : ℕ) (after : After) → IsLone c → past_selectors false c n after ≡ (n + 1, plain)
 unfolding past_selectors
-past_selectors-lone c n after box lone =
-    let joiner : (c == 0x200D) ≡ false = grind (arith, nat_tests, box) in
+past_selectors-lone c n after lone =
+    let joiner : (c == 0x200D) ≡ false = grind (arith, nat_tests) in
     by_skip (skips_marks after) (c == 0x200D) (is_ligature_transparent c) joiner lone.not_transparent
-    ∙ ap₂ (λ j (own : ℕ × State). joined_or n j own) (joins_none c box lone after) lone.alone
+    ∙ ap₂ (λ j (own : ℕ × State). joined_or n j own) (joins_none c lone.low lone.high lone.not_keycap lone after) lone.alone
   where
     by_skip : (skips joiner transparent : Bool) → joiner ≡ false → transparent ≡ false
         → cond (skips && joiner) (n, before (with_joiner after)) (cond (skips && transparent) (n, before after) (joined_or n (joins false after c) (alone false c))) ≡ joined_or n (joins false after c) (alone false c)
     by_skip true joiner transparent p q = rw (p, q) refl
     by_skip false joiner transparent p q = refl
 
-in_context-lone : (c n : ℕ) (s : State) → (is_in_range 0x2500 0x259F c || (c == 0x2026)) ≡ true → IsLone c → in_context false c n s ≡ (n + 1, plain)
+in_context-lone : (c n : ℕ) (s : State) → IsLone c → in_context false c n s ≡ (n + 1, plain)
 unfolding in_context
-in_context-lone c n s box lone =
-    let one : (c == 0xFE0F) ≡ false = grind (arith, nat_tests, box) in
-    let two : (c == 0xFE01) ≡ false = grind (arith, nat_tests, box) in
-    let three : (c == 0xFE0E) ≡ false = grind (arith, nat_tests, box) in
-    let quote : is_quote c ≡ false = grind (arith, nat_tests, box) in
+in_context-lone c n s lone =
+    let one : (c == 0xFE0F) ≡ false = grind (arith, nat_tests) in
+    let two : (c == 0xFE01) ≡ false = grind (arith, nat_tests) in
+    let three : (c == 0xFE0E) ≡ false = grind (arith, nat_tests) in
+    let quote : is_quote c ≡ false = grind (arith, nat_tests) in
     rw (one, two, three) (by_text (s.text && is_text_presentation_base c) (by_quote s.quote (is_quote c) quote))
   where
     by_quote : (b quote : Bool) → quote ≡ false → cond (b && quote) (n + 2, plain) (past_selectors false c n s.after) ≡ (n + 1, plain)
-    by_quote true quote none = rw none (past_selectors-lone c n s.after box lone)
-    by_quote false quote none = past_selectors-lone c n s.after box lone
+    by_quote true quote none = rw none (past_selectors-lone c n s.after lone)
+    by_quote false quote none = past_selectors-lone c n s.after lone
 
     by_text : {r : ℕ × State} (b : Bool) → r ≡ (n + 1, plain) → cond b (n + 1, plain) r ≡ (n + 1, plain)
     by_text true rest = refl
     by_text false rest = rest
 
-past_emoji-lone : (c n : ℕ) (s : State) → (is_in_range 0x2500 0x259F c || (c == 0x2026)) ≡ true → IsLone c → past_emoji false c n s ≡ (n + 1, plain)
+past_emoji-lone : (c n : ℕ) (s : State) → IsLone c → past_emoji false c n s ≡ (n + 1, plain)
 unfolding past_emoji
-past_emoji-lone c n s box lone =
-    let feed : (c == 0x0A) ≡ false = grind (arith, nat_tests, box) in
-    let return : (c == 0x0D) ≡ false = grind (arith, nat_tests, box) in
-    let high : nat_le c 0xA0 ≡ false = grind (arith, nat_tests, box) in
+past_emoji-lone c n s lone =
+    let feed : (c == 0x0A) ≡ false = grind (arith, nat_tests) in
+    let return : (c == 0x0D) ≡ false = grind (arith, nat_tests) in
+    let high : nat_le c 0xA0 ≡ false = grind (arith, nat_tests) in
     rw (feed, return, high)
-    (cond_both (is_plain s) _ _ (λ next. next ≡ (n + 1, plain)) (λ _. ap (λ (own : ℕ × State). (n + own.0, own.1)) lone.alone) (λ _. in_context-lone c n s box lone))
+    (cond_both (is_plain s) _ _ (λ next. next ≡ (n + 1, plain)) (λ _. ap (λ (own : ℕ × State). (n + own.0, own.1)) lone.alone) (λ _. in_context-lone c n s lone))
 
--- so each lone character in this range adds one column
-lone_seals : (c : ℕ) → (is_in_range 0x2500 0x259F c || (c == 0x2026)) ≡ true → IsLone c → Seals c
-lone_seals c near lone n s = flag_seals c n s lone.not_variation_base (λ t. past_emoji-lone c n t near lone)
+-- so each such character adds one column
+lone_seals : (c : ℕ) → IsLone c → Seals c
+lone_seals c lone n s = flag_seals c n s lone.not_variation_base (λ t. past_emoji-lone c n t lone)
 
 -- as each box or block character
 pub box_seals : (c : ℕ) → is_in_range 0x2500 0x259F c ≡ true → Seals c
-box_seals c box = lone_seals c (grind (arith, nat_tests, box)) lone
+box_seals c box = lone_seals c lone
   where
     lone : IsLone c
     lone =
@@ -192,4 +208,4 @@ unfolding unicode_width
 ellipsis_is_lone = refl
 
 pub ellipsis_seals : Seals 0x2026
-ellipsis_seals = lone_seals 0x2026 refl (lone_parts 0x2026 ellipsis_is_lone)
+ellipsis_seals = lone_seals 0x2026 (lone_parts 0x2026 ellipsis_is_lone)

@@ -11,11 +11,6 @@ use Rattle.unicode_segmentation.proofs.TextLemmas.{encode_utf8_nonempty}
 use Rattle.std.proofs.lemmas.Bool.{and_parts, not-true, or_cases, or_parts}
 use Rattle.std.proofs.lemmas.Bool.Decides.{nat_tests}
 use Rattle.ucd_table.specs.Rows.{Range, in_ranges}
-use Rattle.ucd_table.proofs.Facts.{Stepped-everywhere, ends_by}
-use Rattle.ucd_table.proofs.Stepped.{Stepped, of_ranges, zip_stepped}
-use Rattle.ucd_table.proofs.StepsLemmas.{rises_from}
-use Rattle.unicode_width.proofs.Computing.{unicode_width}
-use Rattle.unicode_width.proofs.KindLemmas.{kind_stepped}
 use Rattle.unicode_width.proofs.Rules.{width_or_zero}
 use Rattle.unicode_width.specs.declared.kind.Kind.{Kind}
 use Rattle.unicode_width.specs.declared.kind.Kind.TheVariants as kinds
@@ -24,53 +19,8 @@ use Rattle.unicode_width.specs.Width.{alone, of_kind}
 use Rattle.comfy_parts.specs.Columns.{joining_characters, joins_no_other}
 use Rattle.comfy_parts.specs.Text.{Text, measure}
 use Rattle.comfy_parts.specs.Simple.{is_within, narrow_characters, simple_width, wide_characters}
+use Rattle.comfy_parts.proofs.KindRangeLemmas.{is_narrow_kind, is_wide_kind, letters, letters_are_narrow, others, wide_are_wide}
 use Rattle.comfy_parts.proofs.SumKindLemmas.{ascii-one, high-alone, in_ranges-any, summed_add_up}
-
-abbrev is_narrow_kind : Kind → Bool
-is_narrow_kind kinds.Narrow = true
-is_narrow_kind kinds.Ambiguous = true
-is_narrow_kind _ = false
-
-abbrev is_wide_kind : Kind → Bool
-is_wide_kind kinds.Wide = true
-is_wide_kind kinds.Emoji = true
-is_wide_kind _ = false
-
--- the characters of which nothing is said here: control characters, ASCII, and those that join others
-abbrev others : List Range
-others = (0, 0xA0) ∷ joining_characters
-
-abbrev letters : List Range
-letters = (0xC0, 0x2FF) ∷ (0x370, 0x482) ∷ (0x48A, 0x52F) ∷ (0x2010, 0x2027) ∷ (0x2500, 0x259F) ∷ []
-
-unfoldable others_stepped : Stepped (in_ranges others)
-unfolding rises_from
-others_stepped = of_ranges others refl
-
-unfoldable letters_stepped : Stepped (in_ranges letters)
-unfolding rises_from
-letters_stepped = of_ranges letters refl
-
-unfoldable wide_stepped : Stepped (in_ranges wide_characters)
-unfolding rises_from
-wide_stepped = of_ranges wide_characters refl
-
--- computed over all of Unicode
-letters_are_narrow : (c : ℕ) → (not (in_ranges letters c) || (not (in_ranges others c) && is_narrow_kind (kind c))) ≡ true
-unfolding unicode_width ends_by others_stepped letters_stepped
-letters_are_narrow =
-    Stepped-everywhere _
-    (zip_stepped (λ here is. not here || is) (in_ranges letters) (λ c. not (in_ranges others c) && is_narrow_kind (kind c)) letters_stepped
-    (zip_stepped (λ joins k. not joins && is_narrow_kind k) (in_ranges others) kind others_stepped kind_stepped))
-    refl
-
-wide_are_wide : (c : ℕ) → (not (in_ranges wide_characters c) || (not (in_ranges others c) && is_wide_kind (kind c))) ≡ true
-unfolding unicode_width ends_by others_stepped wide_stepped
-wide_are_wide =
-    Stepped-everywhere _
-    (zip_stepped (λ here is. not here || is) (in_ranges wide_characters) (λ c. not (in_ranges others c) && is_wide_kind (kind c)) wide_stepped
-    (zip_stepped (λ joins k. not joins && is_wide_kind k) (in_ranges others) kind others_stepped kind_stepped))
-    refl
 
 -- it joins no other, and takes n columns
 pub record IsSimple (c n : ℕ) : Type 0 where

@@ -7,11 +7,6 @@ use Rattle.std.proofs.lemmas.Bool.Decides.{nat_tests}
 use Rattle.std.proofs.lemmas.List.Sums.{sum_by-cons}
 use Rattle.std.proofs.lemmas.Bool.{cases_lt, or_parts}
 use Rattle.ucd_table.specs.Rows.{Range, in_ranges}
-use Rattle.ucd_table.proofs.Facts.{Stepped-everywhere, ends_by}
-use Rattle.ucd_table.proofs.Stepped.{Stepped, of_ranges, zip_stepped}
-use Rattle.ucd_table.proofs.StepsLemmas.{rises_from}
-use Rattle.unicode_width.proofs.Computing.{unicode_width}
-use Rattle.unicode_width.proofs.KindLemmas.{kind_stepped}
 use Rattle.unicode_width.specs.declared.kind.Kind.{Kind}
 use Rattle.unicode_width.specs.declared.kind.Kind.TheVariants as kinds
 use Rattle.unicode_width.specs.declared.state.After.TheVariants as after
@@ -20,6 +15,7 @@ use Rattle.unicode_width.specs.Kind.{kind}
 use Rattle.unicode_width.specs.Width.{Reading, added, alone, before, char_width, of_kind, past_emoji, plain, read_before, step, str_width}
 use Rattle.unicode_width.proofs.Rules.{width_or_zero}
 use Rattle.unicode_width.proofs.WidthLemmas.{step-before_emoji}
+use Rattle.comfy_parts.proofs.KindRangeLemmas.{adds_up_kind, others_add_up}
 use Rattle.comfy_parts.proofs.WordLemmas.{AddUp}
 use Rattle.comfy_parts.specs.Columns.{joining_characters, joins_no_other}
 
@@ -30,24 +26,6 @@ pub in_ranges-any : (rs : List Range) (c : ℕ) → list_any (λ (r : Range). na
 unfolding in_ranges
 in_ranges-any [] c = refl
 in_ranges-any (r ∷ rs) c = ap (λ b. (nat_le r.0 c && nat_le c r.1) || b) (in_ranges-any rs c)
-
--- the kinds of characters that join nothing, and emoji
-abbrev adds_up_kind : Kind → Bool
-adds_up_kind kinds.Zero = true
-adds_up_kind kinds.Narrow = true
-adds_up_kind kinds.Wide = true
-adds_up_kind kinds.Ambiguous = true
-adds_up_kind kinds.Emoji = true
-adds_up_kind _ = false
-
-unfoldable joining_stepped : Stepped (in_ranges joining_characters)
-unfolding rises_from
-joining_stepped = of_ranges joining_characters refl
-
--- each character that isn't among the joining ones is of such a kind
-others_add_up : (c : ℕ) → (in_ranges joining_characters c || adds_up_kind (kind c)) ≡ true
-unfolding unicode_width ends_by joining_stepped
-others_add_up = Stepped-everywhere _ (zip_stepped (λ joins k. joins || adds_up_kind k) (in_ranges joining_characters) kind joining_stepped kind_stepped) refl
 
 pub ascii-one : (c : ℕ) → is_in_range 0x20 0x7E c ≡ true → width_or_zero false c ≡ 1
 unfolding char_width

@@ -13,7 +13,7 @@ use crate::cell::body::Body;
 use crate::error::Result;
 use crate::style::{Attribute, CellAlignment, Color};
 use std::alloc::{AllocError, Global};
-use std::fmt::Display;
+use std::fmt::{self, Display};
 use std::hash::{Hash, Hasher};
 use std::marker::Model;
 
@@ -24,7 +24,7 @@ use std::marker::Model;
 ///     .fg(Color::Red)
 ///     .set_alignment(CellAlignment::Right);
 /// ```
-#[derive(Debug, Drop)]
+#[derive(Drop)]
 pub struct Cell {
     body: Body,
     delimiter: Option<char>,
@@ -206,6 +206,19 @@ impl Cell {
         ensures { result.now ≡ self.now.attributes }
     {
         self.body.attributes()
+    }
+}
+
+impl fmt::Debug for Cell {
+    fn fmt<W: fmt::Write>(&self, f: &mut fmt::Formatter<W>) -> fmt::Result {
+        f.debug_struct("Cell")
+            .field("text_lines", &self.text_lines())
+            .field("delimiter", &self.delimiter)
+            .field("alignment", &self.alignment)
+            .field("foreground", &self.foreground)
+            .field("background", &self.background)
+            .field("attributes", &self.attributes())
+            .finish()
     }
 }
 

@@ -16,12 +16,12 @@ use std::marker::Model;
 use std::slice;
 
 // The text lines and the attributes of a cell.
-#[derive(Debug, Drop)]
+#[derive(Drop)]
 pub(crate) struct Body {
     kept: Kept,
 }
 
-#[derive(Debug, Drop)]
+#[derive(Drop)]
 enum Kept {
     // a single text line without ESC, and no attributes, as most cells have: this takes no memory but its text's
     Plain { text: String, width: usize },
@@ -29,7 +29,7 @@ enum Kept {
     Full(Box<FullBody>),
 }
 
-#[derive(Debug, Drop)]
+#[derive(Drop)]
 struct FullBody {
     lines: TextLines,
     attributes: Vec<Attribute>,

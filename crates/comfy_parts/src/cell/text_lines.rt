@@ -15,14 +15,14 @@ use std::slice;
 
 // The text lines of a cell, and what is visible of them where ESC stands in one. A table asks for the visible ones
 // again and again, and each time without memory, so they are kept.
-#[derive(Debug, Drop)]
+#[derive(Drop)]
 pub(crate) struct TextLines {
     whole: Lines,
     visible: Option<Lines>,
 }
 
 // Text lines, and the columns that each takes, in the same order. A single one takes no list.
-#[derive(Debug, Drop)]
+#[derive(Drop)]
 enum Lines {
     One {
         text: String,

@@ -1,10 +1,17 @@
 //! Tuples as cells: values of several types in one row. Each tuple is the shorter one before it, and one more cell.
 
-ghost use Rattle.std.specs.Prelude.{[], ◌∷◌};
+ghost use Rattle.std.specs.Prelude.{◌≡◌, [], ◌∷◌, ◌++◌, IfOk};
 
 use crate::convert::{Cells, IntoCell, IntoCells};
 use crate::error::Result;
 use std::alloc::Global;
+
+// The cells of a list, and one more at their end.
+fn with_last<L: IntoCells, T: IntoCell>(alloc: Global, list: L, last: T) -> Result<Cells>
+    ensures { IfOk result (λ cells. cells.0.items ≡ L.cells_of list ++ T.cell_of last ∷ []) }
+{
+    list.into_cells(alloc)?.with(last.into_cell(alloc)?)
+}
 
 impl<A: IntoCell, B: IntoCell> IntoCells for (A, B) {
     ghost cells_of = { λ values. A.cell_of values.0 ∷ B.cell_of values.1 ∷ [] };
@@ -20,7 +27,7 @@ impl<A: IntoCell, B: IntoCell, C: IntoCell> IntoCells for (A, B, C) {
 
     fn into_cells(self, alloc: Global) -> Result<Cells> {
         let (a, b, c) = self;
-        (a, b).into_cells(alloc)?.with(c.into_cell(alloc)?)
+        with_last(alloc, (a, b), c)
     }
 }
 
@@ -29,7 +36,7 @@ impl<A: IntoCell, B: IntoCell, C: IntoCell, D: IntoCell> IntoCells for (A, B, C,
 
     fn into_cells(self, alloc: Global) -> Result<Cells> {
         let (a, b, c, d) = self;
-        (a, b, c).into_cells(alloc)?.with(d.into_cell(alloc)?)
+        with_last(alloc, (a, b, c), d)
     }
 }
 
@@ -39,7 +46,7 @@ impl<A: IntoCell, B: IntoCell, C: IntoCell, D: IntoCell, E: IntoCell> IntoCells
 
     fn into_cells(self, alloc: Global) -> Result<Cells> {
         let (a, b, c, d, e) = self;
-        (a, b, c, d).into_cells(alloc)?.with(e.into_cell(alloc)?)
+        with_last(alloc, (a, b, c, d), e)
     }
 }
 
@@ -49,7 +56,7 @@ impl<A: IntoCell, B: IntoCell, C: IntoCell, D: IntoCell, E: IntoCell, F: IntoCel
 
     fn into_cells(self, alloc: Global) -> Result<Cells> {
         let (a, b, c, d, e, f) = self;
-        (a, b, c, d, e).into_cells(alloc)?.with(f.into_cell(alloc)?)
+        with_last(alloc, (a, b, c, d, e), f)
     }
 }
 
@@ -66,9 +73,7 @@ impl<
 
     fn into_cells(self, alloc: Global) -> Result<Cells> {
         let (a, b, c, d, e, f, g) = self;
-        (a, b, c, d, e, f)
-            .into_cells(alloc)?
-            .with(g.into_cell(alloc)?)
+        with_last(alloc, (a, b, c, d, e, f), g)
     }
 }
 
@@ -86,8 +91,6 @@ impl<
 
     fn into_cells(self, alloc: Global) -> Result<Cells> {
         let (a, b, c, d, e, f, g, h) = self;
-        (a, b, c, d, e, f, g)
-            .into_cells(alloc)?
-            .with(h.into_cell(alloc)?)
+        with_last(alloc, (a, b, c, d, e, f, g), h)
     }
 }

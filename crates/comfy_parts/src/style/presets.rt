@@ -492,6 +492,23 @@ pub const NOTHING: TableStyle = TableStyle {
     bottom_border: NO_LINE,
 };
 
+// The presets in the order of their positions.
+static PRESETS: [TableStyle; 13] = [
+    ASCII_FULL,
+    ASCII_FULL_CONDENSED,
+    ASCII_NO_BORDERS,
+    ASCII_BORDERS_ONLY,
+    ASCII_BORDERS_ONLY_CONDENSED,
+    ASCII_HORIZONTAL_ONLY,
+    ASCII_MARKDOWN,
+    UTF8_FULL,
+    UTF8_FULL_CONDENSED,
+    UTF8_NO_BORDERS,
+    UTF8_BORDERS_ONLY,
+    UTF8_HORIZONTAL_ONLY,
+    NOTHING,
+];
+
 /// The preset of this name, written as its constant is. Of another name there is none.
 ///
 /// ```
@@ -530,23 +547,7 @@ pub fn by_name(name: &str) -> Option<TableStyle>
 pub fn by_position(position: usize) -> Option<TableStyle>
     ensures { result ≡ preset_at position }
 {
-    let style = match position {
-        0 => ASCII_FULL,
-        1 => ASCII_FULL_CONDENSED,
-        2 => ASCII_NO_BORDERS,
-        3 => ASCII_BORDERS_ONLY,
-        4 => ASCII_BORDERS_ONLY_CONDENSED,
-        5 => ASCII_HORIZONTAL_ONLY,
-        6 => ASCII_MARKDOWN,
-        7 => UTF8_FULL,
-        8 => UTF8_FULL_CONDENSED,
-        9 => UTF8_NO_BORDERS,
-        10 => UTF8_BORDERS_ONLY,
-        11 => UTF8_HORIZONTAL_ONLY,
-        12 => NOTHING,
-        _ => return None,
-    };
-    Some(style)
+    PRESETS.get(position).copied()
 }
 
 /// Each preset has the characters of its definition in `specs/Presets`. The function does nothing: its clauses say so.
