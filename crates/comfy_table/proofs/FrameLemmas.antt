@@ -1,14 +1,14 @@
 -- Lines that are made of their borders and pieces one after another.
 use Rattle.std.proofs.Common.{◌≡◌, ℕ, Bool, List, [], ◌++◌, Option, map, ap, ◌∙◌, sym, append_assoc}
 use Rattle.std.specs.List.{join_by}
-use Rattle.std.specs.Prelude.{if◌then◌else◌, Result, Ok, Err, OnOk}
+use Rattle.std.specs.Prelude.{if◌then◌else◌}
 use Rattle.comfy_parts.specs.Text.{Text}
 use Rattle.comfy_parts.specs.declared.style.table_style.TableStyle.{TableStyle}
 use Rattle.comfy_table.proofs.JoinLemmas.{join_by-map}
 use Rattle.comfy_table.specs.Frame.{character, draws_left_border, draws_right_border, draws_vertical_lines, between_borders}
 
 -- after a text: the left border, the pieces with what stands between them, the right border
-between_borders-behind : {X : Type 0} (style : TableStyle) (left junction right : Option ℕ) (f : X → Text) (xs : List X) (l v r : Bool) (start before inside whole : Text)
+pub between_borders-behind : {X : Type 0} (style : TableStyle) (left junction right : Option ℕ) (f : X → Text) (xs : List X) (l v r : Bool) (start before inside whole : Text)
     → l ≡ draws_left_border style → v ≡ draws_vertical_lines style → r ≡ draws_right_border style
     → before ≡ start ++ (if l then character left else [])
     → inside ≡ before ++ join_by f (if v then character junction else []) xs
@@ -22,14 +22,3 @@ between_borders-behind {X} style left junction right f xs l v r start before ins
     ∙ append_assoc start (if l then character left else []) (join_by f (if v then character junction else []) xs ++ (if r then character right else []))
     ∙ (λ i. start ++ ((if el i then character left else []) ++ (join_by f (if ev i then character junction else []) xs ++ (if er i then character right else []))))
     ∙ ap (λ (t : Text). start ++ ((if draws_left_border style then character left else []) ++ (t ++ (if draws_right_border style then character right else [])))) (sym (join_by-map (λ (p : Text). p) f (if draws_vertical_lines style then character junction else []) xs))
-
--- a line that was made piece by piece is what stands between its borders
-pub between_borders-made : {X : Type 0} (style : TableStyle) (left junction right : Option ℕ) (f : X → Text) (xs : List X) (l v r : Bool) (start before inside whole : Text)
-    → l ≡ draws_left_border style → v ≡ draws_vertical_lines style → r ≡ draws_right_border style
-    → start ≡ [] → before ≡ start ++ (if l then character left else [])
-    → inside ≡ before ++ join_by f (if v then character junction else []) xs
-    → whole ≡ inside ++ (if r then character right else [])
-    → whole ≡ between_borders style left junction right (map f xs)
-between_borders-made style left junction right f xs l v r start before inside whole el ev er none first second third =
-    between_borders-behind style left junction right f xs l v r start before inside whole el ev er first second third
-    ∙ ap (λ (t : Text). t ++ between_borders style left junction right (map f xs)) none

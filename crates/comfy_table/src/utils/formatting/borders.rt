@@ -1,10 +1,12 @@
 //! The frame of a table.
 
-ghost use Rattle.std.specs.Prelude.{◌≡◌, ◌++◌, ◌&&◌, nat_lt, [], IfOk, OnOk, map, string_bytes, option_to_list, encode_utf8, if◌then◌else◌};
+ghost use Rattle.std.specs.Prelude.{◌≡◌, ◌++◌, ◌&&◌, ℕ, nat_lt, [], IfOk, OnOk, map, string_bytes, option_to_list, encode_utf8, if◌then◌else◌};
 ghost use Rattle.std.specs.List.{repeat};
+ghost use Rattle.comfy_parts.specs.CellValue.{ColumnInfo, info_width};
 ghost use Rattle.comfy_table.specs.Frame.{character, draws_left_border, draws_right_border, draws_vertical_lines, frame_line, is_drawn, optional_frame_line};
 
 use crate::table::Table;
+use crate::utils::formatting::plain_rows::VisibleColumn;
 use comfy_parts::Result;
 use comfy_parts::style::LineStyle;
 
@@ -29,34 +31,38 @@ pub fn should_draw_vertical_lines(table: &Table) -> bool
     table.style.draws_vertical_lines()
 }
 
-/// A line of the frame over columns of these whole widths, where it is drawn: any of its four parts is set.
+/// A line of the frame over these columns, where it is drawn: any of its four parts is set.
 pub(crate) fn optional_frame_line(
     table: &Table,
     line: &LineStyle,
-    widths: &[usize],
+    columns: &[VisibleColumn],
 ) -> Result<Option<String>>
-    ensures { IfOk result (λ drawn. map string_bytes (option_to_list drawn) ≡ optional_frame_line table.now.style line.now widths.now) }
+    ensures { IfOk result (λ drawn. map string_bytes (option_to_list drawn) ≡ optional_frame_line table.now.style line.now (map (λ (p : ℕ × ColumnInfo). info_width p.1) columns.now)) }
 {
     if !is_drawn(line) {
         return Ok(None);
     }
-    let text = frame_line(table, line, widths)?;
+    let mut text = String::new(*table.columns.allocator());
+    push_frame_line(&mut text, table, line, columns)?;
     Ok(Some(text))
 }
 
-// A line of the frame, drawn whatever parts are set.
-fn frame_line(table: &Table, line: &LineStyle, widths: &[usize]) -> Result<String>
-    ensures { IfOk result (λ text. string_bytes text ≡ frame_line table.now.style line.now widths.now) }
+// Appends a line of the frame, drawn whatever parts are set.
+fn push_frame_line(
+    text: &mut String,
+    table: &Table,
+    line: &LineStyle,
+    columns: &[VisibleColumn],
+) -> Result<()>
+    ensures { OnOk result (string_bytes text.new ≡ string_bytes text.old ++ frame_line table.now.style line.now (map (λ (p : ℕ × ColumnInfo). info_width p.1) columns.now)) }
 {
     let vertical = table.style.draws_vertical_lines();
-    let mut text = String::new(*table.columns.allocator());
-    push_border(&mut text, table.style.draws_left_border(), line.left)?;
-    for (position, width) in widths.iter().enumerate() {
-        push_border(&mut text, needs_junction(vertical, position), line.junction)?;
-        push_repeated(&mut text, line.fill.unwrap_or(' '), *width)?;
+    push_border(text, table.style.draws_left_border(), line.left)?;
+    for (position, column) in columns.iter().enumerate() {
+        push_border(text, needs_junction(vertical, position), line.junction)?;
+        push_repeated(text, line.fill.unwrap_or(' '), column.info.width())?;
     }
-    push_border(&mut text, table.style.draws_right_border(), line.right)?;
-    Ok(text)
+    push_border(text, table.style.draws_right_border(), line.right)
 }
 
 fn is_drawn(line: &LineStyle) -> bool

@@ -117,7 +117,12 @@ pub fn row_cell_lines<'a>(
 fn all_fit(widths: &[usize], content_width: usize) -> bool
     ensures { result ≡ list_all (λ width. nat_le width content_width) widths.now }
 {
-    widths.iter().all(|width| *width <= content_width)
+    for width in widths {
+        if *width > content_width {
+            return false;
+        }
+    }
+    true
 }
 
 /// Whether what is written for the lines of the cell may differ from what is seen of them.
@@ -225,24 +230,21 @@ fn whole_lines<'a>(
         return Ok(seen);
     }
     let texts = written_lines(cell, info, table.delimiter_of(cell, info.delimiter))?;
-    with_texts(seen, texts)
+    Ok(with_texts(seen, texts))
 }
 
 // Lines of which the first get texts of their own.
-fn with_texts<'a>(seen: Vec<Line<'a>>, texts: Vec<String>) -> Result<Vec<Line<'a>>>
-    ensures { IfOk result (λ lines. lines.items ≡ with_texts seen.entry.items (map string_bytes texts.items)) }
+fn with_texts<'a>(mut lines: Vec<Line<'a>>, texts: Vec<String>) -> Vec<Line<'a>>
+    ensures { result.items ≡ with_texts lines.entry.items (map string_bytes texts.items) }
 {
-    let mut lines = Vec::with_capacity(*seen.allocator(), seen.len())?;
-    let mut texts = texts.into_iter();
-    for line in seen {
-        let columns = line.columns;
-        let text = match texts.next() {
-            Some(text) => CowStr::Owned(text),
-            None => line.text,
-        };
-        lines.push(Line { columns, text })?;
+    let mut position = 0;
+    for text in texts {
+        if let Some(line) = lines.get_mut(position) {
+            line.text = CowStr::Owned(text);
+            position += 1;
+        }
     }
-    Ok(lines)
+    lines
 }
 
 // The line that is cut, by what is seen of it.

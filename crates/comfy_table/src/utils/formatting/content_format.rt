@@ -29,7 +29,7 @@ pub fn format_row(
     let alloc = *table.columns.allocator();
     let drawn = drawn_cells(row, display_infos, table)?;
     let cells = drawn.as_slice();
-    let none = Gap::new(String::new(alloc))?;
+    let none = Gap::new(alloc, false, None)?;
     let mut lines = Vec::new(alloc);
     for line in 0..greatest_height(cells) {
         lines.push(row_line(alloc, &none, cells, line)?)?;

@@ -17,7 +17,6 @@ use crate::utils::formatting::row_gaps::RowGaps;
 use comfy_parts::content_split::ColumnDisplayInfo;
 use comfy_parts::style::{ContentLineStyle, LineStyle};
 use comfy_parts::{Result, Row};
-use std::alloc::Global;
 use std::marker::Model;
 
 /// The lines of a table whose columns are drawn by these infos: top border, header, rows, bottom border.
@@ -34,8 +33,6 @@ pub fn draw(table: &Table, infos: &[ColumnDisplayInfo], form: OutputForm) -> Res
 struct Writer<'a> {
     table: &'a Table,
     infos: &'a [ColumnDisplayInfo],
-    // the whole widths of the visible columns
-    widths: Vec<usize>,
     // what draws the rows that are plain
     plain: PlainRows<'a>,
     // the line that is drawn now
@@ -45,12 +42,11 @@ struct Writer<'a> {
 
 impl<'a> Model for Writer<'a> {
     ghost use Rattle.std.specs.Prelude.{◌≡◌};
-    ghost use Rattle.comfy_table.specs.Drawing.{whole_widths};
     ghost use Rattle.comfy_table.specs.Output.{WriterValue};
 
     ghost Value = { WriterValue };
 
-    ghost invariant = { λ w. (w.widths.items ≡ whole_widths w.infos.now) × (w.plain ≡ record { table = w.table.now; infos = w.infos.now }) };
+    ghost invariant = { λ w. w.plain ≡ record { table = w.table.now; infos = w.infos.now } };
 
     ghost view = { λ w. record { table = w.table.now; infos = w.infos.now; output = w.output } };
 }
@@ -63,7 +59,6 @@ impl<'a> Writer<'a> {
         Ok(Writer {
             table,
             infos,
-            widths: whole_widths(alloc, infos)?,
             plain: PlainRows::new(table, infos)?,
             line: String::new(alloc),
             output: Output::new(alloc, form),
@@ -85,7 +80,7 @@ impl<'a> Writer<'a> {
     fn write_frame_line(&mut self, style: &LineStyle) -> Result<()>
         ensures { OnOk result (self.new ≡ with_written (optional_frame_line self.old.table.style style.now (whole_widths self.old.infos)) self.old) }
     {
-        if let Some(text) = optional_frame_line(self.table, style, self.widths.as_slice())? {
+        if let Some(text) = optional_frame_line(self.table, style, self.plain.columns())? {
             self.output.push_line(text.as_str())?;
         }
         Ok(())
@@ -120,7 +115,7 @@ impl<'a> Writer<'a> {
         let separator = optional_frame_line(
             table,
             &table.style.row_separator,
-            self.widths.as_slice(),
+            self.plain.columns(),
         )?;
         let gaps = RowGaps::new(table, &table.style.content_lines)?;
         self.write_separated_rows(&gaps, &separator)
@@ -180,18 +175,4 @@ impl<'a> Writer<'a> {
         gaps.push_line(&mut self.line, cells, line)?;
         self.output.push_line(self.line.as_str())
     }
-}
-
-// The whole widths of the visible columns.
-fn whole_widths(alloc: Global, infos: &[ColumnDisplayInfo]) -> Result<Vec<usize>>
-    ensures { IfOk result (λ widths. widths.items ≡ whole_widths infos.now) }
-{
-    let mut widths = Vec::new(alloc);
-    for (_position, info) in infos.iter().enumerate() {
-        if info.is_hidden() {
-            continue;
-        }
-        widths.push(info.width())?;
-    }
-    Ok(widths)
 }

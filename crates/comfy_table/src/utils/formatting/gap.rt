@@ -2,14 +2,19 @@
 
 ghost use Rattle.std.specs.Prelude.{◌≡◌, ◌++◌, IfOk, OnOk, string_bytes};
 ghost use Rattle.comfy_parts.specs.Text.{spaces};
+ghost use Rattle.comfy_table.specs.Gaps.{drawn_character};
 
+use crate::utils::formatting::borders::push_border;
 use comfy_parts::Result;
+use std::alloc::Global;
 use std::marker::Model;
 
 /// What stands between two texts of a line: spaces, a border, and spaces.
 #[derive(Drop)]
 pub struct Gap {
-    border: String,
+    // whether the border is drawn, and its character
+    drawn: bool,
+    part: Option<char>,
     // the border between two runs of spaces, from which a gap is copied at once
     text: String,
 }
@@ -17,24 +22,25 @@ pub struct Gap {
 impl Model for Gap {
     ghost use Rattle.std.specs.Prelude.{◌≡◌, ◌++◌, List, ℕ, string_bytes};
     ghost use Rattle.comfy_parts.specs.Text.{spaces};
+    ghost use Rattle.comfy_table.specs.Gaps.{drawn_character};
 
     ghost Value = { List ℕ };
 
-    ghost invariant = { λ g. string_bytes g.text ≡ spaces 64 ++ (string_bytes g.border ++ spaces 64) };
+    ghost invariant = { λ g. string_bytes g.text ≡ spaces 64 ++ (drawn_character g.drawn g.part ++ spaces 64) };
 
-    ghost view = { λ g. string_bytes g.border };
+    ghost view = { λ g. drawn_character g.drawn g.part };
 }
 
 impl Gap {
-    /// A gap with this border.
-    pub fn new(border: String) -> Result<Gap>
-        ensures { IfOk result (λ gap. gap ≡ string_bytes border) }
+    /// The gap of a character of the style, where it is drawn.
+    pub fn new(alloc: Global, drawn: bool, part: Option<char>) -> Result<Gap>
+        ensures { IfOk result (λ gap. gap ≡ drawn_character drawn part) }
     {
         let run = run_of_spaces();
-        let mut text = String::from_str(*border.allocator(), run)?;
-        text.push_str(border.as_str())?;
+        let mut text = String::from_str(alloc, run)?;
+        push_border(&mut text, drawn, part)?;
         text.push_str(run)?;
-        Ok(Gap { border, text })
+        Ok(Gap { drawn, part, text })
     }
 
     /// Appends so many spaces, the border, and so many spaces.
@@ -42,26 +48,25 @@ impl Gap {
     pub fn push(&self, text: &mut String, before: usize, after: usize) -> Result<()>
         ensures { OnOk result (string_bytes text.new ≡ string_bytes text.old ++ (spaces before ++ (self.now ++ spaces after))) }
     {
-        let border = self.border.as_str();
         let run = run_of_spaces().len();
         if before > run || after > run {
-            return push_long(text, before, border, after);
+            return self.push_long(text, before, after);
         }
         let (_, rest) = self.text.as_str().split_at(run - before);
-        let (gap, _) = rest.split_at(before + border.len() + after);
+        let (gap, _) = rest.split_at(rest.len() - (run - after));
         text.push_str(gap)?;
         Ok(())
     }
-}
 
-// Appends a gap of more spaces than are copied at once.
-#[inline(never)]
-fn push_long(text: &mut String, before: usize, border: &str, after: usize) -> Result<()>
-    ensures { OnOk result (string_bytes text.new ≡ string_bytes text.old ++ (spaces before ++ (border.now ++ spaces after))) }
-{
-    push_spaces(text, before)?;
-    text.push_str(border)?;
-    push_spaces(text, after)
+    // Appends a gap of more spaces than are copied at once.
+    #[inline(never)]
+    fn push_long(&self, text: &mut String, before: usize, after: usize) -> Result<()>
+        ensures { OnOk result (string_bytes text.new ≡ string_bytes text.old ++ (spaces before ++ (self.now ++ spaces after))) }
+    {
+        push_spaces(text, before)?;
+        push_border(text, self.drawn, self.part)?;
+        push_spaces(text, after)
+    }
 }
 
 /// Appends that many spaces.

@@ -16,11 +16,11 @@ use comfy_parts::{Result, Row};
 use std::alloc::Global;
 use std::marker::Model;
 
-// A visible column, and its position in the table.
+/// A visible column, and its position in the table.
 #[derive(Drop)]
-struct VisibleColumn<'a> {
+pub struct VisibleColumn<'a> {
     position: usize,
-    info: &'a ColumnDisplayInfo,
+    pub info: &'a ColumnDisplayInfo,
 }
 
 impl<'a> Model for VisibleColumn<'a> {
@@ -64,6 +64,13 @@ impl<'a> PlainRows<'a> {
             columns: visible_columns(alloc, infos)?,
             styles_nothing: !table.custom_styling && !table.should_style(),
         })
+    }
+
+    /// The visible columns of the table, in order.
+    pub fn columns(&self) -> &[VisibleColumn<'a>]
+        ensures { result.now ≡ visible_infos self.now.infos }
+    {
+        self.columns.as_slice()
     }
 
     /// Makes a text the one line of a row that is plain. False for every other row.

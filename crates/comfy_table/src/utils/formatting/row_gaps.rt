@@ -3,15 +3,13 @@
 ghost use Rattle.std.specs.Prelude.{◌≡◌, ◌++◌, IfOk, OnOk, map, string_bytes};
 ghost use Rattle.comfy_parts.specs.Text.{spaces};
 ghost use Rattle.comfy_table.specs.DrawnCells.{piece_at};
-ghost use Rattle.comfy_table.specs.Gaps.{drawn_character, gap_before, gap_line, row_gaps};
+ghost use Rattle.comfy_table.specs.Gaps.{gap_before, gap_line, row_gaps};
 
 use crate::table::Table;
-use crate::utils::formatting::borders::push_border;
 use crate::utils::formatting::drawn_cell::DrawnCell;
 use crate::utils::formatting::gap::Gap;
 use comfy_parts::Result;
 use comfy_parts::style::ContentLineStyle;
-use std::alloc::Global;
 use std::marker::Model;
 
 /// The gaps in the lines of a row: before the first piece, between two, and after the last.
@@ -38,9 +36,9 @@ impl RowGaps {
         let alloc = *table.columns.allocator();
         let style = &table.style;
         Ok(RowGaps {
-            left: gap(alloc, style.draws_left_border(), line.left)?,
-            junction: gap(alloc, style.draws_vertical_lines(), line.junction)?,
-            right: gap(alloc, style.draws_right_border(), line.right)?,
+            left: Gap::new(alloc, style.draws_left_border(), line.left)?,
+            junction: Gap::new(alloc, style.draws_vertical_lines(), line.junction)?,
+            right: Gap::new(alloc, style.draws_right_border(), line.right)?,
         })
     }
 
@@ -76,13 +74,4 @@ impl RowGaps {
         }
         self.push_end(text, free)
     }
-}
-
-// The gap of a character of the style, where it is drawn.
-fn gap(alloc: Global, drawn: bool, part: Option<char>) -> Result<Gap>
-    ensures { IfOk result (λ gap. gap ≡ drawn_character drawn part) }
-{
-    let mut border = String::new(alloc);
-    push_border(&mut border, drawn, part)?;
-    Gap::new(border)
 }

@@ -46,8 +46,7 @@ pub(crate) fn push_style_begin(line: &mut String, cell: &Cell) -> Result<()>
 {
     push_background(line, cell.background())?;
     push_foreground(line, cell.foreground())?;
-    push_attributes(line, cell.attributes())?;
-    Ok(())
+    push_attributes(line, cell.attributes())
 }
 
 /// Appends what stands after a styled text.
@@ -132,7 +131,7 @@ fn push_given(line: &mut String, attributes: &[Attribute], given: &[Attribute]) 
 fn has_attribute(given: &[Attribute], attribute: Attribute) -> bool
     ensures { result ≡ has_attribute given.now attribute }
 {
-    given.iter().any(|other| attribute == *other)
+    given.contains(&attribute)
 }
 
 // Appends the code of a colour other than `Reset`, and the `m` that ends its sequence: by its number of sixteen or of 256,

@@ -1,7 +1,8 @@
-use Rattle.std.proofs.Common.{◌≡◌, ◌++◌, map, string_bytes}
+use Rattle.std.proofs.Common.{◌≡◌, ◌++◌, drop, map, string_bytes, take}
 use Rattle.comfy_table.specs.DrawnCells.{with_texts}
 use Rattle.comfy_table.proofs.utils.formatting.cell_lines.with_texts.Given as goal
 
-abbrev pub invariant-loop-line : goal.invariant-loop-line
-invariant-loop-line l =
-    l.lines.items ++ with_texts l.line-iterator.rest.items (map string_bytes l.texts.rest.items) ≡ with_texts l.initial.line-iterator.rest.items (map string_bytes l.initial.texts.rest.items)
+abbrev pub invariant-loop-text : goal.invariant-loop-text
+invariant-loop-text l =
+    take l.position l.lines.items ++ with_texts (drop l.position l.lines.items) (map string_bytes l.text-iterator.rest.items)
+    ≡ with_texts l.initial.lines.items (map string_bytes l.initial.text-iterator.rest.items)

@@ -1,19 +1,21 @@
 use Rattle.std.proofs.Common.{◌≡◌, ◌++◌, ℕ, List, append_assoc, ap}
+use Rattle.std.proofs.lemmas.Result.{on_ok_weaker}
+use Rattle.std.specs.Prelude.{Result, OnOk}
 use Rattle.comfy_table.specs.Styling.{background_code, foreground_code, attribute_sequences, optional_sequence}
 use Rattle.comfy_table.proofs.utils.formatting.styling.push_style_begin.Goals as goal
 
 -- three texts that are appended in turn
-appended :
-    (line one two three s t u s2 t2 u2 : List ℕ)
-    → one ≡ line ++ s → two ≡ one ++ t → three ≡ two ++ u
+appended : {T E : Type 0}
+    (last : Result T E) (line one two three s t u s2 t2 u2 : List ℕ)
+    → one ≡ line ++ s → two ≡ one ++ t → OnOk last (three ≡ two ++ u)
     → s ≡ s2 → t ≡ t2 → u ≡ u2
-    → three ≡ line ++ (s2 ++ (t2 ++ u2))
-appended line one two three s t u s2 t2 u2 e1 e2 e3 es et eu =
-    cc (append_assoc (line ++ s2) t2 u2, append_assoc line s2 (t2 ++ u2))
+    → OnOk last (three ≡ line ++ (s2 ++ (t2 ++ u2)))
+appended last line one two three s t u s2 t2 u2 e1 e2 e3 es et eu =
+    on_ok_weaker last (λ e. cc (e, append_assoc (line ++ s2) t2 u2, append_assoc line s2 (t2 ++ u2))) e3
 
 pub returns : goal.returns
 returns c =
-    appended _ _ _ _ _ _ _ _ _ _ c.in_ok-push_background.ensures c.in_ok-push_foreground.ensures c.in_ok-push_attributes.ensures
+    appended _ _ _ _ _ _ _ _ _ _ _ c.in_ok-push_background.ensures c.in_ok-push_foreground.ensures c.push_attributes.ensures
     (ap (optional_sequence background_code) c.background.ensures)
     (ap (optional_sequence foreground_code) c.foreground.ensures)
     (ap attribute_sequences c.attributes.ensures)

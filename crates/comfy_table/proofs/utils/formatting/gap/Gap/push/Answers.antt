@@ -1,4 +1,4 @@
-use Rattle.std.proofs.Common.{◌≡◌, ℕ, ◌++◌, ◌∙◌, ◌+◌, ap, length, string_bytes, take, arith}
+use Rattle.std.proofs.Common.{◌≡◌, ℕ, ◌++◌, ◌∙◌, ap, length, string_bytes, arith}
 use Rattle.std.proofs.lemmas.List.{length-replicate}
 use Rattle.comfy_parts.specs.Text.{Text, spaces}
 use Rattle.comfy_table.proofs.GapLemmas.{copied, first_cut, first_left, second_cut}
@@ -8,25 +8,22 @@ pub split_at-requires : goal.split_at-requires
 split_at-requires c =
     let n = length c.run_of_spaces-run.result.now in
     let long : n ≡ 64 = ap length c.run_of_spaces-run.ensures ∙ length-replicate {A = ℕ} 64 0x20 in
-    let border = c.as_str-border.result.now in
-    let is : c.as_str.result.now ≡ spaces n ++ (border ++ spaces n) = grind (arith, long) in
-    first_cut c.as_str.result.now border n c.args.before c.args.after is c.as_str-border.utf8 c.if-before-run.false c.if-after-run.false
+    let is : c.as_str.result.now ≡ spaces n ++ (c.args.self.now ++ spaces n) = grind (arith, long) in
+    first_cut c.as_str.result.now c.args.self.now n c.args.before c.args.after is c.as_str.utf8 c.if-before-run.false c.if-after-run.false
 
 pub split_at-requires-2 : goal.split_at-requires-2
 split_at-requires-2 c =
     let n = length c.run_of_spaces-run.result.now in
     let long : n ≡ 64 = ap length c.run_of_spaces-run.ensures ∙ length-replicate {A = ℕ} 64 0x20 in
-    let border = c.as_str-border.result.now in
-    let is : c.as_str.result.now ≡ spaces n ++ (border ++ spaces n) = grind (arith, long) in
-    let left : c.split_at.result.1.now ≡ spaces c.args.before ++ (border ++ spaces n) = c.split_at.ensures.back ∙ first_left c.as_str.result.now border n c.args.before c.args.after is c.as_str-border.utf8 c.if-before-run.false c.if-after-run.false in
-    second_cut c.as_str.result.now border n c.args.before c.args.after is c.as_str-border.utf8 c.if-before-run.false c.if-after-run.false c.split_at.result.1.now left
+    let is : c.as_str.result.now ≡ spaces n ++ (c.args.self.now ++ spaces n) = grind (arith, long) in
+    let left : c.split_at.result.1.now ≡ spaces c.args.before ++ (c.args.self.now ++ spaces n) = c.split_at.ensures.back ∙ first_left c.as_str.result.now c.args.self.now n c.args.before c.args.after is c.as_str.utf8 c.if-before-run.false c.if-after-run.false in
+    second_cut c.as_str.result.now c.args.self.now n c.args.before c.args.after is c.as_str.utf8 c.if-before-run.false c.if-after-run.false c.split_at.result.1.now left
 
 pub returns : goal.returns
 returns c =
     let n = length c.run_of_spaces-run.result.now in
     let long : n ≡ 64 = ap length c.run_of_spaces-run.ensures ∙ length-replicate {A = ℕ} 64 0x20 in
-    let border = c.as_str-border.result.now in
-    let is : c.as_str.result.now ≡ spaces n ++ (border ++ spaces n) = grind (arith, long) in
-    let left : c.split_at.result.1.now ≡ spaces c.args.before ++ (border ++ spaces n) = c.split_at.ensures.back ∙ first_left c.as_str.result.now border n c.args.before c.args.after is c.as_str-border.utf8 c.if-before-run.false c.if-after-run.false in
-    let gap : c.split_at-2.result.0.now ≡ spaces c.args.before ++ (border ++ spaces c.args.after) = c.split_at-2.ensures.front ∙ ap (take (c.args.before + length border + c.args.after)) left ∙ copied c.as_str.result.now border n c.args.before c.args.after is c.as_str-border.utf8 c.if-before-run.false c.if-after-run.false in
-    c.in_ok-push_str.ensures.bytes ∙ ap (λ (t : Text). string_bytes c.args.text.now ++ t) (gap ∙ ap (λ (t : Text). spaces c.args.before ++ (t ++ spaces c.args.after)) (c.as_str-border.ensures.value ∙ c.self.view_is))
+    let is : c.as_str.result.now ≡ spaces n ++ (c.args.self.now ++ spaces n) = grind (arith, long) in
+    let left : c.split_at.result.1.now ≡ spaces c.args.before ++ (c.args.self.now ++ spaces n) = c.split_at.ensures.back ∙ first_left c.as_str.result.now c.args.self.now n c.args.before c.args.after is c.as_str.utf8 c.if-before-run.false c.if-after-run.false in
+    let gap : c.split_at-2.result.0.now ≡ spaces c.args.before ++ (c.args.self.now ++ spaces c.args.after) = c.split_at-2.ensures.front ∙ copied c.as_str.result.now c.args.self.now n c.args.before c.args.after is c.as_str.utf8 c.if-before-run.false c.if-after-run.false c.split_at.result.1.now left in
+    c.in_ok-push_str.ensures.bytes ∙ ap (λ (t : Text). string_bytes c.args.text.now ++ t) gap

@@ -1,9 +1,0 @@
-use Rattle.std.proofs.Common.{◌≡◌, [], ◌++◌, take, string_bytes}
-use Rattle.std.specs.List.{join_by, repeat}
-use Rattle.std.specs.Prelude.{if◌then◌else◌}
-use Rattle.comfy_table.specs.Frame.{character}
-use Rattle.comfy_table.proofs.utils.formatting.borders.frame_line.Given as goal
-
-abbrev pub invariant-loop-position : goal.invariant-loop-position
-invariant-loop-position l =
-    string_bytes l.text ≡ string_bytes l.initial.text ++ join_by (λ width. repeat width (character l.line.fill)) (if l.vertical then character l.line.junction else []) (take l.position l.widths)
