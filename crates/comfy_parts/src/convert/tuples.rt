@@ -20,7 +20,7 @@ impl<A: IntoCell, B: IntoCell, C: IntoCell> IntoCells for (A, B, C) {
 
     fn into_cells(self, alloc: Global) -> Result<Cells> {
         let (a, b, c) = self;
-        (a, b).into_cells(alloc)?.with(c.into_cell(alloc)?)
+        (a, b).into_cells(alloc)?.with(alloc, c)
     }
 }
 
@@ -29,7 +29,7 @@ impl<A: IntoCell, B: IntoCell, C: IntoCell, D: IntoCell> IntoCells for (A, B, C,
 
     fn into_cells(self, alloc: Global) -> Result<Cells> {
         let (a, b, c, d) = self;
-        (a, b, c).into_cells(alloc)?.with(d.into_cell(alloc)?)
+        (a, b, c).into_cells(alloc)?.with(alloc, d)
     }
 }
 
@@ -39,7 +39,7 @@ impl<A: IntoCell, B: IntoCell, C: IntoCell, D: IntoCell, E: IntoCell> IntoCells
 
     fn into_cells(self, alloc: Global) -> Result<Cells> {
         let (a, b, c, d, e) = self;
-        (a, b, c, d).into_cells(alloc)?.with(e.into_cell(alloc)?)
+        (a, b, c, d).into_cells(alloc)?.with(alloc, e)
     }
 }
 
@@ -49,7 +49,7 @@ impl<A: IntoCell, B: IntoCell, C: IntoCell, D: IntoCell, E: IntoCell, F: IntoCel
 
     fn into_cells(self, alloc: Global) -> Result<Cells> {
         let (a, b, c, d, e, f) = self;
-        (a, b, c, d, e).into_cells(alloc)?.with(f.into_cell(alloc)?)
+        (a, b, c, d, e).into_cells(alloc)?.with(alloc, f)
     }
 }
 
@@ -66,9 +66,7 @@ impl<
 
     fn into_cells(self, alloc: Global) -> Result<Cells> {
         let (a, b, c, d, e, f, g) = self;
-        (a, b, c, d, e, f)
-            .into_cells(alloc)?
-            .with(g.into_cell(alloc)?)
+        (a, b, c, d, e, f).into_cells(alloc)?.with(alloc, g)
     }
 }
 
@@ -86,8 +84,6 @@ impl<
 
     fn into_cells(self, alloc: Global) -> Result<Cells> {
         let (a, b, c, d, e, f, g, h) = self;
-        (a, b, c, d, e, f, g)
-            .into_cells(alloc)?
-            .with(h.into_cell(alloc)?)
+        (a, b, c, d, e, f, g).into_cells(alloc)?.with(alloc, h)
     }
 }
