@@ -11,7 +11,8 @@ impl<A: IntoCell, B: IntoCell> IntoCells for (A, B) {
 
     fn into_cells(self, alloc: Global) -> Result<Cells> {
         let (a, b) = self;
-        Ok(Cells(vec![in alloc; a.into_cell(alloc)?, b.into_cell(alloc)?]?))
+        let cells = Cells(Vec::with_capacity(alloc, 2)?);
+        cells.with(alloc, a)?.with(alloc, b)
     }
 }
 
