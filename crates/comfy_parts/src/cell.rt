@@ -76,16 +76,7 @@ impl Cell {
     pub fn content(&self) -> Result<String>
         ensures { IfOk result (λ text. string_bytes text ≡ content_of self.now) }
     {
-        let mut text = String::new(self.body.allocator());
-        let Some((first, others)) = self.body.texts().split_first() else {
-            return Ok(text);
-        };
-        text.push_str(first.as_str())?;
-        for line in others {
-            text.push('\n')?;
-            text.push_str(line.as_str())?;
-        }
-        Ok(text)
+        Ok(self.text_lines().join(self.body.allocator(), "\n")?)
     }
 
     /// The text lines, in order.

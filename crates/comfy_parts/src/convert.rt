@@ -64,11 +64,11 @@ pub struct Cells(pub Vec<Cell>);
 
 impl Cells {
     // These cells, and one more at their end.
-    fn with(self, cell: Cell) -> Result<Cells>
-        ensures { IfOk result (λ cells. cells.0.items ≡ self.0.items ++ cell ∷ []) }
+    fn with<T: IntoCell>(self, alloc: Global, last: T) -> Result<Cells>
+        ensures { IfOk result (λ cells. cells.0.items ≡ self.0.items ++ T.cell_of last ∷ []) }
     {
         let Cells(mut cells) = self;
-        cells.push(cell)?;
+        cells.push(last.into_cell(alloc)?)?;
         Ok(Cells(cells))
     }
 }

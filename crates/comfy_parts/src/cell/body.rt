@@ -215,8 +215,8 @@ impl Clone for FullBody {
 
     fn clone(&self) -> std::result::Result<FullBody, AllocError> {
         Ok(FullBody {
-            lines: self.lines.clone()?,
             attributes: self.attributes.clone()?,
+            lines: self.lines.clone()?,
         })
     }
 }

@@ -1,24 +1,18 @@
 //! Tuples as cells: values of several types in one row. Each tuple is the shorter one before it, and one more cell.
 
-ghost use Rattle.std.specs.Prelude.{◌≡◌, [], ◌∷◌, ◌++◌, IfOk};
+ghost use Rattle.std.specs.Prelude.{[], ◌∷◌};
 
 use crate::convert::{Cells, IntoCell, IntoCells};
 use crate::error::Result;
 use std::alloc::Global;
-
-// The cells of a list, and one more at their end.
-fn with_last<L: IntoCells, T: IntoCell>(alloc: Global, list: L, last: T) -> Result<Cells>
-    ensures { IfOk result (λ cells. cells.0.items ≡ L.cells_of list ++ T.cell_of last ∷ []) }
-{
-    list.into_cells(alloc)?.with(last.into_cell(alloc)?)
-}
 
 impl<A: IntoCell, B: IntoCell> IntoCells for (A, B) {
     ghost cells_of = { λ values. A.cell_of values.0 ∷ B.cell_of values.1 ∷ [] };
 
     fn into_cells(self, alloc: Global) -> Result<Cells> {
         let (a, b) = self;
-        Ok(Cells(vec![in alloc; a.into_cell(alloc)?, b.into_cell(alloc)?]?))
+        let cells = Cells(Vec::with_capacity(alloc, 2)?);
+        cells.with(alloc, a)?.with(alloc, b)
     }
 }
 
@@ -27,7 +21,7 @@ impl<A: IntoCell, B: IntoCell, C: IntoCell> IntoCells for (A, B, C) {
 
     fn into_cells(self, alloc: Global) -> Result<Cells> {
         let (a, b, c) = self;
-        with_last(alloc, (a, b), c)
+        (a, b).into_cells(alloc)?.with(alloc, c)
     }
 }
 
@@ -36,7 +30,7 @@ impl<A: IntoCell, B: IntoCell, C: IntoCell, D: IntoCell> IntoCells for (A, B, C,
 
     fn into_cells(self, alloc: Global) -> Result<Cells> {
         let (a, b, c, d) = self;
-        with_last(alloc, (a, b, c), d)
+        (a, b, c).into_cells(alloc)?.with(alloc, d)
     }
 }
 
@@ -46,7 +40,7 @@ impl<A: IntoCell, B: IntoCell, C: IntoCell, D: IntoCell, E: IntoCell> IntoCells
 
     fn into_cells(self, alloc: Global) -> Result<Cells> {
         let (a, b, c, d, e) = self;
-        with_last(alloc, (a, b, c, d), e)
+        (a, b, c, d).into_cells(alloc)?.with(alloc, e)
     }
 }
 
@@ -56,7 +50,7 @@ impl<A: IntoCell, B: IntoCell, C: IntoCell, D: IntoCell, E: IntoCell, F: IntoCel
 
     fn into_cells(self, alloc: Global) -> Result<Cells> {
         let (a, b, c, d, e, f) = self;
-        with_last(alloc, (a, b, c, d, e), f)
+        (a, b, c, d, e).into_cells(alloc)?.with(alloc, f)
     }
 }
 
@@ -73,7 +67,7 @@ impl<
 
     fn into_cells(self, alloc: Global) -> Result<Cells> {
         let (a, b, c, d, e, f, g) = self;
-        with_last(alloc, (a, b, c, d, e, f), g)
+        (a, b, c, d, e, f).into_cells(alloc)?.with(alloc, g)
     }
 }
 
@@ -91,6 +85,6 @@ impl<
 
     fn into_cells(self, alloc: Global) -> Result<Cells> {
         let (a, b, c, d, e, f, g, h) = self;
-        with_last(alloc, (a, b, c, d, e, f, g), h)
+        (a, b, c, d, e, f, g).into_cells(alloc)?.with(alloc, h)
     }
 }

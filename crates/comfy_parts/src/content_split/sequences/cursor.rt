@@ -87,12 +87,8 @@ impl<'a> Cursor<'a> {
     fn resumed(&self) -> Result<String>
         ensures { IfOk result (λ text. string_bytes text ≡ concat self.now.sequences) }
     {
-        let mut text = String::new(*self.sequences.allocator());
         let sequences = self.sequences.as_slice();
-        for sequence in sequences {
-            text.push_str(sequence)?;
-        }
-        Ok(text)
+        Ok(sequences.concat(*self.sequences.allocator())?)
     }
 
     // Passes so many visible bytes and the sequences before each of them, and gives the text that it passed.

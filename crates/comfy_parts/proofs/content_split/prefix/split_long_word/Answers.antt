@@ -1,7 +1,10 @@
-use Rattle.std.proofs.Common.{take, ◌++◌, map, arith, ap, ◌∙◌, sym, append-nil}
+use Rattle.std.proofs.Common.{ℕ, List, Bor, take, ◌++◌, map, arith, ap, ◌∙◌, refl, sym, append-nil}
+use Rattle.std.proofs.lemmas.List.Sums.{sum_by_push}
 use Rattle.std.proofs.lemmas.List.{take_min}
 use Rattle.comfy_parts.proofs.ClusterLemmas.{boundary, head-cut, head-all, sum_by-shown, shown}
-use Rattle.comfy_parts.specs.Text.{is_printable_ascii}
+use Rattle.comfy_parts.specs.Text.{is_printable_ascii, measure}
+use Rattle.comfy_parts.proofs.StartLemmas.{pushed}
+use Rattle.unicode_segmentation.specs.Iter.{grapheme_indices_left}
 use Rattle.comfy_parts.proofs.PrintableLemmas.{head-looked_at, place-looked_at}
 use Rattle.comfy_parts.proofs.content_split.prefix.split_long_word.Goals as goal
 
@@ -35,3 +38,12 @@ returns-clause-head c =
     let done = map shown c.loop-at.yielded in
     let sums = sum_by-shown c.loop-at.yielded in
     head-all c.args.allowed_width c.args.word.now done c.utf8.word (sym (append-nil done) ∙ ap (λ t. done ++ t) (sym c.in-None.ensures.steps.0) ∙ c.loop-at.invariant.rest) (omega arith)
+
+pub loop-at-preserved : goal.loop-at-preserved
+loop-at-preserved c =
+    let x : ℕ × Bor (List ℕ) = (c.in-Some.at, c.in-Some.cluster) in
+    let more = sum_by_push (λ (y : ℕ × Bor (List ℕ)). measure y.1.now) c.loop-at.yielded x in
+    record {
+      left = omega (arith, more, c.width-width.ensures, c.loop-at.invariant.left);
+      rest = pushed shown c.loop-at.yielded x _ (grapheme_indices_left c.next.new.self) _ refl (ap (λ t. map shown c.loop-at.yielded ++ t) (sym c.in-Some.ensures.steps) ∙ c.loop-at.invariant.rest);
+    }

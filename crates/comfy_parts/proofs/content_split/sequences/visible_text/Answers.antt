@@ -1,4 +1,5 @@
-use Rattle.std.proofs.Common.{◌++◌, ap, sym, ◌∙◌, append_assoc, string_bytes}
+use Rattle.std.proofs.Common.{arith, ◌++◌, ap, sym, ◌∙◌, append_assoc, string_bytes}
+use Rattle.std.proofs.lemmas.Grind.{common_steps}
 use Rattle.std.specs.List.{flat_map}
 use Rattle.comfy_parts.specs.VisibleText.{parts, visible_bytes, visible_text}
 use Rattle.comfy_parts.proofs.FrontLemmas.{visible-seen}
@@ -14,3 +15,9 @@ parts-preserved c =
       utf8 = c.split_visible.ensures.whole_behind;
       shown = ap (λ t. t ++ visible_text behind) c.in_ok-push_str.ensures.bytes ∙ append_assoc seen visible (visible_text behind) ∙ ap (λ t. seen ++ t) (sym shown) ∙ c.parts.invariant.shown;
     }
+
+pub returns : goal.returns
+returns c = grind (arith, common_steps)
+
+pub parts-init : goal.parts-init
+parts-init c = record { utf8 = c.utf8.text; shown = grind (arith, common_steps) }

@@ -1,8 +1,12 @@
-use Rattle.std.proofs.Common.{ap, ◌∙◌, lit<}
+use Rattle.std.proofs.Common.{ap, ◌∙◌, arith, lit<}
+use Rattle.std.proofs.lemmas.Grind.{common_steps}
 use Rattle.std.specs.Str.Iter.{split_text, split_has_more, split_pattern}
 use Rattle.std.proofs.lemmas.Iterator.Consumers.{YieldsList-end}
 use Rattle.std.proofs.lemmas.Iterator.Splits.{YieldsList-from_str_split}
 use Rattle.comfy_parts.proofs.cell.text_lines.Lines.between_breaks.Goals as goal
+
+pub loop-line-preserved : goal.loop-line-preserved
+loop-line-preserved c = record { texts = grind (arith, common_steps); widths = grind (arith, common_steps) }
 
 pub returns : goal.returns
 returns c =

@@ -1,4 +1,5 @@
 use Rattle.std.proofs.Common.{map, ap, sym, ◌∙◌, arith, string_bytes}
+use Rattle.std.proofs.lemmas.Grind.{common_steps}
 use Rattle.std.proofs.lemmas.List.{length-map}
 use Rattle.comfy_parts.specs.Text.{measure}
 use Rattle.comfy_parts.specs.VisibleText.{visible_text}
@@ -44,3 +45,6 @@ returns c =
     sym (texts_written w d (map string_bytes texts) (map string_bytes c.loop-position.lines.items) c.loop-position.position (open_at_end c.loop-position.cursor) (omega (arith, many, c.loop-position-test.false)))
     ∙ c.loop-position.invariant
     ∙ cell-written w d (map string_bytes texts)
+
+pub loop-position-init : goal.loop-position-init
+loop-position-init c = grind (arith, common_steps)

@@ -1,4 +1,5 @@
 use Rattle.std.proofs.Common.{◌≡◌, ◌+◌, ap, sym, subst, ◌∙◌, take, drop, arith}
+use Rattle.std.proofs.lemmas.Grind.{common_steps}
 use Rattle.std.specs.Prelude.{IsUtf8}
 use Rattle.comfy_parts.specs.Cursor.{StandsAt, at_byte, seen_ahead}
 use Rattle.comfy_parts.proofs.CursorLemmas.{seen-front, stands-behind, stands-itself, stands-more}
@@ -24,3 +25,6 @@ returns-clause-stands c =
 pub returns-clause-seen : goal.returns-clause-seen
 returns-clause-seen c =
     c.in_ok-take_visible.ensures.seen ∙ ap (drop c.args.bytes) (ap seen_ahead c.in_ok-pass_sequences.ensures ∙ seen-front c.args.self.now.ahead)
+
+pub returns-clause-written : goal.returns-clause-written
+returns-clause-written c = grind (arith, common_steps)
