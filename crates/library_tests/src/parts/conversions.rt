@@ -1,6 +1,6 @@
 //! That each conversion succeeds, and gives the texts that the original's would.
 
-use crate::support::row_of;
+use crate::support::{assert_given, row_of};
 use comfy_parts::{Cell, Cells, IntoCells, IntoRow, Row};
 use std::alloc::{Alloc, Global};
 use std::fmt::{self, Display, Formatter, Write};
@@ -14,8 +14,11 @@ fn assert_row<T: IntoRow>(rt: &(impl Abort + Alloc<A = Global>), value: T, wante
 fn assert_contents(rt: &impl Abort, row: &Row, wanted: &str) {
     let mut wanted = wanted.split('|');
     for cell in row.cell_iter() {
-        let content = cell.content().expect(rt, "memory");
-        assert!(rt; wanted.next() == Some(content.as_str()));
+        assert_given(
+            rt,
+            cell.content(),
+            wanted.next().unwrap_or("no further cell"),
+        );
     }
     assert!(rt; wanted.next().is_none());
 }

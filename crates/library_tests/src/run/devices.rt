@@ -21,18 +21,17 @@ const PLAIN: Settings = Settings {
 const INPUT: &[u8] = b"a\tb\nc\td\n";
 
 // Runs on a source of the small input, and compares what is written.
-fn assert_read<R: Source + Drop>(rt: &(impl Abort + Alloc<A = Global>), mut source: R) {
+fn assert_read<R: Source>(rt: &(impl Abort + Alloc<A = Global>), source: &mut R) {
     let mut sink = sink_of(rt, 200, 0);
-    assert!(rt; run(rt.alloc(), &mut source, &mut sink, PLAIN).is_ok());
+    assert!(rt; run(rt.alloc(), source, &mut sink, PLAIN).is_ok());
     assert_bytes(rt, sink.bytes(), SMALL);
 }
 
 // Runs on a source that fails: nothing is written, and the source fails from then on.
-fn assert_unread<R: Source + Drop>(rt: &(impl Abort + Alloc<A = Global>), mut source: R) {
+fn assert_unread<R: Source>(rt: &(impl Abort + Alloc<A = Global>), source: &mut R) {
     let mut sink = sink_of(rt, 200, 0);
-    let ended = run(rt.alloc(), &mut source, &mut sink, PLAIN);
-    assert!(rt; ended == Err(RunError::Read));
-    assert!(rt; sink.bytes().is_empty());
+    let ended = run(rt.alloc(), source, &mut sink, PLAIN);
+    assert!(rt; ended == Err(RunError::Read) && sink.bytes().is_empty());
     assert!(rt; source.read(&mut [0u8; 4]).is_err());
 }
 
@@ -99,15 +98,15 @@ fn slow_source(fails_at: u64) -> FromReader<SlowReader> {
 #[test]
 fn a_source_keeps_that_its_reader_failed(rt: HostRuntime) {
     for call in 1..10 {
-        assert_unread(&rt, slow_source(call));
+        assert_unread(&rt, &mut slow_source(call));
     }
 }
 
 // A slow reader, and one of std.
 #[test]
 fn readers_are_read_to_their_end(rt: HostRuntime) {
-    assert_read(&rt, slow_source(10));
-    assert_read(&rt, FromReader::new(INPUT));
+    assert_read(&rt, &mut slow_source(10));
+    assert_read(&rt, &mut FromReader::new(INPUT));
 }
 
 // A writer that takes three bytes at a call, and whose call `fails_at` is an error or takes nothing.

@@ -83,16 +83,20 @@ type Faults = (u64, u64, u64, usize);
 // Devices that don't fail.
 const SOUND: Faults = (0, 0, 0, 4096);
 
+// The words of a run, its input, the faults of its devices, its status, what it writes, and what it reports.
+type Ended = (
+    &'static [&'static str],
+    &'static [u8],
+    Faults,
+    u8,
+    &'static str,
+    &'static str,
+);
+
 // Runs the program, and compares its status, what it wrote and what it reported.
-fn assert_ends(
-    rt: &(impl Abort + Alloc<A = Global>),
-    words: &[&str],
-    input: &[u8],
-    faults: Faults,
-    wanted: (u8, &str, &str),
-) {
+fn assert_ends(rt: &(impl Abort + Alloc<A = Global>), wanted: Ended) {
+    let (words, input, faults, status, output, messages) = wanted;
     let (failing_read, failing_write, failing_report, room) = faults;
-    let (status, output, messages) = wanted;
     let mut source = MemorySource::new(input, failing_read);
     let mut sink = sink_of(rt, room, failing_write);
     let mut reports = sink_of(rt, 256, failing_report);
@@ -146,7 +150,7 @@ const DRAWINGS: [Drawn; 15] = [
 #[test]
 fn tables_are_drawn(rt: HostRuntime) {
     for (words, input, drawn) in &DRAWINGS {
-        assert_ends(&rt, words, input, SOUND, (0, drawn, ""));
+        assert_ends(&rt, (words, input, SOUND, 0, drawn, ""));
     }
 }
 
@@ -166,7 +170,7 @@ const REFUSED: [&[&str]; 8] = [
 #[test]
 fn other_words_are_refused(rt: HostRuntime) {
     for words in &REFUSED {
-        assert_ends(&rt, words, b"a\n", (1, 0, 0, 4096), (2, "", USAGE));
+        assert_ends(&rt, (words, b"a\n", (1, 0, 0, 4096), 2, "", USAGE));
     }
 }
 
@@ -176,40 +180,34 @@ const UNREAD: &str = "ctable: the input can't be read\n";
 
 const UNWRITTEN: &str = "ctable: the output can't be written\n";
 
-// The words of a run, its input, the faults of its devices, and its status, what it writes and what it reports.
-type Ended = (
-    &'static [&'static str],
-    &'static [u8],
-    Faults,
-    (u8, &'static str, &'static str),
-);
-
 const ENDED: [Ended; 9] = [
     // bytes that are no text
-    (&[], b"\xff", (0, 0, 0, 4096), (1, "", NOT_UTF8)),
-    (&[], b"a\n\xe2\x9c", (0, 0, 0, 4096), (1, "", NOT_UTF8)),
+    (&[], b"\xff", (0, 0, 0, 4096), 1, "", NOT_UTF8),
+    (&[], b"a\n\xe2\x9c", (0, 0, 0, 4096), 1, "", NOT_UTF8),
     // one read gives the input, and one shows its end
-    (&[], README, (1, 0, 0, 4096), (1, "", UNREAD)),
-    (&[], README, (2, 0, 0, 4096), (1, "", UNREAD)),
+    (&[], README, (1, 0, 0, 4096), 1, "", UNREAD),
+    (&[], README, (2, 0, 0, 4096), 1, "", UNREAD),
     // the drawing is one write
-    (&[], README, (0, 1, 0, 4096), (1, "", UNWRITTEN)),
+    (&[], README, (0, 1, 0, 4096), 1, "", UNWRITTEN),
     // a sink with room for ten bytes takes the first ten
     (
         &[],
         b"a\tb\nc\td\n",
         (0, 0, 0, 10),
-        (1, "+---+---+\n", UNWRITTEN),
+        1,
+        "+---+---+\n",
+        UNWRITTEN,
     ),
     // a fault of the sink for reports changes no status
-    (&[], b"a\tb\nc\td\n", (0, 0, 1, 4096), (0, SMALL, "")),
-    (&[], b"\xff", (0, 0, 1, 4096), (1, "", "")),
-    (&["x"], b"a\n", (0, 0, 1, 4096), (2, "", "")),
+    (&[], b"a\tb\nc\td\n", (0, 0, 1, 4096), 0, SMALL, ""),
+    (&[], b"\xff", (0, 0, 1, 4096), 1, "", ""),
+    (&["x"], b"a\n", (0, 0, 1, 4096), 2, "", ""),
 ];
 
 #[test]
 fn faults_have_their_ends(rt: HostRuntime) {
-    for (words, input, faults, wanted) in &ENDED {
-        assert_ends(&rt, words, input, *faults, *wanted);
+    for wanted in &ENDED {
+        assert_ends(&rt, *wanted);
     }
 }
 

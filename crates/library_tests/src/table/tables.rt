@@ -5,20 +5,25 @@ use comfy_table::Table;
 use comfy_table::utils::arrangement::arrange_content;
 use comfy_table::utils::build_table;
 use comfy_table::utils::formatting::content_format::{format_content, format_row};
+use std::alloc::{Alloc, Global};
 use std::process::Abort;
 
-// The second cell of the row lies behind the last column.
 #[test]
 fn each_step_of_a_drawing_succeeds(rt: HostRuntime) {
     let table = table_of(&rt, ["ab\ncd"]);
-    let infos = arrange_content(&table).expect(&rt, "memory");
-    let content = format_content(&table, infos.as_slice()).expect(&rt, "memory");
-    assert_number(&rt, content.len(), 1);
-    let row = row_of(&rt, ["ab cd", "behind the last column"]);
-    let lines = format_row(&row, infos.as_slice(), &table).expect(&rt, "memory");
-    assert_number(&rt, lines.len(), 2);
+    assert_formatted(&rt, &table);
     let lines = build_table(&table).expect(&rt, "memory");
     assert_number(&rt, lines.count(), 4);
+}
+
+// The table has one row; another row has two lines there, and its second cell lies behind the last column.
+fn assert_formatted(rt: &(impl Abort + Alloc<A = Global>), table: &Table) {
+    let infos = arrange_content(table).expect(rt, "memory");
+    let content = format_content(table, infos.as_slice()).expect(rt, "memory");
+    assert_number(rt, content.len(), 1);
+    let row = row_of(rt, ["ab cd", "behind the last column"]);
+    let lines = format_row(&row, infos.as_slice(), table).expect(rt, "memory");
+    assert_number(rt, lines.len(), 2);
 }
 
 // Sets the height of each row, and the left padding of the first column alone.
