@@ -1,7 +1,5 @@
 //! Tests of `comfy_parts`.
 
-mod cells;
 mod columns;
 mod conversions;
-mod sequences;
 mod wrapping;

@@ -1,5 +1,4 @@
 //! Tests of `comfy_table`.
 
-mod extremes;
 mod surface;
 mod tables;

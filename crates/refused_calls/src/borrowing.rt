@@ -1,26 +1,27 @@
 //! The calls that take memory and only read the table.
 
-use crate::comparison::difference;
-use crate::fixtures::{WORKED, worked_table};
+use crate::fixtures::{WORKED, fill_worked};
 use crate::outcome::Outcome;
 use comfy_table::{Lines, Result, Table};
 use std::alloc::Global;
 
-/// What came of the call of this name on `worked_table`.
+/// What came of the call of this name on the table of `fill_worked`.
 pub fn outcome_of(alloc: Global, call: &str) -> Result<Outcome> {
-    outcome_on(&worked_table(alloc)?, WORKED, call)
+    let mut table = Table::new(alloc);
+    outcome_on_worked(alloc, &mut table, call)
 }
 
-/// What came of the call of this name: after a refusal the table is as it was, and these lines are drawn as ever.
+fn outcome_on_worked(alloc: Global, table: &mut Table, call: &str) -> Result<Outcome> {
+    fill_worked(alloc, table)?;
+    outcome_on(table, WORKED, call)
+}
+
+/// What came of the call of this name: after a refusal these lines are drawn as ever.
 pub fn outcome_on(table: &Table, wanted: &str, call: &str) -> Result<Outcome> {
-    let copy = table.clone()?;
-    outcome_beside(table, &copy, wanted, call)
-}
-
-fn outcome_beside(table: &Table, copy: &Table, wanted: &str, call: &str) -> Result<Outcome> {
     match read(table, call) {
         Some(true) => Ok(Outcome::Succeeded),
-        Some(false) => Ok(Outcome::refused(difference_after(table, copy, wanted)?)),
+        Some(false) if are_lines(table.lines()?, wanted) => Ok(Outcome::AsPromised),
+        Some(false) => Ok(Outcome::Broken("the next lines")),
         None => Ok(Outcome::Unknown),
     }
 }
@@ -31,27 +32,12 @@ fn read(table: &Table, call: &str) -> Option<bool> {
         "clone" => table.clone().is_ok(),
         "column_max_content_widths" => table.column_max_content_widths().is_ok(),
         "lines" => table.lines().is_ok(),
-        _ => return draw(table, call),
-    };
-    Some(succeeded)
-}
-
-fn draw(table: &Table, call: &str) -> Option<bool> {
-    let text = match call {
-        "to_text" => table.to_text(),
-        "trim_fmt" => table.trim_fmt(),
-        "to_terminated_text" => table.to_terminated_text(),
+        "to_text" => table.to_text().is_ok(),
+        "trim_fmt" => table.trim_fmt().is_ok(),
+        "to_terminated_text" => table.to_terminated_text().is_ok(),
         _ => return None,
     };
-    Some(text.is_ok())
-}
-
-fn difference_after(table: &Table, copy: &Table, wanted: &str) -> Result<Option<&'static str>> {
-    if are_lines(table.lines()?, wanted) {
-        difference(table, copy)
-    } else {
-        Ok(Some("the next lines"))
-    }
+    Some(succeeded)
 }
 
 // Whether these lines, between which the text has line feeds, and no more, are left.

@@ -2,12 +2,12 @@
 
 use comfy_table::presets::UTF8_FULL;
 use comfy_table::{
-    Attribute, Cell, CellAlignment, Color, Column, ColumnConstraint, ContentArrangement, IntoRow,
-    Result, Table, Terminal, Width,
+    Attribute, Cell, CellAlignment, Color, ColumnConstraint, ContentArrangement, IntoRow, Result,
+    Table, Terminal, Width,
 };
 use std::alloc::Global;
 
-/// The drawing of `worked_table`.
+/// The drawing of the table of `fill_worked`.
 pub const WORKED: &str = "\
 +----------------+--------+-------+
 | Header1        | Header | Head  |
@@ -36,25 +36,21 @@ const SECOND: [&str; 3] = [
     "smol",
 ];
 
-/// A table whose cells are wrapped, and cut by height.
-pub fn worked_table(alloc: Global) -> Result<Table> {
-    let mut table = Table::new(alloc);
-    fill(alloc, &mut table)?;
-    set_widths(&mut table);
-    Ok(table)
-}
-
-/// A table like `worked_table` in which more is set, with a cell that no column has yet.
-pub fn full_table(alloc: Global) -> Result<Table> {
-    let mut table = worked_table(alloc)?;
-    set_all(alloc, &mut table)?;
-    Ok(table)
-}
-
-fn fill(alloc: Global, table: &mut Table) -> Result<()> {
+/// Fills a table with cells that are wrapped, and cut by height.
+pub fn fill_worked(alloc: Global, table: &mut Table) -> Result<()> {
     table.try_set_header(["Header1", "Header2", "Head"])?;
     add_cut_row(alloc, table, FIRST)?;
-    add_cut_row(alloc, table, SECOND)
+    add_cut_row(alloc, table, SECOND)?;
+    set_widths(table);
+    Ok(())
+}
+
+/// Fills a table as `fill_worked`, sets more, and adds a cell that no column has yet.
+pub fn fill_full(alloc: Global, table: &mut Table) -> Result<()> {
+    fill_worked(alloc, table)?;
+    table.try_set_truncation_indicator("...")?;
+    set_more(table);
+    add_late_cell(alloc, table)
 }
 
 fn add_cut_row(alloc: Global, table: &mut Table, texts: [&'static str; 3]) -> Result<()> {
@@ -63,23 +59,14 @@ fn add_cut_row(alloc: Global, table: &mut Table, texts: [&'static str; 3]) -> Re
     table.try_add_row(row)
 }
 
-fn set_all(alloc: Global, table: &mut Table) -> Result<()> {
-    add_late_cell(alloc, table)?;
-    table.try_set_truncation_indicator("...")?;
-    set_more(table);
-    Ok(())
-}
-
 fn add_late_cell(alloc: Global, table: &mut Table) -> Result<()> {
+    let cell = Cell::new(alloc, "late")?
+        .fg(Color::Green)
+        .add_attribute(Attribute::Bold)?;
     match table.row_mut(0) {
-        Some(row) => row.try_add_cell(late_cell(alloc)?),
+        Some(row) => row.try_add_cell(cell),
         None => Ok(()),
     }
-}
-
-fn late_cell(alloc: Global) -> Result<Cell> {
-    let cell = Cell::new(alloc, "late")?;
-    cell.fg(Color::Green).add_attribute(Attribute::Bold)
 }
 
 fn set_widths(table: &mut Table) {
@@ -106,13 +93,9 @@ fn set_more(table: &mut Table) {
     });
     table.use_stderr();
     if let Some(column) = table.column_mut(0) {
-        set_column(column);
+        column.index = 7;
+        column.set_padding((2, 0));
+        column.set_delimiter('l');
+        column.set_cell_alignment(CellAlignment::Right);
     }
-}
-
-fn set_column(column: &mut Column) {
-    column.index = 7;
-    column.set_padding((2, 0));
-    column.set_delimiter('l');
-    column.set_cell_alignment(CellAlignment::Right);
 }

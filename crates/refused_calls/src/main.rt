@@ -25,13 +25,13 @@ use std::process::ExitCode;
 
 const NOT_TRIED: u8 = 3;
 
+// All of standard input is read before the first call, so that no call stands after it.
 fn main(rt: HostRuntime) -> io::Result<ExitCode> {
-    let Ok(names) = names(&rt) else {
+    let Ok(names) = io::read_to_string(rt.alloc(), rt.reader()) else {
         return Ok(ExitCode::from(NOT_TRIED));
     };
     let mut status = ExitCode::SUCCESS;
-    for name in &names {
-        let name = name.as_str();
+    for name in names.as_str().lines() {
         let Ok(outcome) = outcome_of(rt.alloc(), name) else {
             return Ok(ExitCode::from(NOT_TRIED));
         };
@@ -50,15 +50,6 @@ fn print(rt: &HostRuntime, name: &str, outcome: Outcome) -> io::Result<()> {
     println!(rt; "{name}: {outcome}")
 }
 
-// The names on standard input. All of it is read before the first call, so that no call stands after it.
-fn names(rt: &HostRuntime) -> io::Result<Vec<String>> {
-    let mut names = Vec::new(rt.alloc());
-    for line in rt.lines(rt.alloc()) {
-        names.push(line?)?;
-    }
-    Ok(names)
-}
-
 // What came of the call of a name. An error says that memory was refused outside of the call.
 fn outcome_of(alloc: Global, name: &str) -> Result<Outcome> {
     match name.split_once("::") {
@@ -66,7 +57,7 @@ fn outcome_of(alloc: Global, name: &str) -> Result<Outcome> {
         Some(("Row", call)) => rows::outcome_of(alloc, call),
         Some(("Table", call)) => outcome_on_table(alloc, call),
         Some(("sequences", call)) => sequences::outcome_of(alloc, call),
-        Some((source, conversion)) => conversions::outcome_of(alloc, source, conversion),
+        Some(_) => conversions::outcome_of(alloc, name),
         None => runs::outcome_of(alloc, name),
     }
 }

@@ -27,14 +27,6 @@ impl Outcome {
         }
     }
 
-    /// What came of such a call, where there is one.
-    pub fn of_known(succeeded: Option<bool>) -> Outcome {
-        match succeeded {
-            Some(succeeded) => Outcome::of(succeeded),
-            None => Outcome::Unknown,
-        }
-    }
-
     /// What came of a call that was refused, by what differs from the promise, if anything does.
     pub fn refused(difference: Option<&'static str>) -> Outcome {
         match difference {

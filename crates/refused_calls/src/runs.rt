@@ -3,7 +3,7 @@
 use crate::outcome::Outcome;
 use comfy_run::run::{MemorySink, MemorySource, RunError, Settings, program, run};
 use comfy_table::presets::ASCII_FULL;
-use comfy_table::{ContentArrangement, Result, TableError};
+use comfy_table::{ContentArrangement, Result};
 use std::alloc::Global;
 
 const INPUT: &str = "Header1\tHeader2\tHeader3\n\
@@ -23,55 +23,31 @@ const NO_MEMORY: &str = "ctable: out of memory\n";
 
 /// What came of the call of this name: after a refusal nothing was written.
 pub fn outcome_of(alloc: Global, name: &str) -> Result<Outcome> {
+    let mut sink = MemorySink::new(alloc, ROOM, 0)?;
+    let mut messages = MemorySink::new(alloc, ROOM, 0)?;
     match name {
-        "run" => outcome_of_run(alloc),
-        "program" => outcome_of_program(alloc),
+        "run" => Ok(outcome_of_run(alloc, &mut sink)),
+        "program" => Ok(outcome_of_program(alloc, &mut sink, &mut messages)),
         _ => Ok(Outcome::Unknown),
     }
 }
 
-fn outcome_of_run(alloc: Global) -> Result<Outcome> {
+fn outcome_of_run(alloc: Global, sink: &mut MemorySink) -> Outcome {
     let mut source = MemorySource::new(INPUT.as_bytes(), 0);
-    let mut sink = MemorySink::new(alloc, ROOM, 0)?;
-    match run(alloc, &mut source, &mut sink, SETTINGS) {
-        Ok(()) => Ok(Outcome::Succeeded),
-        Err(error) => Ok(Outcome::refused(difference_after_run(error, &sink))),
+    match run(alloc, &mut source, sink, SETTINGS) {
+        Ok(()) => Outcome::Succeeded,
+        Err(RunError::Table(_)) if sink.bytes().is_empty() => Outcome::AsPromised,
+        Err(_) => Outcome::Broken("the error or the output"),
     }
 }
 
-fn difference_after_run(error: RunError, sink: &MemorySink) -> Option<&'static str> {
-    if error != RunError::Table(TableError::OutOfMemory) {
-        Some("the error")
-    } else if !sink.bytes().is_empty() {
-        Some("the output")
-    } else {
-        None
-    }
-}
-
-fn outcome_of_program(alloc: Global) -> Result<Outcome> {
+fn outcome_of_program(alloc: Global, sink: &mut MemorySink, messages: &mut MemorySink) -> Outcome {
     let mut source = MemorySource::new(INPUT.as_bytes(), 0);
-    let mut sink = MemorySink::new(alloc, ROOM, 0)?;
-    let mut messages = MemorySink::new(alloc, ROOM, 0)?;
-    let status = program(alloc, &[], &mut source, &mut sink, &mut messages);
-    if status == 0 {
-        return Ok(Outcome::Succeeded);
-    }
-    Ok(Outcome::refused(difference_after_program(status, &sink, &messages)))
-}
-
-fn difference_after_program(
-    status: u8,
-    sink: &MemorySink,
-    messages: &MemorySink,
-) -> Option<&'static str> {
-    if status != 1 {
-        Some("the status")
-    } else if messages.bytes() != NO_MEMORY.as_bytes() {
-        Some("the message")
-    } else if !sink.bytes().is_empty() {
-        Some("the output")
-    } else {
-        None
+    match program(alloc, &[], &mut source, sink, messages) {
+        0 => Outcome::Succeeded,
+        1 if sink.bytes().is_empty() && messages.bytes() == NO_MEMORY.as_bytes() => {
+            Outcome::AsPromised
+        }
+        _ => Outcome::Broken("the status, the message or the output"),
     }
 }

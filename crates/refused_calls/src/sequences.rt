@@ -8,7 +8,7 @@ use std::alloc::Global;
 
 const TEXT: &str = "\u{1b}[1mabcdef\u{1b}[0m";
 
-// The drawing of `bold_table`.
+// The drawing of a table of this text, in a width that takes three of its characters.
 const BOLD: &str = "\
 +-----+
 | \u{1b}[1mabc\u{1b}[0m |
@@ -26,16 +26,14 @@ pub fn outcome_of(alloc: Global, name: &str) -> Result<Outcome> {
 }
 
 fn of_bold_table(alloc: Global, call: &str) -> Result<Outcome> {
-    let table = bold_table(alloc)?;
-    outcome_on(&table, BOLD, call)
+    let mut table = Table::new(alloc);
+    outcome_on_bold(&mut table, call)
 }
 
-// A table of one bold cell, in a width that takes three of its characters.
-fn bold_table(alloc: Global) -> Result<Table> {
-    let mut table = Table::new(alloc);
+fn outcome_on_bold(table: &mut Table, call: &str) -> Result<Outcome> {
     table.custom_styling();
     table.set_content_arrangement(ContentArrangement::Dynamic);
     table.set_width(7);
     table.try_add_row([TEXT])?;
-    Ok(table)
+    outcome_on(table, BOLD, call)
 }

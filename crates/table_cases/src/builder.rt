@@ -1,12 +1,15 @@
 //! A case's table, built line by line through the public surface. A call that is new gets its words here.
 
 use crate::fault::{Fault, Result};
-use crate::settings::{arrangement, cell_setting, set_on_column, terminal, with_setting};
+use crate::settings::{
+    arrangement, cell_setting, column_setting, set_on_column, terminal, with_setting,
+};
 use crate::styles::{read_style, set_part};
-use crate::text::{character, first_or_empty, named, no_words, number, only_word, text, width};
+use crate::text::{character, first_or_empty, named, number, text, width};
 use comfy_table::utils::arrangement::arrange_content;
 use comfy_table::{Cell, Row, Table};
 use std::alloc::Global;
+use std::mem;
 
 // what a line asks for, by its first word
 #[derive(Clone, Copy)]
@@ -59,14 +62,16 @@ const REQUESTS: [(&str, Request); 19] = [
 pub struct Builder {
     alloc: Global,
     table: Table,
-    begun: Option<Begun>,
+    row: Row,
+    begun: Begun,
 }
 
-// a row that the table doesn't have yet
-#[derive(Drop)]
-struct Begun {
-    is_header: bool,
-    row: Row,
+// what the row is that was begun last, and that the table doesn't have yet
+#[derive(Clone, Copy)]
+enum Begun {
+    Nothing,
+    Header,
+    Row,
 }
 
 impl Builder {
@@ -75,15 +80,19 @@ impl Builder {
         Builder {
             alloc,
             table: Table::new(alloc),
-            begun: None,
+            row: Row::new(alloc),
+            begun: Begun::Nothing,
         }
     }
 
     /// Does what a line asks for by its first word and the words after it.
     pub fn apply(&mut self, first: &str, words: &[&str]) -> Result<()> {
         match named(&REQUESTS, first, "a line isn't known")? {
+            Request::Cell | Request::Height if matches!(self.begun, Begun::Nothing) => {
+                Err(Fault::NotRead("no row was begun"))
+            }
             Request::Cell => self.add_cell(words),
-            Request::Height => self.limit_height(only_word(words)?),
+            Request::Height => self.limit_height(first_or_empty(words)),
             request => {
                 self.finish_row()?;
                 self.set(request, words)
@@ -103,54 +112,39 @@ impl Builder {
 
     // begins a row, or changes the table, its style or its columns
     fn set(&mut self, request: Request, words: &[&str]) -> Result<()> {
+        let first = first_or_empty(words);
         match request {
-            Request::Header => self.begin(words, true),
-            Request::Row => self.begin(words, false),
-            Request::Style => self.load_style(words),
-            Request::Part => set_part(self.alloc, self.table.style_mut(), words),
-            Request::Column => self.set_column(words),
-            Request::Late => self.add_late_cell(words),
-            Request::Indicator => self.set_indicator(first_or_empty(words)),
-            Request::Discover => Ok(self.table.discover_columns()?),
-            Request::Terminal => self.set_terminal(words),
-            Request::Width | Request::Delimiter | Request::Arrangement => {
-                self.set_one(request, only_word(words)?)
+            Request::Header => self.begun = Begun::Header,
+            Request::Row => self.begun = Begun::Row,
+            Request::Style => {
+                self.table.load_style(read_style(words)?);
             }
-            _ => self.switch_on(request, words),
-        }
-    }
-
-    // what has one word after it
-    fn set_one(&mut self, request: Request, word: &str) -> Result<()> {
-        match request {
+            Request::Part => return set_part(self.alloc, self.table.style_mut(), words),
+            Request::Column => return self.set_column(words),
+            Request::Late => return self.add_late_cell(words),
+            Request::Indicator => return self.set_indicator(first),
+            Request::Discover => self.table.discover_columns()?,
+            Request::Terminal => return self.set_terminal(words),
             Request::Width => {
-                self.table.set_width(width(word)?);
+                self.table.set_width(width(first)?);
             }
             Request::Delimiter => {
-                self.table.set_delimiter(character(self.alloc, word)?);
+                self.table.set_delimiter(character(self.alloc, first)?);
             }
-            _ => {
-                self.table.set_content_arrangement(arrangement(word)?);
+            Request::Arrangement => {
+                self.table.set_content_arrangement(arrangement(first)?);
             }
+            _ => self.switch_on(request),
         }
-        Ok(())
-    }
-
-    fn set_terminal(&mut self, words: &[&str]) -> Result<()> {
-        let [stdout, stderr, width] = words else {
-            return Err(Fault::NotRead("a line isn't known"));
-        };
-        self.table.set_terminal(terminal(stdout, stderr, width)?);
         Ok(())
     }
 
     // the switches on terminals and styling
-    fn switch_on(&mut self, request: Request, words: &[&str]) -> Result<()> {
+    fn switch_on(&mut self, request: Request) {
         match request {
             Request::CustomStyling => {
                 self.table.custom_styling();
             }
-            _ if !words.is_empty() => return Err(Fault::NotRead("a line isn't known")),
             Request::NoTty => {
                 self.table.force_no_tty();
             }
@@ -162,11 +156,13 @@ impl Builder {
             }
             _ => self.table.style_text_only(),
         }
-        Ok(())
     }
 
-    fn load_style(&mut self, words: &[&str]) -> Result<()> {
-        self.table.load_style(read_style(words)?);
+    fn set_terminal(&mut self, words: &[&str]) -> Result<()> {
+        let [stdout, stderr, width] = words else {
+            return Err(Fault::NotRead("a terminal has three facts"));
+        };
+        self.table.set_terminal(terminal(stdout, stderr, width));
         Ok(())
     }
 
@@ -177,66 +173,49 @@ impl Builder {
     }
 
     fn set_column(&mut self, words: &[&str]) -> Result<()> {
-        let Some((index, settings)) = words.split_first() else {
-            return Err(Fault::NotRead("a column has a position"));
-        };
-        let Some(column) = self.table.column_mut(number(index)?) else {
+        let Some(column) = self.table.column_mut(number(first_or_empty(words))?) else {
             return Err(Fault::NotRead("no column has this position"));
         };
-        for setting in settings {
-            set_on_column(self.alloc, column, setting)?;
+        for word in words.iter().skip(1) {
+            set_on_column(column, column_setting(self.alloc, word)?);
         }
         Ok(())
     }
 
     // adds a cell to the last row where it lies in the table
     fn add_late_cell(&mut self, words: &[&str]) -> Result<()> {
+        let cell = cell_of(self.alloc, words)?;
         let last = self.table.row_count().saturating_sub(1);
-        let Some(row) = self.table.row_mut(last) else {
-            return Err(Fault::NotRead("a late cell has no row"));
-        };
-        row.add_cell(cell_of(self.alloc, words)?)?;
-        Ok(())
+        match self.table.row_mut(last) {
+            Some(row) => Ok(row.try_add_cell(cell)?),
+            None => Err(Fault::NotRead("a late cell has no row")),
+        }
     }
 
     // gives the row begun last to the table
     fn finish_row(&mut self) -> Result<()> {
-        if let Some(begun) = self.begun.take() {
-            if begun.is_header {
-                self.table.set_header(begun.row)?;
-            } else {
-                self.table.add_row(begun.row)?;
+        let row = mem::replace(&mut self.row, Row::new(self.alloc));
+        match self.begun {
+            Begun::Nothing => {}
+            Begun::Header => {
+                self.table.set_header(row)?;
+            }
+            Begun::Row => {
+                self.table.add_row(row)?;
             }
         }
-        Ok(())
-    }
-
-    fn begin(&mut self, words: &[&str], is_header: bool) -> Result<()> {
-        no_words(words)?;
-        self.begun = Some(Begun {
-            is_header,
-            row: Row::new(self.alloc),
-        });
+        self.begun = Begun::Nothing;
         Ok(())
     }
 
     fn add_cell(&mut self, words: &[&str]) -> Result<()> {
-        let Some(begun) = &mut self.begun else {
-            return Err(Fault::NotRead("a cell stands in no row"));
-        };
-        begun.row.add_cell(cell_of(self.alloc, words)?)?;
+        self.row.add_cell(cell_of(self.alloc, words)?)?;
         Ok(())
     }
 
     fn limit_height(&mut self, word: &str) -> Result<()> {
-        let height = number(word)?;
-        match &mut self.begun {
-            Some(begun) => {
-                begun.row.max_height(height);
-                Ok(())
-            }
-            None => Err(Fault::NotRead("a height stands in no row")),
-        }
+        self.row.max_height(number(word)?);
+        Ok(())
     }
 
     fn draw_lines(&self, lines: &mut Vec<String>) -> Result<()> {

@@ -58,10 +58,9 @@ const ATTRIBUTES: [(&str, Attribute); 28] = [
 /// A colour: one of the names, `Rgb:R,G,B` or `Ansi:N`.
 pub fn color(word: &str) -> Result<Color> {
     match word.split_once(':') {
-        Some(("Rgb", parts)) => rgb(parts),
+        Some(("Rgb", numbers)) => rgb(numbers),
         Some(("Ansi", number)) => byte(number).map(Color::AnsiValue),
-        Some(_) => Err(Fault::NotRead("a colour isn't known")),
-        None => named(&COLORS, word, "a colour isn't known"),
+        _ => named(&COLORS, word, "a colour isn't known"),
     }
 }
 

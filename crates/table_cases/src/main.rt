@@ -7,13 +7,12 @@ mod case;
 mod fault;
 mod looks;
 mod report;
-mod run;
 mod settings;
 mod styles;
 mod text;
 
+use case::Case;
 use report::Tally;
-use run::Run;
 use std::process::ExitCode;
 
 fn main(rt: HostRuntime) -> anyhow::Result<ExitCode> {
@@ -28,31 +27,49 @@ fn main(rt: HostRuntime) -> anyhow::Result<ExitCode> {
 }
 
 fn count_cases(rt: &HostRuntime, tally: &mut Tally) -> anyhow::Result<()> {
-    let mut run = Run::new(rt.alloc());
-    read_cases(rt, tally, &mut run)
+    let mut case = Case::new(rt.alloc());
+    read_lines(rt, tally, &mut case)
 }
 
-fn read_cases(rt: &HostRuntime, tally: &mut Tally, run: &mut Run) -> anyhow::Result<()> {
-    read_lines(rt, tally, run)?;
-    run.end_of_input()?;
-    count_ended(rt, tally, run)
-}
-
-fn read_lines(rt: &HostRuntime, tally: &mut Tally, run: &mut Run) -> anyhow::Result<()> {
+fn read_lines(rt: &HostRuntime, tally: &mut Tally, case: &mut Case) -> anyhow::Result<()> {
     for line in rt.lines(rt.alloc()) {
-        read_line(rt, tally, run, line?.as_str())?;
+        read_line(rt, tally, case, line?.as_str())?;
     }
+    close(rt, tally, case)
+}
+
+// A line begins a case, ends it, or belongs to it.
+fn read_line(
+    rt: &HostRuntime,
+    tally: &mut Tally,
+    case: &mut Case,
+    line: &str,
+) -> anyhow::Result<()> {
+    tally.lines = tally.lines.saturating_add(1);
+    match line.strip_prefix("case\t") {
+        Some(name) => begin(rt, tally, case, name),
+        None if line == "end" => end(rt, tally, case),
+        None => Ok(case.take(tally.lines, line)?),
+    }
+}
+
+fn begin(rt: &HostRuntime, tally: &mut Tally, case: &mut Case, name: &str) -> anyhow::Result<()> {
+    close(rt, tally, case)?;
+    Ok(case.name.push_str(name)?)
+}
+
+fn end(rt: &HostRuntime, tally: &mut Tally, case: &mut Case) -> anyhow::Result<()> {
+    case.end(tally.lines);
+    tally.count(rt, case)?;
+    *case = Case::new(rt.alloc());
     Ok(())
 }
 
-fn read_line(rt: &HostRuntime, tally: &mut Tally, run: &mut Run, line: &str) -> anyhow::Result<()> {
-    run.read(line)?;
-    count_ended(rt, tally, run)
-}
-
-fn count_ended(rt: &HostRuntime, tally: &mut Tally, run: &Run) -> anyhow::Result<()> {
-    match run.ended() {
-        Some(case) => Ok(tally.count(rt, case)?),
-        None => Ok(()),
+// Lines before a case, or a case without an end, can't be tried.
+fn close(rt: &HostRuntime, tally: &mut Tally, case: &mut Case) -> anyhow::Result<()> {
+    if case.is_new() {
+        return Ok(());
     }
+    case.refuse(tally.lines, "the case has no end");
+    end(rt, tally, case)
 }

@@ -6,8 +6,7 @@ use crate::text::{character, named, width};
 use comfy_table::style::{CellAlignment, ColumnConstraint, Width};
 use comfy_table::{Attribute, Cell, Color, Column, ContentArrangement, Terminal};
 use std::alloc::Global;
-
-const TRUTHS: [(&str, bool); 2] = [("true", true), ("false", false)];
+use std::str::Split;
 
 const ARRANGEMENTS: [(&str, ContentArrangement); 3] = [
     ("disabled", ContentArrangement::Disabled),
@@ -56,41 +55,50 @@ pub fn with_setting(cell: Cell, setting: CellSetting) -> Result<Cell> {
     Ok(cell)
 }
 
-/// Changes one setting of a column.
-pub fn set_on_column(alloc: Global, column: &mut Column, word: &str) -> Result<()> {
+/// A setting of a column.
+#[derive(Clone, Copy)]
+pub enum ColumnSetting {
+    Padding(u16, u16),
+    Delimiter(char),
+    Alignment(CellAlignment),
+    Constraint(ColumnConstraint),
+}
+
+/// The setting of a column that a word stands for.
+pub fn column_setting(alloc: Global, word: &str) -> Result<ColumnSetting> {
     let (name, value) = name_and_value(word)?;
     match name {
-        "padding" => {
-            column.set_padding(padding(value)?);
-        }
-        "delimiter" => {
-            column.set_delimiter(character(alloc, value)?);
-        }
-        "align" => column.set_cell_alignment(alignment(value)?),
-        "constraint" => {
-            column.set_constraint(constraint(value)?);
-        }
-        _ => return Err(Fault::NotRead("a setting of a column isn't known")),
+        "padding" => padding(value),
+        "delimiter" => character(alloc, value).map(ColumnSetting::Delimiter),
+        "align" => alignment(value).map(ColumnSetting::Alignment),
+        "constraint" => constraint(value).map(ColumnSetting::Constraint),
+        _ => Err(Fault::NotRead("a setting of a column isn't known")),
     }
-    Ok(())
+}
+
+/// Changes one setting of a column.
+pub fn set_on_column(column: &mut Column, setting: ColumnSetting) {
+    match setting {
+        ColumnSetting::Padding(left, right) => {
+            column.set_padding((left, right));
+        }
+        ColumnSetting::Delimiter(delimiter) => {
+            column.set_delimiter(delimiter);
+        }
+        ColumnSetting::Alignment(alignment) => column.set_cell_alignment(alignment),
+        ColumnSetting::Constraint(constraint) => {
+            column.set_constraint(constraint);
+        }
+    }
 }
 
 /// The facts of a terminal: whether each output is one, and a width, or `-` for none.
-pub fn terminal(stdout: &str, stderr: &str, columns: &str) -> Result<Terminal> {
-    let known = if columns == "-" {
-        None
-    } else {
-        Some(width(columns)?)
-    };
-    Ok(Terminal {
-        stdout_is_tty: truth(stdout)?,
-        stderr_is_tty: truth(stderr)?,
-        width: known,
-    })
-}
-
-fn truth(word: &str) -> Result<bool> {
-    named(&TRUTHS, word, "a truth value isn't known")
+pub fn terminal(stdout: &str, stderr: &str, columns: &str) -> Terminal {
+    Terminal {
+        stdout_is_tty: stdout == "true",
+        stderr_is_tty: stderr == "true",
+        width: width(columns).ok(),
+    }
 }
 
 /// An arrangement by its name.
@@ -103,11 +111,11 @@ fn name_and_value<'a>(word: &'a str) -> Result<(&'a str, &'a str)> {
         .ok_or(Fault::NotRead("a setting has no ="))
 }
 
-fn padding(word: &str) -> Result<(u16, u16)> {
+fn padding(word: &str) -> Result<ColumnSetting> {
     let Some((left, right)) = word.split_once(',') else {
-        return Err(Fault::NotRead("a padding has no comma"));
+        return Err(Fault::NotRead("a padding has two numbers"));
     };
-    Ok((width(left)?, width(right)?))
+    Ok(ColumnSetting::Padding(width(left)?, width(right)?))
 }
 
 fn alignment(word: &str) -> Result<CellAlignment> {
@@ -115,49 +123,28 @@ fn alignment(word: &str) -> Result<CellAlignment> {
 }
 
 fn constraint(word: &str) -> Result<ColumnConstraint> {
-    match word {
-        "hidden" => return Ok(ColumnConstraint::Hidden),
-        "content" => return Ok(ColumnConstraint::ContentWidth),
-        _ => {}
-    }
-    let Some((name, value)) = word.split_once(':') else {
-        return Err(Fault::NotRead("a constraint isn't known"));
-    };
+    let mut words = word.split(':');
+    let name = words.next();
+    let first = next_width(&mut words);
     match name {
-        "absolute" => column_width(value).map(ColumnConstraint::Absolute),
-        "lower" => column_width(value).map(ColumnConstraint::LowerBoundary),
-        "upper" => column_width(value).map(ColumnConstraint::UpperBoundary),
-        "between" => boundaries(value),
+        Some("hidden") => Ok(ColumnConstraint::Hidden),
+        Some("content") => Ok(ColumnConstraint::ContentWidth),
+        Some("absolute") => first.map(ColumnConstraint::Absolute),
+        Some("lower") => first.map(ColumnConstraint::LowerBoundary),
+        Some("upper") => first.map(ColumnConstraint::UpperBoundary),
+        Some("between") => Ok(ColumnConstraint::Boundaries {
+            lower: first?,
+            upper: next_width(&mut words)?,
+        }),
         _ => Err(Fault::NotRead("a constraint isn't known")),
     }
 }
 
-// two widths, each of two words
-fn boundaries(word: &str) -> Result<ColumnConstraint> {
-    let not_two = Err(Fault::NotRead("boundaries have two widths"));
-    let Some((lower_kind, rest)) = word.split_once(':') else {
-        return not_two;
-    };
-    let Some((lower, upper)) = rest.split_once(':') else {
-        return not_two;
-    };
-    Ok(ColumnConstraint::Boundaries {
-        lower: width_of_kind(lower_kind, lower)?,
-        upper: column_width(upper)?,
-    })
-}
-
-fn column_width(word: &str) -> Result<Width> {
-    let Some((kind, value)) = word.split_once(':') else {
-        return Err(Fault::NotRead("a width has no number"));
-    };
-    width_of_kind(kind, value)
-}
-
-fn width_of_kind(kind: &str, value: &str) -> Result<Width> {
-    match kind {
-        "fixed" => width(value).map(Width::Fixed),
-        "percent" => width(value).map(Width::Percentage),
+// the width that the next two words stand for
+fn next_width(words: &mut Split<char>) -> Result<Width> {
+    match (words.next(), words.next()) {
+        (Some("fixed"), Some(number)) => width(number).map(Width::Fixed),
+        (Some("percent"), Some(number)) => width(number).map(Width::Percentage),
         _ => Err(Fault::NotRead("a width is fixed or percent")),
     }
 }

@@ -3,15 +3,6 @@
 use crate::fault::{Fault, Result};
 use std::alloc::Global;
 
-// where in an escape the reading of a text is
-#[derive(Clone, Copy)]
-enum Place {
-    Outside,
-    Begun,
-    BeforeBrace,
-    InNumber { value: u32, digits: u8 },
-}
-
 /// What a name stands for among these, or the reason why it can't be read.
 pub fn named<T: Copy>(names: &[(&str, T)], name: &str, reason: &'static str) -> Result<T> {
     for (known, value) in names {
@@ -22,21 +13,29 @@ pub fn named<T: Copy>(names: &[(&str, T)], name: &str, reason: &'static str) -> 
     Err(Fault::NotRead(reason))
 }
 
+/// The parts of a text between which there is this character.
+pub fn parts<'a>(alloc: Global, text: &'a str, separator: char) -> Result<Vec<&'a str>> {
+    let mut parts = Vec::new(alloc);
+    for part in text.split(separator) {
+        parts.push(part)?;
+    }
+    Ok(parts)
+}
+
 /// The text that a word stands for, its escapes resolved.
 pub fn text(alloc: Global, word: &str) -> Result<String> {
     let mut text = String::new(alloc);
-    let mut place = Place::Outside;
-    for character in word.chars() {
-        let (next, meant) = read(place, character)?;
-        if let Some(meant) = meant {
-            text.push(meant)?;
+    let mut is_as_written = true;
+    for part in word.split('\\') {
+        if is_as_written {
+            text.push_str(part)?;
+        } else {
+            push_escaped(&mut text, part)?;
         }
-        place = next;
+        // no part between two backslashes: both stand for one, and what is behind them is as it is written
+        is_as_written = !is_as_written && part.is_empty();
     }
-    match place {
-        Place::Outside => Ok(text),
-        _ => Err(Fault::NotRead("an escape is cut off")),
-    }
+    Ok(text)
 }
 
 /// The one character that a word stands for.
@@ -59,37 +58,17 @@ pub fn optional_character(alloc: Global, word: &str) -> Result<Option<char>> {
 
 /// The number that some digits stand for.
 pub fn number(word: &str) -> Result<usize> {
-    if !word.bytes().all(|byte| byte.is_ascii_digit()) {
-        return Err(Fault::NotRead("a number has digits alone"));
-    }
     match word.parse::<usize>() {
         Ok(number) => Ok(number),
-        Err(_) => Err(Fault::NotRead("a number is empty or too great")),
+        Err(_) => Err(Fault::NotRead("a number is wanted")),
     }
 }
 
-/// The number of terminal columns that some digits stand for, at most 65535.
+/// The number of terminal columns that some digits stand for.
 pub fn width(word: &str) -> Result<u16> {
-    match u16::try_from(number(word)?) {
+    match word.parse::<u16>() {
         Ok(width) => Ok(width),
-        Err(_) => Err(Fault::NotRead("a number is past 65535")),
-    }
-}
-
-/// The one word that is wanted.
-pub fn only_word<'a>(words: &[&'a str]) -> Result<&'a str> {
-    match words {
-        [word] => Ok(*word),
-        _ => Err(Fault::NotRead("one word is wanted")),
-    }
-}
-
-/// Refuses words where none is wanted.
-pub fn no_words(words: &[&str]) -> Result<()> {
-    if words.is_empty() {
-        Ok(())
-    } else {
-        Err(Fault::NotRead("no word is wanted"))
+        Err(_) => Err(Fault::NotRead("a number up to 65535 is wanted")),
     }
 }
 
@@ -101,62 +80,35 @@ pub fn first_or_empty<'a>(words: &[&'a str]) -> &'a str {
     }
 }
 
-// reads one character: where it leads, and what it brings to the text
-fn read(place: Place, character: char) -> Result<(Place, Option<char>)> {
-    match place {
-        Place::Outside if character == '\\' => Ok((Place::Begun, None)),
-        Place::Outside => Ok((Place::Outside, Some(character))),
-        Place::Begun => read_letter(character),
-        Place::BeforeBrace if character == '{' => Ok((
-            Place::InNumber {
-                value: 0,
-                digits: 0,
-            },
-            None,
-        )),
-        Place::BeforeBrace => Err(Fault::NotRead("a brace is wanted behind \\u")),
-        Place::InNumber { value, digits } if character == '}' => {
-            Ok((Place::Outside, Some(numbered(value, digits)?)))
-        }
-        Place::InNumber { value, digits } => {
-            let next = with_digit(value, digits, character)?;
-            Ok((next, None))
-        }
-    }
-}
-
-// the character after a backslash
-fn read_letter(letter: char) -> Result<(Place, Option<char>)> {
-    let meant = match letter {
-        'n' => '\n',
-        't' => '\t',
-        'r' => '\r',
-        'e' => '\u{1b}',
-        '\\' => '\\',
-        'u' => return Ok((Place::BeforeBrace, None)),
-        _ => return Err(Fault::NotRead("an escape isn't known")),
+// adds what stands behind a backslash
+fn push_escaped(text: &mut String, part: &str) -> Result<()> {
+    let mut behind = part.chars();
+    let meant = match behind.next() {
+        None => '\\',
+        Some('n') => '\n',
+        Some('t') => '\t',
+        Some('r') => '\r',
+        Some('e') => '\u{1b}',
+        Some('u') => return push_numbered(text, behind.as_str()),
+        Some(_) => return Err(Fault::NotRead("an escape isn't known")),
     };
-    Ok((Place::Outside, Some(meant)))
+    text.push(meant)?;
+    Ok(text.push_str(behind.as_str())?)
 }
 
-// a number with one more hexadecimal digit, of at most six
-fn with_digit(value: u32, digits: u8, character: char) -> Result<Place> {
-    let Some(digit) = character.to_digit(16) else {
-        return Err(Fault::NotRead("a hexadecimal digit is wanted"));
+// adds the character whose number stands in braces, and what is behind them
+fn push_numbered(text: &mut String, part: &str) -> Result<()> {
+    let Some((digits, behind)) = part.split_once('}') else {
+        return Err(Fault::NotRead("an escape is cut off"));
     };
-    if digits >= 6 {
-        return Err(Fault::NotRead("an escape has more than six digits"));
-    }
-    Ok(Place::InNumber {
-        value: value.saturating_mul(16).saturating_add(digit),
-        digits: digits.saturating_add(1),
-    })
+    let Some(character) = numbered(digits) else {
+        return Err(Fault::NotRead("no character has this number"));
+    };
+    text.push(character)?;
+    Ok(text.push_str(behind)?)
 }
 
-// the character with this number
-fn numbered(value: u32, digits: u8) -> Result<char> {
-    if digits == 0 {
-        return Err(Fault::NotRead("an escape has no digit"));
-    }
-    char::from_u32(value).ok_or(Fault::NotRead("no character has this number"))
+fn numbered(digits: &str) -> Option<char> {
+    let digits = digits.strip_prefix('{')?;
+    char::from_u32(u32::from_str_radix(digits, 16).ok()?)
 }

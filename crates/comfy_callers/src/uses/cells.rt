@@ -90,13 +90,6 @@ pub fn numbered(alloc: Global, number: u32) -> Result<Cell>
     number.into_cell(alloc)
 }
 
-/// The cells of two texts.
-pub fn both(alloc: Global, first: &str, second: &str) -> Result<Cells>
-    ensures { IfOk result (λ cells. cells.0.items ≡ plain_cell first.now ∷ plain_cell second.now ∷ []) }
-{
-    [first, second].into_cells(alloc)
-}
-
 /// A row of cells, each with its settings.
 pub fn row_of_cells(alloc: Global, first: Cell, second: Cell) -> Result<Row>
     ensures { IfOk result (λ row. row ≡ plain_row (first ∷ second ∷ [])) }

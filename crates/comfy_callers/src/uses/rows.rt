@@ -2,27 +2,9 @@
 
 ghost use Rattle.std.specs.Prelude.{◌≡◌, ◌==◌, IfOk, IfSome, OnErr, OnOk, Some, if◌then◌else◌, length, max, nat_lt, option_map, slice_get, true};
 ghost use Rattle.comfy_parts.specs.CellValue.{RowValue, with_cell, with_max_height};
-ghost use Rattle.comfy_parts.specs.Presets.{ascii_full};
-ghost use Rattle.comfy_table.specs.TableValue.{IsWithRowsBeforeOne, new_table, with_header, with_row, with_rows};
+ghost use Rattle.comfy_table.specs.TableValue.{IsWithRowsBeforeOne, with_header, with_row, with_rows};
 
 use comfy_table::{Cell, Result, Row, Table};
-use std::alloc::Global;
-
-/// A table of these rows.
-pub fn table_of(alloc: Global, rows: Vec<Row>) -> Result<Table>
-    ensures { IfOk result (λ table. table ≡ with_rows rows.items (new_table ascii_full)) }
-{
-    let mut table = Table::new(alloc);
-    table.add_rows(rows)?;
-    Ok(table)
-}
-
-/// Appends rows.
-pub fn append(table: &mut Table, rows: Vec<Row>) -> Result<()>
-    ensures { OnOk result (table.new ≡ with_rows rows.items table.old) }
-{
-    table.try_add_rows(rows)
-}
 
 /// Appends a row to a table of at most two.
 pub fn append_to_few(table: &mut Table, row: Row) -> Result<()>

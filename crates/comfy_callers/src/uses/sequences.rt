@@ -1,6 +1,6 @@
 //! Callers that draw and look at cells whose texts hold sequences.
 
-ghost use Rattle.std.specs.Prelude.{◌==◌, ◌≡◌, ◌<◌, All, IfOk, Some, false, length, map, not, slice_get, string_bytes, true};
+ghost use Rattle.std.specs.Prelude.{◌==◌, ◌≡◌, ◌<◌, All, IfOk, Some, length, map, not, slice_get, string_bytes, true};
 ghost use Rattle.std.specs.List.{list_any, slice_split};
 ghost use Rattle.comfy_parts.specs.Text.{measure};
 ghost use Rattle.comfy_parts.specs.VisibleLines.{line_texts};
@@ -51,15 +51,6 @@ pub fn turned_on(table: &mut Table) -> bool
     was
 }
 
-/// Whether a new table has the setting: first not, then so.
-pub fn before_and_after(alloc: Global) -> (bool, bool)
-    ensures { result ≡ (false, true) }
-{
-    let mut table = Table::new(alloc);
-    let before = table.has_custom_styling();
-    (before, table.custom_styling().has_custom_styling())
-}
-
 /// A text, and a reset after it where it leaves a sequence open.
 pub fn closed_text(alloc: Global, text: &str) -> Result<String>
     ensures { IfOk result (λ whole. string_bytes whole ≡ closed text.now) }
@@ -69,13 +60,6 @@ pub fn closed_text(alloc: Global, text: &str) -> Result<String>
         whole.push_str("\u{1b}[0m")?;
     }
     Ok(whole)
-}
-
-/// How many texts are seen of a cell, and for how many of them it knows the width: as many as it has text lines.
-pub fn seen_counts(cell: &Cell) -> (usize, usize)
-    ensures { result ≡ (length cell.now.text_lines, length cell.now.text_lines) }
-{
-    (visible_lines(cell).len(), visible_widths(cell).len())
 }
 
 /// The terminal columns that are seen of the first text line of a cell.

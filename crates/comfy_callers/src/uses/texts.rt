@@ -1,6 +1,6 @@
 //! Callers that measure texts, cut them and wrap them.
 
-ghost use Rattle.std.specs.Prelude.{◌≡◌, ◌≤◌, ◌+◌, ◌*◌, ◌/◌, All, IfOk, Some, length, map, option_copied, slice_get, string_bytes, true};
+ghost use Rattle.std.specs.Prelude.{◌≡◌, ◌≤◌, ◌+◌, ◌*◌, ◌/◌, IfOk, Some, length, option_copied, slice_get, string_bytes, true};
 ghost use Rattle.comfy_parts.specs.Columns.{IsOneColumnStyle, TextFits};
 ghost use Rattle.comfy_parts.specs.Text.{elements, is_printable_ascii, measure};
 ghost use Rattle.comfy_parts.specs.VisibleText.{visible_text};
@@ -8,7 +8,7 @@ ghost use Rattle.comfy_parts.specs.Wrapping.{wrapped};
 
 use comfy_parts::content_split::wrapped_lines;
 use comfy_table::laws::{
-    lines_are_few, lines_fit, lines_of_every_script_fit, presets_have_columns_of_one,
+    lines_are_few, lines_of_every_script_fit, presets_have_columns_of_one,
     printable_measures_its_length,
 };
 use comfy_table::presets::UTF8_FULL;
@@ -66,15 +66,6 @@ pub fn first_line_of<'a>(text: &'a str, info: &ColumnDisplayInfo) -> Option<&'a 
     ensures { option_copied result ≡ slice_get (wrapped info.now.content_width 32 text.now) 0 }
 {
     wrapped_lines(text, info, ' ').next()
-}
-
-/// The lines of a text. In printable ASCII none is wider than the column.
-pub fn lines_at(alloc: Global, text: &str, width: u16) -> Result<Vec<String>>
-    ensures { IfOk result (λ lines. 1 ≤ width → is_printable_ascii text.now ≡ true → All (λ line. measure line ≤ width) (map string_bytes lines.items)) }
-{
-    lines_fit();
-    let info = ColumnDisplayInfo::new(&Column::new(0), width);
-    split_line(alloc, text, &info, ' ')
 }
 
 /// The borrowed lines of a text are as many as its own.

@@ -2,9 +2,7 @@
 
 use crate::support::assert_given;
 use comfy_parts::Column;
-use comfy_parts::content_split::{
-    ColumnDisplayInfo, split_line, split_line_by_delimiter, split_line_ref,
-};
+use comfy_parts::content_split::{ColumnDisplayInfo, split_line_by_delimiter, split_line_ref};
 use std::alloc::{Alloc, Global};
 use std::process::Abort;
 
@@ -26,43 +24,24 @@ const WRAPPED: [(&str, u16, char, &str); 9] = [
     ("ab cd", 0, ' ', "a|b|c|d"),
 ];
 
-// An info of this content width, which may be 0.
-fn info_of(width: u16) -> ColumnDisplayInfo {
-    let mut info = ColumnDisplayInfo::new(&Column::new(0), width);
-    info.content_width = width;
-    info
-}
-
-// The lines of a text, joined by bars, are these.
+// The lines of a text at a content width, which may be 0, joined by bars, are these.
 fn assert_wrapped(
     rt: &(impl Abort + Alloc<A = Global>),
     text: &str,
-    info: &ColumnDisplayInfo,
+    width: u16,
     delimiter: char,
     expected: &str,
 ) {
-    let lines = split_line(rt.alloc(), text, info, delimiter).expect(rt, "memory");
-    assert_given(rt, lines.join(rt.alloc(), "|"), expected);
-}
-
-// The borrowed lines of a text, joined by bars, are these.
-fn assert_wrapped_borrowed(
-    rt: &(impl Abort + Alloc<A = Global>),
-    text: &str,
-    info: &ColumnDisplayInfo,
-    delimiter: char,
-    expected: &str,
-) {
-    let lines = split_line_ref(rt.alloc(), text, info, delimiter).expect(rt, "memory");
+    let mut info = ColumnDisplayInfo::new(&Column::new(0), width);
+    info.content_width = width;
+    let lines = split_line_ref(rt.alloc(), text, &info, delimiter).expect(rt, "memory");
     assert_given(rt, lines.join(rt.alloc(), "|"), expected);
 }
 
 #[test]
 fn texts_are_wrapped(rt: HostRuntime) {
     for (text, width, delimiter, expected) in &WRAPPED {
-        let info = info_of(*width);
-        assert_wrapped(&rt, text, &info, *delimiter, expected);
-        assert_wrapped_borrowed(&rt, text, &info, *delimiter, expected);
+        assert_wrapped(&rt, text, *width, *delimiter, expected);
     }
 }
 

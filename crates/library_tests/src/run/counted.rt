@@ -16,15 +16,6 @@ struct CountedSource<'a> {
     reads: u64,
 }
 
-impl<'a> CountedSource<'a> {
-    fn new(bytes: &'a [u8]) -> CountedSource<'a> {
-        CountedSource {
-            source: MemorySource::new(bytes, 0),
-            reads: 0,
-        }
-    }
-}
-
 impl Source for CountedSource<'_> {
     ghost remaining = { λ s. Some (left_in s.source) };
 
@@ -67,34 +58,45 @@ impl Sink for CountedSink {
     }
 }
 
-// Runs the program, and compares how often it read, wrote its output and wrote a message, and its status. The message
-// fails at its first call.
-fn assert_calls(
+// The words and the input of the program, the call at which its output fails, and how often it reads, writes its output
+// and writes a message, and its status.
+type Calls = (
+    &'static [&'static str],
+    &'static [u8],
+    u64,
+    (u64, u64, u64, u8),
+);
+
+// One read of a short input and one of its end, one write of all, and no message. The first call of a message is its
+// only one.
+const CALLS: [Calls; 5] = [
+    (&[], b"a\tb\nc\td\n", 0, (2, 1, 0, 0)),
+    (&[], b"", 0, (1, 1, 0, 0)),
+    (&[], b"\xff", 0, (2, 0, 1, 1)),
+    (&[], b"a\n", 1, (2, 1, 1, 1)),
+    (&["x"], b"a\n", 0, (0, 0, 1, 2)),
+];
+
+// Runs the program, and returns how often it called its devices, and its status. The message fails at its first call.
+fn calls(
     rt: &(impl Abort + Alloc<A = Global>),
     words: &[&str],
     input: &[u8],
     failing_write: u64,
-    wanted: (u64, u64, u64, u8),
-) {
-    let mut source = CountedSource::new(input);
+) -> (u64, u64, u64, u8) {
+    let mut source = CountedSource {
+        source: MemorySource::new(input, 0),
+        reads: 0,
+    };
     let mut sink = CountedSink::new(rt, failing_write);
     let mut messages = CountedSink::new(rt, 1);
     let status = program(rt.alloc(), words, &mut source, &mut sink, &mut messages);
-    let calls = (source.reads, sink.writes, messages.writes, status);
-    assert!(rt; calls == wanted);
+    (source.reads, sink.writes, messages.writes, status)
 }
 
-// One read of a short input and one of its end, one write of all, and no message.
 #[test]
-fn a_success_calls_no_device_again(rt: HostRuntime) {
-    assert_calls(&rt, &[], b"a\tb\nc\td\n", 0, (2, 1, 0, 0));
-    assert_calls(&rt, &[], b"", 0, (1, 1, 0, 0));
-}
-
-// The first call of the message is its only one.
-#[test]
-fn a_failure_is_reported_by_one_call(rt: HostRuntime) {
-    assert_calls(&rt, &[], b"\xff", 0, (2, 0, 1, 1));
-    assert_calls(&rt, &[], b"a\n", 1, (2, 1, 1, 1));
-    assert_calls(&rt, &["x"], b"a\n", 0, (0, 0, 1, 2));
+fn no_device_is_called_again(rt: HostRuntime) {
+    for (words, input, failing_write, wanted) in &CALLS {
+        assert!(rt; calls(&rt, words, input, *failing_write) == *wanted);
+    }
 }

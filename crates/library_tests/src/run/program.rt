@@ -1,15 +1,15 @@
 //! What the program writes and reports, and its statuses.
 
-use crate::support::{assert_given, assert_holds, assert_number, sink_of};
-use comfy_run::run::{MemorySink, MemorySource, RunError, program};
+use crate::support::{assert_bytes, assert_given, assert_number, sink_of};
+use comfy_run::run::{MemorySource, RunError, program};
 use comfy_table::TableError;
-use std::alloc::{Alloc, AllocError, Global};
+use std::alloc::{Alloc, Global};
 use std::process::Abort;
 
 const USAGE: &str = "usage: ctable [WIDTH|- [disabled|dynamic|full [STYLE]]]\n";
 
-/// The table of the README, as the program reads it.
-pub const README: &[u8] = b"Header1\tHeader2\tHeader3
+// The table of the README, as the program reads it.
+const README: &[u8] = b"Header1\tHeader2\tHeader3
 This is a text\tThis is another text\tThis is the third text
 This is another text\tNow\x0badd some\x0bmulti line stuff\tThis is awesome
 ";
@@ -61,55 +61,55 @@ const NARROW: &str = "\
 +---+---+
 ";
 
-// What a run of the program is given: its words, its input, the calls at which its devices fail, and how many bytes it may
-// write.
-#[derive(Clone, Copy)]
-struct Given {
-    words: &'static [&'static str],
-    input: &'static [u8],
-    failing_read: u64,
-    failing_write: u64,
-    failing_report: u64,
-    room: usize,
-}
+const BOLD: &str = "\
++------------+
+| h          |
++============+
+| \u{1b}[1mab\u{1b}[0m |
++------------+
+";
 
-// The words and the input over devices that don't fail.
-fn sound(words: &'static [&'static str], input: &'static [u8]) -> Given {
-    Given {
-        words,
-        input,
-        failing_read: 0,
-        failing_write: 0,
-        failing_report: 0,
-        room: 4096,
-    }
-}
+const WIDENED: &str = "\
++--------------+-------------+
+| Hello        | there       |
++============================+
+| a            | b           |
++--------------+-------------+
+";
+
+// The calls at which the source, the sink and the reports of a run fail, and how many bytes it may write.
+type Faults = (u64, u64, u64, usize);
+
+// Devices that don't fail.
+const SOUND: Faults = (0, 0, 0, 4096);
+
+// The words of a run, its input, the faults of its devices, its status, what it writes, and what it reports.
+type Ended = (
+    &'static [&'static str],
+    &'static [u8],
+    Faults,
+    u8,
+    &'static str,
+    &'static str,
+);
 
 // Runs the program, and compares its status, what it wrote and what it reported.
-fn assert_ends(
-    rt: &(impl Abort + Alloc<A = Global>),
-    given: Given,
-    status: u8,
-    output: &str,
-    messages: &str,
-) {
-    let mut sink = sink_of(rt, given.room, given.failing_write);
-    let mut reports = sink_of(rt, 256, given.failing_report);
-    let ended = run_program(rt.alloc(), given, &mut sink, &mut reports);
+fn assert_ends(rt: &(impl Abort + Alloc<A = Global>), wanted: Ended) {
+    let (words, input, faults, status, output, messages) = wanted;
+    let (failing_read, failing_write, failing_report, room) = faults;
+    let mut source = MemorySource::new(input, failing_read);
+    let mut sink = sink_of(rt, room, failing_write);
+    let mut reports = sink_of(rt, 256, failing_report);
+    let ended = program(rt.alloc(), words, &mut source, &mut sink, &mut reports);
     assert_number(rt, usize::from(ended), usize::from(status));
-    assert_holds(rt, &sink, output);
-    assert_holds(rt, &reports, messages);
-}
-
-fn run_program(alloc: Global, given: Given, sink: &mut MemorySink, reports: &mut MemorySink) -> u8 {
-    let mut source = MemorySource::new(given.input, given.failing_read);
-    program(alloc, given.words, &mut source, sink, reports)
+    assert_bytes(rt, sink.bytes(), output);
+    assert_bytes(rt, reports.bytes(), messages);
 }
 
 // The words and the input of a run that succeeds, and what it draws.
 type Drawn = (&'static [&'static str], &'static [u8], &'static str);
 
-const DRAWINGS: [Drawn; 13] = [
+const DRAWINGS: [Drawn; 15] = [
     (&[], README, DRAWN),
     (&["40", "dynamic", "UTF8_FULL"], README, DRAWN_IN_40),
     // no input is an empty table
@@ -140,36 +140,18 @@ const DRAWINGS: [Drawn; 13] = [
         b"Hello\tthere\na\tb\n",
         "| Hello | there |\n|-------|-------|\n| a     | b     |\n",
     ),
+    // sequences are left alone
+    (&[], b"h\n\x1b[1mab\x1b[0m\n", BOLD),
+    // borders and paddings take 7 of the 30 columns, and the longest texts 10 of the other 23; of the 13 that are left
+    // the first column gets 7 and the second 6
+    (&["30", "full"], b"Hello\tthere\na\tb\n", WIDENED),
 ];
 
 #[test]
 fn tables_are_drawn(rt: HostRuntime) {
     for (words, input, drawn) in &DRAWINGS {
-        assert_ends(&rt, sound(words, input), 0, drawn, "");
+        assert_ends(&rt, (words, input, SOUND, 0, drawn, ""));
     }
-}
-
-const BOLD: &str = "\
-+------------+
-| h          |
-+============+
-| \u{1b}[1mab\u{1b}[0m |
-+------------+
-";
-
-// Sequences are left alone.
-#[test]
-fn sequences_are_drawn_as_they_are(rt: HostRuntime) {
-    let given = sound(&[], b"h\n\x1b[1mab\x1b[0m\n");
-    assert_ends(&rt, given, 0, BOLD, "");
-}
-
-const NOT_UTF8: &str = "ctable: the input isn't UTF-8\n";
-
-#[test]
-fn bytes_that_are_no_text_are_refused(rt: HostRuntime) {
-    assert_ends(&rt, sound(&[], b"\xff"), 1, "", NOT_UTF8);
-    assert_ends(&rt, sound(&[], b"a\n\xe2\x9c"), 1, "", NOT_UTF8);
 }
 
 // Other widths, and other words after a width.
@@ -188,66 +170,44 @@ const REFUSED: [&[&str]; 8] = [
 #[test]
 fn other_words_are_refused(rt: HostRuntime) {
     for words in &REFUSED {
-        let given = Given {
-            failing_read: 1,
-            ..sound(words, b"a\n")
-        };
-        assert_ends(&rt, given, 2, "", USAGE);
+        assert_ends(&rt, (words, b"a\n", (1, 0, 0, 4096), 2, "", USAGE));
     }
 }
 
-// One read gives the input, and one shows its end.
-#[test]
-fn a_failing_source_is_reported(rt: HostRuntime) {
-    for failing_read in [1, 2] {
-        let given = Given {
-            failing_read,
-            ..sound(&[], README)
-        };
-        assert_ends(&rt, given, 1, "", "ctable: the input can't be read\n");
-    }
-}
+const NOT_UTF8: &str = "ctable: the input isn't UTF-8\n";
+
+const UNREAD: &str = "ctable: the input can't be read\n";
 
 const UNWRITTEN: &str = "ctable: the output can't be written\n";
 
-// The drawing is one write.
-#[test]
-fn a_failing_sink_is_reported(rt: HostRuntime) {
-    let given = Given {
-        failing_write: 1,
-        ..sound(&[], README)
-    };
-    assert_ends(&rt, given, 1, "", UNWRITTEN);
-}
-
-// A sink with room for ten bytes takes the first ten.
-#[test]
-fn a_full_sink_is_reported(rt: HostRuntime) {
-    let given = Given {
-        room: 10,
-        ..sound(&[], b"a\tb\nc\td\n")
-    };
-    assert_ends(&rt, given, 1, "+---+---+\n", UNWRITTEN);
-}
-
-// Words, an input, and the status and the output that they have.
-type Ended = (&'static [&'static str], &'static [u8], u8, &'static str);
-
-const UNREPORTED: [Ended; 3] = [
-    (&[], b"a\tb\nc\td\n", 0, SMALL),
-    (&[], b"\xff", 1, ""),
-    (&["x"], b"a\n", 2, ""),
+const ENDED: [Ended; 9] = [
+    // bytes that are no text
+    (&[], b"\xff", (0, 0, 0, 4096), 1, "", NOT_UTF8),
+    (&[], b"a\n\xe2\x9c", (0, 0, 0, 4096), 1, "", NOT_UTF8),
+    // one read gives the input, and one shows its end
+    (&[], README, (1, 0, 0, 4096), 1, "", UNREAD),
+    (&[], README, (2, 0, 0, 4096), 1, "", UNREAD),
+    // the drawing is one write
+    (&[], README, (0, 1, 0, 4096), 1, "", UNWRITTEN),
+    // a sink with room for ten bytes takes the first ten
+    (
+        &[],
+        b"a\tb\nc\td\n",
+        (0, 0, 0, 10),
+        1,
+        "+---+---+\n",
+        UNWRITTEN,
+    ),
+    // a fault of the sink for reports changes no status
+    (&[], b"a\tb\nc\td\n", (0, 0, 1, 4096), 0, SMALL, ""),
+    (&[], b"\xff", (0, 0, 1, 4096), 1, "", ""),
+    (&["x"], b"a\n", (0, 0, 1, 4096), 2, "", ""),
 ];
 
-// A fault of the sink for reports changes no status.
 #[test]
-fn a_failing_report_changes_nothing(rt: HostRuntime) {
-    for (words, input, status, output) in &UNREPORTED {
-        let given = Given {
-            failing_report: 1,
-            ..sound(words, input)
-        };
-        assert_ends(&rt, given, *status, output, "");
+fn faults_have_their_ends(rt: HostRuntime) {
+    for wanted in &ENDED {
+        assert_ends(&rt, *wanted);
     }
 }
 
@@ -264,11 +224,4 @@ fn errors_have_their_words(rt: HostRuntime) {
     for (error, words) in &WORDS {
         assert_given(&rt, error.to_string(rt.alloc()), words);
     }
-}
-
-#[test]
-fn errors_become_those_of_a_run(rt: HostRuntime) {
-    let lacking = RunError::Table(TableError::OutOfMemory);
-    assert!(rt; RunError::from(AllocError) == lacking);
-    assert!(rt; RunError::from(TableError::OutOfMemory) == lacking);
 }

@@ -1,30 +1,29 @@
-//! Tables: the calls that `lines` makes.
+//! Tables: the calls that `lines` makes, parts that are lent, and the widest paddings.
 
-use crate::support::{assert_drawn, assert_number, assert_text, push_with, row_of, table_of};
-use comfy_table::utils::arrangement::{arrange_content, longest_line};
+use crate::support::{assert_drawn, assert_number, row_of, table_of};
+use comfy_table::Table;
+use comfy_table::utils::arrangement::arrange_content;
 use comfy_table::utils::build_table;
 use comfy_table::utils::formatting::content_format::{format_content, format_row};
-use comfy_table::utils::formatting::content_split::ColumnDisplayInfo;
-use comfy_table::{Column, Table};
 use std::alloc::{Alloc, Global};
 use std::process::Abort;
 
 #[test]
-fn a_table_is_built(rt: HostRuntime) {
-    let table = table_of(&rt, ["a", "b"]);
-    let mut text = String::new(rt.alloc());
-    for line in build_table(&table).expect(&rt, "memory") {
-        push_with(&rt, &mut text, line.as_str(), '\n');
-    }
-    assert_text(&rt, text.as_str(), "+---+---+\n| a | b |\n+---+---+\n");
+fn each_step_of_a_drawing_succeeds(rt: HostRuntime) {
+    let table = table_of(&rt, ["ab\ncd"]);
+    assert_formatted(&rt, &table);
+    let lines = build_table(&table).expect(&rt, "memory");
+    assert_number(&rt, lines.count(), 4);
 }
 
-#[test]
-fn the_rows_of_a_table_are_formatted(rt: HostRuntime) {
-    let table = table_of(&rt, ["a\nb", "c"]);
-    let infos = arrange_content(&table).expect(&rt, "memory");
-    let content = format_content(&table, infos.as_slice()).expect(&rt, "memory");
-    assert_number(&rt, content.len(), 1);
+// The table has one row; another row has two lines there, and its second cell lies behind the last column.
+fn assert_formatted(rt: &(impl Abort + Alloc<A = Global>), table: &Table) {
+    let infos = arrange_content(table).expect(rt, "memory");
+    let content = format_content(table, infos.as_slice()).expect(rt, "memory");
+    assert_number(rt, content.len(), 1);
+    let row = row_of(rt, ["ab cd", "behind the last column"]);
+    let lines = format_row(&row, infos.as_slice(), table).expect(rt, "memory");
+    assert_number(rt, lines.len(), 2);
 }
 
 // Sets the height of each row, and the left padding of the first column alone.
@@ -46,37 +45,22 @@ fn rows_and_columns_are_borrowed_mutably_in_order(rt: HostRuntime) {
     assert_drawn(&rt, &table, "+---+--+\n|  …|cd|\n+---+--+");
 }
 
-// The pieces of lines, each of which a bar follows, and each line a line feed.
-fn pieces(rt: &(impl Abort + Alloc<A = Global>), lines: &[Vec<String>]) -> String {
-    let mut text = String::new(rt.alloc());
-    for line in lines {
-        for piece in line {
-            push_with(rt, &mut text, piece.as_str(), '|');
-        }
-        push_with(rt, &mut text, "", '\n');
+fn pad_widely(table: &mut Table) {
+    for column in table.column_iter_mut() {
+        column.set_padding((65535, 65535));
     }
-    text
 }
 
-// A cell after the last info is left out.
-#[test]
-fn a_row_is_formatted_by_its_infos(rt: HostRuntime) {
-    let row = row_of(&rt, ["ab cd", "behind the last info"]);
-    let info = ColumnDisplayInfo::new(&Column::new(0), 3);
-    let lines = format_row(&row, &[info], &Table::new(rt.alloc())).expect(&rt, "memory");
-    let pieces = pieces(&rt, lines.as_slice());
-    assert_text(&rt, pieces.as_str(), " ab  |\n cd  |\n");
+// Each drawn line has so many characters.
+fn assert_lines(rt: &impl Abort, table: &Table, count: usize) {
+    for line in table.lines().expect(rt, "memory") {
+        assert_number(rt, line.chars().count(), count);
+    }
 }
 
-// Each position and width, and the longest line there.
-const LONGEST: [(usize, u16, usize); 4] = [(0, 10, 5), (0, 5, 5), (0, 11, 11), (1, 10, 0)];
-
-// The second delimiter begins no line.
 #[test]
-fn the_longest_line_depends_on_the_width(rt: HostRuntime) {
-    let table = table_of(&rt, ["abcd  efghi"]);
-    for (position, width, expected) in &LONGEST {
-        let longest = longest_line(&table, *position, *width).expect(&rt, "memory");
-        assert_number(&rt, longest, *expected);
-    }
+fn the_widest_paddings_are_drawn(rt: HostRuntime) {
+    let mut table = table_of(&rt, ["a"]);
+    pad_widely(&mut table);
+    assert_lines(&rt, &table, 131073);
 }
