@@ -1,5 +1,6 @@
 pub mod AllWidths
 pub mod Arrangement
+pub mod ColorSequences
 pub mod Contents
 pub mod Deciding
 pub mod DisabledWidths

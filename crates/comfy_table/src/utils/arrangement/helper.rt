@@ -22,7 +22,13 @@ pub fn absolute_width_with_padding(column: &Column, width: u16) -> u16
 pub fn count_visible_columns(columns: &[Column]) -> usize
     ensures { result ≡ visible_among columns.now }
 {
-    columns.iter().filter(|column| !column.is_hidden()).count()
+    let mut visible = 0;
+    for column in columns {
+        if !column.is_hidden() {
+            visible += 1;
+        }
+    }
+    visible
 }
 
 /// The number of border characters of a line over so many visible columns, or the greatest `usize` where there are more.

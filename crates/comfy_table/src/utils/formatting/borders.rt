@@ -47,8 +47,8 @@ pub(crate) fn optional_frame_line(
     Ok(Some(text))
 }
 
-// Appends a line of the frame, drawn whatever parts are set.
-fn push_frame_line(
+/// Appends a line of the frame, drawn whatever parts are set.
+pub(crate) fn push_frame_line(
     text: &mut String,
     table: &Table,
     line: &LineStyle,
@@ -65,7 +65,8 @@ fn push_frame_line(
     push_border(text, table.style.draws_right_border(), line.right)
 }
 
-fn is_drawn(line: &LineStyle) -> bool
+/// Whether a line of the frame is drawn.
+pub(crate) fn is_drawn(line: &LineStyle) -> bool
     ensures { result ≡ is_drawn line.now }
 {
     line.left.is_some() || line.fill.is_some() || line.junction.is_some() || line.right.is_some()

@@ -9,7 +9,7 @@ ghost use Rattle.comfy_table.specs.Gaps.{gap_line, row_between};
 ghost use Rattle.comfy_table.specs.Output.{new_output, with_lines, with_written};
 
 use crate::table::Table;
-use crate::utils::formatting::borders::optional_frame_line;
+use crate::utils::formatting::borders::{is_drawn, optional_frame_line, push_frame_line};
 use crate::utils::formatting::drawn_cell::{DrawnCell, drawn_cells, greatest_height};
 use crate::utils::formatting::output::{Output, OutputForm};
 use crate::utils::formatting::plain_rows::PlainRows;
@@ -80,10 +80,12 @@ impl<'a> Writer<'a> {
     fn write_frame_line(&mut self, style: &LineStyle) -> Result<()>
         ensures { OnOk result (self.new ≡ with_written (optional_frame_line self.old.table.style style.now (whole_widths self.old.infos)) self.old) }
     {
-        if let Some(text) = optional_frame_line(self.table, style, self.plain.columns())? {
-            self.output.push_line(text.as_str())?;
+        if !is_drawn(style) {
+            return Ok(());
         }
-        Ok(())
+        self.line.clear();
+        push_frame_line(&mut self.line, self.table, style, self.plain.columns())?;
+        self.output.push_line(self.line.as_str())
     }
 
     // The header's lines and the header separator, where there is a header.

@@ -2,7 +2,8 @@
 
 ghost use Rattle.std.specs.Prelude.{◌≡◌, ◌++◌, OnOk, codes, filter, flat_map, string_bytes};
 ghost use Rattle.comfy_parts.specs.VisibleText.{reset};
-ghost use Rattle.comfy_table.specs.Styling.{sequence, color_code, foreground_code, background_code, attribute_code, has_attribute, attribute_sequences, optional_sequence, style_begin, style_end};
+ghost use Rattle.comfy_table.specs.ColorSequences.{color_sequence};
+ghost use Rattle.comfy_table.specs.Styling.{sequence, color_code, attribute_code, has_attribute, attribute_sequences, style_begin, style_end};
 
 use comfy_parts::style::{Attribute, Color};
 use comfy_parts::{Cell, Result};
@@ -44,8 +45,8 @@ const ALL_ATTRIBUTES: [Attribute; 28] = [
 pub(crate) fn push_style_begin(line: &mut String, cell: &Cell) -> Result<()>
     ensures { OnOk result (string_bytes line.new ≡ string_bytes line.old ++ style_begin cell.now) }
 {
-    push_background(line, cell.background())?;
-    push_foreground(line, cell.foreground())?;
+    push_color(line, cell.background(), "\u{1b}[48;", "\u{1b}[49m")?;
+    push_color(line, cell.foreground(), "\u{1b}[38;", "\u{1b}[39m")?;
     push_attributes(line, cell.attributes())
 }
 
@@ -73,31 +74,18 @@ pub(crate) fn push_reset(line: &mut String) -> Result<()>
     Ok(())
 }
 
-fn push_background(line: &mut String, color: Option<Color>) -> Result<()>
-    ensures { OnOk result (string_bytes line.new ≡ string_bytes line.old ++ optional_sequence background_code color) }
+// Appends the sequence of a colour, where there is one. Each begins and resets with these.
+fn push_color(line: &mut String, color: Option<Color>, begin: &str, reset: &str) -> Result<()>
+    ensures { OnOk result (string_bytes line.new ≡ string_bytes line.old ++ color_sequence begin.now reset.now color) }
 {
     let Some(color) = color else {
         return Ok(());
     };
     if color == Color::Reset {
-        line.push_str("\u{1b}[49m")?;
+        line.push_str(reset)?;
         return Ok(());
     }
-    line.push_str("\u{1b}[48;")?;
-    push_color_code(line, color)
-}
-
-fn push_foreground(line: &mut String, color: Option<Color>) -> Result<()>
-    ensures { OnOk result (string_bytes line.new ≡ string_bytes line.old ++ optional_sequence foreground_code color) }
-{
-    let Some(color) = color else {
-        return Ok(());
-    };
-    if color == Color::Reset {
-        line.push_str("\u{1b}[39m")?;
-        return Ok(());
-    }
-    line.push_str("\u{1b}[38;")?;
+    line.push_str(begin)?;
     push_color_code(line, color)
 }
 

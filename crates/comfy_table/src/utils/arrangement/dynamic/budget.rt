@@ -50,7 +50,13 @@ impl Budget {
     pub fn undecided(&self) -> usize
         ensures { result ≡ undecided_count self.now.widths.items }
     {
-        self.widths.iter().filter(|width| width.is_none()).count()
+        let mut count = 0;
+        for width in self.widths.as_slice() {
+            if width.is_none() {
+                count += 1;
+            }
+        }
+        count
     }
 
     // The room that an undecided column has on average, rounded down; 0 where none is undecided. Their number is passed in,
