@@ -1,5 +1,5 @@
 -- Kinds of characters whose widths add up: those that join nothing, and emoji that stand by themselves.
-use Rattle.std.proofs.Common.{◌≡◌, ◌≢◌, ◌<◌, ◌≤◌, ◌⊎◌, inl, inr, ℕ, ◌+◌, Bool, true, false, not, ◌&&◌, ◌||◌, List, [], ◌∷◌, nat_lt, nat_le, zero, suc, slice_index_or, refl, sym, ap, ◌∙◌, subst, arith, sum_by, ⊎_elim}
+use Rattle.std.proofs.Common.{◌≡◌, ◌≢◌, ◌<◌, ◌≤◌, ◌⊎◌, inl, inr, ℕ, ◌+◌, true, false, not, ◌&&◌, ◌||◌, List, [], ◌∷◌, nat_lt, nat_le, zero, suc, slice_index_or, refl, sym, ap, ◌∙◌, subst, arith, sum_by, ⊎_elim}
 use Rattle.std.specs.Int.{is_in_range}
 use Rattle.std.specs.List.{list_all, list_any}
 use Rattle.std.proofs.lemmas.Bool.{and_parts, not-true, or_cases}
