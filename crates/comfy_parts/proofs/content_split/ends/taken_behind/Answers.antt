@@ -1,4 +1,4 @@
-use Rattle.std.proofs.Common.{◌≡◌, ◌+◌, ◌++◌, ◌∙◌, length, ap, sym, arith, append_assoc, length-append}
+use Rattle.std.proofs.Common.{◌≡◌, ◌+◌, ◌++◌, ◌∙◌, [], length, ap, refl, sym, arith, append_assoc, length-append}
 use Rattle.std.specs.Prelude.{encode_utf8}
 use Rattle.comfy_parts.specs.Wrapping.{bytes_taken}
 use Rattle.comfy_parts.specs.Text.{Text, measure}
@@ -55,3 +55,6 @@ loop-filled-preserved c =
           let sum = before.2 in
           (step.0, step.2, omega (arith, all, same, sum, bytes, more, joined));
     }
+
+pub loop-filled-init : goal.loop-filled-init
+loop-filled-init c = record { utf8 = c.utf8.behind; bound = omega arith; ends = ([], refl); taken = λ es follow. (es, follow, omega arith) }

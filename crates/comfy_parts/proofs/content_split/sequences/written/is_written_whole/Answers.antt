@@ -1,4 +1,4 @@
-use Rattle.std.proofs.Common.{◌≡◌, ◌<◌, [], List, length, ap, ◌∙◌, arith, ℕ}
+use Rattle.std.proofs.Common.{◌≡◌, ◌<◌, [], List, length, ap, ◌∙◌, arith, refl, ℕ}
 use Rattle.std.proofs.lemmas.Bool.Decides.{nat_tests}
 use Rattle.std.proofs.lemmas.List.{nil_from_length}
 use Rattle.comfy_parts.specs.VisibleText.{parts}
@@ -20,3 +20,6 @@ pub returns : goal.returns
 returns c =
     let none : c.parts.rest.now ≡ [] = nil_from_length c.parts.rest.now (grind (arith, nat_tests)) in
     λ closed. written_whole c.args.text.now (c.parts.invariant.left ∙ ap (λ (t : List ℕ). closes_itself c.parts.is_open c.parts.follows_visible (parts t)) none ∙ closed)
+
+pub parts-init : goal.parts-init
+parts-init c = record { utf8 = c.utf8.text; left = refl }

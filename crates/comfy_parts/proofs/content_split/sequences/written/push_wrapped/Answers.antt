@@ -1,4 +1,5 @@
-use Rattle.std.proofs.Common.{◌∷◌, ◌++◌, List, map, length, ap, sym, subst, ◌∙◌, append-nil, string_bytes}
+use Rattle.std.proofs.Common.{◌∷◌, ◌++◌, List, map, length, ap, arith, refl, sym, subst, ◌∙◌, append-nil, string_bytes}
+use Rattle.std.proofs.lemmas.Grind.{common_steps}
 use Rattle.std.specs.Prelude.{IsUtf8}
 use Rattle.comfy_parts.specs.Text.{Text}
 use Rattle.comfy_parts.specs.Wrapping.{wrapped}
@@ -47,3 +48,6 @@ returns-clause-lines c =
     sym (append-nil (map string_bytes c.loop-line.lines.items))
     ∙ ap (λ (ts : List Text). map string_bytes c.loop-line.lines.items ++ ts) (sym (written-none w d cursor (seen_ahead cursor) none))
     ∙ c.loop-line.invariant.written
+
+pub loop-line-init : goal.loop-line-init
+loop-line-init c = record { whole = subst IsUtf8 c.requires c.utf8.seen; lines = grind (arith, common_steps); written = grind (arith, common_steps); stays = refl }

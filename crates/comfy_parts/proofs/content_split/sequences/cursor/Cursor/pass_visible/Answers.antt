@@ -1,4 +1,4 @@
-use Rattle.std.proofs.Common.{rules, false, ◌≡◌, ◌++◌, map, take, drop, ap, sym, subst, ◌∙◌}
+use Rattle.std.proofs.Common.{rules, false, ◌≡◌, ◌++◌, map, take, drop, ap, refl, sym, subst, ◌∙◌}
 use Rattle.std.specs.Prelude.{IsUtf8, if◌then◌else◌}
 use Rattle.comfy_parts.specs.Text.{Text}
 use Rattle.comfy_parts.specs.Cursor.{behind_bytes, seen_ahead, begins_with_sequence, stepped, visible_part}
@@ -21,3 +21,6 @@ bytes-preserved c =
       passed = sym (visible-behind left new.sequences run new.ahead within) ∙ ap (behind_bytes left) (sym was) ∙ c.bytes.invariant.passed;
       seen = sym (drops-behind left run (seen_ahead new) within) ∙ ap (drop left) (sym seen) ∙ c.bytes.invariant.seen;
     }
+
+pub bytes-init : goal.bytes-init
+bytes-init c = record { whole = c.requires; passed = refl; seen = refl }
