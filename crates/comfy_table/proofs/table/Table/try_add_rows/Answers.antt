@@ -1,8 +1,12 @@
 use Rattle.std.proofs.Common.{rules, map, ap, ◌∙◌, arith, sym}
+use Rattle.std.proofs.lemmas.Grind.{common_steps}
 use Rattle.std.proofs.lemmas.List.{length-map, take-map}
 use Rattle.comfy_table.proofs.ItemsLemmas.{all_given, not_all_given}
 use Rattle.comfy_table.specs.TableValue.{IsWithRowsBeforeOne, with_rows}
 use Rattle.comfy_table.proofs.table.Table.try_add_rows.Goals as goal
+
+pub loop-row-preserved : goal.loop-row-preserved
+loop-row-preserved g c = grind (arith, common_steps)
 
 pub returns-in_err-try_add_row-clause-err : goal.returns-in_err-try_add_row-clause-err
 returns-in_err-try_add_row-clause-err g c =
