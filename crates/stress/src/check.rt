@@ -4,7 +4,7 @@ use crate::drawing::Drawing;
 use crate::kept::keeps_texts;
 use crate::sample::Sample;
 use comfy_table::utils::arrangement::helper::count_border_columns;
-use comfy_table::{Column, ContentArrangement, Result, Table};
+use comfy_table::{ContentArrangement, Result, Table};
 use std::alloc::Global;
 
 /// What is wrong with the drawing of a sample, if anything is.
@@ -80,50 +80,23 @@ pub fn keeps_to_width(table: &Table, count: usize) -> bool {
     let Some(width) = table.width() else {
         return true;
     };
-    let visible = visible_of(table);
-    let bound = visible.least.max(usize::from(width));
-    match table.content_arrangement() {
-        _ if !visible.are_free => true,
-        ContentArrangement::Disabled => true,
-        ContentArrangement::Dynamic => count <= bound,
-        ContentArrangement::DynamicFullWidth => visible.count == 0 || count == bound,
-    }
-}
-
-// the columns that are visible
-#[derive(Clone, Copy)]
-struct Visible {
-    count: usize,
-    // their borders, paddings and one character for each
-    least: usize,
-    // whether none has a constraint
-    are_free: bool,
-}
-
-impl Visible {
-    fn add(&mut self, column: &Column) {
-        self.count = self.count.saturating_add(1);
-        self.least = self
-            .least
-            .saturating_add(1)
-            .saturating_add(usize::from(column.padding_width()));
-        self.are_free &= column.constraint().is_none();
-    }
-}
-
-fn visible_of(table: &Table) -> Visible {
-    let mut visible = Visible {
-        count: 0,
-        least: 0,
-        are_free: true,
-    };
+    let mut visible: usize = 0;
+    // one character and the paddings of each visible column
+    let mut least: usize = 0;
+    let mut are_free = true;
     for column in table.column_iter() {
         if !column.is_hidden() {
-            visible.add(column);
+            visible = visible.saturating_add(1);
+            least = least.saturating_add(1 + usize::from(column.padding_width()));
+            are_free &= column.constraint().is_none();
         }
     }
-    visible.least = visible
-        .least
-        .saturating_add(count_border_columns(table, visible.count));
-    visible
+    let least = least.saturating_add(count_border_columns(table, visible));
+    let bound = least.max(usize::from(width));
+    match table.content_arrangement() {
+        _ if !are_free => true,
+        ContentArrangement::Disabled => true,
+        ContentArrangement::Dynamic => count <= bound,
+        ContentArrangement::DynamicFullWidth => visible == 0 || count == bound,
+    }
 }

@@ -55,7 +55,7 @@ fn next_fault(alloc: Global, rng: &mut Pcg32) -> Result<Option<&'static str>> {
 }
 
 fn fault_of_sample(alloc: Global, rng: &mut Pcg32) -> Result<Option<&'static str>> {
-    let sample = Sample::new(alloc, rng)?;
+    let sample = Sample::new(alloc, rng, false)?;
     check::fault_of(alloc, &sample)
 }
 

@@ -61,17 +61,13 @@ pub struct Sample {
 }
 
 impl Sample {
-    /// A table of up to five rows and four columns.
-    pub fn new(alloc: Global, rng: &mut Pcg32) -> Result<Sample> {
-        Sample::made_of(alloc, rng, false)
-    }
-
     /// The same table with texts as they are seen: without their sequences.
     pub fn as_seen(&self, alloc: Global) -> Result<Sample> {
-        Sample::made_of(alloc, &mut self.numbers.clone()?, true)
+        Sample::new(alloc, &mut self.numbers.clone()?, true)
     }
 
-    fn made_of(alloc: Global, rng: &mut Pcg32, is_seen: bool) -> Result<Sample> {
+    /// A table of up to five rows and four columns, with texts without their sequences where these are only to be seen.
+    pub fn new(alloc: Global, rng: &mut Pcg32, is_seen: bool) -> Result<Sample> {
         let mut sample = Sample::without_rows(alloc, rng.clone()?, is_seen);
         sample.fill(alloc, rng)?;
         Ok(sample)

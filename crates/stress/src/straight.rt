@@ -61,17 +61,13 @@ const CONSTRAINTS: [ColumnConstraint; 4] = [
 /// What is wrong with the drawing of a random table, if anything is. It is as wide as its texts, which may be any, or its
 /// words fit their columns or consist of characters that join no other.
 pub fn fault_of(alloc: Global, rng: &mut Pcg32) -> Result<Option<&'static str>> {
-    let is_shown_whole = once_in(rng, 2);
     let mut table = Table::new(alloc);
-    fill(alloc, rng, &mut table, is_shown_whole)?;
-    fault_of_table(alloc, &table, is_shown_whole)
+    fault_in(alloc, rng, &mut table)
 }
 
-fn fault_of_table(
-    alloc: Global,
-    table: &Table,
-    is_shown_whole: bool,
-) -> Result<Option<&'static str>> {
+fn fault_in(alloc: Global, rng: &mut Pcg32, table: &mut Table) -> Result<Option<&'static str>> {
+    let is_shown_whole = once_in(rng, 2);
+    fill(alloc, rng, table, is_shown_whole)?;
     if is_shown_whole || !has_narrow_column(table)? {
         fault_of_lines(alloc, table)
     } else {

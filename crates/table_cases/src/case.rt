@@ -33,6 +33,11 @@ impl Case {
         }
     }
 
+    /// Begins the case of this name.
+    pub fn begin(&mut self, name: &str) -> Result<()> {
+        Ok(self.name.push_str(name)?)
+    }
+
     /// Whether no line was read.
     pub fn is_new(&self) -> bool {
         self.name.is_empty() && self.unread.is_none()

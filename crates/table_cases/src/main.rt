@@ -55,7 +55,7 @@ fn read_line(
 
 fn begin(rt: &HostRuntime, tally: &mut Tally, case: &mut Case, name: &str) -> anyhow::Result<()> {
     close(rt, tally, case)?;
-    Ok(case.name.push_str(name)?)
+    Ok(case.begin(name)?)
 }
 
 fn end(rt: &HostRuntime, tally: &mut Tally, case: &mut Case) -> anyhow::Result<()> {
