@@ -1,6 +1,6 @@
 -- Lists that are joined or repeated, one part more.
 use Rattle.std.proofs.Common.{◌≡◌, ◌<◌, ◌≤◌, ℕ, zero, suc, ◌+◌, ◌&&◌, Bool, true, false, List, [], ◌∷◌, ◌++◌, length, map, take, nat_lt, arith, refl, sym, ap, ◌∙◌, append-nil, append_assoc, slice_index_or, add-one}
-use Rattle.std.specs.List.{join_by, join_with_byte, repeat}
+use Rattle.std.specs.List.{join_by, repeat}
 use Rattle.std.specs.Prelude.{if◌then◌else◌}
 use Rattle.std.proofs.lemmas.Grind.{flat_map-append}
 use Rattle.std.proofs.lemmas.List.Folds.{flat_map-map}

@@ -1,6 +1,5 @@
-use Rattle.std.proofs.Common.{◌≡◌, Some, List, subst, ap, ◌∙◌, ◌++◌, arith}
+use Rattle.std.proofs.Common.{◌≡◌, subst, ap, ◌∙◌, arith}
 use Rattle.std.specs.Prelude.{OnOk}
-use Rattle.comfy_parts.specs.Text.{Text}
 use Rattle.comfy_table.proofs.OutputLemmas.{written-append}
 use Rattle.comfy_table.specs.Drawing.{whole_widths}
 use Rattle.comfy_table.specs.Frame.{optional_frame_line}
