@@ -48,13 +48,13 @@ module _ (text border : Text) (n before after : ℕ) (is : text ≡ spaces n ++ 
       ∙ sym (append_assoc (spaces before) (border ++ spaces after) (spaces (n - after)))
 
   -- the length of what is copied
-  gap_length : (left : Text) → left ≡ rest → length gap ≡ length left - (n - after)
-  gap_length left is = grind (arith, is, ended, length-append, length-replicate)
+  gap_length : length gap ≡ before + length border + after
+  gap_length = grind (arith, length-append, length-replicate)
 
-  pub second_cut : (left : Text) → left ≡ rest → IsCharBoundary left (length left - (n - after))
+  pub second_cut : (left : Text) → left ≡ rest → IsCharBoundary left (before + length border + after)
   second_cut left is =
-      subst (IsCharBoundary left) (gap_length left is) (IsCharBoundary-at_seam left gap (spaces (n - after)) (is ∙ ended) (spaces-utf8 (n - after)))
+      subst (IsCharBoundary left) gap_length (IsCharBoundary-at_seam left gap (spaces (n - after)) (is ∙ ended) (spaces-utf8 (n - after)))
 
-  pub copied : (left : Text) → left ≡ rest → take (length left - (n - after)) left ≡ gap
+  pub copied : (left : Text) → left ≡ rest → take (before + length border + after) left ≡ gap
   copied left is =
-      ap (take (length left - (n - after))) (is ∙ ended) ∙ ap (λ i. take i (gap ++ spaces (n - after))) (sym (gap_length left is)) ∙ take-append_seam gap (spaces (n - after))
+      ap (take (before + length border + after)) (is ∙ ended) ∙ ap (λ i. take i (gap ++ spaces (n - after))) (sym gap_length) ∙ take-append_seam gap (spaces (n - after))

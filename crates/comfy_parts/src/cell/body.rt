@@ -56,6 +56,15 @@ impl Body {
                 kept: Kept::Plain { text, width },
             });
         }
+        Body::full(alloc, text)
+    }
+
+    // The body of any text. Most are kept by themselves and don't come here.
+    #[inline(never)]
+    fn full(alloc: Global, text: String) -> Result<Body>
+        ensures value { IfOk result (λ body. body ≡ record { text_lines = (plain_cell (string_bytes text)).text_lines; attributes = [] }) }
+        ensures text_lines { IfOk result (λ body. HasTextLines body.text_lines) }
+    {
         let lines = TextLines::of_text(alloc, text)?;
         let full = FullBody {
             lines,

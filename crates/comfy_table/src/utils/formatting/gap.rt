@@ -17,16 +17,18 @@ pub struct Gap {
     part: Option<char>,
     // the border between two runs of spaces, from which a gap is copied at once
     text: String,
+    // the bytes of the border
+    border_len: usize,
 }
 
 impl Model for Gap {
-    ghost use Rattle.std.specs.Prelude.{◌≡◌, ◌++◌, List, ℕ, string_bytes};
+    ghost use Rattle.std.specs.Prelude.{◌≡◌, ◌++◌, List, ℕ, length, string_bytes};
     ghost use Rattle.comfy_parts.specs.Text.{spaces};
     ghost use Rattle.comfy_table.specs.Gaps.{drawn_character};
 
     ghost Value = { List ℕ };
 
-    ghost invariant = { λ g. string_bytes g.text ≡ spaces 64 ++ (drawn_character g.drawn g.part ++ spaces 64) };
+    ghost invariant = { λ g. (string_bytes g.text ≡ spaces 64 ++ (drawn_character g.drawn g.part ++ spaces 64)) × (g.border_len ≡ length (drawn_character g.drawn g.part)) };
 
     ghost view = { λ g. drawn_character g.drawn g.part };
 }
@@ -39,8 +41,14 @@ impl Gap {
         let run = run_of_spaces();
         let mut text = String::from_str(alloc, run)?;
         push_border(&mut text, drawn, part)?;
+        let border_len = text.len() - run.len();
         text.push_str(run)?;
-        Ok(Gap { drawn, part, text })
+        Ok(Gap {
+            drawn,
+            part,
+            text,
+            border_len,
+        })
     }
 
     /// Appends so many spaces, the border, and so many spaces.
@@ -53,7 +61,7 @@ impl Gap {
             return self.push_long(text, before, after);
         }
         let (_, rest) = self.text.as_str().split_at(run - before);
-        let (gap, _) = rest.split_at(rest.len() - (run - after));
+        let (gap, _) = rest.split_at(before + self.border_len + after);
         text.push_str(gap)?;
         Ok(())
     }
