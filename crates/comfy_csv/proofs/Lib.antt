@@ -1,9 +1,7 @@
 pub mod BuiltLemmas
-pub mod ColumnLemmas
 pub mod FieldLemmas
 pub mod LineLemmas
 pub mod PlainLemmas
-pub mod RecordLemmas
 pub mod RowLemmas
 pub mod RunLemmas
 pub mod StraightLemmas

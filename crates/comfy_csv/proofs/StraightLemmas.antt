@@ -18,12 +18,12 @@ use Rattle.comfy_table.specs.Straight.{EachCell, TextsFit}
 use Rattle.comfy_table.specs.TableValue.{TableValue, seen_rows}
 use Rattle.comfy_csv.proofs.BuiltLemmas.{Built, MakesRow, built}
 use Rattle.comfy_csv.proofs.LineLemmas.{EachLine, cells_each}
-use Rattle.comfy_csv.specs.Cells.{cell_for, field_or_blank, header_for, row_for, with_weight}
+use Rattle.csv_rows.specs.Cells.{cell_for, field_or_blank, header_for, row_for, with_weight}
 use Rattle.comfy_csv.specs.Drawn.{empty_table, note_for, row_count}
 use Rattle.comfy_csv.specs.Laws.{IsPlainLook, WideOutputIsStraight}
-use Rattle.comfy_csv.specs.declared.options.Look.{Look}
-use Rattle.comfy_csv.specs.declared.options.Options.{Options}
-use Rattle.comfy_csv.specs.declared.options.ShownColumn.{ShownColumn}
+use Rattle.csv_rows.specs.declared.options.Look.{Look}
+use Rattle.csv_rows.specs.declared.options.Options.{Options}
+use Rattle.csv_rows.specs.declared.options.ShownColumn.{ShownColumn}
 
 -- a row whose texts add up
 record AddsUpInRow (row : RowValue) : Type 0 where

@@ -11,12 +11,12 @@ use Rattle.comfy_table.specs.NewTables.{AreEquallyWide}
 use Rattle.comfy_table.specs.Pieces.{visible_infos}
 use Rattle.comfy_table.specs.TableValue.{TableValue}
 use Rattle.comfy_table.specs.Widths.{visible_count}
-use Rattle.comfy_csv.specs.Cells.{drawn_text, row_for}
-use Rattle.comfy_csv.specs.Columns.{chosen_columns, count_of}
+use Rattle.csv_rows.specs.Cells.{drawn_text, row_for}
+use Rattle.csv_rows.specs.Columns.{chosen_columns, count_of}
 use Rattle.comfy_csv.specs.Drawn.{IsOutputOf, limited, note_for, row_count, table_for}
-use Rattle.comfy_csv.specs.declared.options.Look.{Look}
-use Rattle.comfy_csv.specs.declared.options.Options.{Options}
-use Rattle.comfy_csv.specs.declared.options.ShownColumn.{ShownColumn}
+use Rattle.csv_rows.specs.declared.options.Look.{Look}
+use Rattle.csv_rows.specs.declared.options.Options.{Options}
+use Rattle.csv_rows.specs.declared.options.ShownColumn.{ShownColumn}
 
 -- ---- rows
 

@@ -3,8 +3,8 @@
 ghost use Rattle.std.specs.Prelude.{List, ℕ};
 ghost use Rattle.comfy_parts.specs.Text.{Text};
 ghost use Rattle.comfy_csv.specs.Laws.{IsFilling, IsWithin, OutputFillsWidth, OutputIsStraight, OutputKeepsToWidth, PrintableFieldsStay, PrintableLinesHave, PrintableTableIsPlain, TableKeepsRows, WideOutputIsStraight};
-ghost use Rattle.comfy_csv.specs.declared.options.Look.{Look};
-ghost use Rattle.comfy_csv.specs.declared.options.Options.{Options};
+ghost use Rattle.csv_rows.specs.declared.options.Look.{Look};
+ghost use Rattle.csv_rows.specs.declared.options.Options.{Options};
 ghost use Rattle.comfy_table.specs.TableValue.{TableValue};
 
 pub use csv_parts::laws::escaped_texts_are_read_back;

@@ -1,12 +1,10 @@
 //! The whole program, as a process runs it: its words, its standard streams and its status.
 
-use crate::arguments::{Asked, Surroundings, asked_of};
-use crate::error::CsvError;
-use crate::options::Options;
 use crate::output::Output;
 use crate::transfer::draw;
 use clap::error::{Error, ErrorKind};
 use comfy_run::run::FromReader;
+use csv_rows::{Asked, CsvError, Surroundings, asked_of};
 use std::env::VarError;
 use std::fs::File;
 use std::io::IsTerminal;

@@ -10,7 +10,8 @@ use Rattle.comfy_parts.specs.Columns.{AddsUp, TextFits}
 use Rattle.comfy_parts.specs.Text.{Text, measure}
 use Rattle.comfy_parts.specs.declared.style.table.ContentArrangement.{ContentArrangement}
 use Rattle.comfy_parts.specs.declared.style.table_style.TableStyle.{TableStyle}
-use Rattle.comfy_run.specs.Input.{break_of, cells_of_line, input_table, row_of_line, table_of_lines}
+use Rattle.comfy_run.specs.Input.{input_table, table_of_lines}
+use Rattle.run_parts.specs.Rows.{break_of, cells_of_line, row_of_line}
 use Rattle.comfy_run.specs.Straight.{IsStraightOutput, OutputIsStraight, WholeOutputIsStraight}
 use Rattle.comfy_table.proofs.BuiltTableLemmas.{IsBuilt, IsNewColumn, built-header, built-row, built_is_equally_wide, built_is_straight, characters_known, columns_known, padded, rows_known}
 use Rattle.comfy_table.proofs.InfoLemmas.{infos-known}

@@ -1,26 +1,12 @@
 -- The table that an input text stands for: a line for the header, a line for each row, and a TAB between cells.
-use Rattle.std.specs.Prelude.{ℕ, ◌==◌, List, [], ◌∷◌, Option, map, fold, if◌then◌else◌}
-use Rattle.std.specs.List.{slice_split}
+use Rattle.std.specs.Prelude.{ℕ, List, [], ◌∷◌, Option, fold}
 use Rattle.std.specs.Str.Lines.{lines}
-use Rattle.comfy_parts.specs.CellValue.{CellValue, RowValue, plain_row}
 use Rattle.comfy_parts.specs.Text.{Text}
 use Rattle.comfy_parts.specs.declared.style.table.ContentArrangement.{ContentArrangement}
 use Rattle.comfy_parts.specs.declared.style.table_style.TableStyle.{TableStyle}
-use Rattle.comfy_parts.specs.CellValue.{plain_cell}
 use Rattle.comfy_table.specs.Headline.{IsTerminatedTextOf}
 use Rattle.comfy_table.specs.TableValue.{TableValue, new_table, with_header, with_row}
-
--- inside a cell U+000B stands for a line feed
-abbrev pub break_of : ℕ → ℕ
-break_of b = if b == 0x0B then 0x0A else b
-
--- a line's cells
-abbrev pub cells_of_line : Text → List CellValue
-cells_of_line line = map (λ (cell : Text). plain_cell (map break_of cell)) (slice_split (λ b. b == 0x09) line)
-
--- a line's row
-abbrev pub row_of_line : Text → RowValue
-row_of_line line = plain_row (cells_of_line line)
+use Rattle.run_parts.specs.Rows.{row_of_line}
 
 -- the first line is the header, the others are rows
 abbrev pub table_of_lines : TableValue → List Text → TableValue

@@ -1,16 +1,10 @@
 -- What a call of `run` ensures, by its result.
-use Rattle.std.specs.Prelude.{◌≡◌, Bool, true, false, ◌++◌, Option, Some, None, Result, Ok, Err, IsUtf8}
-use Rattle.comfy_parts.specs.Presets.{ascii_full}
+use Rattle.std.specs.Prelude.{◌≡◌, Bool, true, false, ◌++◌, Option, Some, Result, Ok, Err, IsUtf8}
 use Rattle.comfy_parts.specs.Text.{Text}
-use Rattle.comfy_parts.specs.declared.style.table.ContentArrangement.TheVariants.{Disabled}
 use Rattle.comfy_run.specs.Outcome.{RunFacts, IsAfterOk, IsAfterRead, IsAfterWrite, IsAfterNotUtf8, IsAfterTable}
-use Rattle.comfy_run.specs.declared.run.error.RunError.{RunError}
-use Rattle.comfy_run.specs.declared.run.error.RunError.TheVariants.{Read, Write, NotUtf8, Table}
-use Rattle.comfy_run.specs.declared.run.settings.Settings.{Settings}
-
--- the settings of the program without arguments: no width, contents alone decide, and the first preset
-abbrev pub plain_settings : Settings
-plain_settings = record { width = None; arrangement = Disabled; style = ascii_full }
+use Rattle.run_parts.specs.declared.error.RunError.{RunError}
+use Rattle.run_parts.specs.declared.error.RunError.TheVariants.{Read, Write, NotUtf8, Table}
+use Rattle.run_parts.specs.declared.settings.Settings.{Settings}
 
 -- what the facts of a call are, by its result
 abbrev pub IsAfter : {T : Type 0} → Settings → Result T RunError → RunFacts → Type 0

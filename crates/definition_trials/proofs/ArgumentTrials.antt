@@ -4,8 +4,8 @@ use Rattle.std.specs.Prelude.{codes}
 use Prim.Native.String.{String}
 use Rattle.comfy_parts.specs.Presets.{ascii_full, ascii_full_condensed, ascii_no_borders, ascii_borders_only, ascii_borders_only_condensed, ascii_horizontal_only, ascii_markdown, utf8_full, utf8_full_condensed, utf8_no_borders, utf8_borders_only, utf8_horizontal_only, nothing, preset_named}
 use Rattle.comfy_parts.specs.declared.style.table.ContentArrangement.TheVariants.{Disabled, Dynamic, DynamicFullWidth}
-use Rattle.comfy_run.specs.Arguments.{arrangement_for, settings_for, width_for}
-use Rattle.comfy_run.specs.declared.run.settings.Settings.{Settings}
+use Rattle.run_parts.specs.Arguments.{arrangement_for, settings_for, width_for}
+use Rattle.run_parts.specs.declared.settings.Settings.{Settings}
 
 -- the settings that these words ask for
 abbrev asked : List String → Option Settings

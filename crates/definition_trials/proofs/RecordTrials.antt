@@ -6,11 +6,11 @@ use Rattle.comfy_parts.specs.Text.{Text}
 use Rattle.comfy_parts.specs.declared.style.cell.CellAlignment.TheVariants.{Left, Right}
 use Rattle.csv.specs.Records.{field_at}
 use Rattle.csv_parts.specs.Cleaning.{after_character, start}
-use Rattle.comfy_csv.specs.Columns.{alignment_for, columns_with, position_named, positions_of}
+use Rattle.csv_rows.specs.Columns.{alignment_for, columns_with, position_named, positions_of}
 use Rattle.comfy_csv.specs.Drawn.{limited, note_for}
 use Rattle.csv_parts.specs.Markdown.{escaped, unescaped}
 use Rattle.csv_parts.specs.Number.{is_number}
-use Rattle.comfy_csv.specs.declared.options.ColumnChoice.TheVariants.{Numbers}
+use Rattle.csv_rows.specs.declared.options.ColumnChoice.TheVariants.{Numbers}
 
 abbrev texts : List String → List Text
 texts words = map (λ (word : String). codes word) words

@@ -1,8 +1,7 @@
 //! The whole program, as a process runs it: its words, its standard streams and its status.
 
 use crate::run::command::program;
-use crate::run::error::RunError;
-use crate::run::stream::{FromReader, ToWriter};
+use run_parts::{FromReader, RunError, ToWriter};
 use std::alloc::AllocError;
 use std::io::ErrorKind;
 use std::process::ExitCode;

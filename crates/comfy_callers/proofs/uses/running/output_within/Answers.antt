@@ -1,6 +1,6 @@
 use Rattle.std.proofs.Common.{[], Option, Some, ap, List, ℕ, arith}
 use Rattle.std.specs.Prelude.{unwrap_or}
-use Rattle.comfy_run.specs.Device.{MemorySinkValue, MemorySourceValue, left_in}
+use Rattle.run_parts.specs.Device.{MemorySinkValue, MemorySourceValue, left_in}
 use Rattle.comfy_callers.proofs.uses.running.output_within.Goals as goal
 
 pub returns : goal.returns

@@ -1,0 +1,4 @@
+pub mod Cells
+pub mod Columns
+pub mod Input
+pub mod Words

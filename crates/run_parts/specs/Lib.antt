@@ -1,0 +1,6 @@
+pub mod Arguments
+pub mod Device
+pub mod DeviceLaws
+pub mod Parts
+pub mod Rows
+pub mod Stream
