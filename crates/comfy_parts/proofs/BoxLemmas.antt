@@ -112,44 +112,44 @@ lone_parts c test =
 -- nothing is joined with what follows it
 joins_none : (c : ℕ) → 0x2026 ≤ c → c ≤ 0x259F → (c == 0x20E3) ≡ false → IsLone c → (after : After) → joins false after c ≡ None
 unfolding joins before_alef
-joins_none c low high keycap lone Nothing = refl
-joins_none c low high keycap lone LineFeed = refl
+joins_none c low high keycap _ Nothing = refl
+joins_none c low high keycap _ LineFeed = refl
 joins_none c low high keycap lone EmojiModifier = let m = lone.not_modifier_base in grind (arith, nat_tests, m)
-joins_none c low high keycap lone RegionalIndicator = grind (arith, nat_tests)
-joins_none c low high keycap lone RegionalIndicators = grind (arith, nat_tests)
-joins_none c low high keycap lone Emoji = grind (arith, nat_tests)
+joins_none c low high keycap _ RegionalIndicator = grind (arith, nat_tests)
+joins_none c low high keycap _ RegionalIndicators = grind (arith, nat_tests)
+joins_none c low high keycap _ Emoji = grind (arith, nat_tests)
 joins_none c low high keycap lone ZwjEmoji = let e = lone.not_emoji in grind (arith, nat_tests, e)
-joins_none c low high keycap lone KeycapZwjEmoji = refl
-joins_none c low high keycap lone IndicatorZwj = grind (arith, nat_tests)
-joins_none c low high keycap lone EvenIndicatorsZwj = grind (arith, nat_tests)
-joins_none c low high keycap lone OddIndicatorsZwj = grind (arith, nat_tests)
-joins_none c low high keycap lone TagEnd = grind (arith, nat_tests)
-joins_none c low high keycap lone TagDigit1 = grind (arith, nat_tests)
-joins_none c low high keycap lone TagDigit2 = grind (arith, nat_tests)
-joins_none c low high keycap lone TagDigit3 = grind (arith, nat_tests)
-joins_none c low high keycap lone TagLetter1 = grind (arith, nat_tests)
-joins_none c low high keycap lone TagLetter2 = grind (arith, nat_tests)
-joins_none c low high keycap lone TagLetter3 = grind (arith, nat_tests)
-joins_none c low high keycap lone TagLetter4 = grind (arith, nat_tests)
-joins_none c low high keycap lone TagLetter5 = grind (arith, nat_tests)
-joins_none c low high keycap lone TagLetter6 = grind (arith, nat_tests)
-joins_none c low high keycap lone KiratE = grind (arith, nat_tests)
-joins_none c low high keycap lone KiratAi = grind (arith, nat_tests)
+joins_none c low high keycap _ KeycapZwjEmoji = refl
+joins_none c low high keycap _ IndicatorZwj = grind (arith, nat_tests)
+joins_none c low high keycap _ EvenIndicatorsZwj = grind (arith, nat_tests)
+joins_none c low high keycap _ OddIndicatorsZwj = grind (arith, nat_tests)
+joins_none c low high keycap _ TagEnd = grind (arith, nat_tests)
+joins_none c low high keycap _ TagDigit1 = grind (arith, nat_tests)
+joins_none c low high keycap _ TagDigit2 = grind (arith, nat_tests)
+joins_none c low high keycap _ TagDigit3 = grind (arith, nat_tests)
+joins_none c low high keycap _ TagLetter1 = grind (arith, nat_tests)
+joins_none c low high keycap _ TagLetter2 = grind (arith, nat_tests)
+joins_none c low high keycap _ TagLetter3 = grind (arith, nat_tests)
+joins_none c low high keycap _ TagLetter4 = grind (arith, nat_tests)
+joins_none c low high keycap _ TagLetter5 = grind (arith, nat_tests)
+joins_none c low high keycap _ TagLetter6 = grind (arith, nat_tests)
+joins_none c low high keycap _ KiratE = grind (arith, nat_tests)
+joins_none c low high keycap _ KiratAi = grind (arith, nat_tests)
 joins_none c low high keycap lone Alef = let l = lone.not_lam in let w = ap (λ (r : ℕ × State). r.0 == 0) lone.alone in rw (l, w) refl
-joins_none c low high keycap lone Solidus = refl
-joins_none c low high keycap lone SolidusAlef = refl
-joins_none c low high keycap lone Lamed = refl
-joins_none c low high keycap lone ZwjLamed = grind (arith, nat_tests)
-joins_none c low high keycap lone Ya = refl
-joins_none c low high keycap lone ZwjYa = grind (arith, nat_tests)
-joins_none c low high keycap lone VowelZwjYa = grind (arith, nat_tests)
-joins_none c low high keycap lone Tifinagh = grind (arith, nat_tests)
-joins_none c low high keycap lone ZwjTifinagh = grind (arith, nat_tests)
-joins_none c low high keycap lone JoinerTifinagh = grind (arith, nat_tests)
-joins_none c low high keycap lone LisuTone = grind (arith, nat_tests)
-joins_none c low high keycap lone OrkhonI = refl
-joins_none c low high keycap lone ZwjOrkhonI = grind (arith, nat_tests)
-joins_none c low high keycap lone KhmerLetter = grind (arith, nat_tests)
+joins_none c low high keycap _ Solidus = refl
+joins_none c low high keycap _ SolidusAlef = refl
+joins_none c low high keycap _ Lamed = refl
+joins_none c low high keycap _ ZwjLamed = grind (arith, nat_tests)
+joins_none c low high keycap _ Ya = refl
+joins_none c low high keycap _ ZwjYa = grind (arith, nat_tests)
+joins_none c low high keycap _ VowelZwjYa = grind (arith, nat_tests)
+joins_none c low high keycap _ Tifinagh = grind (arith, nat_tests)
+joins_none c low high keycap _ ZwjTifinagh = grind (arith, nat_tests)
+joins_none c low high keycap _ JoinerTifinagh = grind (arith, nat_tests)
+joins_none c low high keycap _ LisuTone = grind (arith, nat_tests)
+joins_none c low high keycap _ OrkhonI = refl
+joins_none c low high keycap _ ZwjOrkhonI = grind (arith, nat_tests)
+joins_none c low high keycap _ KhmerLetter = grind (arith, nat_tests)
 
 past_selectors-lone : (c n : ℕ) (after : After) → IsLone c → past_selectors false c n after ≡ (n + 1, plain)
 unfolding past_selectors
