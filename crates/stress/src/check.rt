@@ -1,20 +1,32 @@
 //! What can be said of a drawing from outside.
 
-use crate::drawing::Drawing;
-use crate::kept::keeps_texts;
 use crate::sample::Sample;
 use comfy_table::utils::arrangement::helper::count_border_columns;
 use comfy_table::{ContentArrangement, Result, Table};
 use std::alloc::Global;
+use stress_parts::{Drawing, Reader};
 
 /// What is wrong with the drawing of a sample, if anything is.
 pub fn fault_of(alloc: Global, sample: &Sample) -> Result<Option<&'static str>> {
-    let drawing = Drawing::of(alloc, &sample.table)?;
+    let drawing = drawing_of(alloc, &sample.table)?;
     let fault = fault_of_counts(sample, &drawing);
     if fault.is_some() {
         return Ok(fault);
     }
     fault_of_texts(alloc, sample, &drawing)
+}
+
+fn drawing_of(alloc: Global, table: &Table) -> Result<Drawing> {
+    let mut drawing = Drawing::new(alloc, table.has_custom_styling());
+    add_lines(alloc, table, &mut drawing)?;
+    Ok(drawing)
+}
+
+fn add_lines(alloc: Global, table: &Table, drawing: &mut Drawing) -> Result<()> {
+    for line in table.lines()? {
+        drawing.add_line(alloc, line)?;
+    }
+    Ok(())
 }
 
 fn fault_of_counts(sample: &Sample, drawing: &Drawing) -> Option<&'static str> {
@@ -25,7 +37,7 @@ fn fault_of_counts(sample: &Sample, drawing: &Drawing) -> Option<&'static str> {
     if !keeps_to_width(&sample.table, frame) {
         return Some("the width doesn't hold");
     }
-    if sample.kind.is_plain
+    if sample.contents.kind.is_plain
         && !is_cut(sample, drawing)
         && !are_all(drawing.row_counts.as_slice(), frame)
     {
@@ -45,10 +57,28 @@ fn fault_of_texts(
     if drawing.leaves_open {
         return Ok(Some("a sequence is left open"));
     }
-    if sample.kind.has_sequences && !is_drawn_as_seen(alloc, sample, drawing)? {
+    if sample.contents.kind.has_sequences && !is_drawn_as_seen(alloc, sample, drawing)? {
         return Ok(Some("sequences change the lines"));
     }
     Ok(None)
+}
+
+// whether the drawing has the texts of the cells
+fn keeps_texts(alloc: Global, sample: &Sample, drawing: &Drawing) -> Result<bool> {
+    let has_sequences = sample.contents.kind.has_sequences;
+    let mut reader = Reader::new(alloc, sample.delimiter, has_sequences);
+    read_rows(&sample.table, drawing, &mut reader)?;
+    Ok(reader.are_kept)
+}
+
+fn read_rows(table: &Table, drawing: &Drawing, reader: &mut Reader) -> Result<()> {
+    let columns = table.column_iter().as_slice();
+    reader.read_rows(
+        columns,
+        table.header(),
+        table.row_iter().as_slice(),
+        drawing,
+    )
 }
 
 fn are_all(counts: &[usize], wanted: usize) -> bool {
@@ -58,7 +88,7 @@ fn are_all(counts: &[usize], wanted: usize) -> bool {
 // whether a line was cut by a height limit, or may have been so where the indicator doesn't tell
 fn is_cut(sample: &Sample, drawing: &Drawing) -> bool {
     if sample.has_own_indicator {
-        sample.is_limited
+        sample.contents.is_limited
     } else {
         drawing.has_indicator
     }
@@ -71,8 +101,8 @@ fn is_drawn_as_seen(alloc: Global, sample: &Sample, drawing: &Drawing) -> Result
 }
 
 fn is_drawn_alike(alloc: Global, seen: &Sample, drawing: &Drawing) -> Result<bool> {
-    let other = Drawing::of(alloc, &seen.table)?;
-    Ok(seen.has_formed || other.has_counts_of(drawing))
+    let other = drawing_of(alloc, &seen.table)?;
+    Ok(seen.contents.has_formed || other.has_counts_of(drawing))
 }
 
 /// Whether a frame line of so many characters keeps to the set width, where no constraint says otherwise.

@@ -4,13 +4,8 @@
 #![tactic(auto)]
 
 mod check;
-mod drawing;
-mod kept;
 mod sample;
-mod scan;
-mod scripts;
 mod straight;
-mod texts;
 
 use anyhow::Context;
 use comfy_table::Result;

@@ -1,61 +1,13 @@
 //! A case's table, built line by line through the public surface. A call that is new gets its words here.
 
-use crate::fault::{Fault, Result};
-use crate::settings::{
-    arrangement, cell_setting, column_setting, set_on_column, terminal, with_setting,
+use case_parts::text::{character, first_or_empty, number, push_lines, push_number, text, width};
+use case_parts::{
+    Fault, Request, Result, arrangement, cell_of, read_style, request_of, set_column, set_part,
 };
-use crate::styles::{read_style, set_part};
-use crate::text::{character, first_or_empty, named, number, text, width};
 use comfy_table::utils::arrangement::arrange_content;
-use comfy_table::{Cell, Row, Table};
+use comfy_table::{Row, Table, Terminal};
 use std::alloc::Global;
 use std::mem;
-
-// what a line asks for, by its first word
-#[derive(Clone, Copy)]
-enum Request {
-    Cell,
-    Height,
-    Header,
-    Row,
-    Style,
-    Part,
-    Column,
-    Late,
-    Indicator,
-    Width,
-    Delimiter,
-    Arrangement,
-    Discover,
-    CustomStyling,
-    Terminal,
-    NoTty,
-    Stderr,
-    Enforce,
-    TextOnly,
-}
-
-const REQUESTS: [(&str, Request); 19] = [
-    ("cell", Request::Cell),
-    ("height", Request::Height),
-    ("header", Request::Header),
-    ("row", Request::Row),
-    ("style", Request::Style),
-    ("part", Request::Part),
-    ("column", Request::Column),
-    ("late", Request::Late),
-    ("indicator", Request::Indicator),
-    ("width", Request::Width),
-    ("delimiter", Request::Delimiter),
-    ("arrangement", Request::Arrangement),
-    ("discover", Request::Discover),
-    ("custom_styling", Request::CustomStyling),
-    ("terminal", Request::Terminal),
-    ("no_tty", Request::NoTty),
-    ("stderr", Request::Stderr),
-    ("enforce", Request::Enforce),
-    ("text_only", Request::TextOnly),
-];
 
 /// A table, and the row that was begun last.
 #[derive(Drop)]
@@ -87,7 +39,7 @@ impl Builder {
 
     /// Does what a line asks for by its first word and the words after it.
     pub fn apply(&mut self, first: &str, words: &[&str]) -> Result<()> {
-        match named(&REQUESTS, first, "a line isn't known")? {
+        match request_of(first)? {
             Request::Cell | Request::Height if matches!(self.begun, Begun::Nothing) => {
                 Err(Fault::NotRead("no row was begun"))
             }
@@ -176,10 +128,7 @@ impl Builder {
         let Some(column) = self.table.column_mut(number(first_or_empty(words))?) else {
             return Err(Fault::NotRead("no column has this position"));
         };
-        for word in words.iter().skip(1) {
-            set_on_column(column, column_setting(self.alloc, word)?);
-        }
-        Ok(())
+        set_column(self.alloc, column, words.get(1..).unwrap_or(&[]))
     }
 
     // adds a cell to the last row where it lies in the table
@@ -227,10 +176,7 @@ impl Builder {
 
     fn draw_trimmed(&self, lines: &mut Vec<String>) -> Result<()> {
         let text = self.table.trim_fmt()?;
-        for line in text.as_str().split('\n') {
-            lines.push(String::from_str(self.alloc, line)?)?;
-        }
-        Ok(())
+        push_lines(self.alloc, lines, text.as_str())
     }
 
     // numbers with a space between, as one line
@@ -247,31 +193,23 @@ impl Builder {
 
 fn write_max_widths(table: &Table, line: &mut String) -> Result<()> {
     for width in &table.column_max_content_widths()? {
-        write_number(line, *width)?;
+        push_number(line, *width)?;
     }
     Ok(())
 }
 
 fn write_widths(table: &Table, line: &mut String) -> Result<()> {
     for info in &arrange_content(table)? {
-        write_number(line, info.content_width)?;
+        push_number(line, info.content_width)?;
     }
     Ok(())
 }
 
-fn write_number(line: &mut String, number: u16) -> Result<()> {
-    if !line.is_empty() {
-        line.push(' ')?;
+// the facts of a terminal: whether each output is one, and a width, or `-` for none
+fn terminal(stdout: &str, stderr: &str, columns: &str) -> Terminal {
+    Terminal {
+        stdout_is_tty: stdout == "true",
+        stderr_is_tty: stderr == "true",
+        width: width(columns).ok(),
     }
-    Ok(write!(line, "{number}")?)
-}
-
-// the cell of a text, with its settings in their order
-fn cell_of(alloc: Global, words: &[&str]) -> Result<Cell> {
-    let text = text(alloc, first_or_empty(words))?;
-    let mut cell = Cell::new_owned(alloc, text)?;
-    for setting in words.iter().skip(1) {
-        cell = with_setting(cell, cell_setting(alloc, setting)?)?;
-    }
-    Ok(cell)
 }

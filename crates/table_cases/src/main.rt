@@ -3,17 +3,11 @@
 #![tactic(auto)]
 
 mod builder;
-mod case;
-mod fault;
-mod looks;
-mod report;
-mod settings;
-mod styles;
-mod text;
+mod trial;
 
-use case::Case;
-use report::Tally;
+use case_parts::Tally;
 use std::process::ExitCode;
+use trial::Trial;
 
 fn main(rt: HostRuntime) -> anyhow::Result<ExitCode> {
     let mut tally = Tally::default();
@@ -27,49 +21,49 @@ fn main(rt: HostRuntime) -> anyhow::Result<ExitCode> {
 }
 
 fn count_cases(rt: &HostRuntime, tally: &mut Tally) -> anyhow::Result<()> {
-    let mut case = Case::new(rt.alloc());
-    read_lines(rt, tally, &mut case)
+    let mut trial = Trial::new(rt.alloc());
+    read_lines(rt, tally, &mut trial)
 }
 
-fn read_lines(rt: &HostRuntime, tally: &mut Tally, case: &mut Case) -> anyhow::Result<()> {
+fn read_lines(rt: &HostRuntime, tally: &mut Tally, trial: &mut Trial) -> anyhow::Result<()> {
     for line in rt.lines(rt.alloc()) {
-        read_line(rt, tally, case, line?.as_str())?;
+        read_line(rt, tally, trial, line?.as_str())?;
     }
-    close(rt, tally, case)
+    close(rt, tally, trial)
 }
 
 // A line begins a case, ends it, or belongs to it.
 fn read_line(
     rt: &HostRuntime,
     tally: &mut Tally,
-    case: &mut Case,
+    trial: &mut Trial,
     line: &str,
 ) -> anyhow::Result<()> {
     tally.lines = tally.lines.saturating_add(1);
     match line.strip_prefix("case\t") {
-        Some(name) => begin(rt, tally, case, name),
-        None if line == "end" => end(rt, tally, case),
-        None => Ok(case.take(tally.lines, line)?),
+        Some(name) => begin(rt, tally, trial, name),
+        None if line == "end" => end(rt, tally, trial),
+        None => Ok(trial.take(tally.lines, line)?),
     }
 }
 
-fn begin(rt: &HostRuntime, tally: &mut Tally, case: &mut Case, name: &str) -> anyhow::Result<()> {
-    close(rt, tally, case)?;
-    Ok(case.begin(name)?)
+fn begin(rt: &HostRuntime, tally: &mut Tally, trial: &mut Trial, name: &str) -> anyhow::Result<()> {
+    close(rt, tally, trial)?;
+    Ok(trial.case.begin(name)?)
 }
 
-fn end(rt: &HostRuntime, tally: &mut Tally, case: &mut Case) -> anyhow::Result<()> {
-    case.end(tally.lines);
-    tally.count(rt, case)?;
-    *case = Case::new(rt.alloc());
+fn end(rt: &HostRuntime, tally: &mut Tally, trial: &mut Trial) -> anyhow::Result<()> {
+    trial.case.end(tally.lines);
+    tally.count(rt, &trial.case)?;
+    *trial = Trial::new(rt.alloc());
     Ok(())
 }
 
 // Lines before a case, or a case without an end, can't be tried.
-fn close(rt: &HostRuntime, tally: &mut Tally, case: &mut Case) -> anyhow::Result<()> {
-    if case.is_new() {
+fn close(rt: &HostRuntime, tally: &mut Tally, trial: &mut Trial) -> anyhow::Result<()> {
+    if trial.case.is_new() {
         return Ok(());
     }
-    case.refuse(tally.lines, "the case has no end");
-    end(rt, tally, case)
+    trial.case.refuse(tally.lines, "the case has no end");
+    end(rt, tally, trial)
 }

@@ -1,8 +1,7 @@
-//! One case: a table, and what is wanted of it.
+//! One case: what is wanted of its table, and what the table gives.
 
-use crate::builder::Builder;
 use crate::fault::{Fault, Result};
-use crate::text::{first_or_empty, parts, text};
+use crate::text::text;
 use std::alloc::Global;
 
 /// A case that is being read, or has ended.
@@ -11,7 +10,6 @@ pub struct Case {
     alloc: Global,
     /// The name; none before a case begins.
     pub name: String,
-    builder: Builder,
     /// The lines that are wanted, after the kind of each expectation.
     pub wanted: Vec<String>,
     /// The lines that the table gives in their place.
@@ -26,7 +24,6 @@ impl Case {
         Case {
             alloc,
             name: String::new(alloc),
-            builder: Builder::new(alloc),
             wanted: Vec::new(alloc),
             drawn: Vec::new(alloc),
             unread: None,
@@ -60,44 +57,30 @@ impl Case {
         }
     }
 
-    /// Does what a line asks for, unless an earlier line couldn't be read. Only running out of memory is returned as an
-    /// error.
-    pub fn take(&mut self, number: u64, line: &str) -> Result<()> {
-        if self.unread.is_some() || line.is_empty() || line.starts_with('#') {
-            return Ok(());
-        }
-        match self.apply(line) {
+    /// Whether a line asks for nothing, or for nothing any more since an earlier line couldn't be read.
+    pub fn passes_over(&self, line: &str) -> bool {
+        self.unread.is_some() || line.is_empty() || line.starts_with('#')
+    }
+
+    /// Keeps what a line came to. Only running out of memory stays an error.
+    pub fn keep(&mut self, line: u64, done: Result<()>) -> Result<()> {
+        match done {
             Err(Fault::NotRead(reason)) => {
-                self.refuse(number, reason);
+                self.refuse(line, reason);
                 Ok(())
             }
             done => done,
         }
     }
 
-    fn apply(&mut self, line: &str) -> Result<()> {
-        if self.name.is_empty() {
-            return Err(Fault::NotRead("a line stands in no case"));
-        }
-        if let Some(wanted) = line.strip_prefix('=') {
-            return self.want(wanted);
-        }
-        let words = parts(self.alloc, line, '\t')?;
-        match words.as_slice() {
-            ["expect", others @ ..] => self.expect(first_or_empty(others)),
-            [first, others @ ..] => self.builder.apply(first, others),
-            [] => Ok(()),
-        }
-    }
-
-    // draws what is wanted; its kind stands before the lines, both wanted and drawn
-    fn expect(&mut self, kind: &str) -> Result<()> {
+    /// Adds the kind of an expectation, which stands before the lines, both wanted and drawn.
+    pub fn expect(&mut self, kind: &str) -> Result<()> {
         self.wanted.push(String::from_str(self.alloc, kind)?)?;
-        self.drawn.push(String::from_str(self.alloc, kind)?)?;
-        self.builder.draw(kind, &mut self.drawn)
+        Ok(self.drawn.push(String::from_str(self.alloc, kind)?)?)
     }
 
-    fn want(&mut self, word: &str) -> Result<()> {
+    /// Adds a wanted line.
+    pub fn want(&mut self, word: &str) -> Result<()> {
         if self.wanted.is_empty() {
             return Err(Fault::NotRead("a line is wanted of nothing"));
         }

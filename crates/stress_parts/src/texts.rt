@@ -1,6 +1,6 @@
 //! Pieces that random texts are made of, and delimiters.
 
-use comfy_table::Result;
+use comfy_parts::Result;
 use rand::RngExt;
 use rand::seq::IndexedRandom;
 use rand_pcg::Pcg32;
@@ -86,6 +86,18 @@ pub struct Kind {
     pub is_plain: bool,
     /// Texts hold SGR sequences that count nothing; parts of such too, where they needn't be plain.
     pub has_sequences: bool,
+}
+
+impl Kind {
+    /// What the texts of the next table are made of.
+    pub fn new(rng: &mut Pcg32) -> Kind {
+        let is_plain = once_in(rng, 3);
+        let has_sequences = once_in(rng, 2);
+        Kind {
+            is_plain,
+            has_sequences,
+        }
+    }
 }
 
 /// A text of up to twelve pieces.

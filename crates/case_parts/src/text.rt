@@ -80,6 +80,22 @@ pub fn first_or_empty<'a>(words: &[&'a str]) -> &'a str {
     }
 }
 
+/// Adds the lines of a text.
+pub fn push_lines(alloc: Global, lines: &mut Vec<String>, text: &str) -> Result<()> {
+    for line in text.split('\n') {
+        lines.push(String::from_str(alloc, line)?)?;
+    }
+    Ok(())
+}
+
+/// Adds a number to a line of numbers with a space between.
+pub fn push_number(line: &mut String, number: u16) -> Result<()> {
+    if !line.is_empty() {
+        line.push(' ')?;
+    }
+    Ok(write!(line, "{number}")?)
+}
+
 // adds what stands behind a backslash
 fn push_escaped(text: &mut String, part: &str) -> Result<()> {
     let mut behind = part.chars();

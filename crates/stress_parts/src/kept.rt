@@ -1,47 +1,57 @@
 //! Whether a drawing keeps the texts of its cells.
 
 use crate::drawing::{Drawing, piece_at};
-use crate::sample::Sample;
 use crate::scan::Scan;
-use comfy_table::{Cell, Column, Result, Row};
+use comfy_parts::{Cell, Column, Result, Row};
 use std::alloc::Global;
 
-// reads the drawing of each cell beside its text
+/// Reads the drawing of each cell beside its text.
 #[derive(Drop)]
-struct Reader {
+pub struct Reader {
+    // the table's delimiter
+    delimiter: char,
+    knows_sequences: bool,
     drawn: Scan,
     wanted: Scan,
-    are_kept: bool,
-}
-
-/// Whether the cells of each row have the characters of their texts, in order and but for spaces and delimiters, each
-/// under the same sequences.
-pub fn keeps_texts(alloc: Global, sample: &Sample, drawing: &Drawing) -> Result<bool> {
-    let mut reader = Reader {
-        drawn: Scan::new(alloc, sample.kind.has_sequences),
-        wanted: Scan::new(alloc, sample.kind.has_sequences),
-        are_kept: true,
-    };
-    reader.read_rows(sample, drawing)?;
-    Ok(reader.are_kept)
+    /// Whether the cells of each row that was read have the characters of their texts, in order and but for spaces and
+    /// delimiters, each under the same sequences.
+    pub are_kept: bool,
 }
 
 impl Reader {
-    fn read_rows(&mut self, sample: &Sample, drawing: &Drawing) -> Result<()> {
+    /// No row was read yet of a table with this delimiter, whose setting for sequences is on where they are known.
+    pub fn new(alloc: Global, delimiter: char, knows_sequences: bool) -> Reader {
+        Reader {
+            delimiter,
+            knows_sequences,
+            drawn: Scan::new(alloc, knows_sequences),
+            wanted: Scan::new(alloc, knows_sequences),
+            are_kept: true,
+        }
+    }
+
+    /// Reads what a drawing has of each row beside its cells.
+    pub fn read_rows(
+        &mut self,
+        columns: &[Column],
+        header: Option<&Row>,
+        rows: &[Row],
+        drawing: &Drawing,
+    ) -> Result<()> {
         // the first frame line ends no row
         let mut drawn = drawing.rows.iter().skip(1);
-        let header = sample.table.header().into_iter();
-        for row in header.chain(sample.table.row_iter()) {
-            self.read_row(sample, row, lines_to_compare(sample, row, drawn.next()))?;
+        for row in header.into_iter().chain(rows.iter()) {
+            let lines = lines_to_compare(self.knows_sequences, row, drawn.next());
+            self.read_row(columns, row, lines)?;
         }
         Ok(())
     }
 
-    fn read_row(&mut self, sample: &Sample, row: &Row, lines: &[String]) -> Result<()> {
+    fn read_row(&mut self, columns: &[Column], row: &Row, lines: &[String]) -> Result<()> {
         let mut place: usize = 0;
-        for (column, cell) in sample.table.column_iter().zip(row.cell_iter()) {
+        for (column, cell) in columns.iter().zip(row.cell_iter()) {
             if !column.is_hidden() {
-                self.begin(delimiter_of(sample, column, cell));
+                self.begin(delimiter_of(self.delimiter, column, cell));
                 self.read_lines(lines, place)?;
                 self.read_text(cell, row.height_limit().is_some())?;
                 place = place.saturating_add(1);
@@ -75,16 +85,17 @@ impl Reader {
     }
 }
 
-fn delimiter_of(sample: &Sample, column: &Column, cell: &Cell) -> char {
+// the delimiter of a cell in a table with this one
+fn delimiter_of(delimiter: char, column: &Column, cell: &Cell) -> char {
     cell.cell_delimiter()
         .or(column.column_delimiter())
-        .unwrap_or(sample.delimiter)
+        .unwrap_or(delimiter)
 }
 
 // the lines of a row that hold nothing but its texts: where sequences are taken out, the last line may end in a cut,
 // whose characters can form others
 fn lines_to_compare<'a>(
-    sample: &Sample,
+    knows_sequences: bool,
     row: &Row,
     lines: Option<&'a Vec<String>>,
 ) -> &'a [String] {
@@ -92,7 +103,7 @@ fn lines_to_compare<'a>(
         return &[];
     };
     match lines.as_slice().split_last() {
-        Some((_, others)) if sample.kind.has_sequences && row.height_limit().is_some() => others,
+        Some((_, others)) if knows_sequences && row.height_limit().is_some() => others,
         _ => lines.as_slice(),
     }
 }

@@ -1,10 +1,12 @@
-//! The settings of cells and columns, as words `NAME=VALUE`.
+//! Cells and columns of words; their settings are `NAME=VALUE`.
 
 use crate::fault::{Fault, Result};
 use crate::looks::{attribute, color};
-use crate::text::{character, named, width};
-use comfy_table::style::{CellAlignment, ColumnConstraint, Width};
-use comfy_table::{Attribute, Cell, Color, Column, ContentArrangement, Terminal};
+use crate::text::{character, first_or_empty, named, text, width};
+use comfy_parts::style::{
+    Attribute, CellAlignment, Color, ColumnConstraint, ContentArrangement, Width,
+};
+use comfy_parts::{Cell, Column};
 use std::alloc::Global;
 use std::str::Split;
 
@@ -20,9 +22,9 @@ const ALIGNMENTS: [(&str, CellAlignment); 3] = [
     ("Center", CellAlignment::Center),
 ];
 
-/// A setting of a cell.
+// a setting of a cell
 #[derive(Clone, Copy)]
-pub enum CellSetting {
+enum CellSetting {
     Alignment(CellAlignment),
     Delimiter(char),
     Foreground(Color),
@@ -30,8 +32,18 @@ pub enum CellSetting {
     Attribute(Attribute),
 }
 
-/// The setting of a cell that a word stands for.
-pub fn cell_setting(alloc: Global, word: &str) -> Result<CellSetting> {
+/// The cell of a text, with its settings in their order.
+pub fn cell_of(alloc: Global, words: &[&str]) -> Result<Cell> {
+    let text = text(alloc, first_or_empty(words))?;
+    let mut cell = Cell::new_owned(alloc, text)?;
+    for setting in words.iter().skip(1) {
+        cell = with_setting(cell, cell_setting(alloc, setting)?)?;
+    }
+    Ok(cell)
+}
+
+// the setting of a cell that a word stands for
+fn cell_setting(alloc: Global, word: &str) -> Result<CellSetting> {
     let (name, value) = name_and_value(word)?;
     match name {
         "align" => alignment(value).map(CellSetting::Alignment),
@@ -43,8 +55,8 @@ pub fn cell_setting(alloc: Global, word: &str) -> Result<CellSetting> {
     }
 }
 
-/// The cell with one setting more.
-pub fn with_setting(cell: Cell, setting: CellSetting) -> Result<Cell> {
+// the cell with one setting more
+fn with_setting(cell: Cell, setting: CellSetting) -> Result<Cell> {
     let cell = match setting {
         CellSetting::Alignment(alignment) => cell.set_alignment(alignment),
         CellSetting::Delimiter(delimiter) => cell.set_delimiter(delimiter),
@@ -55,17 +67,25 @@ pub fn with_setting(cell: Cell, setting: CellSetting) -> Result<Cell> {
     Ok(cell)
 }
 
-/// A setting of a column.
+// a setting of a column
 #[derive(Clone, Copy)]
-pub enum ColumnSetting {
+enum ColumnSetting {
     Padding(u16, u16),
     Delimiter(char),
     Alignment(CellAlignment),
     Constraint(ColumnConstraint),
 }
 
-/// The setting of a column that a word stands for.
-pub fn column_setting(alloc: Global, word: &str) -> Result<ColumnSetting> {
+/// Changes settings of a column in their order.
+pub fn set_column(alloc: Global, column: &mut Column, words: &[&str]) -> Result<()> {
+    for word in words {
+        set_on_column(column, column_setting(alloc, word)?);
+    }
+    Ok(())
+}
+
+// the setting of a column that a word stands for
+fn column_setting(alloc: Global, word: &str) -> Result<ColumnSetting> {
     let (name, value) = name_and_value(word)?;
     match name {
         "padding" => padding(value),
@@ -76,8 +96,8 @@ pub fn column_setting(alloc: Global, word: &str) -> Result<ColumnSetting> {
     }
 }
 
-/// Changes one setting of a column.
-pub fn set_on_column(column: &mut Column, setting: ColumnSetting) {
+// changes one setting of a column
+fn set_on_column(column: &mut Column, setting: ColumnSetting) {
     match setting {
         ColumnSetting::Padding(left, right) => {
             column.set_padding((left, right));
@@ -89,15 +109,6 @@ pub fn set_on_column(column: &mut Column, setting: ColumnSetting) {
         ColumnSetting::Constraint(constraint) => {
             column.set_constraint(constraint);
         }
-    }
-}
-
-/// The facts of a terminal: whether each output is one, and a width, or `-` for none.
-pub fn terminal(stdout: &str, stderr: &str, columns: &str) -> Terminal {
-    Terminal {
-        stdout_is_tty: stdout == "true",
-        stderr_is_tty: stderr == "true",
-        width: width(columns).ok(),
     }
 }
 
@@ -124,20 +135,22 @@ fn alignment(word: &str) -> Result<CellAlignment> {
 
 fn constraint(word: &str) -> Result<ColumnConstraint> {
     let mut words = word.split(':');
-    let name = words.next();
-    let first = next_width(&mut words);
-    match name {
+    match words.next() {
         Some("hidden") => Ok(ColumnConstraint::Hidden),
         Some("content") => Ok(ColumnConstraint::ContentWidth),
-        Some("absolute") => first.map(ColumnConstraint::Absolute),
-        Some("lower") => first.map(ColumnConstraint::LowerBoundary),
-        Some("upper") => first.map(ColumnConstraint::UpperBoundary),
-        Some("between") => Ok(ColumnConstraint::Boundaries {
-            lower: first?,
-            upper: next_width(&mut words)?,
-        }),
+        Some("absolute") => next_width(&mut words).map(ColumnConstraint::Absolute),
+        Some("lower") => next_width(&mut words).map(ColumnConstraint::LowerBoundary),
+        Some("upper") => next_width(&mut words).map(ColumnConstraint::UpperBoundary),
+        Some("between") => between(&mut words),
         _ => Err(Fault::NotRead("a constraint isn't known")),
     }
+}
+
+fn between(words: &mut Split<char>) -> Result<ColumnConstraint> {
+    Ok(ColumnConstraint::Boundaries {
+        lower: next_width(words)?,
+        upper: next_width(words)?,
+    })
 }
 
 // the width that the next two words stand for

@@ -1,7 +1,7 @@
 //! A drawing in the style `UTF8_FULL`, read from outside.
 
 use crate::scan::{INDICATOR, Scan};
-use comfy_table::{Result, Table};
+use comfy_parts::Result;
 use std::alloc::Global;
 use std::mem;
 
@@ -30,14 +30,8 @@ pub struct Drawing {
 }
 
 impl Drawing {
-    /// The drawing of a table.
-    pub fn of(alloc: Global, table: &Table) -> Result<Drawing> {
-        let mut drawing = Drawing::without_lines(alloc, table.has_custom_styling());
-        drawing.add_lines(alloc, table)?;
-        Ok(drawing)
-    }
-
-    fn without_lines(alloc: Global, knows_sequences: bool) -> Drawing {
+    /// No line was read yet. Sequences are read as such where they are known, and else as characters.
+    pub fn new(alloc: Global, knows_sequences: bool) -> Drawing {
         Drawing {
             frame_counts: Vec::new(alloc),
             row_counts: Vec::new(alloc),
@@ -49,14 +43,8 @@ impl Drawing {
         }
     }
 
-    fn add_lines(&mut self, alloc: Global, table: &Table) -> Result<()> {
-        for line in table.lines()? {
-            self.add_line(alloc, line)?;
-        }
-        Ok(())
-    }
-
-    fn add_line(&mut self, alloc: Global, line: String) -> Result<()> {
+    /// Reads the next line.
+    pub fn add_line(&mut self, alloc: Global, line: String) -> Result<()> {
         if !line.as_str().starts_with(BORDER) {
             return self.add_frame_line(alloc, line.as_str());
         }

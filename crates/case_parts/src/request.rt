@@ -1,0 +1,55 @@
+//! What the lines of a case ask for.
+
+use crate::fault::Result;
+use crate::text::named;
+
+/// What a line asks for, by its first word.
+#[derive(Clone, Copy)]
+pub enum Request {
+    Cell,
+    Height,
+    Header,
+    Row,
+    Style,
+    Part,
+    Column,
+    Late,
+    Indicator,
+    Width,
+    Delimiter,
+    Arrangement,
+    Discover,
+    CustomStyling,
+    Terminal,
+    NoTty,
+    Stderr,
+    Enforce,
+    TextOnly,
+}
+
+const REQUESTS: [(&str, Request); 19] = [
+    ("cell", Request::Cell),
+    ("height", Request::Height),
+    ("header", Request::Header),
+    ("row", Request::Row),
+    ("style", Request::Style),
+    ("part", Request::Part),
+    ("column", Request::Column),
+    ("late", Request::Late),
+    ("indicator", Request::Indicator),
+    ("width", Request::Width),
+    ("delimiter", Request::Delimiter),
+    ("arrangement", Request::Arrangement),
+    ("discover", Request::Discover),
+    ("custom_styling", Request::CustomStyling),
+    ("terminal", Request::Terminal),
+    ("no_tty", Request::NoTty),
+    ("stderr", Request::Stderr),
+    ("enforce", Request::Enforce),
+    ("text_only", Request::TextOnly),
+];
+
+/// What a line with this first word asks for.
+pub fn request_of(word: &str) -> Result<Request> {
+    named(&REQUESTS, word, "a line isn't known")
+}

@@ -1,0 +1,27 @@
+//! Random settings that every table and every cell has.
+
+use crate::texts::one_of;
+use comfy_parts::style::{CellAlignment, ContentArrangement};
+use rand_pcg::Pcg32;
+
+const ARRANGEMENTS: [ContentArrangement; 3] = [
+    ContentArrangement::Disabled,
+    ContentArrangement::Dynamic,
+    ContentArrangement::DynamicFullWidth,
+];
+
+const ALIGNMENTS: [CellAlignment; 3] = [
+    CellAlignment::Left,
+    CellAlignment::Right,
+    CellAlignment::Center,
+];
+
+/// An arrangement of a table.
+pub fn arrangement(rng: &mut Pcg32) -> ContentArrangement {
+    one_of(rng, &ARRANGEMENTS, ContentArrangement::Disabled)
+}
+
+/// An alignment of a cell.
+pub fn alignment(rng: &mut Pcg32) -> CellAlignment {
+    one_of(rng, &ALIGNMENTS, CellAlignment::Left)
+}

@@ -1,0 +1,136 @@
+//! Random rows, columns and styles of tables whose edges have to be straight in terminal columns, whatever their script.
+
+pub use crate::scripts::Words;
+use crate::scripts::text;
+use crate::settings::alignment;
+use crate::texts::{once_in, one_of};
+use comfy_parts::content_split::{measure_text_width, visible_text};
+use comfy_parts::style::presets::{
+    ASCII_BORDERS_ONLY, ASCII_BORDERS_ONLY_CONDENSED, ASCII_FULL, ASCII_FULL_CONDENSED,
+    ASCII_HORIZONTAL_ONLY, ASCII_MARKDOWN, ASCII_NO_BORDERS, NOTHING, UTF8_BORDERS_ONLY, UTF8_FULL,
+    UTF8_FULL_CONDENSED, UTF8_HORIZONTAL_ONLY, UTF8_NO_BORDERS,
+};
+use comfy_parts::style::{Color, ColumnConstraint, TableStyle, Width};
+use comfy_parts::{Cell, Column, Result, Row};
+use rand::RngExt;
+use rand_pcg::Pcg32;
+use std::alloc::Global;
+
+const STYLES: [TableStyle; 13] = [
+    ASCII_FULL,
+    ASCII_FULL_CONDENSED,
+    ASCII_NO_BORDERS,
+    ASCII_BORDERS_ONLY,
+    ASCII_BORDERS_ONLY_CONDENSED,
+    ASCII_HORIZONTAL_ONLY,
+    ASCII_MARKDOWN,
+    UTF8_FULL,
+    UTF8_FULL_CONDENSED,
+    UTF8_NO_BORDERS,
+    UTF8_BORDERS_ONLY,
+    UTF8_HORIZONTAL_ONLY,
+    NOTHING,
+];
+
+// the first leaves columns apart where no line stands between them, as the second does; the last leaves them together
+const PADDINGS: [(u16, u16); 4] = [(1, 0), (0, 2), (1, 1), (0, 0)];
+
+const CONSTRAINTS: [ColumnConstraint; 4] = [
+    ColumnConstraint::Hidden,
+    ColumnConstraint::ContentWidth,
+    ColumnConstraint::Absolute(Width::Fixed(7)),
+    ColumnConstraint::UpperBoundary(Width::Fixed(9)),
+];
+
+/// The terminal columns that are seen of a line.
+pub fn seen_width(alloc: Global, line: &str) -> Result<usize> {
+    let seen = visible_text(alloc, line)?;
+    Ok(measure_text_width(seen.as_str()))
+}
+
+/// Which words a table has; characters that join others are in no table whose rows are cut.
+pub fn words(rng: &mut Pcg32, is_shown_whole: bool) -> Words {
+    let have_sequences = once_in(rng, 3);
+    Words {
+        are_joined: is_shown_whole || !once_in(rng, 3),
+        are_wild: is_shown_whole,
+        have_sequences,
+    }
+}
+
+/// A preset, now and then with modifiers.
+pub fn style(rng: &mut Pcg32) -> TableStyle {
+    let mut style = one_of(rng, &STYLES, UTF8_FULL);
+    if once_in(rng, 3) {
+        style = style.with_rounded_corners();
+    }
+    if once_in(rng, 3) {
+        style = style.with_solid_inner_borders();
+    }
+    style
+}
+
+/// A row of up to three cells, of at most three lines where it is to be cut.
+pub fn row(alloc: Global, rng: &mut Pcg32, words: Words, is_cut: bool) -> Result<Row> {
+    let mut row = Row::new(alloc);
+    add_cells(alloc, rng, &mut row, words)?;
+    if is_cut {
+        row.max_height(rng.random_range(1usize..4));
+    }
+    Ok(row)
+}
+
+fn add_cells(alloc: Global, rng: &mut Pcg32, row: &mut Row, words: Words) -> Result<()> {
+    for _ in 0..rng.random_range(1u32..4) {
+        row.try_add_cell(cell(alloc, rng, words)?)?;
+    }
+    Ok(())
+}
+
+fn cell(alloc: Global, rng: &mut Pcg32, words: Words) -> Result<Cell> {
+    let cell = Cell::new_owned(alloc, text(alloc, rng, words)?)?;
+    Ok(with_looks(rng, cell))
+}
+
+fn with_looks(rng: &mut Pcg32, cell: Cell) -> Cell {
+    let cell = cell.set_alignment(alignment(rng));
+    if once_in(rng, 4) {
+        cell.fg(Color::Green)
+    } else {
+        cell
+    }
+}
+
+/// Gives all columns the same padding, which keeps them apart where no line stands between them, and some a constraint.
+pub fn set_columns(
+    rng: &mut Pcg32,
+    columns: &mut [Column],
+    has_lines_between: bool,
+    is_shown_whole: bool,
+) {
+    let padding = padding(rng, has_lines_between);
+    for column in columns.iter_mut() {
+        column.set_padding(padding);
+        if once_in(rng, 5) {
+            column.set_constraint(constraint(rng, is_shown_whole));
+        }
+    }
+}
+
+fn padding(rng: &mut Pcg32, has_lines_between: bool) -> (u16, u16) {
+    if has_lines_between {
+        one_of(rng, &PADDINGS, (1, 1))
+    } else {
+        one_of(rng, &PADDINGS[..3], (1, 1))
+    }
+}
+
+// where the table is as wide as its texts a column may only be hidden
+fn constraint(rng: &mut Pcg32, is_shown_whole: bool) -> ColumnConstraint {
+    let constraints = if is_shown_whole {
+        &CONSTRAINTS[..1]
+    } else {
+        CONSTRAINTS.as_slice()
+    };
+    one_of(rng, constraints, ColumnConstraint::Hidden)
+}
