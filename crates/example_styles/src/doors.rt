@@ -1,22 +1,25 @@
 //! Colours and attributes.
 
+use crate::print;
 use comfy_table::{Attribute, Cell, Color, Result, Table, Terminal};
 use std::alloc::Global;
 use std::env;
 use std::io::IsTerminal;
 
+// names and states
+const DOORS: &[(&str, &str)] = &[("front", "open"), ("cellar", "ajar")];
+
 /// Prints the states of two doors: first with whole cells in colours and attributes, then with their texts alone.
-pub fn print_doors(rt: &HostRuntime) -> anyhow::Result<()> {
-    let mut doors = Table::new(rt.alloc());
-    fill(rt.alloc(), &mut doors)?;
+pub fn print_doors(rt: &HostRuntime, doors: &mut Table) -> anyhow::Result<()> {
+    fill(doors, rt.alloc())?;
     // Colours are written where the output is a terminal, and nowhere else: this is the line to copy.
     doors.set_terminal(terminal(rt));
     // This writes them wherever the output goes. It stands here since the stored output of this example, which is no
     // terminal, has to show them. Leave it out of a program of your own.
     doors.enforce_styling();
-    print(rt, &doors)?;
+    print(rt, doors)?;
     doors.style_text_only();
-    print(rt, &doors)
+    print(rt, doors)
 }
 
 // what the output is, and how wide its lines are where the shell passes that on
@@ -30,26 +33,21 @@ fn terminal(rt: &HostRuntime) -> Terminal {
     }
 }
 
-fn print(rt: &HostRuntime, table: &Table) -> anyhow::Result<()> {
-    println!(rt; "{}", table.to_text()?)?;
+fn fill(doors: &mut Table, alloc: Global) -> Result<()> {
+    for (name, state) in DOORS {
+        doors.add_row([bold(alloc, name)?, painted(alloc, state)?])?;
+    }
     Ok(())
 }
 
-fn fill(alloc: Global, doors: &mut Table) -> Result<()> {
-    add_door(alloc, doors, "front", open(alloc)?)?;
-    add_door(alloc, doors, "cellar", ajar(alloc)?)
+fn bold(alloc: Global, text: &str) -> Result<Cell> {
+    Cell::new(alloc, text)?.add_attribute(Attribute::Bold)
 }
 
-fn open(alloc: Global) -> Result<Cell> {
-    Ok(Cell::new(alloc, "open")?.fg(Color::Green))
-}
-
-fn ajar(alloc: Global) -> Result<Cell> {
-    Ok(Cell::new(alloc, "ajar")?.fg(Color::Black).bg(Color::Yellow))
-}
-
-fn add_door(alloc: Global, table: &mut Table, name: &str, state: Cell) -> Result<()> {
-    let name = Cell::new(alloc, name)?.add_attribute(Attribute::Bold)?;
-    table.add_row(vec![in alloc; name, state]?)?;
-    Ok(())
+fn painted(alloc: Global, state: &str) -> Result<Cell> {
+    let cell = Cell::new(alloc, state)?;
+    if state == "open" {
+        return Ok(cell.fg(Color::Green));
+    }
+    Ok(cell.fg(Color::Black).bg(Color::Yellow))
 }

@@ -13,54 +13,57 @@ use doors::print_doors;
 use std::alloc::Global;
 
 fn main(rt: HostRuntime) -> anyhow::Result<()> {
-    println!(rt; "{}", presets(rt.alloc())?)?;
-    println!(rt; "{}", changes(rt.alloc())?)?;
-    print_doors(&rt)?;
-    print_books(&rt)
+    print_styles(&rt, &mut Table::new(rt.alloc()))?;
+    print_doors(&rt, &mut Table::new(rt.alloc()))?;
+    print_books(&rt, &mut Table::new(rt.alloc()))
 }
 
-fn presets(alloc: Global) -> Result<String> {
-    let names = ["ASCII_FULL", "ASCII_MARKDOWN", "UTF8_HORIZONTAL_ONLY"];
-    let styles = [ASCII_FULL, ASCII_MARKDOWN, UTF8_HORIZONTAL_ONLY];
-    gallery(alloc, names, drawings(alloc, &styles)?)
+// the drawings in a table without lines
+fn print_styles(rt: &HostRuntime, gallery: &mut Table) -> anyhow::Result<()> {
+    add_drawings(gallery, rt.alloc())?.load_style(NOTHING);
+    println!(rt; "{}", gallery.trim_fmt()?)?;
+    Ok(())
 }
 
-fn changes(alloc: Global) -> Result<String> {
-    let names = ["UTF8_FULL", "rounded corners", "solid inner borders"];
-    let rounded = UTF8_FULL.with_rounded_corners();
-    let solid = UTF8_FULL.with_solid_inner_borders();
-    gallery(alloc, names, drawings(alloc, &[UTF8_FULL, rounded, solid])?)
+pub fn print(rt: &HostRuntime, table: &Table) -> anyhow::Result<()> {
+    println!(rt; "{}", table.to_text()?)?;
+    Ok(())
 }
 
-// the drawings with their names above them, in a table without lines
-fn gallery(alloc: Global, names: [&str; 3], drawings: Vec<String>) -> Result<String> {
-    let mut table = Table::new(alloc);
-    table
-        .load_style(NOTHING)
-        .set_header(names)?
-        .add_row(drawings)?;
-    table.trim_fmt()
+// a small table in each style, below the style's name
+fn add_drawings(gallery: &mut Table, alloc: Global) -> Result<&mut Table> {
+    gallery
+        .add_row(["ASCII_FULL", "ASCII_MARKDOWN", "UTF8_HORIZONTAL_ONLY"])?
+        .add_row(presets(alloc)?)?
+        .add_row(["UTF8_FULL", "rounded corners", "solid inner borders"])?
+        .add_row(changes(alloc)?)
 }
 
-// the small table in each style
-fn drawings(alloc: Global, styles: &[TableStyle]) -> Result<Vec<String>> {
-    let mut texts = Vec::new(alloc);
-    for style in styles {
-        texts.push(drawing(alloc, *style)?)?;
-    }
-    Ok(texts)
+fn presets(alloc: Global) -> Result<[String; 3]> {
+    Ok([
+        drawing(alloc, ASCII_FULL)?,
+        drawing(alloc, ASCII_MARKDOWN)?,
+        drawing(alloc, UTF8_HORIZONTAL_ONLY)?,
+    ])
+}
+
+fn changes(alloc: Global) -> Result<[String; 3]> {
+    let style = UTF8_FULL;
+    Ok([
+        drawing(alloc, style)?,
+        drawing(alloc, style.with_rounded_corners())?,
+        drawing(alloc, style.with_solid_inner_borders())?,
+    ])
 }
 
 fn drawing(alloc: Global, style: TableStyle) -> Result<String> {
-    let mut table = Table::new(alloc);
-    add_moons(&mut table)?;
-    table.load_style(style).to_text()
+    let mut moons = Table::new(alloc);
+    add_moons(&mut moons)?.load_style(style).to_text()
 }
 
-fn add_moons(table: &mut Table) -> Result<()> {
+fn add_moons(table: &mut Table) -> Result<&mut Table> {
     table
         .set_header(["Planet", "Moons"])?
         .add_row(["Earth", "1"])?
-        .add_row(["Mars", "2"])?;
-    Ok(())
+        .add_row(["Mars", "2"])
 }
