@@ -12,7 +12,7 @@ use report::{Test, fill};
 use std::env;
 use std::io::IsTerminal;
 
-const TESTS: [Test; 4] = [
+const TESTS: &[Test] = &[
     Test {
         name: "parse::empty",
         millis: 3,
@@ -39,7 +39,7 @@ const TESTS: [Test; 4] = [
 
 fn main(rt: HostRuntime) -> anyhow::Result<()> {
     let mut report = Table::new(rt.alloc());
-    fill(&mut report, rt.alloc(), &TESTS)?;
+    fill(&mut report, rt.alloc(), TESTS)?;
     obey(&rt, &mut report)
 }
 

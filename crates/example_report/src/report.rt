@@ -1,7 +1,9 @@
 //! The table of a report: a row for each test, and one for all of them.
 
 use comfy_table::presets::UTF8_FULL_CONDENSED;
-use comfy_table::{Attribute, Cell, CellAlignment, Color, ContentArrangement, Result, Row, Table};
+use comfy_table::{
+    Attribute, Cell, CellAlignment, Color, ContentArrangement, IntoRow, Result, Row, Table,
+};
 use std::alloc::Global;
 
 pub struct Test {
@@ -17,24 +19,15 @@ pub fn fill(report: &mut Table, alloc: Global, tests: &[Test]) -> Result<()> {
         .set_content_arrangement(ContentArrangement::Dynamic)
         .set_header(["Test", "Result", "Time", "Message"])?;
     for test in tests {
-        report.add_row(row(alloc, test)?)?;
+        let message = test.failure.unwrap_or("");
+        let is_pass = test.failure.is_none();
+        report.add_row(row(alloc, test.name, is_pass, test.millis, message)?)?;
     }
     report.add_row(sums(alloc, tests)?)?;
     if let Some(times) = report.column_mut(2) {
         times.set_cell_alignment(CellAlignment::Right);
     }
     Ok(())
-}
-
-// a message has at most three lines
-fn row(alloc: Global, test: &Test) -> Result<Row> {
-    let mut row = Row::new(alloc);
-    row.add_cell(Cell::new(alloc, test.name)?)?
-        .add_cell(result(alloc, test.failure.is_none())?)?
-        .add_cell(seconds(alloc, test.millis)?)?
-        .add_cell(Cell::new(alloc, test.failure.unwrap_or(""))?)?
-        .max_height(3);
-    Ok(row)
 }
 
 // how many tests there are, whether all passed, the time of all, and how many failed
@@ -47,11 +40,16 @@ fn sums(alloc: Global, tests: &[Test]) -> Result<Row> {
             failed = failed.saturating_add(1);
         }
     }
-    let mut row = Row::new(alloc);
-    row.add_cell(count(alloc, tests.len(), "tests")?)?
-        .add_cell(result(alloc, failed == 0)?)?
-        .add_cell(seconds(alloc, millis)?)?
-        .add_cell(count(alloc, failed, "failed")?)?;
+    let name = format!(in alloc; "{} tests", tests.len())?;
+    let message = format!(in alloc; "{failed} failed")?;
+    row(alloc, &name, failed == 0, millis, &message)
+}
+
+// a message has at most three lines
+fn row(alloc: Global, name: &str, is_pass: bool, millis: u64, message: &str) -> Result<Row> {
+    let time = format!(in alloc; "{}.{:03} s", millis / 1000, millis % 1000)?;
+    let mut row = (name, result(alloc, is_pass)?, time, message).into_row(alloc)?;
+    row.max_height(3);
     Ok(row)
 }
 
@@ -61,13 +59,4 @@ fn result(alloc: Global, is_pass: bool) -> Result<Cell> {
     }
     let cell = Cell::new(alloc, "FAIL")?.fg(Color::Red);
     cell.add_attribute(Attribute::Bold)
-}
-
-fn seconds(alloc: Global, millis: u64) -> Result<Cell> {
-    let text = format!(in alloc; "{}.{:03} s", millis / 1000, millis % 1000)?;
-    Cell::new_owned(alloc, text)
-}
-
-fn count(alloc: Global, number: usize, what: &str) -> Result<Cell> {
-    Cell::new_owned(alloc, format!(in alloc; "{number} {what}")?)
 }
