@@ -153,8 +153,8 @@ impl Body {
             Kept::Plain { text, width } => {
                 let alloc = *text.allocator();
                 let full = FullBody {
+                    attributes: Vec::with_capacity(alloc, attributes.len())?,
                     lines: TextLines::one(text, width),
-                    attributes: Vec::new(alloc),
                 };
                 Box::new(alloc, full)?
             }
