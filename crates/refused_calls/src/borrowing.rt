@@ -1,17 +1,12 @@
 //! The calls that take memory and only read the table.
 
 use crate::fixtures::{WORKED, fill_worked};
-use crate::outcome::Outcome;
+use crate::outcome::{Outcome, succeeded};
 use comfy_table::{Lines, Result, Table};
 use std::alloc::Global;
 
-/// What came of the call of this name on the table of `fill_worked`.
-pub fn outcome_of(alloc: Global, call: &str) -> Result<Outcome> {
-    let mut table = Table::new(alloc);
-    outcome_on_worked(alloc, &mut table, call)
-}
-
-fn outcome_on_worked(alloc: Global, table: &mut Table, call: &str) -> Result<Outcome> {
+/// What came of the call of this name on a new table that `fill_worked` fills.
+pub fn outcome_of(alloc: Global, table: &mut Table, call: &str) -> Result<Outcome> {
     fill_worked(alloc, table)?;
     outcome_on(table, WORKED, call)
 }
@@ -28,16 +23,16 @@ pub fn outcome_on(table: &Table, wanted: &str, call: &str) -> Result<Outcome> {
 
 // Whether the call of this name succeeds; none where there is no such call.
 fn read(table: &Table, call: &str) -> Option<bool> {
-    let succeeded = match call {
-        "clone" => table.clone().is_ok(),
-        "column_max_content_widths" => table.column_max_content_widths().is_ok(),
-        "lines" => table.lines().is_ok(),
-        "to_text" => table.to_text().is_ok(),
-        "trim_fmt" => table.trim_fmt().is_ok(),
-        "to_terminated_text" => table.to_terminated_text().is_ok(),
+    let is_read = match call {
+        "clone" => succeeded(table.clone()),
+        "column_max_content_widths" => succeeded(table.column_max_content_widths()),
+        "lines" => succeeded(table.lines()),
+        "to_text" => succeeded(table.to_text()),
+        "trim_fmt" => succeeded(table.trim_fmt()),
+        "to_terminated_text" => succeeded(table.to_terminated_text()),
         _ => return None,
     };
-    Some(succeeded)
+    Some(is_read)
 }
 
 // Whether these lines, between which the text has line feeds, and no more, are left.

@@ -10,13 +10,8 @@ use std::alloc::Global;
 // More cells than the table has columns.
 const WIDER: [&str; 5] = ["one", "two", "three", "four", "five"];
 
-/// What came of the call of this name.
-pub fn outcome_of(alloc: Global, call: &str) -> Result<Outcome> {
-    let mut source = Table::new(alloc);
-    outcome_on_copy(alloc, &mut source, call)
-}
-
-fn outcome_on_copy(alloc: Global, source: &mut Table, call: &str) -> Result<Outcome> {
+/// What came of the call of this name on a copy of a new table that `fill_full` fills.
+pub fn outcome_of(alloc: Global, source: &mut Table, call: &str) -> Result<Outcome> {
     fill_full(alloc, source)?;
     // A copy has no room to spare, so that a further row or column takes memory.
     let mut table = source.clone()?;
@@ -34,16 +29,25 @@ fn outcome_on(table: &mut Table, source: &mut Table, call: &str) -> Result<Outco
 // Whether the call of this name succeeds; none where there is no such call.
 fn change(table: &mut Table, call: &str) -> Option<bool> {
     let succeeded = match call {
-        "set_header" => table.set_header(WIDER).is_ok(),
-        "try_set_header" => table.try_set_header(WIDER).is_ok(),
         "discover_columns" => table.discover_columns().is_ok(),
         "column_count" => table.column_count().is_ok(),
         "set_truncation_indicator" => table.set_truncation_indicator("..").is_ok(),
         "try_set_truncation_indicator" => table.try_set_truncation_indicator("..").is_ok(),
-        "add_row" => table.add_row(WIDER).is_ok(),
-        "try_add_row" => table.try_add_row(WIDER).is_ok(),
-        "add_row_if" => table.add_row_if(always, WIDER).is_ok(),
-        "try_add_row_if" => table.try_add_row_if(always, WIDER).is_ok(),
+        _ => return put_row(table, call),
+    };
+    Some(succeeded)
+}
+
+// The same of the calls that set the header or add a row.
+fn put_row(table: &mut Table, call: &str) -> Option<bool> {
+    let row = WIDER;
+    let succeeded = match call {
+        "set_header" => table.set_header(row).is_ok(),
+        "try_set_header" => table.try_set_header(row).is_ok(),
+        "add_row" => table.add_row(row).is_ok(),
+        "try_add_row" => table.try_add_row(row).is_ok(),
+        "add_row_if" => table.add_row_if(always, row).is_ok(),
+        "try_add_row_if" => table.try_add_row_if(always, row).is_ok(),
         _ => return None,
     };
     Some(succeeded)

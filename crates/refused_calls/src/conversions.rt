@@ -1,6 +1,6 @@
 //! The conversions of values that own memory, or are copied by parts. They are dropped when they are refused.
 
-use crate::outcome::Outcome;
+use crate::outcome::{Outcome, succeeded};
 use comfy_table::{Cell, IntoCell, IntoCells, IntoRow, Result};
 use std::alloc::Global;
 
@@ -8,16 +8,18 @@ const TEXT: &str = "on the road,\nback at noon";
 
 const TEXTS: [&str; 3] = ["17", "dock 3", TEXT];
 
+const EIGHT: (&str, u32, bool, char, &str, u8, i64, &str) = (
+    TEXT, 17, true, 'x', TEXT, 5, -1, "end",
+);
+
 /// What came of the conversion of this name.
 pub fn outcome_of(alloc: Global, name: &str) -> Result<Outcome> {
-    let succeeded = match name {
-        "String::into_cell" => String::from_str(alloc, TEXT)?.into_cell(alloc).is_ok(),
-        "Vec::into_cells" => Vec::from_array(alloc, TEXTS)?.into_cells(alloc).is_ok(),
-        "cells::into_row" => [Cell::new(alloc, TEXT)?].into_row(alloc).is_ok(),
-        "tuple of eight::into_row" => (TEXT, 17u32, true, 'x', TEXT, 5u8, -1i64, "end")
-            .into_row(alloc)
-            .is_ok(),
+    let is_converted = match name {
+        "String::into_cell" => succeeded(String::from_str(alloc, TEXT)?.into_cell(alloc)),
+        "Vec::into_cells" => succeeded(Vec::from_array(alloc, TEXTS)?.into_cells(alloc)),
+        "cells::into_row" => succeeded([Cell::new(alloc, TEXT)?].into_row(alloc)),
+        "tuple of eight::into_row" => succeeded(EIGHT.into_row(alloc)),
         _ => return Ok(Outcome::Unknown),
     };
-    Ok(Outcome::of(succeeded))
+    Ok(Outcome::of(is_converted))
 }

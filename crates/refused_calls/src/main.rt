@@ -17,7 +17,7 @@ mod runs;
 mod sequences;
 mod several_rows;
 
-use comfy_table::Result;
+use comfy_table::{Result, Table};
 use outcome::Outcome;
 use std::alloc::Global;
 use std::io;
@@ -52,24 +52,31 @@ fn print(rt: &HostRuntime, name: &str, outcome: Outcome) -> io::Result<()> {
 
 // What came of the call of a name. An error says that memory was refused outside of the call.
 fn outcome_of(alloc: Global, name: &str) -> Result<Outcome> {
-    match name.split_once("::") {
-        Some(("Cell", call)) => cells::outcome_of(alloc, call),
-        Some(("Row", call)) => rows::outcome_of(alloc, call),
-        Some(("Table", call)) => outcome_on_table(alloc, call),
-        Some(("sequences", call)) => sequences::outcome_of(alloc, call),
-        Some(_) => conversions::outcome_of(alloc, name),
-        None => runs::outcome_of(alloc, name),
+    outcome_with(alloc, &mut Table::new(alloc), name)
+}
+
+// The same, with a new table for the calls that need one.
+fn outcome_with(alloc: Global, table: &mut Table, name: &str) -> Result<Outcome> {
+    let Some((kind, call)) = name.split_once("::") else {
+        return runs::outcome_of(alloc, name);
+    };
+    match kind {
+        "Cell" => cells::outcome_of(alloc, call),
+        "Row" => rows::outcome_of(alloc, call),
+        "Table" => outcome_on_table(alloc, table, call),
+        "sequences" => sequences::outcome_of(alloc, table, call),
+        _ => conversions::outcome_of(alloc, name),
     }
 }
 
-fn outcome_on_table(alloc: Global, call: &str) -> Result<Outcome> {
+fn outcome_on_table(alloc: Global, table: &mut Table, call: &str) -> Result<Outcome> {
     match call {
         "clone"
         | "column_max_content_widths"
         | "lines"
         | "to_text"
         | "trim_fmt"
-        | "to_terminated_text" => borrowing::outcome_of(alloc, call),
-        _ => changes::outcome_of(alloc, call),
+        | "to_terminated_text" => borrowing::outcome_of(alloc, table, call),
+        _ => changes::outcome_of(alloc, table, call),
     }
 }

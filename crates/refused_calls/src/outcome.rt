@@ -2,6 +2,11 @@
 
 use std::fmt::{self, Formatter, Write};
 
+/// Whether a call succeeded, by what it returned, which is dropped.
+pub fn succeeded<T: Drop, E: Drop>(returned: Result<T, E>) -> bool {
+    returned.is_ok()
+}
+
 /// What came of a call.
 #[derive(Clone, Copy)]
 pub enum Outcome {
@@ -55,10 +60,10 @@ impl Outcome {
 impl fmt::Display for Outcome {
     fn fmt<W: Write>(&self, f: &mut Formatter<W>) -> fmt::Result {
         match self {
-            Outcome::Succeeded => write!(f, "succeeded"),
-            Outcome::AsPromised | Outcome::Kept(_) => write!(f, "refused, as promised"),
+            Outcome::Succeeded => f.write_str("succeeded"),
+            Outcome::AsPromised | Outcome::Kept(_) => f.write_str("refused, as promised"),
             Outcome::Broken(part) => write!(f, "refused, BROKEN: {part}"),
-            Outcome::Unknown => write!(f, "there is no such call"),
+            Outcome::Unknown => f.write_str("there is no such call"),
         }
     }
 }

@@ -1,7 +1,7 @@
 //! The calls of a row.
 
 use crate::comparison::is_same_row;
-use crate::outcome::Outcome;
+use crate::outcome::{Outcome, succeeded};
 use comfy_table::{Cell, IntoRow, Result, Row};
 use std::alloc::Global;
 
@@ -15,13 +15,13 @@ pub fn outcome_of(alloc: Global, call: &str) -> Result<Outcome> {
 }
 
 fn outcome_on(alloc: Global, row: &mut Row, source: &Row, call: &str) -> Result<Outcome> {
-    let succeeded = match call {
+    let is_done = match call {
         "add_cell" => row.add_cell(Cell::new(alloc, "dock 3")?).is_ok(),
         "try_add_cell" => row.try_add_cell(Cell::new(alloc, "dock 3")?).is_ok(),
-        "clone" => row.clone().is_ok(),
+        "clone" => succeeded(row.clone()),
         _ => return Ok(Outcome::Unknown),
     };
-    if succeeded {
+    if is_done {
         return Ok(Outcome::Succeeded);
     }
     let differs = !is_same_row(row, source);

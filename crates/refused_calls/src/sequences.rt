@@ -1,7 +1,7 @@
 //! The calls that take memory where SGR sequences stand in a cell, and count nothing.
 
 use crate::borrowing::outcome_on;
-use crate::outcome::Outcome;
+use crate::outcome::{Outcome, succeeded};
 use comfy_table::utils::formatting::content_split::visible_text;
 use comfy_table::{Cell, ContentArrangement, Result, Table};
 use std::alloc::Global;
@@ -15,19 +15,16 @@ const BOLD: &str = "\
 | \u{1b}[1mdef\u{1b}[0m |
 +-----+";
 
-/// What came of the call of this name.
-pub fn outcome_of(alloc: Global, name: &str) -> Result<Outcome> {
-    match name.split_once("::") {
-        Some(("Table", call)) => of_bold_table(alloc, call),
-        Some(("Cell", "new")) => Ok(Outcome::of(Cell::new(alloc, TEXT).is_ok())),
-        None if name == "visible_text" => Ok(Outcome::of(visible_text(alloc, TEXT).is_ok())),
-        _ => Ok(Outcome::Unknown),
+/// What came of the call of this name, with a new table.
+pub fn outcome_of(alloc: Global, table: &mut Table, name: &str) -> Result<Outcome> {
+    match name {
+        "Cell::new" => Ok(Outcome::of(succeeded(Cell::new(alloc, TEXT)))),
+        "visible_text" => Ok(Outcome::of(succeeded(visible_text(alloc, TEXT)))),
+        _ => match name.strip_prefix("Table::") {
+            Some(call) => outcome_on_bold(table, call),
+            None => Ok(Outcome::Unknown),
+        },
     }
-}
-
-fn of_bold_table(alloc: Global, call: &str) -> Result<Outcome> {
-    let mut table = Table::new(alloc);
-    outcome_on_bold(&mut table, call)
 }
 
 fn outcome_on_bold(table: &mut Table, call: &str) -> Result<Outcome> {

@@ -22,11 +22,12 @@ pub fn outcome_on(table: &mut Table, source: &mut Table, call: &str) -> Result<O
 
 // Whether the call of this name succeeds; none where there is no such call.
 fn add(table: &mut Table, call: &str) -> Option<bool> {
+    let rows = ROWS;
     let succeeded = match call {
-        "add_rows" => table.add_rows(ROWS).is_ok(),
-        "try_add_rows" => table.try_add_rows(ROWS).is_ok(),
-        "add_rows_if" => table.add_rows_if(always, ROWS).is_ok(),
-        "try_add_rows_if" => table.try_add_rows_if(always, ROWS).is_ok(),
+        "add_rows" => table.add_rows(rows).is_ok(),
+        "try_add_rows" => table.try_add_rows(rows).is_ok(),
+        "add_rows_if" => table.add_rows_if(always, rows).is_ok(),
+        "try_add_rows_if" => table.try_add_rows_if(always, rows).is_ok(),
         _ => return None,
     };
     Some(succeeded)
