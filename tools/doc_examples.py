@@ -6,8 +6,9 @@
 
 An example is a fenced block without a language in a doc comment of comfy_parts or comfy_table. It becomes a function named
 for the item that it stands at. What it uses without making it, such as `table`, is a parameter, and so is a new table: a
-function that owns a table takes long to prove. Lines that begin with `//` are what it prints, or the value of its last `let`: a `text`, or `is_so`. So the stored output is what the comments say;
-`\\u{1b}` in them stands for ESC.
+function that owns a table takes long to prove. The examples that print nothing are called before those that do, from
+functions of their own, whose errors need no conversion. Lines that begin with `//` are what it prints, or the value of its
+last `let`: a `text`, or `is_so`. So the stored output is what the comments say; `\\u{1b}` in them stands for ESC.
 """
 import glob
 import os
@@ -27,9 +28,10 @@ PARAMETERS = {
 SPLIT = "comfy_table::utils::formatting::content_split"
 PATHS = {"Global": "std::alloc", "adds_up": SPLIT, "split_line": SPLIT, "ColumnDisplayInfo": SPLIT}
 PATHS |= {it: "comfy_table::presets" for it in ("by_name", "by_position")}
+PATHS |= {it: "super" for it in ("renew", "show")}
 VALUES = {None: "()", "text": "String", "is_so": "bool"}
 NEW_TABLE = "let mut table = Table::new(alloc);\n"
-AT_ONCE = 7  # so many calls stand in one function, since a long one takes long to prove
+AT_ONCE = 10  # so many calls stand in one function, since a long one takes long to prove
 TRAITS = {f"into_{it}": f"Into{it.capitalize()}" for it in ("cell", "cells", "row")}
 
 
@@ -60,7 +62,7 @@ class Example:
         code = "\n".join(code).strip("\n").replace("&rt,", "rt,")
         self.given = {it: given for it, (_, given) in PARAMETERS.items()}
         if NEW_TABLE in code:
-            self.given["table"] = "&mut Table::new(alloc)"
+            self.given["table"] = "new_table"
         self.code = code.replace(NEW_TABLE, "")
         self.bare = re.sub(r'"[^"]*"', '""', self.code)
         made = r"(?:let (?:mut )?|Some\(|for )"
@@ -88,14 +90,19 @@ class Example:
         body = textwrap.indent(code, "    ")
         return f"fn {self.name}_example({parameters}){' -> ' * bool(result)}{result} {{\n{body}\n}}\n"
 
+    def is_silent(self):
+        """Whether it prints nothing, and so needs no runtime."""
+        return not self.value and "rt" not in self.parameters
+
     def call(self):
-        arguments = ", ".join(self.given[it] for it in self.parameters)
-        call = f"{self.name}_example({arguments})"
+        arguments = [self.given[it] for it in self.parameters]
+        before = "    renew(alloc, new_table);\n" * ("new_table" in arguments)
+        call = f"{self.name}_example({', '.join(arguments)})"
         if self.value == "text":
-            return f"    show(rt, {call})?;"
+            return f"{before}    show(rt, {call})?;"
         if self.value:
-            return f'    println!(rt; "{{}}", {call})?;'
-        return f"    {call}{'?' * bool(self.result())};"
+            return f'{before}    println!(rt; "{{}}", {call})?;'
+        return f"{before}    {call}{'?' * bool(self.result())};"
 
 
 def examples_of(crate):
@@ -139,22 +146,46 @@ def import_lines(code, uses):
     return sorted(lines, key=lambda it: (not it.startswith("use super"), it.replace("{", "~")))
 
 
+LENT = {"rt": "&HostRuntime", "alloc": "Global", "table": "&mut Table", "new_table": "&mut Table"}
+MAKE_ALLOC = "    let alloc = rt.alloc();"
+
+
+def body(lines):
+    """The body of a function from its lines. A call that gives what the function does stands at its end as it is."""
+    text = "\n".join(lines)
+    if text.endswith("?;") and "println!" not in lines[-1]:
+        return f" {{\n{text[:-2]}\n}}\n"
+    return f" {{\n{text}\n    Ok(())\n}}\n"
+
+
+def drivers(name, result, examples):
+    """The calls of the functions that call some examples, a few each, and these functions."""
+    called, code = [], ""
+    for at in range(0, len(examples), AT_ONCE):
+        lines = [it.call() for it in examples[at : at + AT_ONCE]]
+        used = [it for it in LENT if re.search(rf"\b{it}\b", "\n".join(lines))]
+        if "rt" in used and "alloc" in used:
+            used.remove("alloc")
+            lines.insert(0, MAKE_ALLOC)
+        driver = f"{name}_{at // AT_ONCE + 1}"
+        called.append(f"    {driver}({', '.join(used)})?;")
+        parameters = ", ".join(f"{it}: {LENT[it]}" for it in used)
+        code += f"\nfn {driver}({parameters}) -> {result}{body(lines)}"
+    return called, code
+
+
 RUN = """/// Calls each example.
-pub fn run(rt: &HostRuntime, table: &mut Table) -> anyhow::Result<()>"""
+pub fn run(rt: &HostRuntime, table: &mut Table, new_table: &mut Table) -> anyhow::Result<()>"""
 
 
 def module(crate, examples):
-    parts = [examples[at : at + AT_ONCE] for at in range(0, len(examples), AT_ONCE)]
-    names = [f"examples_{at}" for at in range(1, len(parts) + 1)]
-    calls = "\n".join(f"    {name}(rt, table)?;" for name in names)
-    run = f"{RUN} {{\n{calls}\n    Ok(())\n}}\n"
-    for name, part in zip(names, parts):
-        calls = "\n".join(it.call() for it in part)
-        if "alloc" in calls:
-            calls = f"    let alloc = rt.alloc();\n{calls}"
-        run += f"\nfn {name}(rt: &HostRuntime, table: &mut Table) -> anyhow::Result<()> {{\n{calls}\n    Ok(())\n}}\n"
-    code = "\n".join([run] + [it.function() for it in examples])
-    uses = [use for it in examples for use in it.uses] + ["use super::show;"] * ("show(" in code)
+    silent_calls, silent = drivers("silent", "Result<()>", [it for it in examples if it.is_silent()])
+    shown_calls, shown = drivers("shown", "anyhow::Result<()>", [it for it in examples if not it.is_silent()])
+    calls = silent_calls + shown_calls
+    if any("alloc" in it for it in calls):
+        calls.insert(0, MAKE_ALLOC)
+    code = "\n".join([f"{RUN}{body(calls)}{silent}{shown}"] + [it.function() for it in examples])
+    uses = [use for it in examples for use in it.uses]
     return f"//! The examples of `{crate}`.\n\n" + "\n".join(import_lines(code, uses)) + "\n\n" + code
 
 
@@ -165,12 +196,17 @@ mod parts;
 mod tables;
 
 use comfy_table::{Result, Table};
+use std::alloc::Global;
 
 fn main(rt: HostRuntime) -> anyhow::Result<()> {
-    let mut table = Table::new(rt.alloc());
-    fill(&mut table)?;
-    parts::run(&rt, &mut table)?;
-    tables::run(&rt, &mut table)
+    let alloc = rt.alloc();
+    run(&rt, &mut Table::new(alloc), &mut Table::new(alloc))
+}
+
+fn run(rt: &HostRuntime, table: &mut Table, new_table: &mut Table) -> anyhow::Result<()> {
+    fill(table)?;
+    parts::run(rt, table, new_table)?;
+    tables::run(rt, table, new_table)
 }
 
 // fills the table that stands for one which an example has, but doesn't make
@@ -179,6 +215,11 @@ fn fill(table: &mut Table) -> Result<()> {
         .set_header(["Bike", "Place", "Since"])?
         .add_row(["17", "dock 3", "Monday"])?;
     Ok(())
+}
+
+// puts a new table in place of the last one
+fn renew(alloc: Global, table: &mut Table) {
+    *table = Table::new(alloc);
 }
 
 fn show(rt: &HostRuntime, text: Result<String>) -> anyhow::Result<()> {

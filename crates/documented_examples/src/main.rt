@@ -5,12 +5,17 @@ mod parts;
 mod tables;
 
 use comfy_table::{Result, Table};
+use std::alloc::Global;
 
 fn main(rt: HostRuntime) -> anyhow::Result<()> {
-    let mut table = Table::new(rt.alloc());
-    fill(&mut table)?;
-    parts::run(&rt, &mut table)?;
-    tables::run(&rt, &mut table)
+    let alloc = rt.alloc();
+    run(&rt, &mut Table::new(alloc), &mut Table::new(alloc))
+}
+
+fn run(rt: &HostRuntime, table: &mut Table, new_table: &mut Table) -> anyhow::Result<()> {
+    fill(table)?;
+    parts::run(rt, table, new_table)?;
+    tables::run(rt, table, new_table)
 }
 
 // fills the table that stands for one which an example has, but doesn't make
@@ -19,6 +24,11 @@ fn fill(table: &mut Table) -> Result<()> {
         .set_header(["Bike", "Place", "Since"])?
         .add_row(["17", "dock 3", "Monday"])?;
     Ok(())
+}
+
+// puts a new table in place of the last one
+fn renew(alloc: Global, table: &mut Table) {
+    *table = Table::new(alloc);
 }
 
 fn show(rt: &HostRuntime, text: Result<String>) -> anyhow::Result<()> {

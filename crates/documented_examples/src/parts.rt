@@ -1,6 +1,6 @@
 //! The examples of `comfy_parts`.
 
-use super::show;
+use super::{renew, show};
 use comfy_table::presets::{ASCII_FULL, UTF8_FULL, by_name, by_position};
 use comfy_table::utils::formatting::content_split::{ColumnDisplayInfo, adds_up, split_line};
 use comfy_table::{
@@ -11,16 +11,14 @@ use comfy_table::{
 use std::alloc::Global;
 
 /// Calls each example.
-pub fn run(rt: &HostRuntime, table: &mut Table) -> anyhow::Result<()> {
-    examples_1(rt, table)?;
-    examples_2(rt, table)?;
-    examples_3(rt, table)?;
-    examples_4(rt, table)?;
-    Ok(())
+pub fn run(rt: &HostRuntime, table: &mut Table, new_table: &mut Table) -> anyhow::Result<()> {
+    let alloc = rt.alloc();
+    silent_1(alloc, table)?;
+    silent_2(alloc, table)?;
+    shown_1(rt, table, new_table)
 }
 
-fn examples_1(rt: &HostRuntime, table: &mut Table) -> anyhow::Result<()> {
-    let alloc = rt.alloc();
+fn silent_1(alloc: Global, table: &mut Table) -> Result<()> {
     cell_example(alloc)?;
     cell_new_example(alloc)?;
     cell_fg_example(alloc)?;
@@ -28,43 +26,41 @@ fn examples_1(rt: &HostRuntime, table: &mut Table) -> anyhow::Result<()> {
     column_example(table);
     column_set_constraint_example(&mut Column::new(0));
     column_set_cell_alignment_example(&mut Column::new(0));
-    Ok(())
+    column_display_info_example(alloc)?;
+    into_cell_example(alloc)?;
+    into_cells_example(alloc)
 }
 
-fn examples_2(rt: &HostRuntime, table: &mut Table) -> anyhow::Result<()> {
-    let alloc = rt.alloc();
-    column_display_info_example(alloc)?;
-    println!(rt; "{}", adds_up_example())?;
-    into_cell_example(alloc)?;
-    into_cells_example(alloc)?;
+fn silent_2(alloc: Global, table: &mut Table) -> Result<()> {
     into_row_example(alloc)?;
     items_example(table);
-    table_error_example(rt, table)?;
-    Ok(())
-}
-
-fn examples_3(rt: &HostRuntime, table: &mut Table) -> anyhow::Result<()> {
-    let alloc = rt.alloc();
     row_example(alloc)?;
-    show(rt, row_max_height_example(alloc, &mut Table::new(alloc)))?;
-    show(rt, attribute_example(alloc, &mut Table::new(alloc)))?;
-    show(rt, cell_alignment_example(alloc, &mut Table::new(alloc)))?;
     color_example(alloc)?;
     width_example();
-    show(rt, column_constraint_example(&mut Table::new(alloc)))?;
+    presets_example(table);
+    by_name_example(table);
+    line_style_example();
+    content_line_style_example();
     Ok(())
 }
 
-fn examples_4(rt: &HostRuntime, table: &mut Table) -> anyhow::Result<()> {
+fn shown_1(rt: &HostRuntime, table: &mut Table, new_table: &mut Table) -> anyhow::Result<()> {
     let alloc = rt.alloc();
-    presets_example(table);
-    by_name_example(table);
+    println!(rt; "{}", adds_up_example())?;
+    table_error_example(rt, table)?;
+    renew(alloc, new_table);
+    show(rt, row_max_height_example(alloc, new_table))?;
+    renew(alloc, new_table);
+    show(rt, attribute_example(alloc, new_table))?;
+    renew(alloc, new_table);
+    show(rt, cell_alignment_example(alloc, new_table))?;
+    renew(alloc, new_table);
+    show(rt, column_constraint_example(new_table))?;
     println!(rt; "{}", by_position_example())?;
-    show(rt, content_arrangement_example(&mut Table::new(alloc)))?;
-    line_style_example();
-    content_line_style_example();
-    show(rt, table_style_example(&mut Table::new(alloc)))?;
-    Ok(())
+    renew(alloc, new_table);
+    show(rt, content_arrangement_example(new_table))?;
+    renew(alloc, new_table);
+    show(rt, table_style_example(new_table))
 }
 
 fn cell_example(alloc: Global) -> Result<()> {

@@ -1,39 +1,39 @@
 //! The examples of `comfy_table`.
 
-use super::show;
+use super::{renew, show};
 use comfy_table::presets::UTF8_FULL;
 use comfy_table::{ColumnConstraint, ContentArrangement, Result, Table, Terminal};
 use std::env;
 use std::io::IsTerminal;
 
 /// Calls each example.
-pub fn run(rt: &HostRuntime, table: &mut Table) -> anyhow::Result<()> {
-    examples_1(rt, table)?;
-    examples_2(rt, table)?;
-    Ok(())
+pub fn run(rt: &HostRuntime, table: &mut Table, new_table: &mut Table) -> anyhow::Result<()> {
+    silent_1(table)?;
+    shown_1(rt, table, new_table)
 }
 
-fn examples_1(rt: &HostRuntime, table: &mut Table) -> anyhow::Result<()> {
-    let alloc = rt.alloc();
-    show(rt, table_example(&mut Table::new(alloc)))?;
+fn silent_1(table: &mut Table) -> Result<()> {
     table_set_header_example(table)?;
     table_add_row_example(table)?;
     table_column_mut_example(table);
     column_cell_iter_example(table)?;
     lines_example(table)?;
-    table_lines_example(rt, &mut Table::new(alloc))?;
-    Ok(())
-}
-
-fn examples_2(rt: &HostRuntime, table: &mut Table) -> anyhow::Result<()> {
-    let alloc = rt.alloc();
     table_to_text_example(table)?;
     table_add_rows_example(table)?;
     table_load_style_example(table);
     table_set_width_example(table);
-    show(rt, table_custom_styling_example(&mut Table::new(alloc)))?;
-    terminal_example(rt, table)?;
     Ok(())
+}
+
+fn shown_1(rt: &HostRuntime, table: &mut Table, new_table: &mut Table) -> anyhow::Result<()> {
+    let alloc = rt.alloc();
+    renew(alloc, new_table);
+    show(rt, table_example(new_table))?;
+    renew(alloc, new_table);
+    table_lines_example(rt, new_table)?;
+    renew(alloc, new_table);
+    show(rt, table_custom_styling_example(new_table))?;
+    terminal_example(rt, table)
 }
 
 fn table_example(table: &mut Table) -> Result<String> {
