@@ -55,11 +55,13 @@ const ATTRIBUTES: [(&str, Attribute); 28] = [
     ("NotOverLined", Attribute::NotOverLined),
 ];
 
+const IS_NO_BYTE: Fault = Fault::NotRead("a number isn't of 0 to 255");
+
 /// A colour: one of the names, `Rgb:R,G,B` or `Ansi:N`.
 pub fn color(word: &str) -> Result<Color> {
     match word.split_once(':') {
         Some(("Rgb", numbers)) => rgb(numbers),
-        Some(("Ansi", number)) => byte(number).map(Color::AnsiValue),
+        Some(("Ansi", number)) => ansi(number),
         _ => named(&COLORS, word, "a colour isn't known"),
     }
 }
@@ -72,18 +74,21 @@ fn rgb(word: &str) -> Result<Color> {
     let Some((green, blue)) = rest.split_once(',') else {
         return not_three;
     };
-    Ok(Color::Rgb {
-        r: byte(red)?,
-        g: byte(green)?,
-        b: byte(blue)?,
-    })
+    match (byte(red), byte(green), byte(blue)) {
+        (Some(r), Some(g), Some(b)) => Ok(Color::Rgb { r, g, b }),
+        _ => Err(IS_NO_BYTE),
+    }
 }
 
-fn byte(word: &str) -> Result<u8> {
-    match word.parse::<u8>() {
-        Ok(byte) => Ok(byte),
-        Err(_) => Err(Fault::NotRead("a number isn't of 0 to 255")),
+fn ansi(word: &str) -> Result<Color> {
+    match byte(word) {
+        Some(number) => Ok(Color::AnsiValue(number)),
+        None => Err(IS_NO_BYTE),
     }
+}
+
+fn byte(word: &str) -> Option<u8> {
+    word.parse::<u8>().ok()
 }
 
 /// An attribute by its name.

@@ -22,6 +22,8 @@ const ALIGNMENTS: [(&str, CellAlignment); 3] = [
     ("Center", CellAlignment::Center),
 ];
 
+const HAS_NO_VALUE: Fault = Fault::NotRead("a setting has no =");
+
 // a setting of a cell
 #[derive(Clone, Copy)]
 enum CellSetting {
@@ -34,17 +36,22 @@ enum CellSetting {
 
 /// The cell of a text, with its settings in their order.
 pub fn cell_of(alloc: Global, words: &[&str]) -> Result<Cell> {
-    let text = text(alloc, first_or_empty(words))?;
-    let mut cell = Cell::new_owned(alloc, text)?;
-    for setting in words.iter().skip(1) {
-        cell = with_setting(cell, cell_setting(alloc, setting)?)?;
+    let mut cell = plain_cell(alloc, first_or_empty(words))?;
+    for word in words.get(1..).unwrap_or(&[]) {
+        cell = with_setting(alloc, cell, word)?;
     }
     Ok(cell)
 }
 
+fn plain_cell(alloc: Global, word: &str) -> Result<Cell> {
+    Ok(Cell::new_owned(alloc, text(alloc, word)?)?)
+}
+
 // the setting of a cell that a word stands for
 fn cell_setting(alloc: Global, word: &str) -> Result<CellSetting> {
-    let (name, value) = name_and_value(word)?;
+    let Some((name, value)) = word.split_once('=') else {
+        return Err(HAS_NO_VALUE);
+    };
     match name {
         "align" => alignment(value).map(CellSetting::Alignment),
         "delimiter" => character(alloc, value).map(CellSetting::Delimiter),
@@ -55,9 +62,9 @@ fn cell_setting(alloc: Global, word: &str) -> Result<CellSetting> {
     }
 }
 
-// the cell with one setting more
-fn with_setting(cell: Cell, setting: CellSetting) -> Result<Cell> {
-    let cell = match setting {
+// the cell with the setting more that a word stands for
+fn with_setting(alloc: Global, cell: Cell, word: &str) -> Result<Cell> {
+    let cell = match cell_setting(alloc, word)? {
         CellSetting::Alignment(alignment) => cell.set_alignment(alignment),
         CellSetting::Delimiter(delimiter) => cell.set_delimiter(delimiter),
         CellSetting::Foreground(color) => cell.fg(color),
@@ -86,7 +93,9 @@ pub fn set_column(alloc: Global, column: &mut Column, words: &[&str]) -> Result<
 
 // the setting of a column that a word stands for
 fn column_setting(alloc: Global, word: &str) -> Result<ColumnSetting> {
-    let (name, value) = name_and_value(word)?;
+    let Some((name, value)) = word.split_once('=') else {
+        return Err(HAS_NO_VALUE);
+    };
     match name {
         "padding" => padding(value),
         "delimiter" => character(alloc, value).map(ColumnSetting::Delimiter),
@@ -117,11 +126,6 @@ pub fn arrangement(word: &str) -> Result<ContentArrangement> {
     named(&ARRANGEMENTS, word, "an arrangement isn't known")
 }
 
-fn name_and_value<'a>(word: &'a str) -> Result<(&'a str, &'a str)> {
-    word.split_once('=')
-        .ok_or(Fault::NotRead("a setting has no ="))
-}
-
 fn padding(word: &str) -> Result<ColumnSetting> {
     let Some((left, right)) = word.split_once(',') else {
         return Err(Fault::NotRead("a padding has two numbers"));
@@ -134,14 +138,18 @@ fn alignment(word: &str) -> Result<CellAlignment> {
 }
 
 fn constraint(word: &str) -> Result<ColumnConstraint> {
-    let mut words = word.split(':');
-    match words.next() {
-        Some("hidden") => Ok(ColumnConstraint::Hidden),
-        Some("content") => Ok(ColumnConstraint::ContentWidth),
-        Some("absolute") => next_width(&mut words).map(ColumnConstraint::Absolute),
-        Some("lower") => next_width(&mut words).map(ColumnConstraint::LowerBoundary),
-        Some("upper") => next_width(&mut words).map(ColumnConstraint::UpperBoundary),
-        Some("between") => between(&mut words),
+    next_constraint(&mut word.split(':'))
+}
+
+// the constraint that the next words stand for
+fn next_constraint(words: &mut Split<char>) -> Result<ColumnConstraint> {
+    match words.next().unwrap_or("") {
+        "hidden" => Ok(ColumnConstraint::Hidden),
+        "content" => Ok(ColumnConstraint::ContentWidth),
+        "absolute" => next_width(words).map(ColumnConstraint::Absolute),
+        "lower" => next_width(words).map(ColumnConstraint::LowerBoundary),
+        "upper" => next_width(words).map(ColumnConstraint::UpperBoundary),
+        "between" => between(words),
         _ => Err(Fault::NotRead("a constraint isn't known")),
     }
 }
@@ -155,9 +163,10 @@ fn between(words: &mut Split<char>) -> Result<ColumnConstraint> {
 
 // the width that the next two words stand for
 fn next_width(words: &mut Split<char>) -> Result<Width> {
-    match (words.next(), words.next()) {
-        (Some("fixed"), Some(number)) => width(number).map(Width::Fixed),
-        (Some("percent"), Some(number)) => width(number).map(Width::Percentage),
+    let kind = words.next().unwrap_or("");
+    match (kind, words.next()) {
+        ("fixed", Some(number)) => width(number).map(Width::Fixed),
+        ("percent", Some(number)) => width(number).map(Width::Percentage),
         _ => Err(Fault::NotRead("a width is fixed or percent")),
     }
 }
