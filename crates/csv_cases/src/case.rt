@@ -1,6 +1,6 @@
 //! One case: words, an input, and the output that is wanted.
 
-use crate::text::text;
+use crate::text::push_text;
 use crate::uses::output_for;
 use comfy_csv::{Asked, Surroundings, asked_of};
 use std::alloc::{AllocError, Global};
@@ -44,8 +44,7 @@ impl Case {
     /// Reads a line: `=` and a line of the output, or a word and what follows it after a space.
     pub fn take(&mut self, line: &str) -> Result<(), AllocError> {
         if let Some(wanted) = line.strip_prefix("=") {
-            let wanted = text(self.alloc, wanted)?;
-            self.wanted.push_str(wanted.as_str())?;
+            push_text(&mut self.wanted, wanted)?;
             return self.wanted.push('\n');
         }
         match line.split_once(' ') {
@@ -77,9 +76,10 @@ impl Case {
     }
 
     fn add_line(&mut self, line: &str) -> Result<(), AllocError> {
-        let line = text(self.alloc, line)?;
-        self.input.extend_from_slice(line.as_bytes())?;
-        Ok(self.input.push(b'\n')?)
+        let mut text = String::new(self.alloc);
+        push_text(&mut text, line)?;
+        text.push('\n')?;
+        Ok(self.input.extend_from_slice(text.as_bytes())?)
     }
 
     fn add_words(&mut self, words: &str) -> Result<(), AllocError> {

@@ -1,10 +1,9 @@
 //! Texts with escapes.
 
-use std::alloc::{AllocError, Global};
+use std::alloc::AllocError;
 
-/// A text in which `\n`, `\t`, `\r`, `\e`, `\a` and `\\` stand for characters.
-pub fn text(alloc: Global, word: &str) -> Result<String, AllocError> {
-    let mut text = String::new(alloc);
+/// Adds what a word stands for, in which `\n`, `\t`, `\r`, `\e`, `\a` and `\\` stand for characters.
+pub fn push_text(text: &mut String, word: &str) -> Result<(), AllocError> {
     let mut is_escaped = false;
     for c in word.chars() {
         if is_escaped {
@@ -14,7 +13,7 @@ pub fn text(alloc: Global, word: &str) -> Result<String, AllocError> {
         }
         is_escaped = c == '\\' && !is_escaped;
     }
-    Ok(text)
+    Ok(())
 }
 
 // The character that is meant by one after a backslash.
