@@ -20,32 +20,37 @@ const PLAIN: Settings = Settings {
 
 const INPUT: &[u8] = b"a\tb\nc\td\n";
 
-// Runs on a source of the small input, and compares what is written.
-fn assert_read<R: Source>(rt: &(impl Abort + Alloc<A = Global>), source: &mut R) {
+// Runs on a source, and compares how that ends and what is written.
+fn assert_run_from<R: Source>(
+    rt: &(impl Abort + Alloc<A = Global>),
+    source: &mut R,
+    wanted: &Result<(), RunError>,
+    output: &str,
+) {
     let mut sink = sink_of(rt, 200, 0);
-    assert!(rt; run(rt.alloc(), source, &mut sink, PLAIN).is_ok());
-    assert_bytes(rt, sink.bytes(), SMALL);
+    assert!(rt; run(rt.alloc(), source, &mut sink, PLAIN) == *wanted);
+    assert_bytes(rt, sink.bytes(), output);
 }
 
 // Runs on a source that fails: nothing is written, and the source fails from then on.
 fn assert_unread<R: Source>(rt: &(impl Abort + Alloc<A = Global>), source: &mut R) {
-    let mut sink = sink_of(rt, 200, 0);
-    let ended = run(rt.alloc(), source, &mut sink, PLAIN);
-    assert!(rt; ended == Err(RunError::Read) && sink.bytes().is_empty());
+    assert_run_from(rt, source, &Err(RunError::Read), "");
     assert!(rt; source.read(&mut [0u8; 4]).is_err());
 }
 
-// Runs on the small input into a sink that takes all of it.
-fn assert_written<W: Sink>(rt: &(impl Abort + Alloc<A = Global>), sink: &mut W) {
+// Runs on the small input, and compares how that ends.
+fn assert_run_into<W: Sink>(
+    rt: &(impl Abort + Alloc<A = Global>),
+    sink: &mut W,
+    wanted: &Result<(), RunError>,
+) {
     let mut source = MemorySource::new(INPUT, 0);
-    assert!(rt; run(rt.alloc(), &mut source, sink, PLAIN).is_ok());
+    assert!(rt; run(rt.alloc(), &mut source, sink, PLAIN) == *wanted);
 }
 
 // Runs on the small input into a sink that fails, and fails from then on.
 fn assert_unwritten<W: Sink>(rt: &(impl Abort + Alloc<A = Global>), sink: &mut W) {
-    let mut source = MemorySource::new(INPUT, 0);
-    let ended = run(rt.alloc(), &mut source, sink, PLAIN);
-    assert!(rt; ended == Err(RunError::Write));
+    assert_run_into(rt, sink, &Err(RunError::Write));
     assert!(rt; sink.write(b"").is_err());
 }
 
@@ -105,8 +110,8 @@ fn a_source_keeps_that_its_reader_failed(rt: HostRuntime) {
 // A slow reader, and one of std.
 #[test]
 fn readers_are_read_to_their_end(rt: HostRuntime) {
-    assert_read(&rt, &mut slow_source(10));
-    assert_read(&rt, &mut FromReader::new(INPUT));
+    assert_run_from(&rt, &mut slow_source(10), &Ok(()), SMALL);
+    assert_run_from(&rt, &mut FromReader::new(INPUT), &Ok(()), SMALL);
 }
 
 // A writer that takes three bytes at a call, and whose call `fails_at` is an error or takes nothing.
@@ -161,9 +166,9 @@ fn a_sink_keeps_that_its_writer_failed(rt: HostRuntime) {
 #[test]
 fn writers_take_everything(rt: HostRuntime) {
     let mut writer = slow_writer(rt.alloc(), 18, false);
-    assert_written(&rt, &mut ToWriter::new(&mut writer));
+    assert_run_into(&rt, &mut ToWriter::new(&mut writer), &Ok(()));
     assert_bytes(&rt, writer.bytes.as_slice(), SMALL);
     let mut bytes = Vec::new(rt.alloc());
-    assert_written(&rt, &mut ToWriter::new(&mut bytes));
+    assert_run_into(&rt, &mut ToWriter::new(&mut bytes), &Ok(()));
     assert_bytes(&rt, bytes.as_slice(), SMALL);
 }

@@ -1,10 +1,10 @@
 //! Tables: the calls that `lines` makes, parts that are lent, and the widest paddings.
 
 use crate::support::{assert_drawn, assert_number, row_of, table_of};
-use comfy_table::Table;
 use comfy_table::utils::arrangement::arrange_content;
 use comfy_table::utils::build_table;
 use comfy_table::utils::formatting::content_format::{format_content, format_row};
+use comfy_table::{Lines, Table};
 use std::alloc::{Alloc, Global};
 use std::process::Abort;
 
@@ -13,7 +13,12 @@ fn each_step_of_a_drawing_succeeds(rt: HostRuntime) {
     let table = table_of(&rt, ["ab\ncd"]);
     assert_formatted(&rt, &table);
     let lines = build_table(&table).expect(&rt, "memory");
-    assert_number(&rt, lines.count(), 4);
+    assert_number(&rt, height_of(lines), 4);
+}
+
+// How many lines these are.
+fn height_of(lines: Lines) -> usize {
+    lines.count()
 }
 
 // The table has one row; another row has two lines there, and its second cell lies behind the last column.
