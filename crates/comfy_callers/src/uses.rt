@@ -70,15 +70,6 @@ pub fn drawn(alloc: Global, header: Row, row: Row) -> comfy_table::Result<Lines>
     table.lines()
 }
 
-// A new table of a header and a row. (`drawn` makes its own, since a page quotes it whole.)
-fn table_of(alloc: Global, header: Row, row: Row) -> comfy_table::Result<Table>
-    ensures { IfOk result (λ table. table ≡ with_row row (with_header header (new_table ascii_full))) }
-{
-    let mut table = Table::new(alloc);
-    table.set_header(header)?.add_row(row)?;
-    Ok(table)
-}
-
 /// Draws a table over a whole width. Where a column is visible and none of the visible ones has a constraint, each frame
 /// line has as many characters as the width, or as borders, paddings and one character for each visible column, whichever
 /// is more.

@@ -1,5 +1,5 @@
 -- The characters of all presets add one column wherever they stand.
-use Rattle.std.proofs.Common.{◌≡◌, ℕ, ◌+◌, ◌-◌, ◌≤◌, ◌==◌, ◌&&◌, ◌||◌, nat_le, nat_lt, Bool, true, false, cond, not, None, refl, sym, ap, ap₂, ◌∙◌, subst, arith}
+use Rattle.std.proofs.Common.{◌≡◌, ℕ, ◌+◌, ◌-◌, ◌≤◌, ◌==◌, ◌&&◌, ◌||◌, nat_le, Bool, true, false, cond, not, None, refl, sym, ap, ap₂, ◌∙◌, subst, arith}
 use Rattle.std.specs.Int.{is_in_range}
 use Rattle.std.proofs.lemmas.Bool.{and_parts, cond_both, not-true}
 use Rattle.std.proofs.lemmas.Bool.Decides.{nat_tests}
@@ -109,75 +109,47 @@ lone_parts c test =
       not_modifier_base = not-true _ fourth.1;
     }
 
--- the character is no number, and in no range, of those that the rules name below U+2026 and above U+259F
-not_low : (c n : ℕ) → 0x2026 ≤ c → nat_lt n 0x2026 ≡ true → (c == n) ≡ false
-not_low c n low below = grind (arith, nat_tests, low, below)
-
-not_high : (c n : ℕ) → c ≤ 0x259F → nat_lt 0x259F n ≡ true → (c == n) ≡ false
-not_high c n high above = grind (arith, nat_tests, high, above)
-
-not_within : (c first last : ℕ) → c ≤ 0x259F → nat_lt 0x259F first ≡ true → is_in_range first last c ≡ false
-not_within c first last high above = grind (arith, nat_tests, high, above)
-
 -- nothing is joined with what follows it
 joins_none : (c : ℕ) → 0x2026 ≤ c → c ≤ 0x259F → (c == 0x20E3) ≡ false → IsLone c → (after : After) → joins false after c ≡ None
 unfolding joins before_alef
-joins_none c low high keycap lone after = by_after after
-  where
-    joiner : (c == 0x200D) ≡ false
-    joiner = not_low c 0x200D low refl
-
-    indicator : is_in_range 0x1F1E6 0x1F1FF c ≡ false
-    indicator = not_within c 0x1F1E6 0x1F1FF high refl
-
-    letter : is_in_range 0xE0061 0xE007A c ≡ false
-    letter = not_within c 0xE0061 0xE007A high refl
-
-    digit : is_in_range 0xE0030 0xE0039 c ≡ false
-    digit = not_within c 0xE0030 0xE0039 high refl
-
-    flag : (c == 0x1F3F4) ≡ false
-    flag = not_high c 0x1F3F4 high refl
-
-    by_after : (after : After) → joins false after c ≡ None
-    by_after Nothing = refl
-    by_after LineFeed = refl
-    by_after EmojiModifier = rw (lone.not_modifier_base, joiner) refl
-    by_after RegionalIndicator = rw indicator refl
-    by_after RegionalIndicators = rw (indicator, joiner) refl
-    by_after Emoji = rw joiner refl
-    by_after ZwjEmoji = rw (keycap, indicator, not_within c 0x1F3FB 0x1F3FF high refl, not_high c 0xE007F high refl, lone.not_emoji) refl
-    by_after KeycapZwjEmoji = refl
-    by_after IndicatorZwj = rw indicator refl
-    by_after EvenIndicatorsZwj = rw (joiner, indicator) refl
-    by_after OddIndicatorsZwj = rw (joiner, indicator) refl
-    by_after TagEnd = rw (letter, digit) refl
-    by_after TagDigit1 = rw digit refl
-    by_after TagDigit2 = rw digit refl
-    by_after TagDigit3 = rw flag refl
-    by_after TagLetter1 = rw (letter, digit) refl
-    by_after TagLetter2 = rw (letter, digit) refl
-    by_after TagLetter3 = rw (letter, digit, flag) refl
-    by_after TagLetter4 = rw (letter, digit, flag) refl
-    by_after TagLetter5 = rw (letter, flag) refl
-    by_after TagLetter6 = rw flag refl
-    by_after KiratE = rw (not_high c 0x16D63 high refl, not_high c 0x16D67 high refl, not_high c 0x16D68 high refl, not_high c 0x16D69 high refl) refl
-    by_after KiratAi = rw (not_high c 0x16D63 high refl) refl
-    by_after Alef = let w = ap (λ (r : ℕ × State). r.0 == 0) lone.alone in rw (lone.not_lam, w) refl
-    by_after Solidus = refl
-    by_after SolidusAlef = refl
-    by_after Lamed = refl
-    by_after ZwjLamed = rw (not_low c 0x05D0 low refl) refl
-    by_after Ya = refl
-    by_after ZwjYa = rw (not_low c 0x1A17 low refl) refl
-    by_after VowelZwjYa = rw (not_low c 0x1A15 low refl) refl
-    by_after Tifinagh = rw (not_high c 0x2D7F high refl) refl
-    by_after ZwjTifinagh = rw (not_high c 0x2D7F high refl, not_within c 0x2D31 0x2D65 high refl, not_high c 0x2D6F high refl) refl
-    by_after JoinerTifinagh = rw (not_within c 0x2D31 0x2D65 high refl, not_high c 0x2D6F high refl) refl
-    by_after LisuTone = rw (not_within c 0xA4F8 0xA4FB high refl) refl
-    by_after OrkhonI = refl
-    by_after ZwjOrkhonI = rw (not_high c 0x10C32 high refl) refl
-    by_after KhmerLetter = rw (not_low c 0x17D2 low refl) refl
+joins_none c low high keycap _ Nothing = refl
+joins_none c low high keycap _ LineFeed = refl
+joins_none c low high keycap lone EmojiModifier = let m = lone.not_modifier_base in grind (arith, nat_tests, m)
+joins_none c low high keycap _ RegionalIndicator = grind (arith, nat_tests)
+joins_none c low high keycap _ RegionalIndicators = grind (arith, nat_tests)
+joins_none c low high keycap _ Emoji = grind (arith, nat_tests)
+joins_none c low high keycap lone ZwjEmoji = let e = lone.not_emoji in grind (arith, nat_tests, e)
+joins_none c low high keycap _ KeycapZwjEmoji = refl
+joins_none c low high keycap _ IndicatorZwj = grind (arith, nat_tests)
+joins_none c low high keycap _ EvenIndicatorsZwj = grind (arith, nat_tests)
+joins_none c low high keycap _ OddIndicatorsZwj = grind (arith, nat_tests)
+joins_none c low high keycap _ TagEnd = grind (arith, nat_tests)
+joins_none c low high keycap _ TagDigit1 = grind (arith, nat_tests)
+joins_none c low high keycap _ TagDigit2 = grind (arith, nat_tests)
+joins_none c low high keycap _ TagDigit3 = grind (arith, nat_tests)
+joins_none c low high keycap _ TagLetter1 = grind (arith, nat_tests)
+joins_none c low high keycap _ TagLetter2 = grind (arith, nat_tests)
+joins_none c low high keycap _ TagLetter3 = grind (arith, nat_tests)
+joins_none c low high keycap _ TagLetter4 = grind (arith, nat_tests)
+joins_none c low high keycap _ TagLetter5 = grind (arith, nat_tests)
+joins_none c low high keycap _ TagLetter6 = grind (arith, nat_tests)
+joins_none c low high keycap _ KiratE = grind (arith, nat_tests)
+joins_none c low high keycap _ KiratAi = grind (arith, nat_tests)
+joins_none c low high keycap lone Alef = let l = lone.not_lam in let w = ap (λ (r : ℕ × State). r.0 == 0) lone.alone in rw (l, w) refl
+joins_none c low high keycap _ Solidus = refl
+joins_none c low high keycap _ SolidusAlef = refl
+joins_none c low high keycap _ Lamed = refl
+joins_none c low high keycap _ ZwjLamed = grind (arith, nat_tests)
+joins_none c low high keycap _ Ya = refl
+joins_none c low high keycap _ ZwjYa = grind (arith, nat_tests)
+joins_none c low high keycap _ VowelZwjYa = grind (arith, nat_tests)
+joins_none c low high keycap _ Tifinagh = grind (arith, nat_tests)
+joins_none c low high keycap _ ZwjTifinagh = grind (arith, nat_tests)
+joins_none c low high keycap _ JoinerTifinagh = grind (arith, nat_tests)
+joins_none c low high keycap _ LisuTone = grind (arith, nat_tests)
+joins_none c low high keycap _ OrkhonI = refl
+joins_none c low high keycap _ ZwjOrkhonI = grind (arith, nat_tests)
+joins_none c low high keycap _ KhmerLetter = grind (arith, nat_tests)
 
 past_selectors-lone : (c n : ℕ) (after : After) → IsLone c → past_selectors false c n after ≡ (n + 1, plain)
 unfolding past_selectors

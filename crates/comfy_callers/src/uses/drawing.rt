@@ -11,7 +11,6 @@ ghost use Rattle.comfy_table.specs.Pieces.{row_lines};
 ghost use Rattle.comfy_table.specs.TableValue.{header_and_rows, max_content_widths, new_table, with_header, with_rows};
 ghost use Rattle.comfy_callers.specs.Uses.{IsDrawnWhole, IsPrintedWithin, table_within, text_within};
 
-use crate::uses::table_of;
 use comfy_table::laws::{
     cells_keep_their_text, lines_are_found_in_their_texts, new_tables_are_straight,
     presets_have_columns_of_one,
@@ -102,10 +101,12 @@ pub fn printed_within(alloc: Global, header: Row, row: Row, width: u16) -> Resul
     ensures { IfOk result (λ text. IsPrintedWithin width (table_within width header row) (string_bytes text)) }
 {
     lines_are_found_in_their_texts();
-    let mut table = table_of(alloc, header, row)?;
+    let mut table = Table::new(alloc);
     table
         .set_width(width)
-        .set_content_arrangement(ContentArrangement::Dynamic);
+        .set_content_arrangement(ContentArrangement::Dynamic)
+        .set_header(header)?
+        .add_row(row)?;
     table.to_terminated_text()
 }
 

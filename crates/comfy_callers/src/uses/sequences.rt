@@ -8,7 +8,6 @@ ghost use Rattle.comfy_parts.specs.VisibleText.{closed, has_escape, visible_text
 ghost use Rattle.comfy_table.specs.Laws.{CutLinesAreClosed, IsFreeOfEscapes, LeavesNoneOpen, LinesAreResumedInRow, NoneIsOpenAtTheEnd};
 ghost use Rattle.comfy_callers.specs.Uses.{IsDrawnWithCells, IsPlainDrawing};
 
-use crate::uses::table_of;
 use comfy_parts::content_split::leaves_sequence_open;
 use comfy_parts::for_tables::{has_escape, visible_lines, visible_widths, written_lines};
 use comfy_table::laws::{lines_are_found_in_their_texts, new_tables_leave_no_sequence_open};
@@ -37,8 +36,8 @@ pub fn printed_closed(alloc: Global, header: Row, row: Row) -> Result<String>
 {
     new_tables_leave_no_sequence_open();
     lines_are_found_in_their_texts();
-    let mut table = table_of(alloc, header, row)?;
-    table.custom_styling();
+    let mut table = Table::new(alloc);
+    table.custom_styling().set_header(header)?.add_row(row)?;
     table.to_terminated_text()
 }
 
