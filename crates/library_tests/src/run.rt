@@ -2,4 +2,5 @@
 
 mod counted;
 mod devices;
+mod large;
 mod program;

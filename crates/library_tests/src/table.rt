@@ -1,4 +1,5 @@
 //! Tests of `comfy_table`.
 
+mod refused_rows;
 mod surface;
 mod tables;

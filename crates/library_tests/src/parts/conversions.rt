@@ -1,6 +1,6 @@
 //! That each conversion succeeds, and gives the texts that the original's would.
 
-use crate::support::{assert_given, row_of};
+use crate::support::{assert_given, assert_number, row_of};
 use comfy_parts::{Cell, Cells, IntoCells, IntoRow, Row};
 use std::alloc::{Alloc, Global};
 use std::fmt::{self, Display, Formatter, Write};
@@ -71,6 +71,12 @@ fn lists_are_rows_in_order(rt: HostRuntime) {
     assert_row(&rt, list, "17|dock 3");
     assert_row(&rt, &[-1i64, 7], "-1|7");
     assert_row(&rt, [-1i64], "-1");
+}
+
+// No clause says that the call succeeds.
+#[test]
+fn long_lists_are_rows(rt: HostRuntime) {
+    assert_number(&rt, row_of(&rt, [7u64; 60]).cell_count(), 60);
 }
 
 #[test]

@@ -12,7 +12,8 @@ use std::alloc::{Alloc, Global};
 use std::io::{self, Read, Write};
 use std::process::Abort;
 
-const PLAIN: Settings = Settings {
+/// Neither a width nor an arrangement.
+pub const PLAIN: Settings = Settings {
     width: None,
     arrangement: ContentArrangement::Disabled,
     style: ASCII_FULL,
