@@ -1,13 +1,11 @@
-//! What `csvtable` needs that stands on no table: rules for one field, and the program's words.
+//! Rules of `csvtable` for one field: what a number is, how a field is cleaned, and Markdown.
 #![tactic(auto)]
 
 mod cleaning;
 pub mod laws;
 mod markdown;
 mod number;
-mod words;
 
 pub use cleaning::cleaned;
 pub use markdown::escaped;
 pub use number::is_number;
-pub use words::command;

@@ -5,12 +5,12 @@ ghost use Rattle.clap.specs.Words.{found_of};
 ghost use Rattle.csv_rows.specs.Words.{AreAsked, LookIsAsked, delimiter_for, is_bold_for, style_for, width_for};
 
 use crate::options::{ColumnChoice, Look, Options};
+use crate::words::command;
 use clap::error::ErrorKind;
 use clap::parser::ArgMatches;
 use clap::{Command, Error};
 use comfy_parts::style::TableStyle;
 use comfy_parts::style::presets::{ASCII_MARKDOWN, UTF8_FULL, by_name};
-use csv_parts::command;
 use std::alloc::{AllocError, Global};
 
 /// What the words ask for.

@@ -8,6 +8,7 @@ mod columns;
 mod error;
 mod options;
 mod records;
+mod words;
 
 pub use arguments::{Asked, Surroundings, asked_of};
 pub use cells::{header_of, row_of};
