@@ -142,8 +142,8 @@ static STYLES: [&str; 13] = [
 
 static COLORS: [&str; 3] = ["auto", "always", "never"];
 
-/// The words of `csvtable`, for clap. What clap finds among those that a user gives is a matter of clap: it has no clause.
-pub fn command<'a>(alloc: Global) -> Result<Command<'a>, AllocError> {
+// The words of `csvtable`, for clap. What clap finds among those that a user gives is a matter of clap: it has no clause.
+pub(crate) fn command<'a>(alloc: Global) -> Result<Command<'a>, AllocError> {
     let mut command = Command::new(alloc, "csvtable")
         .version("1.0.0")
         .about("Draws the records of a CSV file as a table");
