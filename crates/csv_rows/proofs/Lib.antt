@@ -1,2 +1,3 @@
 pub mod ColumnLemmas
 pub mod RecordLemmas
+pub mod WordLemmas

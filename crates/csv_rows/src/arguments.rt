@@ -1,8 +1,10 @@
 //! The words after the program's name, and what they ask for.
 
-ghost use Rattle.std.specs.Prelude.{◌≡◌, IfOk, option_map};
-ghost use Rattle.clap.specs.Words.{found_of};
-ghost use Rattle.csv_rows.specs.Words.{AreAsked, LookIsAsked, delimiter_for, is_bold_for, style_for, width_for};
+ghost use Rattle.std.specs.Prelude.{◌≡◌, ◌==◌, IfOk, Some, codes, map, option_map, string_bytes};
+ghost use Rattle.std.specs.Char.{is_ascii_digit};
+ghost use Rattle.std.specs.List.{list_all, slice_split};
+ghost use Rattle.clap.specs.Words.{first_value, found_of};
+ghost use Rattle.csv_rows.specs.Words.{IsAsked, LookIsAsked, OptionsAreAsked, choice_for, choices_for, delimiter_for, file_for, is_bold_for, number_for, numbers_around_hyphen, numbers_for, numbers_or_name, style_for, width_for};
 
 use crate::options::{ColumnChoice, Look, Options};
 use crate::words::command;
@@ -34,14 +36,14 @@ pub struct Surroundings {
 }
 
 /// What these words ask for; the first one is the program's name. Help, the version and words that aren't known are
-/// returned as errors, as clap has them. Which values clap finds in the words is a matter of clap; the delimiter, the
-/// style and bold headers follow from these and from the surroundings.
+/// returned as errors, as clap has them. Which values clap finds in the words is a matter of clap; all else follows from
+/// these and from the surroundings.
 pub fn asked_of<'a>(
     alloc: Global,
     words: &'a [&'a str],
     surroundings: Surroundings,
 ) -> Result<Asked, Error>
-    ensures { IfOk result (λ asked. AreAsked surroundings asked.options) }
+    ensures { IfOk result (λ asked. IsAsked surroundings asked) }
 {
     let mut command = command(alloc)?;
     asked_by(alloc, &mut command, words, surroundings)
@@ -53,11 +55,11 @@ fn asked_by<'a>(
     words: &'a [&'a str],
     surroundings: Surroundings,
 ) -> Result<Asked, Error>
-    ensures { IfOk result (λ asked. AreAsked surroundings asked.options) }
+    ensures { IfOk result (λ asked. IsAsked surroundings asked) }
 {
     let matches = command.try_get_matches_from_mut(words)?;
     match delimiter_of(matches.get_str("delimiter")) {
-        Some(delimiter) => found_in(alloc, &matches, delimiter, surroundings),
+        Some(delimiter) => Ok(found_in(alloc, &matches, delimiter, surroundings)?),
         None => Err(no_delimiter(command)),
     }
 }
@@ -68,8 +70,9 @@ fn found_in<'a>(
     matches: &ArgMatches<'a>,
     delimiter: u8,
     surroundings: Surroundings,
-) -> Result<Asked, Error>
-    ensures { IfOk result (λ asked. (asked.options.delimiter ≡ delimiter) × LookIsAsked surroundings (found_of matches.now) asked.options.look) }
+) -> Result<Asked, AllocError>
+    requires { delimiter_for (first_value (found_of matches.now) (codes "delimiter")) ≡ Some delimiter }
+    ensures { IfOk result (λ asked. IsAsked surroundings asked) }
 {
     let file = file_of(alloc, matches.get_str("file"))?;
     let options = options_of(alloc, matches, delimiter, surroundings)?;
@@ -84,7 +87,10 @@ fn no_delimiter<'a>(command: &mut Command<'a>) -> Error {
     said.unwrap_or_else(Error::from)
 }
 
-fn file_of(alloc: Global, word: Option<&str>) -> Result<Option<String>, AllocError> {
+// The file that a word names; none for standard input.
+fn file_of(alloc: Global, word: Option<&str>) -> Result<Option<String>, AllocError>
+    ensures { IfOk result (λ file. option_map string_bytes file ≡ file_for (option_map (λ w. w.now) word.entry)) }
+{
     match word {
         None | Some("-") => Ok(None),
         Some(path) => Ok(Some(String::from_str(alloc, path)?)),
@@ -113,7 +119,8 @@ fn options_of<'a>(
     delimiter: u8,
     surroundings: Surroundings,
 ) -> Result<Options, AllocError>
-    ensures { IfOk result (λ options. (options.delimiter ≡ delimiter) × LookIsAsked surroundings (found_of matches.now) options.look) }
+    requires { delimiter_for (first_value (found_of matches.now) (codes "delimiter")) ≡ Some delimiter }
+    ensures { IfOk result (λ options. OptionsAreAsked surroundings (found_of matches.now) options) }
 {
     Ok(Options {
         delimiter,
@@ -175,41 +182,67 @@ fn is_bold(word: Option<&str>, surroundings: Surroundings) -> bool
     }
 }
 
-// The columns of a list; none without a list.
-fn choices_of(alloc: Global, list: Option<&str>) -> Result<Vec<ColumnChoice>, AllocError> {
+// What a list chooses; nothing without a list.
+fn choices_of(alloc: Global, list: Option<&str>) -> Result<Vec<ColumnChoice>, AllocError>
+    ensures { IfOk result (λ choices. map numbers_or_name choices.items ≡ choices_for (option_map (λ l. l.now) list.entry)) }
+{
+    match list {
+        Some(list) => choices_in(alloc, list),
+        None => Ok(Vec::new(alloc)),
+    }
+}
+
+// What the words of a list choose.
+fn choices_in(alloc: Global, list: &str) -> Result<Vec<ColumnChoice>, AllocError>
+    ensures { IfOk result (λ choices. map numbers_or_name choices.items ≡ map choice_for (slice_split (λ b. b == 0x2C) list.now)) }
+{
     let mut choices = Vec::new(alloc);
-    if let Some(list) = list {
-        for word in list.split(',') {
-            choices.push(choice_of(alloc, word)?)?;
-        }
+    for word in list.split(',') {
+        choices.push(choice_of(alloc, word)?)?;
     }
     Ok(choices)
 }
 
 // A number, two numbers around a hyphen, or else a name.
-fn choice_of(alloc: Global, word: &str) -> Result<ColumnChoice, AllocError> {
-    if let Some(number) = number_of(word) {
-        return Ok(ColumnChoice::Numbers {
-            first: number,
-            last: number,
-        });
+fn choice_of(alloc: Global, word: &str) -> Result<ColumnChoice, AllocError>
+    ensures { IfOk result (λ choice. numbers_or_name choice ≡ choice_for word.now) }
+{
+    match numbers_of(word) {
+        Some((first, last)) => Ok(ColumnChoice::Numbers { first, last }),
+        None => Ok(ColumnChoice::Named(String::from_str(alloc, word)?)),
     }
-    if let Some((first, last)) = range_of(word) {
-        return Ok(ColumnChoice::Numbers { first, last });
-    }
-    Ok(ColumnChoice::Named(String::from_str(alloc, word)?))
 }
 
-fn range_of(word: &str) -> Option<(usize, usize)> {
+fn numbers_of(word: &str) -> Option<(usize, usize)>
+    ensures { result ≡ numbers_for word.now }
+{
+    match number_of(word) {
+        Some(number) => Some((number, number)),
+        None => numbers_around_hyphen(word),
+    }
+}
+
+fn numbers_around_hyphen(word: &str) -> Option<(usize, usize)>
+    ensures { result ≡ numbers_around_hyphen word.now }
+{
     let (first, last) = word.split_once('-')?;
     Some((number_of(first)?, number_of(last)?))
 }
 
 // A number of digits alone: `parse` would take a plus sign too.
-fn number_of(word: &str) -> Option<usize> {
-    if word.bytes().all(|byte| byte.is_ascii_digit()) {
+#[tactic(auto, using(crate::proofs::WordLemmas::other, crate::proofs::WordLemmas::parsed))]
+fn number_of(word: &str) -> Option<usize>
+    ensures { result ≡ number_for 64 word.now }
+{
+    if are_digits(word.as_bytes()) {
         word.parse::<usize>().ok()
     } else {
         None
     }
+}
+
+fn are_digits(bytes: &[u8]) -> bool
+    ensures { result ≡ list_all is_ascii_digit bytes.now }
+{
+    bytes.iter().all(|byte| byte.is_ascii_digit())
 }

@@ -1,4 +1,4 @@
--- What `csvtable` makes of fields and columns: numbers, control characters, Markdown, chosen columns, alignment.
+-- What `csvtable` makes of fields and columns: numbers, control characters, Markdown, chosen columns, alignment. And what words ask for.
 use Rattle.std.proofs.Common.{◌≡◌, ℕ, Bool, true, false, List, [], ◌∷◌, ◌++◌, Some, None, Ok, Err, codes, decimal, fold, map, refl}
 use Prim.Native.String.{String}
 use Rattle.comfy_parts.proofs.Computing.{wrapping}
@@ -10,6 +10,7 @@ use Rattle.csv_rows.specs.Columns.{alignment_for, columns_with, position_named, 
 use Rattle.comfy_csv.specs.Drawn.{limited, note_for}
 use Rattle.csv_parts.specs.Markdown.{escaped, unescaped}
 use Rattle.csv_parts.specs.Number.{is_number}
+use Rattle.csv_rows.specs.Words.{choice_for, choices_for, file_for, number_for}
 use Rattle.csv_rows.specs.declared.options.ColumnChoice.TheVariants.{Numbers}
 
 abbrev texts : List String → List Text
@@ -103,3 +104,21 @@ notes = refl
 
 first_rows : limited {A = ℕ} (Some 2) (1 ∷ 2 ∷ 3 ∷ []) ≡ 1 ∷ 2 ∷ []
 first_rows = refl
+
+-- ---- words
+
+-- a number stands for the first and the last column, also with zeros before it; a hyphen stands between two
+numbers_chosen : map choice_for (texts ("3" ∷ "3-5" ∷ "5-3" ∷ "007" ∷ [])) ≡ Ok (3, 3) ∷ Ok (3, 5) ∷ Ok (5, 3) ∷ Ok (7, 7) ∷ []
+numbers_chosen = refl
+
+names_chosen : map choice_for (texts ("name" ∷ "a-b" ∷ "1-b" ∷ "1-2-3" ∷ "-3" ∷ "3-" ∷ "+3" ∷ "" ∷ [])) ≡ map Err (texts ("name" ∷ "a-b" ∷ "1-b" ∷ "1-2-3" ∷ "-3" ∷ "3-" ∷ "+3" ∷ "" ∷ []))
+names_chosen = refl
+
+listed : choices_for (Some (codes "name,3-5,,2")) ≡ Err (codes "name") ∷ Ok (3, 5) ∷ Err [] ∷ Ok (2, 2) ∷ []
+listed = refl
+
+bits : map (number_for 16) (texts ("65535" ∷ "65536" ∷ "" ∷ "1x" ∷ [])) ≡ Some 65535 ∷ None ∷ None ∷ None ∷ []
+bits = refl
+
+files : map file_for (None ∷ Some (codes "-") ∷ Some (codes "a.csv") ∷ []) ≡ None ∷ None ∷ Some (codes "a.csv") ∷ []
+files = refl
