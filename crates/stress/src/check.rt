@@ -1,10 +1,11 @@
 //! What can be said of a drawing from outside.
 
+use crate::drawing::Drawing;
+use crate::kept::Reader;
 use crate::sample::Sample;
 use comfy_table::utils::arrangement::helper::count_border_columns;
 use comfy_table::{ContentArrangement, Result, Table};
 use std::alloc::Global;
-use stress_parts::{Drawing, Reader};
 
 /// What is wrong with the drawing of a sample, if anything is.
 pub fn fault_of(alloc: Global, sample: &Sample) -> Result<Option<&'static str>> {

@@ -4,8 +4,15 @@
 #![tactic(auto)]
 
 mod check;
+mod contents;
+mod drawing;
+mod kept;
 mod sample;
+mod scan;
+mod scripts;
+mod settings;
 mod straight;
+mod texts;
 
 use anyhow::Context;
 use comfy_table::Result;

@@ -1,11 +1,13 @@
 //! Random tables, built through the public surface.
 
+use crate::contents::{Contents, change_columns};
+use crate::settings::arrangement;
+use crate::texts::{delimiter, indicator, once_in, one_of};
 use comfy_table::presets::UTF8_FULL;
 use comfy_table::{Result, Table};
 use rand::RngExt;
 use rand_pcg::Pcg32;
 use std::alloc::Global;
-use stress_parts::{Contents, arrangement, change_columns, delimiter, indicator, once_in, one_of};
 
 const WIDTHS: [u16; 9] = [0, 1, 2, 3, 7, 12, 20, 35, 65535];
 

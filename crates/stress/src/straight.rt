@@ -1,13 +1,16 @@
 //! Random tables whose edges have to be straight in terminal columns, whatever their script.
 
+mod random;
+
 use crate::check::keeps_to_width;
+use crate::settings::arrangement;
+use crate::texts::{once_in, one_of};
 use comfy_table::utils::arrangement::arrange_content;
 use comfy_table::{Result, Table};
 use rand::RngExt;
 use rand_pcg::Pcg32;
+use random::{row, seen_width, set_columns, style, words};
 use std::alloc::Global;
-use stress_parts::straight::{row, seen_width, set_columns, style, words};
-use stress_parts::{arrangement, once_in, one_of};
 
 const WIDTHS: [u16; 6] = [10, 18, 25, 37, 60, 200];
 

@@ -1,9 +1,10 @@
 //! A case's table, built line by line through the public surface. A call that is new gets its words here.
 
-use case_parts::text::{character, first_or_empty, number, push_lines, push_number, text, width};
-use case_parts::{
-    Fault, Request, Result, arrangement, cell_of, read_style, request_of, set_column, set_part,
-};
+use crate::fault::{Fault, Result};
+use crate::request::{Request, request_of};
+use crate::settings::{arrangement, cell_of, set_column};
+use crate::styles::{read_style, set_part};
+use crate::text::{character, first_or_empty, number, push_lines, push_number, text, width};
 use comfy_table::utils::arrangement::arrange_content;
 use comfy_table::{Row, Table, Terminal};
 use std::alloc::Global;

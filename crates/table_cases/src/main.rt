@@ -3,9 +3,17 @@
 #![tactic(auto)]
 
 mod builder;
+mod case;
+mod fault;
+mod looks;
+mod report;
+mod request;
+mod settings;
+mod styles;
+mod text;
 mod trial;
 
-use case_parts::Tally;
+use report::Tally;
 use std::process::ExitCode;
 use trial::Trial;
 

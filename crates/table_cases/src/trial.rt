@@ -1,8 +1,9 @@
 //! A case, and the table that its lines build.
 
 use crate::builder::Builder;
-use case_parts::text::{first_or_empty, parts};
-use case_parts::{Case, Fault, Result};
+use crate::case::Case;
+use crate::fault::{Fault, Result};
+use crate::text::{first_or_empty, parts};
 use std::alloc::Global;
 
 /// A case beside its table.

@@ -2,7 +2,7 @@
 
 use crate::drawing::{Drawing, piece_at};
 use crate::scan::Scan;
-use comfy_parts::{Cell, Column, Result, Row};
+use comfy_table::{Cell, Column, Result, Row};
 use std::alloc::Global;
 
 /// Reads the drawing of each cell beside its text.

@@ -1,7 +1,7 @@
 //! A drawing in the style `UTF8_FULL`, read from outside.
 
 use crate::scan::{INDICATOR, Scan};
-use comfy_parts::Result;
+use comfy_table::Result;
 use std::alloc::Global;
 use std::mem;
 

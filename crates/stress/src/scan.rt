@@ -1,6 +1,6 @@
 //! What is seen of a text, read from outside: its characters, and the sequences that are open before each.
 
-use comfy_parts::Result;
+use comfy_table::Result;
 use std::alloc::Global;
 
 /// What stands after a line that was cut, unless a table has an indicator of its own.

@@ -1,7 +1,7 @@
 //! Words of many scripts that random texts are made of.
 
 use crate::texts::{once_in, one_of};
-use comfy_parts::Result;
+use comfy_table::Result;
 use rand::RngExt;
 use rand_pcg::Pcg32;
 use std::alloc::Global;

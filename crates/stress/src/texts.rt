@@ -1,6 +1,6 @@
 //! Pieces that random texts are made of, and delimiters.
 
-use comfy_parts::Result;
+use comfy_table::Result;
 use rand::RngExt;
 use rand::seq::IndexedRandom;
 use rand_pcg::Pcg32;

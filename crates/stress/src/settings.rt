@@ -1,7 +1,7 @@
 //! Random settings that every table and every cell has.
 
 use crate::texts::one_of;
-use comfy_parts::style::{CellAlignment, ContentArrangement};
+use comfy_table::style::{CellAlignment, ContentArrangement};
 use rand_pcg::Pcg32;
 
 const ARRANGEMENTS: [ContentArrangement; 3] = [

@@ -2,8 +2,8 @@
 
 use crate::fault::{Fault, Result};
 use crate::text::optional_character;
-use comfy_parts::style::presets::by_name;
-use comfy_parts::style::{ContentLineStyle, LineStyle, TableStyle};
+use comfy_table::style::presets::by_name;
+use comfy_table::style::{ContentLineStyle, LineStyle, TableStyle};
 use std::alloc::Global;
 
 /// The preset of a name, with its modifiers.

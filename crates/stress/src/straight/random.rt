@@ -1,17 +1,16 @@
 //! Random rows, columns and styles of tables whose edges have to be straight in terminal columns, whatever their script.
 
-pub use crate::scripts::Words;
-use crate::scripts::text;
+use crate::scripts::{Words, text};
 use crate::settings::alignment;
 use crate::texts::{once_in, one_of};
-use comfy_parts::content_split::{measure_text_width, visible_text};
-use comfy_parts::style::presets::{
+use comfy_table::style::presets::{
     ASCII_BORDERS_ONLY, ASCII_BORDERS_ONLY_CONDENSED, ASCII_FULL, ASCII_FULL_CONDENSED,
     ASCII_HORIZONTAL_ONLY, ASCII_MARKDOWN, ASCII_NO_BORDERS, NOTHING, UTF8_BORDERS_ONLY, UTF8_FULL,
     UTF8_FULL_CONDENSED, UTF8_HORIZONTAL_ONLY, UTF8_NO_BORDERS,
 };
-use comfy_parts::style::{Color, ColumnConstraint, TableStyle, Width};
-use comfy_parts::{Cell, Column, Result, Row};
+use comfy_table::style::{Color, ColumnConstraint, TableStyle, Width};
+use comfy_table::utils::formatting::content_split::{measure_text_width, visible_text};
+use comfy_table::{Cell, Column, Result, Row};
 use rand::RngExt;
 use rand_pcg::Pcg32;
 use std::alloc::Global;

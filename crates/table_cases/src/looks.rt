@@ -2,7 +2,7 @@
 
 use crate::fault::{Fault, Result};
 use crate::text::named;
-use comfy_parts::style::{Attribute, Color};
+use comfy_table::style::{Attribute, Color};
 
 const COLORS: [(&str, Color); 17] = [
     ("Reset", Color::Reset),

@@ -3,10 +3,10 @@
 use crate::fault::{Fault, Result};
 use crate::looks::{attribute, color};
 use crate::text::{character, first_or_empty, named, text, width};
-use comfy_parts::style::{
+use comfy_table::style::{
     Attribute, CellAlignment, Color, ColumnConstraint, ContentArrangement, Width,
 };
-use comfy_parts::{Cell, Column};
+use comfy_table::{Cell, Column};
 use std::alloc::Global;
 use std::str::Split;
 

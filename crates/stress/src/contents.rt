@@ -3,8 +3,8 @@
 use crate::scan::Scan;
 use crate::settings::alignment;
 use crate::texts::{Kind, delimiter, once_in, one_of, text};
-use comfy_parts::style::{ColumnConstraint, Width};
-use comfy_parts::{Cell, Column, Result, Row};
+use comfy_table::style::{ColumnConstraint, Width};
+use comfy_table::{Cell, Column, Result, Row};
 use rand::RngExt;
 use rand_pcg::Pcg32;
 use std::alloc::Global;
