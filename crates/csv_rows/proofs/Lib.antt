@@ -1,3 +1,4 @@
 pub mod ColumnLemmas
+pub mod ProgramLemmas
 pub mod RecordLemmas
 pub mod WordLemmas

@@ -1,4 +1,6 @@
 pub mod Cells
 pub mod Columns
 pub mod Input
+pub mod Program
+pub mod Rules
 pub mod Words

@@ -4,12 +4,13 @@ use Rattle.std.specs.Char.{is_ascii_digit}
 use Rattle.std.specs.List.{list_all, position, slice_split}
 use Rattle.std.specs.Option.{option_or}
 use Rattle.std.specs.Str.Parse.{digits_value, without_leading_plus}
-use Rattle.clap.specs.Words.{first_value, one_text}
+use Rattle.clap.specs.Words.{App, first_value, matches_of, one_text, rows_of}
 use Rattle.clap.specs.declared.parser.matches.Found.{Found}
 use Rattle.comfy_parts.specs.Presets.{ascii_markdown, preset_named, utf8_full}
 use Rattle.comfy_parts.specs.StyleModifiers.{with_rounded_corners}
 use Rattle.comfy_parts.specs.Text.{Text}
 use Rattle.comfy_parts.specs.declared.style.table_style.TableStyle.{TableStyle}
+use Rattle.csv_rows.specs.Program.{IsCsvtable}
 use Rattle.csv_rows.specs.declared.arguments.Asked.{Asked}
 use Rattle.csv_rows.specs.declared.arguments.Surroundings.{Surroundings}
 use Rattle.csv_rows.specs.declared.options.ColumnChoice.{ColumnChoice}
@@ -124,8 +125,11 @@ pub record OptionsAreAsked (surroundings : Surroundings) (found : Found) (option
   pub left : map numbers_or_name options.left.items ≡ choices_for (first_value found (codes "left"))
   pub look : LookIsAsked surroundings found options.look
 
--- what is asked for follows from such values, whichever were found
-pub record IsAsked (surroundings : Surroundings) (asked : Asked) : Type 0 where
+-- what is asked for follows from such values, which are those that clap finds in the words by this program's command
+pub record IsAsked (words : List Text) (surroundings : Surroundings) (asked : Asked) : Type 0 where
+  pub app : App
+  pub is_csvtable : IsCsvtable app
   pub found : Found
+  pub is_found : rows_of found ≡ matches_of app words
   pub options : OptionsAreAsked surroundings found asked.options
   pub file : option_map string_bytes asked.file ≡ file_for (first_value found (codes "file"))

@@ -3,7 +3,8 @@
 ghost use Rattle.std.specs.Prelude.{◌≡◌, ◌==◌, IfOk, Some, codes, map, option_map, string_bytes};
 ghost use Rattle.std.specs.Char.{is_ascii_digit};
 ghost use Rattle.std.specs.List.{list_all, slice_split};
-ghost use Rattle.clap.specs.Words.{first_value, found_of};
+ghost use Rattle.clap.specs.Words.{app_of, first_value, found_of};
+ghost use Rattle.csv_rows.specs.Program.{IsCsvtable};
 ghost use Rattle.csv_rows.specs.Words.{IsAsked, LookIsAsked, OptionsAreAsked, choice_for, choices_for, delimiter_for, file_for, is_bold_for, number_for, numbers_around_hyphen, numbers_for, numbers_or_name, style_for, width_for};
 
 use crate::options::{ColumnChoice, Look, Options};
@@ -36,14 +37,14 @@ pub struct Surroundings {
 }
 
 /// What these words ask for; the first one is the program's name. Help, the version and words that aren't known are
-/// returned as errors, as clap has them. Which values clap finds in the words is a matter of clap; all else follows from
-/// these and from the surroundings.
+/// returned as errors, as clap has them. All that is asked for follows from the values that clap finds for the program's
+/// options, and from the surroundings.
 pub fn asked_of<'a>(
     alloc: Global,
     words: &'a [&'a str],
     surroundings: Surroundings,
 ) -> Result<Asked, Error>
-    ensures { IfOk result (λ asked. IsAsked surroundings asked) }
+    ensures { IfOk result (λ asked. IsAsked (map (λ w. w.now) words.entry.now) surroundings asked) }
 {
     let mut command = command(alloc)?;
     asked_by(alloc, &mut command, words, surroundings)
@@ -55,28 +56,17 @@ fn asked_by<'a>(
     words: &'a [&'a str],
     surroundings: Surroundings,
 ) -> Result<Asked, Error>
-    ensures { IfOk result (λ asked. IsAsked surroundings asked) }
+    requires { IsCsvtable (app_of command.old) }
+    ensures { IfOk result (λ asked. IsAsked (map (λ w. w.now) words.entry.now) surroundings asked) }
 {
     let matches = command.try_get_matches_from_mut(words)?;
-    match delimiter_of(matches.get_str("delimiter")) {
-        Some(delimiter) => Ok(found_in(alloc, &matches, delimiter, surroundings)?),
-        None => Err(no_delimiter(command)),
-    }
-}
-
-// What the matches ask for, beside a delimiter.
-fn found_in<'a>(
-    alloc: Global,
-    matches: &ArgMatches<'a>,
-    delimiter: u8,
-    surroundings: Surroundings,
-) -> Result<Asked, AllocError>
-    requires { delimiter_for (first_value (found_of matches.now) (codes "delimiter")) ≡ Some delimiter }
-    ensures { IfOk result (λ asked. IsAsked surroundings asked) }
-{
-    let file = file_of(alloc, matches.get_str("file"))?;
-    let options = options_of(alloc, matches, delimiter, surroundings)?;
-    Ok(Asked { options, file })
+    let Some(delimiter) = delimiter_of(matches.get_str("delimiter")) else {
+        return Err(no_delimiter(command));
+    };
+    Ok(Asked {
+        options: options_of(alloc, &matches, delimiter, surroundings)?,
+        file: file_of(alloc, matches.get_str("file"))?,
+    })
 }
 
 fn no_delimiter<'a>(command: &mut Command<'a>) -> Error {

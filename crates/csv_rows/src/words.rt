@@ -1,10 +1,24 @@
 //! The words of the program, as a table for clap.
 
+ghost use Rattle.std.specs.Prelude.{◌≡◌, IfOk, Some};
+ghost use Rattle.clap.specs.Words.{app_of, rule_of};
+ghost use Rattle.clap.specs.declared.builder.action.ArgAction.TheVariants.{SetTrue};
+ghost use Rattle.csv_rows.specs.Program.{IsCsvtable, bare};
+ghost use Rattle.csv_rows.specs.Rules.{lettered, rule_for, with_values};
+
 use clap::{Arg, ArgAction, Command, value_parser};
 use std::alloc::{AllocError, Global};
 
-// A word that the program knows: its name, its letter, its kind, what its value is called, and its help.
-type Word = (&'static str, Option<char>, Kind, &'static str, &'static str);
+// A word that the program knows.
+#[derive(Clone, Copy)]
+struct Word {
+    name: &'static str,
+    letter: Option<char>,
+    kind: Kind,
+    // what help calls its value
+    value: &'static str,
+    help: &'static str,
+}
 
 #[derive(Clone, Copy)]
 enum Kind {
@@ -22,105 +36,111 @@ enum Kind {
 }
 
 static WORDS: [Word; 15] = [
-    (
-        "file",
-        None,
-        Kind::File,
-        "FILE",
-        "The file to read; standard input where it is missing or `-`",
-    ),
-    (
-        "delimiter",
-        Some('d'),
-        Kind::Text,
-        "CHAR",
-        "What stands between fields; a comma without it, `tab` for TAB",
-    ),
-    (
-        "no-header",
-        Some('n'),
-        Kind::Flag,
-        "",
-        "The first record is a row, not the header",
-    ),
-    (
-        "limit",
-        None,
-        Kind::Count,
-        "N",
-        "Draw the first N records, and say below how many there are",
-    ),
-    (
-        "columns",
-        Some('c'),
-        Kind::Text,
-        "LIST",
-        "Draw these columns, by name or number and in this order, as `name,3-5`",
-    ),
-    (
-        "right",
-        Some('r'),
-        Kind::Text,
-        "LIST",
-        "Columns at the right, beside those that hold numbers alone",
-    ),
-    (
-        "left",
-        None,
-        Kind::Text,
-        "LIST",
-        "Columns at the left, numbers or not",
-    ),
-    (
-        "width",
-        Some('w'),
-        Kind::Width,
-        "N",
-        "The width to keep to; COLUMNS without it, where standard output is a terminal",
-    ),
-    ("full", None, Kind::Flag, "", "Fill the width"),
-    (
-        "style",
-        Some('s'),
-        Kind::Style,
-        "NAME",
-        "A preset; UTF8_FULL with rounded corners without it",
-    ),
-    (
-        "max-height",
-        Some('m'),
-        Kind::Count,
-        "N",
-        "How many lines a row has at most",
-    ),
-    (
-        "markdown",
-        None,
-        Kind::Markdown,
-        "",
-        "Draw a table for Markdown",
-    ),
-    (
-        "color",
-        None,
-        Kind::Color,
-        "WHEN",
-        "The header in bold; `auto` is in a terminal, unless NO_COLOR is set",
-    ),
-    (
-        "ansi",
-        None,
-        Kind::Flag,
-        "",
-        "SGR sequences in fields count no columns",
-    ),
-    (
-        "raw",
-        None,
-        Kind::Flag,
-        "",
-        "Leave TABs and control characters in fields as they are",
-    ),
+    Word {
+        name: "file",
+        letter: None,
+        kind: Kind::File,
+        value: "FILE",
+        help: "The file to read; standard input where it is missing or `-`",
+    },
+    Word {
+        name: "delimiter",
+        letter: Some('d'),
+        kind: Kind::Text,
+        value: "CHAR",
+        help: "What stands between fields; a comma without it, `tab` for TAB",
+    },
+    Word {
+        name: "no-header",
+        letter: Some('n'),
+        kind: Kind::Flag,
+        value: "",
+        help: "The first record is a row, not the header",
+    },
+    Word {
+        name: "limit",
+        letter: None,
+        kind: Kind::Count,
+        value: "N",
+        help: "Draw the first N records, and say below how many there are",
+    },
+    Word {
+        name: "columns",
+        letter: Some('c'),
+        kind: Kind::Text,
+        value: "LIST",
+        help: "Draw these columns, by name or number and in this order, as `name,3-5`",
+    },
+    Word {
+        name: "right",
+        letter: Some('r'),
+        kind: Kind::Text,
+        value: "LIST",
+        help: "Columns at the right, beside those that hold numbers alone",
+    },
+    Word {
+        name: "left",
+        letter: None,
+        kind: Kind::Text,
+        value: "LIST",
+        help: "Columns at the left, numbers or not",
+    },
+    Word {
+        name: "width",
+        letter: Some('w'),
+        kind: Kind::Width,
+        value: "N",
+        help: "The width to keep to; COLUMNS without it, where standard output is a terminal",
+    },
+    Word {
+        name: "full",
+        letter: None,
+        kind: Kind::Flag,
+        value: "",
+        help: "Fill the width",
+    },
+    Word {
+        name: "style",
+        letter: Some('s'),
+        kind: Kind::Style,
+        value: "NAME",
+        help: "A preset; UTF8_FULL with rounded corners without it",
+    },
+    Word {
+        name: "max-height",
+        letter: Some('m'),
+        kind: Kind::Count,
+        value: "N",
+        help: "How many lines a row has at most",
+    },
+    Word {
+        name: "markdown",
+        letter: None,
+        kind: Kind::Markdown,
+        value: "",
+        help: "Draw a table for Markdown",
+    },
+    Word {
+        name: "color",
+        letter: None,
+        kind: Kind::Color,
+        value: "WHEN",
+        help: "The header in bold; `auto` is in a terminal, unless NO_COLOR is set",
+    },
+    Word {
+        name: "ansi",
+        letter: None,
+        kind: Kind::Flag,
+        value: "",
+        help: "SGR sequences in fields count no columns",
+    },
+    Word {
+        name: "raw",
+        letter: None,
+        kind: Kind::Flag,
+        value: "",
+        help: "Leave TABs and control characters in fields as they are",
+    },
 ];
 
 // The names of the presets, as `by_name` knows them.
@@ -142,8 +162,10 @@ static STYLES: [&str; 13] = [
 
 static COLORS: [&str; 3] = ["auto", "always", "never"];
 
-// The words of `csvtable`, for clap. What clap finds among those that a user gives is a matter of clap: it has no clause.
-pub(crate) fn command<'a>(alloc: Global) -> Result<Command<'a>, AllocError> {
+// The words of `csvtable`, for clap.
+pub(crate) fn command<'a>(alloc: Global) -> Result<Command<'a>, AllocError>
+    ensures { IfOk result (λ command. IsCsvtable (app_of command)) }
+{
     let mut command = Command::new(alloc, "csvtable")
         .version("1.0.0")
         .about("Draws the records of a CSV file as a table");
@@ -154,18 +176,21 @@ pub(crate) fn command<'a>(alloc: Global) -> Result<Command<'a>, AllocError> {
 }
 
 // A word for clap.
-fn arg_of<'a>(alloc: Global, word: &Word) -> Result<Arg<'a>, AllocError> {
-    let (name, letter, kind, value, help) = *word;
-    let arg = with_letter(Arg::new(alloc, name).help(help), letter);
-    match kind {
-        Kind::File => Ok(arg.value_name(value)),
-        Kind::Flag => Ok(flag(arg, name)),
-        Kind::Markdown => flag(arg, name).conflicts_with("style"),
-        _ => Ok(with_value(arg.long(name).value_name(value), kind)),
+fn arg_of<'a>(alloc: Global, word: &Word) -> Result<Arg<'a>, AllocError>
+    ensures { IfOk result (λ arg. bare (rule_of arg) ≡ bare (rule_for word.now)) }
+{
+    let arg = with_letter(Arg::new(alloc, word.name).help(word.help), word.letter);
+    match word.kind {
+        Kind::File => Ok(arg.value_name(word.value)),
+        Kind::Flag => Ok(flag(arg, word.name)),
+        Kind::Markdown => flag(arg, word.name).conflicts_with("style"),
+        kind => Ok(with_value(arg.long(word.name).value_name(word.value), kind)),
     }
 }
 
-fn with_letter<'a>(arg: Arg<'a>, letter: Option<char>) -> Arg<'a> {
+fn with_letter<'a>(arg: Arg<'a>, letter: Option<char>) -> Arg<'a>
+    ensures { rule_of result ≡ lettered letter (rule_of arg.entry) }
+{
     match letter {
         Some(letter) => arg.short(letter),
         None => arg,
@@ -173,12 +198,16 @@ fn with_letter<'a>(arg: Arg<'a>, letter: Option<char>) -> Arg<'a> {
 }
 
 // A word without a value.
-fn flag<'a>(arg: Arg<'a>, name: &'a str) -> Arg<'a> {
+fn flag<'a>(arg: Arg<'a>, name: &'a str) -> Arg<'a>
+    ensures { rule_of result ≡ record (rule_of arg.entry) { long = Some name.entry.now; action = Some SetTrue } }
+{
     arg.long(name).action(ArgAction::SetTrue)
 }
 
 // A word with a value of its kind.
-fn with_value<'a>(arg: Arg<'a>, kind: Kind) -> Arg<'a> {
+fn with_value<'a>(arg: Arg<'a>, kind: Kind) -> Arg<'a>
+    ensures { bare (rule_of result) ≡ with_values kind (bare (rule_of arg.entry)) }
+{
     match kind {
         Kind::Width => arg.value_parser(value_parser!(u16)),
         Kind::Count => arg.value_parser(value_parser!(usize)),

@@ -1,5 +1,5 @@
 -- What `csvtable` makes of fields and columns: numbers, control characters, Markdown, chosen columns, alignment. And what words ask for.
-use Rattle.std.proofs.Common.{◌≡◌, ℕ, Bool, true, false, List, [], ◌∷◌, ◌++◌, Some, None, Ok, Err, codes, decimal, fold, map, refl}
+use Rattle.std.proofs.Common.{◌≡◌, ℕ, Bool, true, false, List, [], ◌∷◌, ◌++◌, Option, Some, None, Ok, Err, codes, decimal, fold, map, refl}
 use Prim.Native.String.{String}
 use Rattle.comfy_parts.proofs.Computing.{wrapping}
 use Rattle.comfy_parts.specs.Text.{Text}
@@ -10,6 +10,9 @@ use Rattle.csv_rows.specs.Columns.{alignment_for, columns_with, position_named, 
 use Rattle.comfy_csv.specs.Drawn.{limited, note_for}
 use Rattle.csv_parts.specs.Markdown.{escaped, unescaped}
 use Rattle.csv_parts.specs.Number.{is_number}
+use Rattle.clap.proofs.OnLiterals.{clap_on_literals}
+use Rattle.clap.specs.Words.{first_of, matches_of}
+use Rattle.csv_rows.specs.Program.{csvtable}
 use Rattle.csv_rows.specs.Words.{choice_for, choices_for, file_for, number_for}
 use Rattle.csv_rows.specs.declared.options.ColumnChoice.TheVariants.{Numbers}
 
@@ -119,6 +122,14 @@ listed = refl
 
 bits : map (number_for 16) (texts ("65535" ∷ "65536" ∷ "" ∷ "1x" ∷ [])) ≡ Some 65535 ∷ None ∷ None ∷ None ∷ []
 bits = refl
+
+-- values after a space, after `=`, and behind a letter; a flag that is used, one that isn't, a default, and an option without a value
+abbrev found : String → Option Text
+found id = first_of (codes id) (matches_of csvtable (texts ("csvtable" ∷ "-w" ∷ "60" ∷ "--limit=2" ∷ "-nr3" ∷ "a.csv" ∷ [])))
+
+values : map found ("width" ∷ "limit" ∷ "right" ∷ "file" ∷ "no-header" ∷ "full" ∷ "color" ∷ "columns" ∷ []) ≡ Some (codes "60") ∷ Some (codes "2") ∷ Some (codes "3") ∷ Some (codes "a.csv") ∷ Some (codes "true") ∷ Some (codes "false") ∷ Some (codes "auto") ∷ None ∷ []
+unfolding clap_on_literals
+values = refl
 
 files : map file_for (None ∷ Some (codes "-") ∷ Some (codes "a.csv") ∷ []) ≡ None ∷ None ∷ Some (codes "a.csv") ∷ []
 files = refl

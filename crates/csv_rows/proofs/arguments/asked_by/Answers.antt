@@ -1,6 +1,16 @@
-use Rattle.std.proofs.Common.{ap, sym, ◌∙◌}
-use Rattle.csv_rows.specs.Words.{delimiter_for}
+use Rattle.std.proofs.Common.{◌∙◌, ap}
+use Rattle.clap.specs.Words.{app_of, found_of}
+use Rattle.csv_rows.proofs.ProgramLemmas.{csvtable_is_simple}
+use Rattle.csv_rows.specs.Words.{file_for}
 use Rattle.csv_rows.proofs.arguments.asked_by.Goals as goal
 
-pub found_in-requires : goal.found_in-requires
-found_in-requires c = ap delimiter_for (sym c.get_str.ensures) ∙ sym c.delimiter_of.ensures ∙ c.in-Some.is
+pub returns : goal.returns
+returns c =
+    record {
+      app = app_of c.args.command.now;
+      is_csvtable = c.requires;
+      found = found_of c.in_ok-matches.matches;
+      is_found = (c.in_ok-matches.ensures.ok.2 (csvtable_is_simple _ c.requires)).0;
+      options = c.in_ok-options_of.ensures;
+      file = c.in_ok-file_of.ensures ∙ ap file_for c.get_str-2.ensures;
+    }
