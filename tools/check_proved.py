@@ -18,7 +18,7 @@ import sys
 from doc_examples import wrong_examples
 
 TOP = os.path.dirname(os.path.dirname(os.path.realpath(__file__)))
-LIBRARIES = ["comfy_parts", "comfy_table", "run_parts", "comfy_run", "csv_parts", "csv_rows", "comfy_csv"]
+LIBRARIES = ["cluster_width", "comfy_parts", "comfy_table", "run_parts", "comfy_run", "csv_parts", "csv_rows", "comfy_csv"]
 WORDS = {"IsAfter", "IsTableDrawing", "input_table"}  # definitions, not functions
 # public calls of a few words over functions that have mutations
 OVER_OTHERS = set(

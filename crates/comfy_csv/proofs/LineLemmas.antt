@@ -13,7 +13,7 @@ use Rattle.comfy_table.specs.TableValue.{TableValue, should_style, table_width}
 use Rattle.comfy_csv.proofs.BuiltLemmas.{Built, MakesRow, blank_drawn, built, each_field}
 use Rattle.csv_rows.specs.Cells.{cell_for, drawn_text, field_or_blank, header_for, row_for, with_weight}
 use Rattle.comfy_csv.specs.Drawn.{empty_table, note_for, row_count, table_for}
-use Rattle.comfy_csv.specs.Laws.{IsPlainLook, OutputFillsWidth, OutputIsStraight, OutputKeepsToWidth}
+use Rattle.comfy_csv.specs.Laws.{IsPlainLook, OutputFillsWidth, OutputKeepsToWidth, WholeOutputIsStraight}
 use Rattle.csv_rows.specs.declared.options.Look.{Look}
 use Rattle.csv_rows.specs.declared.options.Options.{Options}
 use Rattle.csv_rows.specs.declared.options.ShownColumn.{ShownColumn}
@@ -71,8 +71,8 @@ short_row look columns fields plain each =
       record { uncut = rw plain.uncut refl; short = cells },
     )
 
-pub is_straight : (options : Options) (records : List (List Text)) (output : Text) → OutputIsStraight options records output
-is_straight options records output characters plain no_width short made =
+pub whole_is_straight : (options : Options) (records : List (List Text)) (output : Text) → WholeOutputIsStraight options records output
+whole_is_straight options records output characters plain no_width short made =
     let known : Built options plain.no_sequences IsShortRow made.table =
     built options plain.no_sequences IsShortRow records made.table (λ columns. All-weaker (All (EachLine (λ text. measure text ≤ 65535) options.look)) (MakesRow options plain.no_sequences IsShortRow columns) (λ fields each. short_row options.look columns fields plain each) records short) made.is_table in
     let drawing = made.is_drawing.1 in

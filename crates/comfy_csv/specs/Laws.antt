@@ -1,14 +1,15 @@
 -- What is so of every output.
 use Rattle.std.specs.Prelude.{◌≡◌, ℕ, ◌<◌, ◌≤◌, Bool, true, false, List, [], ◌++◌, Some, None, Ok, All, drop, length, map, max, slice_get, unwrap_or, if◌then◌else◌}
-use Rattle.comfy_parts.specs.CellValue.{ColumnInfo, plain_cell}
-use Rattle.comfy_parts.specs.Columns.{AddsUp, IsOneColumnStyle}
+use Rattle.comfy_parts.specs.CellValue.{plain_cell}
+use Rattle.comfy_parts.specs.Columns.{IsOneColumnStyle}
 use Rattle.comfy_parts.specs.Text.{Text, is_printable_ascii, measure}
 use Rattle.comfy_table.specs.Arrangement.{IsArranged}
-use Rattle.comfy_table.specs.Drawing.{infos_of, terminated_text_of}
+use Rattle.comfy_table.specs.Drawing.{terminated_text_of}
+use Rattle.comfy_table.specs.FittingTables.{CharactersFitColumn}
 use Rattle.comfy_table.specs.Headline.{EachLineCounts, IsTableDrawing}
 use Rattle.comfy_table.specs.Laws.{IsPlainTable, count, least_total}
 use Rattle.comfy_table.specs.NewTables.{AreEquallyWide}
-use Rattle.comfy_table.specs.Pieces.{visible_infos}
+use Rattle.comfy_table.specs.Straight.{EachCell}
 use Rattle.comfy_table.specs.TableValue.{TableValue}
 use Rattle.comfy_table.specs.Widths.{visible_count}
 use Rattle.csv_rows.specs.Cells.{drawn_text, row_for}
@@ -93,16 +94,16 @@ IsStraightOutput options records output =
     (lines : List Text) × (output ≡ terminated_text_of lines ++ note_for options.limit (row_count options.has_header (length records))) × AreEquallyWide lines
 
 -- so it is where no width is kept to, for texts of every script
-abbrev pub OutputIsStraight : Options → List (List Text) → Text → Type 0
-OutputIsStraight options records output =
+abbrev pub WholeOutputIsStraight : Options → List (List Text) → Text → Type 0
+WholeOutputIsStraight options records output =
     IsOneColumnStyle options.look.style → IsPlainLook options.look → options.look.width ≡ None → EachText (λ text. measure text ≤ 65535) options.look records
     → IsOutputOf options records output → IsStraightOutput options records output
 
--- and under every width, for texts whose characters add up, where each column has at least two terminal columns
-abbrev pub WideOutputIsStraight : Options → List (List Text) → Text → Type 0
-WideOutputIsStraight options records output =
-    IsOneColumnStyle options.look.style → IsPlainLook options.look → EachText AddsUp options.look records
-    → ((table : TableValue) (widths : List ℕ) → table_for options records ≡ Ok table → IsArranged table widths → All (λ (p : ℕ × ColumnInfo). 2 ≤ p.1.content_width) (visible_infos (infos_of table widths)))
+-- and under every width, where each character of each text fits its column
+abbrev pub FittingOutputIsStraight : Options → List (List Text) → Text → Type 0
+FittingOutputIsStraight options records output =
+    IsOneColumnStyle options.look.style → IsPlainLook options.look
+    → ((table : TableValue) (widths : List ℕ) → table_for options records ≡ Ok table → IsArranged table widths → EachCell CharactersFitColumn table widths)
     → IsOutputOf options records output → IsStraightOutput options records output
 
 -- a field of printable ASCII is drawn as such text

@@ -2,7 +2,7 @@
 
 ghost use Rattle.std.specs.Prelude.{List, ℕ};
 ghost use Rattle.comfy_parts.specs.Text.{Text};
-ghost use Rattle.comfy_csv.specs.Laws.{IsFilling, IsWithin, OutputFillsWidth, OutputIsStraight, OutputKeepsToWidth, PrintableFieldsStay, PrintableLinesHave, PrintableTableIsPlain, TableKeepsRows, WideOutputIsStraight};
+ghost use Rattle.comfy_csv.specs.Laws.{FittingOutputIsStraight, IsFilling, IsWithin, OutputFillsWidth, OutputKeepsToWidth, PrintableFieldsStay, PrintableLinesHave, PrintableTableIsPlain, TableKeepsRows, WholeOutputIsStraight};
 ghost use Rattle.csv_rows.specs.declared.options.Look.{Look};
 ghost use Rattle.csv_rows.specs.declared.options.Options.{Options};
 ghost use Rattle.comfy_table.specs.TableValue.{TableValue};
@@ -33,10 +33,10 @@ pub fn printable_tables_are_plain()
 {}
 
 /// Where no width is kept to and each character of the style adds one terminal column, all lines of an output are equally
-/// many terminal columns wide, for texts of every script up to 65535 columns. So they are under every width for texts
-/// whose characters add up, where each column has at least two terminal columns. Nothing is in bold, no sequence counts
-/// nothing, and no row is cut.
+/// many terminal columns wide, for texts of every script up to 65535 columns. So they are under every width where each
+/// character of each text fits its column and U+FE01 stands nowhere directly beside U+FE0E or U+FE0F. Nothing is in bold, no
+/// sequence counts nothing, and no row is cut.
 pub fn outputs_are_straight()
-    ensures whole { (options : Options) (records : List (List Text)) (output : Text) → OutputIsStraight options records output }
-    ensures adds_up { (options : Options) (records : List (List Text)) (output : Text) → WideOutputIsStraight options records output }
+    ensures whole { (options : Options) (records : List (List Text)) (output : Text) → WholeOutputIsStraight options records output }
+    ensures characters_fit { (options : Options) (records : List (List Text)) (output : Text) → FittingOutputIsStraight options records output }
 {}

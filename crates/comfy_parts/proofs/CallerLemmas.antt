@@ -2,6 +2,7 @@
 pub use Rattle.comfy_parts.proofs.AbsentByteLemmas.{HasNo-append, HasNo-parts, HasNo-take, encoded_clear}
 pub use Rattle.comfy_parts.proofs.BreakLemmas.{HasNo-visible, breaks_are_seen, sequence_clear}
 pub use Rattle.comfy_parts.proofs.ClearLineLemmas.{IsAsSeen, clear_written}
+pub use Rattle.comfy_parts.proofs.ClusterFitLemmas.{fitting-parts}
 pub use Rattle.comfy_parts.proofs.EscapedLemmas.{clear_lines, none_of_control}
 pub use Rattle.comfy_parts.proofs.FrameCharacterLemmas.{frame_adds, frame_apart, one_column_characters}
 pub use Rattle.comfy_parts.proofs.KeptLemmas.{lines_keep_the_text}
@@ -15,7 +16,7 @@ pub use Rattle.comfy_parts.proofs.ShownLemmas.{Shows, Shows-append, Shows-byte, 
 pub use Rattle.comfy_parts.proofs.ShrinkLemmas.{shrinking_keeps_lines}
 pub use Rattle.comfy_parts.proofs.SliceLemmas.{scalar-printable}
 pub use Rattle.comfy_parts.proofs.SpaceMeasureLemmas.{measure-nil, measure-space, measure-spaces_before}
-pub use Rattle.comfy_parts.proofs.TextFitLemmas.{adding_up_fits, head-summed, lines-add_up, text_lines_fit}
+pub use Rattle.comfy_parts.proofs.TextFitLemmas.{adding_up_fits, fitting_characters_fit, head-fitting, lines-agree, text_lines_fit}
 pub use Rattle.comfy_parts.proofs.ValueLemmas.{no_fewer_columns}
 pub use Rattle.comfy_parts.proofs.VisibleLineLemmas.{lines_closed, lines_resumed, lines_seen, seen_lines, zip-each}
 pub use Rattle.comfy_parts.proofs.VisibleWholeLemmas.{visible_text-whole}

@@ -1,8 +1,8 @@
 -- Kinds of characters whose widths add up: those that join nothing, and emoji that stand by themselves.
-use Rattle.std.proofs.Common.{◌≡◌, ◌≢◌, ◌<◌, ◌≤◌, ◌⊎◌, inl, inr, ℕ, ◌+◌, true, false, not, ◌&&◌, ◌||◌, List, [], ◌∷◌, nat_lt, nat_le, zero, suc, slice_index_or, refl, sym, ap, ◌∙◌, subst, arith, sum_by, ⊎_elim}
+use Rattle.std.proofs.Common.{◌≡◌, ◌≢◌, ◌<◌, ◌≤◌, ◌⊎◌, inl, inr, ℕ, ◌+◌, true, false, not, ◌&&◌, ◌||◌, List, [], ◌∷◌, nat_lt, nat_le, ◌==◌, Bool, zero, suc, slice_index_or, refl, sym, ap, ◌∙◌, subst, arith, sum_by, ⊎_elim}
 use Rattle.std.specs.Int.{is_in_range}
 use Rattle.std.specs.List.{list_all, list_any}
-use Rattle.std.proofs.lemmas.Bool.{and_parts, not-true, or_cases}
+use Rattle.std.proofs.lemmas.Bool.{and_parts, cases_Bool, eqb-true, not-true, or_cases}
 use Rattle.std.proofs.lemmas.Bool.Decides.{nat_tests}
 use Rattle.std.proofs.lemmas.List.Sums.{sum_by-cons}
 use Rattle.std.proofs.lemmas.Bool.{cases_lt, or_parts}
@@ -13,6 +13,7 @@ use Rattle.unicode_width.specs.declared.state.After.TheVariants as after
 use Rattle.unicode_width.specs.declared.state.State.{State}
 use Rattle.unicode_width.specs.Kind.{kind}
 use Rattle.unicode_width.specs.Width.{Reading, added, alone, before, char_width, of_kind, past_emoji, plain, read_before, step, str_width}
+use Rattle.unicode_width.proofs.Computing.{unicode_width}
 use Rattle.unicode_width.proofs.Rules.{width_or_zero}
 use Rattle.unicode_width.proofs.WidthLemmas.{step-before_emoji}
 use Rattle.comfy_parts.proofs.KindRangeLemmas.{adds_up_kind, others_add_up}
@@ -30,6 +31,25 @@ in_ranges-any (r ∷ rs) c = ap (λ b. (nat_le r.0 c && nat_le c r.1) || b) (in_
 pub ascii-one : (c : ℕ) → is_in_range 0x20 0x7E c ≡ true → width_or_zero false c ≡ 1
 unfolding char_width
 ascii-one c printable = grind (arith, nat_tests, printable)
+
+-- printable ASCII and U+00A0
+abbrev is_low : ℕ → Bool
+is_low c = is_in_range 0x20 0x7E c || (c == 0xA0)
+
+no_break_space-one : width_or_zero false 0xA0 ≡ 1
+unfolding unicode_width
+no_break_space-one = refl
+
+low-one : (c : ℕ) → is_low c ≡ true → width_or_zero false c ≡ 1
+low-one c low =
+    ⊎_elim (ascii-one c) (λ same. ap (width_or_zero false) (eqb-true c 0xA0 same) ∙ no_break_space-one) (or_cases (is_in_range 0x20 0x7E c) (c == 0xA0) low)
+
+-- a character that joins no other is such a one, or one above these
+low_or_high : (c : ℕ) → joins_no_other c ≡ true → (is_low c ≡ true) ⊎ ((nat_lt 0xA0 c && not (in_ranges joining_characters c)) ≡ true)
+low_or_high c joins = by_cases (in_ranges joining_characters c) joins
+  where
+    by_cases : (joining : Bool) → (is_in_range 0x20 0x7E c || (nat_le 0xA0 c && not joining)) ≡ true → (is_low c ≡ true) ⊎ ((nat_lt 0xA0 c && not joining) ≡ true)
+    by_cases joining h = ⊎_elim (λ low. inl low) (λ other. inr (grind (arith, nat_tests, h, other))) (cases_Bool (is_low c))
 
 pub high-alone : (c : ℕ) → nat_lt 0xA0 c ≡ true → width_or_zero false c ≡ (alone false c).0
 unfolding char_width
@@ -55,13 +75,13 @@ of_kind-summed c kinds.RegionalIndicator h = absurd (cc h)
 of_kind-summed c kinds.EmojiModifier h = absurd (cc h)
 of_kind-summed c kinds.Single h = absurd (cc h)
 
-ascii-plain : (c total : ℕ) → is_in_range 0x20 0x7E c ≡ true → step false c (total, plain) ≡ (total + 1, plain)
+low-plain : (c total : ℕ) → is_low c ≡ true → step false c (total, plain) ≡ (total + 1, plain)
 unfolding step past_emoji
-ascii-plain c total h = grind (arith, nat_tests, h)
+low-plain c total h = grind (arith, nat_tests, h)
 
-ascii-emoji : (c total : ℕ) → is_in_range 0x20 0x7E c ≡ true → step false c (total, before after.Emoji) ≡ (total + 1, plain)
+low-emoji : (c total : ℕ) → is_low c ≡ true → step false c (total, before after.Emoji) ≡ (total + 1, plain)
 unfolding step past_emoji
-ascii-emoji c total h = grind (arith, nat_tests, h)
+low-emoji c total h = grind (arith, nat_tests, h)
 
 high-plain : (c total : ℕ) → nat_lt 0xA0 c ≡ true → step false c (total, plain) ≡ added total (alone false c)
 unfolding step past_emoji
@@ -98,13 +118,13 @@ other_parts c h =
 pub step-summed : (c total : ℕ) (s : State) → IsCalm s → joins_no_other c ≡ true → (step false c (total, s)).0 ≡ total + width_or_zero false c
 step-summed c total s calm h =
     ⊎_elim
-    (λ printable. let one = ascii-one c printable in by_ascii printable one calm)
+    (λ low. by_low low (low-one c low) calm)
     (λ high. by_high (other_parts c high) calm)
-    (or_cases (is_in_range 0x20 0x7E c) _ h)
+    (low_or_high c h)
   where
-    by_ascii : is_in_range 0x20 0x7E c ≡ true → width_or_zero false c ≡ 1 → IsCalm s → (step false c (total, s)).0 ≡ total + width_or_zero false c
-    by_ascii printable one (inl same) = ap (λ u. (step false c (total, u)).0) same ∙ ap (λ (r : Reading). r.0) (ascii-plain c total printable) ∙ ap (λ n. total + n) (sym one)
-    by_ascii printable one (inr same) = ap (λ u. (step false c (total, u)).0) same ∙ ap (λ (r : Reading). r.0) (ascii-emoji c total printable) ∙ ap (λ n. total + n) (sym one)
+    by_low : is_low c ≡ true → width_or_zero false c ≡ 1 → IsCalm s → (step false c (total, s)).0 ≡ total + width_or_zero false c
+    by_low low one (inl same) = ap (λ u. (step false c (total, u)).0) same ∙ ap (λ (r : Reading). r.0) (low-plain c total low) ∙ ap (λ n. total + n) (sym one)
+    by_low low one (inr same) = ap (λ u. (step false c (total, u)).0) same ∙ ap (λ (r : Reading). r.0) (low-emoji c total low) ∙ ap (λ n. total + n) (sym one)
 
     by_high : IsOther c → IsCalm s → (step false c (total, s)).0 ≡ total + width_or_zero false c
     by_high is (inl same) = ap (λ u. (step false c (total, u)).0) same ∙ ap (λ (r : Reading). r.0) (high-plain c total is.high) ∙ ap (λ n. total + n) (sym (high-alone c is.high))
@@ -113,11 +133,11 @@ step-summed c total s calm h =
 -- and leaves what another may follow
 pub calm-summed : (c total : ℕ) (s : State) → IsCalm s → joins_no_other c ≡ true → IsCalm (step false c (total, s)).1
 calm-summed c total s calm h =
-    ⊎_elim (λ printable. by_ascii printable calm) (λ high. by_high (other_parts c high) calm) (or_cases (is_in_range 0x20 0x7E c) _ h)
+    ⊎_elim (λ low. by_low low calm) (λ high. by_high (other_parts c high) calm) (low_or_high c h)
   where
-    by_ascii : is_in_range 0x20 0x7E c ≡ true → IsCalm s → IsCalm (step false c (total, s)).1
-    by_ascii printable (inl same) = inl (ap (λ u. (step false c (total, u)).1) same ∙ ap (λ (r : Reading). r.1) (ascii-plain c total printable))
-    by_ascii printable (inr same) = inl (ap (λ u. (step false c (total, u)).1) same ∙ ap (λ (r : Reading). r.1) (ascii-emoji c total printable))
+    by_low : is_low c ≡ true → IsCalm s → IsCalm (step false c (total, s)).1
+    by_low low (inl same) = inl (ap (λ u. (step false c (total, u)).1) same ∙ ap (λ (r : Reading). r.1) (low-plain c total low))
+    by_low low (inr same) = inl (ap (λ u. (step false c (total, u)).1) same ∙ ap (λ (r : Reading). r.1) (low-emoji c total low))
 
     by_high : IsOther c → IsCalm s → IsCalm (step false c (total, s)).1
     by_high is (inl same) = subst IsCalm (sym (ap (λ u. (step false c (total, u)).1) same ∙ ap (λ (r : Reading). r.1) (high-plain c total is.high))) is.own.0
@@ -136,9 +156,9 @@ read-summed (c ∷ cs) h =
 
 summed-narrow : (c : ℕ) → joins_no_other c ≡ true → width_or_zero false c ≤ 2
 summed-narrow c h =
-    ⊎_elim (λ printable. let one = ascii-one c printable in omega (arith, one))
+    ⊎_elim (λ low. let one = low-one c low in omega (arith, one))
     (λ high. let is = other_parts c high in let own = high-alone c is.high in let most = is.own.1 in omega (arith, own, most))
-    (or_cases (is_in_range 0x20 0x7E c) _ h)
+    (low_or_high c h)
 
 pub summed_add_up : AddUp joins_no_other
 unfolding str_width

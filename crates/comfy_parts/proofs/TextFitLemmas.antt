@@ -1,5 +1,5 @@
 -- The lines of text lines whose words fit are no wider than their column.
-use Rattle.std.proofs.Common.{◌<◌, ◌+◌, ap₂, false, ◌≤◌, inl, inr, ⊎_elim, ℕ, ◌==◌, List, [], ◌∷◌, ◌++◌, nat_le, slice_index_or, sym, ap, ◌∙◌, subst, arith}
+use Rattle.std.proofs.Common.{◌<◌, ◌+◌, ap₂, false, ◌≤◌, inl, inr, ⊎_elim, ℕ, ◌==◌, List, [], ◌∷◌, ◌++◌, ◌&&◌, nat_le, slice_index_or, sym, ap, ◌∙◌, subst, arith}
 use Rattle.std.specs.Char.{IsScalar}
 use Rattle.std.specs.List.{All, list_all, slice_split}
 use Rattle.std.specs.Prelude.{chars, encode_utf8_all, IsUtf8}
@@ -9,11 +9,14 @@ use Rattle.std.proofs.lemmas.Bool.{and_parts, cond_both}
 use Rattle.std.proofs.lemmas.List.Folds.{list_all-append}
 use Rattle.std.proofs.lemmas.Bool.Decides.{nat_tests}
 use Rattle.std.proofs.lemmas.List.Elements.{All-cons, All-nil, All-map, All-weaker}
-use Rattle.std.proofs.lemmas.Str.{chars-append, chars-encodes, encodes-chars, scalars-chars}
+use Rattle.std.proofs.lemmas.Str.{chars-append, chars-encodes, scalars-chars}
 use Rattle.std.specs.List.{sum_by}
 use Rattle.std.proofs.lemmas.List.Sums.{sum_by-append}
 use Rattle.unicode_width.proofs.Rules.{width_or_zero}
-use Rattle.comfy_parts.specs.Columns.{AddingUpFits, AddsUp, PartsAddUp, TextFits, TextLinesFit, WordFits, joins_no_other}
+use Rattle.comfy_parts.specs.Columns.{AddingUpFits, AddsUp, CharactersFit, FittingCharactersFit, PartsAddUp, SelectorsAgree, TextFits, TextLinesFit, WordFits, character_fits, joins_no_other}
+use Rattle.cluster_width.specs.ClusterSums.{selectors_agree}
+use Rattle.comfy_parts.proofs.ClusterFitLemmas.{adds_up-fits, agree-texts, both, fitting-parts, head-cuts, head_fits, head_or_first-cuts, parts-agree}
+use Rattle.comfy_parts.proofs.WordLemmas.{head-utf8}
 use Rattle.comfy_parts.specs.Text.{Text, measure, head, elements}
 use Rattle.comfy_parts.specs.Wrapping.{IsWrapped, head_or_first, lines_of_text, wrapped}
 use Rattle.comfy_parts.proofs.LinesFitLemmas.{BreaksWell, IsCut, IsFittingLine, wrapped-fit}
@@ -22,34 +25,25 @@ use Rattle.comfy_parts.proofs.SpaceMeasureLemmas.{measure-nil}
 use Rattle.comfy_parts.proofs.UncutLemmas.{only-utf8}
 use Rattle.std.proofs.lemmas.List.Sums.{AllPass-from_list_all}
 use Rattle.comfy_parts.proofs.SumKindLemmas.{summed_add_up}
-use Rattle.comfy_parts.proofs.WordLemmas as words
 use Rattle.comfy_parts.proofs.WrappedLemmas.{wrapped_is_wrapped}
 
 -- ---- words
-
--- the characters of a text, as they are cut
-pub summed_text : (text : Text) → IsUtf8 text → AddsUp text → words.IsSummed joins_no_other summed_add_up text
-summed_text text utf8 each = record { characters = chars text; scalars = scalars-chars text utf8; spelt = encodes-chars text utf8; each = each }
-
-text_summed : (text : Text) → words.IsSummed joins_no_other summed_add_up text → AddsUp text
-text_summed text summed =
-    subst AddsUp summed.spelt (ap (list_all joins_no_other) (chars-encodes summed.characters summed.scalars) ∙ summed.each)
 
 -- words that fit, or whose characters do, are cut well
 breaks-words : (w : ℕ) → BreaksWell w (WordFits w)
 breaks-words w = record { empty = inl (let none = measure-nil in omega (arith, none)); part = by_part; first = by_first }
   where
-    either : (k : ℕ) (front word : Text) → 2 ≤ w → IsCut (words.IsSummed joins_no_other summed_add_up) k front word → IsCut (WordFits w) k front word
-    either k front word two cut =
-        record { rest = cut.rest; splits = cut.splits; whole_front = cut.whole_front; whole_rest = cut.whole_rest; fits = cut.fits; keeps = inr (two, text_summed cut.rest cut.keeps) }
+    either : (k : ℕ) (front word : Text) → IsCut (CharactersFit w) k front word → IsCut (WordFits w) k front word
+    either k front word cut =
+        record { rest = cut.rest; splits = cut.splits; whole_front = cut.whole_front; whole_rest = cut.whole_rest; fits = cut.fits; keeps = inr cut.keeps }
 
     by_part : (k : ℕ) (word : Text) → WordFits w word → IsUtf8 word → w < measure word → IsCut (WordFits w) k (head k word) word
     by_part k word (inl fits) utf8 wide = absurd (omega (arith, fits, wide))
-    by_part k word (inr (two, summed)) utf8 wide = either k (head k word) word two ((words.breaks-summed joins_no_other summed_add_up w two).part k word (summed_text word utf8 summed) utf8 wide)
+    by_part k word (inr each) utf8 wide = either k (head k word) word (head-cuts w k word utf8 each)
 
     by_first : (word : Text) → WordFits w word → IsUtf8 word → w < measure word → IsCut (WordFits w) w (head_or_first w word) word
     by_first word (inl fits) utf8 wide = absurd (omega (arith, fits, wide))
-    by_first word (inr (two, summed)) utf8 wide = either w (head_or_first w word) word two ((words.breaks-summed joins_no_other summed_add_up w two).first word (summed_text word utf8 summed) utf8 wide)
+    by_first word (inr each) utf8 wide = either w (head_or_first w word) word (head_or_first-cuts w word utf8 each)
 
 -- ---- lines
 
@@ -66,28 +60,36 @@ pub text_lines_narrow : (w d : ℕ) (text : Text) → TextLinesFit w d text
 text_lines_narrow w d text scalar utf8 fits =
     All-weaker (IsFittingLine w) (λ line. measure line ≤ w) (λ line fitting. fitting.fits) (lines_of_text w d text) (text_lines_fit w d text scalar utf8 fits)
 
--- the head of a text whose characters add up fits
-pub head-summed : (k : ℕ) (text : Text) → IsUtf8 text → AddsUp text → IsFittingLine k (head k text)
-head-summed k text utf8 summed =
-    let cut = words.head-cut joins_no_other summed_add_up k text (summed_text text utf8 summed) in
-    record { whole = cut.whole_front; fits = cut.fits }
+-- the head of a text whose selectors agree fits
+pub head-fitting : (k : ℕ) (text : Text) → IsUtf8 text → SelectorsAgree text → IsFittingLine k (head k text)
+head-fitting k text utf8 agree = record { whole = head-utf8 k text utf8; fits = head_fits k text utf8 agree }
 
--- ---- texts whose characters add up
+-- ---- texts of characters that fit
 
--- the elements of such a text are such texts
-elements-add_up : (d : ℕ) (text : Text) → IsUtf8 text → AddsUp text → All AddsUp (elements d text)
-elements-add_up d text utf8 each =
-    All-map AddsUp encode_utf8_all (slice_split (λ c. c == d) (chars text))
+-- the elements of a text of characters that fit are such texts
+elements-fit : (w d : ℕ) (text : Text) → IsUtf8 text → CharactersFit w text → All (CharactersFit w) (elements d text)
+elements-fit w d text utf8 each =
+    All-map (CharactersFit w) encode_utf8_all (slice_split (λ c. c == d) (chars text))
     (λ k default below.
-    let whole = AllPass-from_list_all all_scalars (slice_split (λ c. c == d) (chars text)) (parts-all scalar_of (λ c. c == d) (chars text) (scalars-chars text utf8)) k default below in
-    ap (list_all joins_no_other) (chars-encodes (slice_index_or (slice_split (λ c. c == d) (chars text)) k default) whole) ∙ AllPass-from_list_all (list_all joins_no_other) (slice_split (λ c. c == d) (chars text)) (parts-all joins_no_other (λ c. c == d) (chars text) each) k default below)
+    let parts = slice_split (λ c. c == d) (chars text) in
+    let whole = AllPass-from_list_all all_scalars parts (parts-all scalar_of (λ c. c == d) (chars text) (scalars-chars text utf8)) k default below in
+    let of_text = fitting-parts w text each in
+    let fits = AllPass-from_list_all (list_all (character_fits w)) parts (parts-all (character_fits w) (λ c. c == d) (chars text) of_text.0) k default below in
+    let agree = AllPass-from_list_all selectors_agree parts (parts-agree (λ c. c == d) (chars text) of_text.1) k default below in
+    ap (λ cs. list_all (character_fits w) cs && selectors_agree cs) (chars-encodes (slice_index_or parts k default) whole) ∙ both _ _ fits agree)
+
+-- so such a text fits its column
+pub fitting_characters_fit : (w d : ℕ) (text : Text) → FittingCharactersFit w d text
+fitting_characters_fit w d text adds utf8 each =
+    inr (adds, All-weaker (CharactersFit w) (WordFits w) (λ word own. inr own) (elements d text) (elements-fit w d text utf8 each))
 
 -- so such a text fits each column of two or more
 pub adding_up_fits : (w d : ℕ) (text : Text) → AddingUpFits w d text
-adding_up_fits w d text two adds utf8 each =
-    inr (adds, All-weaker AddsUp (WordFits w) (λ word own. inr (two, own)) (elements d text) (elements-add_up d text utf8 each))
+adding_up_fits w d text two adds utf8 each = fitting_characters_fit w d text adds utf8 (adds_up-fits w text two utf8 each)
 
--- two texts add up where both do
+-- ---- texts whose characters add up
+
+-- two texts add up where the whole does
 add_up-parts : (front back : Text) → IsUtf8 front → AddsUp (front ++ back) → AddsUp front × AddsUp back
 add_up-parts front back utf8 each =
     and_parts (list_all joins_no_other (chars front)) (list_all joins_no_other (chars back))
@@ -102,16 +104,18 @@ parts_add_up front back utf8 each =
     let other = summed_add_up.sums (chars back) both.1 in
     whole ∙ (ap (sum_by (width_or_zero false)) (chars-append front back utf8) ∙ (sum_by-append (width_or_zero false) (chars front) (chars back) ∙ ap₂ ◌+◌ (sym one) (sym other)))
 
--- the lines of such a text are such texts
-wrapped-add_up : (w d : ℕ) (text : Text) (lines : List Text) → IsScalar d → IsWrapped w d text lines → AddsUp text → All AddsUp lines
-wrapped-add_up w d text [] scalar wrapped each = All-nil AddsUp
-wrapped-add_up w d text (line ∷ lines) scalar (tail, slice, ends, more) each =
-    let gap = slice.gap_is_delimiters in
-    let behind = (add_up-parts slice.gap (line ++ tail) (only-utf8 d slice.gap scalar gap) (subst AddsUp slice.splits each)).1 in
-    let both = add_up-parts line tail slice.whole_characters behind in
-    All-cons AddsUp line lines both.0 (wrapped-add_up w d tail lines scalar more both.1)
+-- ---- texts whose selectors agree
 
-pub lines-add_up : (w d : ℕ) (text : Text) → IsScalar d → IsUtf8 text → AddsUp text → All AddsUp (lines_of_text w d text)
-lines-add_up w d text scalar utf8 each =
-    cond_both (nat_le (measure text) w) _ _ (All AddsUp) (λ _. All-cons AddsUp text [] each (All-nil AddsUp))
-    (λ _. wrapped-add_up w d text (wrapped w d text) scalar (wrapped_is_wrapped w d text scalar utf8) each)
+-- the lines of such a text are such texts
+wrapped-agree : (w d : ℕ) (text : Text) (lines : List Text) → IsScalar d → IsWrapped w d text lines → SelectorsAgree text → All SelectorsAgree lines
+wrapped-agree w d text [] scalar wrapped each = All-nil SelectorsAgree
+wrapped-agree w d text (line ∷ lines) scalar (tail, slice, ends, more) each =
+    let gap = slice.gap_is_delimiters in
+    let behind = (agree-texts slice.gap (line ++ tail) (only-utf8 d slice.gap scalar gap) (subst SelectorsAgree slice.splits each)).1 in
+    let both = agree-texts line tail slice.whole_characters behind in
+    All-cons SelectorsAgree line lines both.0 (wrapped-agree w d tail lines scalar more both.1)
+
+pub lines-agree : (w d : ℕ) (text : Text) → IsScalar d → IsUtf8 text → SelectorsAgree text → All SelectorsAgree (lines_of_text w d text)
+lines-agree w d text scalar utf8 each =
+    cond_both (nat_le (measure text) w) _ _ (All SelectorsAgree) (λ _. All-cons SelectorsAgree text [] each (All-nil SelectorsAgree))
+    (λ _. wrapped-agree w d text (wrapped w d text) scalar (wrapped_is_wrapped w d text scalar utf8) each)

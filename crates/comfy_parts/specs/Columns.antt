@@ -1,12 +1,13 @@
 -- Terminal columns that texts of every script take: which characters add one wherever they stand, and which words and text lines fit.
-use Rattle.std.specs.Prelude.{◌≡◌, ◌⊎◌, ℕ, ◌+◌, ◌≤◌, Bool, true, not, ◌&&◌, ◌||◌, ◌==◌, nat_lt, chars, List, [], ◌∷◌, ◌++◌, Option, unwrap_or, encode_utf8, All, IsUtf8, map}
+use Rattle.std.specs.Prelude.{◌≡◌, ◌⊎◌, ℕ, ◌+◌, ◌≤◌, Bool, true, not, ◌&&◌, ◌||◌, ◌==◌, nat_le, chars, List, [], ◌∷◌, ◌++◌, Option, unwrap_or, encode_utf8, All, IsUtf8, map}
 use Rattle.std.specs.Char.{IsScalar}
 use Rattle.std.specs.Int.{is_in_range}
 use Rattle.std.specs.List.{list_all}
 use Rattle.ucd_table.specs.Rows.{Range, in_ranges}
+use Rattle.cluster_width.specs.ClusterSums.{selectors_agree}
 use Rattle.comfy_parts.specs.Presets.{named_presets}
 use Rattle.comfy_parts.specs.StyleModifiers.{with_rounded_corners, with_solid_inner_borders}
-use Rattle.comfy_parts.specs.Text.{Text, measure, elements}
+use Rattle.comfy_parts.specs.Text.{Text, measure, head, elements}
 use Rattle.comfy_parts.specs.Wrapping.{lines_of_text}
 use Rattle.comfy_parts.specs.declared.style.table_style.TableStyle.{TableStyle}
 
@@ -73,9 +74,9 @@ joining_characters =
     -- variation selectors, an Old Turkic and two Kirat Rai letters, the letters of flags, skin tones
     ∷ (0xFE00, 0xFE0F) ∷ (0x10C03, 0x10C03) ∷ (0x16D67, 0x16D68) ∷ (0x1F1E6, 0x1F1FF) ∷ (0x1F3FB, 0x1F3FF) ∷ []
 
--- printable ASCII, and above U+00A0 each other character
+-- printable ASCII, and from U+00A0 on each other character
 abbrev pub joins_no_other : ℕ → Bool
-joins_no_other c = is_in_range 0x20 0x7E c || (nat_lt 0xA0 c && not (in_ranges joining_characters c))
+joins_no_other c = is_in_range 0x20 0x7E c || (nat_le 0xA0 c && not (in_ranges joining_characters c))
 
 -- a text of such characters
 abbrev pub adds_up : Text → Bool
@@ -90,9 +91,24 @@ PartsAddUp front back = IsUtf8 front → AddsUp (front ++ back) → measure (fro
 
 -- ---- lines
 
--- a word fits a column of w terminal columns, or its characters add up and each fits
+-- nowhere in the text does U+FE01 stand directly beside U+FE0E or U+FE0F
+abbrev pub SelectorsAgree : Text → Type 0
+SelectorsAgree text = selectors_agree (chars text) ≡ true
+
+-- the character by itself measures at most w
+abbrev pub character_fits : ℕ → ℕ → Bool
+character_fits w c = nat_le (measure (encode_utf8 c)) w
+
+-- each character of the text does, and nowhere does U+FE01 stand directly beside U+FE0E or U+FE0F
+abbrev pub characters_fit : ℕ → Text → Bool
+characters_fit w text = list_all (character_fits w) (chars text) && selectors_agree (chars text)
+
+abbrev pub CharactersFit : ℕ → Text → Type 0
+CharactersFit w text = characters_fit w text ≡ true
+
+-- a word fits a column of w terminal columns, or its characters do
 abbrev pub WordFits : ℕ → Text → Type 0
-WordFits w word = (measure word ≤ w) ⊎ ((2 ≤ w) × AddsUp word)
+WordFits w word = (measure word ≤ w) ⊎ CharactersFit w word
 
 -- a text line fits, or each of its words does, between delimiters that add one column
 abbrev pub TextFits : ℕ → ℕ → Text → Type 0
@@ -101,6 +117,14 @@ TextFits w d text = (measure text ≤ w) ⊎ (AddsOneColumn d × All (WordFits w
 -- then no line of it is wider than w
 abbrev pub TextLinesFit : ℕ → ℕ → Text → Type 0
 TextLinesFit w d text = IsScalar d → IsUtf8 text → TextFits w d text → All (λ line. measure line ≤ w) (lines_of_text w d text)
+
+-- then no head of it for k terminal columns is wider than k
+abbrev pub HeadFits : ℕ → Text → Type 0
+HeadFits k text = IsUtf8 text → SelectorsAgree text → measure (head k text) ≤ k
+
+-- a text of which each character fits the column fits it
+abbrev pub FittingCharactersFit : ℕ → ℕ → Text → Type 0
+FittingCharactersFit w d text = AddsOneColumn d → IsUtf8 text → CharactersFit w text → TextFits w d text
 
 -- a text whose characters add up fits each column of two or more
 abbrev pub AddingUpFits : ℕ → ℕ → Text → Type 0

@@ -6,6 +6,7 @@ ghost use Rattle.comfy_parts.specs.Wrapping.{IsWrapped, wrapped};
 
 pub mod display_info;
 mod ends;
+mod fitting;
 mod joining;
 mod lines;
 mod prefix;
@@ -15,6 +16,7 @@ mod width;
 
 use crate::error::Result;
 pub use display_info::ColumnDisplayInfo;
+pub use fitting::characters_fit;
 pub use joining::{adds_one_column, adds_up};
 pub use lines::{WrappedLines, wrapped_lines};
 pub use prefix::split_long_word;

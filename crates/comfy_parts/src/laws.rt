@@ -7,7 +7,7 @@ ghost use Rattle.std.specs.Prelude.{◌≡◌, All, true, ℕ, List, []};
 ghost use Rattle.std.specs.Char.{IsScalar};
 ghost use Rattle.std.specs.Cmp.{IsTotalOrder};
 ghost use Rattle.comfy_parts.specs.CellEquality.{cell_eq, cell_hash};
-ghost use Rattle.comfy_parts.specs.Columns.{AddingUpFits, FrameCharactersAddOneColumn, FrameTextsAreApart, IsOneColumnPreset, PartsAddUp, SpaceAddsOneColumn, TextLinesFit, presets_all};
+ghost use Rattle.comfy_parts.specs.Columns.{AddingUpFits, FittingCharactersFit, FrameCharactersAddOneColumn, FrameTextsAreApart, HeadFits, IsOneColumnPreset, PartsAddUp, SpaceAddsOneColumn, TextLinesFit, presets_all};
 ghost use Rattle.comfy_parts.specs.Comparisons.{ascends, attribute_cmp, attribute_eq, attribute_hash, attributes_in_order, color_cmp, color_eq, color_hash, colors_in_order, EqHashesAlike, EqIsSame, EqualIsSame};
 ghost use Rattle.comfy_parts.specs.Laws.{ActiveIsResumed, ClosedTextsLeaveNone, CutLinesAreFull, HeadIsLongest, IsCutOutsideNarrow, LinesAreFew, LinesAreFewest, LinesAreResumed, LinesAreSeen, LinesFit, LinesKeepTheText, NeighboursFillALine, NoneIsLeftOpen, OtherBytesAreVisible, PrintableClustersAreCharacters, PrintableAddsOneColumnEach, PrintableMeasuresItsLength, SequencesAreTakenOut, SequencesLeaveTheLines, WrappedIsOne, WrappedIsWrapped};
 ghost use Rattle.comfy_parts.specs.Text.{Text};
@@ -68,11 +68,14 @@ pub fn presets_have_columns_of_one()
     ensures { All IsOneColumnPreset presets_all }
 {}
 
-/// Where each word of a text fits its width, or is made of characters that join no other, each line fits. The width is at
-/// least 2 there, and the delimiter adds one terminal column. So it is of a text where `adds_up` says yes. Wherever such a
-/// text is divided, its parts add up to its width.
+/// Where each word of a text fits its width, or each character of the word does, each line fits. U+FE01 stands nowhere
+/// directly beside U+FE0E or U+FE0F there, and the delimiter adds one terminal column. A head never measures more than its
+/// terminal columns. A text where `adds_up` says yes fits each width of at least 2, and wherever it is divided, its parts
+/// add up to its width.
 pub fn lines_of_every_script_fit()
     ensures lines { (w d : ℕ) (text : Text) → TextLinesFit w d text }
+    ensures characters { (w d : ℕ) (text : Text) → FittingCharactersFit w d text }
+    ensures heads { (k : ℕ) (text : Text) → HeadFits k text }
     ensures adds_up { (w d : ℕ) (text : Text) → AddingUpFits w d text }
     ensures parts { (front back : Text) → PartsAddUp front back }
 {}

@@ -1,17 +1,18 @@
 -- When the lines of an output are equally wide in terminal columns.
 use Rattle.std.specs.Prelude.{◌≡◌, ℕ, ◌≤◌, List, Option, None, All}
 use Rattle.std.specs.Str.Lines.{lines}
-use Rattle.comfy_parts.specs.CellValue.{CellValue, ColumnInfo}
-use Rattle.comfy_parts.specs.Columns.{AddsUp, IsOneColumnStyle}
+use Rattle.comfy_parts.specs.CellValue.{CellValue}
+use Rattle.comfy_parts.specs.Columns.{IsOneColumnStyle}
 use Rattle.comfy_parts.specs.Text.{Text, measure}
 use Rattle.comfy_parts.specs.declared.style.table.ContentArrangement.{ContentArrangement}
 use Rattle.comfy_parts.specs.declared.style.table_style.TableStyle.{TableStyle}
 use Rattle.comfy_run.specs.Input.{IsOutputFor, input_table}
 use Rattle.run_parts.specs.Rows.{cells_of_line}
 use Rattle.comfy_table.specs.Arrangement.{IsArranged, width_kept}
-use Rattle.comfy_table.specs.Drawing.{infos_of, terminated_text_of}
+use Rattle.comfy_table.specs.Drawing.{terminated_text_of}
+use Rattle.comfy_table.specs.FittingTables.{CharactersFitColumn}
 use Rattle.comfy_table.specs.NewTables.{AreEquallyWide}
-use Rattle.comfy_table.specs.Pieces.{visible_infos}
+use Rattle.comfy_table.specs.Straight.{EachCell}
 
 -- P holds of each text line of each cell of an input
 abbrev pub EachText : (Text → Type 0) → Text → Type 0
@@ -28,10 +29,9 @@ module _ (width : Option ℕ) (arrangement : ContentArrangement) (style : TableS
       IsOneColumnStyle style → width_kept arrangement width ≡ None → EachText (λ text. measure text ≤ 65535) input
       → IsOutputFor width arrangement style input output → IsStraightOutput output
 
-  -- for texts whose characters add up under every arrangement, where each column has at least two terminal columns
-  abbrev pub OutputIsStraight : Type 0
-  OutputIsStraight =
-      IsOneColumnStyle style → EachText AddsUp input
-      → ((widths : List ℕ) → IsArranged (input_table width arrangement style input) widths
-      → All (λ (p : ℕ × ColumnInfo). 2 ≤ p.1.content_width) (visible_infos (infos_of (input_table width arrangement style input) widths)))
+  -- under every arrangement, where each character of each text fits its column
+  abbrev pub FittingOutputIsStraight : Type 0
+  FittingOutputIsStraight =
+      IsOneColumnStyle style
+      → ((widths : List ℕ) → IsArranged (input_table width arrangement style input) widths → EachCell CharactersFitColumn (input_table width arrangement style input) widths)
       → IsOutputFor width arrangement style input output → IsStraightOutput output

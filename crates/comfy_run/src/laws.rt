@@ -5,14 +5,14 @@ ghost use Rattle.comfy_parts.specs.Text.{Text};
 ghost use Rattle.comfy_parts.specs.declared.style.table.ContentArrangement.{ContentArrangement};
 ghost use Rattle.comfy_parts.specs.declared.style.table_style.TableStyle.{TableStyle};
 ghost use Rattle.comfy_run.specs.Counts.{HasSettings, OutputFillsWidth, OutputKeepsToWidth, PlainInputHasPlainCells};
-ghost use Rattle.comfy_run.specs.Straight.{OutputIsStraight, WholeOutputIsStraight};
+ghost use Rattle.comfy_run.specs.Straight.{FittingOutputIsStraight, WholeOutputIsStraight};
 
 /// All lines of an output are equally many terminal columns wide, where each character of the style adds one: for texts
-/// of every script up to 65535 columns where no width is kept to, and for texts whose characters add up under every
-/// arrangement, where each column has at least two terminal columns.
+/// of every script up to 65535 columns where no width is kept to, and under every arrangement where each character of each
+/// text fits its column and U+FE01 stands nowhere directly beside U+FE0E or U+FE0F.
 pub fn outputs_are_straight()
     ensures whole { (width : Option ℕ) (arrangement : ContentArrangement) (style : TableStyle) (input output : Text) → WholeOutputIsStraight width arrangement style input output }
-    ensures adds_up { (width : Option ℕ) (arrangement : ContentArrangement) (style : TableStyle) (input output : Text) → OutputIsStraight width arrangement style input output }
+    ensures characters_fit { (width : Option ℕ) (arrangement : ContentArrangement) (style : TableStyle) (input output : Text) → FittingOutputIsStraight width arrangement style input output }
 {}
 
 /// The table of an input has the width, arrangement and style that were passed. No column has a constraint, and nothing is

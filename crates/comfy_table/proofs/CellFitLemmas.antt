@@ -7,9 +7,9 @@ use Rattle.std.proofs.lemmas.Bool.{cond_both}
 use Rattle.std.proofs.lemmas.Bool.Decides.{nat_tests}
 use Rattle.std.proofs.lemmas.List.Elements.{All-weaker}
 use Rattle.std.proofs.lemmas.Str.{IsUtf8-append, IsUtf8-nil}
-use Rattle.comfy_parts.proofs.CallerLemmas.{IsFittingLine, head-summed, head-utf8, lines-add_up, lines_of_text-utf8, measure-nil, text_lines_fit}
+use Rattle.comfy_parts.proofs.CallerLemmas.{IsFittingLine, head-fitting, head-utf8, lines-agree, lines_of_text-utf8, measure-nil, text_lines_fit}
 use Rattle.comfy_parts.specs.CellValue.{CellValue, RowValue, ColumnInfo}
-use Rattle.comfy_parts.specs.Columns.{AddsUp, IsApart}
+use Rattle.comfy_parts.specs.Columns.{IsApart, SelectorsAgree}
 use Rattle.comfy_parts.specs.Text.{Text, measure, head}
 use Rattle.comfy_parts.specs.VisibleLines.{CellLine}
 use Rattle.comfy_parts.specs.Wrapping.{lines_of_text}
@@ -23,12 +23,12 @@ use Rattle.comfy_table.specs.TableValue.{TableValue}
 -- ---- cut lines
 
 -- a line that is cut fits
-cut-fits : (w : ℕ) (indicator line : Text) → IsUtf8 line → AddsUp line → IsUtf8 indicator → IsApart indicator → IsFittingLine w (cut_text w indicator line)
+cut-fits : (w : ℕ) (indicator line : Text) → IsUtf8 line → SelectorsAgree line → IsUtf8 indicator → IsApart indicator → IsFittingLine w (cut_text w indicator line)
 cut-fits w indicator line utf8 summed whole apart = by_test (nat_lt w (measure indicator)) refl
   where
     with : (k : ℕ) (shown : Text) → IsUtf8 shown → IsApart shown → k + measure shown ≤ w → IsFittingLine w (head k line ++ shown)
     with k shown whole apart room =
-        let front = head-summed k line utf8 summed in
+        let front = head-fitting k line utf8 summed in
         let all = apart (head k line) front.whole in
         let fits = front.fits in
         record { whole = IsUtf8-append (head k line) shown front.whole whole; fits = omega (arith, all, fits, room) }
@@ -77,8 +77,8 @@ module _ (table : TableValue) (row : RowValue) (info : ColumnInfo) (cell : CellV
   -- and so do the lines of texts that fit
   pub texts-fit : TextsFit table row info cell → HasFittingLines table row info cell
   texts-fit is =
-      All-cut (λ line. IsFittingLine w line × ((h : ℕ) → row.max_height ≡ Some h → h < length lines → AddsUp line × IsApart table.indicator)) (IsFittingLine w) (cut_text w table.indicator) row.max_height lines
-      (λ k default below. (fit k default below, λ h limited more. (add_up (is.cut h limited more).0 k default below, (is.cut h limited more).1)))
+      All-cut (λ line. IsFittingLine w line × ((h : ℕ) → row.max_height ≡ Some h → h < length lines → SelectorsAgree line × IsApart table.indicator)) (IsFittingLine w) (cut_text w table.indicator) row.max_height lines
+      (λ k default below. (fit k default below, λ h limited more. (agree (is.cut h limited more).0 k default below, (is.cut h limited more).1)))
       (λ line own. own.0)
       (λ h limited below line own. cut-fits w table.indicator line own.0.whole (own.1 h limited below).0 indicator (own.1 h limited below).1)
     where
@@ -87,6 +87,6 @@ module _ (table : TableValue) (row : RowValue) (info : ColumnInfo) (cell : CellV
           All-flat_map (IsFittingLine w) (lines_of_text w d) cell.text_lines
           (λ k default below. text_lines_fit w d (slice_index_or cell.text_lines k default) known.1 (known.0 k default below) (is.fit k default below))
 
-      add_up : All AddsUp cell.text_lines → All AddsUp lines
-      add_up each =
-          All-flat_map AddsUp (lines_of_text w d) cell.text_lines (λ k default below. lines-add_up w d (slice_index_or cell.text_lines k default) known.1 (known.0 k default below) (each k default below))
+      agree : All SelectorsAgree cell.text_lines → All SelectorsAgree lines
+      agree each =
+          All-flat_map SelectorsAgree (lines_of_text w d) cell.text_lines (λ k default below. lines-agree w d (slice_index_or cell.text_lines k default) known.1 (known.0 k default below) (each k default below))

@@ -7,6 +7,7 @@ pub mod DisabledWidths
 pub mod Drawing
 pub mod DrawnCells
 pub mod Dynamic
+pub mod FittingTables
 pub mod Frame
 pub mod Gaps
 pub mod Headline

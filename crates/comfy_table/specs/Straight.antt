@@ -1,7 +1,7 @@
 -- When the edges of a table are straight in terminal columns. Rows and cells are as they are seen.
 use Rattle.std.specs.Prelude.{◌≡◌, ◌⊎◌, ℕ, ◌≤◌, ◌<◌, true, length, List, Some, None, slice_get, All}
 use Rattle.comfy_parts.specs.CellValue.{CellValue, RowValue, ColumnInfo, ColumnValue}
-use Rattle.comfy_parts.specs.Columns.{AddsUp, IsApart, IsOneColumnStyle, TextFits}
+use Rattle.comfy_parts.specs.Columns.{IsApart, IsOneColumnStyle, SelectorsAgree, TextFits}
 use Rattle.comfy_parts.specs.Text.{measure}
 use Rattle.comfy_parts.specs.VisibleLines.{CellLine}
 use Rattle.comfy_table.specs.Arrangement.{width_kept}
@@ -28,11 +28,11 @@ EachCell P table widths =
 abbrev pub LinesFit : TableValue → RowValue → ColumnInfo → CellValue → Type 0
 LinesFit table row info cell = All (λ (line : CellLine). measure line.seen ≤ info.content_width) (row_cell_lines (unstyled table) row info cell)
 
--- the text lines of the cell fit its column; where the row cuts the cell, its characters add up, and no text joins the indicator
+-- the text lines of the cell fit its column; where the row cuts the cell, its selectors agree, and no text joins the indicator
 pub record TextsFit (table : TableValue) (row : RowValue) (info : ColumnInfo) (cell : CellValue) : Type 0 where
   pub fit : All (TextFits info.content_width (cell_delimiter table info.delimiter cell)) cell.text_lines
   pub cut : (h : ℕ) → row.max_height ≡ Some h → h < length (cell_lines info.content_width (cell_delimiter table info.delimiter cell) cell)
-      → All AddsUp cell.text_lines × IsApart table.indicator
+      → All SelectorsAgree cell.text_lines × IsApart table.indicator
 
 -- the table is as wide as its texts: no width is kept to, no column has a constraint, no row is cut, and no text line has more than 65535 columns
 pub record IsShownWhole (table : TableValue) : Type 0 where

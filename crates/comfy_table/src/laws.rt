@@ -7,6 +7,7 @@ ghost use Rattle.comfy_parts.specs.CellValue.{CellValue, ColumnInfo, ColumnValue
 ghost use Rattle.comfy_parts.specs.Text.{Text};
 ghost use Rattle.comfy_parts.specs.declared.style.table_style.LineStyle.{LineStyle};
 ghost use Rattle.comfy_parts.specs.declared.style.table_style.TableStyle.{TableStyle};
+ghost use Rattle.comfy_table.specs.FittingTables.{FittingTablesAreStraight};
 ghost use Rattle.comfy_table.specs.Laws.{CellKeepsItsText, DynamicIsOne, FillsWidth, JoinedLinesAreFound, KeepsToWidth, NoLinesAreOneEmptyLine, TerminatedLinesAreFound};
 ghost use Rattle.comfy_table.specs.NewTables.{NewTablesAreStraight, NewTablesLeaveNoneOpen};
 ghost use Rattle.comfy_table.specs.TableLaws.{FillsWiderTotal, FrameCounts, FrameFillsWidth, FrameKeepsToWidth, IsAtMostThreeOver, KeepsToWiderTotal, KeepsToWiderTotalInFull, ShrinkingKeepsCells, TableIsFull, TableIsLevelled, TableKeepsContents, TableLevelIsBest};
@@ -47,6 +48,13 @@ pub fn lines_are_found_in_their_texts()
     ensures joined { (lines : List Text) → JoinedLinesAreFound lines }
     ensures none { NoLinesAreOneEmptyLine }
     ensures terminated { (lines : List Text) → TerminatedLinesAreFound lines }
+{}
+
+/// A drawn table is straight, as `IsTableDrawing` asks for equally wide lines, where each character of each text fits its
+/// column and U+FE01 stands nowhere directly beside U+FE0E or U+FE0F. Delimiters and the characters of the style add one
+/// terminal column there, and no texts of two columns touch. Where a row has a greatest height, no text joins the indicator.
+pub fn tables_of_fitting_characters_are_straight()
+    ensures { (table : TableValue) (lines : List Text) → FittingTablesAreStraight table lines }
 {}
 
 /// A new table in a style whose characters add one terminal column each, with a header and rows, has straight edges: all

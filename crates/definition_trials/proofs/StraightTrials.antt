@@ -1,5 +1,5 @@
--- Terminal columns of every script, computed: characters that add one column and some that don't, texts that add up, and a table that is shown whole.
-use Rattle.std.proofs.Common.{◌≡◌, ◌≤◌, ℕ, true, false, inl, inr, [], ◌∷◌, Some, None, map, refl, arith}
+-- Terminal columns of every script, computed: characters that add one column and some that don't, texts that add up, texts whose characters fit, and a table that is shown whole.
+use Rattle.std.proofs.Common.{◌≡◌, ◌≤◌, ℕ, List, true, false, inl, inr, [], ◌∷◌, Some, None, map, refl, sum_by, arith}
 use Rattle.std.specs.List.{All}
 use Rattle.std.specs.Prelude.{encode_utf8_all}
 use Rattle.std.proofs.lemmas.List.Elements.{All-cons, All-nil}
@@ -7,7 +7,7 @@ use Rattle.std.proofs.lemmas.Str.{IsUtf8-nil}
 use Rattle.comfy_parts.proofs.Computing.{wrapping}
 use Rattle.comfy_parts.proofs.CallerLemmas.{frame_apart, one_column_characters}
 use Rattle.comfy_parts.specs.CellValue.{CellValue, ColumnValue, RowValue, new_column, plain_cell, plain_row}
-use Rattle.comfy_parts.specs.Columns.{AddsOneColumn, IsApart, WordFits, adds_up, has_frame_characters}
+use Rattle.comfy_parts.specs.Columns.{AddsOneColumn, IsApart, WordFits, adds_up, characters_fit, has_frame_characters}
 use Rattle.comfy_parts.specs.Presets.{nothing, utf8_full}
 use Rattle.comfy_parts.specs.Text.{Text, measure, head, clusters}
 use Rattle.comfy_parts.specs.Wrapping.{lines_of_text}
@@ -80,10 +80,74 @@ joiner_does_not_add_up : adds_up (encode_utf8_all (0x200D ∷ [])) ≡ false
 unfolding wrapping
 joiner_does_not_add_up = refl
 
--- four columns, and two at most on each line
-word_fits_by_adding_up : WordFits 2 (utf8 "年度")
+no_break_space_adds_up : adds_up (encode_utf8_all (0x31 ∷ 0xA0 ∷ 0x6B ∷ [])) ≡ true
 unfolding wrapping
-word_fits_by_adding_up = inr (omega arith, refl)
+no_break_space_adds_up = refl
+
+-- ---- characters that fit
+
+ideograph_fits_two : characters_fit 2 (utf8 "年") ≡ true
+unfolding wrapping
+ideograph_fits_two = refl
+
+ideograph_needs_two : characters_fit 1 (utf8 "年") ≡ false
+unfolding wrapping
+ideograph_needs_two = refl
+
+-- a family of three is as wide as each of them, and joiners take nothing
+family_fits_two : characters_fit 2 (encode_utf8_all (0x1F468 ∷ 0x200D ∷ 0x1F469 ∷ 0x200D ∷ 0x1F467 ∷ [])) ≡ true
+unfolding wrapping
+family_fits_two = refl
+
+-- U+17D8, the one character that needs three
+khmer_sign_needs_three : (characters_fit 2 (encode_utf8_all (0x17D8 ∷ [])), characters_fit 3 (encode_utf8_all (0x17D8 ∷ []))) ≡ (false, true)
+unfolding wrapping
+khmer_sign_needs_three = refl
+
+-- what a text measures, and its clusters together
+abbrev two_measures : List ℕ → ℕ × ℕ
+two_measures cs = (measure (encode_utf8_all cs), sum_by measure (clusters (encode_utf8_all cs)))
+
+-- the four pairs of selectors: with each of them some text is wider than its clusters
+text_selector_before : two_measures (0x2018 ∷ 0xFE0E ∷ 0xFE01 ∷ 0x5DC ∷ []) ≡ (3, 2)
+unfolding wrapping
+text_selector_before = refl
+
+emoji_selector_before : two_measures (0x2018 ∷ 0xFE0F ∷ 0xFE01 ∷ 0x5DC ∷ []) ≡ (3, 2)
+unfolding wrapping
+emoji_selector_before = refl
+
+text_selector_behind : two_measures (0x231A ∷ 0x200D ∷ 0x231A ∷ 0xFE01 ∷ 0xFE0E ∷ 0x5DC ∷ []) ≡ (4, 3)
+unfolding wrapping
+text_selector_behind = refl
+
+emoji_selector_behind : two_measures (0x231A ∷ 0x200D ∷ 0x231A ∷ 0xFE01 ∷ 0xFE0F ∷ 0xFE0E ∷ 0x5DC ∷ []) ≡ (4, 3)
+unfolding wrapping
+emoji_selector_behind = refl
+
+-- so no such text is one of characters that fit, however wide the column
+pairs_never_fit : map (characters_fit 9) (encode_utf8_all (0x2018 ∷ 0xFE0E ∷ 0xFE01 ∷ 0x5DC ∷ []) ∷ encode_utf8_all (0xFE01 ∷ 0xFE0F ∷ []) ∷ []) ≡ false ∷ false ∷ []
+unfolding wrapping
+pairs_never_fit = refl
+
+-- a front of a cluster, and the cluster: the front is wider by two, and no front by more
+front_of_a_cluster : two_measures (0x231A ∷ 0x200D ∷ 0x3030 ∷ []) ≡ (4, 4)
+unfolding wrapping
+front_of_a_cluster = refl
+
+whole_cluster : two_measures (0x231A ∷ 0x200D ∷ 0x3030 ∷ 0xFE0F ∷ []) ≡ (2, 2)
+unfolding wrapping
+whole_cluster = refl
+
+-- four columns, and two at most on each line
+word_fits_by_characters : WordFits 2 (utf8 "年度")
+unfolding wrapping
+word_fits_by_characters = inr refl
+
+-- so does a word of letters that join, in a column of one
+joining_word_fits : WordFits 1 (encode_utf8_all (0x644 ∷ 0x627 ∷ 0x644 ∷ 0x627 ∷ []))
+unfolding wrapping
+joining_word_fits = inr refl
 
 its_lines_measure_two : map measure (lines_of_text 2 0x20 (utf8 "年度")) ≡ 2 ∷ 2 ∷ []
 unfolding wrapping
@@ -94,6 +158,11 @@ its_lines_measure_two = refl
 wide_character_in_a_column_of_one : map measure (lines_of_text 1 0x20 (utf8 "年")) ≡ 2 ∷ []
 unfolding wrapping
 wide_character_in_a_column_of_one = refl
+
+-- the line takes the delimiter with its two columns, and room is looked for beside one
+wide_delimiter_in_a_line : map measure (lines_of_text 3 0x5E74 (utf8 "a年b")) ≡ 4 ∷ []
+unfolding wrapping
+wide_delimiter_in_a_line = refl
 
 -- a quotation mark, two variation selectors and an alef
 abbrev quoted : Text

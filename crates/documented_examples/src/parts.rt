@@ -2,7 +2,9 @@
 
 use super::{renew, show};
 use comfy_table::presets::{ASCII_FULL, UTF8_FULL, by_name, by_position};
-use comfy_table::utils::formatting::content_split::{ColumnDisplayInfo, adds_up, split_line};
+use comfy_table::utils::formatting::content_split::{
+    ColumnDisplayInfo, adds_up, characters_fit, split_line,
+};
 use comfy_table::{
     Attribute, Cell, CellAlignment, Color, Column, ColumnConstraint, ContentArrangement,
     ContentLineStyle, IntoCell, IntoCells, IntoRow, LineStyle, Result, Row, Table, TableError,
@@ -46,6 +48,7 @@ fn silent_2(alloc: Global, table: &mut Table) -> Result<()> {
 
 fn shown_1(rt: &HostRuntime, table: &mut Table, new_table: &mut Table) -> anyhow::Result<()> {
     let alloc = rt.alloc();
+    println!(rt; "{}", characters_fit_example())?;
     println!(rt; "{}", adds_up_example())?;
     table_error_example(rt, table)?;
     renew(alloc, new_table);
@@ -108,6 +111,10 @@ fn column_display_info_example(alloc: Global) -> Result<()> {
     let info = ColumnDisplayInfo::new(&Column::new(0), 12);
     let lines = split_line(alloc, "Now add some text", &info, ' ')?;
     Ok(())
+}
+
+fn characters_fit_example() -> bool {
+    characters_fit("كتاب 👨‍👩‍👧", 2) && !characters_fit("年度", 1)
 }
 
 fn adds_up_example() -> bool {

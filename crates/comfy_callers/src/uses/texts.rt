@@ -13,7 +13,7 @@ use comfy_table::laws::{
 };
 use comfy_table::presets::UTF8_FULL;
 use comfy_table::utils::formatting::content_split::{
-    ColumnDisplayInfo, adds_one_column, adds_up, measure_text_width, split_line,
+    ColumnDisplayInfo, adds_one_column, characters_fit, measure_text_width, split_line,
     split_line_by_delimiter, split_line_ref, split_long_word, visible_text,
 };
 use comfy_table::{Column, Result, TableStyle};
@@ -89,16 +89,13 @@ pub fn whole_width(content: u16) -> Option<usize>
     }
 }
 
-/// Whether a text is sure to fit a column of this width, wrapped at the delimiter: its characters join no other, the
-/// delimiter adds one terminal column, and the column has two.
+/// Whether a text is sure to fit a column of this width, wrapped at the delimiter: its characters do, and the delimiter
+/// adds one terminal column.
 pub fn is_sure_to_fit(text: &str, delimiter: char, width: usize) -> bool
     ensures { result ≡ true → TextFits width delimiter text.now }
 {
     lines_of_every_script_fit();
-    if width < 2 || !adds_one_column(delimiter) {
-        return false;
-    }
-    adds_up(text)
+    adds_one_column(delimiter) && characters_fit(text, width)
 }
 
 /// The style where its characters are one terminal column wide, else a preset, whose characters are.

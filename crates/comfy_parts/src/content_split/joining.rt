@@ -61,7 +61,7 @@ fn is_frame_character(character: char) -> bool
 /// Texts in Chinese, Japanese, Korean, Greek, Cyrillic, in Latin letters with accents and in most other scripts are such,
 /// and so are emoji without a joiner, a variation selector or a skin tone. An Arabic alef, a Hebrew lamed and Khmer letters
 /// join others. Of a text with one of these this says no, though its widths may still add up. So it does of a control
-/// character and of U+00A0. The second text here has three emoji and two joiners, which are drawn as one.
+/// character. The second text here has three emoji and two joiners, which are drawn as one.
 ///
 /// ```
 /// let is_so = adds_up("年度 Ωmega é ✅") && !adds_up("👨‍👩‍👧");
@@ -77,7 +77,7 @@ pub fn adds_up(text: &str) -> bool
 fn joins_no_other(character: char) -> bool
     ensures { result ≡ joins_no_other character }
 {
-    if character <= '\u{a0}' {
+    if character < '\u{a0}' {
         return (' '..='~').contains(&character);
     }
     !is_within(&JOINING, character)

@@ -1,6 +1,6 @@
-//! Which texts add up, and that presets are of one column.
+//! Which texts add up, which characters fit, and that presets are of one column.
 
-use comfy_parts::content_split::adds_up;
+use comfy_parts::content_split::{adds_up, characters_fit};
 use comfy_parts::style::TableStyle;
 use comfy_parts::style::presets::{
     ASCII_BORDERS_ONLY, ASCII_BORDERS_ONLY_CONDENSED, ASCII_FULL, ASCII_FULL_CONDENSED,
@@ -9,7 +9,7 @@ use comfy_parts::style::presets::{
 };
 
 // Each text, and whether its characters join no other.
-const TEXTS: [(&str, bool); 16] = [
+const TEXTS: [(&str, bool); 17] = [
     ("年度报告", true),
     ("日本語カナ", true),
     ("한국어", true),
@@ -30,6 +30,8 @@ const TEXTS: [(&str, bool); 16] = [
     ("\u{1f468}\u{200d}\u{1f469}", false),
     ("\u{1f1eb}\u{1f1f7}", false),
     ("\u{1b}", false),
+    // a space that is kept together with its words
+    ("10\u{a0}km", true),
     // Chinese with a variation selector
     ("年\u{fe0f}", false),
 ];
@@ -38,6 +40,37 @@ const TEXTS: [(&str, bool); 16] = [
 fn most_scripts_add_up(rt: HostRuntime) {
     for (text, wanted) in &TEXTS {
         assert!(rt; adds_up(text) == *wanted);
+    }
+}
+
+// Each text, a width in terminal columns, and whether each of its characters fits and no two selectors clash.
+const FITTING: [(&str, usize, bool); 16] = [
+    ("", 0, true),
+    ("e\u{301}", 1, true),
+    ("e", 0, false),
+    ("年度", 2, true),
+    ("年度", 1, false),
+    // Arabic, Hebrew and Khmer, whose letters join
+    ("\u{643}\u{62a}\u{627}\u{628}", 1, true),
+    ("\u{5e9}\u{5dc}\u{5d5}\u{5dd}", 1, true),
+    ("\u{1781}\u{17d2}\u{1798}\u{17c2}\u{179a}", 1, true),
+    // the one character of three columns
+    ("\u{17d8}", 2, false),
+    ("\u{17d8}", 3, true),
+    // a family, a flag
+    ("\u{1f468}\u{200d}\u{1f469}", 2, true),
+    ("\u{1f1eb}\u{1f1f7}", 1, true),
+    // the four pairs of selectors
+    ("\u{2018}\u{fe0e}\u{fe01}\u{5dc}", 9, false),
+    ("\u{2018}\u{fe0f}\u{fe01}\u{5dc}", 9, false),
+    ("a\u{fe01}\u{fe0e}", 9, false),
+    ("a\u{fe01}\u{fe0f}", 9, false),
+];
+
+#[test]
+fn characters_fit_alone(rt: HostRuntime) {
+    for (text, width, wanted) in &FITTING {
+        assert!(rt; characters_fit(text, *width) == *wanted);
     }
 }
 

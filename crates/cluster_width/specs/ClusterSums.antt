@@ -1,0 +1,49 @@
+-- What a text measures, and what its clusters measure by themselves.
+use Rattle.std.specs.Prelude.{◌≡◌, ℕ, ◌≤◌, Bool, true, false, not, ◌&&◌, ◌||◌, ◌==◌, chars, List, [], ◌∷◌, ◌++◌, ◌+◌, take, sum_by, IsUtf8}
+use Rattle.std.specs.List.{All, concat}
+use Rattle.unicode_segmentation.specs.Grapheme.{graphemes}
+use Rattle.unicode_width.specs.Width.{str_width}
+
+-- a text, as its bytes
+abbrev pub Text : Type 0
+Text = List ℕ
+
+-- the terminal columns that a text takes
+abbrev pub measure : Text → ℕ
+measure text = str_width false (chars text)
+
+-- the extended grapheme clusters of a text, in order
+abbrev pub clusters : Text → List Text
+clusters text = graphemes true text
+
+-- U+FE0E and U+FE0F, which choose how an emoji is shown
+abbrev pub is_presentation : ℕ → Bool
+is_presentation c = (c == 0xFE0E) || (c == 0xFE0F)
+
+-- U+FE01, which widens a quotation mark, and one of these
+abbrev pub clash : ℕ → ℕ → Bool
+clash c d = ((c == 0xFE01) && is_presentation d) || (is_presentation c && (d == 0xFE01))
+
+abbrev pub clashes : ℕ → List ℕ → Bool
+clashes c [] = false
+clashes c (d ∷ cs) = clash c d
+
+-- nowhere does U+FE01 stand directly beside one of these
+abbrev pub selectors_agree : List ℕ → Bool
+selectors_agree [] = true
+selectors_agree (c ∷ cs) = not (clashes c cs) && selectors_agree cs
+
+-- a text takes at most the terminal columns of its clusters
+abbrev pub ClustersBoundTheMeasure : Text → Type 0
+ClustersBoundTheMeasure text = IsUtf8 text → selectors_agree (chars text) ≡ true → measure text ≤ sum_by measure (clusters text)
+
+-- so do its first n clusters, which are the whole clusters at its front
+abbrev pub FrontsBoundTheMeasure : Text → ℕ → Type 0
+FrontsBoundTheMeasure text n =
+    IsUtf8 text → selectors_agree (chars text) ≡ true → measure (concat (take n (clusters text))) ≤ sum_by measure (take n (clusters text))
+
+-- no front of a cluster measures more than two columns more than the cluster
+abbrev pub FrontsOfClustersAreBounded : Text → Type 0
+FrontsOfClustersAreBounded text =
+    IsUtf8 text
+    → All (λ (cluster : Text). (front rest : Text) → IsUtf8 front → cluster ≡ front ++ rest → measure front ≤ measure cluster + 2) (clusters text)

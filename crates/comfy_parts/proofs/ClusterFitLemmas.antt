@@ -1,0 +1,165 @@
+-- A head fits its terminal columns, since its clusters measure at least what it does. So words of which each character fits are cut well.
+use Rattle.std.proofs.Common.{◌≡◌, ◌≤◌, ℕ, ⊎_elim, Bool, true, false, not, ◌&&◌, ◌||◌, ◌==◌, List, [], ◌∷◌, ◌++◌, length, take, nat_le, refl, sym, ap, ap₂, ◌∙◌, arith, append-nil}
+use Rattle.std.specs.List.{list_all, onto_first, slice_split}
+use Rattle.std.specs.Prelude.{chars, encode_utf8, encode_utf8_all, IsUtf8}
+use Rattle.std.specs.Str.{all_scalars}
+use Rattle.std.proofs.lemmas.Bool.{and_parts, cases_Bool, cond_both, eqb-true, le-leb, leb-true}
+use Rattle.std.proofs.lemmas.List.Folds.{list_all-append}
+use Rattle.std.proofs.lemmas.Str.{chars-append, chars-encodes, encodes-append, encodes-chars, scalars-chars}
+use Rattle.unicode_width.specs.Width.{str_width}
+use Rattle.cluster_width.specs.ClusterSums.{clash, clashes, is_presentation, selectors_agree}
+use Rattle.cluster_width.proofs.Fronts.{agree-front, fronts_bound}
+use Rattle.comfy_parts.specs.Columns.{AddsUp, CharactersFit, HeadFits, SelectorsAgree, character_fits, joins_no_other}
+use Rattle.comfy_parts.specs.Text.{Text, first_character, head, measure}
+use Rattle.comfy_parts.specs.Wrapping.{head_or_first}
+use Rattle.comfy_parts.proofs.HeadLemmas.{head_is_longest}
+use Rattle.comfy_parts.proofs.LinesFitLemmas.{IsCut}
+use Rattle.comfy_parts.proofs.PlaceLemmas.{IsFront, head-front, scalars-parts}
+use Rattle.std.proofs.lemmas.List.Sums.{sum_by-cons}
+use Rattle.unicode_width.proofs.Rules.{width_or_zero}
+use Rattle.ucd_table.specs.Rows.{in_ranges}
+use Rattle.comfy_parts.proofs.SequenceLemmas.{true_is_false}
+use Rattle.comfy_parts.proofs.SpaceMeasureLemmas.{measure-nil}
+use Rattle.comfy_parts.proofs.SumKindLemmas.{summed_add_up}
+
+-- ---- heads
+
+pub head_fits : (k : ℕ) (text : Text) → HeadFits k text
+head_fits k text utf8 agree =
+    let longest = head_is_longest k text in
+    let bound = fronts_bound text longest.clusters_taken utf8 agree in
+    let within = longest.within in
+    let same = ap measure longest.whole_clusters in
+    omega (arith, bound, within, same)
+
+-- ---- selectors agree in parts of a text
+
+pub both : (a b : Bool) → a ≡ true → b ≡ true → (a && b) ≡ true
+both a b p q = ap₂ (λ x y. x && y) p q
+
+pub agree-back : (xs ys : List ℕ) → selectors_agree (xs ++ ys) ≡ true → selectors_agree ys ≡ true
+agree-back [] ys h = h
+agree-back (x ∷ xs) ys h = agree-back xs ys (and_parts (not (clashes x (xs ++ ys))) (selectors_agree (xs ++ ys)) h).1
+
+pub agree-texts : (front back : Text) → IsUtf8 front → SelectorsAgree (front ++ back) → SelectorsAgree front × SelectorsAgree back
+agree-texts front back utf8 agree =
+    let whole = sym (ap selectors_agree (chars-append front back utf8)) ∙ agree in
+    (agree-front (chars front) (chars back) whole, agree-back (chars front) (chars back) whole)
+
+-- ---- words are cut well
+
+-- such a text is of characters that fit, and its selectors agree
+pub fitting-parts : (w : ℕ) (text : Text) → CharactersFit w text → (list_all (character_fits w) (chars text) ≡ true) × SelectorsAgree text
+fitting-parts w text each = and_parts (list_all (character_fits w) (chars text)) (selectors_agree (chars text)) each
+
+-- a front that fits cuts such a word
+cuts : (w k : ℕ) (word taken : Text) → IsUtf8 word → CharactersFit w word → IsFront (chars word) taken → measure taken ≤ k → IsCut (CharactersFit w) k taken word
+cuts w k word taken utf8 each front fits =
+    let whole = scalars-parts front.front front.back (sym (ap all_scalars front.splits) ∙ scalars-chars word utf8) in
+    let parts = fitting-parts w word each in
+    let alone = and_parts (list_all (character_fits w) front.front) (list_all (character_fits w) front.back) (sym (list_all-append (character_fits w) front.front front.back) ∙ sym (ap (list_all (character_fits w)) front.splits) ∙ parts.0) in
+    let agree = agree-back front.front front.back (sym (ap selectors_agree front.splits) ∙ parts.1) in
+    let same = chars-encodes front.back whole.1 in
+    record {
+      rest = encode_utf8_all front.back;
+      splits = sym (encodes-chars word utf8) ∙ ap encode_utf8_all front.splits ∙ encodes-append front.front front.back ∙ ap (λ t. t ++ encode_utf8_all front.back) front.spelt;
+      whole_front = (front.front, (whole.0, front.spelt));
+      whole_rest = (front.back, (whole.1, refl));
+      fits = fits;
+      keeps = both _ _ (ap (list_all (character_fits w)) same ∙ alone.1) (ap selectors_agree same ∙ agree);
+    }
+
+pub head-cuts : (w k : ℕ) (word : Text) → IsUtf8 word → CharactersFit w word → IsCut (CharactersFit w) k (head k word) word
+head-cuts w k word utf8 each = cuts w k word (head k word) utf8 each (head-front k word) (head_fits k word utf8 (fitting-parts w word each).1)
+
+-- the first character of a text
+first-front : (cs : List ℕ) → IsFront cs (encode_utf8_all (take 1 cs))
+first-front [] = record { front = []; back = []; splits = refl; spelt = refl }
+first-front (c ∷ cs) = record { front = c ∷ []; back = cs; splits = refl; spelt = refl }
+
+first-fits : (w : ℕ) (cs : List ℕ) → list_all (character_fits w) cs ≡ true → measure (encode_utf8_all (take 1 cs)) ≤ w
+first-fits w [] each = let none = measure-nil in omega (arith, none)
+first-fits w (c ∷ cs) each =
+    let one = leb-true _ _ (and_parts (character_fits w c) (list_all (character_fits w) cs) each).0 in
+    let same = ap measure (append-nil (encode_utf8 c)) in
+    omega (arith, one, same)
+
+pub head_or_first-cuts : (w : ℕ) (word : Text) → IsUtf8 word → CharactersFit w word → IsCut (CharactersFit w) w (head_or_first w word) word
+head_or_first-cuts w word utf8 each =
+    cond_both (length (head w word) == 0) _ _ (λ t. IsCut (CharactersFit w) w t word)
+    (λ _. cuts w w word (first_character word) utf8 each (first-front (chars word)) (first-fits w (chars word) (fitting-parts w word each).0))
+    (λ _. head-cuts w w word utf8 each)
+
+-- ---- the parts between delimiters
+
+-- the first part agrees with a character before it
+abbrev first_agrees : ℕ → List (List ℕ) → Bool
+first_agrees c [] = true
+first_agrees c (part ∷ parts) = not (clashes c part)
+
+onto-first : (c d : ℕ) (parts : List (List ℕ)) → not (clash c d) ≡ true → first_agrees c (onto_first d parts) ≡ true
+onto-first c d [] apart = apart
+onto-first c d (part ∷ parts) apart = apart
+
+split-first : (p : ℕ → Bool) (c : ℕ) (cs : List ℕ) → not (clashes c cs) ≡ true → first_agrees c (slice_split p cs) ≡ true
+split-first p c [] apart = refl
+split-first p c (d ∷ cs) apart = cond_both (p d) _ _ (λ parts. first_agrees c parts ≡ true) (λ _. refl) (λ _. onto-first c d (slice_split p cs) apart)
+
+onto-all : (c : ℕ) (parts : List (List ℕ)) → first_agrees c parts ≡ true → list_all selectors_agree parts ≡ true → list_all selectors_agree (onto_first c parts) ≡ true
+onto-all c [] first each = refl
+onto-all c (part ∷ parts) first each =
+    let rest = and_parts (selectors_agree part) (list_all selectors_agree parts) each in both _ _ (both _ _ first rest.0) rest.1
+
+pub parts-agree : (p : ℕ → Bool) (cs : List ℕ) → selectors_agree cs ≡ true → list_all selectors_agree (slice_split p cs) ≡ true
+parts-agree p [] agree = refl
+parts-agree p (c ∷ cs) agree =
+    let parts = and_parts (not (clashes c cs)) (selectors_agree cs) agree in
+    let rest = parts-agree p cs parts.1 in
+    cond_both (p c) _ _ (λ qs. list_all selectors_agree qs ≡ true) (λ _. rest) (λ _. onto-all c (slice_split p cs) (split-first p c cs parts.0) rest)
+
+-- ---- characters that add up fit two columns
+
+not_this : (n c : ℕ) → joins_no_other n ≡ false → joins_no_other c ≡ true → (c == n) ≡ false
+not_this n c joins is =
+    ⊎_elim (λ same. absurd (true_is_false (sym is ∙ ap joins_no_other (eqb-true c n same) ∙ joins))) (λ other. other) (cases_Bool (c == n))
+
+quote_joins : joins_no_other 0xFE01 ≡ false
+unfolding in_ranges
+quote_joins = refl
+
+text_joins : joins_no_other 0xFE0E ≡ false
+unfolding in_ranges
+text_joins = refl
+
+emoji_joins : joins_no_other 0xFE0F ≡ false
+unfolding in_ranges
+emoji_joins = refl
+
+no-clash : (c d : ℕ) → joins_no_other c ≡ true → not (clash c d) ≡ true
+no-clash c d joins =
+    ap₂ (λ q e. not ((q && is_presentation d) || (e && (d == 0xFE01)))) (not_this 0xFE01 c quote_joins joins)
+    (ap₂ (λ t e. t || e) (not_this 0xFE0E c text_joins joins) (not_this 0xFE0F c emoji_joins joins))
+
+no-clashes : (c : ℕ) (cs : List ℕ) → joins_no_other c ≡ true → not (clashes c cs) ≡ true
+no-clashes c [] joins = refl
+no-clashes c (d ∷ cs) joins = no-clash c d joins
+
+-- a character measures as much as its bytes
+alone : (c : ℕ) → all_scalars (c ∷ []) ≡ true → measure (encode_utf8 c) ≡ str_width false (c ∷ [])
+alone c scalar = ap measure (sym (append-nil (encode_utf8 c))) ∙ ap (str_width false) (chars-encodes (c ∷ []) scalar)
+
+adding-up : (w : ℕ) (cs : List ℕ) → 2 ≤ w → all_scalars cs ≡ true → list_all joins_no_other cs ≡ true → (list_all (character_fits w) cs && selectors_agree cs) ≡ true
+adding-up w [] two scalars each = refl
+adding-up w (c ∷ cs) two scalars each =
+    let parts = and_parts (joins_no_other c) (list_all joins_no_other cs) each in
+    let whole = scalars-parts (c ∷ []) cs scalars in
+    let rest = and_parts (list_all (character_fits w) cs) (selectors_agree cs) (adding-up w cs two whole.1 parts.1) in
+    let same = alone c whole.0 in
+    let one = summed_add_up.sums (c ∷ []) (both _ _ parts.0 refl) in
+    let sum = sum_by-cons (width_or_zero false) c [] in
+    let narrow = summed_add_up.narrow c parts.0 in
+    let fits : measure (encode_utf8 c) ≤ w = omega (arith, same, one, sum, narrow, two) in
+    both _ _ (both _ _ (le-leb _ _ fits) rest.0) (both _ _ (no-clashes c cs parts.0) rest.1)
+
+pub adds_up-fits : (w : ℕ) (text : Text) → 2 ≤ w → IsUtf8 text → AddsUp text → CharactersFit w text
+adds_up-fits w text two utf8 each = adding-up w (chars text) two (scalars-chars text utf8) each
