@@ -16,6 +16,7 @@ import re
 import sys
 
 from doc_examples import wrong_examples
+from mutations import must_fail_of, mutations_of
 
 TOP = os.path.dirname(os.path.dirname(os.path.realpath(__file__)))
 LIBRARIES = ["cluster_width", "comfy_parts", "comfy_table", "run_parts", "comfy_run", "csv_parts", "csv_rows", "comfy_csv"]
@@ -54,14 +55,15 @@ def functions_of(crate):
     return found
 
 
-def mutations_of(crate):
-    paths = glob.glob(f"crates/{crate}/m*/*.edit", root_dir=TOP)
-    return {os.path.basename(path).split("__")[0] for path in paths}
+def mutated_in(crate):
+    """The functions that a crate's mutations are named after."""
+    found = mutations_of(f"{TOP}/crates/{crate}") + must_fail_of(f"{TOP}/crates/{crate}")
+    return {it.name.split("__")[0] for it in found}
 
 
 def wrong_in_section(crate, section):
     """What doesn't agree in the section of a crate: its promises name functions, clauses and fields."""
-    wrong, functions, mutated = [], functions_of(crate), mutations_of(crate)
+    wrong, functions, mutated = [], functions_of(crate), mutated_in(crate)
     fields = set(re.findall(r"pub (\w+) :", text_of("crates/comfy_table/specs/Headline.antt")))
     for promise in re.findall(r"^Clauses: (.*?)\.\n\n", section + "\n\n", re.M | re.S):
         clauses, _, more = " ".join(promise.split()).partition("; ")
@@ -109,8 +111,8 @@ def main():
         crate = section.split("\n")[0]
         if os.path.isdir(f"{TOP}/crates/{crate}"):
             wrong += wrong_in_section(crate, section)
-    for crate in {path.split("/")[1] for path in glob.glob("crates/*/m*/*.edit", root_dir=TOP)}:
-        wrong += [f"{crate} has no function {it}, which a mutation names" for it in mutations_of(crate) - set(functions_of(crate))]
+    for crate in os.listdir(f"{TOP}/crates"):
+        wrong += [f"{crate} has no function {it}, which a mutation names" for it in mutated_in(crate) - set(functions_of(crate))]
     labels = {"P0", *re.findall(r"^### (P\d+) ", page, re.M)}
     for group in re.findall(r"\[(P\d+(?:, P\d+)*)\]", readme):
         wrong += [f"README.md cites {it}, which isn't a heading" for it in group.split(", ") if it not in labels]

@@ -1,18 +1,33 @@
 #!/usr/bin/env python3
-"""Tries the mutations crates/CRATE/mutations/*.edit, many in one check, and says which of them the prover refuses.
+"""Tries the mutations crates/CRATE/mutations/**/*.txt, many in one check, and says which of them the prover refuses.
 
-    tools/mutations.py [--must-fail] [--jobs N] [CRATE]..
+    tools/mutations.py [--must-fail] [--jobs N] [--list] [--only TEXT] [CRATE]..
 
-With no CRATE it tries those of every crate; with --must-fail those of must-fail/ too. It works on a copy of the crate and
-of the crates below it, with what earlier checks kept in their out/, so `rt check` in the crate's folder beforehand saves
-time. A check tries mutations of different functions together: each function's line says whether it is proved. A
-function that only calls a mutated one is tried again in a later check. What can't be told so is tried by itself.
+mutations/PATH.txt has those of src/PATH.rt, in the order of its functions, each in this form:
+
+    # FUNCTION__WHAT_IS_WRONG
+    old: TEXT
+    new: TEXT
+
+The old text, a line or a part of one, stands exactly once in the file; the new one takes its place. More such pairs may
+follow. A line `file: src/OTHER.rt` above a pair says that it and those below it are of another file. Empty lines part
+mutations.
+
+With no CRATE it tries those of every crate; with --must-fail those of must-fail/*.edit too, whose form is that of
+`rt must-fail`. With --only it tries those whose label, the file and the name as they are printed, has TEXT in it. With
+--list it tries none, and prints those that don't stand once and those whose name stands twice in the crate.
+
+It works on a copy of the crate and of the crates below it, with what earlier checks kept in their out/, so `rt check` in
+the crate's folder beforehand saves time. A check tries mutations of different functions together: each function's line
+says whether it is proved. A function that only calls a mutated one is tried again in a later check. What can't be told
+so is tried by itself.
 
 It prints a line for each mutation: refused, SURVIVED (the crate is proved with it), DOES NOT STAND ONCE (a text of it
 is missing, or stands more than once), or CANNOT BE READ (what it makes doesn't compile). It ends with 1 unless every
-mutation is refused.
+mutation is refused, or, with --list, stands once under a name of its own.
 """
 import argparse
+import glob
 import os
 import re
 import shutil
@@ -22,23 +37,24 @@ import tempfile
 
 TOP = os.path.dirname(os.path.dirname(os.path.realpath(__file__)))
 TRIES = 5  # checks that a function may be hidden in by those it calls, before its mutation is tried by itself
+FORM = r"# \w+__\w+\n(?:(?:file: \S+\n)?old: .+\nnew:.*\n)+\n*"  # a mutation in a file of mutations/
 
 
 class Mutation:
-    """A file of pairs of texts: the old one stands once in a file of the crate, and the new one takes its place."""
+    """Pairs of texts: the old one stands once in a file of the crate, and the new one takes its place."""
 
-    def __init__(self, path, crate):
-        self.path, self.pairs, self.tries, self.is_alone = path, [], 0, False
-        self.label = os.path.relpath(path, f"{TOP}/crates")
-        file, old = "", ""
-        with open(path, encoding="utf-8") as lines:
-            for line in lines.read().split("\n"):
-                if line.startswith("file: "):
-                    file = line[6:].strip()
-                elif line.startswith("old: "):
-                    old = line[5:]
-                elif line.startswith("new:"):
-                    self.pairs.append((file, old, line[4:].removeprefix(" ")))
+    def __init__(self, label, name, lines, file, crate):
+        self.label, self.name, self.pairs, self.tries, self.is_alone = label, name, [], 0, False
+        old = ""
+        for line in lines.split("\n"):
+            word, _, text = line.partition(":")
+            text = text.removeprefix(" ")
+            if word == "file":
+                file = text.strip()
+            elif word == "old":
+                old = text
+            elif word == "new":
+                self.pairs.append((file, old, text))
         self.function = function_at(crate, *self.pairs[0][:2]) if self.pairs else None
 
     def applied(self, crate, texts):
@@ -57,6 +73,30 @@ def text_of(path):
         return ""
     with open(path, encoding="utf-8") as file:
         return file.read()
+
+
+def mutations_of(crate):
+    """The mutations of a crate's folder mutations/."""
+    found = []
+    for path in sorted(glob.glob(f"{crate}/mutations/**/*.txt", recursive=True)):
+        text, label = text_of(path) + "\n", os.path.relpath(path, f"{TOP}/crates")
+        end = re.match(f"(?:{FORM})*", text).end()
+        if end < len(text):
+            line = text.count("\n", 0, end) + 1
+            sys.exit(f"{label}:{line}: not of the form that the head of tools/mutations.py gives")
+        file = "src/" + os.path.relpath(path, f"{crate}/mutations").removesuffix(".txt") + ".rt"
+        parts = re.split(r"^# (\w+)\n", text, flags=re.M)[1:]
+        found += [Mutation(f"{label} {name}", name, lines, file, crate) for name, lines in zip(parts[::2], parts[1::2])]
+    return found
+
+
+def must_fail_of(crate):
+    """The mutations of a crate's folder must-fail/, a file each."""
+    found = []
+    for path in sorted(glob.glob(f"{crate}/must-fail/*.edit")):
+        name = os.path.basename(path).removesuffix(".edit")
+        found.append(Mutation(os.path.relpath(path, f"{TOP}/crates"), name, text_of(path), "", crate))
+    return found
 
 
 def function_at(crate, file, old):
@@ -86,7 +126,8 @@ def copied(crate, room):
     with open(f"{room}/crates.txt", "w", encoding="utf-8") as file:
         file.writelines(f"{it}\n" for it in lines if ":" in it and it.split(":")[0].split()[0] in wanted)
     for name in wanted:
-        shutil.copytree(f"{TOP}/crates/{name}", f"{room}/crates/{name}", ignore=shutil.ignore_patterns("*.edit"))
+        left_out = shutil.ignore_patterns("mutations", "must-fail")
+        shutil.copytree(f"{TOP}/crates/{name}", f"{room}/crates/{name}", ignore=left_out)
     if os.path.isfile(f"{TOP}/HANDLES"):
         shutil.copy(f"{TOP}/HANDLES", room)
     return f"{room}/crates/{crate}"
@@ -181,23 +222,37 @@ def tried(crate, waiting, jobs):
     return bad
 
 
+def listed(crate, found):
+    """Prints the mutations of a crate that don't stand once, or not under a name of their own, and returns how many."""
+    names = [it.name for it in found]
+    wrong = [f"{it.label}: DOES NOT STAND ONCE" for it in found if it.applied(crate, {}) is None]
+    wrong += [f"{it.label}: ITS NAME STANDS TWICE" for it in found if names.count(it.name) > 1]
+    for line in wrong:
+        print(line)
+    return len(wrong)
+
+
 def main():
-    parser = argparse.ArgumentParser(description="Tries the mutations crates/CRATE/mutations/*.edit, many in one check.")
+    parser = argparse.ArgumentParser(description="Tries the mutations crates/CRATE/mutations/**/*.txt, many in one check.")
     parser.add_argument("--must-fail", action="store_true", help="try those of must-fail/ too")
     parser.add_argument("--jobs", type=int, help="how many functions a check may prove side by side")
+    parser.add_argument("--list", action="store_true", help="try none, and print those that don't stand once")
+    parser.add_argument("--only", default="", metavar="TEXT", help="only those whose label has TEXT in it")
     parser.add_argument("crate", nargs="*", help="a crate's name (all crates, where none is given)")
     options = parser.parse_args()
-    folders = ["mutations", "must-fail"] if options.must_fail else ["mutations"]
     count = bad = 0
     for name in options.crate or sorted(os.listdir(f"{TOP}/crates")):
         crate = f"{TOP}/crates/{name}"
         if not os.path.isdir(crate):
             parser.error(f"there is no crate {name}")
-        places = [f"{crate}/{folder}" for folder in folders if os.path.isdir(f"{crate}/{folder}")]
-        found = [Mutation(f"{at}/{it}", crate) for at in places for it in sorted(os.listdir(at)) if it.endswith(".edit")]
+        found = mutations_of(crate) + (must_fail_of(crate) if options.must_fail else [])
+        found = [it for it in found if options.only in it.label]
         count += len(found)
-        bad += tried(crate, found, options.jobs) if found else 0
-    print(f"{count - bad} of {count} mutations refused")
+        if options.list:
+            bad += listed(crate, found)
+        elif found:
+            bad += tried(crate, found, options.jobs)
+    print(f"{count} mutations, {bad} faults" if options.list else f"{count - bad} of {count} mutations refused")
     return 1 if bad else 0
 
 
