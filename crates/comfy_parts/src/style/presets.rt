@@ -492,21 +492,22 @@ pub const NOTHING: TableStyle = TableStyle {
     bottom_border: NO_LINE,
 };
 
-// The presets in the order of their positions.
-static PRESETS: [TableStyle; 13] = [
-    ASCII_FULL,
-    ASCII_FULL_CONDENSED,
-    ASCII_NO_BORDERS,
-    ASCII_BORDERS_ONLY,
-    ASCII_BORDERS_ONLY_CONDENSED,
-    ASCII_HORIZONTAL_ONLY,
-    ASCII_MARKDOWN,
-    UTF8_FULL,
-    UTF8_FULL_CONDENSED,
-    UTF8_NO_BORDERS,
-    UTF8_BORDERS_ONLY,
-    UTF8_HORIZONTAL_ONLY,
-    NOTHING,
+/// All presets with their names, which are those of their constants. A preset keeps its position, so that programs in
+/// other languages can name it by a number.
+pub static ALL: [(&str, TableStyle); 13] = [
+    ("ASCII_FULL", ASCII_FULL),
+    ("ASCII_FULL_CONDENSED", ASCII_FULL_CONDENSED),
+    ("ASCII_NO_BORDERS", ASCII_NO_BORDERS),
+    ("ASCII_BORDERS_ONLY", ASCII_BORDERS_ONLY),
+    ("ASCII_BORDERS_ONLY_CONDENSED", ASCII_BORDERS_ONLY_CONDENSED),
+    ("ASCII_HORIZONTAL_ONLY", ASCII_HORIZONTAL_ONLY),
+    ("ASCII_MARKDOWN", ASCII_MARKDOWN),
+    ("UTF8_FULL", UTF8_FULL),
+    ("UTF8_FULL_CONDENSED", UTF8_FULL_CONDENSED),
+    ("UTF8_NO_BORDERS", UTF8_NO_BORDERS),
+    ("UTF8_BORDERS_ONLY", UTF8_BORDERS_ONLY),
+    ("UTF8_HORIZONTAL_ONLY", UTF8_HORIZONTAL_ONLY),
+    ("NOTHING", NOTHING),
 ];
 
 /// The preset of this name, written as its constant is. Of another name there is none.
@@ -517,28 +518,16 @@ static PRESETS: [TableStyle; 13] = [
 pub fn by_name(name: &str) -> Option<TableStyle>
     ensures { result ≡ preset_named name.now }
 {
-    let position = match name {
-        "ASCII_FULL" => 0,
-        "ASCII_FULL_CONDENSED" => 1,
-        "ASCII_NO_BORDERS" => 2,
-        "ASCII_BORDERS_ONLY" => 3,
-        "ASCII_BORDERS_ONLY_CONDENSED" => 4,
-        "ASCII_HORIZONTAL_ONLY" => 5,
-        "ASCII_MARKDOWN" => 6,
-        "UTF8_FULL" => 7,
-        "UTF8_FULL_CONDENSED" => 8,
-        "UTF8_NO_BORDERS" => 9,
-        "UTF8_BORDERS_ONLY" => 10,
-        "UTF8_HORIZONTAL_ONLY" => 11,
-        "NOTHING" => 12,
-        _ => return None,
-    };
-    by_position(position)
+    for (preset, style) in &ALL {
+        if name == *preset {
+            return Some(*style);
+        }
+    }
+    None
 }
 
-/// The preset at this position, counted from 0 in the order in which this module has them: `ASCII_FULL` comes first,
-/// `NOTHING` last. A preset keeps its position, so programs in other languages can name it by a number. At a greater
-/// position there is none.
+/// The preset at this position of `ALL`, counted from 0: `ASCII_FULL` comes first, `NOTHING` last. At a greater position
+/// there is none.
 ///
 /// ```
 /// let is_so = by_position(7) == Some(UTF8_FULL);
@@ -547,7 +536,11 @@ pub fn by_name(name: &str) -> Option<TableStyle>
 pub fn by_position(position: usize) -> Option<TableStyle>
     ensures { result ≡ preset_at position }
 {
-    PRESETS.get(position).copied()
+    if position < ALL.len() {
+        Some(ALL[position].1)
+    } else {
+        None
+    }
 }
 
 /// Each preset has the characters of its definition in `specs/Presets`. The function does nothing: its clauses say so.

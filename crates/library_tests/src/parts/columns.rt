@@ -1,12 +1,7 @@
 //! Which texts add up, which characters fit, and that presets are of one column.
 
 use comfy_parts::content_split::{adds_up, characters_fit};
-use comfy_parts::style::TableStyle;
-use comfy_parts::style::presets::{
-    ASCII_BORDERS_ONLY, ASCII_BORDERS_ONLY_CONDENSED, ASCII_FULL, ASCII_FULL_CONDENSED,
-    ASCII_HORIZONTAL_ONLY, ASCII_MARKDOWN, ASCII_NO_BORDERS, NOTHING, UTF8_BORDERS_ONLY, UTF8_FULL,
-    UTF8_FULL_CONDENSED, UTF8_HORIZONTAL_ONLY, UTF8_NO_BORDERS,
-};
+use comfy_parts::style::presets::ALL;
 
 // Each text, and whether its characters join no other.
 const TEXTS: [(&str, bool); 17] = [
@@ -74,25 +69,9 @@ fn characters_fit_alone(rt: HostRuntime) {
     }
 }
 
-const PRESETS: [TableStyle; 13] = [
-    ASCII_FULL,
-    ASCII_FULL_CONDENSED,
-    ASCII_NO_BORDERS,
-    ASCII_BORDERS_ONLY,
-    ASCII_BORDERS_ONLY_CONDENSED,
-    ASCII_HORIZONTAL_ONLY,
-    ASCII_MARKDOWN,
-    UTF8_FULL,
-    UTF8_FULL_CONDENSED,
-    UTF8_NO_BORDERS,
-    UTF8_BORDERS_ONLY,
-    UTF8_HORIZONTAL_ONLY,
-    NOTHING,
-];
-
 #[test]
 fn presets_are_of_one_column(rt: HostRuntime) {
-    for style in &PRESETS {
+    for (_, style) in &ALL {
         assert!(rt; style.is_one_column());
     }
 }
