@@ -40,7 +40,7 @@ done
 
 # The inputs: ctable's own, cases in many scripts, no bytes, and more rows than the first buffer of the examples holds.
 cp "$top/crates/ctable/stdin" "$work/stored"
-cp "$top/crates/table_cases/stdin" "$work/scripts"
+cp "$top/crates/test_cases/stdin" "$work/scripts"
 : > "$work/nothing"
 awk 'BEGIN { for (i = 0; i < 1000; i++) printf "%d\t\t\t\t\t\t\t\t\t\n", i }' > "$work/rows"
 

@@ -19,7 +19,7 @@ from doc_examples import wrong_examples
 from mutations import must_fail_of, mutations_of
 
 TOP = os.path.dirname(os.path.dirname(os.path.realpath(__file__)))
-LIBRARIES = ["cluster_width", "comfy_parts", "comfy_table", "run_parts", "comfy_run", "csv_parts", "csv_rows", "comfy_csv"]
+LIBRARIES = ["cluster_width", "comfy_parts", "comfy_table", "comfy_run", "comfy_csv_parts", "comfy_csv"]
 LAWS_ALONE = ["cluster_width"]  # libraries without code
 WORDS = {"IsAfter", "IsTableDrawing", "input_table"}  # definitions, not functions
 # public calls of a few words over functions that have mutations
@@ -27,7 +27,7 @@ OVER_OTHERS = set(
     "build_table trim_fmt format_row style has_custom_styling visible_lines settings_of "
     "should_draw_left_border should_draw_right_border should_draw_vertical_lines".split()
 )
-CALLERS = ["comfy_callers", "csv_cases"]
+CALLERS = ["test_callers", "test_csv_cases"]
 STORED = ["example_ledger/stdout", "example_ledger/src/main.rt", "ctable/stdout", "csvtable/stdout"]
 
 

@@ -1,5 +1,5 @@
 #!/usr/bin/env python3
-"""Gathers the examples of doc comments into the crate `documented_examples`, which the gate proves and runs.
+"""Gathers the examples of doc comments into the crate `example_docs`, which the gate proves and runs.
 
     tools/doc_examples.py            writes the crate's source and its stored output
     tools/doc_examples.py --check    prints which file isn't what the comments say, and ends with 1 where one isn't
@@ -17,7 +17,7 @@ import sys
 import textwrap
 
 TOP = os.path.dirname(os.path.dirname(os.path.realpath(__file__)))
-CRATE = "crates/documented_examples"
+CRATE = "crates/example_docs"
 MODULES = {"comfy_parts": "parts", "comfy_table": "tables"}
 PARAMETERS = {
     "rt": ("&HostRuntime", "rt"),

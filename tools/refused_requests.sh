@@ -1,8 +1,8 @@
 #!/bin/sh
 # Refuses each request for memory of four built programs, one after another: those of ctable and csvtable on their stored
-# inputs, without words and with some, those of table_cases on two of its cases, and those of refused_calls on each call by
+# inputs, without words and with some, those of test_cases on two of its cases, and those of test_refused on each call by
 # itself. Each such run of the first three must end with status 1, print nothing, and say that there is no memory. One of
-# refused_calls must say that the call was refused as promised, or end with status 3 and print nothing, where the request
+# test_refused must say that the call was refused as promised, or end with status 3 and print nothing, where the request
 # wasn't the call's. Of a call that adds three rows it must also say how many are kept: 0 at first, then 1, then 2, as
 # later requests are refused.
 #
@@ -57,7 +57,7 @@ refuse() {
 refuse_call() {
   call=$1
   printf '%s\n' "$call" > "$work/call"
-  said=$("$runner" "$work/call" "$crates/refused_calls/out/refused_calls" < /dev/null) || exit 2
+  said=$("$runner" "$work/call" "$crates/test_refused/out/test_refused" < /dev/null) || exit 2
   bytes=$(($(printf '%s: refused, as promised\n' "$call" | wc -c)))
   case $call in
     Table::*add_rows*) words='rows kept: [0-9]*' ;;
@@ -79,7 +79,7 @@ refuse_call() {
     echo "$0: no request of $call was refused" >&2
     exit 1
   fi
-  echo "refused_calls: $call: refused in turn: $own, as promised"
+  echo "test_refused: $call: refused in turn: $own, as promised"
 }
 
 build ctable
@@ -88,10 +88,10 @@ refuse ctable "$crates/ctable/stdin" 'ctable: out of memory' 40 dynamic UTF8_FUL
 build csvtable
 refuse csvtable "$crates/csvtable/stdin" 'csvtable: out of memory'
 refuse csvtable "$crates/csvtable/stdin" 'csvtable: out of memory' -w 40 -c 2,1 --right 1 --limit 1 --markdown
-build table_cases
-awk '/^case\theight-(0-is-1-line|with-an-indicator-of-three-dots)$/, /^end$/' "$crates/table_cases/stdin" > "$work/two.cases"
-refuse table_cases "$work/two.cases" 'Error: out of memory'
-build refused_calls
+build test_cases
+awk '/^case\theight-(0-is-1-line|with-an-indicator-of-three-dots)$/, /^end$/' "$crates/test_cases/stdin" > "$work/two.cases"
+refuse test_cases "$work/two.cases" 'Error: out of memory'
+build test_refused
 while IFS= read -r call; do
   refuse_call "$call"
-done < "$crates/refused_calls/stdin"
+done < "$crates/test_refused/stdin"

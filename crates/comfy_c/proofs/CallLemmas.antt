@@ -4,7 +4,7 @@ use Rattle.std.proofs.lemmas.List.{take_at}
 use Rattle.std.specs.Prelude.{IsUtf8, Option, Some}
 use Rattle.comfy_parts.specs.Text.{Text}
 use Rattle.comfy_run.specs.Input.{IsOutputFor}
-use Rattle.run_parts.specs.declared.settings.Settings.{Settings}
+use Rattle.comfy_run.specs.declared.settings.Settings.{Settings}
 use Rattle.comfy_c.specs.Calls.{IsDrawnAs}
 
 -- the output for a text that is the input's, under the settings that are asked for

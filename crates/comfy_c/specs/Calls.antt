@@ -4,9 +4,9 @@ use Rattle.comfy_parts.specs.Presets.{preset_at}
 use Rattle.comfy_parts.specs.Text.{Text}
 use Rattle.comfy_parts.specs.declared.style.table.ContentArrangement.{ContentArrangement}
 use Rattle.comfy_parts.specs.declared.style.table.ContentArrangement.TheVariants.{Disabled, Dynamic, DynamicFullWidth}
-use Rattle.run_parts.specs.Arguments.{settings_with}
+use Rattle.comfy_run.specs.Arguments.{settings_with}
 use Rattle.comfy_run.specs.Input.{IsOutputFor}
-use Rattle.run_parts.specs.declared.settings.Settings.{Settings}
+use Rattle.comfy_run.specs.declared.settings.Settings.{Settings}
 
 -- a width up to 65535; any greater number stands for none
 abbrev pub width_of : ℕ → Option ℕ

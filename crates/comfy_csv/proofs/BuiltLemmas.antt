@@ -9,14 +9,14 @@ use Rattle.comfy_parts.specs.Text.{Text}
 use Rattle.comfy_table.proofs.BuiltTableLemmas.{IsBuilt, IsNewColumn, built-header, built-rows}
 use Rattle.comfy_table.specs.TableValue.{TableValue, with_header, with_rows}
 use Rattle.csv.specs.Records.{field_at}
-use Rattle.csv_rows.specs.Cells.{drawn_text, field_or_blank, header_for, marked, row_for}
-use Rattle.csv_parts.specs.Cleaning.{after_character, cleaned, start}
-use Rattle.csv_rows.specs.Columns.{columns_for}
+use Rattle.comfy_csv_parts.specs.Cells.{drawn_text, field_or_blank, header_for, marked, row_for}
+use Rattle.comfy_csv_parts.specs.Cleaning.{after_character, cleaned, start}
+use Rattle.comfy_csv_parts.specs.Columns.{columns_for}
 use Rattle.comfy_csv.specs.Drawn.{empty_table, limited, ok_map, table_for, titled_table, untitled_table}
-use Rattle.csv_parts.specs.Markdown.{escaped}
-use Rattle.csv_rows.specs.declared.options.Look.{Look}
-use Rattle.csv_rows.specs.declared.options.Options.{Options}
-use Rattle.csv_rows.specs.declared.options.ShownColumn.{ShownColumn}
+use Rattle.comfy_csv_parts.specs.Markdown.{escaped}
+use Rattle.comfy_csv_parts.specs.declared.options.Look.{Look}
+use Rattle.comfy_csv_parts.specs.declared.options.Options.{Options}
+use Rattle.comfy_csv_parts.specs.declared.options.ShownColumn.{ShownColumn}
 
 -- what was made was made of columns
 pub made_of : (f : List ShownColumn → TableValue) (found : Result (List ShownColumn) Text) (table : TableValue) → ok_map f found ≡ Ok table → (columns : List ShownColumn) × (found ≡ Ok columns) × (f columns ≡ table)

@@ -13,12 +13,12 @@ use Rattle.comfy_parts.proofs.CallerLemmas.{IsUtf8-printable, below_seven_bits}
 use Rattle.comfy_parts.specs.CellValue.{plain_cell}
 use Rattle.comfy_parts.specs.Text.{Text, is_printable_ascii}
 use Rattle.comfy_table.proofs.ListLemmas.{All-none}
-use Rattle.csv_parts.proofs.CleaningLemmas.{drawn_so}
-use Rattle.csv_rows.specs.Cells.{drawn_text, marked}
-use Rattle.csv_parts.specs.Cleaning.{cleaned}
+use Rattle.comfy_csv_parts.proofs.CleaningLemmas.{drawn_so}
+use Rattle.comfy_csv_parts.specs.Cells.{drawn_text, marked}
+use Rattle.comfy_csv_parts.specs.Cleaning.{cleaned}
 use Rattle.comfy_csv.specs.Laws.{PrintableFieldsStay}
-use Rattle.csv_parts.specs.Markdown.{escaped, escaped_character, is_special}
-use Rattle.csv_rows.specs.declared.options.Look.{Look}
+use Rattle.comfy_csv_parts.specs.Markdown.{escaped, escaped_character, is_special}
+use Rattle.comfy_csv_parts.specs.declared.options.Look.{Look}
 
 abbrev is_printable : ℕ → Bool
 is_printable = is_in_range 0x20 0x7E

@@ -11,12 +11,12 @@ use Rattle.comfy_table.specs.Arrangement.{width_kept}
 use Rattle.comfy_table.specs.NewTables.{IsShortRow}
 use Rattle.comfy_table.specs.TableValue.{TableValue, should_style, table_width}
 use Rattle.comfy_csv.proofs.BuiltLemmas.{Built, MakesRow, blank_drawn, built, each_field}
-use Rattle.csv_rows.specs.Cells.{cell_for, drawn_text, field_or_blank, header_for, row_for, with_weight}
+use Rattle.comfy_csv_parts.specs.Cells.{cell_for, drawn_text, field_or_blank, header_for, row_for, with_weight}
 use Rattle.comfy_csv.specs.Drawn.{empty_table, note_for, row_count, table_for}
 use Rattle.comfy_csv.specs.Laws.{IsPlainLook, OutputFillsWidth, OutputKeepsToWidth, WholeOutputIsStraight}
-use Rattle.csv_rows.specs.declared.options.Look.{Look}
-use Rattle.csv_rows.specs.declared.options.Options.{Options}
-use Rattle.csv_rows.specs.declared.options.ShownColumn.{ShownColumn}
+use Rattle.comfy_csv_parts.specs.declared.options.Look.{Look}
+use Rattle.comfy_csv_parts.specs.declared.options.Options.{Options}
+use Rattle.comfy_csv_parts.specs.declared.options.ShownColumn.{ShownColumn}
 
 abbrev pub Any : RowValue → Type 0
 Any row = Unit {0}

@@ -15,12 +15,12 @@ use Rattle.comfy_table.specs.TableValue.{TableValue, column_cells, seen_rows, sh
 use Rattle.comfy_csv.proofs.BuiltLemmas.{Built, MakesRow, built}
 use Rattle.comfy_csv.proofs.FieldLemmas.{fields_stay}
 use Rattle.comfy_csv.proofs.LineLemmas.{EachLine, any_built, cells_each}
-use Rattle.csv_rows.specs.Cells.{cell_for, field_or_blank, header_for, row_for, with_weight}
+use Rattle.comfy_csv_parts.specs.Cells.{cell_for, field_or_blank, header_for, row_for, with_weight}
 use Rattle.comfy_csv.specs.Drawn.{empty_table}
 use Rattle.comfy_csv.specs.Laws.{IsPlainLook, PrintableLinesHave, PrintableTableIsPlain}
-use Rattle.csv_rows.specs.declared.options.Look.{Look}
-use Rattle.csv_rows.specs.declared.options.Options.{Options}
-use Rattle.csv_rows.specs.declared.options.ShownColumn.{ShownColumn}
+use Rattle.comfy_csv_parts.specs.declared.options.Look.{Look}
+use Rattle.comfy_csv_parts.specs.declared.options.Options.{Options}
+use Rattle.comfy_csv_parts.specs.declared.options.ShownColumn.{ShownColumn}
 
 abbrev IsPrintable : Text → Type 0
 IsPrintable text = is_printable_ascii text ≡ true

@@ -5,12 +5,12 @@ use Rattle.comfy_parts.specs.CellValue.{RowValue}
 use Rattle.comfy_parts.specs.Text.{Text}
 use Rattle.comfy_table.specs.TableValue.{TableValue, with_header, with_row, with_rows}
 use Rattle.comfy_csv.proofs.BuiltLemmas.{made_of}
-use Rattle.csv_rows.specs.Cells.{header_for, row_for}
-use Rattle.csv_rows.specs.Columns.{columns_for, columns_with, shown_columns}
+use Rattle.comfy_csv_parts.specs.Cells.{header_for, row_for}
+use Rattle.comfy_csv_parts.specs.Columns.{columns_for, columns_with, shown_columns}
 use Rattle.comfy_csv.specs.Drawn.{empty_table, limited, ok_map}
 use Rattle.comfy_csv.specs.Laws.{KeepsRows, TableKeepsRows, drawn_records, names_in}
-use Rattle.csv_rows.specs.declared.options.Options.{Options}
-use Rattle.csv_rows.specs.declared.options.ShownColumn.{ShownColumn}
+use Rattle.comfy_csv_parts.specs.declared.options.Options.{Options}
+use Rattle.comfy_csv_parts.specs.declared.options.ShownColumn.{ShownColumn}
 
 with_rows-rows : (rows : List RowValue) (t : TableValue) → (with_rows rows t).rows ≡ t.rows ++ rows
 with_rows-rows [] t = sym (append-nil t.rows)

@@ -2,13 +2,13 @@
 use Rattle.std.proofs.Common.{◌≡◌, Bool, true, false, [], List, ◌++◌, Option, Some, Result, Ok, Err, OnOk, IfErr, refl}
 use Rattle.comfy_parts.specs.Text.{Text}
 use Rattle.comfy_run.specs.Outcome.{IsBeginningOnly, NoDeviceFailed, RunFacts}
-use Rattle.csv_rows.specs.Columns.{IsColumnRefusal}
+use Rattle.comfy_csv_parts.specs.Columns.{IsColumnRefusal}
 use Rattle.comfy_csv.specs.Drawn.{IsOutputFor, table_for}
-use Rattle.csv_rows.specs.Input.{AreRecordsOf, IsReadingRefusal}
+use Rattle.comfy_csv_parts.specs.Input.{AreRecordsOf, IsReadingRefusal}
 use Rattle.comfy_csv.specs.Run.{IsAfter, IsReadFailure, IsRefusal, is_read_fault, is_write_fault}
-use Rattle.csv_rows.specs.declared.error.CsvError.{CsvError}
-use Rattle.csv_rows.specs.declared.error.CsvError.TheVariants.{Read, Write, NotUtf8, NoColumn, OutOfMemory}
-use Rattle.csv_rows.specs.declared.options.Options.{Options}
+use Rattle.comfy_csv_parts.specs.declared.error.CsvError.{CsvError}
+use Rattle.comfy_csv_parts.specs.declared.error.CsvError.TheVariants.{Read, Write, NotUtf8, NoColumn, OutOfMemory}
+use Rattle.comfy_csv_parts.specs.declared.options.Options.{Options}
 
 -- a sink that hadn't failed before
 pub still_sound : {T E : Type 0} (r : Result T E) (old new : Bool) → old ≡ false → OnOk r (old ≡ false → new ≡ false) → OnOk r (new ≡ false)

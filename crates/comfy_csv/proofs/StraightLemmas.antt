@@ -9,12 +9,12 @@ use Rattle.comfy_table.proofs.FittingTableLemmas.{IsDefaultRow, built_of_fitting
 use Rattle.comfy_table.proofs.ListLemmas.{All-every}
 use Rattle.comfy_table.specs.Headline.{IsTableDrawing}
 use Rattle.comfy_csv.proofs.BuiltLemmas.{Built, MakesRow, built}
-use Rattle.csv_rows.specs.Cells.{cell_for, field_or_blank, header_for, row_for, with_weight}
+use Rattle.comfy_csv_parts.specs.Cells.{cell_for, field_or_blank, header_for, row_for, with_weight}
 use Rattle.comfy_csv.specs.Drawn.{empty_table, note_for, row_count}
 use Rattle.comfy_csv.specs.Laws.{FittingOutputIsStraight, IsPlainLook}
-use Rattle.csv_rows.specs.declared.options.Look.{Look}
-use Rattle.csv_rows.specs.declared.options.Options.{Options}
-use Rattle.csv_rows.specs.declared.options.ShownColumn.{ShownColumn}
+use Rattle.comfy_csv_parts.specs.declared.options.Look.{Look}
+use Rattle.comfy_csv_parts.specs.declared.options.Options.{Options}
+use Rattle.comfy_csv_parts.specs.declared.options.ShownColumn.{ShownColumn}
 
 rows_are_default : (look : Look) (columns : List ShownColumn) (fields : List Text) → IsPlainLook look → IsDefaultRow (header_for look columns fields) × IsDefaultRow (row_for look columns fields)
 rows_are_default look columns fields plain = (record { uncut = refl; no_delimiters = rw plain.no_bold without }, record { uncut = rw plain.uncut refl; no_delimiters = without })

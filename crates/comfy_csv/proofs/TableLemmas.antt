@@ -3,7 +3,7 @@ use Rattle.std.proofs.Common.{◌≡◌, ℕ, true, false, List, [], ◌∷◌, 
 use Rattle.std.proofs.lemmas.List.{take-map}
 use Rattle.comfy_parts.specs.Text.{Text}
 use Rattle.comfy_csv.specs.Drawn.{limited, table_for, titled_table, untitled_table}
-use Rattle.csv_rows.specs.declared.options.Options.{Options}
+use Rattle.comfy_csv_parts.specs.declared.options.Options.{Options}
 
 limited-map : {A B : Type 0} (f : A → B) (limit : Option ℕ) (rows : List A) → limited limit (map f rows) ≡ map f (limited limit rows)
 limited-map f None rows = refl

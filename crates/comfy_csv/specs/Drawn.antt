@@ -5,12 +5,12 @@ use Rattle.comfy_parts.specs.declared.style.table.ContentArrangement.{ContentArr
 use Rattle.comfy_parts.specs.declared.style.table.ContentArrangement.TheVariants.{Disabled, Dynamic, DynamicFullWidth}
 use Rattle.comfy_table.specs.Headline.{IsTerminatedTextOf}
 use Rattle.comfy_table.specs.TableValue.{TableValue, new_table, with_header, with_rows}
-use Rattle.csv_rows.specs.Cells.{header_for, row_for}
-use Rattle.csv_rows.specs.Columns.{columns_for}
-use Rattle.csv_rows.specs.Input.{AreRecordsOf}
-use Rattle.csv_rows.specs.declared.options.Look.{Look}
-use Rattle.csv_rows.specs.declared.options.Options.{Options}
-use Rattle.csv_rows.specs.declared.options.ShownColumn.{ShownColumn}
+use Rattle.comfy_csv_parts.specs.Cells.{header_for, row_for}
+use Rattle.comfy_csv_parts.specs.Columns.{columns_for}
+use Rattle.comfy_csv_parts.specs.Input.{AreRecordsOf}
+use Rattle.comfy_csv_parts.specs.declared.options.Look.{Look}
+use Rattle.comfy_csv_parts.specs.declared.options.Options.{Options}
+use Rattle.comfy_csv_parts.specs.declared.options.ShownColumn.{ShownColumn}
 
 -- the widths of columns are those of their contents, or keep to a width, or fill it
 abbrev pub arrangement_for : Option ℕ → Bool → ContentArrangement

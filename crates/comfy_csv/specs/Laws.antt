@@ -12,12 +12,12 @@ use Rattle.comfy_table.specs.NewTables.{AreEquallyWide}
 use Rattle.comfy_table.specs.Straight.{EachCell}
 use Rattle.comfy_table.specs.TableValue.{TableValue}
 use Rattle.comfy_table.specs.Widths.{visible_count}
-use Rattle.csv_rows.specs.Cells.{drawn_text, row_for}
-use Rattle.csv_rows.specs.Columns.{chosen_columns, count_of}
+use Rattle.comfy_csv_parts.specs.Cells.{drawn_text, row_for}
+use Rattle.comfy_csv_parts.specs.Columns.{chosen_columns, count_of}
 use Rattle.comfy_csv.specs.Drawn.{IsOutputOf, limited, note_for, row_count, table_for}
-use Rattle.csv_rows.specs.declared.options.Look.{Look}
-use Rattle.csv_rows.specs.declared.options.Options.{Options}
-use Rattle.csv_rows.specs.declared.options.ShownColumn.{ShownColumn}
+use Rattle.comfy_csv_parts.specs.declared.options.Look.{Look}
+use Rattle.comfy_csv_parts.specs.declared.options.Options.{Options}
+use Rattle.comfy_csv_parts.specs.declared.options.ShownColumn.{ShownColumn}
 
 -- ---- rows
 

@@ -3,10 +3,10 @@ use Rattle.std.specs.Prelude.{◌≡◌, ℕ, Bool, true, false, [], Result, Ok,
 use Rattle.comfy_parts.specs.Text.{Text}
 use Rattle.comfy_run.specs.Outcome.{IsBeginningOnly, NoDeviceFailed, RunFacts}
 use Rattle.comfy_csv.specs.Drawn.{HasNoColumn, IsOutputFor}
-use Rattle.csv_rows.specs.Input.{IsFirstUnread}
-use Rattle.csv_rows.specs.declared.error.CsvError.{CsvError}
-use Rattle.csv_rows.specs.declared.error.CsvError.TheVariants.{Read, Write, NotUtf8, NoColumn, OutOfMemory}
-use Rattle.csv_rows.specs.declared.options.Options.{Options}
+use Rattle.comfy_csv_parts.specs.Input.{IsFirstUnread}
+use Rattle.comfy_csv_parts.specs.declared.error.CsvError.{CsvError}
+use Rattle.comfy_csv_parts.specs.declared.error.CsvError.TheVariants.{Read, Write, NotUtf8, NoColumn, OutOfMemory}
+use Rattle.comfy_csv_parts.specs.declared.options.Options.{Options}
 
 -- the result says that the source failed
 abbrev pub is_read_fault : {T : Type 0} → Result T CsvError → Bool

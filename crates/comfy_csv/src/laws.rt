@@ -3,11 +3,11 @@
 ghost use Rattle.std.specs.Prelude.{List, ℕ};
 ghost use Rattle.comfy_parts.specs.Text.{Text};
 ghost use Rattle.comfy_csv.specs.Laws.{FittingOutputIsStraight, IsFilling, IsWithin, OutputFillsWidth, OutputKeepsToWidth, PrintableFieldsStay, PrintableLinesHave, PrintableTableIsPlain, TableKeepsRows, WholeOutputIsStraight};
-ghost use Rattle.csv_rows.specs.declared.options.Look.{Look};
-ghost use Rattle.csv_rows.specs.declared.options.Options.{Options};
+ghost use Rattle.comfy_csv_parts.specs.declared.options.Look.{Look};
+ghost use Rattle.comfy_csv_parts.specs.declared.options.Options.{Options};
 ghost use Rattle.comfy_table.specs.TableValue.{TableValue};
 
-pub use csv_parts::laws::escaped_texts_are_read_back;
+pub use comfy_csv_parts::laws::escaped_texts_are_read_back;
 
 /// Picking columns loses no row. The table has a row for each record that is drawn, in order, with the fields of the same
 /// columns, and these are the chosen ones.

@@ -7,9 +7,9 @@ mod process;
 mod table;
 mod transfer;
 
-pub use csv_parts::{cleaned, escaped, is_number};
-pub use csv_rows::{
-    Asked, ColumnChoice, CsvError, Look, Options, ShownColumn, Surroundings, asked_of, records_of,
+pub use comfy_csv_parts::{
+    Asked, ColumnChoice, CsvError, Look, Options, ShownColumn, Surroundings, asked_of, cleaned,
+    escaped, is_number, records_of,
 };
 pub use process::run_with_arguments;
 pub use table::table_of;

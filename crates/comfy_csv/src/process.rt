@@ -3,8 +3,8 @@
 use crate::output::Output;
 use crate::transfer::draw;
 use clap::error::{Error, ErrorKind};
+use comfy_csv_parts::{Asked, CsvError, Surroundings, asked_of};
 use comfy_run::run::FromReader;
-use csv_rows::{Asked, CsvError, Surroundings, asked_of};
 use std::env::VarError;
 use std::fs::File;
 use std::io::IsTerminal;

@@ -2,14 +2,14 @@
 
 ghost use Rattle.std.specs.Prelude.{◌≡◌, IfOk, IfErr, OnOk, Ok, map};
 ghost use Rattle.csv.specs.Records.{fields_of};
-ghost use Rattle.csv_rows.specs.Cells.{row_for};
-ghost use Rattle.csv_rows.specs.Columns.{IsColumnRefusal};
+ghost use Rattle.comfy_csv_parts.specs.Cells.{row_for};
+ghost use Rattle.comfy_csv_parts.specs.Columns.{IsColumnRefusal};
 ghost use Rattle.comfy_csv.specs.Drawn.{arrangement_for, empty_table, limited, table_for, titled_table, untitled_table};
 ghost use Rattle.comfy_table.specs.TableValue.{with_rows};
 
+use comfy_csv_parts::{CsvError, Look, Options, ShownColumn, columns_of, header_of, row_of};
 use comfy_table::{ContentArrangement, Table};
 use csv::StringRecord;
-use csv_rows::{CsvError, Look, Options, ShownColumn, columns_of, header_of, row_of};
 use std::alloc::Global;
 
 /// The table of these records, with the columns, rows and looks that are wanted. `NoColumn` has the first name of a

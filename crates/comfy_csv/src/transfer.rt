@@ -2,17 +2,17 @@
 
 ghost use Rattle.std.specs.Prelude.{◌≡◌, ◌++◌, List, ℕ, true, false, Some, OnOk, IfOk, IfErr, map, string_bytes};
 ghost use Rattle.csv.specs.Records.{fields_of};
-ghost use Rattle.csv_rows.specs.Columns.{IsColumnRefusal};
+ghost use Rattle.comfy_csv_parts.specs.Columns.{IsColumnRefusal};
 ghost use Rattle.comfy_csv.specs.Drawn.{IsOutputFor, IsOutputOf, note_for, row_count, table_for};
 ghost use Rattle.comfy_csv.specs.Run.{IsAfter, IsReadFailure, IsRefusal, is_read_fault, is_write_fault};
-ghost use Rattle.csv_rows.specs.declared.error.CsvError.TheVariants.{Write};
+ghost use Rattle.comfy_csv_parts.specs.declared.error.CsvError.TheVariants.{Write};
 ghost use Rattle.comfy_run.specs.Outcome.{IsBeginningOnly};
 ghost use Rattle.comfy_run.specs.Run.{Between};
 
 use crate::table::table_of;
+use comfy_csv_parts::{CsvError, Options, records_of};
 use comfy_run::run::{Sink, Source};
 use csv::StringRecord;
-use csv_rows::{CsvError, Options, records_of};
 use std::alloc::{AllocError, Global};
 use std::fmt::Write;
 

@@ -13,7 +13,7 @@ use Rattle.comfy_parts.specs.declared.style.table_style.TableStyle.{TableStyle}
 use Rattle.comfy_run.proofs.StraightLemmas.{OfLine, base, base_width, built}
 use Rattle.comfy_run.specs.Counts.{EachLineHas, HasSettings, IsPlainInput, OutputFillsWidth, OutputKeepsToWidth, is_plain_byte}
 use Rattle.comfy_run.specs.Input.{input_table}
-use Rattle.run_parts.specs.Rows.{break_of, cells_of_line, row_of_line}
+use Rattle.comfy_run.specs.Rows.{break_of, cells_of_line, row_of_line}
 use Rattle.comfy_table.proofs.BuiltTableLemmas.{IsBuilt, IsNewColumn, columns_known, rows_known, unconstrained}
 use Rattle.comfy_table.proofs.ListLemmas.{All-at, All-every}
 use Rattle.comfy_table.specs.Drawing.{infos_of, terminated_text_of}

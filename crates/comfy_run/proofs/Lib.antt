@@ -1,4 +1,7 @@
+pub mod ArgumentLemmas
 pub mod CountLemmas
+pub mod DeviceLemmas
 pub mod ProgramLemmas
+pub mod RowLemmas
 pub mod RunLemmas
 pub mod StraightLemmas

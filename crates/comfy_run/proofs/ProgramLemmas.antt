@@ -4,9 +4,9 @@ use Rattle.comfy_parts.specs.Text.{Text}
 use Rattle.comfy_run.specs.Outcome.{RunFacts, IsBeginningOnly}
 use Rattle.comfy_run.specs.Program.{Reports}
 use Rattle.comfy_run.specs.Run.{IsAfter}
-use Rattle.run_parts.specs.declared.error.RunError.{RunError}
-use Rattle.run_parts.specs.declared.error.RunError.TheVariants.{Write}
-use Rattle.run_parts.specs.declared.settings.Settings.{Settings}
+use Rattle.comfy_run.specs.declared.error.RunError.{RunError}
+use Rattle.comfy_run.specs.declared.error.RunError.TheVariants.{Write}
+use Rattle.comfy_run.specs.declared.settings.Settings.{Settings}
 
 -- a written line is reported
 pub reported : {T : Type 0} (r : Result T RunError) (text : Text) (old new : Option Text) (failed : Bool) → OnOk r ((had : Text) → old ≡ Some had → new ≡ Some (had ++ text))

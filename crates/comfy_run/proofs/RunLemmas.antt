@@ -5,9 +5,9 @@ use Rattle.comfy_parts.specs.Text.{Text}
 use Rattle.comfy_run.specs.Input.{IsOutputFor}
 use Rattle.comfy_run.specs.Outcome.{IsBeginningOnly, NoDeviceFailed, RunFacts}
 use Rattle.comfy_run.specs.Run.{IsAfter, IsRefusal}
-use Rattle.run_parts.specs.declared.error.RunError.{RunError}
-use Rattle.run_parts.specs.declared.error.RunError.TheVariants.{Read, Write, NotUtf8, Table}
-use Rattle.run_parts.specs.declared.settings.Settings.{Settings}
+use Rattle.comfy_run.specs.declared.error.RunError.{RunError}
+use Rattle.comfy_run.specs.declared.error.RunError.TheVariants.{Read, Write, NotUtf8, Table}
+use Rattle.comfy_run.specs.declared.settings.Settings.{Settings}
 
 -- a writer that hadn't failed before
 pub still_sound : {T E : Type 0} (r : Result T E) (old new : Bool) → old ≡ false → OnOk r (old ≡ false → new ≡ false) → OnOk r (new ≡ false)

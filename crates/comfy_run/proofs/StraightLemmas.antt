@@ -8,7 +8,7 @@ use Rattle.comfy_parts.specs.Text.{Text, measure}
 use Rattle.comfy_parts.specs.declared.style.table.ContentArrangement.{ContentArrangement}
 use Rattle.comfy_parts.specs.declared.style.table_style.TableStyle.{TableStyle}
 use Rattle.comfy_run.specs.Input.{input_table, table_of_lines}
-use Rattle.run_parts.specs.Rows.{break_of, cells_of_line, row_of_line}
+use Rattle.comfy_run.specs.Rows.{break_of, cells_of_line, row_of_line}
 use Rattle.comfy_run.specs.Straight.{FittingOutputIsStraight, IsStraightOutput, WholeOutputIsStraight}
 use Rattle.comfy_table.proofs.BuiltTableLemmas.{IsBuilt, IsNewColumn, built-header, built-row, built_is_equally_wide, built_is_straight}
 use Rattle.comfy_table.proofs.FittingTableLemmas.{IsDefaultRow, built_of_fitting_is_straight}

@@ -6,7 +6,7 @@ use Rattle.comfy_parts.specs.declared.style.table.ContentArrangement.{ContentArr
 use Rattle.comfy_parts.specs.declared.style.table_style.TableStyle.{TableStyle}
 use Rattle.comfy_table.specs.Headline.{IsTerminatedTextOf}
 use Rattle.comfy_table.specs.TableValue.{TableValue, new_table, with_header, with_row}
-use Rattle.run_parts.specs.Rows.{row_of_line}
+use Rattle.comfy_run.specs.Rows.{row_of_line}
 
 -- the first line is the header, the others are rows
 abbrev pub table_of_lines : TableValue → List Text → TableValue

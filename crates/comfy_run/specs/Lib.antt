@@ -1,6 +1,12 @@
+pub mod Arguments
 pub mod Counts
+pub mod Device
+pub mod DeviceLaws
 pub mod Input
 pub mod Outcome
+pub mod Parts
 pub mod Program
+pub mod Rows
 pub mod Run
 pub mod Straight
+pub mod Stream

@@ -2,8 +2,8 @@
 use Rattle.std.specs.Prelude.{◌≡◌, ℕ, Bool, false, [], ◌++◌, Option, Some, Result, Ok, Err, codes}
 use Rattle.comfy_parts.specs.Text.{Text}
 use Rattle.comfy_parts.specs.declared.error.TableError.TheVariants.{OutOfMemory}
-use Rattle.run_parts.specs.declared.error.RunError.{RunError}
-use Rattle.run_parts.specs.declared.error.RunError.TheVariants.{Read, Write, NotUtf8, Table}
+use Rattle.comfy_run.specs.declared.error.RunError.{RunError}
+use Rattle.comfy_run.specs.declared.error.RunError.TheVariants.{Read, Write, NotUtf8, Table}
 
 -- the line on other words
 abbrev pub usage_line : Text

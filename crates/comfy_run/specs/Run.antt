@@ -2,9 +2,9 @@
 use Rattle.std.specs.Prelude.{◌≡◌, Bool, true, false, ◌++◌, Option, Some, Result, Ok, Err, IsUtf8}
 use Rattle.comfy_parts.specs.Text.{Text}
 use Rattle.comfy_run.specs.Outcome.{RunFacts, IsAfterOk, IsAfterRead, IsAfterWrite, IsAfterNotUtf8, IsAfterTable}
-use Rattle.run_parts.specs.declared.error.RunError.{RunError}
-use Rattle.run_parts.specs.declared.error.RunError.TheVariants.{Read, Write, NotUtf8, Table}
-use Rattle.run_parts.specs.declared.settings.Settings.{Settings}
+use Rattle.comfy_run.specs.declared.error.RunError.{RunError}
+use Rattle.comfy_run.specs.declared.error.RunError.TheVariants.{Read, Write, NotUtf8, Table}
+use Rattle.comfy_run.specs.declared.settings.Settings.{Settings}
 
 -- what the facts of a call are, by its result
 abbrev pub IsAfter : {T : Type 0} → Settings → Result T RunError → RunFacts → Type 0

@@ -7,7 +7,7 @@ use Rattle.comfy_parts.specs.Text.{Text, measure}
 use Rattle.comfy_parts.specs.declared.style.table.ContentArrangement.{ContentArrangement}
 use Rattle.comfy_parts.specs.declared.style.table_style.TableStyle.{TableStyle}
 use Rattle.comfy_run.specs.Input.{IsOutputFor, input_table}
-use Rattle.run_parts.specs.Rows.{cells_of_line}
+use Rattle.comfy_run.specs.Rows.{cells_of_line}
 use Rattle.comfy_table.specs.Arrangement.{IsArranged, width_kept}
 use Rattle.comfy_table.specs.Drawing.{terminated_text_of}
 use Rattle.comfy_table.specs.FittingTables.{CharactersFitColumn}

@@ -5,9 +5,11 @@ mod input;
 mod process;
 mod transfer;
 
+pub use crate::device::{DeviceFault, Sink, Source};
+pub use crate::error::RunError;
+pub use crate::memory::{MemorySink, MemorySource};
+pub use crate::settings::Settings;
+pub use crate::stream::{FromReader, ToWriter};
 pub use command::program;
 pub use process::run_with_arguments;
-pub use run_parts::{
-    DeviceFault, FromReader, MemorySink, MemorySource, RunError, Settings, Sink, Source, ToWriter,
-};
 pub use transfer::{drawing_of, run};

@@ -10,7 +10,7 @@ use std::vec;
 
 /// Values in order that come to an end, as `Table::add_rows` and `Table::set_constraints` take them: a `Vec`, an array, or
 /// the iterator that a `Vec` makes. For an iterator of your own, say in an `impl` which items it gives, as the crate
-/// `comfy_callers` does in `src/uses/items.rt`.
+/// `test_callers` does in `src/uses/items.rt`.
 ///
 /// ```
 /// let constraints = [ColumnConstraint::ContentWidth, ColumnConstraint::Hidden];

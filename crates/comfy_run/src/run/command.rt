@@ -1,14 +1,16 @@
 //! The program: what it does for the words after its name, and what it says.
 
 ghost use Rattle.std.specs.Prelude.{◌≡◌, None, Some, Result, false, true};
-ghost use Rattle.run_parts.specs.Arguments.{settings_for};
+ghost use Rattle.comfy_run.specs.Arguments.{settings_for};
 ghost use Rattle.comfy_run.specs.Program.{usage_line, error_line, status_of, report_of, Reports};
 ghost use Rattle.comfy_run.specs.Run.{Between, IsAfter};
-ghost use Rattle.run_parts.specs.declared.settings.Settings.{Settings};
+ghost use Rattle.comfy_run.specs.declared.settings.Settings.{Settings};
 
+use crate::arguments::settings_of;
+use crate::device::{Sink, Source};
+use crate::error::RunError;
 use crate::run::transfer::{run, write_all};
 use comfy_table::TableError;
-use run_parts::{RunError, Sink, Source, settings_of};
 use std::alloc::Global;
 
 const USAGE: &str = "usage: ctable [WIDTH|- [disabled|dynamic|full [STYLE]]]\n";

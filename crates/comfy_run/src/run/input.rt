@@ -4,8 +4,9 @@ ghost use Rattle.std.specs.Prelude.{◌≡◌, IfOk};
 ghost use Rattle.comfy_run.specs.Input.{input_table};
 ghost use Rattle.comfy_table.specs.TableValue.{new_table};
 
+use crate::rows::row_of;
+use crate::settings::Settings;
 use comfy_table::{Result, Table};
-use run_parts::{Settings, row_of};
 use std::alloc::Global;
 
 /// The table of a text, with the settings that are wanted. A carriage return before a line

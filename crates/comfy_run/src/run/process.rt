@@ -1,7 +1,8 @@
 //! The whole program, as a process runs it: its words, its standard streams and its status.
 
+use crate::error::RunError;
 use crate::run::command::program;
-use run_parts::{FromReader, RunError, ToWriter};
+use crate::stream::{FromReader, ToWriter};
 use std::alloc::AllocError;
 use std::io::ErrorKind;
 use std::process::ExitCode;

@@ -4,10 +4,12 @@ ghost use Rattle.std.specs.Prelude.{◌≡◌, ◌++◌, List, ℕ, true, false,
 ghost use Rattle.comfy_run.specs.Input.{IsOutputFor};
 ghost use Rattle.comfy_run.specs.Outcome.{IsBeginningOnly};
 ghost use Rattle.comfy_run.specs.Run.{Between, IsAfter, IsRefusal, is_read_fault, is_write_fault};
-ghost use Rattle.run_parts.specs.declared.error.RunError.TheVariants.{Write};
+ghost use Rattle.comfy_run.specs.declared.error.RunError.TheVariants.{Write};
 
+use crate::device::{Sink, Source};
+use crate::error::RunError;
 use crate::run::input::table_of;
-use run_parts::{RunError, Settings, Sink, Source};
+use crate::settings::Settings;
 use std::alloc::Global;
 
 // How many bytes are asked for at a time.

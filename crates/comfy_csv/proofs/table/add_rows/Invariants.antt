@@ -1,6 +1,6 @@
 use Rattle.std.proofs.Common.{◌≡◌, map, take}
 use Rattle.csv.specs.Records.{Row, fields_of}
-use Rattle.csv_rows.specs.Cells.{row_for}
+use Rattle.comfy_csv_parts.specs.Cells.{row_for}
 use Rattle.comfy_table.specs.TableValue.{with_rows}
 use Rattle.comfy_csv.proofs.table.add_rows.Given as goal
 

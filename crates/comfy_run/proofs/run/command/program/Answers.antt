@@ -1,7 +1,7 @@
 use Rattle.std.proofs.Common.{Result, Ok, Err, refl}
 use Rattle.comfy_run.proofs.ProgramLemmas.{after_same, nothing_reported, same_settings}
 use Rattle.comfy_run.specs.Outcome.{RunFacts}
-use Rattle.run_parts.specs.declared.error.RunError.{RunError}
+use Rattle.comfy_run.specs.declared.error.RunError.{RunError}
 use Rattle.comfy_run.proofs.run.command.program.Goals as goal
 
 pub returns-in-Ok-clause-ran : goal.returns-in-Ok-clause-ran

@@ -1,6 +1,6 @@
 use Rattle.std.proofs.Common.{◌≡◌, map, fold}
 use Rattle.comfy_parts.specs.Text.{Text}
-use Rattle.run_parts.specs.Rows.{row_of_line}
+use Rattle.comfy_run.specs.Rows.{row_of_line}
 use Rattle.comfy_table.specs.TableValue.{TableValue, with_row}
 use Rattle.comfy_run.proofs.run.input.table_of.Given as goal
 

@@ -1,5 +1,0 @@
-use Rattle.std.proofs.Common.{◌∙◌, sym, refl}
-use Rattle.comfy_callers.proofs.uses.texts.is_sure_to_fit.Goals as goal
-
-pub returns : goal.returns
-returns c is = ?

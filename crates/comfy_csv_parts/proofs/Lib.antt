@@ -1,0 +1,6 @@
+pub mod CleaningLemmas
+pub mod ColumnLemmas
+pub mod MarkdownLemmas
+pub mod ProgramLemmas
+pub mod RecordLemmas
+pub mod WordLemmas

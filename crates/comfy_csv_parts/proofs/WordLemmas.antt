@@ -1,0 +1,65 @@
+-- What `parse` and `clap` read of a word that is a number.
+use Rattle.std.proofs.Common.{◌≡◌, ℕ, List, ◌<◌, ◌^◌, Bool, true, false, Option, Some, None, Result, Ok, Err, refl, rules, tests, length}
+use Rattle.std.specs.Prelude.{◌&&◌, nat_lt, option_and_then, if◌then◌else◌}
+use Rattle.std.specs.Char.{is_ascii_digit}
+use Rattle.std.specs.List.{list_all}
+use Rattle.std.specs.Result.{OkIff, result_ok}
+use Rattle.std.specs.Str.Parse.{IsNumeral, ParsesUnsigned, digits_value, without_leading_plus}
+use Rattle.std.proofs.lemmas.Str.Parse.{IsNumeralModel, numerals_by_value, parse_digits}
+use Rattle.clap.specs.Words.{ReadsOne}
+use Rattle.comfy_parts.specs.Text.{Text}
+use Rattle.comfy_csv_parts.specs.Words.{is_numeral, number_for}
+
+digits : IsNumeralModel (λ word. list_all is_ascii_digit word ≡ true) (digits_value 10)
+digits = numerals_by_value _ (search rules)
+
+none_where : (b : Bool) (n : ℕ) → b ≡ false → None ≡ (if b then Some n else None)
+none_where false n h = refl
+none_where true n h = absurd (cc h)
+
+some_where : (b : Bool) (m n : ℕ) → b ≡ true → m ≡ n → Some m ≡ (if b then Some n else None)
+some_where true m n h e = cc
+some_where false m n h e = absurd (cc h)
+
+not_all : (a b c : Bool) → (a ≡ true → b ≡ true → c ≡ true → ⊥) → (a && b) && c ≡ false
+not_all false b c h = refl
+not_all true false c h = refl
+not_all true true false h = refl
+not_all true true true h = absurd (h refl refl refl)
+
+numeral_or_none : {E : Type 0} (bits : ℕ) (ds : Text) (r : Result ℕ E) → OkIff r (IsNumeral 10 ds × (digits_value 10 ds < 2 ^ bits)) (digits_value 10 ds) → result_ok r ≡ number_for bits ds
+numeral_or_none bits ds (Ok n) h =
+    let all = digits.from ds h.0.0.1 in
+    some_where (is_numeral bits ds) n (digits_value 10 ds) (search (rules, tests)) h.1
+numeral_or_none bits ds (Err e) h =
+    none_where (is_numeral bits ds) (digits_value 10 ds)
+    (not_all (list_all is_ascii_digit ds) (nat_lt 0 (length ds)) (nat_lt (digits_value 10 ds) (2 ^ bits)) (λ all some small. h ((search (rules, tests), digits.to ds all), search (rules, tests))))
+
+module _ (bits : ℕ) (word : Text) where
+  -- a text with other characters is no number
+  pub other : list_all is_ascii_digit word ≡ false → None ≡ number_for bits word
+  other h = none_where (is_numeral bits word) (digits_value 10 word) (search (rules, tests))
+
+  -- of digits, `parse` gives the number where it has so many bits
+  pub parsed : {E : Type 0} (r : Result ℕ E) → ParsesUnsigned bits 10 word r → list_all is_ascii_digit word ≡ true → result_ok r ≡ number_for bits word
+  parsed {E} (Ok n) h all =
+      let e = parse_digits digits {E = E} bits word (Ok n) h all in
+      some_where (is_numeral bits word) n (digits_value 10 word) (search (rules, tests)) e.1
+  parsed {E} (Err e) h all =
+      let none = parse_digits digits {E = E} bits word (Err e) h all in
+      none_where (is_numeral bits word) (digits_value 10 word) (search (rules, tests))
+
+  -- of any word, it gives the number after a plus
+  read : {E : Type 0} (r : Result ℕ E) → ParsesUnsigned bits 10 word r → result_ok r ≡ number_for bits (without_leading_plus word)
+  read r h = numeral_or_none bits (without_leading_plus word) r h
+
+-- what `get_one` gives of what clap found, at a type that reads words as `parse` reads numbers of so many bits
+module _ (bits : ℕ) (E : Type 0) (G : List ℕ → Result ℕ E → Type 0) (only : (word : List ℕ) (r : Result ℕ E) → G word r → ParsesUnsigned bits 10 word r) where
+  of_word : (word : List ℕ) (number : Option ℕ) → ReadsOne G word number → number ≡ number_for bits (without_leading_plus word)
+  of_word word (Some n) h = read bits word {E = E} (Ok n) (only word (Ok n) h)
+  of_word word None h = read bits word {E = E} (Err h.0) (only word (Err h.0) h.1)
+
+  pub of_found : (found : Option (List ℕ)) (number : Option ℕ) → (found ≡ None → number ≡ None) → ((word : List ℕ) → found ≡ Some word → ReadsOne G word number)
+      → number ≡ option_and_then (λ word. number_for bits (without_leading_plus word)) found
+  of_found None number none some = none refl
+  of_found (Some word) number none some = of_word word number (some word refl)

@@ -1,0 +1,7 @@
+use Rattle.std.proofs.Common.{◌≡◌, Ok, take}
+use Rattle.csv.specs.Records.{fields_of}
+use Rattle.comfy_csv_parts.specs.Columns.{positions_of}
+use Rattle.comfy_csv_parts.proofs.columns.positions_of.Given as goal
+
+abbrev pub invariant-loop-choice : goal.invariant-loop-choice
+invariant-loop-choice l = positions_of (fields_of l.names) l.count (take l.choice-index l.choices) ≡ Ok l.positions.items

@@ -1,0 +1,45 @@
+-- The cells and rows of records.
+use Rattle.std.specs.Prelude.{ℕ, Bool, false, List, [], ◌∷◌, ◌++◌, Option, chars, map, option_map, unwrap_or, max, if◌then◌else◌}
+use Rattle.std.specs.Str.{encode_utf8_all}
+use Rattle.comfy_parts.specs.CellValue.{CellValue, RowValue, plain_cell, plain_row}
+use Rattle.comfy_parts.specs.Text.{Text}
+use Rattle.comfy_parts.specs.declared.style.attribute.Attribute.TheVariants.{Bold}
+use Rattle.comfy_parts.specs.declared.style.cell.CellAlignment.{CellAlignment}
+use Rattle.csv.specs.Records.{field_at}
+use Rattle.comfy_csv_parts.specs.Cleaning.{cleaned}
+use Rattle.comfy_csv_parts.specs.Markdown.{escaped}
+use Rattle.comfy_csv_parts.specs.declared.options.Look.{Look}
+use Rattle.comfy_csv_parts.specs.declared.options.ShownColumn.{ShownColumn}
+
+-- a field of a record, empty where it is missing
+abbrev pub field_or_blank : List Text → ℕ → Text
+field_or_blank fields position = unwrap_or (field_at fields position) []
+
+-- a text for a Markdown table where one is wanted
+abbrev pub marked : Bool → Text → Text
+marked is_markdown text = if is_markdown then encode_utf8_all (escaped (chars text)) else text
+
+-- a field as its cell has it: cleaned unless it is left raw, and escaped where Markdown is wanted
+abbrev pub drawn_text : Look → Text → Text
+drawn_text look field = marked look.is_markdown (if look.is_raw then field else cleaned look.has_sequences field)
+
+-- the cell of a field, with this alignment
+abbrev pub cell_for : Look → Option CellAlignment → Text → CellValue
+cell_for look alignment field = record (plain_cell (drawn_text look field)) { alignment = alignment }
+
+-- a cell, in bold or as it is
+abbrev pub with_weight : Bool → CellValue → CellValue
+with_weight is_bold cell = if is_bold then record cell { attributes = cell.attributes ++ Bold ∷ [] } else cell
+
+-- a cell for each column
+abbrev pub cells_for : Look → Bool → List ShownColumn → List Text → RowValue
+cells_for look is_bold columns fields =
+    plain_row (map (λ (column : ShownColumn). with_weight is_bold (cell_for look column.alignment (field_or_blank fields column.position))) columns)
+
+-- the header's row
+abbrev pub header_for : Look → List ShownColumn → List Text → RowValue
+header_for look columns fields = cells_for look look.has_bold_header columns fields
+
+-- a record's row, cut at the greatest height
+abbrev pub row_for : Look → List ShownColumn → List Text → RowValue
+row_for look columns fields = record (cells_for look false columns fields) { max_height = option_map (max 1) look.max_height }

@@ -1,0 +1,9 @@
+pub mod Cells
+pub mod Cleaning
+pub mod Columns
+pub mod Input
+pub mod Markdown
+pub mod Number
+pub mod Program
+pub mod Rules
+pub mod Words

@@ -1,0 +1,103 @@
+//! The cells and rows of records.
+
+ghost use Rattle.std.specs.Prelude.{◌≡◌, IfOk, string_bytes};
+ghost use Rattle.csv.specs.Records.{fields_of};
+ghost use Rattle.comfy_csv_parts.specs.Cells.{cell_for, cells_for, drawn_text, header_for, row_for, with_weight};
+
+use crate::cleaning::cleaned;
+use crate::markdown::escaped;
+use crate::options::{Look, ShownColumn};
+use comfy_parts::style::{Attribute, CellAlignment};
+use comfy_parts::{Cell, Cells, IntoRow, Result, Row};
+use csv::StringRecord;
+use std::alloc::Global;
+
+/// The row of a record: a cell for each column, blank where the record has no such field.
+pub fn row_of(
+    alloc: Global,
+    fields: &StringRecord,
+    columns: &[ShownColumn],
+    look: &Look,
+) -> Result<Row>
+    ensures { IfOk result (λ row. row ≡ row_for look.now columns.now (fields_of fields.now)) }
+{
+    let mut row = cells_of(alloc, fields, columns, look, false)?;
+    if let Some(lines) = look.max_height {
+        row.max_height(lines);
+    }
+    Ok(row)
+}
+
+/// The row of the header.
+pub fn header_of(
+    alloc: Global,
+    fields: &StringRecord,
+    columns: &[ShownColumn],
+    look: &Look,
+) -> Result<Row>
+    ensures { IfOk result (λ row. row ≡ header_for look.now columns.now (fields_of fields.now)) }
+{
+    cells_of(alloc, fields, columns, look, look.has_bold_header)
+}
+
+// The row of a record, with bold cells or without.
+fn cells_of(
+    alloc: Global,
+    fields: &StringRecord,
+    columns: &[ShownColumn],
+    look: &Look,
+    is_bold: bool,
+) -> Result<Row>
+    ensures { IfOk result (λ row. row ≡ cells_for look.now is_bold columns.now (fields_of fields.now)) }
+{
+    let mut row = Cells(Vec::with_capacity(alloc, columns.len())?).into_row(alloc)?;
+    for column in columns {
+        let field = fields.get(column.position).unwrap_or("");
+        row.try_add_cell(cell_of(alloc, field, column.alignment, look, is_bold)?)?;
+    }
+    Ok(row)
+}
+
+// The cell of a field, in bold or not.
+fn cell_of(
+    alloc: Global,
+    field: &str,
+    alignment: Option<CellAlignment>,
+    look: &Look,
+    is_bold: bool,
+) -> Result<Cell>
+    ensures { IfOk result (λ cell. cell ≡ with_weight is_bold (cell_for look.now alignment field.now)) }
+{
+    let cell = Cell::new_owned(alloc, drawn_text(alloc, field, look)?)?;
+    match alignment {
+        Some(alignment) => with_weight(cell.set_alignment(alignment), is_bold),
+        None => with_weight(cell, is_bold),
+    }
+}
+
+// A cell in bold, or as it is.
+fn with_weight(cell: Cell, is_bold: bool) -> Result<Cell>
+    ensures { IfOk result (λ c. c ≡ with_weight is_bold cell) }
+{
+    if is_bold {
+        cell.add_attribute(Attribute::Bold)
+    } else {
+        Ok(cell)
+    }
+}
+
+// A field as its cell has it.
+fn drawn_text(alloc: Global, field: &str, look: &Look) -> Result<String>
+    ensures { IfOk result (λ text. string_bytes text ≡ drawn_text look.now field.now) }
+{
+    let text = if look.is_raw {
+        String::from_str(alloc, field)?
+    } else {
+        cleaned(alloc, field, look.has_sequences)?
+    };
+    if look.is_markdown {
+        Ok(escaped(alloc, text.as_str())?)
+    } else {
+        Ok(text)
+    }
+}

@@ -1,0 +1,25 @@
+//! What drawing CSV needs that stands on no table: rules for a field, from an input's bytes to records, from records to
+//! rows, and the words that say how.
+#![tactic(auto)]
+
+mod arguments;
+mod cells;
+mod cleaning;
+mod columns;
+mod error;
+pub mod laws;
+mod markdown;
+mod number;
+mod options;
+mod records;
+mod words;
+
+pub use arguments::{Asked, Surroundings, asked_of};
+pub use cells::{header_of, row_of};
+pub use cleaning::cleaned;
+pub use columns::columns_of;
+pub use error::CsvError;
+pub use markdown::escaped;
+pub use number::is_number;
+pub use options::{ColumnChoice, Look, Options, ShownColumn};
+pub use records::records_of;

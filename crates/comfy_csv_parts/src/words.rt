@@ -1,0 +1,218 @@
+//! The words of the program, as a table for clap.
+
+ghost use Rattle.std.specs.Prelude.{◌≡◌, IfOk, Some};
+ghost use Rattle.clap.specs.Words.{app_of, rule_of};
+ghost use Rattle.clap.specs.declared.builder.action.ArgAction.TheVariants.{SetTrue};
+ghost use Rattle.comfy_csv_parts.specs.Program.{IsCsvtable, bare};
+ghost use Rattle.comfy_csv_parts.specs.Rules.{lettered, rule_for, with_values};
+
+use clap::{Arg, ArgAction, Command, value_parser};
+use std::alloc::{AllocError, Global};
+
+// A word that the program knows.
+#[derive(Clone, Copy)]
+struct Word {
+    name: &'static str,
+    letter: Option<char>,
+    kind: Kind,
+    // what help calls its value
+    value: &'static str,
+    help: &'static str,
+}
+
+#[derive(Clone, Copy)]
+enum Kind {
+    // a value without a name before it
+    File,
+    // a name without a value
+    Flag,
+    // a name without a value, and no style beside it
+    Markdown,
+    Text,
+    Width,
+    Count,
+    Style,
+    Color,
+}
+
+static WORDS: [Word; 15] = [
+    Word {
+        name: "file",
+        letter: None,
+        kind: Kind::File,
+        value: "FILE",
+        help: "The file to read; standard input where it is missing or `-`",
+    },
+    Word {
+        name: "delimiter",
+        letter: Some('d'),
+        kind: Kind::Text,
+        value: "CHAR",
+        help: "What stands between fields; a comma without it, `tab` for TAB",
+    },
+    Word {
+        name: "no-header",
+        letter: Some('n'),
+        kind: Kind::Flag,
+        value: "",
+        help: "The first record is a row, not the header",
+    },
+    Word {
+        name: "limit",
+        letter: None,
+        kind: Kind::Count,
+        value: "N",
+        help: "Draw the first N records, and say below how many there are",
+    },
+    Word {
+        name: "columns",
+        letter: Some('c'),
+        kind: Kind::Text,
+        value: "LIST",
+        help: "Draw these columns, by name or number and in this order, as `name,3-5`",
+    },
+    Word {
+        name: "right",
+        letter: Some('r'),
+        kind: Kind::Text,
+        value: "LIST",
+        help: "Columns at the right, beside those that hold numbers alone",
+    },
+    Word {
+        name: "left",
+        letter: None,
+        kind: Kind::Text,
+        value: "LIST",
+        help: "Columns at the left, numbers or not",
+    },
+    Word {
+        name: "width",
+        letter: Some('w'),
+        kind: Kind::Width,
+        value: "N",
+        help: "The width to keep to; COLUMNS without it, where standard output is a terminal",
+    },
+    Word {
+        name: "full",
+        letter: None,
+        kind: Kind::Flag,
+        value: "",
+        help: "Fill the width",
+    },
+    Word {
+        name: "style",
+        letter: Some('s'),
+        kind: Kind::Style,
+        value: "NAME",
+        help: "A preset; UTF8_FULL with rounded corners without it",
+    },
+    Word {
+        name: "max-height",
+        letter: Some('m'),
+        kind: Kind::Count,
+        value: "N",
+        help: "How many lines a row has at most",
+    },
+    Word {
+        name: "markdown",
+        letter: None,
+        kind: Kind::Markdown,
+        value: "",
+        help: "Draw a table for Markdown",
+    },
+    Word {
+        name: "color",
+        letter: None,
+        kind: Kind::Color,
+        value: "WHEN",
+        help: "The header in bold; `auto` is in a terminal, unless NO_COLOR is set",
+    },
+    Word {
+        name: "ansi",
+        letter: None,
+        kind: Kind::Flag,
+        value: "",
+        help: "SGR sequences in fields count no columns",
+    },
+    Word {
+        name: "raw",
+        letter: None,
+        kind: Kind::Flag,
+        value: "",
+        help: "Leave TABs and control characters in fields as they are",
+    },
+];
+
+// The names of the presets, as `by_name` knows them.
+static STYLES: [&str; 13] = [
+    "ASCII_FULL",
+    "ASCII_FULL_CONDENSED",
+    "ASCII_NO_BORDERS",
+    "ASCII_BORDERS_ONLY",
+    "ASCII_BORDERS_ONLY_CONDENSED",
+    "ASCII_HORIZONTAL_ONLY",
+    "ASCII_MARKDOWN",
+    "UTF8_FULL",
+    "UTF8_FULL_CONDENSED",
+    "UTF8_NO_BORDERS",
+    "UTF8_BORDERS_ONLY",
+    "UTF8_HORIZONTAL_ONLY",
+    "NOTHING",
+];
+
+static COLORS: [&str; 3] = ["auto", "always", "never"];
+
+// The words of `csvtable`, for clap.
+pub(crate) fn command<'a>(alloc: Global) -> Result<Command<'a>, AllocError>
+    ensures { IfOk result (λ command. IsCsvtable (app_of command)) }
+{
+    let mut command = Command::new(alloc, "csvtable")
+        .version("1.0.0")
+        .about("Draws the records of a CSV file as a table");
+    for word in &WORDS {
+        command = command.arg(arg_of(alloc, word)?)?;
+    }
+    Ok(command)
+}
+
+// A word for clap.
+fn arg_of<'a>(alloc: Global, word: &Word) -> Result<Arg<'a>, AllocError>
+    ensures { IfOk result (λ arg. bare (rule_of arg) ≡ bare (rule_for word.now)) }
+{
+    let arg = with_letter(Arg::new(alloc, word.name).help(word.help), word.letter);
+    match word.kind {
+        Kind::File => Ok(arg.value_name(word.value)),
+        Kind::Flag => Ok(flag(arg, word.name)),
+        Kind::Markdown => flag(arg, word.name).conflicts_with("style"),
+        kind => Ok(with_value(arg.long(word.name).value_name(word.value), kind)),
+    }
+}
+
+fn with_letter<'a>(arg: Arg<'a>, letter: Option<char>) -> Arg<'a>
+    ensures { rule_of result ≡ lettered letter (rule_of arg.entry) }
+{
+    match letter {
+        Some(letter) => arg.short(letter),
+        None => arg,
+    }
+}
+
+// A word without a value.
+fn flag<'a>(arg: Arg<'a>, name: &'a str) -> Arg<'a>
+    ensures { rule_of result ≡ record (rule_of arg.entry) { long = Some name.entry.now; action = Some SetTrue } }
+{
+    arg.long(name).action(ArgAction::SetTrue)
+}
+
+// A word with a value of its kind.
+fn with_value<'a>(arg: Arg<'a>, kind: Kind) -> Arg<'a>
+    ensures { bare (rule_of result) ≡ with_values kind (bare (rule_of arg.entry)) }
+{
+    match kind {
+        Kind::Width => arg.value_parser(value_parser!(u16)),
+        Kind::Count => arg.value_parser(value_parser!(usize)),
+        Kind::Style => arg.value_parser(STYLES.as_slice()),
+        Kind::Color => arg.value_parser(COLORS.as_slice()).default_value("auto"),
+        _ => arg,
+    }
+}

@@ -1,0 +1,84 @@
+-- What a call of a source over memory does, in the words that every source has.
+use Rattle.std.proofs.Common.{zero, suc, ◌≡◌, ◌<◌, ◌≤◌, ℕ, Bool, true, false, ◌||◌, ◌&&◌, nat_lt, ◌==◌, [], ◌∷◌, ◌++◌, Option, Some, None, is_none, Result, Ok, Err, is_err, IfOk, OnOk, OnErr, unwrap_or, refl, sym, ap, ◌∙◌, length, take, drop, min, arith}
+use Rattle.std.proofs.lemmas.Bool.Decides.{nat_tests}
+use Rattle.std.proofs.lemmas.Grind.{common_steps}
+use Rattle.std.proofs.lemmas.List.{length-take-le}
+use Rattle.std.proofs.Math.Seq.{take-append_seam}
+use Rattle.comfy_parts.specs.Text.{Text}
+use Rattle.comfy_run.specs.Device.{MemorySourceValue, left_in, rest_after, after_reading, is_due, is_end}
+
+-- the front of a buffer that was filled from a text
+pub front : (count : ℕ) (text behind : Text) → count ≤ length text → take count (take count text ++ behind) ≡ take count text
+front count text behind fits =
+    let len : length (take count text) ≡ count = length-take-le count text fits in
+    ap (λ n. take n (take count text ++ behind)) (sym len) ∙ take-append_seam (take count text) behind
+
+-- what is left after a call
+pub left-after : (rest : Option Text) (room : ℕ) → unwrap_or (rest_after rest room) [] ≡ drop (min (length (unwrap_or rest [])) room) (unwrap_or rest [])
+left-after None room = grind (arith, common_steps)
+left-after (Some []) zero = grind (arith, common_steps)
+left-after (Some []) (suc room) = grind (arith, common_steps)
+left-after (Some (x ∷ xs)) room = grind (arith, nat_tests)
+
+-- the end is read by a call that gives nothing where there is room
+pub end-after : (rest : Option Text) (room count : ℕ) → count ≡ min (length (unwrap_or rest [])) room → is_none (rest_after rest room) ≡ (is_none rest || ((count == 0) && nat_lt 0 room))
+end-after None room count e = refl
+end-after (Some []) room count e = grind (arith, nat_tests)
+end-after (Some (x ∷ xs)) room count e = grind (arith, nat_tests)
+
+fresh : (b c : Bool) → (b || c) ≡ false → b ≡ false
+fresh false c e = refl
+fresh true c e = absurd (cc)
+
+or-false : (b : Bool) → b ≡ (b || false)
+or-false false = refl
+or-false true = refl
+
+empty : (text : Text) → length text ≡ 0 → text ≡ []
+empty [] e = refl
+empty (x ∷ xs) e = absurd (omega arith)
+
+-- the clauses of a call of a source over memory: what it returns, and what it leaves
+pub record IsMemoryRead {E : Type 0} (old new : MemorySourceValue) (was now : Text) (r : Result ℕ E) : Type 0 where
+  pub fails : is_err r ≡ is_due old.failed old.fails_at
+  pub failed : OnErr r (new ≡ record old { failed = true })
+  pub count : IfOk r (λ n. n ≡ min (length (left_in old)) (length was))
+  pub given : IfOk r (λ n. now ≡ take n (left_in old) ++ drop n was)
+  pub after : OnOk r (new ≡ after_reading (length was) old)
+
+module _ {E : Type 0} (old new : MemorySourceValue) (was now : Text) where
+  pub within : (r : Result ℕ E) → IsMemoryRead old new was now r → IfOk r (λ n. n ≤ length was)
+  within (Ok n) h = omega (arith, h.count)
+  within (Err e) h = tt
+
+  pub fault : (r : Result ℕ E) → IsMemoryRead old new was now r → new.failed ≡ is_err r
+  fault (Ok n) h = ap (λ (s : MemorySourceValue). s.failed) h.after ∙ fresh old.failed _ (sym h.fails)
+  fault (Err e) h = ap (λ (s : MemorySourceValue). s.failed) h.failed
+
+  pub stays_failed : (r : Result ℕ E) → IsMemoryRead old new was now r → old.failed ≡ true → new.failed ≡ true
+  stays_failed (Ok n) h had = ap (λ (s : MemorySourceValue). s.failed) h.after ∙ had
+  stays_failed (Err e) h had = ap (λ (s : MemorySourceValue). s.failed) h.failed
+
+  pub bytes : (r : Result ℕ E) → IsMemoryRead old new was now r → IfOk r (λ n. (left : Text) → Some (left_in old) ≡ Some left → (take n now ≡ take n left) × (Some (left_in new) ≡ Some (drop n left)))
+  bytes (Ok n) h =
+      let fits : n ≤ length (left_in old) = omega (arith, h.count) in
+      λ left is.
+      let same : left_in old ≡ left = cc in (
+        ap (take n) h.given ∙ front n (left_in old) (drop n was) fits ∙ ap (take n) same,
+        ap Some (ap left_in h.after ∙ left-after old.rest (length was) ∙ ap (λ k. drop k (left_in old)) (sym h.count) ∙ ap (drop n) same),
+      )
+  bytes (Err e) h = tt
+
+  pub end : (r : Result ℕ E) → IsMemoryRead old new was now r → IfOk r (λ n. n ≡ 0 → 0 < length was → (left : Text) → Some (left_in old) ≡ Some left → left ≡ [])
+  end (Ok n) h = λ none room left is. let same : left_in old ≡ left = cc in sym same ∙ empty (left_in old) (omega (arith, h.count))
+  end (Err e) h = tt
+
+  pub end_read : (r : Result ℕ E) → IsMemoryRead old new was now r → is_none new.rest ≡ (is_none old.rest || is_end r (length was))
+  end_read (Ok n) h =
+      ap (λ (s : MemorySourceValue). is_none s.rest) h.after ∙ end-after old.rest (length was) n h.count
+  end_read (Err e) h = ap (λ (s : MemorySourceValue). is_none s.rest) h.failed ∙ or-false (is_none old.rest)
+
+-- a call that gave some bytes didn't read the end
+pub not-ended : (b : Bool) (count room : ℕ) → (count ≡ 0 → ⊥) → (b || ((count == 0) && nat_lt 0 room)) ≡ b
+not-ended true count room some = refl
+not-ended false count room some = grind (arith, nat_tests)

@@ -1,0 +1,45 @@
+-- What the words after the program's name ask for.
+use Rattle.std.specs.Prelude.{ℕ, Bool, ◌&&◌, nat_le, nat_lt, List, [], ◌∷◌, length, Option, Some, None, option_map, codes, bytes_eq, if◌then◌else◌}
+use Rattle.std.specs.Char.{is_ascii_digit}
+use Rattle.std.specs.List.{list_all}
+use Rattle.std.specs.Str.Parse.{digits_value}
+use Rattle.std.specs.Borrow.{Bor}
+use Rattle.comfy_parts.specs.Presets.{ascii_full, beside, preset_named}
+use Rattle.comfy_parts.specs.Text.{Text}
+use Rattle.comfy_parts.specs.declared.style.table.ContentArrangement.{ContentArrangement}
+use Rattle.comfy_parts.specs.declared.style.table.ContentArrangement.TheVariants.{Disabled, Dynamic, DynamicFullWidth}
+use Rattle.comfy_parts.specs.declared.style.table_style.TableStyle.{TableStyle}
+use Rattle.comfy_run.specs.declared.settings.Settings.{Settings}
+
+-- the settings of the program without arguments: no width, contents alone decide, and the first preset
+abbrev pub plain_settings : Settings
+plain_settings = record { width = None; arrangement = Disabled; style = ascii_full }
+
+-- one to five digits, of a number that is at most 65535
+abbrev pub is_number : Text → Bool
+is_number word = list_all is_ascii_digit word && nat_lt 0 (length word) && nat_le (length word) 5 && nat_le (digits_value 10 word) 65535
+
+-- such a number
+abbrev pub number_for : Text → Option ℕ
+number_for word = if is_number word then Some (digits_value 10 word) else None
+
+-- a width, which is none for a hyphen
+abbrev pub width_for : Text → Option (Option ℕ)
+width_for word = if bytes_eq word (codes "-") then Some None else option_map Some (number_for word)
+
+-- the arrangements by their words
+abbrev pub arrangement_for : Text → Option ContentArrangement
+arrangement_for = beside ((codes "disabled", Disabled) ∷ (codes "dynamic", Dynamic) ∷ (codes "full", DynamicFullWidth) ∷ [])
+
+-- the settings of these parts, where each of them is known
+abbrev pub settings_with : Option (Option ℕ) → Option ContentArrangement → Option TableStyle → Option Settings
+settings_with (Some width) (Some arrangement) (Some style) = Some (record { width = width; arrangement = arrangement; style = style })
+settings_with _ _ _ = None
+
+-- the settings that the words ask for: a width, an arrangement and a style, of which the last ones may be missing
+abbrev pub settings_for : List (Bor Text) → Option Settings
+settings_for [] = Some plain_settings
+settings_for (width ∷ []) = settings_with (width_for width.now) (Some Disabled) (Some ascii_full)
+settings_for (width ∷ arrangement ∷ []) = settings_with (width_for width.now) (arrangement_for arrangement.now) (Some ascii_full)
+settings_for (width ∷ arrangement ∷ style ∷ []) = settings_with (width_for width.now) (arrangement_for arrangement.now) (preset_named style.now)
+settings_for _ = None

@@ -1,0 +1,42 @@
+//! Why a run stopped.
+
+ghost use Rattle.std.specs.Prelude.{◌≡◌};
+ghost use Rattle.comfy_parts.specs.declared.error.TableError.TheVariants.{OutOfMemory};
+ghost use Rattle.comfy_run.specs.declared.error.RunError.TheVariants.{Table};
+
+use comfy_parts::TableError;
+use std::alloc::AllocError;
+use thiserror::Error;
+
+/// Why a run stopped.
+#[derive(Clone, Copy, Debug, PartialEq, Eq, Error)]
+pub enum RunError {
+    /// The source failed during the call.
+    #[error("the input can't be read")]
+    Read,
+    /// The sink failed during the call.
+    #[error("the output can't be written")]
+    Write,
+    /// The input isn't UTF-8.
+    #[error("the input isn't UTF-8")]
+    NotUtf8,
+    /// The table couldn't be built or drawn.
+    #[error("{0}")]
+    Table(TableError),
+}
+
+impl From<TableError> for RunError {
+    ghost from_gives = { λ x e. e ≡ Table x };
+
+    fn from(error: TableError) -> RunError {
+        RunError::Table(error)
+    }
+}
+
+impl From<AllocError> for RunError {
+    ghost from_gives = { λ _ e. e ≡ Table OutOfMemory };
+
+    fn from(_error: AllocError) -> RunError {
+        RunError::Table(TableError::OutOfMemory)
+    }
+}

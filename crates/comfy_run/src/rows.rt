@@ -1,0 +1,109 @@
+//! The row of a line: its cells stand between TABs.
+
+ghost use Rattle.std.specs.Prelude.{◌≡◌, IfOk, false, map, nat_lt, string_bytes, take, if◌then◌else◌};
+ghost use Rattle.std.specs.List.{list_any};
+ghost use Rattle.comfy_parts.specs.CellValue.{plain_cell};
+ghost use Rattle.comfy_run.specs.Rows.{break_of, row_of_line};
+ghost use Rattle.comfy_run.specs.Parts.{IsClearFront, IsFirstPart};
+
+use comfy_parts::{Cell, Cells, IntoRow, Result, Row};
+use std::alloc::Global;
+
+// What stands for a line feed inside a cell.
+const BREAK: char = '\u{b}';
+
+// How many bytes are looked at together.
+const BLOCK: usize = 16;
+
+/// The row of a line, whose cells stand between TABs; U+000B inside a cell is a line break. Its list has room for `count`
+/// cells at first, so that lines with as many cells as the one before take no more memory than they need.
+pub fn row_of(alloc: Global, line: &str, count: usize) -> Result<Row>
+    ensures { IfOk result (λ row. row ≡ row_of_line line.now) }
+{
+    let mut row = Cells(Vec::with_capacity(alloc, count)?).into_row(alloc)?;
+    let mut rest = line;
+    loop {
+        let (len, has_breaks) = first_part(rest.as_bytes());
+        let (part, others) = rest.split_at(len);
+        row.try_add_cell(cell_of(alloc, part, has_breaks)?)?;
+        if others.is_empty() {
+            return Ok(row);
+        }
+        let (_tab, next) = others.split_at(1);
+        rest = next;
+    }
+}
+
+// How many bytes stand before the first TAB, and whether there may be breaks among them.
+fn first_part(bytes: &[u8]) -> (usize, bool)
+    ensures part { IsFirstPart bytes.now result.0 }
+    ensures breaks { result.1 ≡ false → map break_of (take result.0 bytes.now) ≡ take result.0 bytes.now }
+{
+    let clear = clear_run(bytes);
+    let mut len = clear;
+    while len < bytes.len() && bytes[len] != b'\t' {
+        len += 1;
+    }
+    (len, len > clear)
+}
+
+// How many bytes at the front are no control characters.
+fn clear_run(bytes: &[u8]) -> usize
+    ensures { IsClearFront bytes.now result }
+{
+    let mut run = clear_blocks(bytes);
+    while run < bytes.len() && bytes[run] >= 0x20 {
+        run += 1;
+    }
+    run
+}
+
+// How many bytes at the front stand in whole blocks without a control character. The bytes of a block are looked at without
+// a test between them, which is faster in long texts.
+fn clear_blocks(bytes: &[u8]) -> usize
+    ensures { IsClearFront bytes.now result }
+{
+    let mut run = 0;
+    while bytes.len() - run >= BLOCK && !has_control(&bytes[run..run + BLOCK]) {
+        run += BLOCK;
+    }
+    run
+}
+
+fn has_control(bytes: &[u8]) -> bool
+    ensures { result ≡ list_any (λ b. nat_lt b 0x20) bytes.now }
+{
+    let mut found = false;
+    for byte in bytes {
+        found |= *byte < 0x20;
+    }
+    found
+}
+
+// The cell of what stands between TABs, with its breaks as line feeds where it may have any.
+fn cell_of(alloc: Global, part: &str, has_breaks: bool) -> Result<Cell>
+    ensures { IfOk result (λ cell. cell ≡ plain_cell (if has_breaks then map break_of part.now else part.now)) }
+{
+    let text = if has_breaks {
+        with_line_feeds(alloc, part)?
+    } else {
+        String::from_str(alloc, part)?
+    };
+    Cell::new_owned(alloc, text)
+}
+
+// What stands between TABs, with its breaks as line feeds.
+fn with_line_feeds(alloc: Global, part: &str) -> Result<String>
+    ensures { IfOk result (λ text. string_bytes text ≡ map break_of part.now) }
+{
+    let mut text = String::new(alloc);
+    let mut is_first = true;
+    for piece in part.split(BREAK) {
+        if !is_first {
+            text.push('\n')?;
+        }
+        text.push_str(piece)?;
+        is_first = false;
+    }
+    Ok(text)
+}

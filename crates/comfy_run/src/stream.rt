@@ -1,0 +1,111 @@
+//! Devices over readers and writers, which keep whether those have failed.
+
+ghost use Rattle.std.specs.Prelude.{◌≡◌, false};
+ghost use Rattle.comfy_run.specs.Stream.{left_before, none_is_left};
+
+use crate::device::{DeviceFault, Sink, Source};
+use std::io::{Read, Write};
+use std::marker::Model;
+
+/// A source over a reader. Every error of the reader is a failure.
+#[derive(Drop)]
+pub struct FromReader<R> {
+    reader: R,
+    failed: bool,
+    ended: bool,
+}
+
+impl<R> Model for FromReader<R> {
+    ghost use Rattle.comfy_run.specs.Stream.{ReaderValue};
+
+    ghost Value = { ReaderValue R };
+
+    ghost view = { λ s. record { reader = s.reader; failed = s.failed; ended = s.ended } };
+}
+
+impl<R: Read> FromReader<R> {
+    /// A source of the bytes that the reader gives from here on. It takes no memory.
+    pub fn new(reader: R) -> FromReader<R>
+        ensures { result ≡ record { reader = reader; failed = false; ended = false } }
+    {
+        FromReader {
+            reader,
+            failed: false,
+            ended: false,
+        }
+    }
+}
+
+impl<R: Read> Source for FromReader<R> {
+    ghost remaining = { λ s. left_before s.ended (R.remaining s.reader) };
+
+    ghost has_failed = { λ s. s.failed };
+
+    ghost end_was_read = { λ s. s.ended };
+
+    ghost ended = { λ s. none_is_left s.ended (R.remaining s.reader) };
+
+    fn read(&mut self, buffer: &mut [u8]) -> Result<usize, DeviceFault> {
+        if self.failed {
+            return Err(DeviceFault);
+        }
+        if self.ended {
+            return Ok(0);
+        }
+        let Ok(count) = self.reader.read(buffer) else {
+            self.failed = true;
+            return Err(DeviceFault);
+        };
+        if count == 0 && !buffer.is_empty() {
+            self.ended = true;
+        }
+        Ok(count)
+    }
+}
+
+/// A sink over a writer. Every error of the writer is a failure, and so is a piece that isn't empty
+/// of which it takes nothing.
+#[derive(Drop)]
+pub struct ToWriter<W> {
+    writer: W,
+    failed: bool,
+}
+
+impl<W> Model for ToWriter<W> {
+    ghost use Rattle.comfy_run.specs.Stream.{WriterValue};
+
+    ghost Value = { WriterValue W };
+
+    ghost view = { λ s. record { writer = s.writer; failed = s.failed } };
+}
+
+impl<W: Write> ToWriter<W> {
+    /// A sink to the writer. It takes no memory.
+    pub fn new(writer: W) -> ToWriter<W>
+        ensures { result ≡ record { writer = writer; failed = false } }
+    {
+        ToWriter {
+            writer,
+            failed: false,
+        }
+    }
+}
+
+impl<W: Write> Sink for ToWriter<W> {
+    ghost taken = { λ s. W.contents s.writer };
+
+    ghost has_failed = { λ s. s.failed };
+
+    fn write(&mut self, piece: &[u8]) -> Result<usize, DeviceFault> {
+        if self.failed {
+            return Err(DeviceFault);
+        }
+        match self.writer.write(piece) {
+            Ok(count) if count > 0 || piece.is_empty() => Ok(count),
+            _ => {
+                self.failed = true;
+                Err(DeviceFault)
+            }
+        }
+    }
+}

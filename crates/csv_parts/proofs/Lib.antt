@@ -1,2 +1,0 @@
-pub mod CleaningLemmas
-pub mod MarkdownLemmas

@@ -1,6 +1,0 @@
-use Rattle.std.proofs.Common.{◌≡◌, ℕ, fold, map}
-use Rattle.csv_parts.specs.Cleaning.{after_character, start}
-use Rattle.csv_parts.proofs.cleaning.cleaned.Given as goal
-
-abbrev pub invariant-loop-c : goal.invariant-loop-c
-invariant-loop-c l = l.cleaner ≡ fold (after_character l.keeps_escape) start (map (λ (c : ℕ). c) l.yielded)

@@ -1,3 +1,0 @@
-pub mod Cleaning
-pub mod Markdown
-pub mod Number

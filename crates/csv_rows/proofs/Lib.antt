@@ -1,4 +1,0 @@
-pub mod ColumnLemmas
-pub mod ProgramLemmas
-pub mod RecordLemmas
-pub mod WordLemmas

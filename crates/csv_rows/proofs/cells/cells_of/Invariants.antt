@@ -1,7 +1,0 @@
-use Rattle.std.proofs.Common.{◌≡◌, take}
-use Rattle.csv.specs.Records.{fields_of}
-use Rattle.csv_rows.specs.Cells.{cells_for}
-use Rattle.csv_rows.proofs.cells.cells_of.Given as goal
-
-abbrev pub invariant-loop-column : goal.invariant-loop-column
-invariant-loop-column l = l.row ≡ cells_for l.look l.is_bold (take l.column-index l.columns) (fields_of l.fields)

@@ -1,9 +1,0 @@
-//! Draws the records of a CSV file as a table.
-#![tactic(auto)]
-
-use comfy_csv::run_with_arguments;
-use std::process::ExitCode;
-
-fn main(rt: HostRuntime) -> ExitCode {
-    run_with_arguments(&rt)
-}

@@ -1,9 +1,0 @@
-//! `ctable` with a word that it doesn't know.
-#![tactic(auto)]
-
-use comfy_run::run::run_with_arguments;
-use std::process::ExitCode;
-
-fn main(rt: HostRuntime) -> ExitCode {
-    run_with_arguments(&rt)
-}

@@ -1,3 +1,0 @@
-pub mod ArgumentLemmas
-pub mod DeviceLemmas
-pub mod RowLemmas

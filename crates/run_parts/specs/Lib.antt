@@ -1,6 +1,0 @@
-pub mod Arguments
-pub mod Device
-pub mod DeviceLaws
-pub mod Parts
-pub mod Rows
-pub mod Stream

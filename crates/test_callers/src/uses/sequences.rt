@@ -1,0 +1,92 @@
+//! Callers that draw and look at cells whose texts hold sequences.
+
+ghost use Rattle.std.specs.Prelude.{◌==◌, ◌≡◌, ◌<◌, All, IfOk, Some, length, map, not, slice_get, string_bytes, true};
+ghost use Rattle.std.specs.List.{list_any, slice_split};
+ghost use Rattle.comfy_parts.specs.Text.{measure};
+ghost use Rattle.comfy_parts.specs.VisibleLines.{line_texts};
+ghost use Rattle.comfy_parts.specs.VisibleText.{closed, has_escape, visible_text};
+ghost use Rattle.comfy_table.specs.Laws.{CutLinesAreClosed, IsFreeOfEscapes, LeavesNoneOpen, LinesAreResumedInRow, NoneIsOpenAtTheEnd};
+ghost use Rattle.test_callers.specs.Uses.{IsDrawnWithCells, IsPlainDrawing};
+
+use comfy_parts::content_split::leaves_sequence_open;
+use comfy_parts::for_tables::{has_escape, visible_lines, visible_widths, written_lines};
+use comfy_table::laws::{lines_are_found_in_their_texts, new_tables_leave_no_sequence_open};
+use comfy_table::utils::formatting::content_split::ColumnDisplayInfo;
+use comfy_table::{Cell, Lines, Result, Row, Table};
+use std::alloc::Global;
+
+/// Draws a table with the sequences inside its cells. No text that is written for a line of a cell leaves one open. The
+/// lines that aren't cut resume those of the cell, and the others are closed. Where nothing else holds ESC, the drawing
+/// without its sequences is that without styling.
+pub fn drawn_with_sequences(table: &mut Table) -> Result<Lines>
+    ensures set { table.new ≡ record table.old { custom_styling = true } }
+    ensures closed { IfOk result (IsDrawnWithCells (NoneIsOpenAtTheEnd table.new) table.new) }
+    ensures resumed { IfOk result (IsDrawnWithCells (LinesAreResumedInRow table.new) table.new) }
+    ensures cut { IfOk result (IsDrawnWithCells (CutLinesAreClosed table.new) table.new) }
+    ensures seen { IfOk result (λ lines. IsFreeOfEscapes table.new → IsPlainDrawing table.new (map visible_text lines)) }
+{
+    table.custom_styling();
+    table.lines()
+}
+
+/// A header and a row with sequences inside their cells, as a program prints them. Cut at its line feeds the text has no
+/// line that leaves a sequence open.
+pub fn printed_closed(alloc: Global, header: Row, row: Row) -> Result<String>
+    ensures { IfOk result (λ text. All LeavesNoneOpen (slice_split (λ b. b == 10) (string_bytes text))) }
+{
+    new_tables_leave_no_sequence_open();
+    lines_are_found_in_their_texts();
+    let mut table = Table::new(alloc);
+    table.custom_styling().set_header(header)?.add_row(row)?;
+    table.to_terminated_text()
+}
+
+/// Has the sequences inside the cells of a table count nothing, and says whether they did already.
+pub fn turned_on(table: &mut Table) -> bool
+    ensures was { result ≡ table.old.custom_styling }
+    ensures on { table.new ≡ record table.old { custom_styling = true } }
+{
+    let was = table.has_custom_styling();
+    table.custom_styling();
+    was
+}
+
+/// A text, and a reset after it where it leaves a sequence open.
+pub fn closed_text(alloc: Global, text: &str) -> Result<String>
+    ensures { IfOk result (λ whole. string_bytes whole ≡ closed text.now) }
+{
+    let mut whole = String::from_str(alloc, text)?;
+    if leaves_sequence_open(text) {
+        whole.push_str("\u{1b}[0m")?;
+    }
+    Ok(whole)
+}
+
+/// The terminal columns that are seen of the first text line of a cell.
+pub fn first_seen_width(cell: &Cell) -> Option<usize>
+    ensures { result ≡ slice_get (map measure (map visible_text cell.now.text_lines)) 0 }
+{
+    visible_widths(cell).first().copied()
+}
+
+/// What is seen of a text line of a cell, copied.
+pub fn seen_text(alloc: Global, cell: &Cell, position: usize) -> Result<String>
+    requires { position < length cell.now.text_lines }
+    ensures { IfOk result (λ text. slice_get (map visible_text cell.now.text_lines) position ≡ Some (string_bytes text)) }
+{
+    Ok(String::from_str(alloc, visible_lines(cell)[position].as_str())?)
+}
+
+/// Whether no ESC stands in a cell, so that it is written as it is.
+pub fn is_written_as_it_is(cell: &Cell) -> bool
+    ensures { result ≡ not (list_any has_escape cell.now.text_lines) }
+{
+    !has_escape(cell)
+}
+
+/// How many lines are written for a cell in a column of its own delimiter.
+pub fn written_height(cell: &Cell, info: &ColumnDisplayInfo) -> Result<usize>
+    ensures { IfOk result (λ height. height ≡ length (line_texts info.now.content_width 44 cell.now.text_lines)) }
+{
+    Ok(written_lines(cell, info, ',')?.len())
+}

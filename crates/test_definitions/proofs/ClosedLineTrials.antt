@@ -1,0 +1,110 @@
+-- Lines that leave a sequence open and lines that don't, and the lines of a cell that aren't cut, computed.
+use Rattle.std.proofs.Common.{◌≡◌, ◌≤◌, ◌⊎◌, ℕ, arith, lit≤, inl, inr, true, false, List, [], ◌∷◌, Some, None, refl, sym, ap, ◌==◌, length}
+use Rattle.std.specs.List.{All}
+use Rattle.std.specs.Prelude.{codes}
+use Rattle.std.proofs.lemmas.List.Elements.{All-cons, All-head, All-nil}
+use Rattle.comfy_parts.proofs.CallerLemmas.{true_is_false}
+use Rattle.comfy_parts.proofs.Computing.{wrapping}
+use Rattle.comfy_parts.specs.CellValue.{CellValue, ColumnInfo, ColumnValue, RowValue, new_column, plain_cell, plain_row}
+use Rattle.comfy_parts.specs.Presets.{ascii_full, nothing}
+use Rattle.comfy_parts.specs.Text.{Text}
+use Rattle.comfy_parts.specs.VisibleText.{open_after, parts}
+use Rattle.comfy_table.specs.Drawing.{drawing}
+use Rattle.comfy_table.specs.Laws.{HasNoEscape, HasSequencesInTextsAlone, LeavesNoneOpen, uncut_in_row}
+use Rattle.comfy_table.specs.TableValue.{TableValue, column_cells, new_table, visible_cell}
+use Rattle.test_definitions.proofs.TrialTables.{rows_of, utf8, with_paddings}
+
+-- ---- lines
+
+bold_is_open : open_after (parts (codes "| \u{1b}[1mab |")) ≡ codes "\u{1b}[1m" ∷ []
+bold_is_open = refl
+
+-- so such a line leaves one open
+bold_stays_open : ¬ (LeavesNoneOpen (codes "| \u{1b}[1mab |"))
+bold_stays_open none = true_is_false (sym (ap (λ (ss : List Text). length ss == 0) none))
+
+bold_is_closed : LeavesNoneOpen (codes "| \u{1b}[1mab\u{1b}[0m |")
+bold_is_closed = refl
+
+-- half a sequence opens nothing
+half_is_none : LeavesNoneOpen (codes "| \u{1b}[1 |")
+half_is_none = refl
+
+-- a cell's own attributes end with a reset
+attribute_is_closed : LeavesNoneOpen (codes "|\u{1b}[1m x \u{1b}[0m|")
+attribute_is_closed = refl
+
+-- its colours alone end with another sequence, which is one more that is open
+colour_stays_open : open_after (parts (codes "|\u{1b}[38;5;10m x \u{1b}[39m|")) ≡ codes "\u{1b}[38;5;10m" ∷ codes "\u{1b}[39m" ∷ []
+colour_stays_open = refl
+
+-- ---- halves of a sequence in two cells
+
+abbrev halves : TableValue
+halves = record (rows_of nothing (("\u{1b}[1" ∷ "m" ∷ []) ∷ [])) { custom_styling = true }
+
+abbrev joined_halves : TableValue
+joined_halves = with_paddings ((0, 0) ∷ (0, 0) ∷ []) halves
+
+-- apart by paddings they stay halves
+halves_apart : drawing halves (3 ∷ 1 ∷ []) ≡ codes " \u{1b}[1  m " ∷ []
+unfolding wrapping
+halves_apart = refl
+
+-- side by side they are one, which stays open
+halves_join : drawing joined_halves (3 ∷ 1 ∷ []) ≡ codes "\u{1b}[1m" ∷ []
+unfolding wrapping
+halves_join = refl
+
+joined_stays_open : ¬ (LeavesNoneOpen (codes "\u{1b}[1m"))
+joined_stays_open none = true_is_false (sym (ap (λ (ss : List Text). length ss == 0) none))
+
+-- the paddings are what the first has and the second hasn't
+abbrev EndsInTexts : TableValue → ℕ × ColumnValue → Type 0
+EndsInTexts table p = (1 ≤ p.1.padding.1) ⊎ All (λ (cell : CellValue). All HasNoEscape cell.text_lines) (column_cells table p.0)
+
+halves_end_in_texts : HasSequencesInTextsAlone halves
+halves_end_in_texts =
+    record { styling = inl refl; style = record { indicator = refl; characters = refl }; ends = All-cons (EndsInTexts halves) (0, new_column 0) ((1, new_column 1) ∷ []) (inl (lit≤ {n = 1} (tt {0}))) (All-cons (EndsInTexts halves) (1, new_column 1) [] (inl (lit≤ {n = 1} (tt {0}))) (All-nil (EndsInTexts halves))) }
+
+joined_halves_do_not : ¬ (HasSequencesInTextsAlone joined_halves)
+unfolding wrapping
+joined_halves_do_not alone =
+    by_case (All-head (EndsInTexts joined_halves) (0, record (new_column 0) { padding = (0, 0) }) ((1, record (new_column 1) { padding = (0, 0) }) ∷ []) alone.ends)
+  where
+    by_case : (1 ≤ 0) ⊎ All (λ (cell : CellValue). All HasNoEscape cell.text_lines) (visible_cell (plain_cell (utf8 "\u{1b}[1")) ∷ []) → ⊥
+    by_case (inl some) = absurd (omega (arith, some))
+    by_case (inr clear) =
+        true_is_false (All-head HasNoEscape (codes "\u{1b}[1") [] (All-head (λ (cell : CellValue). All HasNoEscape cell.text_lines) (visible_cell (plain_cell (utf8 "\u{1b}[1"))) [] clear))
+
+-- ---- lines that aren't cut
+
+abbrev narrow : ColumnInfo
+narrow = record { padding = (1, 1); delimiter = None; alignment = None; content_width = 2; is_hidden = false }
+
+-- a cell of three lines
+abbrev three_lines : RowValue
+three_lines = plain_row (plain_cell (codes "ab cd ef") ∷ [])
+
+all_three_uncut : uncut_in_row (new_table ascii_full) three_lines narrow (plain_cell (codes "ab cd ef")) ≡ 3
+unfolding wrapping
+all_three_uncut = refl
+
+as_high_as_the_row : uncut_in_row (new_table ascii_full) (record three_lines { max_height = Some 3 }) narrow (plain_cell (codes "ab cd ef")) ≡ 3
+unfolding wrapping
+as_high_as_the_row = refl
+
+-- the last line that a row keeps is the one that is cut
+one_before_the_cut : uncut_in_row (new_table ascii_full) (record three_lines { max_height = Some 2 }) narrow (plain_cell (codes "ab cd ef")) ≡ 1
+unfolding wrapping
+one_before_the_cut = refl
+
+-- with custom styling sequences take no columns
+sequences_cut_nothing : uncut_in_row (record (new_table ascii_full) { custom_styling = true }) (record three_lines { max_height = Some 1 }) narrow (plain_cell (codes "\u{1b}[1mab\u{1b}[0m")) ≡ 1
+unfolding wrapping
+sequences_cut_nothing = refl
+
+-- without it they do
+sequences_are_cut : uncut_in_row (new_table ascii_full) (record three_lines { max_height = Some 1 }) narrow (plain_cell (codes "\u{1b}[1mab\u{1b}[0m")) ≡ 0
+unfolding wrapping
+sequences_are_cut = refl
