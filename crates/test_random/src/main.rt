@@ -1,6 +1,7 @@
 //! Draws random tables of awkward texts, and looks at each drawing from outside. With each of them it draws another one of
-//! many scripts, whose edges have to be straight. Standard input holds `SEED COUNT`: the same seed gives the same tables.
-//! Each fault is printed with the number of its table. Status 1 where there is one.
+//! many scripts, whose edges have to be straight where its characters fit their columns. How many others are crooked is
+//! printed too: it is no fault. Standard input holds `SEED COUNT`: the same seed gives the same tables. Each fault is printed
+//! with the number of its table. Status 1 where there is one.
 #![tactic(auto)]
 
 mod check;
@@ -25,35 +26,55 @@ use std::process::ExitCode;
 // what is said where the input is something else
 const WANTED: &str = "SEED COUNT is wanted";
 
+// how many tables have a fault, and how many of which nothing is promised aren't straight
+#[derive(Clone, Copy)]
+struct Counts {
+    faults: u64,
+    crooked: u64,
+}
+
 fn main(rt: HostRuntime) -> anyhow::Result<ExitCode> {
     let (seed, count) = asked_for(&rt)?;
-    let faults = count_faults(&rt, Pcg32::seed_from_u64(seed), count)?;
-    println!(rt; "{count} tables, {faults} faults")?;
-    if faults == 0 {
+    let counts = look_at(&rt, Pcg32::seed_from_u64(seed), count)?;
+    println!(rt; "{} crooked tables without the premise", counts.crooked)?;
+    println!(rt; "{count} tables, {} faults", counts.faults)?;
+    if counts.faults == 0 {
         Ok(ExitCode::SUCCESS)
     } else {
         Ok(ExitCode::FAILURE)
     }
 }
 
-// how many of so many tables have a fault; each is printed
-fn count_faults(rt: &HostRuntime, rng: Pcg32, count: u64) -> anyhow::Result<u64> {
+// what is counted in so many tables; each fault is printed
+fn look_at(rt: &HostRuntime, rng: Pcg32, count: u64) -> anyhow::Result<Counts> {
     let mut rng = rng;
-    let mut faults: u64 = 0;
+    let mut counts = Counts {
+        faults: 0,
+        crooked: 0,
+    };
     for number in 0..count {
-        if let Some(fault) = next_fault(rt.alloc(), &mut rng)? {
+        let (fault, is_crooked) = next_found(rt.alloc(), &mut rng)?;
+        if let Some(fault) = fault {
             println!(rt; "table {number}: {fault}")?;
-            faults = faults.saturating_add(1);
         }
+        counts = counted(counts, fault.is_some(), is_crooked);
     }
-    Ok(faults)
+    Ok(counts)
 }
 
-// what is wrong with the next sample, or else with the next table of many scripts
-fn next_fault(alloc: Global, rng: &mut Pcg32) -> Result<Option<&'static str>> {
+fn counted(counts: Counts, has_fault: bool, is_crooked: bool) -> Counts {
+    Counts {
+        faults: counts.faults.saturating_add(u64::from(has_fault)),
+        crooked: counts.crooked.saturating_add(u64::from(is_crooked)),
+    }
+}
+
+// what is wrong with the next sample, or else with the next table of many scripts, and whether that one is crooked where
+// nothing is promised
+fn next_found(alloc: Global, rng: &mut Pcg32) -> Result<(Option<&'static str>, bool)> {
     let of_sample = fault_of_sample(alloc, rng)?;
-    let of_scripts = straight::fault_of(alloc, rng)?;
-    Ok(of_sample.or(of_scripts))
+    let edges = straight::next_edges(alloc, rng)?;
+    Ok((of_sample.or(edges.fault), edges.are_crooked))
 }
 
 fn fault_of_sample(alloc: Global, rng: &mut Pcg32) -> Result<Option<&'static str>> {

@@ -1,34 +1,45 @@
-//! Random tables whose edges have to be straight in terminal columns, whatever their script.
+//! Random tables of many scripts, whose edges have to be straight in terminal columns wherever that is promised.
 
+mod promise;
 mod random;
 
 use crate::check::keeps_to_width;
 use crate::settings::arrangement;
 use crate::texts::{once_in, one_of};
-use comfy_table::utils::arrangement::arrange_content;
 use comfy_table::{Result, Table};
+use promise::characters_fit_columns;
 use rand::RngExt;
 use rand_pcg::Pcg32;
-use random::{row, seen_width, set_columns, style, words};
+use random::{is_cut, row, seen_width, set_columns, style, words};
 use std::alloc::Global;
 
 const WIDTHS: [u16; 6] = [10, 18, 25, 37, 60, 200];
 
-/// What is wrong with the drawing of a random table, if anything is. It is as wide as its texts, which may be any, or its
-/// words fit their columns or consist of characters that join no other.
-pub fn fault_of(alloc: Global, rng: &mut Pcg32) -> Result<Option<&'static str>> {
-    let mut table = Table::new(alloc);
-    fault_in(alloc, rng, &mut table)
+/// What was found of the edges of a table.
+#[derive(Clone, Copy)]
+pub struct Edges {
+    /// What is wrong with them, if anything is.
+    pub fault: Option<&'static str>,
+    /// Whether they aren't straight in a table of which nothing is promised.
+    pub are_crooked: bool,
 }
 
-fn fault_in(alloc: Global, rng: &mut Pcg32, table: &mut Table) -> Result<Option<&'static str>> {
+/// What is found of the edges of the next random table. They are promised to be straight where it is as wide as its texts,
+/// which may be any, and where each character fits its column.
+pub fn next_edges(alloc: Global, rng: &mut Pcg32) -> Result<Edges> {
+    let mut table = Table::new(alloc);
+    edges_in(alloc, rng, &mut table)
+}
+
+fn edges_in(alloc: Global, rng: &mut Pcg32, table: &mut Table) -> Result<Edges> {
     let is_shown_whole = once_in(rng, 2);
     fill(alloc, rng, table, is_shown_whole)?;
-    if is_shown_whole || !has_narrow_column(table)? {
-        fault_of_lines(alloc, table)
-    } else {
-        Ok(None)
-    }
+    let fault = fault_of_lines(alloc, table)?;
+    let is_promised = is_shown_whole || characters_fit_columns(alloc, table)?;
+    Ok(Edges {
+        fault: fault.filter(|_| is_promised),
+        are_crooked: !is_promised && fault.is_some(),
+    })
 }
 
 fn fault_of_lines(alloc: Global, table: &Table) -> Result<Option<&'static str>> {
@@ -51,21 +62,13 @@ fn fault_of_widths(table: &Table, first: Option<usize>, are_alike: bool) -> Opti
     }
 }
 
-// whether a visible column is too narrow for a wide character
-fn has_narrow_column(table: &Table) -> Result<bool> {
-    let mut is_narrow = false;
-    for info in &arrange_content(table)? {
-        is_narrow |= info.content_width < 2 && !info.is_hidden();
-    }
-    Ok(is_narrow)
-}
-
 fn fill(alloc: Global, rng: &mut Pcg32, table: &mut Table, is_shown_whole: bool) -> Result<()> {
     let words = words(rng, is_shown_whole);
     table.load_style(style(rng));
     table.try_set_header(row(alloc, rng, words, false)?)?;
     for _ in 0..rng.random_range(0u32..4) {
-        table.try_add_row(row(alloc, rng, words, !words.are_joined)?)?;
+        let is_cut = is_cut(rng, is_shown_whole);
+        table.try_add_row(row(alloc, rng, words, is_cut)?)?;
     }
     let has_lines_between = table.style().draws_vertical_lines();
     set_columns(
@@ -81,12 +84,21 @@ fn fill(alloc: Global, rng: &mut Pcg32, table: &mut Table, is_shown_whole: bool)
 fn set_settings(rng: &mut Pcg32, table: &mut Table, is_shown_whole: bool, has_sequences: bool) {
     table.set_content_arrangement(arrangement(rng));
     if !is_shown_whole {
-        table.set_width(one_of(rng, &WIDTHS, 200));
+        table.set_width(width(rng));
     }
     if once_in(rng, 2) {
         table.enforce_styling();
     }
     if has_sequences {
         table.custom_styling();
+    }
+}
+
+// a width of a table, often a narrow one
+fn width(rng: &mut Pcg32) -> u16 {
+    if once_in(rng, 2) {
+        rng.random_range(1u16..21)
+    } else {
+        one_of(rng, &WIDTHS, 200)
     }
 }

@@ -1,4 +1,4 @@
-//! Random rows, columns and styles of tables whose edges have to be straight in terminal columns, whatever their script.
+//! Random rows, columns and styles of tables of many scripts.
 
 use crate::scripts::{Words, text};
 use crate::settings::alignment;
@@ -47,14 +47,19 @@ pub fn seen_width(alloc: Global, line: &str) -> Result<usize> {
     Ok(measure_text_width(seen.as_str()))
 }
 
-/// Which words a table has; characters that join others are in no table whose rows are cut.
+/// Which words a table has: all where it is as wide as its texts, and else often narrow ones, for narrow columns.
 pub fn words(rng: &mut Pcg32, is_shown_whole: bool) -> Words {
     let have_sequences = once_in(rng, 3);
     Words {
-        are_joined: is_shown_whole || !once_in(rng, 3),
-        are_wild: is_shown_whole,
+        are_narrow: !is_shown_whole && once_in(rng, 3),
+        are_wild: is_shown_whole || once_in(rng, 2),
         have_sequences,
     }
+}
+
+/// Whether the next row is to be cut, which none is in a table that is as wide as its texts.
+pub fn is_cut(rng: &mut Pcg32, is_shown_whole: bool) -> bool {
+    !is_shown_whole && once_in(rng, 2)
 }
 
 /// A preset, now and then with modifiers.
