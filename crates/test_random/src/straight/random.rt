@@ -3,33 +3,13 @@
 use crate::scripts::{Words, text};
 use crate::settings::alignment;
 use crate::texts::{once_in, one_of};
-use comfy_table::style::presets::{
-    ASCII_BORDERS_ONLY, ASCII_BORDERS_ONLY_CONDENSED, ASCII_FULL, ASCII_FULL_CONDENSED,
-    ASCII_HORIZONTAL_ONLY, ASCII_MARKDOWN, ASCII_NO_BORDERS, NOTHING, UTF8_BORDERS_ONLY, UTF8_FULL,
-    UTF8_FULL_CONDENSED, UTF8_HORIZONTAL_ONLY, UTF8_NO_BORDERS,
-};
+use comfy_table::style::presets::{ALL, UTF8_FULL};
 use comfy_table::style::{Color, ColumnConstraint, TableStyle, Width};
 use comfy_table::utils::formatting::content_split::{measure_text_width, visible_text};
 use comfy_table::{Cell, Column, Result, Row};
 use rand::RngExt;
 use rand_pcg::Pcg32;
 use std::alloc::Global;
-
-const STYLES: [TableStyle; 13] = [
-    ASCII_FULL,
-    ASCII_FULL_CONDENSED,
-    ASCII_NO_BORDERS,
-    ASCII_BORDERS_ONLY,
-    ASCII_BORDERS_ONLY_CONDENSED,
-    ASCII_HORIZONTAL_ONLY,
-    ASCII_MARKDOWN,
-    UTF8_FULL,
-    UTF8_FULL_CONDENSED,
-    UTF8_NO_BORDERS,
-    UTF8_BORDERS_ONLY,
-    UTF8_HORIZONTAL_ONLY,
-    NOTHING,
-];
 
 // the first leaves columns apart where no line stands between them, as the second does; the last leaves them together
 const PADDINGS: [(u16, u16); 4] = [(1, 0), (0, 2), (1, 1), (0, 0)];
@@ -64,7 +44,7 @@ pub fn is_cut(rng: &mut Pcg32, is_shown_whole: bool) -> bool {
 
 /// A preset, now and then with modifiers.
 pub fn style(rng: &mut Pcg32) -> TableStyle {
-    let mut style = one_of(rng, &STYLES, UTF8_FULL);
+    let (_, mut style) = one_of(rng, &ALL, ("UTF8_FULL", UTF8_FULL));
     if once_in(rng, 3) {
         style = style.with_rounded_corners();
     }
