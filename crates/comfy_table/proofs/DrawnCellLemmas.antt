@@ -5,7 +5,9 @@ use Rattle.std.specs.Prelude.{option_map}
 use Rattle.comfy_parts.specs.CellValue.{CellValue, RowValue, ColumnInfo}
 use Rattle.comfy_parts.specs.Text.{greatest}
 use Rattle.comfy_table.proofs.JoinLemmas.{map-map}
-use Rattle.comfy_table.specs.DrawnCells.{DrawnLine, drawn_cell, drawn_line, greatest_height, piece_at, pieces_of_content}
+use Rattle.comfy_table.specs.DrawnCells.{DrawnCell, drawn_cell, greatest_height, piece_at, pieces_of_content}
+use Rattle.comfy_table.specs.DrawnLines.{DrawnLine, drawn_line}
+use Rattle.comfy_table.specs.Gaps.{RowGapsValue, gap_line, row_between}
 use Rattle.comfy_table.specs.Pieces.{pieces_of_optional, row_cell_lines, row_lines, visible_infos}
 use Rattle.comfy_table.specs.TableValue.{TableValue}
 
@@ -24,7 +26,14 @@ content_pieces table row info o cell lines found are =
     ∙ ap (pieces_of_optional table row info) (sym found)
 
 -- the lines of a row, cell by cell
-pub drawn_lines : (table : TableValue) (infos : List ColumnInfo) (row : RowValue)
-    → map (λ k. map (piece_at k) (map (drawn_cell table row) (visible_infos infos))) (range_with_len 0 (greatest_height (map (drawn_cell table row) (visible_infos infos)))) ≡ row_lines table infos row
-drawn_lines table infos row =
-    λ i. map (λ k. map-map (piece_at k) (drawn_cell table row) (visible_infos infos) i) (range_with_len 0 (greatest (map-map (λ drawn. length drawn.pieces) (drawn_cell table row) (visible_infos infos) i)))
+pub drawn_lines : (table : TableValue) (infos : List ColumnInfo) (row : RowValue) (cells : List DrawnCell) → cells ≡ map (drawn_cell table row) (visible_infos infos)
+    → map (λ k. map (piece_at k) cells) (range_with_len 0 (greatest_height cells)) ≡ row_lines table infos row
+drawn_lines table infos row cells are =
+    ap (λ (cells : List DrawnCell). map (λ k. map (piece_at k) cells) (range_with_len 0 (greatest_height cells))) are
+    ∙ (λ i. map (λ k. map-map (piece_at k) (drawn_cell table row) (visible_infos infos) i) (range_with_len 0 (greatest (map-map (λ drawn. length drawn.pieces) (drawn_cell table row) (visible_infos infos) i))))
+
+-- and between gaps
+pub drawn_between : (gaps : RowGapsValue) (table : TableValue) (infos : List ColumnInfo) (row : RowValue) (cells : List DrawnCell) → cells ≡ map (drawn_cell table row) (visible_infos infos)
+    → map (λ k. gap_line gaps (map (piece_at k) cells)) (range_with_len 0 (greatest_height cells)) ≡ row_between gaps table infos row
+drawn_between gaps table infos row cells are =
+    sym (map-map (gap_line gaps) (λ k. map (piece_at k) cells) (range_with_len 0 (greatest_height cells))) ∙ ap (map (gap_line gaps)) (drawn_lines table infos row cells are)

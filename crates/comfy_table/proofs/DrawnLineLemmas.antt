@@ -1,6 +1,7 @@
 -- The lines of a cell as they are drawn.
-use Rattle.std.proofs.Common.{Some, zero, suc, ◌≡◌, ◌<◌, ◌≤◌, ℕ, ◌-◌, Bool, true, false, List, [], ◌∷◌, ◌++◌, ◌&&◌, length, map, take, unwrap_or, nat_le, refl, ap, ◌∙◌, sym, slice_index_or, arith}
-use Rattle.std.specs.List.{AllByRecursion, flat_map, list_all, list_any, slice_get}
+use Rattle.std.proofs.Common.{Option, Some, None, ◌≡◌, ◌<◌, ◌≤◌, ℕ, ◌-◌, Bool, true, false, List, [], ◌∷◌, ◌++◌, ◌&&◌, length, map, take, unwrap_or, nat_le, refl, ap, ◌∙◌, sym, slice_index_or, arith}
+use Rattle.std.specs.List.{AllByRecursion, list_any}
+use Rattle.std.specs.Prelude.{IfSome}
 use Rattle.std.proofs.lemmas.Bool.Decides.{nat_tests}
 use Rattle.std.proofs.lemmas.List.{drop_more, get_or-map, length-map, map-append, take-map}
 use Rattle.comfy_parts.proofs.CallerLemmas.{IsAsSeen, clear_written}
@@ -8,19 +9,13 @@ use Rattle.comfy_parts.specs.CellValue.{CellValue, ColumnInfo, RowValue}
 use Rattle.comfy_parts.specs.Text.{Text, measure}
 use Rattle.comfy_parts.specs.VisibleLines.{CellLine, line_texts}
 use Rattle.comfy_parts.specs.VisibleText.{has_escape}
-use Rattle.comfy_parts.specs.Wrapping.{lines_of_text}
 use Rattle.comfy_table.proofs.CutLemmas.{no_limit, seen_of, whole-seen}
 use Rattle.comfy_table.proofs.JoinLemmas.{map-map}
 use Rattle.comfy_table.proofs.SeenLemmas.{cell_seen}
-use Rattle.comfy_table.specs.DrawnCells.{DrawnLine, drawn_line, drawn_text, with_texts}
-use Rattle.comfy_table.specs.Lines.{as_seen, cell_delimiter, cell_lines, cut_line, whole_lines}
+use Rattle.comfy_table.specs.DrawnLines.{DrawnLine, drawn_line, drawn_text, with_texts}
+use Rattle.comfy_table.specs.Lines.{as_seen, cell_delimiter, cell_lines, cut_line, cut_to_limit, whole_lines}
 use Rattle.comfy_table.specs.Pieces.{row_cell_lines}
 use Rattle.comfy_table.specs.TableValue.{TableValue}
-
--- where each text fits, the lines are the texts
-all_fit : (w d : ℕ) (texts : List Text) → list_all (λ width. nat_le width w) (map measure texts) ≡ true → flat_map (lines_of_text w d) texts ≡ texts
-all_fit w d [] fit = refl
-all_fit w d (text ∷ texts) fit = grind (arith, all_fit w d texts)
 
 -- lines that are written as they are seen
 all_as_seen : (lines : List CellLine) → AllByRecursion IsAsSeen lines → lines ≡ map as_seen (seen_of lines)
@@ -29,17 +24,10 @@ all_as_seen (line ∷ lines) each =
     λ i. record { seen = line.seen; written = each.0 i } ∷ all_as_seen lines each.1 i
 
 -- such are those of a cell without custom styling, or without ESC
-own_texts : (custom : Bool) (w d : ℕ) (cell : CellValue) → (custom && list_any has_escape cell.text_lines) ≡ false → whole_lines custom w d cell ≡ map as_seen (cell_lines w d (cell_seen custom cell))
+pub own_texts : (custom : Bool) (w d : ℕ) (cell : CellValue) → (custom && list_any has_escape cell.text_lines) ≡ false → whole_lines custom w d cell ≡ map as_seen (cell_lines w d (cell_seen custom cell))
 own_texts false w d cell none = refl
 own_texts true w d cell none =
     all_as_seen (line_texts w d cell.text_lines) (clear_written w d cell.text_lines none) ∙ ap (map as_seen) (whole-seen true w d cell)
-
--- such a line at a position
-pub text_found : {A : Type 0} (f : A → Text) (texts : List A) (k : ℕ) (text : A) → k < length texts → text ≡ slice_index_or texts k text
-    → Some (record { columns = slice_index_or (map measure (map f texts)) k 0; written = f text }) ≡ slice_get (map drawn_text (map f texts)) k
-text_found f [] k text below read = absurd (omega (arith, below))
-text_found {A} f (x ∷ texts) zero text below read = ap (λ (y : A). Some (record { columns = measure (f x); written = f y })) read
-text_found f (x ∷ texts) (suc k) text below read = text_found f texts k text (omega (arith, below)) read
 
 -- lines without texts of their own
 pub no_texts : (lines : List DrawnLine) (texts : List Text) → length texts ≡ 0 → with_texts lines texts ≡ lines
@@ -75,12 +63,13 @@ module _ (table : TableValue) (row : RowValue) (info : ColumnInfo) (cell : CellV
   pub drawn-uncut : (lines : List DrawnLine) → lines ≡ map drawn_text seen → length lines ≤ unwrap_or row.max_height (length lines) → row_cell_lines table row info cell ≡ whole
   drawn-uncut lines are within = let many = ap length are in grind (arith, nat_tests, as_many, no_limit, length-map, many)
 
-  -- text lines that fit, of which none is cut
-  pub drawn-texts : list_all (λ width. nat_le width info.content_width) (map measure (cell_seen table.custom_styling cell).text_lines) ≡ true
-      → length (cell_seen table.custom_styling cell).text_lines ≤ unwrap_or row.max_height (length (cell_seen table.custom_styling cell).text_lines)
-      → (table.custom_styling && list_any has_escape cell.text_lines) ≡ false
-      → map drawn_text (cell_seen table.custom_styling cell).text_lines ≡ map drawn_line (row_cell_lines table row info cell)
-  drawn-texts fit within none = grind (arith, all_fit, length-map, drawn-seen, drawn-uncut (map drawn_text seen))
+  -- nor is one line
+  pub drawn-one : (line : DrawnLine) → line ∷ [] ≡ map drawn_line whole → IfSome row.max_height (λ lines. 1 ≤ lines) → line ∷ [] ≡ map drawn_line (row_cell_lines table row info cell)
+  drawn-one line is limit = is ∙ ap (map drawn_line) (sym (one_uncut row.max_height limit))
+    where
+      one_uncut : (limit : Option ℕ) → IfSome limit (λ lines. 1 ≤ lines) → cut_to_limit (cut_line table.custom_styling info.content_width table.indicator) limit whole ≡ whole
+      one_uncut None _ = refl
+      one_uncut (Some h) below = let one = ap length is in grind (arith, nat_tests, one, length-map, below)
 
   -- lines of which one is cut
   pub drawn-cut : (lines : List DrawnLine) (h : ℕ) (last : DrawnLine) → lines ≡ map drawn_text seen → h ≡ unwrap_or row.max_height (length lines) → h < length lines → last ≡ slice_index_or lines (h - 1) last

@@ -62,7 +62,7 @@ module _ (cell : CellValue) (info : ColumnInfo) (columns left right : ℕ)
     (is_left : left ≡ info.padding.0 + free_before (cell_alignment cell info) (free_places info columns))
     (is_right : right ≡ free_places info columns - free_before (cell_alignment cell info) (free_places info columns) + info.padding.1) where
   -- a text between the spaces that a line leaves and the paddings
-  pub padded-made : (text : Text) → spaces left ++ (text ++ spaces right) ≡ padded cell info columns text
+  padded-made : (text : Text) → spaces left ++ (text ++ spaces right) ≡ padded cell info columns text
   padded-made text =
       let before = free_before (cell_alignment cell info) (free_places info columns) in
       ap (λ n. spaces n ++ (text ++ spaces right)) is_left

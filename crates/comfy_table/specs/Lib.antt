@@ -1,11 +1,12 @@
 pub mod AllWidths
 pub mod Arrangement
+pub mod CellLines
 pub mod ColorSequences
-pub mod Contents
 pub mod Deciding
 pub mod DisabledWidths
 pub mod Drawing
 pub mod DrawnCells
+pub mod DrawnLines
 pub mod Dynamic
 pub mod FittingTables
 pub mod Frame
@@ -18,7 +19,6 @@ pub mod LongestLine
 pub mod NewTables
 pub mod Output
 pub mod Pieces
-pub mod PlainRows
 pub mod Predicate
 pub mod Straight
 pub mod Styling

@@ -3,23 +3,23 @@
 ghost use Rattle.std.specs.Prelude.{◌≡◌, IfOk, map, string_bytes};
 ghost use Rattle.comfy_parts.specs.Text.{measure};
 ghost use Rattle.comfy_table.specs.TableValue.{cell_content_width, column_content_width, max_content_widths, seen_cell};
-ghost use Rattle.comfy_table.specs.Contents.{row_content_width, rows_content_width};
 
 use crate::table::Table;
-use crate::table::column_cells::cell_at;
 use comfy_parts::for_tables::{text_widths, visible_lines, visible_widths};
-use comfy_parts::{Cell, Result, Row};
+use comfy_parts::{Cell, Result};
 
 /// The greatest measure, in terminal columns, of a text line of the column at a position, over header and rows. Each
 /// cell counts at least 1, a measure above 65535 counts 65535, and a column without a cell gives 0.
 pub(crate) fn column_content_width(table: &Table, position: usize) -> u16
     ensures { result ≡ column_content_width table.now position }
 {
-    let below = rows_content_width(table, table.rows.as_slice(), position);
-    match &table.header {
-        Some(header) => row_content_width(table, header, position).max(below),
-        None => below,
+    let mut widest = 0;
+    for cell in table.column_cells_with_header_iter(position) {
+        if let Some(cell) = cell {
+            widest = cell_content_width(table, cell).max(widest);
+        }
     }
+    widest
 }
 
 impl Table {
@@ -57,27 +57,6 @@ impl Table {
             widths.push(column_content_width(self, position))?;
         }
         Ok(widths)
-    }
-}
-
-// The greatest content of some rows at a position.
-fn rows_content_width(table: &Table, rows: &[Row], position: usize) -> u16
-    ensures { result ≡ rows_content_width table.now position rows.now }
-{
-    let mut widest = 0;
-    for row in rows {
-        widest = row_content_width(table, row, position).max(widest);
-    }
-    widest
-}
-
-// The content of a row's cell at a position, 0 where there is none.
-fn row_content_width(table: &Table, row: &Row, position: usize) -> u16
-    ensures { result ≡ row_content_width table.now position row.now }
-{
-    match cell_at(row, position) {
-        Some(cell) => cell_content_width(table, cell),
-        None => 0,
     }
 }
 

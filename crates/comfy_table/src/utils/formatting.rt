@@ -8,8 +8,8 @@ mod drawn_cell;
 mod gap;
 mod output;
 mod piece;
-mod plain_rows;
 mod row_gaps;
+mod shown_column;
 mod styling;
 
 pub(crate) use drawing::draw;

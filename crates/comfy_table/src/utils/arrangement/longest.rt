@@ -1,16 +1,15 @@
 //! How wide the lines of a column are, once its cells are wrapped.
 
-ghost use Rattle.std.specs.Prelude.{◌≡◌, ◌≤◌, IfOk, IsOk, map, option_to_list};
+ghost use Rattle.std.specs.Prelude.{◌≡◌, ◌≤◌, IfOk, IsOk, map};
 ghost use Rattle.comfy_parts.specs.Text.{greatest, measure};
 ghost use Rattle.comfy_parts.specs.Wrapping.{wrapped};
 ghost use Rattle.comfy_table.specs.Lines.{longest_line, longest_line_at};
-ghost use Rattle.comfy_table.specs.LongestLine.{cell_longest_line, row_longest_line, rows_longest_line, text_longest_line};
+ghost use Rattle.comfy_table.specs.LongestLine.{cell_longest_line, text_longest_line};
 ghost use Rattle.comfy_table.specs.TableValue.{seen_cell};
 
 use crate::table::Table;
-use crate::table::column_cells::cell_at;
 use comfy_parts::content_split::{ColumnDisplayInfo, wrapped_lines};
-use comfy_parts::{Cell, Result, Row};
+use comfy_parts::{Cell, Result};
 
 /// The terminal columns that the widest line of a table's column takes, over header and rows, where each cell is
 /// wrapped at this content width. Greatest heights of rows cut nothing off. A width of 0 counts as 1, and a position
@@ -29,7 +28,7 @@ pub fn longest_line(table: &Table, position: usize, content_width: u16) -> Resul
 }
 
 /// The longest line of all cells at a position, in a column with this delimiter and content width. The cells are looked
-/// at until a row passes the limit; a result above it may be less than the longest line.
+/// at until one passes the limit; a result above it may be less than the longest line.
 pub fn column_longest_line(
     table: &Table,
     position: usize,
@@ -39,53 +38,16 @@ pub fn column_longest_line(
     ensures at_most { result ≤ longest_line table.now position info.now.delimiter info.now.content_width }
     ensures exact { result ≤ limit → result ≡ longest_line table.now position info.now.delimiter info.now.content_width }
 {
-    let rows = table.rows.as_slice();
-    let of_header = header_longest_line(table, position, info);
-    if of_header > limit {
-        return of_header;
-    }
-    rows_longest_line(table, rows, position, info, limit).max(of_header)
-}
-
-// The longest line of the header's cell at a position, 0 where there is none.
-fn header_longest_line(table: &Table, position: usize, info: &ColumnDisplayInfo) -> usize
-    ensures { result ≡ rows_longest_line table.now info.now position (option_to_list table.now.header) }
-{
-    match &table.header {
-        Some(header) => row_longest_line(table, header, position, info),
-        None => 0,
-    }
-}
-
-// The longest line of the cells of some rows at a position, looked at until a row passes the limit.
-fn rows_longest_line(
-    table: &Table,
-    rows: &[Row],
-    position: usize,
-    info: &ColumnDisplayInfo,
-    limit: usize,
-) -> usize
-    ensures at_most { result ≤ rows_longest_line table.now info.now position rows.now }
-    ensures exact { result ≤ limit → result ≡ rows_longest_line table.now info.now position rows.now }
-{
     let mut longest = 0;
-    for row in rows {
-        longest = row_longest_line(table, row, position, info).max(longest);
-        if longest > limit {
-            return longest;
+    for cell in table.column_cells_with_header_iter(position) {
+        if let Some(cell) = cell {
+            longest = cell_longest_line(table, cell, info).max(longest);
+            if longest > limit {
+                return longest;
+            }
         }
     }
     longest
-}
-
-// The longest line of a row's cell at a position, 0 where there is none.
-fn row_longest_line(table: &Table, row: &Row, position: usize, info: &ColumnDisplayInfo) -> usize
-    ensures { result ≡ row_longest_line table.now info.now position row.now }
-{
-    match cell_at(row, position) {
-        Some(cell) => cell_longest_line(table, cell, info),
-        None => 0,
-    }
 }
 
 // The longest line of a cell as it is seen.

@@ -6,7 +6,7 @@ ghost use Rattle.comfy_parts.specs.CellValue.{ColumnInfo, info_width};
 ghost use Rattle.comfy_table.specs.Frame.{character, draws_left_border, draws_right_border, draws_vertical_lines, frame_line, is_drawn, optional_frame_line};
 
 use crate::table::Table;
-use crate::utils::formatting::plain_rows::VisibleColumn;
+use crate::utils::formatting::shown_column::ShownColumn;
 use comfy_parts::Result;
 use comfy_parts::style::LineStyle;
 
@@ -35,7 +35,7 @@ pub fn should_draw_vertical_lines(table: &Table) -> bool
 pub(crate) fn optional_frame_line(
     table: &Table,
     line: &LineStyle,
-    columns: &[VisibleColumn],
+    columns: &[ShownColumn],
 ) -> Result<Option<String>>
     ensures { IfOk result (λ drawn. map string_bytes (option_to_list drawn) ≡ optional_frame_line table.now.style line.now (map (λ (p : ℕ × ColumnInfo). info_width p.1) columns.now)) }
 {
@@ -52,7 +52,7 @@ pub(crate) fn push_frame_line(
     text: &mut String,
     table: &Table,
     line: &LineStyle,
-    columns: &[VisibleColumn],
+    columns: &[ShownColumn],
 ) -> Result<()>
     ensures { OnOk result (string_bytes text.new ≡ string_bytes text.old ++ frame_line table.now.style line.now (map (λ (p : ℕ × ColumnInfo). info_width p.1) columns.now)) }
 {

@@ -1,11 +1,12 @@
 //! The lines of a cell in its row: its text lines wrapped at the column's width, and cut to the row's height.
 
-ghost use Rattle.std.specs.Prelude.{◌≡◌, ◌++◌, ◌&&◌, IfOk, IsOk, None, OnOk, false, true, length, map, nat_le, option_map, slice_get, string_bytes};
-ghost use Rattle.std.specs.List.{list_all, list_any};
+ghost use Rattle.std.specs.Prelude.{◌≡◌, ◌++◌, ◌∷◌, ◌&&◌, [], IfOk, IfSome, OnOk, length, map, option_map, slice_get, string_bytes};
+ghost use Rattle.std.specs.List.{list_any};
 ghost use Rattle.comfy_parts.specs.Text.{measure};
 ghost use Rattle.comfy_parts.specs.VisibleText.{has_escape};
 ghost use Rattle.comfy_parts.specs.Wrapping.{lines_of_text, wrapped};
-ghost use Rattle.comfy_table.specs.DrawnCells.{drawn_line, drawn_text, with_texts};
+ghost use Rattle.comfy_table.specs.CellLines.{lines_of};
+ghost use Rattle.comfy_table.specs.DrawnLines.{drawn_line, drawn_text, with_texts};
 ghost use Rattle.comfy_table.specs.Lines.{as_seen, cell_delimiter, cell_lines, cut_line, cut_text, fitting_indicator, whole_lines};
 ghost use Rattle.comfy_table.specs.Pieces.{row_cell_lines};
 ghost use Rattle.comfy_table.specs.TableValue.{seen_cell};
@@ -15,21 +16,21 @@ use crate::utils::formatting::styling::push_reset;
 use comfy_parts::content_split::{
     ColumnDisplayInfo, leaves_sequence_open, measure_text_width, split_long_word, wrapped_lines,
 };
-use comfy_parts::for_tables::{has_escape, written_lines};
+use comfy_parts::for_tables::{has_escape, is_written_whole, written_lines};
 use comfy_parts::{Cell, Result, Row};
 use std::borrow::CowStr;
 use std::marker::Model;
 
-// A line of a cell: the terminal columns of what is seen of it, and the text that is written.
+/// A line of a cell: the terminal columns of what is seen of it, and the text that is written.
 #[derive(Drop)]
-struct Line<'a> {
+pub struct Line<'a> {
     columns: usize,
     text: CowStr<'a>,
 }
 
 impl<'a> Model for Line<'a> {
     ghost use Rattle.std.specs.Cow.{cow_str_bytes};
-    ghost use Rattle.comfy_table.specs.DrawnCells.{DrawnLine};
+    ghost use Rattle.comfy_table.specs.DrawnLines.{DrawnLine};
 
     ghost Value = { DrawnLine };
 
@@ -38,95 +39,72 @@ impl<'a> Model for Line<'a> {
 
 /// The lines of a cell in its row, from the top.
 #[derive(Drop)]
-pub struct CellLines<'a> {
-    // the text lines and their columns; they are the lines where none is made
-    texts: &'a [String],
-    widths: &'a [usize],
-    // the lines where one is wrapped or cut, or has a text of its own
-    made: Option<Vec<Line<'a>>>,
-}
-
-impl<'a> Model for CellLines<'a> {
-    ghost use Rattle.std.specs.Prelude.{◌≡◌, List, map, option_map, string_bytes};
-    ghost use Rattle.comfy_parts.specs.Text.{measure};
-    ghost use Rattle.comfy_table.specs.DrawnCells.{DrawnLine, made_or_texts};
-
-    ghost Value = { List DrawnLine };
-
-    ghost invariant = { λ l. l.widths.now ≡ map measure (map string_bytes l.texts.now) };
-
-    ghost view = { λ l. made_or_texts (option_map (λ lines. lines.items) l.made) (map string_bytes l.texts.now) };
+pub enum CellLines<'a> {
+    // the columns and the text of one text line that fits and is written as it is
+    One(usize, &'a str),
+    Several(Vec<Line<'a>>),
 }
 
 impl<'a> CellLines<'a> {
     /// How many lines there are.
     pub fn len(&self) -> usize
-        ensures { result ≡ length self.now }
+        ensures { result ≡ length (lines_of self.now) }
     {
-        match &self.made {
-            Some(lines) => lines.len(),
-            None => self.texts.len(),
+        match self {
+            CellLines::One(_, _) => 1,
+            CellLines::Several(lines) => lines.len(),
         }
     }
 
     /// A line by its position, counted from 0: the columns of what is seen of it, and what is written.
     pub fn get(&self, position: usize) -> Option<(usize, &str)>
-        ensures { option_map (λ line. record { columns = line.0; written = line.1.now }) result ≡ slice_get self.now position }
+        ensures { option_map (λ line. record { columns = line.0; written = line.1.now }) result ≡ slice_get (lines_of self.now) position }
     {
-        if let Some(lines) = &self.made {
-            let line = lines.get(position)?;
-            return Some((line.columns, line.text.as_str()));
+        match self {
+            CellLines::One(columns, text) => (position == 0).then_some((*columns, *text)),
+            CellLines::Several(lines) => {
+                let line = lines.get(position)?;
+                Some((line.columns, line.text.as_str()))
+            }
         }
-        let text = self.texts.get(position)?;
-        Some((self.widths[position], text.as_str()))
     }
 }
 
-/// The lines of a cell in its row. Where each text line fits, none is cut, and none has a text of its own, this takes no
-/// memory.
+/// The lines of a cell in its row. One text line that fits and is written as it is takes no memory.
 pub fn row_cell_lines<'a>(
     table: &Table,
     row: &Row,
     cell: &'a Cell,
     info: &ColumnDisplayInfo,
 ) -> Result<CellLines<'a>>
-    ensures lines { IfOk result (λ lines. lines ≡ map drawn_line (row_cell_lines table.now row.now info.now cell.now)) }
-    ensures succeeds { row.now.max_height ≡ None → table.now.custom_styling ≡ false → list_all (λ columns. nat_le columns info.now.content_width) (map measure cell.now.text_lines) ≡ true → IsOk result }
+    ensures { IfOk result (λ lines. lines_of lines ≡ map drawn_line (row_cell_lines table.now row.now info.now cell.now)) }
 {
-    let texts = table.seen_lines(cell);
+    // the clause of a limit says that it is at least 1
+    let _limit = row.height_limit();
+    if let Some((columns, text)) = only_line(table, cell, info) {
+        return Ok(CellLines::One(columns, text));
+    }
+    Ok(CellLines::Several(made_lines(table, row, cell, info)?))
+}
+
+// The columns and the text of a cell's one text line, if it fits and is written as it is.
+fn only_line<'a>(table: &Table, cell: &'a Cell, info: &ColumnDisplayInfo) -> Option<(usize, &'a str)>
+    ensures { IfSome result (λ line. record { columns = line.0; written = line.1.now } ∷ [] ≡ map drawn_line (whole_lines table.now.custom_styling info.now.content_width (cell_delimiter table.now info.now.delimiter cell.now) cell.now)) }
+{
+    let texts = cell.text_lines();
     let widths = table.seen_widths(cell);
-    let height = row.height_limit().unwrap_or(texts.len());
-    if !all_fit(widths, usize::from(info.content_width))
-        || texts.len() > height
-        || has_own_texts(table, cell)
-    {
-        let made = Some(made_lines(table, row, cell, info)?);
-        return Ok(CellLines {
-            texts,
-            widths,
-            made,
-        });
+    if texts.len() != 1 || widths[0] > usize::from(info.content_width) {
+        return None;
     }
-    Ok(CellLines {
-        texts,
-        widths,
-        made: None,
-    })
+    let text = texts[0].as_str();
+    if has_own_texts(table, cell) && !is_written_whole(text) {
+        return None;
+    }
+    Some((widths[0], text))
 }
 
-fn all_fit(widths: &[usize], content_width: usize) -> bool
-    ensures { result ≡ list_all (λ width. nat_le width content_width) widths.now }
-{
-    for width in widths {
-        if *width > content_width {
-            return false;
-        }
-    }
-    true
-}
-
-/// Whether what is written for the lines of the cell may differ from what is seen of them.
-pub fn has_own_texts(table: &Table, cell: &Cell) -> bool
+// Whether what is written for the lines of the cell may differ from what is seen of them.
+fn has_own_texts(table: &Table, cell: &Cell) -> bool
     ensures { result ≡ (table.now.custom_styling && list_any has_escape cell.now.text_lines) }
 {
     table.custom_styling && has_escape(cell)

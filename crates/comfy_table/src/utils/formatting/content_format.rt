@@ -6,8 +6,9 @@ ghost use Rattle.comfy_table.specs.Pieces.{content_lines, row_lines};
 ghost use Rattle.comfy_table.specs.DrawnCells.{piece_at};
 
 use crate::table::Table;
-use crate::utils::formatting::drawn_cell::{DrawnCell, drawn_cells, greatest_height};
+use crate::utils::formatting::drawn_cell::{DrawnCell, greatest_height, set_drawn_cells};
 use crate::utils::formatting::gap::{Gap, push_spaces};
+use crate::utils::formatting::shown_column::shown_columns;
 use comfy_parts::content_split::ColumnDisplayInfo;
 use comfy_parts::{Cell, Result, Row};
 use std::alloc::Global;
@@ -27,7 +28,9 @@ pub fn format_row(
     ensures { IfOk result (λ lines. map (λ pieces. map string_bytes pieces.items) lines.items ≡ row_lines table.now display_infos.now row.now) }
 {
     let alloc = *table.columns.allocator();
-    let drawn = drawn_cells(row, display_infos, table)?;
+    let columns = shown_columns(alloc, display_infos)?;
+    let mut drawn = Vec::with_capacity(alloc, columns.len())?;
+    set_drawn_cells(&mut drawn, row, columns.as_slice(), table)?;
     let cells = drawn.as_slice();
     let none = Gap::new(alloc, false, None)?;
     let mut lines = Vec::new(alloc);

@@ -1,8 +1,8 @@
 //! The lines of a table, in their order.
 
-ghost use Rattle.std.specs.Prelude.{◌≡◌, ◌∷◌, [], nat_lt, IfOk, OnOk, Some, map, string_bytes, option_to_list, if◌then◌else◌};
-ghost use Rattle.std.specs.List.{join_by};
-ghost use Rattle.comfy_table.specs.DrawnCells.{piece_at};
+ghost use Rattle.std.specs.Prelude.{◌≡◌, [], nat_lt, IfOk, OnOk, Some, map, string_bytes, option_to_list, if◌then◌else◌};
+ghost use Rattle.std.specs.List.{join_by, range_with_len};
+ghost use Rattle.comfy_table.specs.DrawnCells.{greatest_height, piece_at};
 ghost use Rattle.comfy_table.specs.Drawing.{drawing_of_infos, drawn_header, drawn_rows, whole_widths};
 ghost use Rattle.comfy_table.specs.Frame.{optional_frame_line};
 ghost use Rattle.comfy_table.specs.Gaps.{gap_line, row_between};
@@ -10,10 +10,10 @@ ghost use Rattle.comfy_table.specs.Output.{new_output, with_lines, with_written}
 
 use crate::table::Table;
 use crate::utils::formatting::borders::{is_drawn, optional_frame_line, push_frame_line};
-use crate::utils::formatting::drawn_cell::{DrawnCell, drawn_cells, greatest_height};
+use crate::utils::formatting::drawn_cell::{DrawnCell, greatest_height, set_drawn_cells};
 use crate::utils::formatting::output::{Output, OutputForm};
-use crate::utils::formatting::plain_rows::PlainRows;
 use crate::utils::formatting::row_gaps::RowGaps;
+use crate::utils::formatting::shown_column::{ShownColumn, shown_columns};
 use comfy_parts::content_split::ColumnDisplayInfo;
 use comfy_parts::style::{ContentLineStyle, LineStyle};
 use comfy_parts::{Result, Row};
@@ -33,8 +33,9 @@ pub fn draw(table: &Table, infos: &[ColumnDisplayInfo], form: OutputForm) -> Res
 struct Writer<'a> {
     table: &'a Table,
     infos: &'a [ColumnDisplayInfo],
-    // what draws the rows that are plain
-    plain: PlainRows<'a>,
+    columns: Vec<ShownColumn<'a>>,
+    // the cells of the row that is drawn now
+    cells: Vec<DrawnCell<'a>>,
     // the line that is drawn now
     line: String,
     output: Output,
@@ -43,10 +44,11 @@ struct Writer<'a> {
 impl<'a> Model for Writer<'a> {
     ghost use Rattle.std.specs.Prelude.{◌≡◌};
     ghost use Rattle.comfy_table.specs.Output.{WriterValue};
+    ghost use Rattle.comfy_table.specs.Pieces.{visible_infos};
 
     ghost Value = { WriterValue };
 
-    ghost invariant = { λ w. w.plain ≡ record { table = w.table.now; infos = w.infos.now } };
+    ghost invariant = { λ w. w.columns.items ≡ visible_infos w.infos.now };
 
     ghost view = { λ w. record { table = w.table.now; infos = w.infos.now; output = w.output } };
 }
@@ -59,7 +61,8 @@ impl<'a> Writer<'a> {
         Ok(Writer {
             table,
             infos,
-            plain: PlainRows::new(table, infos)?,
+            columns: shown_columns(alloc, infos)?,
+            cells: Vec::new(alloc),
             line: String::new(alloc),
             output: Output::new(alloc, form),
         })
@@ -84,7 +87,7 @@ impl<'a> Writer<'a> {
             return Ok(());
         }
         self.line.clear();
-        push_frame_line(&mut self.line, self.table, style, self.plain.columns())?;
+        push_frame_line(&mut self.line, self.table, style, self.columns.as_slice())?;
         self.output.push_line(self.line.as_str())
     }
 
@@ -117,7 +120,7 @@ impl<'a> Writer<'a> {
         let separator = optional_frame_line(
             table,
             &table.style.row_separator,
-            self.plain.columns(),
+            self.columns.as_slice(),
         )?;
         let gaps = RowGaps::new(table, &table.style.content_lines)?;
         self.write_separated_rows(&gaps, &separator)
@@ -147,34 +150,33 @@ impl<'a> Writer<'a> {
         Ok(())
     }
 
-    // The lines of a row. Most rows of most tables are plain.
+    // The lines of a row.
     fn write_row(&mut self, gaps: &RowGaps, row: &'a Row) -> Result<()>
         ensures { OnOk result (self.new ≡ with_written (row_between gaps.now self.old.table self.old.infos row.now) self.old) }
     {
-        if self.plain.set_line(&mut self.line, gaps, row)? {
-            return self.output.push_line(self.line.as_str());
-        }
-        self.write_row_lines(gaps, row)
+        set_drawn_cells(&mut self.cells, row, self.columns.as_slice(), self.table)?;
+        push_row(
+            &mut self.output,
+            &mut self.line,
+            gaps,
+            self.cells.as_slice(),
+        )
     }
+}
 
-    // The lines of a row, each of which may have several pieces.
-    fn write_row_lines(&mut self, gaps: &RowGaps, row: &'a Row) -> Result<()>
-        ensures { OnOk result (self.new ≡ with_written (row_between gaps.now self.old.table self.old.infos row.now) self.old) }
-    {
-        let drawn = drawn_cells(row, self.infos, self.table)?;
-        let cells = drawn.as_slice();
-        for line in 0..greatest_height(cells) {
-            self.write_row_line(gaps, cells, line)?;
-        }
-        Ok(())
+// Appends the lines of a row of these cells. Each is drawn in the text first.
+fn push_row(
+    output: &mut Output,
+    text: &mut String,
+    gaps: &RowGaps,
+    cells: &[DrawnCell],
+) -> Result<()>
+    ensures { OnOk result (output.new ≡ with_lines (map (λ k. gap_line gaps.now (map (piece_at k) cells.now)) (range_with_len 0 (greatest_height cells.now))) output.old) }
+{
+    for line in 0..greatest_height(cells) {
+        text.clear();
+        gaps.push_line(text, cells, line)?;
+        output.push_line(text.as_str())?;
     }
-
-    // One line of a row, counted from 0.
-    fn write_row_line(&mut self, gaps: &RowGaps, cells: &[DrawnCell<'a>], line: usize) -> Result<()>
-        ensures { OnOk result (self.new ≡ with_written (gap_line gaps.now (map (piece_at line) cells.now) ∷ []) self.old) }
-    {
-        self.line.clear();
-        gaps.push_line(&mut self.line, cells, line)?;
-        self.output.push_line(self.line.as_str())
-    }
+    Ok(())
 }

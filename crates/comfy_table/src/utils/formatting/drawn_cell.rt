@@ -1,20 +1,19 @@
-//! The cells of a row as the visible columns draw them.
+//! The cells of a row as the shown columns draw them.
 
-ghost use Rattle.std.specs.Prelude.{◌≡◌, IfOk, length, map};
-ghost use Rattle.std.specs.List.{range_with_len};
+ghost use Rattle.std.specs.Prelude.{◌≡◌, IfOk, OnOk, length, map};
 ghost use Rattle.comfy_parts.specs.CellValue.{info_width};
-ghost use Rattle.comfy_table.specs.Pieces.{row_lines, visible_infos};
 ghost use Rattle.comfy_table.specs.DrawnCells.{drawn_cell, greatest_height, piece_at};
 
 use crate::table::Table;
 use crate::table::column_cells::cell_at;
 use crate::utils::formatting::cell_lines::{CellLines, row_cell_lines};
 use crate::utils::formatting::piece::Piece;
+use crate::utils::formatting::shown_column::ShownColumn;
 use comfy_parts::content_split::ColumnDisplayInfo;
 use comfy_parts::{Cell, Result, Row};
 use std::marker::Model;
 
-/// A cell of a row as a visible column draws it.
+/// A cell of a row as a shown column draws it.
 #[derive(Drop)]
 pub struct DrawnCell<'a> {
     table: &'a Table,
@@ -25,11 +24,12 @@ pub struct DrawnCell<'a> {
 
 impl<'a> Model for DrawnCell<'a> {
     ghost use Rattle.std.specs.Prelude.{option_map};
+    ghost use Rattle.comfy_table.specs.CellLines.{lines_of};
     ghost use Rattle.comfy_table.specs.DrawnCells.{DrawnCell, pieces_of_content};
 
     ghost Value = { DrawnCell };
 
-    ghost view = { λ d. record { info = d.info.now; pieces = pieces_of_content d.table.now d.info.now (option_map (λ content. (content.0.now, content.1)) d.content) } };
+    ghost view = { λ d. record { info = d.info.now; pieces = pieces_of_content d.table.now d.info.now (option_map (λ content. (content.0.now, lines_of content.1)) d.content) } };
 }
 
 impl<'a> DrawnCell<'a> {
@@ -57,34 +57,30 @@ impl<'a> DrawnCell<'a> {
         let Some((cell, lines)) = &self.content else {
             return Piece::blank(self.info);
         };
-        let Some((columns, written)) = lines.get(line) else {
-            return Piece::blank(self.info);
-        };
-        Piece::new(self.table, cell, self.info, columns, written)
-    }
-}
-
-/// The cells of a row in the visible columns, each the one at its column's own position.
-pub fn drawn_cells<'a>(
-    row: &'a Row,
-    infos: &'a [ColumnDisplayInfo],
-    table: &'a Table,
-) -> Result<Vec<DrawnCell<'a>>>
-    ensures cells { IfOk result (λ cells. cells.items ≡ map (drawn_cell table.now row.now) (visible_infos infos.now)) }
-    ensures lines { IfOk result (λ cells. map (λ k. map (piece_at k) cells.items) (range_with_len 0 (greatest_height cells.items)) ≡ row_lines table.now infos.now row.now) }
-{
-    let alloc = *table.columns.allocator();
-    let mut cells = Vec::with_capacity(alloc, infos.len())?;
-    for (position, info) in infos.iter().enumerate() {
-        if info.is_hidden() {
-            continue;
+        match lines.get(line) {
+            Some((columns, text)) => Piece::new(self.table, cell, self.info, columns, text),
+            None => Piece::blank(self.info),
         }
-        cells.push(drawn_cell(row, position, info, table)?)?;
     }
-    Ok(cells)
 }
 
-/// The height of a row: that of its highest visible cell.
+/// Makes these cells those of a row in these columns, each the one at its column's own position.
+pub fn set_drawn_cells<'a>(
+    cells: &mut Vec<DrawnCell<'a>>,
+    row: &'a Row,
+    columns: &[ShownColumn<'a>],
+    table: &'a Table,
+) -> Result<()>
+    ensures { OnOk result (cells.new.items ≡ map (drawn_cell table.now row.now) columns.now) }
+{
+    cells.clear();
+    for column in columns {
+        cells.push(drawn_cell(row, column, table)?)?;
+    }
+    Ok(())
+}
+
+/// The height of a row: that of its highest shown cell.
 pub fn greatest_height(cells: &[DrawnCell]) -> usize
     ensures { result ≡ greatest_height cells.now }
 {
@@ -95,16 +91,12 @@ pub fn greatest_height(cells: &[DrawnCell]) -> usize
     height
 }
 
-// A visible column with the cell that stands at its position in a row.
-fn drawn_cell<'a>(
-    row: &'a Row,
-    position: usize,
-    info: &'a ColumnDisplayInfo,
-    table: &'a Table,
-) -> Result<DrawnCell<'a>>
-    ensures { IfOk result (λ cell. cell ≡ drawn_cell table.now row.now (position, info.now)) }
+// A shown column with the cell that stands at its position in a row.
+fn drawn_cell<'a>(row: &'a Row, column: &ShownColumn<'a>, table: &'a Table) -> Result<DrawnCell<'a>>
+    ensures { IfOk result (λ cell. cell ≡ drawn_cell table.now row.now column.now) }
 {
-    let Some(cell) = cell_at(row, position) else {
+    let info = column.info;
+    let Some(cell) = cell_at(row, column.position) else {
         return Ok(DrawnCell {
             table,
             info,

@@ -3,7 +3,7 @@
 ghost use Rattle.std.specs.Prelude.{◌≡◌, ◌+◌, ◌-◌, ◌≤◌, ◌++◌, [], IfOk, None, OnOk, false, option_map, string_bytes};
 ghost use Rattle.comfy_parts.specs.Text.{spaces};
 ghost use Rattle.comfy_table.specs.Gaps.{spaced, styled_text};
-ghost use Rattle.comfy_table.specs.Pieces.{blank_piece, cell_alignment, free_before, padded, text_piece};
+ghost use Rattle.comfy_table.specs.Pieces.{blank_piece, cell_alignment, free_before, text_piece};
 ghost use Rattle.comfy_table.specs.Styling.{styled};
 
 use crate::table::Table;
@@ -68,24 +68,6 @@ impl<'a> Piece<'a> {
             text,
             right: 0,
             styles: Some((cell, (left, right))),
-        }
-    }
-
-    /// The piece of a line where no styles are written.
-    pub fn unstyled(
-        cell: &Cell,
-        info: &ColumnDisplayInfo,
-        columns: usize,
-        text: &'a str,
-    ) -> Piece<'a>
-        ensures { result ≡ padded cell.now info.now columns text.now }
-    {
-        let (left, right) = spaces_beside(cell, info, columns);
-        Piece {
-            left,
-            text,
-            right,
-            styles: None,
         }
     }
 

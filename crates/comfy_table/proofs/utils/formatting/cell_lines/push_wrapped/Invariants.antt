@@ -1,6 +1,6 @@
 use Rattle.std.proofs.Common.{◌≡◌, ◌++◌, length, map}
 use Rattle.comfy_parts.specs.Wrapping.{wrapped}
-use Rattle.comfy_table.specs.DrawnCells.{drawn_text}
+use Rattle.comfy_table.specs.DrawnLines.{drawn_text}
 use Rattle.comfy_table.proofs.utils.formatting.cell_lines.push_wrapped.Given as goal
 
 abbrev pub invariant-loop-line : goal.invariant-loop-line

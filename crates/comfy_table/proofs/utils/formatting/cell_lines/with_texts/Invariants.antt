@@ -1,5 +1,5 @@
 use Rattle.std.proofs.Common.{◌≡◌, ◌++◌, drop, map, string_bytes, take}
-use Rattle.comfy_table.specs.DrawnCells.{with_texts}
+use Rattle.comfy_table.specs.DrawnLines.{with_texts}
 use Rattle.comfy_table.proofs.utils.formatting.cell_lines.with_texts.Given as goal
 
 abbrev pub invariant-loop-text : goal.invariant-loop-text

@@ -1,12 +1,16 @@
-use Rattle.std.proofs.Common.{◌≡◌, Some, arith}
+use Rattle.std.proofs.Common.{◌≡◌, ℕ, Some, ap, ◌∙◌, arith}
 use Rattle.std.specs.List.{slice_get}
+use Rattle.comfy_parts.specs.CellValue.{ColumnInfo}
 use Rattle.comfy_table.proofs.DrawnCellLemmas.{content_pieces}
+use Rattle.comfy_table.specs.DrawnCells.{drawn_cell}
 use Rattle.comfy_table.proofs.utils.formatting.drawn_cell.drawn_cell.Goals as goal
 
 pub returns : goal.returns
 returns c =
+    let table = c.args.table.now in
     let row = c.args.row.now in
-    let info = c.args.info.now in
+    let info = c.column.inside.info.now in
     let cell = c.in-Some.cell.now in
-    let found : slice_get row.cells c.args.position ≡ Some cell = grind arith in
-    λ i. record { info = info; pieces = content_pieces c.args.table.now row info (slice_get row.cells c.args.position) cell c.in_ok-lines.lines found c.in_ok-lines.ensures.lines i }
+    let found : slice_get row.cells c.column.inside.position ≡ Some cell = grind arith in
+    (λ i. record { info = info; pieces = content_pieces table row info (slice_get row.cells c.column.inside.position) cell _ found c.in_ok-lines.ensures i })
+    ∙ ap (drawn_cell table row) c.column.view_is

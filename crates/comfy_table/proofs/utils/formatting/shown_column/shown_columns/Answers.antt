@@ -3,7 +3,7 @@ use Rattle.std.proofs.lemmas.List.{map-id}
 use Rattle.comfy_parts.specs.CellValue.{ColumnInfo}
 use Rattle.comfy_table.proofs.LoopLemmas.{filtered_all, filtered_more}
 use Rattle.comfy_table.specs.Pieces.{visible_infos}
-use Rattle.comfy_table.proofs.utils.formatting.plain_rows.visible_columns.Goals as goal
+use Rattle.comfy_table.proofs.utils.formatting.shown_column.shown_columns.Goals as goal
 
 pub loop-position-preserved-then-is_hidden : goal.loop-position-preserved-then-is_hidden
 loop-position-preserved-then-is_hidden c =

@@ -1,7 +1,7 @@
 use Rattle.std.proofs.Common.{◌≡◌, ℕ, not, map, take}
 use Rattle.std.specs.List.{enumerate_from, filter}
 use Rattle.comfy_parts.specs.CellValue.{ColumnInfo}
-use Rattle.comfy_table.proofs.utils.formatting.plain_rows.visible_columns.Given as goal
+use Rattle.comfy_table.proofs.utils.formatting.shown_column.shown_columns.Given as goal
 
 abbrev pub invariant-loop-position : goal.invariant-loop-position
 invariant-loop-position l =

@@ -1,0 +1,56 @@
+-- Cells of one text line that fits.
+use Rattle.std.proofs.Common.{◌≡◌, ◌≤◌, ℕ, Bool, true, false, ◌&&◌, List, [], ◌∷◌, length, map, refl, sym, ap, ◌∙◌, arith, slice_index_or}
+use Rattle.std.proofs.lemmas.Bool.Decides.{nat_tests}
+use Rattle.std.specs.List.{flat_map, list_any}
+use Rattle.std.specs.Prelude.{if◌then◌else◌}
+use Rattle.comfy_parts.proofs.CallerLemmas.{clear_lines, line_of_whole}
+use Rattle.comfy_parts.specs.CellValue.{CellValue}
+use Rattle.comfy_parts.specs.Text.{Text, measure}
+use Rattle.comfy_parts.specs.VisibleLines.{line_texts}
+use Rattle.comfy_parts.specs.VisibleText.{has_escape, line_text, visible_text}
+use Rattle.comfy_parts.specs.Wrapping.{lines_of_text}
+use Rattle.comfy_table.proofs.DrawnLineLemmas.{own_texts}
+use Rattle.comfy_table.proofs.SeenLemmas.{cell_seen}
+use Rattle.comfy_table.specs.DrawnLines.{drawn_line}
+use Rattle.comfy_table.specs.Lines.{as_seen, cell_lines, whole_lines}
+
+-- the only element of a list
+pub only_one : {A B : Type 0} (f : A → B) (xs : List A) (x : A) → length xs ≡ 1 → x ≡ slice_index_or xs 0 x → map f xs ≡ f x ∷ []
+only_one f [] x one is = absurd (omega (arith, one))
+only_one {A} {B} f (y ∷ []) x one is = ap (λ (z : A). f z ∷ []) (sym is)
+only_one f (y ∷ z ∷ xs) x one is = absurd (omega (arith, one))
+
+-- the only width of what is seen of a single text line
+pub only_width : (custom : Bool) (texts : List Text) (text : Text) (widths : List ℕ) → texts ≡ text ∷ [] → widths ≡ map measure (if custom then map visible_text texts else texts)
+    → map measure (if custom then map visible_text texts else texts) ≡ slice_index_or widths 0 0 ∷ []
+only_width custom texts text widths single are = one ∙ ap (λ (ns : List ℕ). slice_index_or ns 0 0 ∷ []) (sym (are ∙ one))
+  where
+    one : map measure (if custom then map visible_text texts else texts) ≡ measure (if custom then visible_text text else text) ∷ []
+    one = ap (λ (ts : List Text). map measure (if custom then map visible_text ts else ts)) single ∙ elim custom as (λ b. map measure (if b then visible_text text ∷ [] else text ∷ []) ≡ measure (if b then visible_text text else text) ∷ []) [ true ↦ refl | false ↦ refl ]
+
+module _ (custom : Bool) (w d : ℕ) (cell : CellValue) (text : Text) (columns : ℕ) where
+  -- the cell has this one line
+  abbrev pub IsOneLine : Type 0
+  IsOneLine = record { columns = columns; written = text } ∷ [] ≡ map drawn_line (whole_lines custom w d cell)
+
+  -- so has a cell of one text line that fits and has no text of its own
+  pub seen_line : cell.text_lines ≡ text ∷ [] → map measure (cell_seen custom cell).text_lines ≡ columns ∷ [] → columns ≤ w → (custom && list_any has_escape cell.text_lines) ≡ false → IsOneLine
+  seen_line single wide fits none =
+      let seen : (cell_seen custom cell).text_lines ≡ text ∷ [] = as_it_is custom none ∙ single in
+      let width : measure text ≡ columns = let e = sym (ap (map measure) seen) ∙ wide in ap (λ (ns : List ℕ). slice_index_or ns 0 0) e in
+      let one : cell_lines w d (cell_seen custom cell) ≡ text ∷ [] = ap (flat_map (lines_of_text w d)) seen ∙ grind (arith, nat_tests, width, fits) in
+      ap (λ n. record { columns = n; written = text } ∷ []) (sym width) ∙ sym (ap (map drawn_line) (own_texts custom w d cell none ∙ ap (map as_seen) one))
+    where
+      as_it_is : (custom : Bool) → (custom && list_any has_escape cell.text_lines) ≡ false → (if custom then map visible_text cell.text_lines else cell.text_lines) ≡ cell.text_lines
+      as_it_is true none = sym (clear_lines cell.text_lines none)
+      as_it_is false none = refl
+
+  -- or is written as it is
+  pub whole_line : cell.text_lines ≡ text ∷ [] → map measure (cell_seen custom cell).text_lines ≡ columns ∷ [] → columns ≤ w
+      → custom ≡ true → line_text [] text 0 (length (visible_text text)) ≡ text → IsOneLine
+  whole_line single wide fits on whole =
+      let width : measure (visible_text text) ≡ columns =
+      let e = sym (ap (λ (b : Bool). map measure (if b then map visible_text cell.text_lines else cell.text_lines)) on ∙ ap (λ (ts : List Text). map measure (map visible_text ts)) single) ∙ wide in
+      ap (λ (ns : List ℕ). slice_index_or ns 0 0) e in
+      ap (λ n. record { columns = n; written = text } ∷ []) (sym width)
+      ∙ sym (ap (map drawn_line) (ap (λ (b : Bool). whole_lines b w d cell) on ∙ ap (line_texts w d) single ∙ line_of_whole w d text (omega (arith, width, fits)) whole))

@@ -1,0 +1,29 @@
+use Rattle.std.proofs.Common.{◌≡◌, ◌≤◌, [], ◌∷◌, ap, sym, ◌∙◌, map, arith, slice_index_or, string_bytes}
+use Rattle.std.specs.List.{list_any}
+use Rattle.std.proofs.lemmas.Bool.{and_parts}
+use Rattle.comfy_parts.specs.Text.{Text, measure}
+use Rattle.comfy_parts.specs.VisibleText.{has_escape}
+use Rattle.comfy_table.proofs.OneLineLemmas.{only_one, only_width, seen_line, whole_line}
+use Rattle.comfy_table.specs.Lines.{cell_delimiter}
+use Rattle.comfy_table.specs.TableValue.{seen_cell}
+use Rattle.comfy_table.proofs.utils.formatting.cell_lines.only_line.Goals.{else-has_own_texts-via-then-has_own_texts+else-not-is_written_whole, else-has_own_texts-via-else-has_own_texts}
+use Rattle.comfy_table.proofs.utils.formatting.cell_lines.only_line.Goals as goal
+
+pub returns : goal.returns
+returns c =
+    let custom = c.args.table.now.custom_styling in
+    let info = c.args.info.now in
+    let cell = c.args.cell.now in
+    let w = info.content_width in
+    let d = cell_delimiter c.args.table.now info.delimiter cell in
+    let text = c.as_str-text.result.now in
+    let columns = slice_index_or c.seen_widths-widths.result.now 0 0 in
+    let single : cell.text_lines ≡ text ∷ [] =
+    sym c.text_lines-texts.ensures.value ∙ only_one string_bytes c.text_lines-texts.result.now c.index-texts-0.result c.if-texts-ne1.false c.index-texts-0.is ∙ ap (λ (t : Text). t ∷ []) (sym c.as_str-text.ensures.value) in
+    let wide = only_width custom cell.text_lines text c.seen_widths-widths.result.now single c.seen_widths-widths.ensures in
+    let fits : columns ≤ w = grind arith in
+    elim c.else-has_own_texts.branch [
+      | else-has_own_texts-via-then-has_own_texts+else-not-is_written_whole b ↦
+          whole_line custom w d cell text columns single wide fits (and_parts custom (list_any has_escape cell.text_lines) (sym c.has_own_texts.ensures ∙ b.if-has_own_texts.true)).0 (b.is_written_whole.ensures b.if-not-is_written_whole.false)
+      | else-has_own_texts-via-else-has_own_texts b ↦ seen_line custom w d cell text columns single wide fits (sym c.has_own_texts.ensures ∙ b.if-has_own_texts.false)
+    ]

@@ -1,9 +1,0 @@
-use Rattle.std.proofs.Common.{◌≡◌, ℕ, not, map, take}
-use Rattle.std.specs.List.{enumerate_from, filter}
-use Rattle.comfy_parts.specs.CellValue.{ColumnInfo}
-use Rattle.comfy_table.specs.DrawnCells.{drawn_cell}
-use Rattle.comfy_table.proofs.utils.formatting.drawn_cell.drawn_cells.Given as goal
-
-abbrev pub invariant-loop-position : goal.invariant-loop-position
-invariant-loop-position l =
-    l.cells.items ≡ map (drawn_cell l.table l.row) (filter (λ (p : ℕ × ColumnInfo). not p.1.is_hidden) (take l.position (enumerate_from 0 l.infos)))

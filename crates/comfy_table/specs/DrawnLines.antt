@@ -1,0 +1,24 @@
+-- Private: the lines of a cell as they are drawn.
+use Rattle.std.specs.Prelude.{ℕ, List, [], ◌∷◌}
+use Rattle.comfy_parts.specs.Text.{Text, measure}
+use Rattle.comfy_parts.specs.VisibleLines.{CellLine}
+use Rattle.comfy_table.specs.Lines.{as_seen}
+
+-- a line of a cell as it is drawn: the terminal columns of what is seen of it, and what is written
+pub record DrawnLine : Type 0 where
+  pub columns : ℕ
+  pub written : Text
+
+-- that of a line
+abbrev pub drawn_line : CellLine → DrawnLine
+drawn_line line = record { columns = measure line.seen; written = line.written }
+
+-- that of a line which is written as it is seen
+abbrev pub drawn_text : Text → DrawnLine
+drawn_text line = drawn_line (as_seen line)
+
+-- lines of which the first have texts of their own
+abbrev pub with_texts : List DrawnLine → List Text → List DrawnLine
+with_texts [] texts = []
+with_texts (line ∷ lines) [] = line ∷ lines
+with_texts (line ∷ lines) (text ∷ texts) = record { columns = line.columns; written = text } ∷ with_texts lines texts

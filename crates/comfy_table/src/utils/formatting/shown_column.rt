@@ -1,0 +1,42 @@
+//! The columns of a table that are shown.
+
+ghost use Rattle.std.specs.Prelude.{◌≡◌, IfOk};
+ghost use Rattle.comfy_table.specs.Pieces.{visible_infos};
+
+use comfy_parts::Result;
+use comfy_parts::content_split::ColumnDisplayInfo;
+use std::alloc::Global;
+use std::marker::Model;
+
+/// A column that isn't hidden, and its position in the table.
+#[derive(Drop)]
+pub struct ShownColumn<'a> {
+    pub position: usize,
+    pub info: &'a ColumnDisplayInfo,
+}
+
+impl<'a> Model for ShownColumn<'a> {
+    ghost use Rattle.std.specs.Prelude.{ℕ};
+    ghost use Rattle.comfy_parts.specs.CellValue.{ColumnInfo};
+
+    ghost Value = { ℕ × ColumnInfo };
+
+    ghost view = { λ c. (c.position, c.info.now) };
+}
+
+/// The columns of these infos that aren't hidden, in order.
+pub fn shown_columns<'a>(
+    alloc: Global,
+    infos: &'a [ColumnDisplayInfo],
+) -> Result<Vec<ShownColumn<'a>>>
+    ensures { IfOk result (λ columns. columns.items ≡ visible_infos infos.now) }
+{
+    let mut columns = Vec::new(alloc);
+    for (position, info) in infos.iter().enumerate() {
+        if info.is_hidden() {
+            continue;
+        }
+        columns.push(ShownColumn { position, info })?;
+    }
+    Ok(columns)
+}
