@@ -10,11 +10,6 @@ use Rattle.comfy_csv_parts.specs.declared.error.CsvError.{CsvError}
 use Rattle.comfy_csv_parts.specs.declared.error.CsvError.TheVariants.{Read, Write, NotUtf8, NoColumn, OutOfMemory}
 use Rattle.comfy_csv_parts.specs.declared.options.Options.{Options}
 
--- a sink that hadn't failed before
-pub still_sound : {T E : Type 0} (r : Result T E) (old new : Bool) → old ≡ false → OnOk r (old ≡ false → new ≡ false) → OnOk r (new ≡ false)
-still_sound (Ok x) old new was kept = kept was
-still_sound (Err e) old new was kept = tt
-
 none_failed : (facts : RunFacts) → facts.read_failed ≡ false → facts.write_failed ≡ false → NoDeviceFailed facts
 none_failed facts read write = record { no_read_failed = read; no_write_failed = write }
 
@@ -28,22 +23,21 @@ after_refusal T options (NoColumn name) input ended failed write_failed sound wh
 after_refusal T options OutOfMemory input ended failed write_failed sound why = record { no_device_failed = none_failed _ why sound; nothing_written = refl }
 
 module _ {T : Type 0} (options : Options) (input had output : Text) (old new : Option Text) (write_failed : Bool) where
-  -- the output was written, or a beginning of it
-  pub after_writing : (r : Result T CsvError) → old ≡ Some had → IsOutputFor options input output
-      → OnOk r (write_failed ≡ false) → OnOk r ((had : Text) → old ≡ Some had → new ≡ Some (had ++ output)) → IfErr r (λ e. (e ≡ Write) × (write_failed ≡ true))
-      → IfErr r (λ _. (had : Text) → old ≡ Some had → (part : Text) × (new ≡ Some (had ++ part)) × IsBeginningOnly part output)
-      → (written : Text) × (new ≡ Some (had ++ written)) × IsAfter options r (record { input = input; end_was_read = true; written = written; read_failed = false; write_failed = write_failed })
-  after_writing (Ok x) known drawn sound all error part = (output, all had known, record { no_device_failed = none_failed _ refl sound; whole = refl; output = drawn })
-  after_writing (Err Write) known drawn sound all error part =
+  -- the output was written
+  pub after_writing : (x : T) → old ≡ Some had → IsOutputFor options input output → write_failed ≡ false → ((had : Text) → old ≡ Some had → new ≡ Some (had ++ output))
+      → (written : Text) × (new ≡ Some (had ++ written)) × IsAfter options (Ok x) (record { input = input; end_was_read = true; written = written; read_failed = false; write_failed = write_failed })
+  after_writing x known drawn sound all = (output, all had known, record { no_device_failed = none_failed _ refl sound; whole = refl; output = drawn })
+
+  -- or a beginning of it
+  pub after_failure : old ≡ Some had → IsOutputFor options input output → write_failed ≡ true
+      → ((had : Text) → old ≡ Some had → (part : Text) × (new ≡ Some (had ++ part)) × IsBeginningOnly part output)
+      → (written : Text) × (new ≡ Some (had ++ written)) × IsAfter {T = T} options (Err Write) (record { input = input; end_was_read = true; written = written; read_failed = false; write_failed = write_failed })
+  after_failure known drawn failed part =
       let beginning = part had known in (
         beginning.0,
         beginning.1,
-        record { failed = error.1; no_read_failed = refl; whole = refl; output = output; is_output = drawn; beginning = beginning.2 },
+        record { failed = failed; no_read_failed = refl; whole = refl; output = output; is_output = drawn; beginning = beginning.2 },
       )
-  after_writing (Err Read) known drawn sound all error part = absurd (cc error.0)
-  after_writing (Err (NotUtf8 number)) known drawn sound all error part = absurd (cc error.0)
-  after_writing (Err (NoColumn name)) known drawn sound all error part = absurd (cc error.0)
-  after_writing (Err OutOfMemory) known drawn sound all error part = absurd (cc error.0)
 
 module _ (options : Options) (input : Text) (ended failed : Bool) where
   -- why there is nothing to write where the input wasn't read

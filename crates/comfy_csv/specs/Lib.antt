@@ -1,4 +1,3 @@
 pub mod Drawn
 pub mod Laws
-pub mod Output
 pub mod Run

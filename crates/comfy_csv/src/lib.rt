@@ -2,7 +2,6 @@
 #![tactic(auto)]
 
 pub mod laws;
-mod output;
 mod process;
 mod table;
 mod transfer;

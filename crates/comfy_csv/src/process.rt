@@ -1,10 +1,9 @@
 //! The whole program, as a process runs it: its words, its standard streams and its status.
 
-use crate::output::Output;
 use crate::transfer::draw;
 use clap::error::{Error, ErrorKind};
 use comfy_csv_parts::{Asked, CsvError, Surroundings, asked_of};
-use comfy_run::run::FromReader;
+use comfy_run::run::{FromReader, ToWriter, words_of_process};
 use std::env::VarError;
 use std::fs::File;
 use std::io::IsTerminal;
@@ -24,7 +23,7 @@ const MISUSED: u8 = 2;
 /// }
 /// ```
 pub fn run_with_arguments(rt: &HostRuntime) -> ExitCode {
-    match arguments(rt) {
+    match words_of_process(rt) {
         Ok(words) => run_with_words(rt, words.as_slice()),
         Err(error) if error.kind() == io::ErrorKind::InvalidData => {
             let _ = eprintln!(rt; "csvtable: a word isn't UTF-8");
@@ -32,15 +31,6 @@ pub fn run_with_arguments(rt: &HostRuntime) -> ExitCode {
         }
         Err(_) => failed(rt, &CsvError::OutOfMemory),
     }
-}
-
-// The program's name and the words after it.
-fn arguments(rt: &HostRuntime) -> io::Result<Vec<String>> {
-    let mut words = Vec::new(rt.alloc());
-    for word in env::args(rt)? {
-        words.push(word)?;
-    }
-    Ok(words)
 }
 
 fn run_with_words(rt: &HostRuntime, words: &[String]) -> ExitCode {
@@ -108,7 +98,7 @@ fn variable(rt: &HostRuntime, name: &str) -> Result<Option<String>, CsvError> {
 
 // Draws the file, or standard input.
 fn run(rt: &HostRuntime, asked: &Asked) -> ExitCode {
-    let mut sink = Output::new(rt.stdout());
+    let mut sink = ToWriter::new(rt.stdout());
     match drawn(rt, &mut sink, asked) {
         Ok(()) => ExitCode::SUCCESS,
         Err(CsvError::Write) if sink.is_unread() => ExitCode::FAILURE,
@@ -116,7 +106,7 @@ fn run(rt: &HostRuntime, asked: &Asked) -> ExitCode {
     }
 }
 
-fn drawn(rt: &HostRuntime, sink: &mut Output<io::Stdout>, asked: &Asked) -> Result<(), CsvError> {
+fn drawn(rt: &HostRuntime, sink: &mut ToWriter<io::Stdout>, asked: &Asked) -> Result<(), CsvError> {
     let Some(path) = &asked.file else {
         return draw(
             rt.alloc(),

@@ -5,19 +5,14 @@ ghost use Rattle.csv.specs.Records.{fields_of};
 ghost use Rattle.comfy_csv_parts.specs.Columns.{IsColumnRefusal};
 ghost use Rattle.comfy_csv.specs.Drawn.{IsOutputFor, IsOutputOf, note_for, row_count, table_for};
 ghost use Rattle.comfy_csv.specs.Run.{IsAfter, IsReadFailure, IsRefusal, is_read_fault, is_write_fault};
-ghost use Rattle.comfy_csv_parts.specs.declared.error.CsvError.TheVariants.{Write};
-ghost use Rattle.comfy_run.specs.Outcome.{IsBeginningOnly};
 ghost use Rattle.comfy_run.specs.Run.{Between};
 
 use crate::table::table_of;
 use comfy_csv_parts::{CsvError, Options, records_of};
-use comfy_run::run::{Sink, Source};
+use comfy_run::run::{DeviceFault, ReadError, Sink, Source, read_all, write_all};
 use csv::StringRecord;
 use std::alloc::{AllocError, Global};
 use std::fmt::Write;
-
-// How many bytes are asked for at a time.
-const CHUNK: usize = 65536;
 
 /// Reads the whole source, and writes the drawing of the table of its records to the sink, each line followed by a line
 /// feed. Where not all records are drawn, a line says how many there are.
@@ -45,7 +40,10 @@ pub fn draw<R: Source, W: Sink>(
         (IsAfter options.now result) }
 {
     let output = output_for(alloc, source, options)?;
-    write_all(sink, output.as_bytes())
+    match write_all(sink, output.as_bytes()) {
+        Ok(()) => Ok(()),
+        Err(DeviceFault) => Err(CsvError::Write),
+    }
 }
 
 // Reads the whole source, and draws the table of its records into one text.
@@ -60,29 +58,23 @@ fn output_for<R: Source>(
     ensures output { IfOk result (λ output. (input : List ℕ) → R.remaining source.old ≡ Some input → IsOutputFor options.now input (string_bytes output)) }
     ensures refused { IfErr result (λ e. (input : List ℕ) → R.remaining source.old ≡ Some input → IsRefusal options.now e input (R.end_was_read source.new) (R.has_failed source.new)) }
 {
-    let input = read_all(alloc, source)?;
+    let input = input_of(alloc, source)?;
     let records = records_of(alloc, input.as_slice(), options.delimiter)?;
     output_of(alloc, records.as_slice(), options)
 }
 
 // All that the source has left.
-fn read_all<R: Source>(alloc: Global, source: &mut R) -> Result<Vec<u8>, CsvError>
+fn input_of<R: Source>(alloc: Global, source: &mut R) -> Result<Vec<u8>, CsvError>
     ensures ended { OnOk result (R.end_was_read source.new ≡ true) }
     ensures fault { R.has_failed source.new ≡ is_read_fault result }
     ensures no_write { is_write_fault result ≡ false }
     ensures input { IfOk result (λ bytes. (input : List ℕ) → R.remaining source.old ≡ Some input → bytes.items ≡ input) }
     ensures refused { IfErr result (λ e. (input : List ℕ) → R.remaining source.old ≡ Some input → IsReadFailure e (R.has_failed source.new)) }
 {
-    let mut bytes = Vec::new(alloc);
-    let mut buffer = [0u8; CHUNK];
-    loop {
-        let Ok(count) = source.read(&mut buffer) else {
-            return Err(CsvError::Read);
-        };
-        if count == 0 {
-            return Ok(bytes);
-        }
-        bytes.extend_from_slice(&buffer[..count])?;
+    match read_all(alloc, source) {
+        Ok(input) => Ok(input),
+        Err(ReadError::Source) => Err(CsvError::Read),
+        Err(ReadError::OutOfMemory) => Err(CsvError::OutOfMemory),
     }
 }
 
@@ -119,22 +111,4 @@ fn push_note(output: &mut String, limit: Option<usize>, count: usize) -> Result<
         Some(limit) if limit < count => write!(output, "{limit} of {count} records\n"),
         _ => Ok(()),
     }
-}
-
-// Writes the whole piece. Where the sink fails, a beginning of the piece was written, not all of it.
-fn write_all<W: Sink>(sink: &mut W, piece: &[u8]) -> Result<(), CsvError>
-    ensures written { OnOk result ((had : List ℕ) → W.taken sink.old ≡ Some had → W.taken sink.new ≡ Some (had ++ piece.now)) }
-    ensures no_fault { OnOk result (W.has_failed sink.old ≡ false → W.has_failed sink.new ≡ false) }
-    ensures error { IfErr result (λ e. (e ≡ Write) × (W.has_failed sink.new ≡ true)) }
-    ensures beginning { IfErr result (λ _. (had : List ℕ) → W.taken sink.old ≡ Some had → (part : List ℕ) × (W.taken sink.new ≡ Some (had ++ part)) × IsBeginningOnly part piece.now) }
-{
-    let mut rest = piece;
-    while !rest.is_empty() {
-        let Ok(count) = sink.write(rest) else {
-            return Err(CsvError::Write);
-        };
-        let (_written, others) = rest.split_at(count);
-        rest = others;
-    }
-    Ok(())
 }

@@ -1,20 +1,19 @@
 -- What the program reports, and which settings it runs with.
-use Rattle.std.proofs.Common.{◌≡◌, Bool, true, [], ◌++◌, Option, Some, Result, Ok, Err, OnOk, IfErr, refl, sym, append-nil, ap, subst, ◌∙◌}
+use Rattle.std.proofs.Common.{◌≡◌, Bool, true, [], ◌++◌, Option, Some, Result, Ok, Err, OnOk, OnErr, refl, sym, append-nil, ap, subst, ◌∙◌}
 use Rattle.comfy_parts.specs.Text.{Text}
 use Rattle.comfy_run.specs.Outcome.{RunFacts, IsBeginningOnly}
 use Rattle.comfy_run.specs.Program.{Reports}
 use Rattle.comfy_run.specs.Run.{IsAfter}
 use Rattle.comfy_run.specs.declared.error.RunError.{RunError}
-use Rattle.comfy_run.specs.declared.error.RunError.TheVariants.{Write}
 use Rattle.comfy_run.specs.declared.settings.Settings.{Settings}
 
 -- a written line is reported
-pub reported : {T : Type 0} (r : Result T RunError) (text : Text) (old new : Option Text) (failed : Bool) → OnOk r ((had : Text) → old ≡ Some had → new ≡ Some (had ++ text))
-    → IfErr r (λ e. (e ≡ Write) × (failed ≡ true)) → IfErr r (λ _. (had : Text) → old ≡ Some had → (part : Text) × (new ≡ Some (had ++ part)) × IsBeginningOnly part text) → Reports text old new failed
-reported (Ok x) text old new failed all error part = λ had known. (text, [], all had known, sym (append-nil text), λ fine. refl)
-reported (Err e) text old new failed all error part = λ had known.
+pub reported : {T E : Type 0} (r : Result T E) (text : Text) (old new : Option Text) (failed : Bool) → OnOk r ((had : Text) → old ≡ Some had → new ≡ Some (had ++ text))
+    → OnErr r (failed ≡ true) → OnErr r ((had : Text) → old ≡ Some had → (part : Text) × (new ≡ Some (had ++ part)) × IsBeginningOnly part text) → Reports text old new failed
+reported (Ok x) text old new failed all fault part = λ had known. (text, [], all had known, sym (append-nil text), λ fine. refl)
+reported (Err e) text old new failed all fault part = λ had known.
     let beginning = part had known in
-    (beginning.0, beginning.2.rest, beginning.1, beginning.2.joins, λ fine. absurd (cc (error.1, fine)))
+    (beginning.0, beginning.2.rest, beginning.1, beginning.2.joins, λ fine. absurd (cc (fault, fine)))
 
 -- nothing is reported of a sink that stays as it was
 pub nothing_reported : (old : Option Text) (failed : Bool) → Reports [] old old failed

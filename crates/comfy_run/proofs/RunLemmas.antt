@@ -9,11 +9,6 @@ use Rattle.comfy_run.specs.declared.error.RunError.{RunError}
 use Rattle.comfy_run.specs.declared.error.RunError.TheVariants.{Read, Write, NotUtf8, Table}
 use Rattle.comfy_run.specs.declared.settings.Settings.{Settings}
 
--- a writer that hadn't failed before
-pub still_sound : {T E : Type 0} (r : Result T E) (old new : Bool) → old ≡ false → OnOk r (old ≡ false → new ≡ false) → OnOk r (new ≡ false)
-still_sound (Ok x) old new was kept = kept was
-still_sound (Err e) old new was kept = tt
-
 -- nothing is written where there is nothing to write
 pub after_refusal : (T : Type 0) (settings : Settings) (e : RunError) (input : Text) (ended failed write_failed : Bool) → write_failed ≡ false → IsRefusal e input ended failed
     → IsAfter {T = T} settings (Err e) (record { input = input; end_was_read = ended; written = []; read_failed = failed; write_failed = write_failed })
@@ -26,22 +21,23 @@ none_failed : (facts : RunFacts) → facts.read_failed ≡ false → facts.write
 none_failed facts read write = record { no_read_failed = read; no_write_failed = write }
 
 module _ {T : Type 0} (settings : Settings) (input had output : Text) (old new : Option Text) (write_failed : Bool) where
-  -- the output was written, or a beginning of it
-  pub after_writing : (r : Result T RunError) → old ≡ Some had → IsUtf8 input × IsOutputFor settings.width settings.arrangement settings.style input output
-      → OnOk r (write_failed ≡ false) → OnOk r ((had : Text) → old ≡ Some had → new ≡ Some (had ++ output)) → IfErr r (λ e. (e ≡ Write) × (write_failed ≡ true))
-      → IfErr r (λ _. (had : Text) → old ≡ Some had → (part : Text) × (new ≡ Some (had ++ part)) × IsBeginningOnly part output)
-      → (written : Text) × (new ≡ Some (had ++ written)) × IsAfter settings r (record { input = input; end_was_read = true; written = written; read_failed = false; write_failed = write_failed })
-  after_writing (Ok x) known drawn sound all error part = (
+  -- the output was written
+  pub after_writing : (x : T) → old ≡ Some had → IsUtf8 input × IsOutputFor settings.width settings.arrangement settings.style input output
+      → write_failed ≡ false → ((had : Text) → old ≡ Some had → new ≡ Some (had ++ output))
+      → (written : Text) × (new ≡ Some (had ++ written)) × IsAfter settings (Ok x) (record { input = input; end_was_read = true; written = written; read_failed = false; write_failed = write_failed })
+  after_writing x known drawn sound all = (
     output,
     all had known,
     record { no_device_failed = none_failed _ refl sound; has_text = record { whole = refl; is_text = drawn.0 }; output = drawn.1 },
   )
-  after_writing (Err Write) known drawn sound all error part =
+
+  -- or a beginning of it
+  pub after_failure : old ≡ Some had → IsUtf8 input × IsOutputFor settings.width settings.arrangement settings.style input output
+      → write_failed ≡ true → ((had : Text) → old ≡ Some had → (part : Text) × (new ≡ Some (had ++ part)) × IsBeginningOnly part output)
+      → (written : Text) × (new ≡ Some (had ++ written)) × IsAfter {T = T} settings (Err Write) (record { input = input; end_was_read = true; written = written; read_failed = false; write_failed = write_failed })
+  after_failure known drawn failed part =
       let beginning = part had known in (
         beginning.0,
         beginning.1,
-        record { failed = error.1; no_read_failed = refl; has_text = record { whole = refl; is_text = drawn.0 }; output = output; is_output = drawn.1; beginning = beginning.2 },
+        record { failed = failed; no_read_failed = refl; has_text = record { whole = refl; is_text = drawn.0 }; output = output; is_output = drawn.1; beginning = beginning.2 },
       )
-  after_writing (Err Read) known drawn sound all error part = absurd (cc error.0)
-  after_writing (Err NotUtf8) known drawn sound all error part = absurd (cc error.0)
-  after_writing (Err (Table e)) known drawn sound all error part = absurd (cc error.0)

@@ -10,3 +10,4 @@ pub mod Rows
 pub mod Run
 pub mod Straight
 pub mod Stream
+pub mod Whole

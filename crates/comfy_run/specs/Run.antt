@@ -1,10 +1,13 @@
 -- What a call of `run` ensures, by its result.
 use Rattle.std.specs.Prelude.{◌≡◌, Bool, true, false, ◌++◌, Option, Some, Result, Ok, Err, IsUtf8}
 use Rattle.comfy_parts.specs.Text.{Text}
+use Rattle.comfy_parts.specs.declared.error.TableError.TheVariants as memory
 use Rattle.comfy_run.specs.Outcome.{RunFacts, IsAfterOk, IsAfterRead, IsAfterWrite, IsAfterNotUtf8, IsAfterTable}
 use Rattle.comfy_run.specs.declared.error.RunError.{RunError}
 use Rattle.comfy_run.specs.declared.error.RunError.TheVariants.{Read, Write, NotUtf8, Table}
 use Rattle.comfy_run.specs.declared.settings.Settings.{Settings}
+use Rattle.comfy_run.specs.declared.whole.ReadError.{ReadError}
+use Rattle.comfy_run.specs.declared.whole.ReadError.TheVariants.{Source, OutOfMemory}
 
 -- what the facts of a call are, by its result
 abbrev pub IsAfter : {T : Type 0} → Settings → Result T RunError → RunFacts → Type 0
@@ -23,6 +26,11 @@ is_read_fault _ = false
 abbrev pub is_write_fault : {T : Type 0} → Result T RunError → Bool
 is_write_fault (Err Write) = true
 is_write_fault _ = false
+
+-- the error of a source that wasn't read to its end
+abbrev pub run_error_of : ReadError → RunError
+run_error_of Source = Read
+run_error_of OutOfMemory = Table memory.OutOfMemory
 
 -- what a source and a sink tell at one time: the bytes that are left, whether the end was read, whether the source has failed, the bytes that were taken, and whether the sink has failed
 pub record Devices : Type 0 where

@@ -7,10 +7,11 @@ pub record ReaderValue (R : Type 0) : Type 0 where
   pub failed : Bool
   pub ended : Bool
 
--- a writer, and whether it has failed
+-- a writer, whether it has failed, and whether that was since no reader was left
 pub record WriterValue (W : Type 0) : Type 0 where
   pub writer : W
   pub failed : Bool
+  pub unread : Bool
 
 -- after the end nothing is left; before it, what the reader says
 abbrev pub left_before : Bool → Option (List ℕ) → Option (List ℕ)

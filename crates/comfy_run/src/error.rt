@@ -2,8 +2,10 @@
 
 ghost use Rattle.std.specs.Prelude.{◌≡◌};
 ghost use Rattle.comfy_parts.specs.declared.error.TableError.TheVariants.{OutOfMemory};
+ghost use Rattle.comfy_run.specs.Run.{run_error_of};
 ghost use Rattle.comfy_run.specs.declared.error.RunError.TheVariants.{Table};
 
+use crate::whole::ReadError;
 use comfy_parts::TableError;
 use std::alloc::AllocError;
 use thiserror::Error;
@@ -38,5 +40,16 @@ impl From<AllocError> for RunError {
 
     fn from(_error: AllocError) -> RunError {
         RunError::Table(TableError::OutOfMemory)
+    }
+}
+
+impl From<ReadError> for RunError {
+    ghost from_gives = { λ x e. e ≡ run_error_of x };
+
+    fn from(error: ReadError) -> RunError {
+        match error {
+            ReadError::Source => RunError::Read,
+            ReadError::OutOfMemory => RunError::Table(TableError::OutOfMemory),
+        }
     }
 }

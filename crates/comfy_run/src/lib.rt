@@ -10,3 +10,4 @@ mod rows;
 pub mod run;
 mod settings;
 mod stream;
+mod whole;

@@ -10,6 +10,7 @@ pub use crate::error::RunError;
 pub use crate::memory::{MemorySink, MemorySource};
 pub use crate::settings::Settings;
 pub use crate::stream::{FromReader, ToWriter};
+pub use crate::whole::{ReadError, read_all, write_all};
 pub use command::program;
-pub use process::run_with_arguments;
+pub use process::{run_with_arguments, words_of_process};
 pub use transfer::{drawing_of, run};

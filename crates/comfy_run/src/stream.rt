@@ -4,7 +4,7 @@ ghost use Rattle.std.specs.Prelude.{◌≡◌, false};
 ghost use Rattle.comfy_run.specs.Stream.{left_before, none_is_left};
 
 use crate::device::{DeviceFault, Sink, Source};
-use std::io::{Read, Write};
+use std::io::{ErrorKind, Read, Write};
 use std::marker::Model;
 
 /// A source over a reader. Every error of the reader is a failure.
@@ -69,6 +69,7 @@ impl<R: Read> Source for FromReader<R> {
 pub struct ToWriter<W> {
     writer: W,
     failed: bool,
+    unread: bool,
 }
 
 impl<W> Model for ToWriter<W> {
@@ -76,18 +77,26 @@ impl<W> Model for ToWriter<W> {
 
     ghost Value = { WriterValue W };
 
-    ghost view = { λ s. record { writer = s.writer; failed = s.failed } };
+    ghost view = { λ s. record { writer = s.writer; failed = s.failed; unread = s.unread } };
 }
 
 impl<W: Write> ToWriter<W> {
     /// A sink to the writer. It takes no memory.
     pub fn new(writer: W) -> ToWriter<W>
-        ensures { result ≡ record { writer = writer; failed = false } }
+        ensures { result ≡ record { writer = writer; failed = false; unread = false } }
     {
         ToWriter {
             writer,
             failed: false,
+            unread: false,
         }
+    }
+
+    /// Whether the writer failed as a pipe does whose reader has ended.
+    pub fn is_unread(&self) -> bool
+        ensures { result ≡ self.now.unread }
+    {
+        self.unread
     }
 }
 
@@ -102,8 +111,13 @@ impl<W: Write> Sink for ToWriter<W> {
         }
         match self.writer.write(piece) {
             Ok(count) if count > 0 || piece.is_empty() => Ok(count),
-            _ => {
+            Ok(_) => {
                 self.failed = true;
+                Err(DeviceFault)
+            }
+            Err(error) => {
+                self.failed = true;
+                self.unread = error.kind() == ErrorKind::BrokenPipe;
                 Err(DeviceFault)
             }
         }

@@ -9,7 +9,8 @@ ghost use Rattle.comfy_run.specs.declared.settings.Settings.{Settings};
 use crate::arguments::settings_of;
 use crate::device::{Sink, Source};
 use crate::error::RunError;
-use crate::run::transfer::{run, write_all};
+use crate::run::transfer::run;
+use crate::whole::write_all;
 use comfy_table::TableError;
 use std::alloc::Global;
 

@@ -34,18 +34,18 @@ pub fn run_with_arguments(rt: &HostRuntime) -> ExitCode {
 
 // Runs the program with the words after its name.
 fn run_with_words(rt: &HostRuntime) -> io::Result<ExitCode> {
-    let arguments = arguments(rt)?;
-    let mut words = Vec::new(rt.alloc());
-    for word in &arguments {
-        words.push(word.as_str())?;
+    let words = words_of_process(rt)?;
+    let mut behind_name = Vec::new(rt.alloc());
+    for word in words.iter().skip(1) {
+        behind_name.push(word.as_str())?;
     }
-    Ok(run_with(rt, words.as_slice()))
+    Ok(run_with(rt, behind_name.as_slice()))
 }
 
-// The words after the program's name.
-fn arguments(rt: &HostRuntime) -> io::Result<Vec<String>> {
+/// The program's name, and the words after it.
+pub fn words_of_process(rt: &HostRuntime) -> io::Result<Vec<String>> {
     let mut words = Vec::new(rt.alloc());
-    for word in env::args(rt)?.skip(1) {
+    for word in env::args(rt)? {
         words.push(word)?;
     }
     Ok(words)

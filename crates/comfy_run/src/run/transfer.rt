@@ -1,19 +1,15 @@
 //! Reads a whole input, draws its table, and writes the drawing.
 
-ghost use Rattle.std.specs.Prelude.{◌≡◌, ◌++◌, List, ℕ, true, false, Some, OnOk, IfOk, IfErr, IsUtf8, string_bytes};
+ghost use Rattle.std.specs.Prelude.{◌≡◌, List, ℕ, true, false, Some, OnOk, IfOk, IfErr, IsUtf8, string_bytes};
 ghost use Rattle.comfy_run.specs.Input.{IsOutputFor};
-ghost use Rattle.comfy_run.specs.Outcome.{IsBeginningOnly};
 ghost use Rattle.comfy_run.specs.Run.{Between, IsAfter, IsRefusal, is_read_fault, is_write_fault};
-ghost use Rattle.comfy_run.specs.declared.error.RunError.TheVariants.{Write};
 
-use crate::device::{Sink, Source};
+use crate::device::{DeviceFault, Sink, Source};
 use crate::error::RunError;
 use crate::run::input::table_of;
 use crate::settings::Settings;
+use crate::whole::{read_all, write_all};
 use std::alloc::Global;
-
-// How many bytes are asked for at a time.
-const CHUNK: usize = 4096;
 
 /// Reads the whole source, and writes the drawing of its table to the sink, each line followed by a
 /// line feed.
@@ -46,7 +42,10 @@ pub fn run<R: Source, W: Sink>(
         (IsAfter settings result) }
 {
     let output = output_for(alloc, source, settings)?;
-    write_all(sink, output.as_bytes())
+    match write_all(sink, output.as_bytes()) {
+        Ok(()) => Ok(()),
+        Err(DeviceFault) => Err(RunError::Write),
+    }
 }
 
 // Reads the whole source, and draws its table into one text.
@@ -69,27 +68,6 @@ fn output_for<R: Source>(
     Ok(output)
 }
 
-// All that the source has left.
-fn read_all<R: Source>(alloc: Global, source: &mut R) -> Result<Vec<u8>, RunError>
-    ensures ended { OnOk result (R.end_was_read source.new ≡ true) }
-    ensures fault { R.has_failed source.new ≡ is_read_fault result }
-    ensures no_write { is_write_fault result ≡ false }
-    ensures input { IfOk result (λ bytes. (input : List ℕ) → R.remaining source.old ≡ Some input → bytes.items ≡ input) }
-    ensures refused { IfErr result (λ e. (input : List ℕ) → R.remaining source.old ≡ Some input → IsRefusal e input (R.end_was_read source.new) (R.has_failed source.new)) }
-{
-    let mut bytes = Vec::new(alloc);
-    let mut buffer = [0u8; CHUNK];
-    loop {
-        let Ok(count) = source.read(&mut buffer) else {
-            return Err(RunError::Read);
-        };
-        if count == 0 {
-            return Ok(bytes);
-        }
-        bytes.extend_from_slice(&buffer[..count])?;
-    }
-}
-
 /// The drawing of the table that a text stands for, each line followed by a line feed: what `run` writes for this input.
 /// The text's first line is the header, the others are rows, and cells stand between TABs.
 ///
@@ -100,22 +78,4 @@ pub fn drawing_of(alloc: Global, text: &str, settings: Settings) -> comfy_table:
     ensures { IfOk result (λ output. IsOutputFor settings.width settings.arrangement settings.style text.now (string_bytes output)) }
 {
     table_of(alloc, text, settings)?.to_terminated_text()
-}
-
-// Writes the whole piece. Where the sink fails, a beginning of the piece was written, not all of it.
-pub(crate) fn write_all<W: Sink>(sink: &mut W, piece: &[u8]) -> Result<(), RunError>
-    ensures written { OnOk result ((had : List ℕ) → W.taken sink.old ≡ Some had → W.taken sink.new ≡ Some (had ++ piece.now)) }
-    ensures no_fault { OnOk result (W.has_failed sink.old ≡ false → W.has_failed sink.new ≡ false) }
-    ensures error { IfErr result (λ e. (e ≡ Write) × (W.has_failed sink.new ≡ true)) }
-    ensures beginning { IfErr result (λ _. (had : List ℕ) → W.taken sink.old ≡ Some had → (part : List ℕ) × (W.taken sink.new ≡ Some (had ++ part)) × IsBeginningOnly part piece.now) }
-{
-    let mut rest = piece;
-    while !rest.is_empty() {
-        let Ok(count) = sink.write(rest) else {
-            return Err(RunError::Write);
-        };
-        let (_written, others) = rest.split_at(count);
-        rest = others;
-    }
-    Ok(())
 }

@@ -1,5 +1,5 @@
 use Rattle.std.proofs.Common.{◌≡◌, [], Some, Err, ap, sym, ◌∙◌, append-nil, rules}
-use Rattle.comfy_csv.proofs.RunLemmas.{after_refusal, after_writing, still_sound}
+use Rattle.comfy_csv.proofs.RunLemmas.{after_failure, after_refusal, after_writing}
 use Rattle.comfy_csv.proofs.transfer.draw.Goals as goal
 
 pub returns-in_err-output-clause-known : goal.returns-in_err-output-clause-known
@@ -10,8 +10,14 @@ returns-in_err-output-clause-known g c = λ input had known taken read write.
       rw same (after_refusal (Unit {0}) c.args.options.now c.in_err-output.field-0.0 input _ _ _ write (c.in_err-output.ensures.refused input known)),
     )
 
-pub returns-clause-known : goal.returns-clause-known
-returns-clause-known g c = λ input had known taken read write.
+pub returns-in-Ok-clause-known : goal.returns-in-Ok-clause-known
+returns-in-Ok-clause-known g c = λ input had known taken read write.
     rw (c.in_ok-output.ensures.ended, c.in_ok-output.ensures.fault)
-    (after_writing c.args.options.now input had c.as_bytes.result.now _ _ _ c.write_all.result taken
-    (rw (c.as_bytes.ensures.value) (c.in_ok-output.ensures.output input known)) (still_sound c.write_all.result _ _ write c.write_all.ensures.no_fault) c.write_all.ensures.written c.write_all.ensures.error c.write_all.ensures.beginning)
+    (after_writing c.args.options.now input had c.as_bytes.result.now _ _ _ c.in-Ok.field-0 taken
+    (rw (c.as_bytes.ensures.value) (c.in_ok-output.ensures.output input known)) (c.in-Ok.ensures.no_fault write) c.in-Ok.ensures.written)
+
+pub returns-in-Err-clause-known : goal.returns-in-Err-clause-known
+returns-in-Err-clause-known g c = λ input had known taken read write.
+    rw (c.in_ok-output.ensures.ended, c.in_ok-output.ensures.fault)
+    (after_failure {T = Unit {0}} c.args.options.now input had c.as_bytes.result.now _ _ _ taken
+    (rw (c.as_bytes.ensures.value) (c.in_ok-output.ensures.output input known)) c.in-Err.ensures.fault c.in-Err.ensures.beginning)
