@@ -88,7 +88,11 @@ pub fn row_cell_lines<'a>(
 }
 
 // The columns and the text of a cell's one text line, if it fits and is written as it is.
-fn only_line<'a>(table: &Table, cell: &'a Cell, info: &ColumnDisplayInfo) -> Option<(usize, &'a str)>
+fn only_line<'a>(
+    table: &Table,
+    cell: &'a Cell,
+    info: &ColumnDisplayInfo,
+) -> Option<(usize, &'a str)>
     ensures { IfSome result (λ line. record { columns = line.0; written = line.1.now } ∷ [] ≡ map drawn_line (whole_lines table.now.custom_styling info.now.content_width (cell_delimiter table.now info.now.delimiter cell.now) cell.now)) }
 {
     let texts = cell.text_lines();
