@@ -1,7 +1,8 @@
 pub mod Classes
 pub mod ClusterFronts
-pub mod Entries
-pub mod FrontEntries
+pub mod FrontPairs
 pub mod Fronts
-pub mod Moves
+pub mod Pairs
+pub mod Steps
 pub mod Sums
+pub mod TextPairs

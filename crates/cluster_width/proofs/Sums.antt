@@ -1,26 +1,26 @@
 -- A text measures at most what its clusters measure together: both readings are kept in the relation, from the end of the text to its beginning.
-use Rattle.std.proofs.Common.{◌≡◌, ◌≤◌, ℕ, ◌+◌, ◌-◌, Bool, true, false, not, ◌&&◌, ◌||◌, ◌==◌, nat_le, List, [], ◌∷◌, ◌++◌, map, sum_by, unwrap_or, refl, sym, ap, ap₂, ◌∙◌, subst, arith}
+use Rattle.std.proofs.Common.{◌≡◌, ◌≤◌, ℕ, ◌+◌, ◌-◌, Bool, true, false, not, ◌&&◌, ◌||◌, ◌==◌, List, [], ◌∷◌, ◌++◌, map, sum_by, refl, sym, ap, ap₂, ◌∙◌, subst, arith}
 use Rattle.std.specs.Bool.{beq}
 use Rattle.std.specs.Prelude.{if◌then◌else◌}
-use Rattle.std.proofs.lemmas.Bool.{and_parts, eqb-true, leb-true, not-true, or_parts}
+use Rattle.std.proofs.lemmas.Bool.{and_parts, leb-true, not-true}
 use Rattle.std.proofs.lemmas.List.Sums.{sum_by-cons}
-use Rattle.ucd_table.proofs.Facts.{same_from_beq}
-use Rattle.ucd_breaks.specs.GraphemeClusterBreak.{grapheme_cluster_break, grapheme_cluster_break_number}
-use Rattle.ucd_breaks.proofs.GraphemeClusterBreakLemmas.{grapheme_cluster_break_number_injective}
+use Rattle.ucd_breaks.specs.GraphemeClusterBreak.{grapheme_cluster_break}
 use Rattle.ucd_derived.specs.IndicConjunctBreak.{indic_conjunct_break}
 use Rattle.ucd_derived.specs.declared.IndicConjunctBreak.{IndicConjunctBreak}
 use Rattle.ucd_derived.specs.declared.IndicConjunctBreak.TheVariants as InCb
 use Rattle.ucd_emoji.specs.Binary.{is_extended_pictographic}
-use Rattle.unicode_segmentation.specs.Grapheme.{break_by_pair, ends_in_half_flag, ends_in_linker, is_consonant, is_grapheme_break, is_regional, joins_conjunct, joins_emoji}
+use Rattle.unicode_segmentation.specs.Grapheme.{ends_in_half_flag, ends_in_linker, ends_in_pictograph, is_consonant, is_grapheme_break, is_regional, is_zwj, joins_conjunct, joins_emoji}
 use Rattle.unicode_segmentation.specs.Segments.{cut, prepend}
+use Rattle.unicode_segmentation.proofs.Computing.{unicode_segmentation}
 use Rattle.unicode_width.specs.declared.state.State.{State}
 use Rattle.unicode_width.specs.Width.{Reading, plain, read_before, step, str_width}
 use Rattle.unicode_width.proofs.Computing.{unicode_width}
 use Rattle.unicode_width.proofs.Rules.{str_width-append_simple}
 use Rattle.cluster_width.specs.ClusterSums.{clash, is_presentation, selectors_agree}
-use Rattle.cluster_width.proofs.Classes.{IsIn, class, class_known, found, may_link}
-use Rattle.cluster_width.proofs.Entries.{Entry, admits, begins, ends-well, entries, goes-on, is_cut, matches, reaches, same_state, same_state-true}
-use Rattle.cluster_width.proofs.Moves.{step-moves, step-same, step_of}
+use Rattle.cluster_width.proofs.Classes.{IsIn, IsLike, are_linkable, example_of, may_link}
+use Rattle.cluster_width.proofs.Pairs.{Covers, Pair}
+use Rattle.cluster_width.proofs.Steps.{step-like, step-moves}
+use Rattle.cluster_width.proofs.TextPairs.{anew, arrives, ends-well, fits, is_cut, links, pairs, reached, start, starts}
 
 -- ---- readings that begin with a total of 1 never come to 0
 
@@ -77,210 +77,181 @@ and_then a b h = (and_parts a b h).1
 abbrev pub is_break : List ℕ → List ℕ → Bool
 is_break = is_grapheme_break true
 
-pub linker_may : (v : IndicConjunctBreak) (vs : List IndicConjunctBreak) → ends_in_linker (v ∷ vs) ≡ true → may_link v ≡ true
+linker_may : (v : IndicConjunctBreak) (vs : List IndicConjunctBreak) → ends_in_linker (v ∷ vs) ≡ true → may_link v ≡ true
 unfolding ends_in_linker
 linker_may InCb.Linker vs h = refl
 linker_may InCb.Extend vs h = refl
 linker_may InCb.Consonant vs h = absurd (cc h)
 linker_may InCb.None vs h = absurd (cc h)
 
+pub either_way : (a b p q : Bool) → (a ≡ true → p ≡ true) → (b ≡ true → q ≡ true) → (a || b) ≡ true → (p || q) ≡ true
+either_way true b p q f g h = ap (λ t. t || q) (f refl)
+either_way false true p q f g h = ap (λ t. p || t) (g refl) ∙ or_true p
+  where
+    or_true : (t : Bool) → (t || true) ≡ true
+    or_true true = refl
+    or_true false = refl
+either_way false false p q f g h = absurd (cc h)
+
+-- where GB9c or GB11 joins the two, it may
+pub linkable : (before : List ℕ) (d c : ℕ) → (joins_conjunct (d ∷ before) c || joins_emoji (d ∷ before) c) ≡ true → are_linkable d c ≡ true
+linkable before d c =
+    let ends = ends_in_linker (map indic_conjunct_break (d ∷ before)) in
+    let link = may_link (indic_conjunct_break d) in
+    let consonant = is_consonant (indic_conjunct_break c) in
+    let zwj = is_zwj (grapheme_cluster_break d) in
+    let shown = ends_in_pictograph before in
+    let pictograph = is_extended_pictographic c in
+    either_way (joins_conjunct (d ∷ before) c) (joins_emoji (d ∷ before) c) (link && consonant) (zwj && pictograph)
+    (λ h. both_true link consonant (linker_may (indic_conjunct_break d) (map indic_conjunct_break before) (and_left ends consonant h)) (and_then ends consonant h))
+    (λ h. both_true zwj pictograph (and_left zwj shown (and_left (zwj && shown) pictograph h)) (and_then (zwj && shown) pictograph h))
+
+-- one step of a reading, by a character like the one that comes before it
+pub read-step : (c d : ℕ) → IsLike c d → (cs : List ℕ) (s : State) → (read cs).1 ≡ s
+    → ((read (c ∷ cs)).1 ≡ (step false d (1, s)).1) × ((read (c ∷ cs)).0 + 1 ≡ (read cs).0 + (step false d (1, s)).0)
+read-step c d like cs s is =
+    let r : Reading = read cs in
+    let total = one_more cs in
+    let after = one_more (c ∷ cs) in
+    let moved : read (c ∷ cs) ≡ (r.0 + (step false c (1, r.1)).0 - 1, (step false c (1, r.1)).1) = (step-moves c r.1).moves r.0 (omega (arith, total)) in
+    let same : step false c (1, r.1) ≡ step false d (1, s) = step-like c d 1 r.1 like ∙ ap (λ t. step false d (1, t)) is in
+    let first = ap (λ (x : Reading). x.0) moved in
+    let added = ap (λ (x : Reading). x.0) same in
+    (ap (λ (x : Reading). x.1) moved ∙ ap (λ (x : Reading). x.1) same, omega (arith, first, added, total, after))
+
 -- ---- the relation
 
 -- a text from the character c on, after the characters `before`, last first, and its clusters where `after` follows
 record IsRelated (before : List ℕ) (c : ℕ) (rest after first : List ℕ) (others : List (List ℕ)) : Type 0 where
-  entry : Entry
-  known : IsIn entries entry
+  pair : Pair
+  known : IsIn pairs pair
   pieces : cut is_break before (c ∷ rest) after ≡ first ∷ others
-  whole : (read (c ∷ rest)).1 ≡ entry.whole
-  own : (read first).1 ≡ entry.own
-  breaks : grapheme_cluster_break c ≡ entry.breaks
-  consonant : is_consonant (indic_conjunct_break c) ≡ entry.consonant
-  pictograph : is_extended_pictographic c ≡ entry.pictograph
-  quote_selector : (c == 0xFE01) ≡ entry.quote_selector
-  other_selector : is_presentation c ≡ entry.other_selector
-  half : ends_in_half_flag (c ∷ before) ≡ entry.half
-  sums : (read (c ∷ rest)).0 + entry.owed ≤ (read first).0 + sum_by (str_width false) others + 2
+  whole : (read (c ∷ rest)).1 ≡ pair.less.1
+  own : (read first).1 ≡ pair.more.1
+  right : IsLike c pair.right
+  half : ends_in_half_flag (c ∷ before) ≡ pair.mark
+  sums : (read (c ∷ rest)).0 + pair.more.0 ≤ (read first).0 + sum_by (str_width false) others + pair.less.0
 
 abbrev AreRelated : List ℕ → ℕ → List ℕ → List ℕ → Type 0
 AreRelated before c rest after = (first : List ℕ) × (others : List (List ℕ)) × IsRelated before c rest after first others
-
--- what the tests of an entry give
-record IsMatched (x : Entry) (w o : State) (c : ℕ) (h : Bool) : Type 0 where
-  breaks : grapheme_cluster_break c ≡ x.breaks
-  whole : w ≡ x.whole
-  own : o ≡ x.own
-  half : h ≡ x.half
-  consonant : is_consonant (indic_conjunct_break c) ≡ x.consonant
-  pictograph : is_extended_pictographic c ≡ x.pictograph
-  quote_selector : (c == 0xFE01) ≡ x.quote_selector
-  other_selector : is_presentation c ≡ x.other_selector
-
-matched : (x : Entry) (w o : State) (c : ℕ) (half : Bool) → matches x w o (class c) half ≡ true → IsMatched x w o c half
-matched x w o c half h =
-    let one = and_parts (grapheme_cluster_break_number (grapheme_cluster_break c) == grapheme_cluster_break_number x.breaks) _ h in
-    let two = and_parts (same_state w x.whole) _ one.1 in
-    let three = and_parts (same_state o x.own) _ two.1 in
-    let four = and_parts (beq half x.half) _ three.1 in
-    let five = and_parts (beq (is_consonant (indic_conjunct_break c)) x.consonant) _ four.1 in
-    let six = and_parts (beq (is_extended_pictographic c) x.pictograph) _ five.1 in
-    let seven = and_parts (beq (c == 0xFE01) x.quote_selector) _ six.1 in
-    record {
-      breaks = grapheme_cluster_break_number_injective _ _ (eqb-true _ _ one.0);
-      whole = same_state-true _ _ two.0;
-      own = same_state-true _ _ three.0;
-      half = same_from_beq _ _ four.0;
-      consonant = same_from_beq _ _ five.0;
-      pictograph = same_from_beq _ _ six.0;
-      quote_selector = same_from_beq _ _ seven.0;
-      other_selector = same_from_beq _ _ seven.1;
-    }
-
--- one step of a reading that begins with 1
-pub read-step : (c : ℕ) (cs : List ℕ) → (read (c ∷ cs)).1 ≡ (step_of (class c) 1 (read cs).1).1 × ((read (c ∷ cs)).0 + 1 ≡ (read cs).0 + (step_of (class c) 1 (read cs).1).0)
-read-step c cs =
-    let r : Reading = read cs in
-    let total = one_more cs in
-    let after = one_more (c ∷ cs) in
-    let e : read (c ∷ cs) ≡ (r.0 + (step_of (class c) 1 r.1).0 - 1, (step_of (class c) 1 r.1).1) = step-same c r.0 r.1 ∙ step-moves (class c) r.1 r.0 (omega (arith, total)) in
-    let first = ap (λ (x : Reading). x.0) e in
-    (ap (λ (x : Reading). x.1) e, omega (arith, first, total, after))
 
 -- a text of one character
 one_piece : (b : Bool) (c : ℕ) → (if b then (c ∷ []) ∷ [] else prepend (c ∷ []) []) ≡ (c ∷ []) ∷ []
 one_piece true c = refl
 one_piece false c = refl
 
+and_false : (b : Bool) → (b && false) ≡ false
+and_false true = refl
+and_false false = refl
+
+anew_plain : (b : Bool) → anew b (0, plain) ≡ (0, plain)
+anew_plain true = refl
+anew_plain false = refl
+
+-- what follows a text joins nothing
+fits_start : (c : ℕ) (half : Bool) → (not half || is_regional (grapheme_cluster_break c)) ≡ true → fits c start.right start.mark half ≡ true
+unfolding unicode_segmentation
+fits_start c half h = both_true _ _ h (ap not (ap₂ ◌||◌ (and_false (c == 0xFE01)) (and_false (is_presentation c))))
+
 related-one : (before : List ℕ) (c : ℕ) (after : List ℕ) → AreRelated before c [] after
 unfolding cut ends_in_half_flag
 related-one before c after =
     let half = ends_in_half_flag (c ∷ before) in
-    let ok = implied (not half || is_regional (grapheme_cluster_break c)) _ (begins (class c) half (class_known c)) (implies half _ (λ h. and_left _ _ h)) in
-    let it = found _ entries ok in
-    let x = it.0 in
-    let tests = and_parts (matches x (step_of (class c) 1 plain).1 (step_of (class c) 1 plain).1 (class c) half) (nat_le x.owed 2) it.2 in
-    let m = matched x _ _ c half tests.0 in
-    let owed = leb-true x.owed 2 tests.1 in
-    let one = read-step c [] in (
+    let d = example_of c in
+    let f = fits_start d.0 half (ap (λ b. not half || is_regional b) (sym d.2.breaks) ∙ implies half _ (λ h. and_left _ _ h)) in
+    let it = arrives start d.0 false half starts d.1 f refl in
+    let more = anew_plain (is_cut d.0 start.right false half) in
+    let one = read-step c d.0 d.2 [] plain refl in
+    let m = ap (λ r. r.0 + (step false d.0 (1, r.1)).0) more in
+    let totals = it.2.totals in (
       c ∷ [],
       [],
       record {
-        entry = x;
+        pair = it.0;
         known = it.1;
         pieces = one_piece (is_break (c ∷ before) after) c;
-        whole = one.0 ∙ m.whole;
-        own = one.0 ∙ m.own;
-        breaks = m.breaks;
-        consonant = m.consonant;
-        pictograph = m.pictograph;
-        quote_selector = m.quote_selector;
-        other_selector = m.other_selector;
-        half = m.half;
-        sums = omega (arith, owed);
+        whole = one.0 ∙ sym it.2.less;
+        own = one.0 ∙ sym (it.2.more ∙ ap (λ r. (step false d.0 (1, r.1)).1) more);
+        right = subst (IsLike c) (sym it.2.right) d.2;
+        half = sym it.2.mark;
+        sums = omega (arith, totals, m);
       },
     )
+
+-- the tests are the same at characters that are like
+fits-like : (d e c x : ℕ) (mark half : Bool) → IsLike d e → IsLike c x → fits d c mark half ≡ fits e x mark half
+fits-like d e c x mark half l m = cc
+
+links-like : (d e c x : ℕ) (joined : Bool) → IsLike d e → IsLike c x → links d c joined ≡ links e x joined
+links-like d e c x joined l m = cc
+
+cut-like : (d e c x : ℕ) (joined half : Bool) → IsLike d e → IsLike c x → is_cut d c joined half ≡ is_cut e x joined half
+cut-like d e c x joined half l m = cc
 
 -- one character more before it
 module _ (before : List ℕ) (d c : ℕ) (rest after first : List ℕ) (others : List (List ℕ)) (r : IsRelated (d ∷ before) c rest after first others) where
   abbrev half : Bool
   half = ends_in_half_flag (d ∷ before)
 
-  abbrev conjunct : Bool
-  conjunct = joins_conjunct (d ∷ before) c
+  abbrev joined : Bool
+  joined = joins_conjunct (d ∷ before) c || joins_emoji (d ∷ before) c
 
-  abbrev emoji : Bool
-  emoji = joins_emoji (d ∷ before) c
-
-  abbrev own_from : Bool → State
-  own_from b = if b then plain else r.entry.own
-
-  abbrev whole_next : Reading
-  whole_next = step_of (class d) 1 r.entry.whole
-
-  abbrev own_next : Bool → Reading
-  own_next b = step_of (class d) 1 (own_from b)
-
-  admitted : clash d c ≡ false → admits r.entry (class d) conjunct emoji half ≡ true
+  fitting : clash d c ≡ false → fits d c r.pair.mark half ≡ true
   unfolding ends_in_half_flag
-  admitted apart =
-      let parts = or_parts ((d == 0xFE01) && is_presentation c) (is_presentation d && (c == 0xFE01)) apart in
-      both_true _ _ (implies conjunct _ (λ h. both_true _ _ (linker_may (indic_conjunct_break d) (map indic_conjunct_break before) (and_left _ _ h)) (sym r.consonant ∙ and_then _ _ h)))
-      (both_true _ _ (implies emoji _ (λ h. both_true _ _ (and_left _ _ (and_left _ _ h)) (sym r.pictograph ∙ and_then _ _ h)))
-      (both_true _ _ (implies half _ (λ h. and_left _ _ h))
-      (both_true _ _ (beq-same _ _ (sym r.half ∙ ap (λ b. is_regional b && not half) r.breaks))
-      (both_true _ _ (ap not (ap (λ s. (d == 0xFE01) && s) (sym r.other_selector) ∙ parts.0)) (ap not (ap (λ s. is_presentation d && s) (sym r.quote_selector) ∙ parts.1))))))
+  fitting apart = both_true _ _ (implies half _ (λ h. and_left _ _ h)) (both_true _ _ (beq-same _ _ (sym r.half)) (ap not apart))
 
-  same-cut : is_break (d ∷ before) (c ∷ (rest ++ after)) ≡ is_cut r.entry (class d) conjunct emoji half
+  same-cut : is_break (d ∷ before) (c ∷ (rest ++ after)) ≡ is_cut d c joined half
   unfolding is_grapheme_break
-  same-cut =
-      ap (λ b. unwrap_or (break_by_pair true (grapheme_cluster_break d) b) (not ((true && conjunct) || emoji || (half && is_regional b)))) r.breaks
+  same-cut = refl
 
-  abbrev Goes : Bool → Type 0
-  Goes b = reaches r.entry whole_next (own_next b) (class d) half ≡ true
-
-  more : (b : Bool) → is_break (d ∷ before) (c ∷ (rest ++ after)) ≡ b → Goes b → AreRelated before d (c ∷ rest) after
+  more : (e : ℕ) (b : Bool) → IsLike d e → is_break (d ∷ before) (c ∷ (rest ++ after)) ≡ b → (z : Pair) → IsIn pairs z → Covers z (reached r.pair e b half) → AreRelated before d (c ∷ rest) after
   unfolding cut
-  more true is go =
-      let it = found _ entries go in
-      let x = it.0 in
-      let tests = and_parts (matches x whole_next.1 (own_next true).1 (class d) half) (nat_le (x.owed + whole_next.0) (r.entry.owed + (own_next true).0)) it.2 in
-      let m = matched x _ _ d half tests.0 in
-      let owed = leb-true _ _ tests.1 in
-      let whole = read-step d (c ∷ rest) in
-      let w = ap (λ s. (step_of (class d) 1 s).0) r.whole in
-      let own = read-step d [] in
+  more e true like is z known cover =
+      let whole = read-step d e like (c ∷ rest) r.pair.less.1 r.whole in
+      let own = read-step d e like [] plain refl in
       let sum = sum_by-cons (str_width false) first others in
       let one = one_more first in
-      let sums = r.sums in (
+      let sums = r.sums in
+      let totals = cover.totals in (
         d ∷ [],
         first ∷ others,
         record {
-          entry = x;
-          known = it.1;
+          pair = z;
+          known = known;
           pieces = ap₂ (λ b ps. if b then (d ∷ []) ∷ ps else prepend (d ∷ []) ps) is r.pieces;
-          whole = whole.0 ∙ ap (λ s. (step_of (class d) 1 s).1) r.whole ∙ m.whole;
-          own = own.0 ∙ m.own;
-          breaks = m.breaks;
-          consonant = m.consonant;
-          pictograph = m.pictograph;
-          quote_selector = m.quote_selector;
-          other_selector = m.other_selector;
-          half = m.half;
-          sums = omega (arith, owed, whole.1, w, own.1, sum, one, sums);
+          whole = whole.0 ∙ sym cover.less;
+          own = own.0 ∙ sym cover.more;
+          right = subst (IsLike d) (sym cover.right) like;
+          half = sym cover.mark;
+          sums = omega (arith, totals, whole.1, own.1, sum, one, sums);
         },
       )
-  more false is go =
-      let it = found _ entries go in
-      let x = it.0 in
-      let tests = and_parts (matches x whole_next.1 (own_next false).1 (class d) half) (nat_le (x.owed + whole_next.0) (r.entry.owed + (own_next false).0)) it.2 in
-      let m = matched x _ _ d half tests.0 in
-      let owed = leb-true _ _ tests.1 in
-      let whole = read-step d (c ∷ rest) in
-      let w = ap (λ s. (step_of (class d) 1 s).0) r.whole in
-      let own = read-step d first in
-      let o = ap (λ s. (step_of (class d) 1 s).0) r.own in
-      let sums = r.sums in (
+  more e false like is z known cover =
+      let whole = read-step d e like (c ∷ rest) r.pair.less.1 r.whole in
+      let own = read-step d e like first r.pair.more.1 r.own in
+      let sums = r.sums in
+      let totals = cover.totals in (
         d ∷ first,
         others,
         record {
-          entry = x;
-          known = it.1;
+          pair = z;
+          known = known;
           pieces = ap₂ (λ b ps. if b then (d ∷ []) ∷ ps else prepend (d ∷ []) ps) is r.pieces;
-          whole = whole.0 ∙ ap (λ s. (step_of (class d) 1 s).1) r.whole ∙ m.whole;
-          own = own.0 ∙ ap (λ s. (step_of (class d) 1 s).1) r.own ∙ m.own;
-          breaks = m.breaks;
-          consonant = m.consonant;
-          pictograph = m.pictograph;
-          quote_selector = m.quote_selector;
-          other_selector = m.other_selector;
-          half = m.half;
-          sums = omega (arith, owed, whole.1, w, own.1, o, sums);
+          whole = whole.0 ∙ sym cover.less;
+          own = own.0 ∙ sym cover.more;
+          right = subst (IsLike d) (sym cover.right) like;
+          half = sym cover.mark;
+          sums = omega (arith, totals, whole.1, own.1, sums);
         },
       )
 
   related-more : clash d c ≡ false → AreRelated before d (c ∷ rest) after
   related-more apart =
-      more (is_cut r.entry (class d) conjunct emoji half) same-cut
-      (implied (admits r.entry (class d) conjunct emoji half) _ (goes-on r.entry (class d) conjunct emoji half r.known (class_known d)) (admitted apart))
+      let e = example_of d in
+      let f = sym (fits-like d e.0 c r.pair.right r.pair.mark half e.2 r.right) ∙ fitting apart in
+      let l = sym (links-like d e.0 c r.pair.right joined e.2 r.right) ∙ implies joined _ (linkable before d c) in
+      let it = arrives r.pair e.0 joined half r.known e.1 f l in
+      more e.0 (is_cut e.0 r.pair.right joined half) e.2 (same-cut ∙ cut-like d e.0 c r.pair.right joined half e.2 r.right) it.0 it.1 it.2
 
 related : (before : List ℕ) (c : ℕ) (rest after : List ℕ) → selectors_agree (c ∷ rest) ≡ true → AreRelated before c rest after
 related before c [] after h = related-one before c after
@@ -300,8 +271,8 @@ pieces_bound [] after h = omega arith
 pieces_bound (c ∷ rest) after h =
     let all = related [] c rest after h in
     let r = all.2 in
-    let half : r.entry.half ≡ is_regional r.entry.breaks = sym r.half ∙ and-true (is_regional (grapheme_cluster_break c)) ∙ ap is_regional r.breaks in
-    let owed = leb-true 2 r.entry.owed (implied (beq r.entry.half (is_regional r.entry.breaks)) _ (ends-well r.entry r.known) (beq-same _ _ half)) in
+    let half : r.pair.mark ≡ is_regional (grapheme_cluster_break r.pair.right) = sym r.half ∙ and-true (is_regional (grapheme_cluster_break c)) ∙ ap is_regional r.right.breaks in
+    let owed = leb-true _ _ (implied (beq r.pair.mark (is_regional (grapheme_cluster_break r.pair.right))) _ (ends-well r.pair r.known) (beq-same _ _ half)) in
     let whole = one_more (c ∷ rest) in
     let own = one_more all.0 in
     let sum = sum_by-cons (str_width false) all.0 all.1 in
