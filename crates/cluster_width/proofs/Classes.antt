@@ -1,5 +1,5 @@
 -- Classes of characters: what the width of a text and the boundaries of its clusters ask of a character. `examples` has a character of each class.
-use Rattle.std.proofs.Common.{◌<◌, ◌+◌, ◌*◌, ◌≤◌, ◌+◌, ◌≡◌, ◌⊎◌, inl, inr, ⊎_elim, ℕ, suc, Bool, true, false, ◌&&◌, ◌||◌, ◌==◌, nat_le, List, [], ◌∷◌, refl, sym, ap, ◌∙◌, arith}
+use Rattle.std.proofs.Common.{◌<◌, ◌*◌, ◌≤◌, ◌+◌, ◌≡◌, ◌⊎◌, inl, inr, ⊎_elim, ℕ, suc, Bool, true, false, ◌&&◌, ◌||◌, ◌==◌, nat_le, List, [], ◌∷◌, refl, sym, ap, ◌∙◌, arith}
 use Rattle.std.specs.Int.{is_in_range}
 use Rattle.std.specs.List.{list_all, list_any}
 use Rattle.std.proofs.lemmas.Bool.{and_parts, or_cases, eqb-true}
@@ -55,6 +55,7 @@ at_most n c = grind (arith, nat_tests)
 pub is_one : (n c : ℕ) → (c == n) ≡ is_in_range n n c
 is_one n c = grind (arith, nat_tests)
 
+-- the steps of a bound, of a range and of one character
 abbrev up_to : (n : ℕ) → Stepped (λ c. nat_le c n)
 up_to n = record { default = false; steps = (suc n, true) ∷ []; gives = at_most n }
 
@@ -64,10 +65,12 @@ within a z = zip_stepped ◌&&◌ (nat_le a) (λ c. nat_le c z) (record { defaul
 abbrev one : (n : ℕ) → Stepped (λ c. c == n)
 one n = let s = within n n in record { default = s.default; steps = s.steps; gives = λ c. is_one n c ∙ s.gives c }
 
+-- the steps of one answer more
 infixr 5 ◌and◌
 abbrev ◌and◌ : {p : ℕ → Bool} {f : ℕ → List Bool} → Stepped p → Stepped f → Stepped (λ c. p c ∷ f c)
 ◌and◌ {p} {f} s t = zip_stepped (λ b bs. b ∷ bs) p f s t
 
+-- of no answer
 abbrev nothing : Stepped {V = List Bool} (λ c. [])
 nothing = record { default = []; steps = []; gives = λ c. sym (step_value-nil [] c) }
 
@@ -82,6 +85,7 @@ answers c =
     ∷ is_emoji_variation_base c ∷ is_emoji_modifier_base c ∷ is_text_presentation_base c ∷ is_extended_pictographic c ∷ is_ligature_transparent c
     ∷ is_lam c ∷ joining_type_eq (joining_type c) Transparent ∷ is_consonant (indic_conjunct_break c) ∷ may_link (indic_conjunct_break c) ∷ []
 
+-- the steps of all answers, in the same order
 unfoldable answers_stepped : Stepped answers
 answers_stepped =
     one 0x000A and one 0x000D and one 0x05D0 and one 0x05DC and one 0x17D2 and one 0x17D8 and one 0x1A10 and one 0x1A15 and one 0x1A17
@@ -121,12 +125,13 @@ number-injective (false ∷ xs) (true ∷ ys) e = absurd (omega arith)
 unfoldable code : ℕ → ℕ
 code c = number_of_kind (kind c) + 12 * (grapheme_cluster_break_number (grapheme_cluster_break c) + 14 * number (answers c))
 
+-- the steps of the number
 unfoldable code_stepped : Stepped code
 unfolding code answers_stepped
 code_stepped =
     zip_stepped (λ k n. k + 12 * n) (λ c. number_of_kind (kind c)) (λ c. grapheme_cluster_break_number (grapheme_cluster_break c) + 14 * number (answers c))
     (map_stepped number_of_kind kind kind_stepped)
-    (zip_stepped (λ b bs. b + 14 * number bs) (λ c. grapheme_cluster_break_number (grapheme_cluster_break c)) (answers) grapheme_cluster_break_number_stepped answers_stepped)
+    (zip_stepped (λ b bs. b + 14 * number bs) (λ c. grapheme_cluster_break_number (grapheme_cluster_break c)) answers grapheme_cluster_break_number_stepped answers_stepped)
 
 -- ---- the classes
 
@@ -140,6 +145,7 @@ examples =
     ∷ 0x16D63 ∷ 0x16D67 ∷ 0x16D68 ∷ 0x16D69 ∷ 0x16D6A ∷ 0x1E94B ∷ 0x1F02C ∷ 0x1F0CF ∷ 0x1F1E6 ∷ 0x1F21A ∷ 0x1F385 ∷ 0x1F3F4 ∷ 0x1F3FB ∷ 0xE0030
     ∷ 0xE0061 ∷ 0xE007F ∷ []
 
+-- each character has the number of an example, computed over all of Unicode
 has_example : (c : ℕ) → list_any (λ d. code c == code d) examples ≡ true
 unfolding unicode_segmentation unicode_width examples code code_stepped ends_by
 has_example = Stepped-everywhere (λ c. list_any (λ d. code c == code d) examples) (map_stepped (λ n. list_any (λ d. n == code d) examples) code code_stepped) refl
@@ -168,6 +174,7 @@ kind_back : (k : Kind) → kind_from_number (number_of_kind k) ≡ k
 kind_back kinds.Zero = refl
 kind_back _ = refl
 
+-- characters with one number are of one class
 like : (c d : ℕ) → code c ≡ code d → IsLike c d
 unfolding code
 like c d e =
@@ -184,6 +191,7 @@ like c d e =
 
 -- ---- members of lists
 
+-- x is one of the list
 abbrev pub IsIn : {X : Type 0} → List X → X → Type 0
 IsIn [] x = ⊥
 IsIn (y ∷ ys) x = (x ≡ y) ⊎ IsIn ys x

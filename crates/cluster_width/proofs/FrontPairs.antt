@@ -21,12 +21,15 @@ may_join d c =
 abbrev pub reached : Pair → ℕ → Bool → Pair
 reached x d inside = record { less = if inside then on d x.less else (x.less.0 + 1, x.less.1); more = on d x.more; right = d; mark = inside }
 
+-- d may stand before the pair
 abbrev pub may_follow : ℕ → Pair → Bool
 may_follow d x = (x.right == 0x11_0000) || may_join d x.right
 
+-- the pair that d leads to, within the front or behind it, to which there is no way back
 abbrev choosing : ℕ → Pair → Bool → List Pair
 choosing d x inside = only (not x.mark || inside) (λ _. reached x d inside ∷ [])
 
+-- all that it leads to
 abbrev next : ℕ → Pair → List Pair
 next d x = only (may_follow d x) (λ _. flat_map (choosing d x) choices)
 
@@ -38,6 +41,7 @@ start = record { less = (0, plain); more = (0, plain); right = 0x11_0000; mark =
 abbrev narrowed : Pair → Pair
 narrowed y = if y.mark then record y { less = (if same_state y.less.1 y.more.1 then y.more.0 + 2 else max y.less.0 y.more.0, y.less.1) } else y
 
+-- all pairs that are reached
 unfoldable pub pairs : List Pair
 pairs = close (λ d x. map narrowed (next d x)) 40 (start ∷ []) (start ∷ [])
 
@@ -45,6 +49,7 @@ pairs = close (λ d x. map narrowed (next d x)) 40 (start ∷ []) (start ∷ [])
 abbrev ends_well : Pair → Bool
 ends_well x = not x.mark || nat_le x.less.0 (x.more.0 + 2)
 
+-- the pairs are closed under all steps, and end well: computed
 fine : (is_closed next pairs && list_all ends_well pairs) ≡ true
 unfolding unicode_segmentation unicode_width examples pairs
 fine = refl
@@ -56,6 +61,7 @@ pub starts : IsIn pairs start
 unfolding pairs
 starts = kept (λ d x. map narrowed (next d x)) 40 (start ∷ []) (start ∷ []) start (inl refl)
 
+-- a step from a pair leads to a pair
 pub arrives : (x : Pair) (d : ℕ) (inside : Bool) → IsIn pairs x → IsIn examples d → may_follow d x ≡ true → (not x.mark || inside) ≡ true
     → (z : Pair) × IsIn pairs z × Covers z (reached x d inside)
 arrives x d inside known d_in f h =

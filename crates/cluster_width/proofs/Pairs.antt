@@ -22,6 +22,7 @@ pub record Pair : Type 0 where
 abbrev pub on : ℕ → Reading → Reading
 on d r = let s = step false d (1, r.1) in (r.0 + s.0, s.1)
 
+-- the number of what follows, and from the number what follows
 abbrev pub number_of : After → ℕ
 number_of = elim [
   | Nothing ↦ 0
@@ -75,6 +76,7 @@ after_back : (a : After) → slice_index_or afters (number_of a) Nothing ≡ a
 after_back Nothing = refl
 after_back _ = refl
 
+-- the two states are the same
 abbrev pub same_state : State → State → Bool
 same_state x y = (number_of x.after == number_of y.after) && (beq x.emoji y.emoji && (beq x.text y.text && beq x.quote y.quote))
 
@@ -163,6 +165,7 @@ are_covered next pairs d = let zs = at d pairs in list_all (λ x. list_all (is_c
 abbrev pub is_closed : (ℕ → Pair → List Pair) → List Pair → Bool
 is_closed next pairs = list_all (are_covered next pairs) examples
 
+-- a list that is filtered has no more members
 in_filter : (p : Pair → Bool) (xs : List Pair) (x : Pair) → IsIn (filter p xs) x → IsIn xs x
 in_filter p [] x none = none
 in_filter p (y ∷ ys) x known = go (p y) (in_filter p ys x) known
@@ -172,6 +175,7 @@ in_filter p (y ∷ ys) x known = go (p y) (in_filter p ys x) known
     go true rest (inr later) = inr (rest later)
     go false rest later = inr (rest later)
 
+-- so from a pair of the list a step leads to one that a pair of the list stands for
 pub leads : (next : ℕ → Pair → List Pair) (pairs : List Pair) → is_closed next pairs ≡ true
     → (d : ℕ) (x y : Pair) → IsIn examples d → IsIn pairs x → IsIn (next d x) y → (z : Pair) × IsIn pairs z × Covers z y
 leads next pairs closed d x y d_in x_in y_in =
@@ -182,6 +186,7 @@ leads next pairs closed d x y d_in x_in y_in =
 
 -- ---- members of lists that are made of choices
 
+-- both answers
 abbrev pub choices : List Bool
 choices = true ∷ false ∷ []
 
@@ -189,6 +194,7 @@ pub chosen : (b : Bool) → IsIn choices b
 chosen true = inl refl
 chosen false = inr (inl refl)
 
+-- the pairs, if the test passes; they are computed only then
 abbrev pub only : Bool → (Unit {0} → List Pair) → List Pair
 only b f = elim b [ true ↦ f tt | false ↦ [] ]
 
@@ -210,6 +216,7 @@ in_flat f [] x y none known = absurd none
 in_flat f (u ∷ xs) x y (inl same) known = in_front (f u) (flat_map f xs) y (subst (λ v. IsIn (f v) y) same known)
 in_flat f (u ∷ xs) x y (inr later) known = in_back (f u) (flat_map f xs) y (in_flat f xs x y later known)
 
+-- what was seen stays
 pub kept : (next : ℕ → Pair → List Pair) (n : ℕ) (seen new : List Pair) (x : Pair) → IsIn seen x → IsIn (close next n seen new) x
 kept next zero seen new x known = known
 kept next (suc n) seen [] x known = known

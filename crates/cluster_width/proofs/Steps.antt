@@ -9,6 +9,7 @@ use Rattle.unicode_width.specs.declared.state.Change.TheVariants.{Less, Same, On
 use Rattle.unicode_width.specs.Width.{Reading, alone, before, before_alef, if_kept, in_context, joined_or, joins, past_emoji, past_selectors, step}
 use Rattle.cluster_width.proofs.Classes.{IsLike}
 
+-- each part of the step is the same at two characters of one class
 joins-like : (after : After) (c d : ℕ) → IsLike c d → joins false after c ≡ joins false after d
 unfolding joins before_alef alone
 joins-like Nothing c d like = refl
@@ -38,6 +39,7 @@ step-like c d total s like = cc (past-like c d total s like, past-like c d total
 pub record IsMove (f : ℕ → Reading) : Type 0 where
   pub moves : (t : ℕ) → 1 ≤ t → f t ≡ (t + (f 1).0 - 1, (f 1).1)
 
+-- each part of the step is such a move
 move-if : (b : Bool) (f g : ℕ → Reading) → IsMove f → IsMove g → IsMove (λ t. if b then f t else g t)
 move-if true f g p q = p
 move-if false f g p q = q

@@ -27,6 +27,7 @@ abbrev pub is_cut : ℕ → ℕ → Bool → Bool → Bool
 is_cut d c joined half =
     unwrap_or (break_by_pair true (grapheme_cluster_break d) (grapheme_cluster_break c)) (not (joined || (half && is_regional (grapheme_cluster_break c))))
 
+-- the reading, which begins anew if b
 abbrev pub anew : Bool → Reading → Reading
 anew b r = if b then (r.0, plain) else r
 
@@ -34,12 +35,15 @@ anew b r = if b then (r.0, plain) else r
 abbrev pub reached : Pair → ℕ → Bool → Bool → Pair
 reached x d b half = record { less = on d x.less; more = on d (anew b x.more); right = d; mark = half }
 
+-- the pair that d leads to, if the two may be joined so
 abbrev joining : ℕ → Pair → Bool → Bool → List Pair
 joining d x half joined = only (links d x.right joined) (λ _. reached x d (is_cut d x.right joined half) half ∷ [])
 
+-- those that it leads to, if half a flag ends with it or not
 abbrev standing : ℕ → Pair → Bool → List Pair
 standing d x half = only (fits d x.right x.mark half) (λ _. flat_map (joining d x half) choices)
 
+-- all that it leads to
 abbrev next : ℕ → Pair → List Pair
 next d x = flat_map (standing d x) choices
 
@@ -47,6 +51,7 @@ next d x = flat_map (standing d x) choices
 abbrev pub start : Pair
 start = record { less = (0, plain); more = (0, plain); right = 0; mark = false }
 
+-- all pairs that are reached
 unfoldable pub pairs : List Pair
 pairs = close next 40 (start ∷ []) (start ∷ [])
 
@@ -54,6 +59,7 @@ pairs = close next 40 (start ∷ []) (start ∷ [])
 abbrev ends_well : Pair → Bool
 ends_well x = not (beq x.mark (is_regional (grapheme_cluster_break x.right))) || nat_le x.less.0 x.more.0
 
+-- the pairs are closed under all steps, and end well: computed
 fine : (is_closed next pairs && list_all ends_well pairs) ≡ true
 unfolding unicode_segmentation unicode_width examples pairs
 fine = refl
@@ -65,6 +71,7 @@ pub starts : IsIn pairs start
 unfolding pairs
 starts = kept next 40 (start ∷ []) (start ∷ []) start (inl refl)
 
+-- a step from a pair leads to a pair
 pub arrives : (x : Pair) (d : ℕ) (joined half : Bool) → IsIn pairs x → IsIn examples d → fits d x.right x.mark half ≡ true → links d x.right joined ≡ true
     → (z : Pair) × IsIn pairs z × Covers z (reached x d (is_cut d x.right joined half) half)
 arrives x d joined half known d_in f l =
