@@ -1,11 +1,9 @@
 -- The next of the lines that are still to come, and those after it.
 use Rattle.std.proofs.Common.{◌≡◌, ◌<◌, ℕ, ◌-◌, Bool, true, false, Some, List, ◌∷◌, length, take, drop, refl, sym, ap, ap₂, ◌∙◌, subst, arith}
-use Rattle.std.specs.Borrow.{Bor}
-use Rattle.std.specs.Iterator.{MakesProgress, item_count}
 use Rattle.std.specs.Str.{IsCharBoundary, IsUtf8}
 use Rattle.std.proofs.lemmas.Str.{IsUtf8-drop}
 use Rattle.std.proofs.lemmas.List.{take-append-drop}
-use Rattle.comfy_parts.specs.Following.{AreColumnsUpTo, IsAtLine, IsAtNext, IsFirstElement, IsWideFrom}
+use Rattle.comfy_parts.specs.Following.{AreColumnsUpTo, IsAtLine, IsFirstElement, IsWideFrom}
 use Rattle.comfy_parts.specs.Laws.{IsPlain}
 use Rattle.comfy_parts.specs.Text.{Text, begins_with, is_printable_ascii}
 use Rattle.comfy_parts.specs.Wrapping.{wrapped, line_end}
@@ -15,26 +13,14 @@ use Rattle.comfy_parts.proofs.WideEndLemmas.{rest-wide}
 use Rattle.comfy_parts.proofs.StartLemmas.{line-cut}
 
 -- where a line begins, a text is of whole characters, the first of which is no delimiter
-starts : (plain : Bool) (w d : ℕ) (text : Text) (first columns shown : ℕ) → IsAtNext plain w d text first columns shown → IsUtf8 text × (begins_with d text ≡ false)
-starts true w d text first columns shown at = (IsUtf8-printable text at.0.printable, at.1)
-starts false w d text first columns shown at = (at.whole, at.begins_otherwise)
+abbrev pub IsLineStart : ℕ → Text → Type 0
+IsLineStart d text = IsUtf8 text × (begins_with d text ≡ false)
 
--- what is known by whether the text is plain
-pub at-plain : (plain : Bool) → plain ≡ true → (w d : ℕ) (text : Text) (first columns shown : ℕ) → IsAtNext plain w d text first columns shown → IsPlain w d text × (begins_with d text ≡ false)
-at-plain true is w d text first columns shown at = at
-at-plain false is w d text first columns shown at = absurd (grind (arith, is))
+pub plain-starts : (w d : ℕ) (text : Text) → IsPlain w d text → begins_with d text ≡ false → IsLineStart d text
+plain-starts w d text plain begins = (IsUtf8-printable text plain.printable, begins)
 
-pub next-plain : (plain : Bool) → plain ≡ true → (w d : ℕ) (text : Text) (first columns shown : ℕ) → IsPlain w d text → begins_with d text ≡ false → IsAtNext plain w d text first columns shown
-next-plain true is w d text first columns shown printable begins = (printable, begins)
-next-plain false is w d text first columns shown printable begins = absurd (grind (arith, is))
-
-pub at-line : (plain : Bool) → plain ≡ false → (w d : ℕ) (text : Text) (first columns shown : ℕ) → IsAtNext plain w d text first columns shown → IsAtLine w d text first columns shown
-at-line true is w d text first columns shown at = absurd (grind (arith, is))
-at-line false is w d text first columns shown at = at
-
-pub next-line : (plain : Bool) → plain ≡ false → (w d : ℕ) (text : Text) (first columns shown : ℕ) → IsAtLine w d text first columns shown → IsAtNext plain w d text first columns shown
-next-line true is w d text first columns shown at = absurd (grind (arith, is))
-next-line false is w d text first columns shown at = at
+pub element-starts : (w d : ℕ) (text : Text) (first columns shown : ℕ) → IsAtLine w d text first columns shown → IsLineStart d text
+element-starts w d text first columns shown at = (at.whole, at.begins_otherwise)
 
 -- what follows a line of a plain text is plain
 pub plain-behind : (w d : ℕ) (text : Text) → IsPlain w d text → (end : ℕ) (behind : Text) → behind ≡ drop end text → IsPlain w d behind
@@ -45,27 +31,15 @@ plain-behind w d text plain end behind back = record {
 }
 
 -- a text that isn't empty, at a line's first character, has that line and those after it
-pub line-then : (plain : Bool) (w d : ℕ) (text : Text) (first columns shown : ℕ) → IsAtNext plain w d text first columns shown → 0 < length text → (end : ℕ) (line behind : Text)
+pub line-then : (w d : ℕ) (text : Text) → IsLineStart d text → 0 < length text → (end : ℕ) (line behind : Text)
     → end ≡ line_end w d text → line ≡ take end text → behind ≡ drop end text → wrapped w d text ≡ line ∷ wrapped w d behind
-line-then plain w d text first columns shown at some end line behind ends front back =
-    let (whole, otherwise) = starts plain w d text first columns shown at in
+line-then w d text (whole, otherwise) some end line behind ends front back =
     let front_is = front ∙ ap₂ (λ (n : ℕ) (t : Text). take n t) ends refl in
     let back_is = back ∙ ap₂ (λ (n : ℕ) (t : Text). drop n t) ends refl in
     (line-cut w d text whole some otherwise).lines ∙ ap₂ (λ l b. l ∷ wrapped w d b) (sym front_is) (sym back_is)
 
-pub line-place : (plain : Bool) (w d : ℕ) (text : Text) (first columns shown : ℕ) → IsAtNext plain w d text first columns shown → 0 < length text → (end : ℕ) → end ≡ line_end w d text → IsCharBoundary text end
-line-place plain w d text first columns shown at some end ends =
-    let (whole, otherwise) = starts plain w d text first columns shown at in
-    subst (IsCharBoundary text) (sym ends) (line-cut w d text whole some otherwise).place
-
--- a call that took the first line has fewer after it
-pub goes : (can : List Text → Type 0) → ((l : List Text) → can l) → (all behind : List Text) (line : Bor Text) → all ≡ line.now ∷ behind
-    → MakesProgress can (item_count (λ rest. rest)) all (Some line) behind
-goes can always all behind line first = record {
-  on = λ _. (always behind, tt, subst (λ (l : List Text). length behind < length l) (sym first) (omega arith));
-  keeps = always behind;
-  rests = λ _. tt;
-}
+pub line-place : (w d : ℕ) (text : Text) → IsLineStart d text → 0 < length text → (end : ℕ) → end ≡ line_end w d text → IsCharBoundary text end
+line-place w d text (whole, otherwise) some end ends = subst (IsCharBoundary text) (sym ends) (line-cut w d text whole some otherwise).place
 
 -- a line that ends within the first element leaves the rest of that element, and what shows that it is wide
 pub rest-shown : (w d : ℕ) (text : Text) (first columns shown : ℕ) → IsAtLine w d text first columns shown → (end : ℕ) → IsCharBoundary text end → end < first → (word behind : Text)

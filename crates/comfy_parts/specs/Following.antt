@@ -1,7 +1,6 @@
 -- Private: an element at a text's front, and what follows it.
-use Rattle.std.specs.Prelude.{◌≡◌, ◌⊎◌, Bool, ℕ, ◌<◌, ◌≤◌, List, [], ◌∷◌, ◌++◌, length, take, drop, true, false, encode_utf8, IsUtf8}
+use Rattle.std.specs.Prelude.{◌≡◌, ◌⊎◌, ℕ, ◌<◌, ◌≤◌, List, [], ◌∷◌, ◌++◌, length, take, drop, false, encode_utf8, IsUtf8}
 use Rattle.std.specs.Str.{IsCharBoundary}
-use Rattle.comfy_parts.specs.Laws.{IsPlain}
 use Rattle.comfy_parts.specs.Text.{Text, measure, elements, begins_with}
 
 -- what follows an element: a delimiter and a text of these elements, or nothing where there are none
@@ -40,11 +39,6 @@ pub record IsAtLine (w d : ℕ) (text : Text) (first columns shown : ℕ) : Type
   pub element : IsFirstElement d text (take first text) (drop first text)
   pub columns_are : AreColumnsUpTo w columns (take first text)
   pub wide_from : IsWideFrom w shown (take first text)
-
--- what is known where a line begins: that the text is printable ASCII from there on, or its first element
-abbrev pub IsAtNext : Bool → ℕ → ℕ → Text → ℕ → ℕ → ℕ → Type 0
-IsAtNext true w d text first columns shown = IsPlain w d text × (begins_with d text ≡ false)
-IsAtNext false w d text first columns shown = IsAtLine w d text first columns shown
 
 -- a text with so many bytes at its end that begin with an element of so many bytes and terminal columns
 pub record IsMeasured (d : ℕ) (text : Text) (left first columns : ℕ) : Type 0 where

@@ -9,6 +9,7 @@ pub mod Following
 pub mod Items
 pub mod ItemsGiven
 pub mod Laws
+pub mod Lines
 pub mod Presets
 pub mod RowLoans
 pub mod RowReference

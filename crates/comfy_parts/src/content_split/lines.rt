@@ -2,8 +2,9 @@
 
 ghost use Rattle.std.specs.Prelude.{◌≡◌, ◌<◌, ◌≤◌, ◌∷◌, [], IfSome, None, false, length, map};
 ghost use Rattle.std.specs.Iterator.{YieldsFirstBy, item_count};
-ghost use Rattle.comfy_parts.specs.Following.{AreColumnsUpTo, IsMeasuredBehind, IsWideFrom};
+ghost use Rattle.comfy_parts.specs.Following.{AreColumnsUpTo, IsAtLine, IsMeasuredBehind, IsWideFrom};
 ghost use Rattle.comfy_parts.specs.Laws.{IsPlain};
+ghost use Rattle.comfy_parts.specs.Lines.{IsAtNext};
 ghost use Rattle.comfy_parts.specs.Text.{begins_with, greatest, measure};
 ghost use Rattle.comfy_parts.specs.Wrapping.{IsWrapped, wrapped};
 
@@ -21,28 +22,41 @@ const FAR: usize = 32;
 pub struct WrappedLines<'a> {
     // the text from the first character of the next line on
     rest: &'a str,
-    // whether text and delimiter are printable ASCII, and lines have a column; the next three are looked at where they aren't
-    is_plain: bool,
-    // the bytes of its first element
-    first: usize,
-    // the columns of that element; where it is wider than a line, any number above the line's width
-    columns: usize,
-    // how many bytes of that element's end show that it is wider than a line; more than it has where this isn't known
-    wide: usize,
+    next: Next,
     width: usize,
     delimiter: char,
 }
 
+// What is known where a line begins.
+#[derive(Clone, Copy)]
+enum Next {
+    // text and delimiter are printable ASCII, and lines have a column
+    Printable,
+    // any other text, by its first element
+    Element(Element),
+}
+
+// The first element of a text that is wrapped.
+#[derive(Clone, Copy)]
+struct Element {
+    // its bytes
+    len: usize,
+    // its columns; where it is wider than a line, any number above the line's width
+    columns: usize,
+    // how many bytes of its end show that it is wider than a line; more than it has where this isn't known
+    wide: usize,
+}
+
 impl<'a> Model for WrappedLines<'a> {
     ghost use Rattle.std.specs.Prelude.{List, ℕ};
-    ghost use Rattle.comfy_parts.specs.Following.{IsAtNext};
+    ghost use Rattle.comfy_parts.specs.Lines.{IsAtNext};
     ghost use Rattle.comfy_parts.specs.Wrapping.{wrapped};
 
     ghost Value = { List (List ℕ) };
 
     ghost view = { λ s. wrapped s.width s.delimiter s.rest.now };
 
-    ghost invariant = { λ s. IsAtNext s.is_plain s.width s.delimiter s.rest.now s.first s.columns s.wide };
+    ghost invariant = { λ s. IsAtNext s.next s.width s.delimiter s.rest.now };
 }
 
 /// The lines of a text that is wrapped at the column's content width, one after another. They are those of `split_line`.
@@ -67,15 +81,8 @@ fn plain_lines<'a>(text: &'a str, width: usize, delimiter: char) -> WrappedLines
     requires plain { IsPlain width delimiter text.now }
     ensures { result ≡ wrapped width delimiter text.now }
 {
-    WrappedLines {
-        rest: line_start(text, delimiter),
-        is_plain: true,
-        first: 0,
-        columns: 0,
-        wide: 0,
-        width,
-        delimiter,
-    }
+    let rest = line_start(text, delimiter);
+    lines_from(rest, Next::Printable, width, delimiter)
 }
 
 // The line at the front of printable ASCII, and the text from the next line on.
@@ -110,39 +117,57 @@ fn lines_behind<'a>(
         && next.left == rest.len()
         && next.columns <= width
     {
-        return WrappedLines {
-            rest,
-            is_plain: false,
-            first: next.first,
-            columns: next.columns,
-            wide: next.first + 1,
-            width,
-            delimiter,
-        };
+        let (len, columns, wide) = (next.first, next.columns, next.first + 1);
+        let next = Next::Element(Element { len, columns, wide });
+        return lines_from(rest, next, width, delimiter);
     }
     if rest.len() / FAR > width {
         let (word, _) = first_element(rest, delimiter);
         let wide = wide_end(word, width);
-        return WrappedLines {
-            rest,
-            is_plain: false,
-            first: word.len(),
-            columns: columns_up_to(word, wide, width),
-            wide,
-            width,
-            delimiter,
-        };
+        let (len, columns) = (word.len(), columns_up_to(word, wide, width));
+        let next = Next::Element(Element { len, columns, wide });
+        return lines_from(rest, next, width, delimiter);
     }
     let (word, _, columns) = measured_element(rest, delimiter);
+    let (len, wide) = (word.len(), word.len() + 1);
+    let next = Next::Element(Element { len, columns, wide });
+    lines_from(rest, next, width, delimiter)
+}
+
+// The lines of a text of which so much is known.
+fn lines_from<'a>(rest: &'a str, next: Next, width: usize, delimiter: char) -> WrappedLines<'a>
+    requires at { IsAtNext next width delimiter rest.now }
+    ensures { result ≡ wrapped width delimiter rest.now }
+{
     WrappedLines {
         rest,
-        is_plain: false,
-        first: word.len(),
-        columns,
-        wide: word.len() + 1,
+        next,
         width,
         delimiter,
     }
+}
+
+// The line at the front of a text that begins with this element, and those after it.
+fn split_at_element<'a>(
+    rest: &'a str,
+    element: Element,
+    width: usize,
+    delimiter: char,
+) -> (&'a str, WrappedLines<'a>)
+    requires at { IsAtLine width delimiter rest.now element.len element.columns element.wide }
+    requires some { 0 < length rest.now }
+    ensures { wrapped width delimiter rest.now ≡ result.0.now ∷ result.1 }
+{
+    let (end, measured) = line_end(rest, element.len, element.columns, width, delimiter);
+    let (line, behind) = rest.split_at(end);
+    if end >= element.len {
+        return (line, lines_behind(behind, width, delimiter, measured));
+    }
+    // The line ends inside a long element, and its rest comes next.
+    let (len, wide) = (element.len - end, element.wide);
+    let columns = columns_up_to(behind.split_at(len).0, wide, width);
+    let next = Next::Element(Element { len, columns, wide });
+    (line, lines_from(behind, next, width, delimiter))
 }
 
 impl<'a> WrappedLines<'a> {
@@ -152,7 +177,7 @@ impl<'a> WrappedLines<'a> {
         ensures line { IfSome result (λ line. self.old ≡ line.0.now ∷ self.new) }
         ensures columns { IfSome result (λ line. line.1 ≡ measure line.0.now) }
     {
-        if self.is_plain && !self.rest.is_empty() {
+        if matches!(self.next, Next::Printable) && !self.rest.is_empty() {
             let (line, rest) = split_plain_line(self.rest, self.width, self.delimiter);
             self.rest = rest;
             return Some((line, line.len()));
@@ -165,7 +190,7 @@ impl<'a> WrappedLines<'a> {
     pub fn longest(self) -> usize
         ensures { result ≡ greatest (map measure self.entry) }
     {
-        if self.is_plain {
+        if matches!(self.next, Next::Printable) {
             return printable_longest_line(self.rest.as_bytes(), self.width, self.delimiter);
         }
         let mut longest = 0;
@@ -188,29 +213,23 @@ impl<'a> Iterator for WrappedLines<'a> {
         if self.rest.is_empty() {
             return None;
         }
-        if self.is_plain {
-            let (line, rest) = split_plain_line(self.rest, self.width, self.delimiter);
-            self.rest = rest;
-            return Some(line);
+        match self.next {
+            Next::Printable => {
+                let (line, rest) = split_plain_line(self.rest, self.width, self.delimiter);
+                self.rest = rest;
+                Some(line)
+            }
+            Next::Element(element) => {
+                let (line, lines) = split_at_element(
+                    self.rest,
+                    element,
+                    self.width,
+                    self.delimiter,
+                );
+                *self = lines;
+                Some(line)
+            }
         }
-        let (end, measured) = line_end(
-            self.rest,
-            self.first,
-            self.columns,
-            self.width,
-            self.delimiter,
-        );
-        let (line, behind) = self.rest.split_at(end);
-        if end >= self.first {
-            *self = lines_behind(behind, self.width, self.delimiter, measured);
-            return Some(line);
-        }
-        // The line ends inside a long element, and its rest comes next.
-        self.rest = behind;
-        self.first -= end;
-        let (word, _) = behind.split_at(self.first);
-        self.columns = columns_up_to(word, self.wide, self.width);
-        Some(line)
     }
 }
 

@@ -7,15 +7,17 @@ use Rattle.comfy_parts.proofs.WideEndLemmas.{exact-columns, first-is, none-wider
 use Rattle.comfy_parts.proofs.MeasuredLineLemmas.{at-measured}
 use Rattle.comfy_parts.proofs.content_split.lines.lines_behind.Goals as goal
 
-pub invariant_of-result : goal.invariant_of-result
-invariant_of-result c =
+pub lines_from-requires : goal.lines_from-requires
+lines_from-requires c =
     let m = c.in-Some.next in
     let (start, begun) = c.line_start-rest.ensures.ends in
-    at-measured c.args.width c.args.delimiter c.args.text.now start c.line_start-rest.result.now m.left m.first m.columns c.requires.narrow c.line_start-rest.utf8 c.line_start-rest.ensures.begins begun
-    (subst (λ (o : Option Measured). IfSome o (λ m. IsMeasuredBehind c.args.delimiter c.args.text.now m.left m.first m.columns)) c.in-Some.is c.requires.measured) c.if-next-rest.true
+    record {
+      at = at-measured c.args.width c.args.delimiter c.args.text.now start c.line_start-rest.result.now m.left m.first m.columns c.requires.narrow c.line_start-rest.utf8 c.line_start-rest.ensures.begins begun
+          (subst (λ (o : Option Measured). IfSome o (λ m. IsMeasuredBehind c.args.delimiter c.args.text.now m.left m.first m.columns)) c.in-Some.is c.requires.measured) c.if-next-rest.true;
+    }
 
-pub invariant_of-result-then-rest-width : goal.invariant_of-result-then-rest-width
-invariant_of-result-then-rest-width c =
+pub lines_from-requires-then-rest-width : goal.lines_from-requires-then-rest-width
+lines_from-requires-then-rest-width c =
     let w = c.args.width in
     let d = c.args.delimiter in
     let rest = c.line_start-rest.result.now in
@@ -23,17 +25,19 @@ invariant_of-result-then-rest-width c =
     let at = first-at d rest word c.first_element.result.1.now c.first_element.ensures in
     let same = sym (first-is d rest word c.first_element.result.1.now c.first_element.ensures) in
     record {
-      narrow = c.requires.narrow;
-      whole = c.line_start-rest.utf8;
-      begins_otherwise = c.line_start-rest.ensures.begins;
-      boundary = at.0;
-      element = at.1;
-      columns_are = subst (AreColumnsUpTo w c.columns_up_to.result) same c.columns_up_to.ensures;
-      wide_from = subst (IsWideFrom w c.wide_end-wide.result) same c.wide_end-wide.ensures;
+      at = record {
+        narrow = c.requires.narrow;
+        whole = c.line_start-rest.utf8;
+        begins_otherwise = c.line_start-rest.ensures.begins;
+        boundary = at.0;
+        element = at.1;
+        columns_are = subst (AreColumnsUpTo w c.columns_up_to-columns.result) same c.columns_up_to-columns.ensures;
+        wide_from = subst (IsWideFrom w c.wide_end-wide.result) same c.wide_end-wide.ensures;
+      };
     }
 
-pub invariant_of-result-2 : goal.invariant_of-result-2
-invariant_of-result-2 c =
+pub lines_from-requires-2 : goal.lines_from-requires-2
+lines_from-requires-2 c =
     let w = c.args.width in
     let d = c.args.delimiter in
     let rest = c.line_start-rest.result.now in
@@ -41,11 +45,13 @@ invariant_of-result-2 c =
     let at = first-at d rest word c.measured_element-columns.result.1.now c.measured_element-columns.ensures.element in
     let same = sym (first-is d rest word c.measured_element-columns.result.1.now c.measured_element-columns.ensures.element) in
     record {
-      narrow = c.requires.narrow;
-      whole = c.line_start-rest.utf8;
-      begins_otherwise = c.line_start-rest.ensures.begins;
-      boundary = at.0;
-      element = at.1;
-      columns_are = subst (AreColumnsUpTo w c.measured_element-columns.result.2) same (exact-columns w c.measured_element-columns.result.2 word c.measured_element-columns.ensures.columns);
-      wide_from = subst (IsWideFrom w (length word + 1)) same (none-wider w word);
+      at = record {
+        narrow = c.requires.narrow;
+        whole = c.line_start-rest.utf8;
+        begins_otherwise = c.line_start-rest.ensures.begins;
+        boundary = at.0;
+        element = at.1;
+        columns_are = subst (AreColumnsUpTo w c.measured_element-columns.result.2) same (exact-columns w c.measured_element-columns.result.2 word c.measured_element-columns.ensures.columns);
+        wide_from = subst (IsWideFrom w (length word + 1)) same (none-wider w word);
+      };
     }

@@ -1,19 +1,19 @@
 use Rattle.std.proofs.Common.{◌∷◌, List, true, ap, sym, ◌∙◌}
 use Rattle.comfy_parts.specs.Text.{Text}
 use Rattle.comfy_parts.specs.Wrapping.{line_end, wrapped}
-use Rattle.comfy_parts.proofs.LinesLemmas.{line-place, line-then, plain-behind}
+use Rattle.comfy_parts.proofs.LinesLemmas.{line-place, line-then, plain-behind, plain-starts}
 use Rattle.comfy_parts.proofs.MeasuredLineLemmas.{first-measured}
 use Rattle.comfy_parts.proofs.content_split.lines.split_plain_line.Goals as goal
 
 pub split_at-requires : goal.split_at-requires
 split_at-requires c =
     let ends = c.printable_line_end-end.ensures ∙ ap (line_end c.args.width c.args.delimiter) c.as_bytes.ensures.value in
-    line-place true c.args.width c.args.delimiter c.args.text.now 0 0 0 (c.requires.plain, c.requires.begins) c.requires.some c.printable_line_end-end.result ends
+    line-place c.args.width c.args.delimiter c.args.text.now (plain-starts c.args.width c.args.delimiter c.args.text.now c.requires.plain c.requires.begins) c.requires.some c.printable_line_end-end.result ends
 
 pub returns-clause-lines : goal.returns-clause-lines
 returns-clause-lines c =
     let ends = c.printable_line_end-end.ensures ∙ ap (line_end c.args.width c.args.delimiter) c.as_bytes.ensures.value in
-    line-then true c.args.width c.args.delimiter c.args.text.now 0 0 0 (c.requires.plain, c.requires.begins) c.requires.some _ _ _ ends c.split_at.ensures.front c.split_at.ensures.back
+    line-then c.args.width c.args.delimiter c.args.text.now (plain-starts c.args.width c.args.delimiter c.args.text.now c.requires.plain c.requires.begins) c.requires.some _ _ _ ends c.split_at.ensures.front c.split_at.ensures.back
     ∙ ap (λ (ls : List Text). c.split_at.result.0.now ∷ ls) (sym (c.line_start.ensures.lines c.args.width))
 
 pub returns-clause-columns : goal.returns-clause-columns
