@@ -1,12 +1,12 @@
 -- The lines of a cell as they are drawn.
-use Rattle.std.proofs.Common.{Option, Some, None, ◌≡◌, ◌<◌, ◌≤◌, ℕ, ◌-◌, Bool, true, false, List, [], ◌∷◌, ◌++◌, ◌&&◌, length, map, take, unwrap_or, nat_le, refl, ap, ◌∙◌, sym, slice_index_or, arith}
+use Rattle.std.proofs.Common.{Option, Some, None, ◌≡◌, ◌<◌, ◌≤◌, ℕ, ◌-◌, Bool, true, false, List, [], ◌∷◌, ◌++◌, ◌&&◌, length, map, take, unwrap_or, refl, ap, ◌∙◌, sym, slice_index_or, arith}
 use Rattle.std.specs.List.{AllByRecursion, list_any}
 use Rattle.std.specs.Prelude.{IfSome}
 use Rattle.std.proofs.lemmas.Bool.Decides.{nat_tests}
 use Rattle.std.proofs.lemmas.List.{drop_more, get_or-map, length-map, map-append, take-map}
 use Rattle.comfy_parts.proofs.CallerLemmas.{IsAsSeen, clear_written}
 use Rattle.comfy_parts.specs.CellValue.{CellValue, ColumnInfo, RowValue}
-use Rattle.comfy_parts.specs.Text.{Text, measure}
+use Rattle.comfy_parts.specs.Text.{Text}
 use Rattle.comfy_parts.specs.VisibleLines.{CellLine, line_texts}
 use Rattle.comfy_parts.specs.VisibleText.{has_escape}
 use Rattle.comfy_table.proofs.CutLemmas.{no_limit, seen_of, whole-seen}

@@ -1,6 +1,5 @@
-use Rattle.std.proofs.Common.{◌≡◌, ℕ, Some, ap, ◌∙◌, arith}
+use Rattle.std.proofs.Common.{◌≡◌, Some, ap, ◌∙◌, arith}
 use Rattle.std.specs.List.{slice_get}
-use Rattle.comfy_parts.specs.CellValue.{ColumnInfo}
 use Rattle.comfy_table.proofs.DrawnCellLemmas.{content_pieces}
 use Rattle.comfy_table.specs.DrawnCells.{drawn_cell}
 use Rattle.comfy_table.proofs.utils.formatting.drawn_cell.drawn_cell.Goals as goal
