@@ -1,5 +1,4 @@
 pub mod Borders
-pub mod CellBody
 pub mod CellEquality
 pub mod CellValue
 pub mod Columns

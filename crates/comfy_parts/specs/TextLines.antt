@@ -1,8 +1,10 @@
 -- Private: the text lines of a cell, as its code keeps them.
-use Rattle.std.specs.Prelude.{◌≡◌, ℕ, Bool, true, false, List, [], ◌∷◌, Option, Some, None, map, string_bytes}
+use Rattle.std.specs.Prelude.{◌≡◌, ◌==◌, ℕ, true, false, List, [], ◌∷◌, Option, Some, None, map, string_bytes}
 use Rattle.std.specs.List.{list_any}
 use Rattle.comfy_parts.specs.Text.{Text, measure}
 use Rattle.comfy_parts.specs.VisibleText.{has_escape, visible_text}
+use Rattle.comfy_parts.specs.declared.cell.text_lines.Kept.{Kept}
+use Rattle.comfy_parts.specs.declared.cell.text_lines.Kept.TheVariants as kept
 use Rattle.comfy_parts.specs.declared.cell.text_lines.Lines.{Lines}
 use Rattle.comfy_parts.specs.declared.cell.text_lines.Lines.TheVariants.{One, Several}
 
@@ -16,18 +18,34 @@ abbrev pub widths_of : Lines → List ℕ
 widths_of (One text width) = width ∷ []
 widths_of (Several texts widths) = widths.items
 
--- what is shown: the visible lines where some are kept
-abbrev pub shown_of : Lines → Option Lines → Lines
-shown_of whole None = whole
-shown_of whole (Some visible) = visible
+-- some lines are the visible ones of others, each with its measure beside it
+pub record AreVisible (whole visible : Lines) : Type 0 where
+  pub escaped : list_any has_escape (texts_of whole) ≡ true
+  pub texts : texts_of visible ≡ map visible_text (texts_of whole)
+  pub widths : widths_of visible ≡ map measure (texts_of visible)
 
-abbrev pub are_kept : Option Lines → Bool
-are_kept None = false
-are_kept (Some visible) = true
+-- the visible lines are kept where ESC stands in a line
+abbrev pub IsVisible : Lines → Option Lines → Type 0
+IsVisible whole None = list_any has_escape (texts_of whole) ≡ false
+IsVisible whole (Some visible) = AreVisible whole visible
 
 -- each text has its measure beside it, and what is visible of it with its measure
 pub record AreMeasured (whole : Lines) (visible : Option Lines) : Type 0 where
   pub widths : widths_of whole ≡ map measure (texts_of whole)
-  pub shown : texts_of (shown_of whole visible) ≡ map visible_text (texts_of whole)
-  pub shown_widths : widths_of (shown_of whole visible) ≡ map measure (texts_of (shown_of whole visible))
-  pub escaped : are_kept visible ≡ list_any has_escape (texts_of whole)
+  pub seen : IsVisible whole visible
+
+-- a text that is one text line without ESC, of this width
+pub record IsClearLine (text : Text) (columns : ℕ) : Type 0 where
+  pub unbroken : list_any (λ b. b == 0x0A) text ≡ false
+  pub clear : has_escape text ≡ false
+  pub width : columns ≡ measure text
+
+-- the text lines that are kept
+abbrev pub kept_texts : Kept → List Text
+kept_texts (kept.One text width) = string_bytes text ∷ []
+kept_texts (kept.Several several) = texts_of several.value.whole
+
+-- a single one is such a text, and others are kept with what is visible of them
+abbrev pub KeepsMeasured : Kept → Type 0
+KeepsMeasured (kept.One text width) = IsClearLine (string_bytes text) width
+KeepsMeasured (kept.Several several) = AreMeasured several.value.whole several.value.visible

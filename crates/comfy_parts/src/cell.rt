@@ -5,11 +5,10 @@ ghost use Rattle.std.specs.Cmp.{partial_equiv_from_equiv};
 ghost use Rattle.comfy_parts.specs.CellEquality.{cell_eq, cell_eq_equiv, cell_hash, cell_hash_respects_eq};
 ghost use Rattle.comfy_parts.specs.CellValue.{IsCell, content_of, plain_cell};
 
-mod body;
 pub mod for_tables;
 mod text_lines;
 
-use crate::cell::body::Body;
+use crate::cell::text_lines::TextLines;
 use crate::error::Result;
 use crate::style::{Attribute, CellAlignment, Color};
 use std::alloc::{AllocError, Global};
@@ -26,7 +25,8 @@ use std::marker::Model;
 /// ```
 #[derive(Drop)]
 pub struct Cell {
-    body: Body,
+    text_lines: TextLines,
+    attributes: Vec<Attribute>,
     delimiter: Option<char>,
     alignment: Option<CellAlignment>,
     foreground: Option<Color>,
@@ -38,9 +38,9 @@ impl Model for Cell {
 
     ghost Value = { CellValue };
 
-    ghost view = { λ c. record { text_lines = c.body.text_lines; delimiter = c.delimiter; alignment = c.alignment; foreground = c.foreground; background = c.background; attributes = c.body.attributes } };
+    ghost view = { λ c. record { text_lines = c.text_lines; delimiter = c.delimiter; alignment = c.alignment; foreground = c.foreground; background = c.background; attributes = c.attributes.items } };
 
-    ghost invariant = { λ c. HasTextLines c.body.text_lines × IsDelimiter c.delimiter };
+    ghost invariant = { λ c. HasTextLines c.text_lines × IsDelimiter c.delimiter };
 }
 
 impl Cell {
@@ -64,7 +64,8 @@ impl Cell {
         ensures content { IfOk result (λ cell. content_of cell ≡ string_bytes text) }
     {
         Ok(Cell {
-            body: Body::new(alloc, text)?,
+            text_lines: TextLines::of_text(alloc, text)?,
+            attributes: Vec::new(alloc),
             delimiter: None,
             alignment: None,
             foreground: None,
@@ -76,7 +77,7 @@ impl Cell {
     pub fn content(&self) -> Result<String>
         ensures { IfOk result (λ text. string_bytes text ≡ content_of self.now) }
     {
-        Ok(self.text_lines().join(self.body.allocator(), "\n")?)
+        Ok(self.text_lines().join(*self.attributes.allocator(), "\n")?)
     }
 
     /// The text lines, in order.
@@ -84,7 +85,7 @@ impl Cell {
         ensures value { map string_bytes result.now ≡ self.now.text_lines }
         ensures is_cell { IsCell self.now }
     {
-        self.body.texts()
+        self.text_lines.whole().0
     }
 
     /// Sets the character at which the cell's texts may break, whatever its column and its table have.
@@ -145,23 +146,11 @@ impl Cell {
     }
 
     // The cell with attributes after those that it has.
-    fn with_attributes(self, attributes: &[Attribute]) -> Result<Cell>
+    fn with_attributes(mut self, attributes: &[Attribute]) -> Result<Cell>
         ensures { IfOk result (λ cell. cell ≡ record self { attributes = self.attributes ++ attributes.now }) }
     {
-        let Cell {
-            body,
-            delimiter,
-            alignment,
-            foreground,
-            background,
-        } = self;
-        Ok(Cell {
-            body: body.with_attributes(attributes)?,
-            delimiter,
-            alignment,
-            foreground,
-            background,
-        })
+        self.attributes.extend_from_slice(attributes)?;
+        Ok(self)
     }
 
     /// The character at which the cell's texts may break; none where its column's or its table's is taken.
@@ -196,7 +185,7 @@ impl Cell {
     pub fn attributes(&self) -> &[Attribute]
         ensures { result.now ≡ self.now.attributes }
     {
-        self.body.attributes()
+        self.attributes.as_slice()
     }
 }
 
@@ -219,7 +208,8 @@ impl Clone for Cell {
 
     fn clone(&self) -> std::result::Result<Cell, AllocError> {
         Ok(Cell {
-            body: self.body.clone()?,
+            text_lines: self.text_lines.clone()?,
+            attributes: self.attributes.clone()?,
             delimiter: self.delimiter,
             alignment: self.alignment,
             foreground: self.foreground,

@@ -1,7 +1,7 @@
 //! What a table reads of its cells to draw them: the widths of their text lines, what is visible of these, and what is
 //! written for their lines. It is public for the crate of tables, and whoever calls that needs none of it.
 
-ghost use Rattle.std.specs.Prelude.{◌≡◌, [], IfOk, length, map, string_bytes, true};
+ghost use Rattle.std.specs.Prelude.{◌≡◌, [], IfOk, if◌then◌else◌, length, map, string_bytes, true};
 ghost use Rattle.std.specs.List.{list_any};
 ghost use Rattle.comfy_parts.specs.Text.{measure};
 ghost use Rattle.comfy_parts.specs.VisibleLines.{CellLine, line_texts};
@@ -11,33 +11,24 @@ use crate::cell::Cell;
 use crate::content_split::ColumnDisplayInfo;
 use crate::error::Result;
 
-/// The terminal columns that each text line takes, in order. They were measured when the cell was made.
-pub fn text_widths(cell: &Cell) -> &[usize]
-    ensures { result.now ≡ map measure cell.now.text_lines }
+/// The text lines, in order, and the terminal columns that each takes. Without sequences they are what is visible of the
+/// text lines. Both were found when the cell was made.
+pub fn measured_lines(cell: &Cell, without_sequences: bool) -> (&[String], &[usize])
+    ensures texts { map string_bytes result.0.now ≡ (if without_sequences then map visible_text cell.now.text_lines else cell.now.text_lines) }
+    ensures widths { result.1.now ≡ map measure (if without_sequences then map visible_text cell.now.text_lines else cell.now.text_lines) }
 {
-    cell.body.widths()
-}
-
-/// What is visible of each text line, in order: the text line without its SGR sequences. It was found when the cell was
-/// made.
-pub fn visible_lines(cell: &Cell) -> &[String]
-    ensures { map string_bytes result.now ≡ map visible_text cell.now.text_lines }
-{
-    cell.body.visible()
-}
-
-/// The terminal columns that what is visible of each text line takes, in order. They were measured when the cell was made.
-pub fn visible_widths(cell: &Cell) -> &[usize]
-    ensures { result.now ≡ map measure (map visible_text cell.now.text_lines) }
-{
-    cell.body.visible_widths()
+    if without_sequences {
+        cell.text_lines.visible()
+    } else {
+        cell.text_lines.whole()
+    }
 }
 
 /// Whether ESC stands in the cell's text. Where it doesn't, the cell holds no sequence.
 pub fn has_escape(cell: &Cell) -> bool
     ensures { result ≡ list_any has_escape cell.now.text_lines }
 {
-    cell.body.has_escape()
+    cell.text_lines.has_escape()
 }
 
 /// Whether a text line is written as it is where it is a cell's only line and SGR sequences count nothing. This is found
@@ -50,17 +41,18 @@ pub fn is_written_whole(text: &str) -> bool
 
 /// The texts that are written for the lines of the cell in a column where SGR sequences count nothing, from the top.
 ///
-/// The lines themselves are those of `visible_lines`, wrapped at the column's content width. A line's text begins with
+/// The lines themselves are those of `measured_lines` without sequences, wrapped at the column's content width. A line's text begins with
 /// the sequences that are active there, keeps those between its visible characters, and ends with `ESC[0m` where one
 /// is open then. Sequences of earlier text lines stay active.
 pub fn written_lines(cell: &Cell, info: &ColumnDisplayInfo, delimiter: char) -> Result<Vec<String>>
     ensures { IfOk result (λ texts. map string_bytes texts.items ≡ map (λ (line : CellLine). line.written) (line_texts info.now.content_width delimiter cell.now.text_lines)) }
 {
+    let (visible, widths) = cell.text_lines.visible();
     crate::content_split::written_lines(
-        cell.body.allocator(),
+        *cell.attributes.allocator(),
         cell.text_lines(),
-        visible_lines(cell),
-        visible_widths(cell),
+        visible,
+        widths,
         info,
         delimiter,
     )

@@ -1,27 +1,41 @@
-//! The text lines of a cell, each with its measure.
+//! The text lines of a cell, each with the columns that it takes.
 
-ghost use Rattle.std.specs.Prelude.{◌≡◌, ◌==◌, ◌∷◌, [], true, false, IfOk, map, string_bytes};
+ghost use Rattle.std.specs.Prelude.{◌≡◌, ◌==◌, ◌∷◌, [], true, false, nat_lt, IfOk, IfSome, map, string_bytes};
 ghost use Rattle.std.specs.List.{list_any, slice_split};
 ghost use Rattle.comfy_parts.specs.CellValue.{HasTextLines, plain_cell};
 ghost use Rattle.comfy_parts.specs.Text.{measure};
-ghost use Rattle.comfy_parts.specs.TextLines.{texts_of, widths_of};
+ghost use Rattle.comfy_parts.specs.TextLines.{IsClearLine, IsVisible, texts_of, widths_of};
 ghost use Rattle.comfy_parts.specs.VisibleText.{has_escape, visible_text};
 
-use crate::content_split::{has_escape, measure_text_width, visible_text};
+use crate::content_split::{has_escape, is_printable, measure_text_width, visible_text};
 use crate::error::Result;
 use std::alloc::{AllocError, Global};
 use std::marker::Model;
 use std::slice;
 
-// The text lines of a cell, and what is visible of them where ESC stands in one. A table asks for the visible ones
-// again and again, and each time without memory, so they are kept.
+// The text lines of a cell.
 #[derive(Drop)]
 pub(crate) struct TextLines {
+    kept: Kept,
+}
+
+#[derive(Drop)]
+enum Kept {
+    // a single text line without ESC, as most cells have: this takes no memory but its text's
+    One { text: String, width: usize },
+    // any others, behind a box, so that a cell stays small
+    Several(Box<Several>),
+}
+
+// Text lines, and what is visible of them where ESC stands in one. A table asks for the visible ones again and again, and
+// each time without memory, so they are kept.
+#[derive(Drop)]
+struct Several {
     whole: Lines,
     visible: Option<Lines>,
 }
 
-// Text lines, and the columns that each takes, in the same order. A single one takes no list.
+// Texts, and the columns that each takes, in the same order. A single one takes no list.
 #[derive(Drop)]
 enum Lines {
     One {
@@ -36,89 +50,76 @@ enum Lines {
 
 impl Model for TextLines {
     ghost use Rattle.std.specs.Prelude.{List, ℕ};
-    ghost use Rattle.comfy_parts.specs.TextLines.{AreMeasured, texts_of};
+    ghost use Rattle.comfy_parts.specs.TextLines.{KeepsMeasured, kept_texts};
 
     ghost Value = { List (List ℕ) };
 
-    ghost view = { λ t. texts_of t.whole };
+    ghost view = { λ t. kept_texts t.kept };
 
-    ghost invariant = { λ t. AreMeasured t.whole t.visible };
+    ghost invariant = { λ t. KeepsMeasured t.kept };
 }
 
 impl TextLines {
-    // One text line without ESC, of this width.
-    pub(crate) fn one(text: String, width: usize) -> TextLines
-        requires width { width ≡ measure (string_bytes text) }
-        requires clear { has_escape (string_bytes text) ≡ false }
-        ensures { result ≡ string_bytes text ∷ [] }
-    {
-        TextLines {
-            whole: Lines::One { text, width },
-            visible: None,
-        }
-    }
-
-    // What stands between the line feeds of a text. A single text line is kept, and not copied.
+    // What stands between the line feeds of a text. A text that is one text line is kept, and not copied.
     pub(crate) fn of_text(alloc: Global, text: String) -> Result<TextLines>
         ensures value { IfOk result (λ lines. lines ≡ (plain_cell (string_bytes text)).text_lines) }
         ensures text_lines { IfOk result HasTextLines }
     {
-        let whole = Lines::of_text(alloc, text)?;
-        if !whole.has_escape() {
+        if let Some(width) = clear_width(text.as_str()) {
             return Ok(TextLines {
-                whole,
-                visible: None,
+                kept: Kept::One { text, width },
             });
         }
+        TextLines::several(alloc, text)
+    }
+
+    // Those of any text. Most are kept by themselves and don't come here.
+    #[inline(never)]
+    fn several(alloc: Global, text: String) -> Result<TextLines>
+        ensures value { IfOk result (λ lines. lines ≡ (plain_cell (string_bytes text)).text_lines) }
+        ensures text_lines { IfOk result HasTextLines }
+    {
+        let whole = Lines::of_text(alloc, text)?;
         let visible = whole.visible(alloc)?;
+        let several = Several { whole, visible };
         Ok(TextLines {
-            whole,
-            visible: Some(visible),
+            kept: Kept::Several(Box::new(alloc, several)?),
         })
     }
 
-    pub(crate) fn texts(&self) -> &[String]
-        ensures { map string_bytes result.now ≡ self.now }
+    // The text lines, and the columns that each takes.
+    pub(crate) fn whole(&self) -> (&[String], &[usize])
+        ensures texts { map string_bytes result.0.now ≡ self.now }
+        ensures widths { result.1.now ≡ map measure self.now }
     {
-        self.whole.texts()
+        match &self.kept {
+            Kept::One { text, width } => (slice::from_ref(text), slice::from_ref(width)),
+            Kept::Several(several) => several.whole.measured(),
+        }
     }
 
-    // The columns that each text line takes.
-    pub(crate) fn widths(&self) -> &[usize]
-        ensures { result.now ≡ map measure self.now }
+    // What is visible of each text line, and the columns that it takes.
+    #[tactic(auto, using(crate::proofs::EscapedLemmas::clear_lines, crate::proofs::EscapedLemmas::clear_text))]
+    pub(crate) fn visible(&self) -> (&[String], &[usize])
+        ensures texts { map string_bytes result.0.now ≡ map visible_text self.now }
+        ensures widths { result.1.now ≡ map measure (map visible_text self.now) }
     {
-        self.whole.widths()
-    }
-
-    // What is visible of each text line.
-    pub(crate) fn visible(&self) -> &[String]
-        ensures { map string_bytes result.now ≡ map visible_text self.now }
-    {
-        self.shown().texts()
-    }
-
-    // The columns that each of these takes.
-    pub(crate) fn visible_widths(&self) -> &[usize]
-        ensures { result.now ≡ map measure (map visible_text self.now) }
-    {
-        self.shown().widths()
+        match &self.kept {
+            Kept::One { text, width } => (slice::from_ref(text), slice::from_ref(width)),
+            Kept::Several(several) => match &several.visible {
+                Some(visible) => visible.measured(),
+                None => several.whole.measured(),
+            },
+        }
     }
 
     // Whether ESC stands in a text line.
     pub(crate) fn has_escape(&self) -> bool
         ensures { result ≡ list_any has_escape self.now }
     {
-        self.visible.is_some()
-    }
-
-    // What is visible: the text lines themselves where no ESC stands in one.
-    fn shown(&self) -> &Lines
-        ensures texts { texts_of result.now ≡ map visible_text self.now }
-        ensures widths { widths_of result.now ≡ map measure (map visible_text self.now) }
-    {
-        match &self.visible {
-            Some(visible) => visible,
-            None => &self.whole,
+        match &self.kept {
+            Kept::One { .. } => false,
+            Kept::Several(several) => several.visible.is_some(),
         }
     }
 }
@@ -129,10 +130,16 @@ impl Lines {
         ensures texts { IfOk result (λ lines. texts_of lines ≡ slice_split (λ b. b == 0x0A) (string_bytes text)) }
         ensures widths { IfOk result (λ lines. widths_of lines ≡ map measure (texts_of lines)) }
     {
-        if text.contains('\n') {
-            return Lines::between_breaks(alloc, text.as_str());
+        if !text.contains('\n') {
+            return Ok(Lines::one(text));
         }
-        Ok(Lines::one(text))
+        let mut texts = Vec::new(alloc);
+        let mut widths = Vec::new(alloc);
+        for line in text.split('\n') {
+            texts.push(String::from_str(alloc, line)?)?;
+            widths.push(measure_text_width(line))?;
+        }
+        Ok(Lines::Several { texts, widths })
     }
 
     fn one(text: String) -> Lines
@@ -145,41 +152,21 @@ impl Lines {
         }
     }
 
-    fn between_breaks(alloc: Global, text: &str) -> Result<Lines>
-        ensures texts { IfOk result (λ lines. texts_of lines ≡ slice_split (λ b. b == 0x0A) text.now) }
-        ensures widths { IfOk result (λ lines. widths_of lines ≡ map measure (texts_of lines)) }
-    {
-        let mut texts = Vec::new(alloc);
-        let mut widths = Vec::new(alloc);
-        for line in text.split('\n') {
-            texts.push(String::from_str(alloc, line)?)?;
-            widths.push(measure_text_width(line))?;
-        }
-        Ok(Lines::Several { texts, widths })
-    }
-
-    fn texts(&self) -> &[String]
-        ensures { map string_bytes result.now ≡ texts_of self.now }
+    // The texts, and the columns that each takes.
+    fn measured(&self) -> (&[String], &[usize])
+        ensures texts { map string_bytes result.0.now ≡ texts_of self.now }
+        ensures widths { result.1.now ≡ widths_of self.now }
     {
         match self {
-            Lines::One { text, .. } => slice::from_ref(text),
-            Lines::Several { texts, .. } => texts.as_slice(),
-        }
-    }
-
-    fn widths(&self) -> &[usize]
-        ensures { result.now ≡ widths_of self.now }
-    {
-        match self {
-            Lines::One { width, .. } => slice::from_ref(width),
-            Lines::Several { widths, .. } => widths.as_slice(),
+            Lines::One { text, width } => (slice::from_ref(text), slice::from_ref(width)),
+            Lines::Several { texts, widths } => (texts.as_slice(), widths.as_slice()),
         }
     }
 
     fn has_escape(&self) -> bool
         ensures { result ≡ list_any has_escape (texts_of self.now) }
     {
-        let texts = self.texts();
+        let (texts, _) = self.measured();
         let mut found = false;
         for text in texts {
             found |= has_escape(text.as_str());
@@ -187,15 +174,17 @@ impl Lines {
         found
     }
 
-    // What is visible of each text line.
-    fn visible(&self, alloc: Global) -> Result<Lines>
-        ensures texts { IfOk result (λ lines. texts_of lines ≡ map visible_text (texts_of self.now)) }
-        ensures widths { IfOk result (λ lines. widths_of lines ≡ map measure (texts_of lines)) }
+    // What is visible of each text line, where ESC stands in one.
+    fn visible(&self, alloc: Global) -> Result<Option<Lines>>
+        ensures { IfOk result (IsVisible self.now) }
     {
-        match self {
-            Lines::One { text, .. } => Ok(Lines::one(visible_text(alloc, text.as_str())?)),
-            Lines::Several { texts, .. } => visible_lines(alloc, texts.as_slice()),
+        if !self.has_escape() {
+            return Ok(None);
         }
+        Ok(Some(match self {
+            Lines::One { text, .. } => Lines::one(visible_text(alloc, text.as_str())?),
+            Lines::Several { texts, .. } => visible_lines(alloc, texts.as_slice())?,
+        }))
     }
 }
 
@@ -213,17 +202,70 @@ fn visible_lines(alloc: Global, lines: &[String]) -> Result<Lines>
     Ok(Lines::Several { texts, widths })
 }
 
+// The columns of a text that is one text line without ESC; none for any other.
+fn clear_width(text: &str) -> Option<usize>
+    ensures { IfSome result (IsClearLine text.now) }
+{
+    // Printable ASCII is such a text, and each of its bytes takes a column.
+    if is_printable(text.as_bytes()) {
+        return Some(text.len());
+    }
+    if !is_clear_line(text) {
+        return None;
+    }
+    Some(measure_text_width(text))
+}
+
+// Whether a text is one text line without ESC. Most texts show it by one look at their bytes: they have no control
+// character at all.
+fn is_clear_line(text: &str) -> bool
+    ensures unbroken { result ≡ true → list_any (λ b. b == 0x0A) text.now ≡ false }
+    ensures clear { result ≡ true → has_escape text.now ≡ false }
+{
+    if !has_control(text.as_bytes()) {
+        return true;
+    }
+    !text.contains('\n') && !has_escape(text)
+}
+
+fn has_control(bytes: &[u8]) -> bool
+    ensures { result ≡ list_any (λ b. nat_lt b 0x20) bytes.now }
+{
+    let mut found = false;
+    for byte in bytes {
+        found |= *byte < 0x20;
+    }
+    found
+}
+
 // A copy has the same lines, in memory of its own.
 impl Clone for TextLines {
     ghost is_clone = { λ source copy. copy ≡ source };
 
     fn clone(&self) -> std::result::Result<TextLines, AllocError> {
+        let kept = match &self.kept {
+            Kept::One { text, width } => Kept::One {
+                text: text.clone()?,
+                width: *width,
+            },
+            Kept::Several(several) => Kept::Several(several.clone()?),
+        };
+        Ok(TextLines { kept })
+    }
+}
+
+impl Clone for Several {
+    ghost use Rattle.comfy_parts.specs.TextLines.{AreMeasured};
+
+    ghost is_clone = { λ source copy. (texts_of copy.whole ≡ texts_of source.whole) × (AreMeasured source.whole source.visible → AreMeasured copy.whole copy.visible) };
+
+    fn clone(&self) -> std::result::Result<Several, AllocError> {
         let whole = self.whole.clone()?;
         let visible = match &self.visible {
             Some(visible) => Some(visible.clone()?),
             None => None,
         };
-        Ok(TextLines { whole, visible })
+        Ok(Several { whole, visible })
     }
 }
 

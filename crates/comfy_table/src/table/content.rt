@@ -5,7 +5,7 @@ ghost use Rattle.comfy_parts.specs.Text.{measure};
 ghost use Rattle.comfy_table.specs.TableValue.{cell_content_width, column_content_width, max_content_widths, seen_cell};
 
 use crate::table::Table;
-use comfy_parts::for_tables::{text_widths, visible_lines, visible_widths};
+use comfy_parts::for_tables::measured_lines;
 use comfy_parts::{Cell, Result};
 
 /// The greatest measure, in terminal columns, of a text line of the column at a position, over header and rows. Each
@@ -23,26 +23,13 @@ pub(crate) fn column_content_width(table: &Table, position: usize) -> u16
 }
 
 impl Table {
-    // The text lines of a cell as widths, line ends and cuts see them: with custom styling without their sequences.
-    pub(crate) fn seen_lines<'a>(&self, cell: &'a Cell) -> &'a [String]
-        ensures { map string_bytes result.now ≡ (seen_cell self.now cell.now).text_lines }
+    // The text lines of a cell as widths, line ends and cuts see them, with custom styling without their sequences, and the
+    // columns that each takes.
+    pub(crate) fn seen_lines<'a>(&self, cell: &'a Cell) -> (&'a [String], &'a [usize])
+        ensures texts { map string_bytes result.0.now ≡ (seen_cell self.now cell.now).text_lines }
+        ensures widths { result.1.now ≡ map measure (seen_cell self.now cell.now).text_lines }
     {
-        if self.custom_styling {
-            visible_lines(cell)
-        } else {
-            cell.text_lines()
-        }
-    }
-
-    // The columns that each of these takes.
-    pub(crate) fn seen_widths<'a>(&self, cell: &'a Cell) -> &'a [usize]
-        ensures { result.now ≡ map measure (seen_cell self.now cell.now).text_lines }
-    {
-        if self.custom_styling {
-            visible_widths(cell)
-        } else {
-            text_widths(cell)
-        }
+        measured_lines(cell, self.custom_styling)
     }
 
     /// For each column, in list order, the greatest measure of a text line over header and rows, in terminal columns. Each
@@ -64,7 +51,7 @@ impl Table {
 fn cell_content_width(table: &Table, cell: &Cell) -> u16
     ensures { result ≡ cell_content_width (seen_cell table.now cell.now) }
 {
-    let widths = table.seen_widths(cell);
+    let (_, widths) = table.seen_lines(cell);
     let mut widest = 1;
     for width in widths {
         widest = widest.max((*width).min(65535) as u16);

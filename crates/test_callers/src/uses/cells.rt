@@ -6,7 +6,7 @@ ghost use Rattle.comfy_parts.specs.declared.style.attribute.Attribute.TheVariant
 ghost use Rattle.comfy_parts.specs.declared.style.cell.CellAlignment.TheVariants.{Center};
 ghost use Rattle.comfy_parts.specs.declared.style.color.Color.TheVariants.{Red, White};
 
-use comfy_parts::for_tables::text_widths;
+use comfy_parts::for_tables::measured_lines;
 use comfy_parts::laws::cells_are_equal_by_their_values;
 use comfy_table::{
     Attribute, Cell, CellAlignment, Cells, Color, IntoCell, IntoCells, IntoRow, Result, Row,
@@ -71,7 +71,8 @@ pub fn with_attributes_of(alloc: Global, cell: Cell, other: &Cell) -> Result<Cel
 pub fn line_counts(cell: &Cell) -> (usize, usize)
     ensures { result ≡ (length cell.now.text_lines, length cell.now.text_lines) }
 {
-    (cell.text_lines().len(), text_widths(cell).len())
+    let (texts, widths) = measured_lines(cell, false);
+    (texts.len(), widths.len())
 }
 
 /// Whether a cell equals its copy: it does.

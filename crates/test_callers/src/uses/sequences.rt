@@ -9,7 +9,7 @@ ghost use Rattle.comfy_table.specs.Laws.{CutLinesAreClosed, IsFreeOfEscapes, Lea
 ghost use Rattle.test_callers.specs.Uses.{IsDrawnWithCells, IsPlainDrawing};
 
 use comfy_parts::content_split::leaves_sequence_open;
-use comfy_parts::for_tables::{has_escape, visible_lines, visible_widths, written_lines};
+use comfy_parts::for_tables::{has_escape, measured_lines, written_lines};
 use comfy_table::laws::{lines_are_found_in_their_texts, new_tables_leave_no_sequence_open};
 use comfy_table::utils::formatting::content_split::ColumnDisplayInfo;
 use comfy_table::{Cell, Lines, Result, Row, Table};
@@ -66,7 +66,8 @@ pub fn closed_text(alloc: Global, text: &str) -> Result<String>
 pub fn first_seen_width(cell: &Cell) -> Option<usize>
     ensures { result ≡ slice_get (map measure (map visible_text cell.now.text_lines)) 0 }
 {
-    visible_widths(cell).first().copied()
+    let (_, widths) = measured_lines(cell, true);
+    widths.first().copied()
 }
 
 /// What is seen of a text line of a cell, copied.
@@ -74,7 +75,8 @@ pub fn seen_text(alloc: Global, cell: &Cell, position: usize) -> Result<String>
     requires { position < length cell.now.text_lines }
     ensures { IfOk result (λ text. slice_get (map visible_text cell.now.text_lines) position ≡ Some (string_bytes text)) }
 {
-    Ok(String::from_str(alloc, visible_lines(cell)[position].as_str())?)
+    let (texts, _) = measured_lines(cell, true);
+    Ok(String::from_str(alloc, texts[position].as_str())?)
 }
 
 /// Whether no ESC stands in a cell, so that it is written as it is.

@@ -55,8 +55,7 @@ fn cell_longest_line(table: &Table, cell: &Cell, info: &ColumnDisplayInfo) -> us
     ensures { result ≡ cell_longest_line table.now info.now (seen_cell table.now cell.now) }
 {
     let delimiter = table.delimiter_of(cell, info.delimiter);
-    let texts = table.seen_lines(cell);
-    let widths = table.seen_widths(cell);
+    let (texts, widths) = table.seen_lines(cell);
     let mut longest = 0;
     for (line, text) in texts.iter().enumerate() {
         let of_text = text_longest_line(text.as_str(), widths[line], info, delimiter);

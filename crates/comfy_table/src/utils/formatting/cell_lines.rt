@@ -96,7 +96,7 @@ fn only_line<'a>(
     ensures { IfSome result (λ line. record { columns = line.0; written = line.1.now } ∷ [] ≡ map drawn_line (whole_lines table.now.custom_styling info.now.content_width (cell_delimiter table.now info.now.delimiter cell.now) cell.now)) }
 {
     let texts = cell.text_lines();
-    let widths = table.seen_widths(cell);
+    let (_, widths) = table.seen_lines(cell);
     if texts.len() != 1 || widths[0] > usize::from(info.content_width) {
         return None;
     }
@@ -141,8 +141,7 @@ fn made_lines<'a>(
 fn seen_lines<'a>(table: &Table, cell: &'a Cell, info: &ColumnDisplayInfo) -> Result<Vec<Line<'a>>>
     ensures { IfOk result (λ lines. lines.items ≡ map drawn_text (cell_lines info.now.content_width (cell_delimiter table.now info.now.delimiter cell.now) (seen_cell table.now cell.now))) }
 {
-    let texts = table.seen_lines(cell);
-    let widths = table.seen_widths(cell);
+    let (texts, widths) = table.seen_lines(cell);
     let delimiter = table.delimiter_of(cell, info.delimiter);
     let alloc = *table.columns.allocator();
     let mut lines = Vec::with_capacity(alloc, about_lines(widths, info.content_width))?;

@@ -16,10 +16,10 @@ returns c =
     let w = info.content_width in
     let d = cell_delimiter c.args.table.now info.delimiter cell in
     let text = c.as_str-text.result.now in
-    let columns = slice_index_or c.seen_widths-widths.result.now 0 0 in
+    let columns = slice_index_or c.seen_lines.result.1.now 0 0 in
     let single : cell.text_lines ≡ text ∷ [] =
     sym c.text_lines-texts.ensures.value ∙ only_one string_bytes c.text_lines-texts.result.now c.index-texts-0.result c.if-texts-ne1.false c.index-texts-0.is ∙ ap (λ (t : Text). t ∷ []) (sym c.as_str-text.ensures.value) in
-    let wide = only_width custom cell.text_lines text c.seen_widths-widths.result.now single c.seen_widths-widths.ensures in
+    let wide = only_width custom cell.text_lines text c.seen_lines.result.1.now single c.seen_lines.ensures.widths in
     let fits : columns ≤ w = grind arith in
     elim c.else-has_own_texts.branch [
       | else-has_own_texts-via-then-has_own_texts+else-not-is_written_whole b ↦

@@ -2,7 +2,7 @@ use Rattle.std.proofs.Common.{◌≡◌, arith, true, ap, sym, ◌∙◌}
 use Rattle.comfy_parts.proofs.EscapedLemmas.{none_below}
 use Rattle.comfy_parts.proofs.PrintableLemmas.{measure-printable}
 use Rattle.comfy_parts.specs.Text.{is_printable_ascii}
-use Rattle.comfy_parts.proofs.cell.body.plain_width.Goals as goal
+use Rattle.comfy_parts.proofs.cell.text_lines.clear_width.Goals as goal
 
 pub returns-then-is_printable : goal.returns-then-is_printable
 returns-then-is_printable c =

@@ -1,7 +1,7 @@
 use Rattle.std.proofs.Common.{◌≡◌, arith, false, List, ℕ, ap, sym, ◌∙◌, nat_lt}
 use Rattle.std.specs.List.{list_any}
 use Rattle.comfy_parts.proofs.EscapedLemmas.{none_by_characters, none_of_control}
-use Rattle.comfy_parts.proofs.cell.body.is_plain_line.Goals as goal
+use Rattle.comfy_parts.proofs.cell.text_lines.is_clear_line.Goals as goal
 
 -- without a control character
 pub returns-then-not-has_control-clause-unbroken : goal.returns-then-not-has_control-clause-unbroken

@@ -1,6 +1,6 @@
 use Rattle.std.proofs.Common.{◌≡◌, string_bytes, map}
 use Rattle.comfy_parts.specs.Text.{measure}
-use Rattle.comfy_parts.proofs.cell.text_lines.Lines.between_breaks.Given as goal
+use Rattle.comfy_parts.proofs.cell.text_lines.Lines.of_text.Given as goal
 
 abbrev pub invariant-loop-line : goal.invariant-loop-line
 invariant-loop-line l =

@@ -1,0 +1,17 @@
+use Rattle.std.proofs.Common.{◌≡◌, ◌==◌, [], ◌∷◌, string_bytes}
+use Rattle.std.specs.List.{slice_split}
+use Rattle.comfy_parts.proofs.ValueLemmas.{has_text_lines}
+use Rattle.comfy_parts.specs.CellValue.{HasTextLines}
+use Rattle.comfy_parts.specs.Text.{Text}
+use Rattle.comfy_parts.specs.TextLines.{texts_of}
+use Rattle.comfy_parts.specs.declared.cell.text_lines.Lines.{Lines}
+use Rattle.comfy_parts.specs.declared.cell.text_lines.Lines.TheVariants.{One, Several}
+use Rattle.comfy_parts.proofs.cell.text_lines.TextLines.several.Goals as goal
+
+whole_lines : (text : Text) (lines : Lines) → texts_of lines ≡ slice_split (λ b. b == 0x0A) text → HasTextLines (texts_of lines)
+whole_lines text (One line width) are = has_text_lines text (line ∷ []) are
+whole_lines text (Several lines widths) are = has_text_lines text lines.items are
+
+pub returns-clause-text_lines : goal.returns-clause-text_lines
+returns-clause-text_lines c =
+    rw c.in_ok-new.ensures.ok (whole_lines (string_bytes c.args.text) c.in_ok-whole.whole c.in_ok-whole.ensures.texts)
