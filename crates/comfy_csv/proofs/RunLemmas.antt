@@ -22,7 +22,7 @@ after_refusal T options (NotUtf8 number) input ended failed write_failed sound w
 after_refusal T options (NoColumn name) input ended failed write_failed sound why = record { no_device_failed = none_failed _ why.0 sound; whole = why.1; no_column = why.2; nothing_written = refl }
 after_refusal T options OutOfMemory input ended failed write_failed sound why = record { no_device_failed = none_failed _ why sound; nothing_written = refl }
 
-module _ {T : Type 0} (options : Options) (input had output : Text) (old new : Option Text) (write_failed : Bool) where
+module _ (T : Type 0) (options : Options) (input had output : Text) (old new : Option Text) (write_failed : Bool) where
   -- the output was written
   pub after_writing : (x : T) → old ≡ Some had → IsOutputFor options input output → write_failed ≡ false → ((had : Text) → old ≡ Some had → new ≡ Some (had ++ output))
       → (written : Text) × (new ≡ Some (had ++ written)) × IsAfter options (Ok x) (record { input = input; end_was_read = true; written = written; read_failed = false; write_failed = write_failed })

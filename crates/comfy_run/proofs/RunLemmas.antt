@@ -20,7 +20,7 @@ after_refusal T settings (Table e) input ended failed write_failed sound why = r
 none_failed : (facts : RunFacts) → facts.read_failed ≡ false → facts.write_failed ≡ false → NoDeviceFailed facts
 none_failed facts read write = record { no_read_failed = read; no_write_failed = write }
 
-module _ {T : Type 0} (settings : Settings) (input had output : Text) (old new : Option Text) (write_failed : Bool) where
+module _ (T : Type 0) (settings : Settings) (input had output : Text) (old new : Option Text) (write_failed : Bool) where
   -- the output was written
   pub after_writing : (x : T) → old ≡ Some had → IsUtf8 input × IsOutputFor settings.width settings.arrangement settings.style input output
       → write_failed ≡ false → ((had : Text) → old ≡ Some had → new ≡ Some (had ++ output))

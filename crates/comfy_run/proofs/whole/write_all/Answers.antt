@@ -6,9 +6,9 @@ pub loop-rest-preserved : goal.loop-rest-preserved
 loop-rest-preserved g c =
     let i = c.loop-rest.invariant in
     let sent = i.0 in
-    let now = take c.in-Ok.count c.loop-rest.rest.now in (
+    let now = take c.in_ok-count.count c.loop-rest.rest.now in (
       sent ++ now,
-      append_assoc sent now _ ∙ ap (λ t. sent ++ (now ++ t)) c.split_at.ensures.back ∙ ap (λ t. sent ++ t) (take-append-drop c.in-Ok.count c.loop-rest.rest.now) ∙ i.1,
-      λ had h. c.in-Ok.ensures.bytes _ (i.2 had h) ∙ ap Some (append_assoc had sent now),
-      λ sound. c.in-Ok.ensures.fault,
+      append_assoc sent now _ ∙ ap (λ t. sent ++ (now ++ t)) c.split_at.ensures.back ∙ ap (λ t. sent ++ t) (take-append-drop c.in_ok-count.count c.loop-rest.rest.now) ∙ i.1,
+      λ had h. c.in_ok-count.ensures.bytes _ (i.2 had h) ∙ ap Some (append_assoc had sent now),
+      λ sound. c.in_ok-count.ensures.fault,
     )

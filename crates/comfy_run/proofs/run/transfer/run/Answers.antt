@@ -13,11 +13,11 @@ returns-in_err-output-clause-known g c = λ input had known taken read write.
 pub returns-in-Ok-clause-known : goal.returns-in-Ok-clause-known
 returns-in-Ok-clause-known g c = λ input had known taken read write.
     rw (c.in_ok-output.ensures.ended, c.in_ok-output.ensures.fault)
-    (after_writing c.args.settings input had c.as_bytes.result.now _ _ _ c.in-Ok.field-0 taken
+    (after_writing (Unit {0}) c.args.settings input had c.as_bytes.result.now _ _ _ c.in-Ok.field-0 taken
     (rw (c.as_bytes.ensures.value) (c.in_ok-output.ensures.output input known)) (c.in-Ok.ensures.no_fault write) c.in-Ok.ensures.written)
 
-pub returns-in-Err-clause-known : goal.returns-in-Err-clause-known
-returns-in-Err-clause-known g c = λ input had known taken read write.
+pub returns-clause-known : goal.returns-clause-known
+returns-clause-known g c = λ input had known taken read write.
     rw (c.in_ok-output.ensures.ended, c.in_ok-output.ensures.fault)
-    (after_failure {T = Unit {0}} c.args.settings input had c.as_bytes.result.now _ _ _ taken
+    (after_failure (Unit {0}) c.args.settings input had c.as_bytes.result.now _ _ _ taken
     (rw (c.as_bytes.ensures.value) (c.in_ok-output.ensures.output input known)) c.in-Err.ensures.fault c.in-Err.ensures.beginning)
