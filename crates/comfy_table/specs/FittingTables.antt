@@ -1,5 +1,5 @@
 -- Tables whose characters fit their columns.
-use Rattle.std.specs.Prelude.{◌≡◌, ◌⊎◌, ℕ, List, None, All}
+use Rattle.std.specs.Prelude.{◌≡◌, ◌⊎◌, List, None, All}
 use Rattle.comfy_parts.specs.CellValue.{CellValue, ColumnInfo, RowValue}
 use Rattle.comfy_parts.specs.Columns.{AddsOneColumn, CharactersFit, IsApart, IsOneColumnStyle}
 use Rattle.comfy_parts.specs.Text.{Text}
