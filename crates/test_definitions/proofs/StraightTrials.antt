@@ -100,28 +100,28 @@ unfolding wrapping
 family_fits_two = refl
 
 -- U+17D8, the one character that needs three
-khmer_sign_needs_three : (characters_fit 2 (encode_utf8_all (0x17D8 ∷ [])), characters_fit 3 (encode_utf8_all (0x17D8 ∷ []))) ≡ (false, true)
+khmer_sign_needs_three : map (λ w. characters_fit w (encode_utf8_all (0x17D8 ∷ []))) (2 ∷ 3 ∷ []) ≡ false ∷ true ∷ []
 unfolding wrapping
 khmer_sign_needs_three = refl
 
 -- what a text measures, and its clusters together
-abbrev two_measures : List ℕ → ℕ × ℕ
-two_measures cs = (measure (encode_utf8_all cs), sum_by measure (clusters (encode_utf8_all cs)))
+abbrev two_measures : List ℕ → List ℕ
+two_measures cs = measure (encode_utf8_all cs) ∷ sum_by measure (clusters (encode_utf8_all cs)) ∷ []
 
 -- the four pairs of selectors: with each of them some text is wider than its clusters
-text_selector_before : two_measures (0x2018 ∷ 0xFE0E ∷ 0xFE01 ∷ 0x5DC ∷ []) ≡ (3, 2)
+text_selector_before : two_measures (0x2018 ∷ 0xFE0E ∷ 0xFE01 ∷ 0x5DC ∷ []) ≡ 3 ∷ 2 ∷ []
 unfolding wrapping
 text_selector_before = refl
 
-emoji_selector_before : two_measures (0x2018 ∷ 0xFE0F ∷ 0xFE01 ∷ 0x5DC ∷ []) ≡ (3, 2)
+emoji_selector_before : two_measures (0x2018 ∷ 0xFE0F ∷ 0xFE01 ∷ 0x5DC ∷ []) ≡ 3 ∷ 2 ∷ []
 unfolding wrapping
 emoji_selector_before = refl
 
-text_selector_behind : two_measures (0x231A ∷ 0x200D ∷ 0x231A ∷ 0xFE01 ∷ 0xFE0E ∷ 0x5DC ∷ []) ≡ (4, 3)
+text_selector_behind : two_measures (0x231A ∷ 0x200D ∷ 0x231A ∷ 0xFE01 ∷ 0xFE0E ∷ 0x5DC ∷ []) ≡ 4 ∷ 3 ∷ []
 unfolding wrapping
 text_selector_behind = refl
 
-emoji_selector_behind : two_measures (0x231A ∷ 0x200D ∷ 0x231A ∷ 0xFE01 ∷ 0xFE0F ∷ 0xFE0E ∷ 0x5DC ∷ []) ≡ (4, 3)
+emoji_selector_behind : two_measures (0x231A ∷ 0x200D ∷ 0x231A ∷ 0xFE01 ∷ 0xFE0F ∷ 0xFE0E ∷ 0x5DC ∷ []) ≡ 4 ∷ 3 ∷ []
 unfolding wrapping
 emoji_selector_behind = refl
 
@@ -131,11 +131,11 @@ unfolding wrapping
 pairs_never_fit = refl
 
 -- a front of a cluster, and the cluster: the front is wider by two, and no front by more
-front_of_a_cluster : two_measures (0x231A ∷ 0x200D ∷ 0x3030 ∷ []) ≡ (4, 4)
+front_of_a_cluster : two_measures (0x231A ∷ 0x200D ∷ 0x3030 ∷ []) ≡ 4 ∷ 4 ∷ []
 unfolding wrapping
 front_of_a_cluster = refl
 
-whole_cluster : two_measures (0x231A ∷ 0x200D ∷ 0x3030 ∷ 0xFE0F ∷ []) ≡ (2, 2)
+whole_cluster : two_measures (0x231A ∷ 0x200D ∷ 0x3030 ∷ 0xFE0F ∷ []) ≡ 2 ∷ 2 ∷ []
 unfolding wrapping
 whole_cluster = refl
 
