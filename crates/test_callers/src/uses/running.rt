@@ -36,7 +36,7 @@ pub fn asks_for_no_number<R: Source, W: Sink, F: Sink>(
 
 /// The devices over a reader and a writer. Neither has failed, and the reader's end wasn't read yet.
 pub fn devices_over<R: Read, W: Write>(reader: R, writer: W) -> (FromReader<R>, ToWriter<W>)
-    ensures { result ≡ (record { reader = reader; failed = false; ended = false }, record { writer = writer; failed = false }) }
+    ensures { result ≡ (record { reader = reader; failed = false; ended = false }, record { writer = writer; failed = false; unread = false }) }
 {
     (FromReader::new(reader), ToWriter::new(writer))
 }
