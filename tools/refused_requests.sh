@@ -25,11 +25,17 @@ crates=$(cd "$(dirname "$0")/../crates" && pwd) || exit 2
 work=$(mktemp -d) || exit 2
 trap 'rm -rf "$work"' EXIT
 
-# Builds a program. With ample memory it must print what is stored.
+# Builds a program. With ample memory it must print what is stored, on its stored input, or with the words behind its name.
 build() {
-  (cd "$crates/$1" && rt run < stdin > "$work/printed") || exit 2
-  if ! cmp "$work/printed" "$crates/$1/stdout"; then
-    echo "$0: $1 prints something else with ample memory" >&2
+  name=$1
+  shift
+  input=$crates/$name/stdin
+  if [ $# -gt 0 ]; then
+    input=/dev/null
+  fi
+  (cd "$crates/$name" && rt run ${1:+--} "$@" < "$input" > "$work/printed") || exit 2
+  if ! cmp "$work/printed" "$crates/$name/stdout"; then
+    echo "$0: $name prints something else with ample memory" >&2
     exit 1
   fi
 }
@@ -85,7 +91,7 @@ refuse_call() {
 build ctable
 refuse ctable "$crates/ctable/stdin" 'ctable: out of memory'
 refuse ctable "$crates/ctable/stdin" 'ctable: out of memory' 40 dynamic UTF8_FULL
-build csvtable
+build csvtable -w 60 data/ledger.csv
 refuse csvtable "$crates/csvtable/data/ledger.csv" 'csvtable: out of memory'
 refuse csvtable "$crates/csvtable/data/ledger.csv" 'csvtable: out of memory' -w 40 -c 2,1 --right 1 --limit 1 --markdown
 build test_cases
