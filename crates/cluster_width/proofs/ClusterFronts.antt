@@ -4,7 +4,7 @@ use Rattle.std.specs.List.{list_all}
 use Rattle.std.specs.Prelude.{encode_utf8_all, if◌then◌else◌}
 use Rattle.std.specs.Str.{chars, IsUtf8}
 use Rattle.std.proofs.Math.Utf8.{scalars}
-use Rattle.std.proofs.lemmas.Bool.{and_parts, leb-true}
+use Rattle.std.proofs.lemmas.Bool.{and_from, and_parts, leb-true, or_right}
 use Rattle.std.proofs.lemmas.List.Elements.{All-map}
 use Rattle.std.proofs.lemmas.List.Sums.{AllPass-from_list_all}
 use Rattle.std.proofs.lemmas.Str.{chars-append, chars-encodes, scalars-chars}
@@ -17,7 +17,7 @@ use Rattle.cluster_width.proofs.Classes.{IsIn, IsLike, are_linkable, example_of,
 use Rattle.cluster_width.proofs.FrontPairs.{arrives, ends-well, may_join, pairs, reached, start, starts}
 use Rattle.cluster_width.proofs.Fronts.{all-cut, put}
 use Rattle.cluster_width.proofs.Pairs.{Covers, Pair}
-use Rattle.cluster_width.proofs.Sums.{and_left, and_then, both_true, either_way, implied, is_break, linkable, one_more, read, read-step}
+use Rattle.cluster_width.proofs.Sums.{and_left, and_then, either_way, implied, is_break, linkable, one_more, read, read-step}
 
 -- ---- neighbours in a cluster
 
@@ -45,7 +45,7 @@ may-join before d c cs =
     let odd = ends_in_half_flag (d ∷ before) in
     joins-by (break_by_pair true (grapheme_cluster_break d) (grapheme_cluster_break c)) (linked || (odd && two)) (are_linkable d c || (one && two))
     (either_way linked (odd && two) (are_linkable d c) (one && two) (linkable before d c)
-    (λ h. both_true one two (and_left one (not (ends_in_half_flag before)) (and_left odd two h)) (and_then odd two h)))
+    (λ h. and_from one two (and_left one (not (ends_in_half_flag before)) (and_left odd two h)) (and_then odd two h)))
 
 abbrev first_joined : ℕ → List (List ℕ) → Bool
 first_joined d [] = true
@@ -60,7 +60,7 @@ chained-put : (b : Bool) (d : ℕ) (ps : List (List ℕ)) → list_all chained p
 chained-put true d ps each h = each
 chained-put false d [] each h = refl
 chained-put false d (p ∷ ps) each h =
-    let parts = and_parts (chained p) (list_all chained ps) each in both_true _ _ (both_true _ _ (h refl) parts.0) parts.1
+    let parts = and_parts (chained p) (list_all chained ps) each in and_from _ _ (and_from _ _ (h refl) parts.0) parts.1
 
 -- so it is in each cluster
 chained-cut : (before cs after : List ℕ) → list_all chained (cut is_break before cs after) ≡ true
@@ -102,15 +102,11 @@ ended c =
 join-like : (d e c x : ℕ) → IsLike d e → IsLike c x → may_join d c ≡ may_join e x
 join-like d e c x l m = cc
 
-or_true : (a b : Bool) → b ≡ true → (a || b) ≡ true
-or_true true b h = refl
-or_true false b h = h
-
 -- one character more before it
 module _ (inside : Bool) (front : List ℕ) (d c : ℕ) (rest : List ℕ) (r : IsFront inside front c rest) (joined : may_join d c ≡ true) where
   arriving : (b : Bool) → (not inside || b) ≡ true → (e : ℕ) → IsIn examples e → IsLike d e → (z : Pair) × IsIn pairs z × Covers z (reached r.pair e b)
   arriving b may e known like =
-      arrives r.pair e b r.known known (or_true (r.pair.right == 0x11_0000) (may_join e r.pair.right) (sym (join-like d e c r.pair.right like r.right) ∙ joined))
+      arrives r.pair e b r.known known (or_right (r.pair.right == 0x11_0000) (may_join e r.pair.right) (sym (join-like d e c r.pair.right like r.right) ∙ joined))
       (ap (λ m. not m || b) r.mark ∙ may)
 
   further : (b : Bool) → (not inside || b) ≡ true → IsFront b (if b then d ∷ front else front) d (c ∷ rest)

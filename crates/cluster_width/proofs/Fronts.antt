@@ -4,14 +4,16 @@ use Rattle.std.specs.Prelude.{encode_utf8_all, if◌then◌else◌}
 use Rattle.std.specs.List.{concat, list_all}
 use Rattle.std.specs.Str.{chars}
 use Rattle.std.proofs.Math.Utf8.{scalar, scalars}
-use Rattle.std.proofs.lemmas.Bool.{and_parts}
+use Rattle.std.proofs.lemmas.Bool.{and_from, and_parts}
+use Rattle.std.proofs.lemmas.List.{take-append-drop, take-map}
+use Rattle.std.proofs.lemmas.List.Folds.{concat-append}
 use Rattle.std.proofs.lemmas.List.Sums.{sum_by-cons}
 use Rattle.std.proofs.lemmas.Str.{chars-encodes, encodes-append, scalars-chars}
 use Rattle.unicode_segmentation.specs.Grapheme.{is_grapheme_break}
 use Rattle.unicode_segmentation.specs.Segments.{Rule, cut, prepend, segments}
 use Rattle.unicode_width.specs.Width.{str_width}
 use Rattle.cluster_width.specs.ClusterSums.{ClustersBoundTheMeasure, FrontsBoundTheMeasure, Text, clash, clusters, measure, selectors_agree}
-use Rattle.cluster_width.proofs.Sums.{both_true, pieces_bound}
+use Rattle.cluster_width.proofs.Sums.{pieces_bound}
 
 -- ---- the pieces of a front
 
@@ -24,16 +26,14 @@ concat-put true c ps = refl
 concat-put false c [] = refl
 concat-put false c (p ∷ ps) = refl
 
-concat-cut : (rule : Rule) (before cs after : List ℕ) → concat (cut rule before cs after) ≡ cs
+pub concat-cut : (rule : Rule) (before cs after : List ℕ) → concat (cut rule before cs after) ≡ cs
 unfolding cut
 concat-cut rule before [] after = refl
 concat-cut rule before (c ∷ cs) after =
     concat-put (rule (c ∷ before) (cs ++ after)) c (cut rule (c ∷ before) cs after) ∙ ap (λ t. c ∷ t) (concat-cut rule (c ∷ before) cs after)
 
 concat-parts : (n : ℕ) (ps : List (List ℕ)) → concat (take n ps) ++ concat (drop n ps) ≡ concat ps
-concat-parts zero ps = refl
-concat-parts (suc n) [] = refl
-concat-parts (suc n) (p ∷ ps) = append_assoc p (concat (take n ps)) (concat (drop n ps)) ∙ ap (λ t. p ++ t) (concat-parts n ps)
+concat-parts n ps = sym (concat-append (take n ps) (drop n ps)) ∙ ap concat (take-append-drop n ps)
 
 -- what follows a front of the pieces
 abbrev follows : ℕ → List (List ℕ) → List ℕ → List ℕ
@@ -72,10 +72,10 @@ cut-again rule before (c ∷ cs) after n =
 -- ---- as bytes
 
 all-put : (b : Bool) (c : ℕ) (ps : List (List ℕ)) → scalar c ≡ true → list_all scalars ps ≡ true → list_all scalars (put b c ps) ≡ true
-all-put true c ps one all = both_true _ _ (both_true _ _ one refl) all
-all-put false c [] one all = both_true _ _ (both_true _ _ one refl) refl
+all-put true c ps one all = and_from _ _ (and_from _ _ one refl) all
+all-put false c [] one all = and_from _ _ (and_from _ _ one refl) refl
 all-put false c (p ∷ ps) one all =
-    let parts = and_parts (scalars p) (list_all scalars ps) all in both_true _ _ (both_true _ _ one parts.0) parts.1
+    let parts = and_parts (scalars p) (list_all scalars ps) all in and_from _ _ (and_from _ _ one parts.0) parts.1
 
 pub all-cut : (rule : Rule) (before cs after : List ℕ) → scalars cs ≡ true → list_all scalars (cut rule before cs after) ≡ true
 unfolding cut
@@ -87,11 +87,11 @@ all-cut rule before (c ∷ cs) after all =
 all-take : (n : ℕ) (ps : List (List ℕ)) → list_all scalars ps ≡ true → list_all scalars (take n ps) ≡ true
 all-take zero ps all = refl
 all-take (suc n) [] all = refl
-all-take (suc n) (p ∷ ps) all = let parts = and_parts (scalars p) (list_all scalars ps) all in both_true _ _ parts.0 (all-take n ps parts.1)
+all-take (suc n) (p ∷ ps) all = let parts = and_parts (scalars p) (list_all scalars ps) all in and_from _ _ parts.0 (all-take n ps parts.1)
 
 scalars-append : (xs ys : List ℕ) → scalars xs ≡ true → scalars ys ≡ true → scalars (xs ++ ys) ≡ true
 scalars-append [] ys a b = b
-scalars-append (x ∷ xs) ys a b = let parts = and_parts (scalar x) (scalars xs) a in both_true _ _ parts.0 (scalars-append xs ys parts.1 b)
+scalars-append (x ∷ xs) ys a b = let parts = and_parts (scalar x) (scalars xs) a in and_from _ _ parts.0 (scalars-append xs ys parts.1 b)
 
 scalars-concat : (ps : List (List ℕ)) → list_all scalars ps ≡ true → scalars (concat ps) ≡ true
 scalars-concat [] all = refl
@@ -100,11 +100,6 @@ scalars-concat (p ∷ ps) all = let parts = and_parts (scalars p) (list_all scal
 encodes-concat : (ps : List (List ℕ)) → concat (map encode_utf8_all ps) ≡ encode_utf8_all (concat ps)
 encodes-concat [] = refl
 encodes-concat (p ∷ ps) = ap (λ t. encode_utf8_all p ++ t) (encodes-concat ps) ∙ sym (encodes-append p (concat ps))
-
-map-take : (n : ℕ) (ps : List (List ℕ)) → take n (map encode_utf8_all ps) ≡ map encode_utf8_all (take n ps)
-map-take zero ps = refl
-map-take (suc n) [] = refl
-map-take (suc n) (p ∷ ps) = ap (λ t. encode_utf8_all p ∷ t) (map-take n ps)
 
 sum-encoded : (ps : List (List ℕ)) → list_all scalars ps ≡ true → sum_by measure (map encode_utf8_all ps) ≡ sum_by (str_width false) ps
 sum-encoded [] all = refl
@@ -118,7 +113,7 @@ pub agree-front : (xs ys : List ℕ) → selectors_agree (xs ++ ys) ≡ true →
 agree-front [] ys h = refl
 agree-front (x ∷ []) ys h = refl
 agree-front (x ∷ (y ∷ xs)) ys h =
-    let parts = and_parts (not (clash x y)) (selectors_agree ((y ∷ xs) ++ ys)) h in both_true _ _ parts.0 (agree-front (y ∷ xs) ys parts.1)
+    let parts = and_parts (not (clash x y)) (selectors_agree ((y ∷ xs) ++ ys)) h in and_from _ _ parts.0 (agree-front (y ∷ xs) ys parts.1)
 
 -- the first n clusters measure at most what they measure by themselves
 pub fronts_bound : (text : Text) (n : ℕ) → FrontsBoundTheMeasure text n
@@ -135,9 +130,9 @@ fronts_bound text n utf8 agree =
     let agree_front = agree-front front (concat (drop n ps)) (ap selectors_agree split ∙ agree) in
     let bound = pieces_bound front (follows n ps []) agree_front in
     let pieces = ap (sum_by (str_width false)) (cut-again rule [] cs [] n) in
-    let text_of : concat (take n (clusters text)) ≡ encode_utf8_all front = ap concat (map-take n ps) ∙ encodes-concat qs in
+    let text_of : concat (take n (clusters text)) ≡ encode_utf8_all front = ap concat (take-map encode_utf8_all n ps) ∙ encodes-concat qs in
     let left : measure (concat (take n (clusters text))) ≡ str_width false front = ap measure text_of ∙ ap (str_width false) (chars-encodes front (scalars-concat qs each)) in
-    let right : sum_by measure (take n (clusters text)) ≡ sum_by (str_width false) qs = ap (sum_by measure) (map-take n ps) ∙ sum-encoded qs each in
+    let right : sum_by measure (take n (clusters text)) ≡ sum_by (str_width false) qs = ap (sum_by measure) (take-map encode_utf8_all n ps) ∙ sum-encoded qs each in
     omega (arith, bound, pieces, left, right)
 
 -- and so does the whole text

@@ -1,8 +1,12 @@
+pub mod BoxLemmas
 pub mod Classes
 pub mod ClusterFronts
+pub mod FittingLemmas
 pub mod FrontPairs
 pub mod Fronts
 pub mod Pairs
+pub mod SpaceMeasureLemmas
 pub mod Steps
 pub mod Sums
+pub mod TailLemmas
 pub mod TextPairs

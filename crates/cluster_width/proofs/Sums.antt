@@ -2,7 +2,8 @@
 use Rattle.std.proofs.Common.{◌≡◌, ◌≤◌, ℕ, ◌+◌, ◌-◌, Bool, true, false, not, ◌&&◌, ◌||◌, ◌==◌, List, [], ◌∷◌, ◌++◌, map, sum_by, refl, sym, ap, ap₂, ◌∙◌, subst, arith}
 use Rattle.std.specs.Bool.{beq}
 use Rattle.std.specs.Prelude.{if◌then◌else◌}
-use Rattle.std.proofs.lemmas.Bool.{and_parts, leb-true, not-true}
+use Rattle.std.proofs.Math.Bool.{and-false, and-true, or-true}
+use Rattle.std.proofs.lemmas.Bool.{and_from, and_parts, leb-true, not-true}
 use Rattle.std.proofs.lemmas.List.Sums.{sum_by-cons}
 use Rattle.ucd_breaks.specs.GraphemeClusterBreak.{grapheme_cluster_break}
 use Rattle.ucd_derived.specs.IndicConjunctBreak.{indic_conjunct_break}
@@ -27,7 +28,7 @@ use Rattle.cluster_width.proofs.TextPairs.{anew, arrives, ends-well, fits, is_cu
 abbrev pub read : List ℕ → Reading
 read cs = read_before false cs (1, plain)
 
-read_before-append : (xs ys : List ℕ) (r : Reading) → read_before false (xs ++ ys) r ≡ read_before false xs (read_before false ys r)
+pub read_before-append : (xs ys : List ℕ) (r : Reading) → read_before false (xs ++ ys) r ≡ read_before false xs (read_before false ys r)
 read_before-append [] ys r = refl
 read_before-append (x ∷ xs) ys r = ap (step false x) (read_before-append xs ys r)
 
@@ -56,9 +57,6 @@ pub implies : (a b : Bool) → (a ≡ true → b ≡ true) → (not a || b) ≡ 
 implies true b h = h refl
 implies false b h = refl
 
-pub both_true : (a b : Bool) → a ≡ true → b ≡ true → (a && b) ≡ true
-both_true a b p q = ap₂ ◌&&◌ p q
-
 beq-same : (a b : Bool) → a ≡ b → beq a b ≡ true
 beq-same a b e = subst (λ x. beq a x ≡ true) e (self a)
   where
@@ -86,11 +84,7 @@ linker_may InCb.None vs h = absurd (cc h)
 
 pub either_way : (a b p q : Bool) → (a ≡ true → p ≡ true) → (b ≡ true → q ≡ true) → (a || b) ≡ true → (p || q) ≡ true
 either_way true b p q f g h = ap (λ t. t || q) (f refl)
-either_way false true p q f g h = ap (λ t. p || t) (g refl) ∙ or_true p
-  where
-    or_true : (t : Bool) → (t || true) ≡ true
-    or_true true = refl
-    or_true false = refl
+either_way false true p q f g h = ap (λ t. p || t) (g refl) ∙ or-true p
 either_way false false p q f g h = absurd (cc h)
 
 -- where GB9c or GB11 joins the two, it may
@@ -103,8 +97,8 @@ linkable before d c =
     let shown = ends_in_pictograph before in
     let pictograph = is_extended_pictographic c in
     either_way (joins_conjunct (d ∷ before) c) (joins_emoji (d ∷ before) c) (link && consonant) (zwj && pictograph)
-    (λ h. both_true link consonant (linker_may (indic_conjunct_break d) (map indic_conjunct_break before) (and_left ends consonant h)) (and_then ends consonant h))
-    (λ h. both_true zwj pictograph (and_left zwj shown (and_left (zwj && shown) pictograph h)) (and_then (zwj && shown) pictograph h))
+    (λ h. and_from link consonant (linker_may (indic_conjunct_break d) (map indic_conjunct_break before) (and_left ends consonant h)) (and_then ends consonant h))
+    (λ h. and_from zwj pictograph (and_left zwj shown (and_left (zwj && shown) pictograph h)) (and_then (zwj && shown) pictograph h))
 
 -- one step of a reading, by a character like the one that comes before it
 pub read-step : (c d : ℕ) → IsLike c d → (cs : List ℕ) (s : State) → (read cs).1 ≡ s
@@ -140,10 +134,6 @@ one_piece : (b : Bool) (c : ℕ) → (if b then (c ∷ []) ∷ [] else prepend (
 one_piece true c = refl
 one_piece false c = refl
 
-and_false : (b : Bool) → (b && false) ≡ false
-and_false true = refl
-and_false false = refl
-
 anew_plain : (b : Bool) → anew b (0, plain) ≡ (0, plain)
 anew_plain true = refl
 anew_plain false = refl
@@ -151,7 +141,7 @@ anew_plain false = refl
 -- what follows a text joins nothing
 fits_start : (c : ℕ) (half : Bool) → (not half || is_regional (grapheme_cluster_break c)) ≡ true → fits c start.right start.mark half ≡ true
 unfolding unicode_segmentation
-fits_start c half h = both_true _ _ h (ap not (ap₂ ◌||◌ (and_false (c == 0xFE01)) (and_false (is_presentation c))))
+fits_start c half h = and_from _ _ h (ap not (ap₂ ◌||◌ (and-false (c == 0xFE01)) (and-false (is_presentation c))))
 
 related-one : (before : List ℕ) (c : ℕ) (after : List ℕ) → AreRelated before c [] after
 unfolding cut ends_in_half_flag
@@ -198,7 +188,7 @@ module _ (before : List ℕ) (d c : ℕ) (rest after first : List ℕ) (others :
 
   fitting : clash d c ≡ false → fits d c r.pair.mark half ≡ true
   unfolding ends_in_half_flag
-  fitting apart = both_true _ _ (implies half _ (λ h. and_left _ _ h)) (both_true _ _ (beq-same _ _ (sym r.half)) (ap not apart))
+  fitting apart = and_from _ _ (implies half _ (λ h. and_left _ _ h)) (and_from _ _ (beq-same _ _ (sym r.half)) (ap not apart))
 
   same-cut : is_break (d ∷ before) (c ∷ (rest ++ after)) ≡ is_cut d c joined half
   unfolding is_grapheme_break
@@ -259,10 +249,6 @@ related before d (c ∷ rest) after h =
     let parts = and_parts (not (clash d c)) (selectors_agree (c ∷ rest)) h in
     let r = related (d ∷ before) c rest after parts.1 in
     related-more before d c rest after r.0 r.1 r.2 (not-true _ parts.0)
-
-and-true : (b : Bool) → (b && true) ≡ b
-and-true true = refl
-and-true false = refl
 
 -- the characters of a text measure at most what the pieces measure
 pub pieces_bound : (cs after : List ℕ) → selectors_agree cs ≡ true → str_width false cs ≤ sum_by (str_width false) (cut is_break [] cs after)

@@ -3,7 +3,7 @@ use Rattle.std.proofs.Common.{◌≡◌, ◌≤◌, ℕ, ⊎_elim, Bool, true, f
 use Rattle.std.specs.List.{list_all, onto_first, slice_split}
 use Rattle.std.specs.Prelude.{chars, encode_utf8, encode_utf8_all, IsUtf8}
 use Rattle.std.specs.Str.{all_scalars}
-use Rattle.std.proofs.lemmas.Bool.{and_parts, cases_Bool, cond_both, eqb-true, le-leb, leb-true}
+use Rattle.std.proofs.lemmas.Bool.{and_from, and_parts, cases_Bool, cond_both, eqb-true, le-leb, leb-true, true≢false}
 use Rattle.std.proofs.lemmas.List.Folds.{list_all-append}
 use Rattle.std.proofs.lemmas.Str.{chars-append, chars-encodes, encodes-append, encodes-chars, scalars-chars}
 use Rattle.unicode_width.specs.Width.{str_width}
@@ -18,8 +18,7 @@ use Rattle.comfy_parts.proofs.PlaceLemmas.{IsFront, head-front, scalars-parts}
 use Rattle.std.proofs.lemmas.List.Sums.{sum_by-cons}
 use Rattle.unicode_width.proofs.Rules.{width_or_zero}
 use Rattle.ucd_table.specs.Rows.{in_ranges}
-use Rattle.comfy_parts.proofs.SequenceLemmas.{true_is_false}
-use Rattle.comfy_parts.proofs.SpaceMeasureLemmas.{measure-nil}
+use Rattle.cluster_width.proofs.SpaceMeasureLemmas.{measure-nil}
 use Rattle.comfy_parts.proofs.SumKindLemmas.{summed_add_up}
 
 -- ---- heads
@@ -33,9 +32,6 @@ head_fits k text utf8 agree =
     omega (arith, bound, within, same)
 
 -- ---- selectors agree in parts of a text
-
-pub both : (a b : Bool) → a ≡ true → b ≡ true → (a && b) ≡ true
-both a b p q = ap₂ (λ x y. x && y) p q
 
 pub agree-back : (xs ys : List ℕ) → selectors_agree (xs ++ ys) ≡ true → selectors_agree ys ≡ true
 agree-back [] ys h = h
@@ -66,7 +62,7 @@ cuts w k word taken utf8 each front fits =
       whole_front = (front.front, (whole.0, front.spelt));
       whole_rest = (front.back, (whole.1, refl));
       fits = fits;
-      keeps = both _ _ (ap (list_all (character_fits w)) same ∙ alone.1) (ap selectors_agree same ∙ agree);
+      keeps = and_from _ _ (ap (list_all (character_fits w)) same ∙ alone.1) (ap selectors_agree same ∙ agree);
     }
 
 pub head-cuts : (w k : ℕ) (word : Text) → IsUtf8 word → CharactersFit w word → IsCut (CharactersFit w) k (head k word) word
@@ -108,7 +104,7 @@ split-first p c (d ∷ cs) apart = cond_both (p d) _ _ (λ parts. first_agrees c
 onto-all : (c : ℕ) (parts : List (List ℕ)) → first_agrees c parts ≡ true → list_all selectors_agree parts ≡ true → list_all selectors_agree (onto_first c parts) ≡ true
 onto-all c [] first each = refl
 onto-all c (part ∷ parts) first each =
-    let rest = and_parts (selectors_agree part) (list_all selectors_agree parts) each in both _ _ (both _ _ first rest.0) rest.1
+    let rest = and_parts (selectors_agree part) (list_all selectors_agree parts) each in and_from _ _ (and_from _ _ first rest.0) rest.1
 
 pub parts-agree : (p : ℕ → Bool) (cs : List ℕ) → selectors_agree cs ≡ true → list_all selectors_agree (slice_split p cs) ≡ true
 parts-agree p [] agree = refl
@@ -121,7 +117,7 @@ parts-agree p (c ∷ cs) agree =
 
 not_this : (n c : ℕ) → joins_no_other n ≡ false → joins_no_other c ≡ true → (c == n) ≡ false
 not_this n c joins is =
-    ⊎_elim (λ same. absurd (true_is_false (sym is ∙ ap joins_no_other (eqb-true c n same) ∙ joins))) (λ other. other) (cases_Bool (c == n))
+    ⊎_elim (λ same. absurd (true≢false (sym is ∙ ap joins_no_other (eqb-true c n same) ∙ joins))) (λ other. other) (cases_Bool (c == n))
 
 quote_joins : joins_no_other 0xFE01 ≡ false
 unfolding in_ranges
@@ -155,11 +151,11 @@ adding-up w (c ∷ cs) two scalars each =
     let whole = scalars-parts (c ∷ []) cs scalars in
     let rest = and_parts (list_all (character_fits w) cs) (selectors_agree cs) (adding-up w cs two whole.1 parts.1) in
     let same = alone c whole.0 in
-    let one = summed_add_up.sums (c ∷ []) (both _ _ parts.0 refl) in
+    let one = summed_add_up.sums (c ∷ []) (and_from _ _ parts.0 refl) in
     let sum = sum_by-cons (width_or_zero false) c [] in
     let narrow = summed_add_up.narrow c parts.0 in
     let fits : measure (encode_utf8 c) ≤ w = omega (arith, same, one, sum, narrow, two) in
-    both _ _ (both _ _ (le-leb _ _ fits) rest.0) (both _ _ (no-clashes c cs parts.0) rest.1)
+    and_from _ _ (and_from _ _ (le-leb _ _ fits) rest.0) (and_from _ _ (no-clashes c cs parts.0) rest.1)
 
 pub adds_up-fits : (w : ℕ) (text : Text) → 2 ≤ w → IsUtf8 text → AddsUp text → CharactersFit w text
 adds_up-fits w text two utf8 each = adding-up w (chars text) two (scalars-chars text utf8) each

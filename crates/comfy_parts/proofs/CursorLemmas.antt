@@ -4,7 +4,7 @@ use Rattle.std.specs.List.{concat, flat_map}
 use Rattle.std.specs.Prelude.{if◌then◌else◌, encode_utf8, encode_utf8_all, IsUtf8}
 use Rattle.std.specs.Str.{all_scalars, IsCharBoundary}
 use Rattle.std.proofs.Math.Utf8.{scalar as scalar_of}
-use Rattle.std.proofs.lemmas.Bool.{and_parts}
+use Rattle.std.proofs.lemmas.Bool.{and_parts, true≢false}
 use Rattle.std.proofs.lemmas.Bool.{cases_lt, cond_both}
 use Rattle.std.proofs.lemmas.Grind.{flat_map-append}
 use Rattle.std.proofs.Math.Seq.{take-append-add, take-append_seam, take-length, drop-append-add, drop-append_seam}
@@ -17,9 +17,10 @@ use Rattle.comfy_parts.proofs.FrontLemmas.{parts-behind_sequence, visible-seen}
 use Rattle.comfy_parts.proofs.LineTextLemmas.{before_from, before_further}
 use Rattle.comfy_parts.proofs.OpenLemmas.{opened-append}
 use Rattle.comfy_parts.proofs.ScanLemmas.{AreScanned, bytes_of, scan}
-use Rattle.comfy_parts.proofs.SequenceLemmas.{begins_with_sequence as begins, true_is_false}
+use Rattle.comfy_parts.proofs.SequenceLemmas.{begins_with_sequence as begins}
 use Rattle.comfy_parts.proofs.VisibleWholeLemmas.{none_at_front, visible_character, visible_text-whole}
-use Rattle.comfy_parts.proofs.WrappingLemmas.{begins_with-append, one_character}
+use Rattle.cluster_width.proofs.SpaceMeasureLemmas.{one_character}
+use Rattle.comfy_parts.proofs.WrappingLemmas.{begins_with-append}
 
 -- a cursor of these sequences and parts
 abbrev pub at : List Text → List Part → CursorValue
@@ -154,7 +155,7 @@ none_ahead text none = none_at_front text (by_len (sequence_len text) refl)
     by_len zero is = is
     by_len (suc n) is =
         let some : 0 < sequence_len text = omega (arith, is) in
-        absurd (true_is_false (sym (ap begins_with_sequence (parts-behind_sequence text some)) ∙ none))
+        absurd (true≢false (sym (ap begins_with_sequence (parts-behind_sequence text some)) ∙ none))
 
 -- what is visible of it begins as the text does
 pub begins_visible : (d : ℕ) (text : Text) → IsUtf8 text → begins text ≡ false → begins_with d text ≡ false → begins_with d (visible_text text) ≡ false

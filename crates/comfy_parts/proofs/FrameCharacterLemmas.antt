@@ -7,8 +7,8 @@ use Rattle.std.proofs.lemmas.Bool.{and_parts, not-true, or_cases}
 use Rattle.std.proofs.lemmas.Bool.Decides.{nat_tests}
 use Rattle.std.proofs.lemmas.List.Elements.{All-cons, All-nil}
 use Rattle.comfy_parts.proofs.Computing.{wrapping}
-use Rattle.comfy_parts.proofs.BoxLemmas.{box_seals, ellipsis_seals, low_seals}
-use Rattle.comfy_parts.proofs.SpaceMeasureLemmas.{Seals, measure-nil, measure-sealed}
+use Rattle.cluster_width.proofs.BoxLemmas.{box_seals, ellipsis_seals, low_seals}
+use Rattle.cluster_width.proofs.SpaceMeasureLemmas.{Seals, measure-nil, measure-sealed}
 use Rattle.std.proofs.lemmas.Str.{IsUtf8-nil}
 use Rattle.comfy_parts.specs.Text.{Text}
 use Rattle.comfy_parts.specs.declared.style.table_style.TableStyle.{TableStyle}

@@ -10,6 +10,7 @@ use Rattle.unicode_width.proofs.KindLemmas.{kind_stepped}
 use Rattle.unicode_width.specs.declared.kind.Kind.{Kind}
 use Rattle.unicode_width.specs.declared.kind.Kind.TheVariants as kinds
 use Rattle.unicode_width.specs.Kind.{kind}
+use Rattle.cluster_width.proofs.BoxLemmas.{is_narrow_kind}
 use Rattle.comfy_parts.specs.Columns.{joining_characters}
 use Rattle.comfy_parts.specs.Simple.{wide_characters}
 
@@ -21,11 +22,6 @@ adds_up_kind kinds.Wide = true
 adds_up_kind kinds.Ambiguous = true
 adds_up_kind kinds.Emoji = true
 adds_up_kind _ = false
-
-abbrev pub is_narrow_kind : Kind → Bool
-is_narrow_kind kinds.Narrow = true
-is_narrow_kind kinds.Ambiguous = true
-is_narrow_kind _ = false
 
 abbrev pub is_wide_kind : Kind → Bool
 is_wide_kind kinds.Wide = true
@@ -39,22 +35,6 @@ letters = (0xC0, 0x2FF) ∷ (0x370, 0x482) ∷ (0x48A, 0x52F) ∷ (0x2010, 0x202
 abbrev pub others : List Range
 others = (0, 0xA0) ∷ joining_characters
 
-unfoldable joining_stepped : Stepped (in_ranges joining_characters)
-unfolding rises_from
-joining_stepped = of_ranges joining_characters refl
-
-unfoldable others_stepped : Stepped (in_ranges others)
-unfolding rises_from
-others_stepped = of_ranges others refl
-
-unfoldable letters_stepped : Stepped (in_ranges letters)
-unfolding rises_from
-letters_stepped = of_ranges letters refl
-
-unfoldable wide_stepped : Stepped (in_ranges wide_characters)
-unfolding rises_from
-wide_stepped = of_ranges wide_characters refl
-
 -- whether it joins others, and is among the others, the letters and the wide ones
 abbrev Sorts : Type 0
 Sorts = (Bool × Bool) × (Bool × Bool)
@@ -63,18 +43,18 @@ abbrev sorts : ℕ → Sorts
 sorts c = ((in_ranges joining_characters c, in_ranges others c), (in_ranges letters c, in_ranges wide_characters c))
 
 unfoldable sorts_stepped : Stepped sorts
-unfolding joining_stepped others_stepped letters_stepped wide_stepped
+unfolding rises_from
 sorts_stepped =
     zip_stepped (λ a b. (a, b)) (λ c. (in_ranges joining_characters c, in_ranges others c)) (λ c. (in_ranges letters c, in_ranges wide_characters c))
-    (zip_stepped (λ a b. (a, b)) (in_ranges joining_characters) (in_ranges others) joining_stepped others_stepped)
-    (zip_stepped (λ a b. (a, b)) (in_ranges letters) (in_ranges wide_characters) letters_stepped wide_stepped)
+    (zip_stepped (λ a b. (a, b)) (in_ranges joining_characters) (in_ranges others) (of_ranges joining_characters refl) (of_ranges others refl))
+    (zip_stepped (λ a b. (a, b)) (in_ranges letters) (in_ranges wide_characters) (of_ranges letters refl) (of_ranges wide_characters refl))
 
 -- the kinds that each may have
 abbrev fits : Sorts → Kind → Bool
 fits s k = (s.0.0 || adds_up_kind k) && ((not s.1.0 || (not s.0.1 && is_narrow_kind k)) && (not s.1.1 || (not s.0.1 && is_wide_kind k)))
 
 all_fit : (c : ℕ) → fits (sorts c) (kind c) ≡ true
-unfolding unicode_width ends_by sorts_stepped joining_stepped others_stepped letters_stepped wide_stepped
+unfolding unicode_width ends_by sorts_stepped rises_from
 all_fit = Stepped-everywhere _ (zip_stepped fits sorts kind sorts_stepped kind_stepped) refl
 
 -- each character that isn't among the joining ones is of a kind that adds up

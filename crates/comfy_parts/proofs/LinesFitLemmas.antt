@@ -15,11 +15,11 @@ use Rattle.comfy_parts.proofs.FollowingLemmas.{first-rest, line_end-narrow, line
 use Rattle.comfy_parts.proofs.PlaceLemmas.{scalars-parts}
 use Rattle.comfy_parts.proofs.EndLemmas.{same_front}
 use Rattle.comfy_parts.proofs.PartLemmas.{AreNext, first_part}
-use Rattle.comfy_parts.proofs.WrappingLemmas.{whole-past_gap, one_character}
+use Rattle.comfy_parts.proofs.WrappingLemmas.{whole-past_gap}
 use Rattle.comfy_parts.specs.Following.{Follow, IsFirstElement}
 use Rattle.comfy_parts.specs.Text.{Text, measure, head, elements}
 use Rattle.comfy_parts.specs.Wrapping.{IsWrapped, bytes_taken, head_or_first, line_end}
-use Rattle.comfy_parts.proofs.SpaceMeasureLemmas.{measure-nil}
+use Rattle.cluster_width.proofs.SpaceMeasureLemmas.{measure-nil, one_character}
 use Rattle.comfy_parts.specs.Columns.{AddsOneColumn}
 
 -- a line is whole characters, and measures at most w

@@ -1,5 +1,5 @@
 -- Characters whose widths are known by ranges join no other, and take these widths.
-use Rattle.std.proofs.Common.{◌≡◌, ◌≤◌, ℕ, ◌+◌, ◌*◌, Bool, true, false, not, ◌&&◌, ◌||◌, ◌++◌, Some, None, length, nat_le, nat_lt, sum_by, ⊎_elim, refl, sym, ap, ap₂, subst, ◌∙◌, arith}
+use Rattle.std.proofs.Common.{◌≡◌, ◌≤◌, ℕ, ◌+◌, ◌*◌, Bool, true, false, not, ◌&&◌, ◌++◌, Some, None, length, nat_le, nat_lt, sum_by, ⊎_elim, refl, sym, ap, ap₂, subst, ◌∙◌, arith}
 use Rattle.std.specs.Int.{is_in_range}
 use Rattle.std.specs.List.{list_all}
 use Rattle.std.specs.Prelude.{if◌then◌else◌, chars, encode_utf8, IsUtf8}
@@ -19,28 +19,17 @@ use Rattle.unicode_width.specs.Width.{alone, of_kind}
 use Rattle.comfy_parts.specs.Columns.{joining_characters, joins_no_other}
 use Rattle.comfy_parts.specs.Text.{Text, measure}
 use Rattle.comfy_parts.specs.Simple.{is_within, narrow_characters, simple_width, wide_characters}
-use Rattle.comfy_parts.proofs.KindRangeLemmas.{is_narrow_kind, is_wide_kind, letters, letters_are_narrow, others, wide_are_wide}
+use Rattle.comfy_parts.proofs.KindRangeLemmas.{is_wide_kind, letters, letters_are_narrow, others, wide_are_wide}
 use Rattle.comfy_parts.proofs.SumKindLemmas.{ascii-one, high-alone, in_ranges-any, summed_add_up}
+use Rattle.cluster_width.proofs.BoxLemmas.{is_narrow_kind, of_narrow}
+use Rattle.cluster_width.proofs.Sums.{implied}
+use Rattle.unicode_width.specs.declared.state.State.{State}
 
 -- it joins no other, and takes n columns
 pub record IsSimple (c n : ℕ) : Type 0 where
   pub apart : joins_no_other c ≡ true
   pub columns : width_or_zero false c ≡ n
   pub most : n ≤ 2
-
-narrow-one : (c : ℕ) (k : Kind) → is_narrow_kind k ≡ true → (of_kind false c k).0 ≡ 1
-narrow-one c kinds.Narrow is = refl
-narrow-one c kinds.Ambiguous is = refl
-narrow-one c kinds.Zero is = absurd (cc is)
-narrow-one c kinds.Wide is = absurd (cc is)
-narrow-one c kinds.Emoji is = absurd (cc is)
-narrow-one c kinds.Alef is = absurd (cc is)
-narrow-one c kinds.KhmerLetter is = absurd (cc is)
-narrow-one c kinds.TifinaghConsonant is = absurd (cc is)
-narrow-one c kinds.LisuTone is = absurd (cc is)
-narrow-one c kinds.RegionalIndicator is = absurd (cc is)
-narrow-one c kinds.EmojiModifier is = absurd (cc is)
-narrow-one c kinds.Single is = absurd (cc is)
 
 wide-two : (c : ℕ) (k : Kind) → is_wide_kind k ≡ true → (of_kind false c k).0 ≡ 2
 wide-two c kinds.Wide is = refl
@@ -55,11 +44,6 @@ wide-two c kinds.LisuTone is = absurd (cc is)
 wide-two c kinds.RegionalIndicator is = absurd (cc is)
 wide-two c kinds.EmojiModifier is = absurd (cc is)
 wide-two c kinds.Single is = absurd (cc is)
-
--- of a character of these ranges, what was computed
-here : (a b : Bool) → (not a || b) ≡ true → a ≡ true → b ≡ true
-here true b test is = test
-here false b test is = absurd (grind (arith, is))
 
 high : (c n : ℕ) → in_ranges others c ≡ false → (alone false c).0 ≡ n → n ≤ 2 → IsSimple c n
 unfolding in_ranges
@@ -81,15 +65,15 @@ simple c n is = by_wide (is_within wide_characters c) refl (is_within narrow_cha
 
     by_wide : (w : Bool) → is_within wide_characters c ≡ w → (s : Bool) → is_within narrow_characters c ≡ s → (if w then Some 2 else if s then Some 1 else None) ≡ Some n → IsSimple c n
     by_wide true wide s narrow same =
-        let both = and_parts (not (in_ranges others c)) (is_wide_kind (kind c)) (here (in_ranges wide_characters c) _ (wide_are_wide c) (sym (in_ranges-any wide_characters c) ∙ wide)) in
+        let both = and_parts (not (in_ranges others c)) (is_wide_kind (kind c)) (implied (in_ranges wide_characters c) _ (wide_are_wide c) (sym (in_ranges-any wide_characters c) ∙ wide)) in
         subst (IsSimple c) (taken 2 same) (high c 2 (not-true _ both.0) (wide-two c (kind c) both.1) (omega arith))
     by_wide false wide true narrow same =
         subst (IsSimple c) (taken 1 same)
         (⊎_elim
         (λ ascii. record { apart = grind (arith, nat_tests, ascii); columns = ascii-one c ascii; most = omega arith })
         (λ letter.
-        let both = and_parts (not (in_ranges others c)) (is_narrow_kind (kind c)) (here (in_ranges letters c) _ (letters_are_narrow c) (sym (in_ranges-any letters c) ∙ letter)) in
-        high c 1 (not-true _ both.0) (narrow-one c (kind c) both.1) (omega arith))
+        let both = and_parts (not (in_ranges others c)) (is_narrow_kind (kind c)) (implied (in_ranges letters c) _ (letters_are_narrow c) (sym (in_ranges-any letters c) ∙ letter)) in
+        high c 1 (not-true _ both.0) (ap (λ (own : ℕ × State). own.0) (of_narrow c (kind c) both.1).0) (omega arith))
         (or_cases (is_in_range 0x20 0x7E c) (is_within letters c) narrow))
     by_wide false wide false narrow same = absurd (cc same)
 

@@ -17,8 +17,12 @@ use Rattle.unicode_width.proofs.Computing.{unicode_width}
 use Rattle.unicode_width.proofs.Rules.{width_or_zero}
 use Rattle.unicode_width.proofs.WidthLemmas.{step-before_emoji}
 use Rattle.comfy_parts.proofs.KindRangeLemmas.{adds_up_kind, others_add_up}
-use Rattle.comfy_parts.proofs.WordLemmas.{AddUp}
 use Rattle.comfy_parts.specs.Columns.{joining_characters, joins_no_other}
+
+-- the widths of characters of this kind add up, and each is at most two columns
+pub record AddUp (kind : ℕ → Bool) : Type 0 where
+  pub sums : (cs : List ℕ) → list_all kind cs ≡ true → str_width false cs ≡ sum_by (width_or_zero false) cs
+  pub narrow : (c : ℕ) → kind c ≡ true → width_or_zero false c ≤ 2
 
 -- ---- kinds
 

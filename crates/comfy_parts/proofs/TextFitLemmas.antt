@@ -5,7 +5,7 @@ use Rattle.std.specs.List.{All, list_all, slice_split}
 use Rattle.std.specs.Prelude.{chars, encode_utf8_all, IsUtf8}
 use Rattle.std.specs.Str.{all_scalars}
 use Rattle.std.proofs.Math.Utf8.{scalar as scalar_of}
-use Rattle.std.proofs.lemmas.Bool.{and_parts, cond_both}
+use Rattle.std.proofs.lemmas.Bool.{and_from, and_parts, cond_both}
 use Rattle.std.proofs.lemmas.List.Folds.{list_all-append}
 use Rattle.std.proofs.lemmas.Bool.Decides.{nat_tests}
 use Rattle.std.proofs.lemmas.List.Elements.{All-cons, All-nil, All-map, All-weaker}
@@ -15,13 +15,13 @@ use Rattle.std.proofs.lemmas.List.Sums.{sum_by-append}
 use Rattle.unicode_width.proofs.Rules.{width_or_zero}
 use Rattle.comfy_parts.specs.Columns.{AddingUpFits, AddsUp, CharactersFit, FittingCharactersFit, PartsAddUp, SelectorsAgree, TextFits, TextLinesFit, WordFits, character_fits, joins_no_other}
 use Rattle.cluster_width.specs.ClusterSums.{selectors_agree}
-use Rattle.comfy_parts.proofs.ClusterFitLemmas.{adds_up-fits, agree-texts, both, fitting-parts, head-cuts, head_fits, head_or_first-cuts, parts-agree}
-use Rattle.comfy_parts.proofs.WordLemmas.{head-utf8}
+use Rattle.comfy_parts.proofs.ClusterFitLemmas.{adds_up-fits, agree-texts, fitting-parts, head-cuts, head_fits, head_or_first-cuts, parts-agree}
+use Rattle.comfy_parts.proofs.PlaceLemmas.{head-utf8}
 use Rattle.comfy_parts.specs.Text.{Text, measure, head, elements}
 use Rattle.comfy_parts.specs.Wrapping.{IsWrapped, head_or_first, lines_of_text, wrapped}
 use Rattle.comfy_parts.proofs.LinesFitLemmas.{BreaksWell, IsCut, IsFittingLine, wrapped-fit}
 use Rattle.comfy_parts.proofs.PlainLineLemmas.{parts-all}
-use Rattle.comfy_parts.proofs.SpaceMeasureLemmas.{measure-nil}
+use Rattle.cluster_width.proofs.SpaceMeasureLemmas.{measure-nil}
 use Rattle.comfy_parts.proofs.UncutLemmas.{only-utf8}
 use Rattle.std.proofs.lemmas.List.Sums.{AllPass-from_list_all}
 use Rattle.comfy_parts.proofs.SumKindLemmas.{summed_add_up}
@@ -76,7 +76,7 @@ elements-fit w d text utf8 each =
     let of_text = fitting-parts w text each in
     let fits = AllPass-from_list_all (list_all (character_fits w)) parts (parts-all (character_fits w) (λ c. c == d) (chars text) of_text.0) k default below in
     let agree = AllPass-from_list_all selectors_agree parts (parts-agree (λ c. c == d) (chars text) of_text.1) k default below in
-    ap (λ cs. list_all (character_fits w) cs && selectors_agree cs) (chars-encodes (slice_index_or parts k default) whole) ∙ both _ _ fits agree)
+    ap (λ cs. list_all (character_fits w) cs && selectors_agree cs) (chars-encodes (slice_index_or parts k default) whole) ∙ and_from _ _ fits agree)
 
 -- so such a text fits its column
 pub fitting_characters_fit : (w d : ℕ) (text : Text) → FittingCharactersFit w d text

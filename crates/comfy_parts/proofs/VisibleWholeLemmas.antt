@@ -7,10 +7,9 @@ use Rattle.std.proofs.lemmas.Bool.{and_parts, cond_both}
 use Rattle.std.proofs.lemmas.List.{append_assoc}
 use Rattle.std.proofs.lemmas.List.Prefix.{front_rest}
 use Rattle.std.proofs.Math.Utf8.{scalar as scalar_of}
-use Rattle.comfy_parts.proofs.WrappingLemmas.{one_character}
+use Rattle.cluster_width.proofs.SpaceMeasureLemmas.{one_character}
 use Rattle.std.proofs.lemmas.Str.{IsUtf8-append, IsUtf8-drop, IsUtf8-nil, IsCharBoundary-after_ascii}
 use Rattle.unicode_segmentation.proofs.TextLemmas.{encode_utf8_nonempty}
-use lib.Utf8.{encode}
 use Rattle.comfy_parts.specs.Text.{Text}
 use Rattle.comfy_parts.specs.VisibleText.{parts, parameter_count, sequence_len, visible_text, visible_bytes}
 use Rattle.comfy_parts.proofs.SequenceLemmas.{BeginsWithSequence, begins_with_sequence, front_of, parts-sequence, sequence_len-sequence, slice_index_behind}

@@ -1,6 +1,6 @@
 use Rattle.std.proofs.Common.{sym, ap, ◌∙◌, subst}
 use Rattle.std.specs.Str.Iter.{chars_rest}
-use Rattle.comfy_parts.proofs.FittingLemmas.{AgreesAlike, alike-all, alike-clash, alike-end, alike-more}
+use Rattle.cluster_width.proofs.FittingLemmas.{AgreesAlike, alike-all, alike-clash, alike-end, alike-more}
 use Rattle.comfy_parts.proofs.content_split.fitting.selectors_agree.Goals as goal
 
 pub loop-character-init : goal.loop-character-init

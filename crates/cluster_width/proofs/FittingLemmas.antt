@@ -3,8 +3,7 @@ use Rattle.std.proofs.Common.{◌≡◌, ℕ, true, false, not, ◌&&◌, ◌++�
 use Rattle.std.specs.Prelude.{chars, encode_utf8, IsUtf8}
 use Rattle.std.proofs.StrCases.{chars_of_empty}
 use Rattle.std.proofs.lemmas.Str.{IsUtf8-past_char, chars_past_char}
-use Rattle.cluster_width.specs.ClusterSums.{clash, selectors_agree}
-use Rattle.comfy_parts.specs.Text.{Text}
+use Rattle.cluster_width.specs.ClusterSums.{Text, clash, selectors_agree}
 
 -- with the character before it, the rest agrees where the text does
 pub record AgreesAlike (text rest : Text) (previous : ℕ) : Type 0 where

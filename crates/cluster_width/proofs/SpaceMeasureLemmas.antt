@@ -1,19 +1,26 @@
 -- A space, and each character like it, adds one column wherever it stands.
-use Rattle.std.proofs.Common.{◌≡◌, ◌<◌, ℕ, zero, suc, ◌+◌, Bool, true, false, cond, List, [], ◌∷◌, ◌++◌, length, replicate, not, refl, sym, ap, ◌∙◌, arith, append-nil, zero-add, add_comm}
+use Rattle.std.proofs.Common.{◌≡◌, ◌<◌, ℕ, zero, suc, ◌+◌, Bool, true, false, cond, List, [], ◌∷◌, ◌++◌, ◌&&◌, length, replicate, not, refl, sym, ap, ◌∙◌, arith, append-nil, zero-add, add_comm}
 use Rattle.std.specs.Char.{IsScalar}
 use Rattle.std.specs.Int.{is_in_range}
 use Rattle.std.specs.List.{list_all}
 use Rattle.std.specs.Prelude.{chars, encode_utf8, IsUtf8}
 use Rattle.std.proofs.lemmas.List.{length-replicate}
-use Rattle.std.proofs.lemmas.Str.{chars-append, encode_ascii, IsUtf8-nil}
+use Rattle.std.proofs.lemmas.Str.{chars-append, encode_ascii, IsUtf8-nil, chars-encodes}
 use Rattle.unicode_width.specs.declared.state.State.{State}
 use Rattle.unicode_width.specs.Width.{plain, if_kept, past_emoji, step, read_before, str_width}
 use Rattle.unicode_width.proofs.Computing.{unicode_width}
 use Rattle.unicode_width.proofs.Rules.{is_simple, str_width-append_simple}
 use Rattle.unicode_width.proofs.WidthLemmas.{read_before-printable}
-use Rattle.comfy_parts.specs.Text.{Text, measure, spaces}
-use Rattle.comfy_parts.proofs.WrappingLemmas.{one_character}
-use Rattle.comfy_parts.specs.Columns.{SpaceAddsOneColumn}
+use Rattle.cluster_width.specs.ClusterSums.{Text, measure}
+use Rattle.cluster_width.proofs.Sums.{read_before-append}
+use Rattle.std.specs.Str.{all_scalars}
+
+-- one character is a text
+pub one_character : (d : ℕ) → IsScalar d → IsUtf8 (encode_utf8 d) × (chars (encode_utf8 d) ≡ d ∷ [])
+one_character d scalar =
+    let scalars : all_scalars (d ∷ []) ≡ true = ap (λ s. s && true) scalar in
+    let text : IsUtf8 (encode_utf8 d) = (d ∷ [], (scalars, append-nil (encode_utf8 d))) in
+    (text, ap chars (sym (append-nil (encode_utf8 d))) ∙ chars-encodes (d ∷ []) scalars)
 
 -- n spaces, as characters
 abbrev blanks : ℕ → List ℕ
@@ -22,10 +29,6 @@ blanks n = replicate n 0x20
 printable-blanks : (n : ℕ) → list_all (is_in_range 0x20 0x7E) (blanks n) ≡ true
 printable-blanks zero = refl
 printable-blanks (suc n) = printable-blanks n
-
-read-append : (xs ys : List ℕ) (r : ℕ × State) → read_before false (xs ++ ys) r ≡ read_before false xs (read_before false ys r)
-read-append [] ys r = refl
-read-append (x ∷ xs) ys r = ap (step false x) (read-append xs ys r)
 
 read-blanks : (n : ℕ) → (n, plain) ≡ read_before false (blanks n) (0, plain)
 read-blanks n =
@@ -36,7 +39,7 @@ read-blanks n =
 read-from : (xs : List ℕ) (n : ℕ) → (read_before false xs (n, plain)).0 ≡ str_width false xs + n
 unfolding str_width
 read-from xs n =
-    ap (λ r. (read_before false xs r).0) (read-blanks n) ∙ sym (ap (λ r. r.0) (read-append xs (blanks n) (0, plain)))
+    ap (λ r. (read_before false xs r).0) (read-blanks n) ∙ sym (ap (λ r. r.0) (read_before-append xs (blanks n) (0, plain)))
     ∙ str_width-append_simple false xs (blanks n) (all_simple n)
     ∙ ap (λ m. str_width false xs + m) (sym (ap (λ r. r.0) (read-blanks n)))
   where
@@ -63,7 +66,7 @@ unfolding str_width
 width-sealed c xs ys seals =
     let r = read_before false ys (0, plain) in
     let more : r.0 + 1 ≡ 1 + r.0 = add_comm r.0 1 in
-    ap (λ q. q.0) (read-append xs (c ∷ ys) (0, plain)) ∙ ap (λ q. (read_before false xs q).0) (seals r.0 r.1) ∙ read-from xs (r.0 + 1)
+    ap (λ q. q.0) (read_before-append xs (c ∷ ys) (0, plain)) ∙ ap (λ q. (read_before false xs q).0) (seals r.0 r.1) ∙ read-from xs (r.0 + 1)
     ∙ ap (λ n. str_width false xs + n) more
 
 -- between the bytes of any two texts such a character adds one column
@@ -74,7 +77,7 @@ measure-sealed c front back scalar seals utf8 =
     ∙ width-sealed c (chars front) (chars back) seals
 
 -- a space between any two texts
-pub measure-space : (front back : Text) → SpaceAddsOneColumn front back
+pub measure-space : (front back : Text) → IsUtf8 front → measure (front ++ 0x20 ∷ back) ≡ measure front + (1 + measure back)
 measure-space front back utf8 =
     ap (λ (c : Text). measure (front ++ (c ++ back))) (sym (encode_ascii 0x20 (omega arith))) ∙ measure-sealed 0x20 front back refl space_seals utf8
 
@@ -85,15 +88,15 @@ unfolding unicode_width
 measure-nil = refl
 
 -- n spaces between any two texts
-pub measure-spaces : (front : Text) (n : ℕ) (back : Text) → IsUtf8 front → 0 < n → measure (front ++ (spaces n ++ back)) ≡ measure front + (n + measure back)
+pub measure-spaces : (front : Text) (n : ℕ) (back : Text) → IsUtf8 front → 0 < n → measure (front ++ (replicate n 0x20 ++ back)) ≡ measure front + (n + measure back)
 measure-spaces front zero back utf8 some = absurd (omega (arith, some))
 measure-spaces front (suc zero) back utf8 some = measure-space front back utf8
 measure-spaces front (suc (suc n)) back utf8 some =
     let rest = measure-spaces [] (suc n) back IsUtf8-nil (omega arith) in
     let none = measure-nil in
-    measure-space front (spaces (suc n) ++ back) utf8 ∙ omega (arith, rest, none)
+    measure-space front (replicate (suc n) 0x20 ++ back) utf8 ∙ omega (arith, rest, none)
 
 -- spaces in front of a text add their number
-pub measure-spaces_before : (n : ℕ) (text : Text) → measure (spaces n ++ text) ≡ n + measure text
+pub measure-spaces_before : (n : ℕ) (text : Text) → measure (replicate n 0x20 ++ text) ≡ n + measure text
 measure-spaces_before zero text = omega arith
 measure-spaces_before (suc n) text = let none = measure-nil in measure-spaces [] (suc n) text IsUtf8-nil (omega arith) ∙ omega (arith, none)

@@ -13,7 +13,7 @@ use Rattle.unicode_width.specs.declared.state.Change.{Change}
 use Rattle.unicode_width.specs.declared.state.Change.TheVariants.{Less, Same, One, Three}
 use Rattle.unicode_width.specs.Kind.{kind, is_ligature_transparent, is_solidus_transparent, is_text_presentation_base}
 use Rattle.unicode_width.specs.Width.{before, plain, single, of_kind, alone, before_alef, joins, Reading, added, joined_or, with_joiner, if_kept, is_joined_emoji, skips_marks, is_kept, is_solidus, is_striking, is_line_feed, is_quote, is_quote_selector, is_plain, past_selectors, in_context, past_emoji, step, read_before, str_width}
-use Rattle.comfy_parts.specs.Text.{Text, measure}
+use Rattle.cluster_width.specs.ClusterSums.{Text, measure}
 
 -- ---- no step takes away more than there is
 

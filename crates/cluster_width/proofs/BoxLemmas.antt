@@ -12,7 +12,7 @@ use Rattle.unicode_width.specs.declared.state.State.{State}
 use Rattle.unicode_width.specs.Kind.{kind, is_ligature_transparent, is_text_presentation_base}
 use Rattle.unicode_width.specs.Width.{is_emoji_modifier_base, is_emoji_variation_base, alone, before, before_alef, if_kept, in_context, is_emoji, is_joined_emoji, is_lam, is_plain, is_quote, joined_or, joins, of_kind, past_emoji, past_selectors, plain, skips_marks, step, with_joiner}
 use Rattle.unicode_width.proofs.Computing.{unicode_width}
-use Rattle.comfy_parts.proofs.SpaceMeasureLemmas.{Seals}
+use Rattle.cluster_width.proofs.SpaceMeasureLemmas.{Seals}
 
 -- ---- printable ASCII
 
@@ -45,16 +45,16 @@ low_seals c printable other n s = flag_seals c n s (not_base c printable other) 
 -- ---- box and block characters
 
 -- one column wide, and joined with nothing
-abbrev is_narrow : Kind → Bool
-is_narrow kinds.Narrow = true
-is_narrow kinds.Ambiguous = true
-is_narrow _ = false
+abbrev pub is_narrow_kind : Kind → Bool
+is_narrow_kind kinds.Narrow = true
+is_narrow_kind kinds.Ambiguous = true
+is_narrow_kind _ = false
 
 -- no rule speaks of the character: the numbers that the rules name are lower or higher, but for one
 abbrev is_lone : ℕ → Bool
 is_lone c =
     (is_in_range 0x2026 0x259F c && not (c == 0x20E3))
-    && (is_narrow (kind c) && (not (is_emoji_variation_base c) && (not (is_ligature_transparent c) && (not (is_lam c) && not (is_emoji_modifier_base c)))))
+    && (is_narrow_kind (kind c) && (not (is_emoji_variation_base c) && (not (is_ligature_transparent c) && (not (is_lam c) && not (is_emoji_modifier_base c)))))
 
 -- so it is with all box and block characters, U+2500 to U+259F
 boxes_are_lone : all_below (λ k. is_lone (0x2500 + k)) 160 ≡ true
@@ -73,7 +73,7 @@ record IsLone (c : ℕ) : Type 0 where
   not_lam : is_lam c ≡ false
   not_modifier_base : is_emoji_modifier_base c ≡ false
 
-of_narrow : (c : ℕ) (k : Kind) → is_narrow k ≡ true → (of_kind false c k ≡ (1, plain)) × (is_emoji k ≡ false)
+pub of_narrow : (c : ℕ) (k : Kind) → is_narrow_kind k ≡ true → (of_kind false c k ≡ (1, plain)) × (is_emoji k ≡ false)
 of_narrow c kinds.Zero h = absurd (cc h)
 of_narrow c kinds.Narrow h = (refl, refl)
 of_narrow c kinds.Wide h = absurd (cc h)
