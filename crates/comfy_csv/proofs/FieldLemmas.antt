@@ -1,5 +1,5 @@
 -- Fields of printable ASCII are drawn as printable ASCII.
-use Rattle.std.proofs.Common.{◌≡◌, ℕ, ◌==◌, ◌&&◌, Bool, true, false, zero, suc, List, [], ◌∷◌, IsAscii, All, arith, encode_utf8_all, lit<, refl, sym, ap, ap₂, ◌∙◌, subst, tests}
+use Rattle.std.proofs.Common.{◌≡◌, ℕ, ◌==◌, ◌&&◌, Bool, true, false, List, [], ◌∷◌, All, arith, encode_utf8_all, refl, sym, ap, ap₂, ◌∙◌, subst, tests}
 use Rattle.std.specs.Char.{is_control}
 use Rattle.std.specs.Int.{is_in_range}
 use Rattle.std.specs.List.{list_any}
@@ -9,10 +9,9 @@ use Rattle.std.proofs.lemmas.List.Elements.{All-cons, All-nil}
 use Rattle.std.proofs.lemmas.List.Folds.{list_all-append}
 use Rattle.std.proofs.lemmas.List.Splits.{slice_split_none}
 use Rattle.std.proofs.lemmas.Str.{chars-IsAscii, encodes-IsAscii}
-use Rattle.comfy_parts.proofs.CallerLemmas.{IsUtf8-printable, below_seven_bits}
+use Rattle.comfy_parts.proofs.CallerLemmas.{All-none, IsUtf8-printable, ascii-printable}
 use Rattle.comfy_parts.specs.CellValue.{plain_cell}
 use Rattle.comfy_parts.specs.Text.{Text, is_printable_ascii}
-use Rattle.comfy_table.proofs.ListLemmas.{All-none}
 use Rattle.comfy_csv_parts.proofs.CleaningLemmas.{drawn_so}
 use Rattle.comfy_csv_parts.specs.Cells.{drawn_text, marked}
 use Rattle.comfy_csv_parts.specs.Cleaning.{cleaned}
@@ -22,13 +21,6 @@ use Rattle.comfy_csv_parts.specs.declared.options.Look.{Look}
 
 abbrev is_printable : ℕ → Bool
 is_printable = is_in_range 0x20 0x7E
-
-is_ascii : (text : Text) → is_printable_ascii text ≡ true → IsAscii text
-is_ascii [] printable i = lit< tt
-is_ascii (c ∷ cs) printable zero =
-    let below = below_seven_bits c (and_parts (is_printable c) (is_printable_ascii cs) printable).0 in
-    omega arith
-is_ascii (c ∷ cs) printable (suc i) = is_ascii cs (and_parts (is_printable c) (is_printable_ascii cs) printable).1 i
 
 -- what no printable character passes, no byte of such a text does
 none_pass : (p : ℕ → Bool) → ((c : ℕ) → is_printable c ≡ true → p c ≡ false) → (text : Text) → is_printable_ascii text ≡ true → list_any p text ≡ false
@@ -60,8 +52,8 @@ marked_stays : (is_markdown : Bool) (text : Text) → is_printable_ascii text �
 marked_stays false text printable = printable
 marked_stays true text printable =
     let more = escaped_stays text printable in
-    let same : encode_utf8_all (escaped text) ≡ escaped text = encodes-IsAscii (escaped text) (is_ascii (escaped text) more) in
-    ap is_printable_ascii (ap (λ (cs : List ℕ). encode_utf8_all (escaped cs)) (chars-IsAscii text (is_ascii text printable)) ∙ same) ∙ more
+    let same : encode_utf8_all (escaped text) ≡ escaped text = encodes-IsAscii (escaped text) (ascii-printable (escaped text) more) in
+    ap is_printable_ascii (ap (λ (cs : List ℕ). encode_utf8_all (escaped cs)) (chars-IsAscii text (ascii-printable text printable)) ∙ same) ∙ more
 
 -- such a text is one text line of its cell
 one_line : (text : Text) → is_printable_ascii text ≡ true → All (λ (line : Text). is_printable_ascii line ≡ true) (plain_cell text).text_lines
@@ -73,7 +65,7 @@ pub fields_stay : (look : Look) (field : Text) → PrintableFieldsStay look fiel
 fields_stay look field printable = one_line (drawn_text look field) whole
   where
     clean : cleaned look.has_sequences field ≡ field
-    clean = sym (drawn_so look.has_sequences field (IsUtf8-printable field printable) (ap (list_any is_control) (chars-IsAscii field (is_ascii field printable)) ∙ none_pass is_control no_control field printable))
+    clean = sym (drawn_so look.has_sequences field (IsUtf8-printable field printable) (ap (list_any is_control) (chars-IsAscii field (ascii-printable field printable)) ∙ none_pass is_control no_control field printable))
 
     by_raw : (is_raw : Bool) → is_printable_ascii (if is_raw then field else cleaned look.has_sequences field) ≡ true
     by_raw true = printable

@@ -2,11 +2,10 @@
 use Rattle.std.proofs.Common.{◌≡◌, ℕ, ◌≤◌, ◌++◌, arith, false, List, [], None, Ok, length, map, refl, ap, sym, ◌∙◌, subst}
 use Rattle.std.specs.List.{All}
 use Rattle.std.proofs.lemmas.List.Elements.{All-cons, All-map, All-nil, All-weaker}
-use Rattle.comfy_parts.proofs.CallerLemmas.{measure-nil}
+use Rattle.comfy_parts.proofs.CallerLemmas.{All-every, measure-nil}
 use Rattle.comfy_parts.specs.CellValue.{CellValue, RowValue, plain_cell}
 use Rattle.comfy_parts.specs.Text.{Text, measure}
 use Rattle.comfy_table.proofs.BuiltTableLemmas.{built_is_equally_wide, built_is_straight, unconstrained}
-use Rattle.comfy_table.proofs.ListLemmas.{All-every}
 use Rattle.comfy_table.specs.Arrangement.{width_kept}
 use Rattle.comfy_table.specs.NewTables.{IsShortRow}
 use Rattle.comfy_table.specs.TableValue.{TableValue, should_style, table_width}

@@ -1,12 +1,12 @@
 -- Fields of printable ASCII make a table of printable ASCII.
-use Rattle.std.proofs.Common.{◌≡◌, ℕ, true, false, List, [], ◌∷◌, Option, Some, None, map, refl, ap, sym, subst, ◌∙◌, unwrap_or}
+use Rattle.std.proofs.Common.{◌≡◌, ℕ, true, List, Option, Some, None, refl, ap, sym, subst, ◌∙◌, unwrap_or}
 use Rattle.std.specs.Int.{is_in_range}
-use Rattle.std.specs.List.{All, cons_option, filter_map, slice_get}
-use Rattle.std.proofs.lemmas.List.Elements.{All-cons, All-head, All-map, All-nil, All-tail, All-weaker}
+use Rattle.std.specs.List.{All, slice_get}
+use Rattle.std.proofs.lemmas.List.Elements.{All-weaker}
 use Rattle.comfy_parts.specs.CellValue.{CellValue, ColumnValue, RowValue}
 use Rattle.comfy_parts.specs.Text.{Text, is_printable_ascii}
 use Rattle.comfy_table.proofs.BuiltTableLemmas.{IsNewColumn, columns_known, rows_known}
-use Rattle.comfy_table.proofs.ListLemmas.{All-at, All-every}
+use Rattle.comfy_parts.proofs.CallerLemmas.{All-at, All-every, All-found}
 use Rattle.comfy_table.specs.Drawing.{infos_of}
 use Rattle.comfy_table.specs.Laws.{AddsOneColumnEachWhereWritten, HasPlainCells, IsPlainCell, count}
 use Rattle.comfy_table.specs.Lines.{cell_delimiter}
@@ -15,7 +15,8 @@ use Rattle.comfy_table.specs.TableValue.{TableValue, column_cells, seen_rows, sh
 use Rattle.comfy_csv.proofs.BuiltLemmas.{Built, MakesRow, built}
 use Rattle.comfy_csv.proofs.FieldLemmas.{fields_stay}
 use Rattle.comfy_csv.proofs.LineLemmas.{EachLine, any_built, cells_each}
-use Rattle.comfy_csv_parts.specs.Cells.{cell_for, field_or_blank, header_for, row_for, with_weight}
+use Rattle.comfy_csv.proofs.StraightLemmas.{rows_are_default}
+use Rattle.comfy_csv_parts.specs.Cells.{header_for, row_for}
 use Rattle.comfy_csv.specs.Drawn.{empty_table}
 use Rattle.comfy_csv.specs.Laws.{IsPlainLook, PrintableLinesHave, PrintableTableIsPlain}
 use Rattle.comfy_csv_parts.specs.declared.options.Look.{Look}
@@ -33,24 +34,9 @@ record IsBareRow (row : RowValue) : Type 0 where
 
 bare_row : (look : Look) (columns : List ShownColumn) (fields : List Text) → IsPlainLook look → All (EachLine IsPrintable look) fields → IsBareRow (header_for look columns fields) × IsBareRow (row_for look columns fields)
 bare_row look columns fields plain each =
-    let cells = cells_each IsPrintable refl look columns fields each in (
-      record { uncut = refl; printable = rw plain.no_bold cells; no_delimiter = rw plain.no_bold without },
-      record { uncut = rw plain.uncut refl; printable = cells; no_delimiter = without },
-    )
-  where
-    without : All (λ (cell : CellValue). cell.delimiter ≡ None) (map (λ (column : ShownColumn). with_weight false (cell_for look column.alignment (field_or_blank fields column.position))) columns)
-    without = All-map (λ (cell : CellValue). cell.delimiter ≡ None) (λ (column : ShownColumn). with_weight false (cell_for look column.alignment (field_or_blank fields column.position))) columns (All-every (λ (column : ShownColumn). (with_weight false (cell_for look column.alignment (field_or_blank fields column.position))).delimiter ≡ None) columns (λ column. refl))
-
--- what was found, in front of others
-found-one : {Y : Type 0} (P : Y → Type 0) (found : Option Y) (ys : List Y) → ((y : Y) → found ≡ Some y → P y) → All P ys → All P (cons_option found ys)
-found-one P None ys own rest = rest
-found-one P (Some y) ys own rest = All-cons P y ys (own y refl) rest
-
--- what is found in some elements
-found_each : {X Y : Type 0} (P : Y → Type 0) (h : X → Option Y) (xs : List X) → All (λ x. (y : Y) → h x ≡ Some y → P y) xs → All P (filter_map h xs)
-found_each P h [] each = All-nil P
-found_each {X} {Y} P h (x ∷ xs) each =
-    found-one P (h x) (filter_map h xs) (All-head (λ (z : X). (y : Y) → h z ≡ Some y → P y) x xs each) (found_each P h xs (All-tail (λ (z : X). (y : Y) → h z ≡ Some y → P y) x xs each))
+    let cells = cells_each IsPrintable refl look columns fields each in
+    let same = rows_are_default look columns fields plain in
+    (record { uncut = refl; printable = rw plain.no_bold cells; no_delimiter = same.0.no_delimiters }, record { uncut = same.1.uncut; printable = cells; no_delimiter = same.1.no_delimiters })
 
 module _ (options : Options) (plain : IsPlainLook options.look) (table : TableValue) (known : Built options plain.no_sequences IsBareRow table) where
   abbrev base : TableValue
@@ -69,7 +55,7 @@ module _ (options : Options) (plain : IsPlainLook options.look) (table : TableVa
   plain_cells : HasPlainCells table
   plain_cells =
       All-weaker (λ (p : ℕ × ColumnValue). IsNewColumn p.1) (λ (p : ℕ × ColumnValue). All (IsPlainCell table p.1.delimiter) (column_cells table p.0))
-      (λ p new. found_each (IsPlainCell table p.1.delimiter) (λ (row : RowValue). slice_get row.cells p.0) (seen_rows table)
+      (λ p new. All-found (IsPlainCell table p.1.delimiter) (λ (row : RowValue). slice_get row.cells p.0) (seen_rows table)
       (All-weaker IsBareRow (λ (row : RowValue). (cell : CellValue) → slice_get row.cells p.0 ≡ Some cell → IsPlainCell table p.1.delimiter cell) (λ row is cell found. plain_cell-is p.1.delimiter row p.0 cell new.no_delimiter is found) (seen_rows table) rows))
       (visible_columns table) (columns_known base plain.no_sequences IsBareRow table known)
 

@@ -6,8 +6,7 @@ use Rattle.comfy_parts.specs.CellValue.{CellValue}
 use Rattle.comfy_parts.specs.Text.{Text}
 use Rattle.comfy_table.proofs.BuiltTableLemmas.{built_is_equally_wide}
 use Rattle.comfy_table.proofs.FittingTableLemmas.{IsDefaultRow, built_of_fitting_is_straight}
-use Rattle.comfy_table.proofs.ListLemmas.{All-every}
-use Rattle.comfy_table.specs.Headline.{IsTableDrawing}
+use Rattle.comfy_parts.proofs.CallerLemmas.{All-every}
 use Rattle.comfy_csv.proofs.BuiltLemmas.{Built, MakesRow, built}
 use Rattle.comfy_csv_parts.specs.Cells.{cell_for, field_or_blank, header_for, row_for, with_weight}
 use Rattle.comfy_csv.specs.Drawn.{empty_table, note_for, row_count}
@@ -16,7 +15,7 @@ use Rattle.comfy_csv_parts.specs.declared.options.Look.{Look}
 use Rattle.comfy_csv_parts.specs.declared.options.Options.{Options}
 use Rattle.comfy_csv_parts.specs.declared.options.ShownColumn.{ShownColumn}
 
-rows_are_default : (look : Look) (columns : List ShownColumn) (fields : List Text) → IsPlainLook look → IsDefaultRow (header_for look columns fields) × IsDefaultRow (row_for look columns fields)
+pub rows_are_default : (look : Look) (columns : List ShownColumn) (fields : List Text) → IsPlainLook look → IsDefaultRow (header_for look columns fields) × IsDefaultRow (row_for look columns fields)
 rows_are_default look columns fields plain = (record { uncut = refl; no_delimiters = rw plain.no_bold without }, record { uncut = rw plain.uncut refl; no_delimiters = without })
   where
     without : All (λ (cell : CellValue). cell.delimiter ≡ None) (map (λ (column : ShownColumn). with_weight false (cell_for look column.alignment (field_or_blank fields column.position))) columns)

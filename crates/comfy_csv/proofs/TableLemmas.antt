@@ -1,5 +1,5 @@
 -- The table of some records, by whether there is a header.
-use Rattle.std.proofs.Common.{◌≡◌, ℕ, true, false, List, [], ◌∷◌, Option, Some, None, length, map, arith, refl, ap}
+use Rattle.std.proofs.Common.{◌≡◌, ℕ, true, false, List, [], ◌∷◌, Option, Some, None, map, refl, ap}
 use Rattle.std.proofs.lemmas.List.{take-map}
 use Rattle.comfy_parts.specs.Text.{Text}
 use Rattle.comfy_csv.specs.Drawn.{limited, table_for, titled_table, untitled_table}
@@ -8,10 +8,6 @@ use Rattle.comfy_csv_parts.specs.declared.options.Options.{Options}
 limited-map : {A B : Type 0} (f : A → B) (limit : Option ℕ) (rows : List A) → limited limit (map f rows) ≡ map f (limited limit rows)
 limited-map f None rows = refl
 limited-map f (Some n) rows = take-map f n rows
-
-pub no_items : {A : Type 0} (xs : List A) → length xs ≡ 0 → xs ≡ []
-no_items [] none = refl
-no_items (x ∷ xs) none = absurd (omega arith)
 
 module _ {R : Type 0} (fields : R → List Text) (options : Options) where
   pub without_header : (records : List R) → options.has_header ≡ false → table_for options (map fields records) ≡ untitled_table options (map fields (limited options.limit records))

@@ -8,10 +8,11 @@ use Rattle.comfy_parts.proofs.AbsentByteLemmas.{HasNo-drop, HasNo-take}
 use Rattle.comfy_parts.proofs.OpenLemmas.{opened-append}
 use Rattle.comfy_parts.proofs.FrontLemmas.{parts-clear}
 use Rattle.comfy_parts.specs.Cursor.{visible_part}
-use Rattle.comfy_parts.proofs.VisibleLineLemmas.{each_slice, every-append, zip-each}
+use Rattle.comfy_parts.proofs.VisibleLineLemmas.{each_slice}
 use Rattle.comfy_parts.specs.Text.{Text}
 use Rattle.comfy_parts.specs.VisibleLines.{CellLine, line_texts, line_texts_of_text, line_texts_past}
 use Rattle.comfy_parts.specs.VisibleText.{Part, active, closed, closing, has_escape, line_text, parts, parts_before, parts_from, open_after, opened, parts_up_to, text_between}
+use Rattle.comfy_parts.proofs.ListLemmas.{every-append, every-second}
 
 -- the parts of a text without ESC are its bytes
 clear_parts : (text : Text) → has_escape text ≡ false → parts text ≡ map visible_part text
@@ -80,7 +81,7 @@ clear_past w d earlier [] before clear = tt
 clear_past w d earlier (text ∷ texts) before clear =
     let both = or_parts (has_escape text) (list_any has_escape texts) clear in
     every-append IsAsSeen (line_texts_of_text w d earlier text) (line_texts_past w d (earlier ++ text ∷ []) texts)
-    (zip-each IsAsSeen _ (line_texts_of_text w d earlier text) (each_slice w d (λ from line. IsAsSeen line) earlier text (λ start line stands.
+    (every-second IsAsSeen _ (line_texts_of_text w d earlier text) (each_slice w d (λ from line. IsAsSeen line) earlier text (λ start line stands.
     line_text-clear earlier text start (length line) before both.0 ∙ ap (λ (t : Text). take (length line) (drop start t)) (sym (clear_text text both.0)) ∙ stands)))
     (clear_past w d (earlier ++ text ∷ []) texts (further both.0) both.1)
   where

@@ -10,11 +10,7 @@ use Rattle.comfy_parts.specs.Text.{Text}
 use Rattle.comfy_parts.specs.VisibleText.{Part, open_after, opened, opened_by, reset}
 use Rattle.comfy_parts.proofs.ScanLemmas.{AreScanned}
 use Rattle.comfy_parts.proofs.SequenceLemmas.{IsSequence}
-
--- one more element of which it holds
-every-push : {X : Type 0} (P : X → Type 0) (xs : List X) (y : X) → AllByRecursion P xs → P y → AllByRecursion P (xs ++ y ∷ [])
-every-push P [] y each last = (last, tt)
-every-push P (x ∷ xs) y each last = (each.0, every-push P xs y each.1 last)
+use Rattle.comfy_parts.proofs.ListLemmas.{every-append}
 
 -- parts after parts
 pub opened-append : (ss : List Text) (ps qs : List Part) → opened ss (ps ++ qs) ≡ opened (opened ss ps) qs
@@ -53,7 +49,7 @@ others_open : (ss : List Text) (ps : List Part) → AllByRecursion IsOther ss �
 others_open ss [] others = others
 others_open ss (p ∷ ps) others =
     others_open (opened_by ss p) ps
-    (cond_both p.is_sequence _ _ (AllByRecursion IsOther) (λ _. cond_both (bytes_eq reset p.bytes) _ _ (AllByRecursion IsOther) (λ _. tt) (λ other. every-push IsOther ss p.bytes others other)) (λ _. others))
+    (cond_both p.is_sequence _ _ (AllByRecursion IsOther) (λ _. cond_both (bytes_eq reset p.bytes) _ _ (AllByRecursion IsOther) (λ _. tt) (λ other. every-append IsOther ss (p.bytes ∷ []) others (other, tt))) (λ _. others))
 
 -- such sequences are all added
 all_open : (ss others : List Text) → AllByRecursion IsOther others → opened ss (map sequence_part others) ≡ ss ++ others
@@ -74,6 +70,6 @@ every-opened ss [] rest each scanned = each
 every-opened ss (p ∷ ps) rest each (inl part, more) =
     every-opened (opened_by ss p) ps rest
     (subst (λ (x : Part). AllByRecursion IsSequence (opened_by ss x)) (sym part.is)
-    (cond_both (bytes_eq reset p.bytes) _ _ (AllByRecursion IsSequence) (λ _. tt) (λ _. every-push IsSequence ss p.bytes each part.sequence))) more
+    (cond_both (bytes_eq reset p.bytes) _ _ (AllByRecursion IsSequence) (λ _. tt) (λ _. every-append IsSequence ss (p.bytes ∷ []) each (part.sequence, tt)))) more
 every-opened ss (p ∷ ps) rest each (inr part, more) =
     every-opened (opened_by ss p) ps rest (subst (λ (x : Part). AllByRecursion IsSequence (opened_by ss x)) (sym part.is) each) more

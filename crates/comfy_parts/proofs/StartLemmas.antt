@@ -1,11 +1,10 @@
 -- A line's start, before which delimiters give no line, and its cut from the text's front.
-use Rattle.std.proofs.Common.{◌≡◌, ◌<◌, ℕ, Bool, true, false, ◌==◌, List, [], ◌∷◌, ◌++◌, length, take, drop, None, map, refl, sym, ap, ap₂, ◌∙◌, subst, arith, take_at, drop_at}
+use Rattle.std.proofs.Common.{◌≡◌, ◌<◌, ℕ, Bool, true, false, ◌==◌, [], ◌∷◌, ◌++◌, length, take, drop, None, refl, sym, ap, ap₂, ◌∙◌, subst, arith, take_at, drop_at}
 use Rattle.std.specs.Char.{IsScalar}
 use Rattle.std.specs.Prelude.{encode_utf8, encode_utf8_all, IsUtf8}
 use Rattle.std.specs.Str.{IsCharBoundary}
 use Rattle.std.specs.Str.Pattern.{FindsCharPrefix}
 use Rattle.std.proofs.lemmas.Bool.Decides.{nat_tests}
-use Rattle.std.proofs.lemmas.List.{append_assoc, map-append}
 use Rattle.std.proofs.lemmas.Str.{encodes-chars, IsCharBoundary-at_seam}
 use Rattle.unicode_segmentation.proofs.TextLemmas.{encode_utf8_nonempty}
 use Rattle.comfy_parts.specs.Text.{Text, begins_with}
@@ -43,11 +42,6 @@ line-cut w d text utf8 some begins =
       whole_rest = subst IsUtf8 (sym back) it.whole_tail;
       lines = ap (wrapped w d) it.splits ∙ lines ∙ ap₂ (λ a b. a ∷ wrapped w d b) (sym front) (sym back);
     }
-
--- what one more push shows, where the rest is to follow
-pub pushed : {A B : Type 0} (f : A → B) (done : List A) (x : A) (more : List A) (later all : List B) → more ≡ done ++ x ∷ [] → map f done ++ (f x ∷ later) ≡ all → map f more ++ later ≡ all
-pushed f done x more later all pushes shows =
-    ap (λ xs. map f xs ++ later) pushes ∙ ap (λ ys. ys ++ later) (map-append f done (x ∷ [])) ∙ append_assoc (map f done) (f x ∷ []) later ∙ shows
 
 pub not_empty : (n : ℕ) (b : Bool) → b ≡ (n == 0) → b ≡ false → 0 < n
 not_empty n b test fails = grind (arith, nat_tests, test, fails)

@@ -1,29 +1,18 @@
 -- The lines of a cell with sequences: they are seen as the lines of the visible text, and each is written as its slice with the sequences resumed and closed.
-use Rattle.std.proofs.Common.{◌≡◌, ℕ, zero, suc, ◌+◌, ◌-◌, Bool, true, false, List, [], ◌∷◌, ◌++◌, length, map, take, drop, zip, nat_le, refl, sym, ap, ap₂, ◌∙◌, arith, ◌<◌, ◌≤◌, slice_index_or}
+use Rattle.std.proofs.Common.{◌≡◌, ℕ, zero, suc, ◌+◌, ◌-◌, Bool, true, false, List, [], ◌∷◌, ◌++◌, length, map, take, drop, zip, nat_le, refl, sym, ap, ap₂, ◌∙◌, arith, ◌<◌, ◌≤◌}
 use Rattle.std.specs.List.{flat_map, AllByRecursion, AllZip}
 use Rattle.std.specs.Prelude.{if◌then◌else◌}
-use Rattle.std.proofs.lemmas.List.{map-append, length-take, length-drop, take_min}
-use Rattle.std.proofs.Math.Seq.{drop-cons, take-length}
+use Rattle.std.proofs.lemmas.List.{map-append, length-take, length-drop}
+use Rattle.std.proofs.Math.Seq.{take-length}
 use Rattle.comfy_parts.specs.Text.{Text, measure, begins_with}
 use Rattle.comfy_parts.specs.VisibleLines.{CellLine, LineStart, line_starts, line_starts_past, starts_past, starts_of_text, line_texts_of_text, line_texts_past, line_texts}
 use Rattle.comfy_parts.specs.VisibleText.{parts, visible_text, open_after, line_text}
 use Rattle.comfy_parts.specs.Wrapping.{lines_past, wrapped, lines_of_text, line_end, part_end}
 use Rattle.comfy_parts.specs.Laws.{IsResumedLine, LinesAreResumed}
 use Rattle.comfy_parts.proofs.LineTextLemmas.{line_closed, line_resumes, line_seen}
-
--- ---- lists
-
--- a front is as long as it is
-take-front : (n : ℕ) (xs : Text) → take (length (take n xs)) xs ≡ take n xs
-take-front n xs = ap (λ k. take k xs) (length-take n xs) ∙ take_min n xs
-
--- one element more is dropped
-drop_next : (n : ℕ) (xs : Text) (b : ℕ) (rest : Text) → drop n xs ≡ b ∷ rest → drop (n + 1) xs ≡ rest
-drop_next n xs b rest is =
-    let next : n + 1 ≡ suc n = omega arith in
-    let both : slice_index_or xs n 0 ∷ drop (suc n) xs ≡ b ∷ rest = sym (drop-cons xs n 0 (omega (arith, length-drop n xs, ap length is))) ∙ is in
-    let behind : drop (suc n) xs ≡ rest = cc both in
-    ap (λ k. drop k xs) next ∙ behind
+use Rattle.std.proofs.lemmas.Simd.{map-map}
+use Rattle.std.proofs.lemmas.Slice.Zip.{AllZip-long, seconds-zip}
+use Rattle.comfy_parts.proofs.ListLemmas.{AllZip-append, AllZip-map_zip, drop_next, every-always, every-second, take-front}
 
 -- ---- two lists side by side
 
@@ -32,35 +21,6 @@ zip-one : (R : ℕ → Text → Type 0) (t : Bool) (at : ℕ) (line : Text) (sta
     → AllZip R ((if t then [] else at ∷ []) ++ starts) ((if t then [] else line ∷ []) ++ lines)
 zip-one R true at line starts lines here more = more
 zip-one R false at line starts lines here more = (here, more)
-
--- what the first of each pair gives, and what both give
-zip-map : {A B : Type 0} (R : ℕ → Text → Type 0) (Q : A → B → Type 0) (f : ℕ → A) (g : ℕ × Text → B) → ((x : ℕ) (y : Text) → R x y → Q (f x) (g (x, y)))
-    → (xs : List ℕ) (ys : List Text) → AllZip R xs ys → AllZip Q (map f xs) (map g (zip xs ys))
-zip-map R Q f g gives [] [] each = tt
-zip-map R Q f g gives [] (y ∷ ys) each = absurd each
-zip-map R Q f g gives (x ∷ xs) [] each = absurd each
-zip-map R Q f g gives (x ∷ xs) (y ∷ ys) each = (gives x y each.0, zip-map R Q f g gives xs ys each.1)
-
--- the second of each pair
-zip-seconds : {A B : Type 0} (R : A → B → Type 0) (xs : List A) (ys : List B) → AllZip R xs ys → map (λ (p : A × B). p.1) (zip xs ys) ≡ ys
-zip-seconds R [] [] each = refl
-zip-seconds R [] (y ∷ ys) each = absurd each
-zip-seconds R (x ∷ xs) [] each = absurd each
-zip-seconds {A} {B} R (x ∷ xs) (y ∷ ys) each = ap (λ (zs : List B). y ∷ zs) (zip-seconds R xs ys each.1)
-
--- what holds of the second of each pair
-pub zip-each : {A B : Type 0} (Q : B → Type 0) (xs : List A) (ys : List B) → AllZip (λ x y. Q y) xs ys → AllByRecursion Q ys
-zip-each Q [] [] each = tt
-zip-each Q [] (y ∷ ys) each = absurd each
-zip-each Q (x ∷ xs) [] each = absurd each
-zip-each Q (x ∷ xs) (y ∷ ys) each = (each.0, zip-each Q xs ys each.1)
-
--- pairs after others
-zip-append : {A B : Type 0} (R : A → B → Type 0) (xs : List A) (ys : List B) (xs' : List A) (ys' : List B) → AllZip R xs ys → AllZip R xs' ys' → AllZip R (xs ++ xs') (ys ++ ys')
-zip-append R [] [] xs' ys' each more = more
-zip-append R [] (y ∷ ys) xs' ys' each more = absurd each
-zip-append R (x ∷ xs) [] xs' ys' each more = absurd each
-zip-append R (x ∷ xs) (y ∷ ys) xs' ys' each more = (each.0, zip-append R xs ys xs' ys' each.1 more)
 
 -- ---- where lines stand
 
@@ -88,21 +48,11 @@ text_lines_stand w d text =
 
 -- ---- lines that are written
 
--- what a function gives of what another one gives
-map-both : {X Y Z : Type 0} (g : Y → Z) (f : X → Y) (xs : List X) → map g (map f xs) ≡ map (λ x. g (f x)) xs
-map-both g f [] = refl
-map-both {X} {Y} {Z} g f (x ∷ xs) = ap (λ (zs : List Z). g (f x) ∷ zs) (map-both g f xs)
-
--- both lists
-pub every-append : {X : Type 0} (P : X → Type 0) (xs ys : List X) → AllByRecursion P xs → AllByRecursion P ys → AllByRecursion P (xs ++ ys)
-every-append P [] ys each others = others
-every-append P (x ∷ xs) ys each others = (each.0, every-append P xs ys each.1 others)
-
 -- the lines of a text line are seen as those of its visible text
 seen_of_text : (w d : ℕ) (earlier : List Text) (text : Text) → map (λ (line : CellLine). line.seen) (line_texts_of_text w d earlier text) ≡ lines_of_text w d (visible_text text)
 seen_of_text w d earlier text =
-    map-both (λ (line : CellLine). line.seen) (λ (p : ℕ × Text). record { seen = p.1; written = line_text earlier text p.0 (length p.1) }) (zip (starts_of_text w d (visible_text text)) (lines_of_text w d (visible_text text)))
-    ∙ zip-seconds _ (starts_of_text w d (visible_text text)) (lines_of_text w d (visible_text text)) (text_lines_stand w d (visible_text text))
+    map-map (λ (line : CellLine). line.seen) (λ (p : ℕ × Text). record { seen = p.1; written = line_text earlier text p.0 (length p.1) }) (zip (starts_of_text w d (visible_text text)) (lines_of_text w d (visible_text text)))
+    ∙ seconds-zip (starts_of_text w d (visible_text text)) (lines_of_text w d (visible_text text)) (AllZip-long _ _ _ (text_lines_stand w d (visible_text text)))
 
 seen_past : (w d : ℕ) (earlier text_lines : List Text) → map (λ (line : CellLine). line.seen) (line_texts_past w d earlier text_lines) ≡ flat_map (lines_of_text w d) (map visible_text text_lines)
 seen_past w d earlier [] = refl
@@ -120,7 +70,7 @@ pub each_slice : (w d : ℕ) (Q : LineStart → CellLine → Type 0) (earlier : 
     → Q (record { earlier = earlier; text = text; at = start }) (record { seen = line; written = line_text earlier text start (length line) }))
     → AllZip Q (map (λ (at : ℕ). record { earlier = earlier; text = text; at = at }) (starts_of_text w d (visible_text text))) (line_texts_of_text w d earlier text)
 each_slice w d Q earlier text gives =
-    zip-map (StandsIn (visible_text text)) Q _ (λ (p : ℕ × Text). record { seen = p.1; written = line_text earlier text p.0 (length p.1) }) gives
+    AllZip-map_zip (StandsIn (visible_text text)) Q _ (λ (p : ℕ × Text). record { seen = p.1; written = line_text earlier text p.0 (length p.1) }) gives
     (starts_of_text w d (visible_text text)) (lines_of_text w d (visible_text text)) (text_lines_stand w d (visible_text text))
 
 -- where that is so in text lines of some kind, it holds of each line of a cell of such text lines
@@ -130,32 +80,27 @@ each_line : (w d : ℕ) (P : Text → Type 0) (Q : LineStart → CellLine → Ty
     → (earlier text_lines : List Text) → AllByRecursion P text_lines → AllZip Q (line_starts_past w d earlier text_lines) (line_texts_past w d earlier text_lines)
 each_line w d P Q gives earlier [] each = tt
 each_line w d P Q gives earlier (text ∷ more) each =
-    zip-append Q _ (line_texts_of_text w d earlier text) _ (line_texts_past w d (earlier ++ text ∷ []) more) (each_slice w d Q earlier text (gives earlier text each.0))
+    AllZip-append Q _ _ (line_texts_of_text w d earlier text) (line_texts_past w d (earlier ++ text ∷ []) more) (each_slice w d Q earlier text (gives earlier text each.0))
     (each_line w d P Q gives (earlier ++ text ∷ []) more each.1)
-
--- what holds of any text
-always : (xs : List Text) → AllByRecursion (λ (x : Text). Unit {0}) xs
-always [] = tt
-always (x ∷ xs) = (tt, always xs)
 
 module _ (w d : ℕ) (text_lines : List Text) where
   -- no sequence is open at the end of a line
   pub lines_closed : AllByRecursion (λ (line : CellLine). open_after (parts line.written) ≡ []) (line_texts w d text_lines)
   lines_closed =
-      zip-each _ (line_starts w d text_lines) _
-      (each_line w d (λ text. Unit {0}) (λ from line. open_after (parts line.written) ≡ []) (λ earlier text _ start line stands. line_closed earlier text start (length line)) [] text_lines (always text_lines))
+      every-second _ (line_starts w d text_lines) _
+      (each_line w d (λ text. Unit {0}) (λ from line. open_after (parts line.written) ≡ []) (λ earlier text _ start line stands. line_closed earlier text start (length line)) [] text_lines (every-always _ text_lines (λ _. tt)))
 
   -- the sequences taken out of a line's text, what is seen of it is left
   pub lines_seen : AllByRecursion (λ (line : CellLine). visible_text line.written ≡ line.seen) (line_texts w d text_lines)
   lines_seen =
-      zip-each _ (line_starts w d text_lines) _
-      (each_line w d (λ text. Unit {0}) (λ from line. visible_text line.written ≡ line.seen) (λ earlier text _ start line stands. line_seen earlier text start (length line) ∙ stands) [] text_lines (always text_lines))
+      every-second _ (line_starts w d text_lines) _
+      (each_line w d (λ text. Unit {0}) (λ from line. visible_text line.written ≡ line.seen) (λ earlier text _ start line stands. line_seen earlier text start (length line) ∙ stands) [] text_lines (every-always _ text_lines (λ _. tt)))
 
   -- before each visible byte of a line the sequences are open that are active there
   pub lines_resumed : LinesAreResumed w d text_lines
   lines_resumed =
       each_line w d (λ text. Unit {0}) IsResumedLine
-      (λ earlier text _ start line stands. record { stands = stands; resumed = λ k below. line_resumes earlier text start (length line) k (within (visible_text text) start line stands k below) below }) [] text_lines (always text_lines)
+      (λ earlier text _ start line stands. record { stands = stands; resumed = λ k below. line_resumes earlier text start (length line) k (within (visible_text text) start line stands k below) below }) [] text_lines (every-always _ text_lines (λ _. tt))
     where
       within : (whole : Text) (start : ℕ) (line : Text) → StandsIn whole start line → (k : ℕ) → k < length line → start + length line ≤ length whole
       within whole start line stands k below =

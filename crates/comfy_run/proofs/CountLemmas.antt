@@ -1,7 +1,7 @@
 -- The table of an input has the settings that were passed, and plain cells where the input is plain. So its lines keep to a width.
 use Rattle.std.proofs.Common.{◌≡◌, ℕ, ◌==◌, ◌≤◌, Bool, true, false, ◌&&◌, ◌||◌, List, [], ◌∷◌, Option, Some, None, map, max, refl, sym, ap, ap₂, ◌∙◌, subst, slice_index_or, unwrap_or}
 use Rattle.std.specs.Int.{is_in_range}
-use Rattle.std.specs.List.{All, cons_option, filter_map, list_all, onto_first, slice_get, slice_split}
+use Rattle.std.specs.List.{All, list_all, onto_first, slice_get, slice_split}
 use Rattle.std.specs.Str.Lines.{lines}
 use Rattle.std.proofs.lemmas.Bool.{and_parts, cond_both}
 use Rattle.std.proofs.lemmas.List.Elements.{All-cons, All-head, All-map, All-nil, All-tail, All-weaker}
@@ -15,7 +15,7 @@ use Rattle.comfy_run.specs.Counts.{EachLineHas, HasSettings, IsPlainInput, Outpu
 use Rattle.comfy_run.specs.Input.{input_table}
 use Rattle.comfy_run.specs.Rows.{break_of, cells_of_line, row_of_line}
 use Rattle.comfy_table.proofs.BuiltTableLemmas.{IsBuilt, IsNewColumn, columns_known, rows_known, unconstrained}
-use Rattle.comfy_table.proofs.ListLemmas.{All-at, All-every}
+use Rattle.comfy_parts.proofs.CallerLemmas.{All-at, All-every, All-found}
 use Rattle.comfy_table.specs.Drawing.{infos_of, terminated_text_of}
 use Rattle.comfy_table.specs.Headline.{EachLineCounts, IsTableDrawing}
 use Rattle.comfy_table.specs.Laws.{AddsOneColumnEachWhereWritten, HasPlainCells, IsPlainCell, count, least_total, line_total}
@@ -85,17 +85,6 @@ bare_row line each =
     without : All (λ (cell : CellValue). cell.delimiter ≡ None) (cells_of_line line)
     without = All-map (λ (cell : CellValue). cell.delimiter ≡ None) (λ (text : Text). plain_cell (map break_of text)) (slice_split (λ b. b == 0x09) line) (All-every (λ (text : Text). (plain_cell (map break_of text)).delimiter ≡ None) (slice_split (λ b. b == 0x09) line) (λ text. refl))
 
--- what was found, in front of others
-found-one : {Y : Type 0} (P : Y → Type 0) (found : Option Y) (ys : List Y) → ((y : Y) → found ≡ Some y → P y) → All P ys → All P (cons_option found ys)
-found-one P None ys own rest = rest
-found-one P (Some y) ys own rest = All-cons P y ys (own y refl) rest
-
--- what is found in some elements
-found-each : {X Y : Type 0} (P : Y → Type 0) (h : X → Option Y) (xs : List X) → All (λ x. (y : Y) → h x ≡ Some y → P y) xs → All P (filter_map h xs)
-found-each P h [] each = All-nil P
-found-each {X} {Y} P h (x ∷ xs) each =
-    found-one P (h x) (filter_map h xs) (All-head (λ (z : X). (y : Y) → h z ≡ Some y → P y) x xs each) (found-each P h xs (All-tail (λ (z : X). (y : Y) → h z ≡ Some y → P y) x xs each))
-
 -- ---- the table of an input
 
 module _ (width : Option ℕ) (arrangement : ContentArrangement) (style : TableStyle) (input : Text) where
@@ -134,7 +123,7 @@ module _ (width : Option ℕ) (arrangement : ContentArrangement) (style : TableS
 
         of_column : (p : ℕ × ColumnValue) → IsNewColumn p.1 → All (IsPlainCell table p.1.delimiter) (column_cells table p.0)
         of_column p new =
-            found-each (IsPlainCell table p.1.delimiter) (λ (row : RowValue). slice_get row.cells p.0) (seen_rows table)
+            All-found (IsPlainCell table p.1.delimiter) (λ (row : RowValue). slice_get row.cells p.0) (seen_rows table)
             (All-weaker IsBareRow (λ (row : RowValue). (cell : CellValue) → slice_get row.cells p.0 ≡ Some cell → IsPlainCell table p.1.delimiter cell) (λ row is cell found. plain_cell-is p.1.delimiter cell new.no_delimiter (All-at IsBareCell row.cells p.0 cell is.cells found)) (seen_rows table) (rows_known own refl IsBareRow table bare))
 
     -- no indicator is written

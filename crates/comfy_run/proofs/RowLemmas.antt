@@ -2,7 +2,7 @@
 use Rattle.std.proofs.Common.{◌≡◌, ◌==◌, ◌<◌, ◌≤◌, ◌+◌, ◌||◌, ℕ, zero, suc, Bool, true, false, List, [], ◌∷◌, ◌++◌, map, length, get_or, take, drop, refl, ap, ap₂, subst, sym, ◌∙◌, append_assoc, arith, rules, cond, length-append, length-drop, drop-cons}
 use borrow.Author.Tests.{tests}
 use Rattle.std.proofs.lemmas.Bool.Decides.{nat_tests}
-use Rattle.std.proofs.lemmas.List.{length-map, length-take-le, map-append, take-append-drop, take_all}
+use Rattle.std.proofs.lemmas.List.{length-map, length-take-le, map-append, nil_from_length, take-append-drop, take_all}
 use Rattle.std.proofs.Math.Seq.{take-append-add}
 use Rattle.std.proofs.lemmas.List.Folds.{list_any-append}
 use Rattle.std.proofs.lemmas.Bool.{or_parts}
@@ -21,10 +21,6 @@ join-push [] piece some = absurd (omega arith)
 join-push (x ∷ []) piece some = refl
 join-push (x ∷ y ∷ more) piece some =
     ap (λ t. x ++ 0x0A ∷ t) (join-push (y ∷ more) piece (omega arith)) ∙ sym (append_assoc x (0x0A ∷ join_with_byte 0x0A (y ∷ more)) (0x0A ∷ piece))
-
-empty : {P : Type 0} (pieces : List P) → length pieces ≡ 0 → pieces ≡ []
-empty [] none = refl
-empty (x ∷ more) none = absurd (omega arith)
 
 join-onto : (b : ℕ) (pieces : List (List ℕ)) → join_with_byte 0x0A (onto_first b pieces) ≡ b ∷ join_with_byte 0x0A pieces
 join-onto b [] = refl
@@ -53,7 +49,7 @@ module _ {P : Type 0} (now : P → List ℕ) (pieces : List P) (piece : P) (text
   -- the first piece
   pub joined-first : (length pieces == 0) ≡ true → text ≡ join_with_byte 0x0A (map now pieces) → text ++ now piece ≡ join_with_byte 0x0A (map now (pieces ++ piece ∷ []))
   joined-first none is =
-      let bare : pieces ≡ [] = empty pieces (search (rules, tests)) in
+      let bare : pieces ≡ [] = nil_from_length pieces (search (rules, tests)) in
       rw (is, bare) refl
 
   -- a piece after others

@@ -1,5 +1,5 @@
 -- The table of an input, and why the lines of its drawing are equally wide.
-use Rattle.std.proofs.Common.{◌≡◌, ℕ, ◌==◌, ◌≤◌, inl, inr, List, [], ◌∷◌, Option, Some, None, map, fold, refl, sym, ap, ap₂, ◌∙◌, subst, slice_index_or, unwrap_or}
+use Rattle.std.proofs.Common.{◌≡◌, ℕ, ◌==◌, ◌≤◌, List, [], ◌∷◌, Option, Some, None, map, fold, refl, ap, ap₂, ◌∙◌}
 use Rattle.std.specs.List.{All, slice_split}
 use Rattle.std.specs.Str.Lines.{lines}
 use Rattle.std.proofs.lemmas.List.Elements.{All-head, All-map, All-nil, All-tail}
@@ -12,7 +12,7 @@ use Rattle.comfy_run.specs.Rows.{break_of, cells_of_line, row_of_line}
 use Rattle.comfy_run.specs.Straight.{FittingOutputIsStraight, IsStraightOutput, WholeOutputIsStraight}
 use Rattle.comfy_table.proofs.BuiltTableLemmas.{IsBuilt, IsNewColumn, built-header, built-row, built_is_equally_wide, built_is_straight}
 use Rattle.comfy_table.proofs.FittingTableLemmas.{IsDefaultRow, built_of_fitting_is_straight}
-use Rattle.comfy_table.proofs.ListLemmas.{All-every}
+use Rattle.comfy_parts.proofs.CallerLemmas.{All-every}
 use Rattle.comfy_table.specs.Arrangement.{width_kept}
 use Rattle.comfy_table.specs.Drawing.{terminated_text_of}
 use Rattle.comfy_table.specs.Headline.{IsTableDrawing}

@@ -4,11 +4,10 @@ use Rattle.std.specs.List.{All, slice_split}
 use Rattle.std.specs.Str.{IsUtf8}
 use Rattle.std.proofs.lemmas.List.Elements.{All-from_recursion, All-head, All-tail}
 use Rattle.std.proofs.lemmas.List.Splits.{slice_split_at, slice_split_none}
-use Rattle.comfy_parts.proofs.CallerLemmas.{HasNo-append, HasNo-visible, breaks_are_seen, seen-closed, sequence_clear, zip-each}
+use Rattle.comfy_parts.proofs.CallerLemmas.{All-none, HasNo-append, HasNo-visible, breaks_are_seen, every-second, seen-closed, sequence_clear}
 use Rattle.comfy_parts.specs.Text.{Text}
 use Rattle.comfy_parts.specs.VisibleText.{closed}
 use Rattle.comfy_table.proofs.KeptDrawingLemmas.{keeps_drawing}
-use Rattle.comfy_table.proofs.ListLemmas.{All-none}
 use Rattle.comfy_table.proofs.SeenLemmas.{IsRowOf}
 use Rattle.comfy_table.proofs.StyledLemmas.{KeptByDrawing}
 use Rattle.comfy_table.specs.Drawing.{drawing, infos_of, terminated_text_of, text_of}
@@ -29,7 +28,7 @@ breaks_kept =
 pub without_breaks : (table : TableValue) (widths : List ℕ) → All (IsRowOf IsUtf8) (seen_rows table) → All (IsRowOf HasNoBreak) (seen_rows table) → HasUnbrokenStyle table → All HasNoBreak (drawing table widths)
 without_breaks table widths whole clear style =
     All-from_recursion HasNoBreak (drawing table widths)
-    (zip-each HasNoBreak (drawing (unstyled table) widths) (drawing table widths) (keeps_drawing 0x0A (λ shown text. HasNoBreak text) breaks_kept table (infos_of table widths) style whole clear))
+    (every-second HasNoBreak (drawing (unstyled table) widths) (drawing table widths) (keeps_drawing 0x0A (λ shown text. HasNoBreak text) breaks_kept table (infos_of table widths) style whole clear))
 
 -- ---- texts of lines
 

@@ -1,24 +1,19 @@
 -- Tables that are built from one without columns by a header and rows.
 use Rattle.std.proofs.Common.{◌≡◌, ◌==◌, ◌⊎◌, ℕ, ◌+◌, ◌-◌, ◌≤◌, inl, inr, Bool, true, false, List, [], ◌∷◌, ◌++◌, None, map, length, refl, sym, ap, ◌∙◌, subst, arith, option_to_list}
-use Rattle.std.specs.List.{All, enumerate_from, list_any, range_with_len}
+use Rattle.std.specs.List.{All, list_any, range_with_len}
 use Rattle.std.specs.Prelude.{if◌then◌else◌, not, option_map}
-use Rattle.std.proofs.lemmas.List.Elements.{All-append, All-cons, All-filter, All-head, All-map, All-nil, All-tail, All-weaker}
+use Rattle.std.proofs.lemmas.List.Elements.{All-append, All-cons, All-filter, All-from_recursion, All-head, All-map, All-nil, All-tail, All-weaker, recursion_from_All}
 use Rattle.comfy_parts.specs.CellValue.{CellValue, ColumnValue, RowValue, columns_grown_to, is_hidden_column, new_column}
 use Rattle.comfy_parts.specs.Columns.{IsOneColumn, style_characters}
 use Rattle.comfy_parts.specs.Text.{Text, measure}
 use Rattle.comfy_parts.specs.declared.style.table_style.TableStyle.{TableStyle}
-use Rattle.comfy_table.proofs.ListLemmas.{All-every}
+use Rattle.comfy_parts.proofs.CallerLemmas.{All-every, every-places}
 use Rattle.comfy_table.specs.Arrangement.{width_kept}
 use Rattle.comfy_table.specs.Headline.{IsTableDrawing}
 use Rattle.comfy_table.specs.Laws.{HasNoEscape, IsStyleWithout, NoConstraints, line_total}
 use Rattle.comfy_table.specs.NewTables.{AreEquallyWide, IsShortRow, NewTablesAreStraight, NewTablesLeaveNoneOpen}
 use Rattle.comfy_table.specs.Straight.{IsShownWhole, IsStraightTable}
 use Rattle.comfy_table.specs.TableValue.{TableValue, column_cells, header_and_rows, new_table, seen_rows, should_style, table_width, visible_columns, visible_row, with_header, with_row, with_rows}
-
--- what each item meets, each item with its position does
-All-enumerate : {X : Type 0} (P : X → Type 0) (n : ℕ) (xs : List X) → All P xs → All (λ (p : ℕ × X). P p.1) (enumerate_from n xs)
-All-enumerate P n [] each = All-nil (λ p. P p.1)
-All-enumerate {X} P n (x ∷ xs) each = All-cons (λ (p : ℕ × X). P p.1) (n, x) _ (All-head P x xs each) (All-enumerate P (n + 1) xs (All-tail P x xs each))
 
 -- a column as it is made
 pub record IsNewColumn (column : ColumnValue) : Type 0 where
@@ -62,7 +57,7 @@ module _ (base : TableValue) (plain : base.custom_styling ≡ false) (P : RowVal
             ap (λ (b : Bool). option_to_list (if b then option_map visible_row table.header else table.header) ++ (if b then map visible_row table.rows else table.rows)) (ap (λ (t : TableValue). t.custom_styling) known.is ∙ plain)
 
     pub columns_known : All (λ (p : ℕ × ColumnValue). IsNewColumn p.1) (visible_columns table)
-    columns_known = All-filter (λ (p : ℕ × ColumnValue). not (is_hidden_column p.1)) (λ (p : ℕ × ColumnValue). IsNewColumn p.1) _ (All-enumerate IsNewColumn 0 table.columns known.columns)
+    columns_known = All-filter (λ (p : ℕ × ColumnValue). not (is_hidden_column p.1)) (λ (p : ℕ × ColumnValue). IsNewColumn p.1) _ (All-from_recursion (λ p. IsNewColumn p.1) _ (every-places IsNewColumn 0 table.columns (recursion_from_All IsNewColumn table.columns known.columns)))
 
     pub padded : All (λ (p : ℕ × ColumnValue). 1 ≤ p.1.padding.0) (visible_columns table)
     padded =

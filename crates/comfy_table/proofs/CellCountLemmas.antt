@@ -7,13 +7,12 @@ use Rattle.std.proofs.lemmas.Bool.Decides.{nat_tests}
 use Rattle.std.proofs.lemmas.List.{length-take}
 use Rattle.std.proofs.lemmas.List.Elements.{All-weaker}
 use Rattle.std.proofs.lemmas.Str.{IsUtf8-nil, chars-nil}
-use Rattle.comfy_parts.proofs.CallerLemmas.{IsPlainLine, head-printable, lines_of_text-plain, measure-printable, take-printable}
+use Rattle.comfy_parts.proofs.CallerLemmas.{All-flat_map, IsPlainLine, head-printable, lines_of_text-plain, measure-printable, take-printable}
 use Rattle.comfy_parts.specs.CellValue.{CellValue, RowValue, ColumnInfo, info_width}
 use Rattle.comfy_parts.specs.Text.{Text, measure, is_printable_ascii, AddsOneColumnEach}
 use Rattle.comfy_parts.specs.Wrapping.{lines_of_text}
 use Rattle.comfy_table.proofs.CountLemmas.{HasCount, HasCount-same, HasCount-append, HasCount-printable, HasCount-utf8, HasCount-spaces}
 use Rattle.comfy_table.proofs.CutLemmas.{All-cut, plain_piece, seen_in_row}
-use Rattle.comfy_table.proofs.ListLemmas.{All-flat_map}
 use Rattle.comfy_table.proofs.SpaceLemmas.{whole_width}
 use Rattle.comfy_table.specs.Laws.{count, IsPlainCell}
 use Rattle.comfy_table.specs.Lines.{cell_lines, cell_delimiter, fitting_indicator, cut_text}

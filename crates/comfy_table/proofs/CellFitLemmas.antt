@@ -7,14 +7,13 @@ use Rattle.std.proofs.lemmas.Bool.{cond_both}
 use Rattle.std.proofs.lemmas.Bool.Decides.{nat_tests}
 use Rattle.std.proofs.lemmas.List.Elements.{All-weaker}
 use Rattle.std.proofs.lemmas.Str.{IsUtf8-append, IsUtf8-nil}
-use Rattle.comfy_parts.proofs.CallerLemmas.{IsFittingLine, head-fitting, head-utf8, lines-agree, lines_of_text-utf8, measure-nil, text_lines_fit}
+use Rattle.comfy_parts.proofs.CallerLemmas.{All-flat_map, All-of_map, IsFittingLine, head-fitting, head-utf8, lines-agree, lines_of_text-utf8, measure-nil, text_lines_fit}
 use Rattle.comfy_parts.specs.CellValue.{CellValue, RowValue, ColumnInfo}
 use Rattle.comfy_parts.specs.Columns.{IsApart, SelectorsAgree}
 use Rattle.comfy_parts.specs.Text.{Text, measure, head}
 use Rattle.comfy_parts.specs.VisibleLines.{CellLine}
 use Rattle.comfy_parts.specs.Wrapping.{lines_of_text}
 use Rattle.comfy_table.proofs.CutLemmas.{All-cut, row-unstyled, seen_in_row}
-use Rattle.comfy_table.proofs.ListLemmas.{All-flat_map, All-of_map}
 use Rattle.comfy_table.proofs.MeasureLemmas.{apart_follows}
 use Rattle.comfy_table.specs.Lines.{as_seen, cell_delimiter, cell_lines, cut_text, fitting_indicator}
 use Rattle.comfy_table.specs.Straight.{LinesFit, TextsFit}

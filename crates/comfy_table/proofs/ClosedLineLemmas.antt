@@ -1,11 +1,11 @@
 -- With custom styling no drawn line leaves a sequence open, where sequences stand in the texts of cells alone.
-use Rattle.std.proofs.Common.{◌∷◌, ◌≡◌, ◌⊎◌, inl, inr, ◌≤◌, ℕ, zero, suc, ◌+◌, ◌-◌, Bool, true, false, List, [], ◌++◌, Option, Some, None, length, refl, sym, ap, ◌∙◌, subst, arith, append-nil, slice_index_or, ◌<◌, ◌==◌, ⊎_elim, append_assoc}
+use Rattle.std.proofs.Common.{◌∷◌, ◌≡◌, ◌⊎◌, inl, inr, ◌≤◌, ℕ, zero, suc, ◌+◌, ◌-◌, Bool, true, false, List, [], ◌++◌, Option, Some, None, length, refl, sym, ap, ◌∙◌, subst, arith, slice_index_or, ◌<◌, ◌==◌, ⊎_elim, append_assoc}
 use Rattle.std.specs.List.{All, slice_get}
 use Rattle.std.specs.Prelude.{if◌then◌else◌, option_map}
 use Rattle.std.specs.Str.{IsUtf8}
 use Rattle.std.proofs.lemmas.Bool.Decides.{nat_tests}
 use Rattle.std.proofs.lemmas.List.Elements.{All-cons, All-from_recursion, All-map, All-nil, All-weaker}
-use Rattle.comfy_parts.proofs.CallerLemmas.{OpensNone, StandsAlone, none-after, opens-alone, opens-append, opens-clear, opens-reset, opens-spaced, stands-append, stands-clear, stands-closed, stands-seen, stands-sequence, zip-each}
+use Rattle.comfy_parts.proofs.CallerLemmas.{All-at, All-given, All-of_map, AllZip-map, At-or, OpensNone, StandsAlone, every-second, none-after, opens-alone, opens-append, opens-clear, opens-reset, opens-spaced, stands-append, stands-clear, stands-closed, stands-seen, stands-sequence}
 use Rattle.comfy_parts.specs.CellValue.{CellValue, ColumnInfo, ColumnValue, RowValue, info_width}
 use Rattle.comfy_parts.specs.Text.{HasNo, Text, measure, spaces}
 use Rattle.comfy_parts.specs.VisibleLines.{CellLine}
@@ -16,9 +16,8 @@ use Rattle.comfy_parts.specs.declared.style.table_style.LineStyle.{LineStyle}
 use Rattle.comfy_table.proofs.EqualCountLemmas.{All-drawing, All-row}
 use Rattle.comfy_table.proofs.InfoLemmas.{infos-known}
 use Rattle.comfy_table.proofs.KeptDrawingLemmas.{IsClearContent, IsClearFrame, IsClearStyle, frame_kept, keeps_joined, style_clear}
-use Rattle.comfy_table.proofs.ListLemmas.{All-at, All-given, All-of_map, AllZip-map, At-or}
 use Rattle.comfy_table.proofs.SeenLemmas.{IsRowOf, cell_seen, get_seen, row_seen, seen_rows-is}
-use Rattle.comfy_table.proofs.SpaceLemmas.{spaces-append}
+use Rattle.comfy_table.proofs.SpaceLemmas.{no_styles, spaces-append}
 use Rattle.comfy_table.proofs.StyledLemmas.{KeptByDrawing, KeptByJoining, keeps_spaces}
 use Rattle.comfy_table.proofs.WrittenLemmas.{keeps_lines, none_is_open_at_the_end}
 use Rattle.comfy_table.specs.Drawing.{drawing, drawn_row, infos_of, whole_widths}
@@ -78,11 +77,7 @@ opens-padded cell info columns text ends inside =
 
 -- ---- styling
 
--- a text with the styling of a cell without any
-styled-none : (cell : CellValue) (text : Text) → cell.background ≡ None → cell.foreground ≡ None → cell.attributes ≡ [] → styled cell text ≡ text
-styled-none cell text background foreground attributes = grind (arith, background, foreground, attributes, append-nil)
-
--- with that of a cell with an attribute, which ends with a reset
+-- a text with the styling of a cell with an attribute, which ends with a reset
 styled-reset : (cell : CellValue) (text : Text) → 0 < length cell.attributes → OpensNone (styled cell text)
 styled-reset cell text some =
     let attributed : (length cell.attributes == 0) ≡ false = grind (arith, nat_tests, some) in
@@ -95,7 +90,7 @@ styled-ends cell text (inr some) = inl (styled-reset cell text some)
 styled-ends cell text (inl none) = by_list cell.attributes refl
   where
     by_list : (given : List Attribute) → cell.attributes ≡ given → OpensNone (styled cell text) ⊎ (styled cell text ≡ text)
-    by_list [] is = inr (styled-none cell text none.0 none.1 is)
+    by_list [] is = inr (no_styles cell text none.0 none.1 is)
     by_list (a ∷ more) is = inl (styled-reset cell text (subst (λ (given : List Attribute). 0 < length given) (sym is) (omega arith)))
 
 -- the piece of a text that ends inside, where the styling ends too or isn't written
@@ -181,7 +176,7 @@ module _ (table : TableValue) (on : table.custom_styling ≡ true) (mark : HasNo
     opens_frame : (line : LineStyle) → IsClearFrame 0x1B line → All OpensNone (optional_frame_line table.style line (whole_widths infos))
     opens_frame line clear =
         All-from_recursion OpensNone (optional_frame_line table.style line (whole_widths infos))
-        (zip-each OpensNone _ (optional_frame_line table.style line (whole_widths infos)) (frame_kept 0x1B (λ shown text. OpensNone text) opens_joined table.style line (whole_widths infos) clear))
+        (every-second OpensNone _ (optional_frame_line table.style line (whole_widths infos)) (frame_kept 0x1B (λ shown text. OpensNone text) opens_joined table.style line (whole_widths infos) clear))
 
 -- ---- tables
 

@@ -9,7 +9,7 @@ use Rattle.comfy_parts.proofs.CallerLemmas.{seen_lines}
 use Rattle.comfy_parts.specs.CellValue.{CellValue, ColumnInfo, RowValue}
 use Rattle.comfy_parts.specs.Text.{Text, measure}
 use Rattle.comfy_parts.specs.VisibleLines.{CellLine}
-use Rattle.comfy_table.proofs.JoinLemmas.{map-map}
+use Rattle.std.proofs.lemmas.Simd.{map-map}
 use Rattle.comfy_table.proofs.SeenLemmas.{cell_seen}
 use Rattle.comfy_table.specs.Laws.{unstyled}
 use Rattle.comfy_table.specs.Lines.{as_seen, cell_delimiter, cell_lines, cut_line, cut_text, cut_to_height, cut_to_limit, whole_lines}

@@ -11,7 +11,7 @@ use Rattle.comfy_table.specs.Dynamic.{IsDynamic, IsLevel, IsTakenInOrder, Placed
 use Rattle.comfy_table.specs.Widths.{ColumnNeeds, even_spread}
 use Rattle.comfy_table.specs.declared.utils.arrangement.dynamic.budget.Budget.{Budget}
 use Rattle.comfy_table.specs.declared.utils.arrangement.dynamic.taking.Rule.TheVariants.{Lower, Shrunk}
-use Rattle.comfy_table.proofs.ListLemmas.{All-every}
+use Rattle.comfy_parts.proofs.CallerLemmas.{All-every}
 use Rattle.comfy_table.proofs.FilledWidthLemmas.{filled-decided, filled-widths_of, fixed-widths_of, undecided-fixed}
 use Rattle.comfy_table.proofs.PlacedWidthLemmas.{width_at, widths_of}
 use Rattle.comfy_table.proofs.StepLemmas.{one_each-places, total-fixed}

@@ -1,21 +1,14 @@
 -- The lines of a row are made of the cells that its visible columns draw.
-use Rattle.std.proofs.Common.{◌≡◌, ℕ, List, [], ◌∷◌, Option, Some, length, map, refl, ap, ◌∙◌, sym, slice_index_or, unwrap_or, zero, suc}
-use Rattle.std.specs.List.{range_with_len, slice_get}
-use Rattle.std.specs.Prelude.{option_map}
+use Rattle.std.proofs.Common.{◌≡◌, List, Option, Some, length, map, ap, ◌∙◌, sym}
+use Rattle.std.specs.List.{range_with_len}
 use Rattle.comfy_parts.specs.CellValue.{CellValue, RowValue, ColumnInfo}
 use Rattle.comfy_parts.specs.Text.{greatest}
-use Rattle.comfy_table.proofs.JoinLemmas.{map-map}
+use Rattle.std.proofs.lemmas.Simd.{map-map}
 use Rattle.comfy_table.specs.DrawnCells.{DrawnCell, drawn_cell, greatest_height, piece_at, pieces_of_content}
 use Rattle.comfy_table.specs.DrawnLines.{DrawnLine, drawn_line}
 use Rattle.comfy_table.specs.Gaps.{RowGapsValue, gap_line, row_between}
 use Rattle.comfy_table.specs.Pieces.{pieces_of_optional, row_cell_lines, row_lines, visible_infos}
 use Rattle.comfy_table.specs.TableValue.{TableValue}
-
--- what is made of the element at a position, or a default
-pub index-map : {A B : Type 0} (f : A → B) (xs : List A) (k : ℕ) (default : B) → slice_index_or (map f xs) k default ≡ unwrap_or (option_map f (slice_get xs k)) default
-index-map f [] k default = refl
-index-map f (x ∷ xs) zero default = refl
-index-map f (x ∷ xs) (suc k) default = index-map f xs k default
 
 -- the pieces of a cell that a row has, with its lines
 pub content_pieces : (table : TableValue) (row : RowValue) (info : ColumnInfo) (o : Option CellValue) (cell : CellValue) (lines : List DrawnLine) → o ≡ Some cell → lines ≡ map drawn_line (row_cell_lines table row info cell)

@@ -10,7 +10,7 @@ use Rattle.comfy_parts.specs.Text.{Text}
 use Rattle.comfy_parts.specs.VisibleLines.{CellLine, line_texts}
 use Rattle.comfy_parts.specs.VisibleText.{has_escape}
 use Rattle.comfy_table.proofs.CutLemmas.{no_limit, seen_of, whole-seen}
-use Rattle.comfy_table.proofs.JoinLemmas.{map-map}
+use Rattle.std.proofs.lemmas.Simd.{map-map}
 use Rattle.comfy_table.proofs.SeenLemmas.{cell_seen}
 use Rattle.comfy_table.specs.DrawnLines.{DrawnLine, drawn_line, drawn_text, with_texts}
 use Rattle.comfy_table.specs.Lines.{as_seen, cell_delimiter, cell_lines, cut_line, cut_to_limit, whole_lines}

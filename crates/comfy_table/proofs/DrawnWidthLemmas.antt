@@ -19,24 +19,22 @@ use Rattle.comfy_table.specs.Widths.{ColumnNeeds, needs_of, visible_needs, visib
 use Rattle.comfy_table.proofs.BudgetLemmas.{keeps_to_wider_bound, fills_wider_bound}
 use Rattle.comfy_table.proofs.ContentLemmas.{each_content, each_content_short, steps_with}
 use Rattle.comfy_table.proofs.UnconstrainedLemmas.{least_with_steps-unconstrained}
+use Rattle.comfy_parts.proofs.CallerLemmas.{every-second}
+use Rattle.comfy_table.proofs.InfoLemmas.{columns_from}
 
 -- ---- the drawn widths
 
--- the visible ones of some columns that begin at a position
-abbrev visible_from : ℕ → List ColumnValue → List (ℕ × ColumnValue)
-visible_from n columns = filter (λ (p : ℕ × ColumnValue). not (is_hidden_column p.1)) (enumerate_from n columns)
-
--- their widths
+-- the widths of the visible ones of some columns that begin at a position
 abbrev widths_from : List ℕ → ℕ → List ColumnValue → List ℕ
-widths_from widths n columns = widths_at widths (visible_from n columns)
+widths_from widths n columns = widths_at widths (columns_from n columns)
 
 -- the whole widths as they are drawn
 abbrev drawn_from : ℕ → List ColumnInfo → List ℕ
 drawn_from n infos = map (λ (p : ℕ × ColumnInfo). info_width p.1) (filter (λ (p : ℕ × ColumnInfo). not p.1.is_hidden) (enumerate_from n infos))
 
--- the paddings
+-- their paddings
 abbrev paddings_from : ℕ → List ColumnValue → ℕ
-paddings_from n columns = sum_by (λ (p : ℕ × ColumnValue). column_padding p.1) (visible_from n columns)
+paddings_from n columns = sum_by (λ (p : ℕ × ColumnValue). column_padding p.1) (columns_from n columns)
 
 -- widths of at least 1 are drawn with the paddings
 sum-drawn_from : (widths : List ℕ) (n : ℕ) (columns : List ColumnValue) (ws : List ℕ) → length ws ≡ length columns → ((k : ℕ) → get_or widths (n + k) 0 ≡ get_or ws k 0)
@@ -56,11 +54,11 @@ sum-drawn_from widths n (column ∷ more) (w ∷ ws) same at each =
     at_first : get_or widths n 0 ≡ w
     at_first = let here : n ≡ n + 0 = omega arith in ap (λ (i : ℕ). get_or widths i 0) here ∙ at 0
 
-    by_test : (b : Bool) → AllByRecursion (λ (x : ℕ). 1 ≤ x) (widths_at widths (cond (not b) ((n, column) ∷ visible_from (n + 1) more) (visible_from (n + 1) more)))
+    by_test : (b : Bool) → AllByRecursion (λ (x : ℕ). 1 ≤ x) (widths_at widths (cond (not b) ((n, column) ∷ columns_from (n + 1) more) (columns_from (n + 1) more)))
         → (AllByRecursion (λ (x : ℕ). 1 ≤ x) (widths_from widths (n + 1) more) → sum (drawn_from (n + 1) infos) ≡ paddings_from (n + 1) more + sum (widths_from widths (n + 1) more))
         → sum (map (λ (p : ℕ × ColumnInfo). info_width p.1) (cond (not b) ((n, info_of column w) ∷ later infos) (later infos)))
-        ≡ sum_by (λ (p : ℕ × ColumnValue). column_padding p.1) (cond (not b) ((n, column) ∷ visible_from (n + 1) more) (visible_from (n + 1) more))
-        + sum (widths_at widths (cond (not b) ((n, column) ∷ visible_from (n + 1) more) (visible_from (n + 1) more)))
+        ≡ sum_by (λ (p : ℕ × ColumnValue). column_padding p.1) (cond (not b) ((n, column) ∷ columns_from (n + 1) more) (columns_from (n + 1) more))
+        + sum (widths_at widths (cond (not b) ((n, column) ∷ columns_from (n + 1) more) (columns_from (n + 1) more)))
     by_test true each rest = rest each
     by_test false each rest =
         omega (
@@ -69,7 +67,7 @@ sum-drawn_from widths n (column ∷ more) (w ∷ ws) same at each =
           at_first,
           each.0,
           sum_by-cons (λ (x : ℕ). x) (info_width (info_of column w)) (drawn_from (n + 1) infos),
-          sum_by-cons (λ (p : ℕ × ColumnValue). column_padding p.1) (n, column) (visible_from (n + 1) more),
+          sum_by-cons (λ (p : ℕ × ColumnValue). column_padding p.1) (n, column) (columns_from (n + 1) more),
           sum_by-cons (λ (x : ℕ). x) (get_or widths n 0) (widths_from widths (n + 1) more),
         )
 
@@ -115,13 +113,6 @@ some_content room columns plain full lower (Some level) shrunk widths arranged =
     each_content room columns plain (λ column width. 1 ≤ width) full lower level shrunk widths arranged
     (record { fit = λ column free fits. omega arith; shrunk = λ column b free wider at_least within three. omega arith; even = λ column b width free wider at_least within tight low high. omega (arith, one) })
 
--- widths beside columns
-every_width : {X : Type 0} (P : ℕ → Type 0) (columns : List X) (widths : List ℕ) → AllZip (λ (column : X) (width : ℕ). P width) columns widths → AllByRecursion P widths
-every_width P [] [] each = tt
-every_width P [] (w ∷ widths) each = absurd each
-every_width P (column ∷ more) [] each = absurd each
-every_width P (column ∷ more) (w ∷ widths) each = (each.0, every_width P more widths each.1)
-
 -- what is added leaves a width at least 1
 pub every_added : (xs ys : List ℕ) → AllByRecursion (λ (w : ℕ). 1 ≤ w) xs → AllByRecursion (λ (w : ℕ). 1 ≤ w) (added xs ys)
 every_added [] ys each = tt
@@ -132,7 +123,7 @@ every_added (x ∷ xs) (y ∷ ys) each = (omega (arith, each.0), every_added xs 
 pub some_width : (room : ℕ) (columns : List ColumnNeeds) → AllByRecursion IsUnconstrained columns → (full : Bool) (steps : Steps) (widths : List ℕ) → IsArrangedBy room columns full steps widths → AllByRecursion (λ (w : ℕ). 1 ≤ w) widths
 some_width room columns plain full steps widths arranged =
     let contents : AllByRecursion (λ (w : ℕ). 1 ≤ w) (contents_after room columns steps) =
-    every_width (λ (w : ℕ). 1 ≤ w) columns (contents_after room columns steps) (some_content room columns plain full steps.lower steps.level steps.shrunk widths arranged) in
+    every-second (λ (w : ℕ). 1 ≤ w) columns (contents_after room columns steps) (some_content room columns plain full steps.lower steps.level steps.shrunk widths arranged) in
     subst (AllByRecursion (λ (w : ℕ). 1 ≤ w)) (sym arranged.widths_are)
     (cond_both (full && (length (even_columns room columns steps) == 0)) _ _ (AllByRecursion (λ (w : ℕ). 1 ≤ w))
     (λ _. every_added (contents_after room columns steps) (even_spread (room_left room columns steps) (length columns)) contents) (λ _. contents))

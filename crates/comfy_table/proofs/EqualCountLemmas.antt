@@ -5,7 +5,7 @@ use Rattle.std.specs.List.{All, range_with_len, slice_get}
 use Rattle.std.specs.Prelude.{option_to_list}
 use Rattle.std.specs.Str.{IsUtf8}
 use Rattle.std.proofs.lemmas.List.{length-map}
-use Rattle.std.proofs.lemmas.List.Elements.{All-cons, All-nil, All-head, All-tail, All-append, All-weaker, All-map}
+use Rattle.std.proofs.lemmas.List.Elements.{All-cons, All-nil, All-head, All-append, All-weaker, All-map}
 use Rattle.comfy_parts.specs.CellValue.{CellValue, RowValue, ColumnValue, ColumnInfo, info_width}
 use Rattle.comfy_parts.specs.Text.{Text}
 use Rattle.comfy_parts.specs.declared.style.table_style.ContentLineStyle.{ContentLineStyle}
@@ -13,7 +13,7 @@ use Rattle.comfy_parts.specs.declared.style.table_style.LineStyle.{LineStyle}
 use Rattle.comfy_table.proofs.CutLemmas.{All-pieces, plain_piece, seen_in_row}
 use Rattle.comfy_table.proofs.CellCountLemmas.{IsCountedLine, row_cell_lines-counted, HasCount-plain_piece}
 use Rattle.comfy_table.proofs.CountLemmas.{HasCount, HasCount-spaces, HasCount-joined, HasCount-frame_line, count-is}
-use Rattle.comfy_table.proofs.ListLemmas.{All-every, At-or, All-join_by, All-given, AllZip-map}
+use Rattle.comfy_parts.proofs.CallerLemmas.{All-every, All-given, All-join_by, All-others, AllZip-map, At-or}
 use Rattle.comfy_table.proofs.InfoLemmas.{columns_from, infos_from, infos-known}
 use Rattle.comfy_table.specs.Drawing.{infos_of, whole_widths, drawn_row, drawn_header, drawn_rows, drawing_of_infos, drawing}
 use Rattle.comfy_table.specs.Frame.{border_count, content_line, frame_line, is_drawn, optional_frame_line}
@@ -75,13 +75,9 @@ All-drawing P table infos Known top below_header between bottom as_header as_con
     (All-append P (drawn_header table infos table.header) _ (header_lines table.header each)
     (All-append P (drawn_rows table infos table.rows) _
     (All-join_by P (drawn_row table infos table.style.content_lines) (optional_frame_line table.style table.style.row_separator (whole_widths infos)) table.rows between
-    (All-weaker Known (λ row. All P (drawn_row table infos table.style.content_lines row)) as_content table.rows (rows_of table.header each)))
+    (All-weaker Known (λ row. All P (drawn_row table infos table.style.content_lines row)) as_content table.rows (All-others Known table.header table.rows each)))
     bottom))
   where
-    rows_of : (header : Option RowValue) → All Known (option_to_list header ++ table.rows) → All Known table.rows
-    rows_of None each = each
-    rows_of (Some row) each = All-tail Known row table.rows each
-
     header_lines : (header : Option RowValue) → All Known (option_to_list header ++ table.rows) → All P (drawn_header table infos header)
     header_lines None each = All-nil P
     header_lines (Some row) each = All-append P (drawn_row table infos table.style.header_lines row) _ (as_header row (All-head Known row table.rows each)) below_header

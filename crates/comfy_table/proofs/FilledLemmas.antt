@@ -6,7 +6,7 @@ use Rattle.std.proofs.lemmas.List.FromFn.{get_or-map-range_with_len}
 use Rattle.comfy_table.specs.Deciding.{decided, filled, undecided_count}
 use Rattle.comfy_table.specs.Dynamic.{added}
 use Rattle.comfy_table.specs.Widths.{even_spread, part_of}
-use Rattle.comfy_table.proofs.ListLemmas.{All-at}
+use Rattle.comfy_parts.proofs.CallerLemmas.{All-at}
 use Rattle.comfy_table.proofs.SpreadLemmas.{length-even_spread}
 
 -- a spread from an index on is the part there and the rest

@@ -6,8 +6,8 @@ use Rattle.std.proofs.lemmas.Bool.{ne_eqb}
 use Rattle.comfy_table.specs.Deciding.{undecided_count, decided, filled}
 use Rattle.comfy_table.specs.Dynamic.{Placed, Share, places_of, without_shares, fixed_shares, share_at, undecided}
 use Rattle.comfy_table.specs.Widths.{ColumnNeeds}
-use Rattle.comfy_table.proofs.PlaceLemmas.{map-places}
 use Rattle.comfy_table.proofs.PlacedWidthLemmas.{width_at, width_at-append, width_at-here, width_at-other, widths_of, none-widths_of}
+use Rattle.comfy_parts.proofs.CallerLemmas.{map-places, zip-nil}
 
 -- ---- fixed widths
 
@@ -52,12 +52,6 @@ undecided-fixed room needs =
 
 -- ---- the widths at the end
 
--- beside nothing there is nothing
-zip_nil : {X Y : Type 0} (xs : List X) (ys : List Y) → ys ≡ [] → zip xs ys ≡ []
-zip_nil [] ys none = refl
-zip_nil (x ∷ xs) [] none = refl
-zip_nil (x ∷ xs) (y ∷ ys) none = absurd (cc none)
-
 -- the undecided columns take these widths in list order
 filled-places : (f : ℕ → Option ℕ) (n : ℕ) (needs : List ColumnNeeds) (parts : List ℕ)
     → filled (map (λ (p : Placed). f p.0) (enumerate_from n needs)) parts
@@ -83,7 +77,7 @@ filled-places f n (column ∷ more) parts = by_width (f n) parts (filled-places 
         ∷ map (λ (p : Placed). given (zip (places (cond (is_none o) ((n, column) ∷ late) late)) ws) p.0) (enumerate_from (n + 1) more)
     by_width (Some w) ws rest = λ k. w ∷ rest ws k
     by_width None [] rest =
-        let later = rest [] ∙ ap (λ (shares : List Share). map (λ (p : Placed). given shares p.0) (enumerate_from (n + 1) more)) (zip_nil (places late) [] refl) in λ k. 0 ∷ later k
+        let later = rest [] ∙ ap (λ (shares : List Share). map (λ (p : Placed). given shares p.0) (enumerate_from (n + 1) more)) (zip-nil (places late)) in λ k. 0 ∷ later k
     by_width None (w ∷ ws) rest =
         let shares = zip (places late) ws in
         let first = sym (ap (λ (o : Option ℕ). unwrap_or (option_or None o) 0) (width_at-here (n, w) shares n refl)) in

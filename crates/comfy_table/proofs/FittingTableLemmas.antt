@@ -2,13 +2,12 @@
 use Rattle.std.proofs.Common.{◌≡◌, inl, inr, ⊎_elim, ℕ, false, List, None, unwrap_or, refl, sym, ap, ◌∙◌, subst, slice_index_or}
 use Rattle.std.specs.List.{All}
 use Rattle.std.specs.Prelude.{IsUtf8}
-use Rattle.comfy_parts.proofs.CallerLemmas.{fitting-parts, fitting_characters_fit, frame_adds}
+use Rattle.comfy_parts.proofs.CallerLemmas.{All-at, fitting-parts, fitting_characters_fit, frame_adds}
 use Rattle.comfy_parts.specs.CellValue.{CellValue, ColumnInfo, ColumnValue, RowValue}
 use Rattle.comfy_parts.specs.Columns.{AddsOneColumn, IsOneColumn, style_characters}
 use Rattle.comfy_parts.specs.Text.{Text}
 use Rattle.comfy_table.proofs.BuiltTableLemmas.{IsBuilt, IsNewColumn, characters_known, columns_known, padded, rows_known}
 use Rattle.comfy_table.proofs.InfoLemmas.{infos-known}
-use Rattle.comfy_table.proofs.ListLemmas.{All-at}
 use Rattle.comfy_table.specs.Drawing.{infos_of}
 use Rattle.comfy_table.specs.FittingTables.{CharactersFitColumn, FitsByCharacters, FittingTablesAreStraight}
 use Rattle.comfy_table.specs.Headline.{IsTableDrawing}

@@ -4,7 +4,7 @@ use Rattle.std.specs.List.{join_by}
 use Rattle.std.specs.Prelude.{if◌then◌else◌}
 use Rattle.comfy_parts.specs.Text.{Text}
 use Rattle.comfy_parts.specs.declared.style.table_style.TableStyle.{TableStyle}
-use Rattle.comfy_table.proofs.JoinLemmas.{join_by-map}
+use Rattle.comfy_parts.proofs.CallerLemmas.{join_by-map}
 use Rattle.comfy_table.specs.Frame.{character, draws_left_border, draws_right_border, draws_vertical_lines, between_borders}
 
 -- after a text: the left border, the pieces with what stands between them, the right border

@@ -6,7 +6,7 @@ use Rattle.std.specs.Char.{IsScalar}
 use Rattle.std.specs.List.{All, enumerate_from, slice_get}
 use Rattle.std.specs.Str.{IsUtf8}
 use Rattle.comfy_parts.proofs.Computing.{wrapping}
-use Rattle.comfy_parts.proofs.CallerLemmas.{one_character, wrapped_is_wrapped}
+use Rattle.comfy_parts.proofs.CallerLemmas.{All-at, All-every, All-of_map, one_character, wrapped_is_wrapped}
 use Rattle.comfy_table.proofs.BreakLemmas.{without_breaks}
 use Rattle.comfy_table.proofs.ClosedLineLemmas.{lines_are_closed}
 use Rattle.comfy_table.proofs.SeenLemmas.{HasCells, IsRowOf, rows_of, seen_kept}
@@ -14,7 +14,6 @@ use Rattle.comfy_parts.specs.CellValue.{CellValue, ColumnInfo, ColumnValue, IsCe
 use Rattle.comfy_parts.specs.Text.{Text, measure}
 use Rattle.comfy_table.proofs.DrawnWidthLemmas.{fills_width, keeps_to_width}
 use Rattle.comfy_table.proofs.EqualCountLemmas.{equal_counts}
-use Rattle.comfy_table.proofs.ListLemmas.{All-at, All-every, All-of_map}
 use Rattle.comfy_table.proofs.StraightLemmas.{straight}
 use Rattle.comfy_table.proofs.CellFitLemmas.{IsWholeCell}
 use Rattle.comfy_table.specs.Straight.{EachCell}

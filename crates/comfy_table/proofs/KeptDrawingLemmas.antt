@@ -5,7 +5,7 @@ use Rattle.std.specs.List.{All, AllZip, flat_map, join_by, repeat, range_with_le
 use Rattle.std.specs.Prelude.{if◌then◌else◌, option_map, option_to_list}
 use Rattle.std.specs.Str.{IsUtf8}
 use Rattle.std.proofs.lemmas.Slice.Zip.{AllZip-long}
-use Rattle.std.proofs.lemmas.List.Elements.{All-head, All-tail, All-weaker}
+use Rattle.std.proofs.lemmas.List.Elements.{All-head, All-weaker}
 use Rattle.comfy_parts.specs.CellValue.{CellValue, RowValue, ColumnInfo, info_width}
 use Rattle.comfy_parts.specs.Columns.{style_characters}
 use Rattle.comfy_parts.specs.Text.{HasNo, Text, greatest}
@@ -14,9 +14,9 @@ use Rattle.comfy_parts.specs.declared.style.table_style.LineStyle.{LineStyle}
 use Rattle.comfy_parts.specs.declared.style.table_style.TableStyle.{TableStyle}
 use Rattle.comfy_table.proofs.AbsentByteLemmas.{HasNo-character}
 use Rattle.comfy_table.proofs.CutLemmas.{pieces-unstyled, plain_piece, row-seen}
-use Rattle.comfy_table.proofs.JoinLemmas.{map-map}
-use Rattle.comfy_table.proofs.ListLemmas.{All-every, All-none, All-at, AllZip-map, AllZip-map_map, AllZip-append, AllZip-join_by, At-or-both, All-of_map}
-use Rattle.comfy_table.proofs.SeenLemmas.{IsRowOf, cell_seen, get_seen, header_seen, join_by-map, row_seen, rows_seen, seen_rows-is}
+use Rattle.std.proofs.lemmas.Simd.{map-map}
+use Rattle.comfy_parts.proofs.CallerLemmas.{All-at, All-every, All-none, All-of_map, All-others, AllZip-append, AllZip-join_by, AllZip-map, AllZip-map_map, At-or-both, join_by-map}
+use Rattle.comfy_table.proofs.SeenLemmas.{IsRowOf, cell_seen, get_seen, header_seen, row_seen, rows_seen, seen_rows-is}
 use Rattle.comfy_table.proofs.StyledLemmas.{KeptByDrawing, KeptByJoining, keeps_nothing, keeps_piece, keeps_spaces}
 use Rattle.comfy_table.proofs.WrittenLemmas.{keeps_lines}
 use Rattle.comfy_table.specs.Drawing.{whole_widths, drawn_row, drawn_header, drawn_rows, drawing_of_infos}
@@ -194,15 +194,11 @@ module _ (b : ℕ) (R : Text → Text → Type 0) (kept : KeptByDrawing b R) whe
         (AllZip-append R (drawn_header (unstyled table) infos (unstyled table).header) _ (drawn_header table infos table.header) _
         (subst (λ (header : Option RowValue). AllZip R (drawn_header (unstyled table) infos header) (drawn_header table infos table.header)) (sym (header_seen table.custom_styling table.header)) (header_kept table.header each))
         (AllZip-append R (drawn_rows (unstyled table) infos (unstyled table).rows) _ (drawn_rows table infos table.rows) _
-        (subst (λ (rows : List RowValue). AllZip R (drawn_rows (unstyled table) infos rows) (drawn_rows table infos table.rows)) (sym (rows_seen table.custom_styling table.rows)) (rows_kept (rows_of table.header each)))
+        (subst (λ (rows : List RowValue). AllZip R (drawn_rows (unstyled table) infos rows) (drawn_rows table infos table.rows)) (sym (rows_seen table.custom_styling table.rows)) (rows_kept (All-others IsClearSeen table.header table.rows each)))
         (frame_kept b R kept.joins table.style table.style.bottom_border (whole_widths infos) style.bottom_border)))
       where
         IsClearSeen : RowValue → Type 0
         IsClearSeen row = IsClearRow b (seen row)
-
-        rows_of : (header : Option RowValue) → All IsClearSeen (option_to_list header ++ table.rows) → All IsClearSeen table.rows
-        rows_of None each = each
-        rows_of (Some row) each = All-tail IsClearSeen row table.rows each
 
         header_kept : (header : Option RowValue) → All IsClearSeen (option_to_list header ++ table.rows) → AllZip R (drawn_header (unstyled table) infos (option_map seen header)) (drawn_header table infos header)
         header_kept None each = tt
@@ -214,7 +210,7 @@ module _ (b : ℕ) (R : Text → Text → Type 0) (kept : KeptByDrawing b R) whe
         rows_kept : All IsClearSeen table.rows → AllZip R (drawn_rows (unstyled table) infos (map seen table.rows)) (drawn_rows table infos table.rows)
         rows_kept each =
             subst (λ (lines : List Text). AllZip R lines (drawn_rows table infos table.rows))
-            (sym (join_by-map (drawn_row (unstyled table) infos table.style.content_lines) (optional_frame_line table.style table.style.row_separator (whole_widths infos)) seen table.rows))
+            (sym (join_by-map (drawn_row (unstyled table) infos table.style.content_lines) seen (optional_frame_line table.style table.style.row_separator (whole_widths infos)) table.rows))
             (AllZip-join_by R (λ (row : RowValue). drawn_row (unstyled table) infos table.style.content_lines (seen row)) (drawn_row table infos table.style.content_lines)
             (optional_frame_line table.style table.style.row_separator (whole_widths infos)) (optional_frame_line table.style table.style.row_separator (whole_widths infos)) table.rows
             (frame_kept b R kept.joins table.style table.style.row_separator (whole_widths infos) style.row_separator)

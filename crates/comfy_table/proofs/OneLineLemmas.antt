@@ -14,12 +14,6 @@ use Rattle.comfy_table.proofs.SeenLemmas.{cell_seen}
 use Rattle.comfy_table.specs.DrawnLines.{drawn_line}
 use Rattle.comfy_table.specs.Lines.{as_seen, cell_lines, whole_lines}
 
--- the only element of a list
-pub only_one : {A B : Type 0} (f : A → B) (xs : List A) (x : A) → length xs ≡ 1 → x ≡ slice_index_or xs 0 x → map f xs ≡ f x ∷ []
-only_one f [] x one is = absurd (omega (arith, one))
-only_one {A} {B} f (y ∷ []) x one is = ap (λ (z : A). f z ∷ []) (sym is)
-only_one f (y ∷ z ∷ xs) x one is = absurd (omega (arith, one))
-
 -- the only width of what is seen of a single text line
 pub only_width : (custom : Bool) (texts : List Text) (text : Text) (widths : List ℕ) → texts ≡ text ∷ [] → widths ≡ map measure (if custom then map visible_text texts else texts)
     → map measure (if custom then map visible_text texts else texts) ≡ slice_index_or widths 0 0 ∷ []

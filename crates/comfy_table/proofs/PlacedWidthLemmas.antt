@@ -8,7 +8,7 @@ use Rattle.comfy_table.specs.Deciding.{is_undecided, undecided_among, undecided_
 use Rattle.comfy_table.specs.Dynamic.{Placed, Share, places_of, without_shares}
 use Rattle.comfy_table.specs.Widths.{ColumnNeeds}
 use Rattle.comfy_table.proofs.ShareLemmas.{count_at, has_share, IsOneEach, IsAmong, count_at-append, count_at-without_none, count_at-without_some}
-use Rattle.comfy_table.proofs.PlaceLemmas.{map-places, filter-places, index-places, set-places, length-filter_places}
+use Rattle.comfy_parts.proofs.CallerLemmas.{filter-places, index-places, length-filter_places, map-places, set-places}
 
 -- ---- the width at a place
 

@@ -5,7 +5,7 @@ use Rattle.std.proofs.lemmas.List.{take_all}
 use Rattle.std.specs.List.{join_by}
 use Rattle.std.specs.Prelude.{if◌then◌else◌}
 use Rattle.comfy_parts.specs.Text.{Text}
-use Rattle.comfy_table.proofs.JoinLemmas.{join_by-map, join_by_more}
+use Rattle.comfy_parts.proofs.CallerLemmas.{join_by-map, join_by_more}
 use Rattle.comfy_table.specs.Gaps.{RowGapsValue, gap_before, gap_line}
 
 module _ {X : Type 0} (gaps : RowGapsValue) (f : X → Text) where

@@ -1,11 +1,10 @@
 -- A table as it is seen: its rows, and what holds of them.
-use Rattle.std.proofs.Common.{◌≡◌, ◌<◌, ℕ, zero, suc, Bool, true, false, List, [], ◌∷◌, ◌++◌, Option, Some, None, map, option_map, refl, ap, arith, subst, sym}
-use Rattle.std.specs.List.{All, slice_get, join_by}
+use Rattle.std.proofs.Common.{◌≡◌, ◌<◌, ℕ, zero, suc, Bool, true, false, List, [], ◌∷◌, Option, Some, None, map, option_map, refl, ap, arith, subst, sym}
+use Rattle.std.specs.List.{All, slice_get}
 use Rattle.std.specs.Prelude.{if◌then◌else◌}
 use Rattle.std.specs.Str.{IsUtf8}
 use Rattle.std.proofs.lemmas.List.{length-map}
 use Rattle.std.proofs.lemmas.List.Elements.{All-map, All-weaker}
-use Rattle.std.proofs.lemmas.List.Folds.{flat_map-map}
 use Rattle.comfy_parts.proofs.CallerLemmas.{HasNo-visible, visible_text-whole}
 use Rattle.comfy_parts.specs.CellValue.{CellValue, HasTextLines, IsCell, RowValue}
 use Rattle.comfy_parts.specs.Text.{Text}
@@ -44,11 +43,6 @@ get_seen false (cell ∷ cells) (suc i) = get_seen false cells i
 -- so are all of them
 pub seen_rows-is : (table : TableValue) → seen_rows table ≡ map (row_seen table.custom_styling) (header_and_rows table)
 seen_rows-is table = grind (arith, rows_seen)
-
--- parts of what a function gives, joined
-pub join_by-map : {X Y Z : Type 0} (f : Y → List Z) (separator : List Z) (g : X → Y) (xs : List X) → join_by f separator (map g xs) ≡ join_by (λ x. f (g x)) separator xs
-join_by-map f separator g [] = refl
-join_by-map {X} {Y} {Z} f separator g (x ∷ xs) = ap (λ (more : List Z). f (g x) ++ more) (flat_map-map (λ y. separator ++ f y) g xs)
 
 -- what follows for each row as it is seen
 pub All-seen : (table : TableValue) (P : RowValue → Type 0) → ((row : RowValue) → P row → P (visible_row row)) → All P (header_and_rows table) → All P (seen_rows table)

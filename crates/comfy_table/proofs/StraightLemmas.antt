@@ -10,7 +10,6 @@ use Rattle.comfy_parts.specs.Text.{Text, measure}
 use Rattle.comfy_parts.specs.declared.style.table_style.ContentLineStyle.{ContentLineStyle}
 use Rattle.comfy_parts.specs.declared.style.table_style.LineStyle.{LineStyle}
 use Rattle.comfy_table.proofs.EqualCountLemmas.{All-drawing, All-row, length-infos_from}
-use Rattle.comfy_table.proofs.ListLemmas.{At-or, AllZip-map}
 use Rattle.comfy_table.specs.Drawing.{infos_of, whole_widths, drawn_row, drawing_of_infos, drawing}
 use Rattle.comfy_table.specs.Frame.{border_count, content_line, draws_vertical_lines, frame_line, is_drawn, optional_frame_line}
 use Rattle.comfy_table.specs.Laws.{line_total, unstyled}
@@ -25,7 +24,7 @@ use Rattle.comfy_table.proofs.WholeTableLemmas.{whole_table_fits}
 use Rattle.comfy_table.proofs.InfoLemmas.{infos-known}
 use Rattle.comfy_table.proofs.MeasureLemmas.{IsAny, IsFollowing, any_follows, apart_follows, HasMeasure, HasMeasure-any, HasMeasure-spaces, IsPiece, measure-is}
 use Rattle.comfy_table.proofs.PieceMeasureLemmas.{HasMeasure-frame_line, HasMeasure-joined, IsGoodPiece, good-any, good-front, good-junction, piece-any, piece-apart, spaced-blank, spaced-front}
-use Rattle.comfy_parts.proofs.CallerLemmas.{IsFittingLine}
+use Rattle.comfy_parts.proofs.CallerLemmas.{AllZip-map, At-or, IsFittingLine}
 use Rattle.comfy_parts.specs.Columns.{IsApart, IsOneColumn, style_characters}
 
 -- a piece of the cell that a row has in a column, or the blank one

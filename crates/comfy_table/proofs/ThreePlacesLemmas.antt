@@ -4,7 +4,7 @@ use Rattle.std.specs.Prelude.{if◌then◌else◌}
 use Rattle.std.specs.Int.{is_in_range}
 use Rattle.std.specs.List.{All, AllByRecursion, AllZip}
 use Rattle.std.proofs.lemmas.List.Elements.{recursion_from_All}
-use Rattle.comfy_parts.proofs.CallerLemmas.{IsUtf8-printable, measure-printable, scalar-printable, slices-printable, wrapped_is_wrapped}
+use Rattle.comfy_parts.proofs.CallerLemmas.{IsUtf8-printable, every-both, every-flat_map, every-weaker, measure-printable, scalar-printable, slices-printable, wrapped_is_wrapped}
 use Rattle.comfy_parts.specs.CellValue.{CellValue, ColumnValue, column_padding}
 use Rattle.comfy_parts.specs.Text.{Text, measure, greatest, is_printable_ascii}
 use Rattle.comfy_parts.specs.Wrapping.{IsSlicesWhere, IsWrapped, wrapped, lines_of_text}
@@ -21,7 +21,6 @@ use Rattle.comfy_table.specs.TableValue.{TableValue, table_width, visible_column
 use Rattle.comfy_table.specs.Widths.{ColumnNeeds, needs_of, visible_needs, visible_count, disabled_width, capped_content, fixed_by_constraint, upper_boundary}
 use Rattle.comfy_table.proofs.ContentLemmas.{steps_with, each_content, each_content_short}
 use Rattle.comfy_table.proofs.DrawnWidthLemmas.{unconstrained_visible}
-use Rattle.comfy_table.proofs.EveryLemmas.{every-both, every-flat_map, every-weaker}
 
 -- ---- lines are no longer than their text
 

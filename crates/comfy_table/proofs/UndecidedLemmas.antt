@@ -1,9 +1,9 @@
 -- The undecided columns: how they are counted, and that a width that is taken takes its column from them.
-use Rattle.std.proofs.Common.{◌≡◌, ℕ, zero, suc, ◌+◌, Bool, true, false, cond, not, ◌==◌, List, [], ◌∷◌, ◌++◌, length, Option, Some, filter, is_none, slice_index_or, refl, sym, ap, ◌∙◌, arith, length-append}
+use Rattle.std.proofs.Common.{◌≡◌, ℕ, zero, suc, ◌+◌, Bool, true, false, cond, not, ◌==◌, List, [], ◌∷◌, ◌++◌, length, Option, Some, filter, is_none, refl, sym, ap, ◌∙◌, arith, length-append}
 use Rattle.std.specs.Prelude.{◌&&◌, slice_set}
 use Rattle.std.specs.List.{enumerate_from}
 use Rattle.std.proofs.lemmas.Bool.Decides.{nat_tests}
-use Rattle.std.proofs.lemmas.List.{append_assoc, length-set}
+use Rattle.std.proofs.lemmas.List.{append_assoc, get_or_at, length-set}
 use Rattle.comfy_table.specs.Deciding.{is_undecided, undecided_among, undecided_count, with_shares}
 use Rattle.comfy_table.specs.Dynamic.{Placed, Share, places_of, without_shares}
 use Rattle.comfy_table.specs.Widths.{ColumnNeeds}
@@ -55,11 +55,6 @@ length-with_shares (t ∷ more) widths = length-with_shares more (slice_set widt
 
 -- ---- their number
 
--- an element after others
-index-append : (front widths : List (Option ℕ)) (w default : Option ℕ) → slice_index_or (front ++ w ∷ widths) (length front) default ≡ w
-index-append [] widths w default = refl
-index-append (x ∷ front) widths w default = index-append front widths w default
-
 -- as many columns are undecided as widths are missing, after others
 length-undecided_from : (front widths : List (Option ℕ)) (n : ℕ) (needs : List ColumnNeeds) → length widths ≡ length needs → n ≡ length front
     → length (filter (λ (p : Placed). is_undecided (front ++ widths) p.0) (enumerate_from n needs)) ≡ undecided_count widths
@@ -69,7 +64,7 @@ length-undecided_from front (w ∷ widths) n [] same from = absurd (omega arith)
 length-undecided_from front (w ∷ widths) n (column ∷ more) same from =
     let grouped : (front ++ w ∷ []) ++ widths ≡ front ++ w ∷ widths = append_assoc front (w ∷ []) widths in
     let here : is_undecided (front ++ w ∷ widths) n ≡ is_none w =
-    ap (is_undecided (front ++ w ∷ widths)) from ∙ ap is_none (index-append front widths w (Some 0)) in
+    ap (is_undecided (front ++ w ∷ widths)) from ∙ ap is_none (get_or_at front w widths (Some 0) (length front) refl) in
     ap (λ (b : Bool). length (cond b ((n, column) ∷ later (front ++ w ∷ widths)) (later (front ++ w ∷ widths)))) here
     ∙ by_test (is_none w) (ap (λ (ws : List (Option ℕ)). length (later ws)) (sym grouped) ∙ length-undecided_from (front ++ w ∷ []) widths (n + 1) more (omega arith) (omega (arith, length-append front (w ∷ []))))
   where

@@ -7,7 +7,7 @@ use Rattle.std.proofs.lemmas.List.Elements.{All-cons, All-nil, All-weaker}
 use Rattle.comfy_parts.specs.CellValue.{CellValue, RowValue, ColumnInfo, ColumnValue, column_padding}
 use Rattle.comfy_parts.specs.Text.{greatest, measure}
 use Rattle.comfy_parts.specs.declared.style.column.ColumnConstraint.{ColumnConstraint}
-use Rattle.comfy_table.proofs.ListLemmas.{All-at, All-given}
+use Rattle.comfy_parts.proofs.CallerLemmas.{All-at, All-given, All-same_map}
 use Rattle.comfy_table.specs.Arrangement.{IsArranged, is_full_width, room_beside_borders, widths_at}
 use Rattle.comfy_table.specs.Drawing.{infos_of}
 use Rattle.comfy_table.specs.Dynamic.{IsDynamic}
@@ -22,14 +22,6 @@ all-le-greatest : {X : Type 0} (f : X → ℕ) (xs : List X) → All (λ x. f x 
 all-le-greatest f [] = All-nil (λ x. f x ≤ greatest [])
 all-le-greatest f (x ∷ xs) =
     All-cons (λ y. f y ≤ greatest (map f (x ∷ xs))) x xs (omega arith) (All-weaker (λ y. f y ≤ greatest (map f xs)) (λ y. f y ≤ greatest (map f (x ∷ xs))) (λ y below. omega (arith, below)) xs (all-le-greatest f xs))
-
--- where two functions give the same lists they give the same of each
-same-each : {X : Type 0} (f g : X → ℕ) (xs : List X) → map f xs ≡ map g xs → All (λ x. f x ≡ g x) xs
-same-each f g [] same = All-nil (λ x. f x ≡ g x)
-same-each f g (x ∷ xs) same =
-    let first : f x ≡ g x = cc same in
-    let rest : map f xs ≡ map g xs = cc same in
-    All-cons (λ x. f x ≡ g x) x xs first (same-each f g xs rest)
 
 -- without a constraint the width by content is the content
 unconstrained_width : (table : TableValue) (i : ℕ) (column : ColumnValue) → column.constraint ≡ None → disabled_width table (i, column) ≡ max 1 (column_content_width table i)
@@ -49,7 +41,7 @@ whole_table_fits table widths is arranged = each
     Known p = (p.1.constraint ≡ None) × (slice_index widths p.0 ≡ disabled_width table p)
 
     known : All Known (visible_columns table)
-    known k default below = (is.no_constraints k default below, same-each (λ (p : ℕ × ColumnValue). slice_index widths p.0) (disabled_width table) (visible_columns table) shown k default below)
+    known k default below = (is.no_constraints k default below, All-same_map (λ (p : ℕ × ColumnValue). slice_index widths p.0) (disabled_width table) (visible_columns table) shown k default below)
 
     wide : All (λ (q : ℕ × ColumnInfo). column_content_width table q.0 ≤ q.1.content_width) (visible_infos (infos_of table widths))
     wide = infos-at table widths Known (λ (q : ℕ × ColumnInfo). column_content_width table q.0 ≤ q.1.content_width) known

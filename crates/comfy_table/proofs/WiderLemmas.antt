@@ -9,7 +9,7 @@ use Rattle.comfy_parts.specs.declared.style.column.ColumnConstraint.TheVariants.
 use Rattle.comfy_parts.specs.declared.style.table.ContentArrangement.TheVariants.{Dynamic, DynamicFullWidth}
 use Rattle.comfy_table.proofs.BudgetLemmas.{keeps_to_wider_bound, fills_wider_bound}
 use Rattle.comfy_table.proofs.DrawnWidthLemmas.{sum-whole_widths, paddings_of_needs, dynamic_widths, every_added}
-use Rattle.comfy_table.proofs.EveryLemmas.{every-append, every-always, every-weaker, every-places}
+use Rattle.comfy_parts.proofs.CallerLemmas.{every-always, every-append, every-map, every-places, every-weaker}
 use Rattle.comfy_table.proofs.ShareLemmas.{count_at, share_at-where}
 use Rattle.comfy_table.proofs.SpreadLemmas.{IsPartOf, every-even_spread, shares_beside, every-shares_beside}
 use Rattle.comfy_table.proofs.StepLemmas.{count_at-all_shares}
@@ -92,11 +92,6 @@ every_even (p ∷ more) x =
     let one : 1 ≤ max x n / n = le-div 1 (max x n) n (omega arith) (omega arith) in
     every-shares_beside (λ (q : Placed). ⊤) (λ (w : ℕ). 1 ≤ w) HasPlace (p ∷ more) (even_spread (max x n) n) (λ q w any some. some) (every-always (λ (q : Placed). ⊤) (p ∷ more) (λ q. tt))
     (every-weaker (IsPartOf (max x n) n) (λ (w : ℕ). 1 ≤ w) (even_spread (max x n) n) (λ w part. omega (arith, part.0, one)) (every-even_spread (max x n) n))
-
--- a list of what holds of each of its elements' images
-every-map : {X Y : Type 0} (P : Y → Type 0) (f : X → Y) (xs : List X) → AllByRecursion (λ (x : X). P (f x)) xs → AllByRecursion P (map f xs)
-every-map P f [] each = tt
-every-map P f (x ∷ xs) each = (each.0, every-map P f xs each.1)
 
 -- the shares of fixed widths
 every_early_share : (n : ℕ) (columns : List ColumnNeeds) → AllByRecursion HasEarlyPlace columns → AllByRecursion HasPlace (fixed_shares (enumerate_from n columns))

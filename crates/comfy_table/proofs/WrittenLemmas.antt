@@ -1,5 +1,5 @@
 -- The lines of a cell in a row with what is written for them: which sequences are open, and what stays true of both as they are drawn.
-use Rattle.std.proofs.Common.{◌≡◌, ℕ, zero, suc, ◌-◌, Bool, true, false, List, [], ◌∷◌, Option, Some, None, length, map, take, drop, nat_le, refl, sym, subst, arith, slice_index_or}
+use Rattle.std.proofs.Common.{◌≡◌, ℕ, ◌-◌, Bool, true, false, List, [], ◌∷◌, Option, Some, None, length, map, take, drop, nat_le, refl, sym, subst, arith, slice_index_or}
 use Rattle.std.specs.List.{All, AllByRecursion, AllZip}
 use Rattle.std.specs.Prelude.{if◌then◌else◌}
 use Rattle.std.specs.Str.{IsUtf8}
@@ -7,7 +7,7 @@ use Rattle.std.proofs.lemmas.Bool.{cond_both}
 use Rattle.std.proofs.lemmas.Bool.Decides.{nat_tests}
 use Rattle.std.proofs.lemmas.List.{drop_all, drop_at, length-take, take-append-le, take-take}
 use Rattle.std.proofs.lemmas.List.Elements.{All-from_recursion, All-map, All-weaker}
-use Rattle.comfy_parts.proofs.CallerLemmas.{lines_closed, lines_of_text-utf8, lines_resumed, lines_seen, none_open}
+use Rattle.comfy_parts.proofs.CallerLemmas.{All-flat_map, All-of_map, AllZip-take, lines_closed, lines_of_text-utf8, lines_resumed, lines_seen, none_open}
 use Rattle.comfy_parts.specs.CellValue.{CellValue, RowValue, ColumnInfo}
 use Rattle.comfy_parts.specs.Laws.{IsResumedLine}
 use Rattle.comfy_parts.specs.Text.{HasNo, Text}
@@ -16,7 +16,6 @@ use Rattle.comfy_parts.specs.VisibleText.{closed, open_after, parts, visible_tex
 use Rattle.comfy_parts.specs.Wrapping.{lines_of_text}
 use Rattle.comfy_table.proofs.CutLemmas.{All-cut, whole-seen}
 use Rattle.comfy_table.proofs.AbsentByteLemmas.{cut_text-clear, lines_of_text-clear}
-use Rattle.comfy_table.proofs.ListLemmas.{All-flat_map, All-of_map}
 use Rattle.comfy_table.proofs.SeenLemmas.{cell_seen}
 use Rattle.comfy_table.proofs.StyledLemmas.{KeptByDrawing}
 use Rattle.comfy_table.specs.Laws.{CutLinesAreClosed, LinesAreResumedInRow, NoneIsOpenAtTheEnd}
@@ -31,17 +30,6 @@ uncut-are cut (Some h) lines = grind (arith, nat_tests, take-append-le, take-tak
 -- after them there is at most the line that is cut
 cut-is : (cut : CellLine → CellLine) (h : ℕ) (lines : List CellLine) → drop (uncut_count (Some h) lines) (cut_to_limit cut (Some h) lines) ≡ (if nat_le (length lines) h then [] else map cut (take 1 (drop (h - 1) lines)))
 cut-is cut h lines = grind (arith, nat_tests, drop_all, drop_at, length-take)
-
--- the first pairs of two lists
-AllZip-take : {A B : Type 0} (R : A → B → Type 0) (n : ℕ) (xs : List A) (ys : List B) → AllZip R xs ys → AllZip R (take n xs) (take n ys)
-AllZip-take R zero [] [] each = tt
-AllZip-take R zero [] (y ∷ ys) each = absurd each
-AllZip-take R zero (x ∷ xs) [] each = absurd each
-AllZip-take R zero (x ∷ xs) (y ∷ ys) each = tt
-AllZip-take R (suc n) [] [] each = tt
-AllZip-take R (suc n) [] (y ∷ ys) each = absurd each
-AllZip-take R (suc n) (x ∷ xs) [] each = absurd each
-AllZip-take R (suc n) (x ∷ xs) (y ∷ ys) each = (each.0, AllZip-take R n xs ys each.1)
 
 -- a line that is written as it is seen, closed
 abbrev IsClosedLine : CellLine → Type 0

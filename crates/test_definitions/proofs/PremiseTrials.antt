@@ -1,13 +1,12 @@
 -- Bytes that no text has: the laws of equal counts and of styling need their premises that texts are UTF-8.
 use Rattle.std.proofs.Common.{◌≡◌, ℕ, true, false, List, [], ◌∷◌, Option, Some, None, refl, sym, ap, ◌∙◌, arith, append-nil, map, subst}
 use Rattle.std.specs.List.{All}
-use Rattle.comfy_table.proofs.ListLemmas.{All-every}
 use Rattle.unicode_width.specs.Width.{str_width}
 use Rattle.std.specs.Str.{chars}
 use Rattle.std.proofs.lemmas.List.Elements.{All-cons, All-nil, All-head}
 use Rattle.std.proofs.lemmas.Str.{chars-append}
 use Rattle.comfy_parts.proofs.Computing.{wrapping}
-use Rattle.comfy_parts.proofs.CallerLemmas.{IsUtf8-printable}
+use Rattle.comfy_parts.proofs.CallerLemmas.{All-every, IsUtf8-printable}
 use Rattle.comfy_parts.proofs.CallerLemmas.{measure-printable}
 use Rattle.comfy_parts.specs.CellValue.{CellValue, RowValue, ColumnValue, new_column}
 use Rattle.comfy_parts.specs.Text.{Text, AddsOneColumnEach, is_printable_ascii}

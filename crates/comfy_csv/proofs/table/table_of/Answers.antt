@@ -1,7 +1,8 @@
 use Rattle.std.proofs.Common.{◌≡◌, ◌∷◌, [], rules}
 use Rattle.csv.specs.Records.{fields_of}
-use Rattle.comfy_csv.proofs.TableLemmas.{no_items, of_none, under_header, without_header}
+use Rattle.comfy_csv.proofs.TableLemmas.{of_none, under_header, without_header}
 use Rattle.comfy_csv.proofs.table.table_of.Goals as goal
+use Rattle.std.proofs.lemmas.List.{nil_from_length}
 
 pub returns-then-not-options-clause-ok : goal.returns-then-not-options-clause-ok
 returns-then-not-options-clause-ok c =
@@ -23,5 +24,5 @@ returns-in-Some-clause-refused c =
 
 pub returns-in-None-clause-ok : goal.returns-in-None-clause-ok
 returns-in-None-clause-ok c =
-    let none : c.args.records.now ≡ [] = no_items c.args.records.now (rw c.in-None.is at c.split_first.ensures.cases) in
+    let none : c.args.records.now ≡ [] = nil_from_length c.args.records.now (rw c.in-None.is at c.split_first.ensures.cases) in
     rw (of_none fields_of c.args.options.now c.args.records.now c.if-not-options.false none) c.untitled_table-in-None.ensures.ok

@@ -2,7 +2,7 @@ use Rattle.std.proofs.Common.{◌++◌, [], ◌∙◌, map, ap, sym, append-nil}
 use Rattle.comfy_parts.specs.Text.{elements}
 use Rattle.comfy_parts.proofs.ElementLemmas.{elements-none}
 use Rattle.comfy_parts.proofs.FollowingLemmas.{elements-around, utf8-around}
-use Rattle.comfy_parts.proofs.StartLemmas.{pushed}
+use Rattle.comfy_parts.proofs.ListLemmas.{pushed}
 use Rattle.comfy_parts.proofs.content_split.split_line_by_delimiter.Goals as goal
 
 pub loop-part-preserved : goal.loop-part-preserved

@@ -3,7 +3,7 @@ use Rattle.std.proofs.lemmas.List.Sums.{sum_by_push}
 use Rattle.std.proofs.lemmas.List.{take_min}
 use Rattle.comfy_parts.proofs.ClusterLemmas.{boundary, head-cut, head-all, sum_by-shown, shown}
 use Rattle.comfy_parts.specs.Text.{is_printable_ascii, measure}
-use Rattle.comfy_parts.proofs.StartLemmas.{pushed}
+use Rattle.comfy_parts.proofs.ListLemmas.{pushed}
 use Rattle.unicode_segmentation.specs.Iter.{grapheme_indices_left}
 use Rattle.comfy_parts.proofs.PrintableLemmas.{head-looked_at, place-looked_at}
 use Rattle.comfy_parts.proofs.content_split.prefix.split_long_word.Goals as goal

@@ -1,7 +1,7 @@
 use Rattle.std.proofs.Common.{◌≡◌, List, [], ◌∷◌, ◌++◌, ap, ap₂, sym, ◌∙◌, arith}
 use Rattle.comfy_parts.specs.CellValue.{ColumnInfo, info_of, visible_among}
 use Rattle.comfy_table.proofs.DisabledLemmas.{info_by_content, infos-by_content, visible_count-among}
-use Rattle.comfy_table.proofs.LoopLemmas.{enumerated_all, enumerated_more}
+use Rattle.comfy_parts.proofs.CallerLemmas.{enumerated_all, enumerated_more}
 use Rattle.comfy_table.specs.TableValue.{TableValue}
 use Rattle.comfy_table.proofs.utils.arrangement.infos_by_content.Goals as goal
 

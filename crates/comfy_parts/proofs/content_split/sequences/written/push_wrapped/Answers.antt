@@ -6,7 +6,7 @@ use Rattle.comfy_parts.specs.Wrapping.{wrapped}
 use Rattle.comfy_parts.specs.Cursor.{IsBehindGap, seen_ahead}
 use Rattle.comfy_parts.specs.Written.{wrapped_positions, written_at}
 use Rattle.comfy_parts.proofs.CursorLemmas.{end-stands}
-use Rattle.comfy_parts.proofs.StartLemmas.{pushed}
+use Rattle.comfy_parts.proofs.ListLemmas.{pushed}
 use Rattle.comfy_parts.proofs.WrittenLemmas.{next_line, written-none}
 use Rattle.comfy_parts.proofs.content_split.sequences.written.push_wrapped.Goals as goal
 

@@ -4,7 +4,8 @@ use Rattle.std.specs.Prelude.{encode_utf8, if◌then◌else◌}
 use Rattle.comfy_parts.specs.CellValue.{ColumnInfo, info_width}
 use Rattle.comfy_parts.specs.Text.{Text}
 use Rattle.comfy_table.proofs.FrameLemmas.{between_borders-behind}
-use Rattle.comfy_table.proofs.JoinLemmas.{joined_all, joined_more, map-map}
+use Rattle.comfy_parts.proofs.CallerLemmas.{joined_all, joined_more}
+use Rattle.std.proofs.lemmas.Simd.{map-map}
 use Rattle.comfy_table.proofs.SpaceLemmas.{last-pushed}
 use Rattle.comfy_table.specs.TableValue.{TableValue}
 use Rattle.comfy_parts.specs.Borders.{draws_left_border, draws_right_border, draws_vertical_lines}

@@ -3,7 +3,8 @@ use Rattle.std.specs.List.{list_any}
 use Rattle.std.proofs.lemmas.Bool.{and_parts}
 use Rattle.comfy_parts.specs.Text.{Text}
 use Rattle.comfy_parts.specs.VisibleText.{has_escape}
-use Rattle.comfy_table.proofs.OneLineLemmas.{only_one, only_width, seen_line, whole_line}
+use Rattle.comfy_parts.proofs.CallerLemmas.{only_one}
+use Rattle.comfy_table.proofs.OneLineLemmas.{only_width, seen_line, whole_line}
 use Rattle.comfy_table.specs.Lines.{cell_delimiter}
 use Rattle.comfy_table.proofs.utils.formatting.cell_lines.only_line.Goals.{else-has_own_texts-via-then-has_own_texts+else-not-is_written_whole, else-has_own_texts-via-else-has_own_texts}
 use Rattle.comfy_table.proofs.utils.formatting.cell_lines.only_line.Goals as goal

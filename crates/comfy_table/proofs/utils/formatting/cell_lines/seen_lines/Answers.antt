@@ -1,7 +1,7 @@
 use Rattle.std.proofs.Common.{arith}
 use Rattle.std.proofs.lemmas.List.{get_or-map, take_all}
 use Rattle.std.proofs.lemmas.List.Folds.{flat_map-map}
-use Rattle.comfy_table.proofs.JoinLemmas.{map-map}
+use Rattle.std.proofs.lemmas.Simd.{map-map}
 use Rattle.comfy_table.proofs.utils.formatting.cell_lines.seen_lines.Goals as goal
 
 pub push_lines-requires : goal.push_lines-requires

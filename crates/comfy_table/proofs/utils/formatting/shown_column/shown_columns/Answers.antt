@@ -1,7 +1,7 @@
 use Rattle.std.proofs.Common.{ℕ, not, arith, append-nil}
 use Rattle.std.proofs.lemmas.List.{map-id}
 use Rattle.comfy_parts.specs.CellValue.{ColumnInfo}
-use Rattle.comfy_table.proofs.LoopLemmas.{filtered_all, filtered_more}
+use Rattle.comfy_parts.proofs.CallerLemmas.{filtered_all, filtered_more}
 use Rattle.comfy_table.specs.Pieces.{visible_infos}
 use Rattle.comfy_table.proofs.utils.formatting.shown_column.shown_columns.Goals as goal
 

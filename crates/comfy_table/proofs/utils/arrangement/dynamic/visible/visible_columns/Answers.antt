@@ -5,7 +5,7 @@ use Rattle.comfy_table.specs.Deciding.{all_needs}
 use Rattle.comfy_table.specs.TableValue.{TableValue}
 use Rattle.comfy_table.specs.Widths.{needs_of}
 use Rattle.comfy_table.proofs.DisabledLemmas.{visible_count-among}
-use Rattle.comfy_table.proofs.LoopLemmas.{filtered_all, filtered_more}
+use Rattle.comfy_parts.proofs.CallerLemmas.{filtered_all, filtered_more}
 use Rattle.comfy_table.proofs.utils.arrangement.dynamic.visible.visible_columns.Goals as goal
 
 pub new-requires : goal.new-requires

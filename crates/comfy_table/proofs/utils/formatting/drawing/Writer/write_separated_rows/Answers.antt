@@ -3,7 +3,7 @@ use Rattle.std.proofs.Common.{List, [], ◌++◌, true, map, take, refl, ap, str
 use Rattle.std.specs.List.{join_by}
 use Rattle.std.specs.Prelude.{if◌then◌else◌, option_to_list}
 use Rattle.comfy_parts.specs.Text.{Text}
-use Rattle.comfy_table.proofs.JoinLemmas.{joined_more}
+use Rattle.comfy_parts.proofs.CallerLemmas.{joined_more}
 use Rattle.comfy_table.proofs.OutputLemmas.{written-append}
 use Rattle.comfy_table.specs.Gaps.{row_between}
 use Rattle.comfy_table.specs.Output.{WriterValue, with_written}

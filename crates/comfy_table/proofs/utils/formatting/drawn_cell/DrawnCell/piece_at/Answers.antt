@@ -1,5 +1,5 @@
 use Rattle.std.proofs.Common.{arith}
-use Rattle.comfy_table.proofs.DrawnCellLemmas.{index-map}
+use Rattle.comfy_parts.proofs.CallerLemmas.{index-map}
 use Rattle.comfy_table.proofs.utils.formatting.drawn_cell.DrawnCell.piece_at.Goals as goal
 
 pub returns-in-Some-get : goal.returns-in-Some-get

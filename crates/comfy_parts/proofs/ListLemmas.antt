@@ -1,0 +1,405 @@
+-- Lists: what holds of their elements, and how they are mapped, looked up and joined.
+use Rattle.std.proofs.Common.{◌≡◌, ◌<◌, ◌≤◌, ℕ, zero, suc, ◌+◌, ◌==◌, ◌&&◌, Bool, true, false, cond, List, [], ◌∷◌, ◌++◌, Option, Some, None, length, map, filter, flat_map, take, drop, zip, nat_lt, refl, sym, ap, ap₂, subst, ◌∙◌, arith, append-nil, append_assoc, option_to_list, slice_index_or, unwrap_or, add-one}
+use Rattle.std.specs.List.{All, AllByRecursion, AllZip, cons_option, enumerate_from, filter_map, join_by, list_any, repeat, slice_get}
+use Rattle.std.specs.Prelude.{if◌then◌else◌, option_map, slice_set}
+use Rattle.std.proofs.lemmas.Bool.{eq-eqb, ne_eqb, or_parts}
+use Rattle.std.proofs.lemmas.Grind.{flat_map-append}
+use Rattle.std.proofs.Math.Seq.{drop-cons}
+use Rattle.std.proofs.lemmas.List.{length-drop, length-take, length-take-le, map-append, map-id, take_all, take_min, take_more}
+use Rattle.std.proofs.lemmas.List.Elements.{All-append, All-cons, All-head, All-nil, All-tail, All-weaker, filter-append}
+use Rattle.std.proofs.lemmas.List.Folds.{flat_map-map}
+use Rattle.std.proofs.lemmas.List.FromFn.{get_or-enumerate_from, length-enumerate_from}
+
+-- what holds of the elements of each part holds of those of all parts
+pub All-flat_map : {X Y : Type 0} (P : Y → Type 0) (f : X → List Y) (xs : List X) → All (λ x. All P (f x)) xs → All P (flat_map f xs)
+All-flat_map P f [] each = All-nil P
+All-flat_map P f (x ∷ xs) each =
+    All-append P (f x) (flat_map f xs) (All-head (λ x. All P (f x)) x xs each) (All-flat_map P f xs (All-tail (λ x. All P (f x)) x xs each))
+
+-- what holds of every value holds of each element
+pub All-every : {X : Type 0} (P : X → Type 0) (xs : List X) → ((x : X) → P x) → All P xs
+All-every P xs every k default below = every (slice_index_or xs k default)
+
+-- where no element passes, each fails
+pub All-none : {X : Type 0} (p : X → Bool) (xs : List X) → list_any p xs ≡ false → All (λ x. p x ≡ false) xs
+All-none p [] none = All-nil (λ x. p x ≡ false)
+All-none p (x ∷ xs) none =
+    let both = or_parts (p x) (list_any p xs) none in
+    All-cons (λ x. p x ≡ false) x xs both.0 (All-none p xs both.1)
+
+-- an element, or a default that has the property too
+pub At-or : {X : Type 0} (P : X → Type 0) (xs : List X) (k : ℕ) (default : X) → All P xs → P default → P (slice_index_or xs k default)
+At-or P [] k default each other = other
+At-or P (x ∷ xs) zero default each other = All-head P x xs each
+At-or P (x ∷ xs) (suc k) default each other = At-or P xs k default (All-tail P x xs each) other
+
+-- what holds of the elements of each part and of the separator holds of those of all parts joined
+pub All-join_by : {X Y : Type 0} (P : Y → Type 0) (f : X → List Y) (separator : List Y) (xs : List X) → All P separator → All (λ x. All P (f x)) xs → All P (join_by f separator xs)
+All-join_by P f separator [] between each = All-nil P
+All-join_by P f separator (x ∷ xs) between each =
+    All-append P (f x) (flat_map (λ y. separator ++ f y) xs) (All-head (λ x. All P (f x)) x xs each)
+    (All-flat_map P (λ y. separator ++ f y) xs
+    (All-weaker (λ x. All P (f x)) (λ x. All P (separator ++ f x)) (λ y own. All-append P separator (f y) between own) xs (All-tail (λ x. All P (f x)) x xs each)))
+
+-- what holds of each value that h gives holds of the one that it gives of an element
+pub All-given : {X Y : Type 0} (P : Y → Type 0) (h : X → Option Y) (xs : List X) → All P (filter_map h xs) → All (λ x. (y : Y) → h x ≡ Some y → P y) xs
+All-given P h [] each = All-nil (λ x. (y : _) → h x ≡ Some y → P y)
+All-given {X} {Y} P h (x ∷ xs) each = by_option (h x) refl each (All-given P h xs)
+  where
+    by_option : (o : Option Y) → h x ≡ o → All P (cons_option o (filter_map h xs)) → (All P (filter_map h xs) → All (λ x. (y : Y) → h x ≡ Some y → P y) xs)
+        → All (λ x. (y : Y) → h x ≡ Some y → P y) (x ∷ xs)
+    by_option None none each rest =
+        All-cons (λ x. (y : Y) → h x ≡ Some y → P y) x xs (λ y given. absurd (cc (none, given))) (rest each)
+    by_option (Some z) given each rest =
+        All-cons (λ x. (y : Y) → h x ≡ Some y → P y) x xs
+        (λ y same. let e : z ≡ y = cc (given, same) in subst P e (All-head P z (filter_map h xs) each))
+        (rest (All-tail P z (filter_map h xs) each))
+
+-- what holds of each value that h gives of an element holds of all of them
+pub All-found : {X Y : Type 0} (P : Y → Type 0) (h : X → Option Y) (xs : List X) → All (λ x. (y : Y) → h x ≡ Some y → P y) xs → All P (filter_map h xs)
+All-found P h [] each = All-nil P
+All-found {X} {Y} P h (x ∷ xs) each =
+    by_option (h x) (All-head (λ (z : X). (y : Y) → h z ≡ Some y → P y) x xs each) (All-found P h xs (All-tail (λ (z : X). (y : Y) → h z ≡ Some y → P y) x xs each))
+  where
+    by_option : (found : Option Y) → ((y : Y) → found ≡ Some y → P y) → All P (filter_map h xs) → All P (cons_option found (filter_map h xs))
+    by_option None own rest = rest
+    by_option (Some y) own rest = All-cons P y (filter_map h xs) (own y refl) rest
+
+-- what holds of each element holds of the one at a place
+pub All-at : {X : Type 0} (P : X → Type 0) (xs : List X) (i : ℕ) (x : X) → All P xs → slice_get xs i ≡ Some x → P x
+All-at P [] i x each found = absurd (cc found)
+All-at P (y ∷ xs) zero x each found = grind (arith, All-head)
+All-at P (y ∷ xs) (suc i) x each found = All-at P xs i x (All-tail P y xs each) found
+
+-- what holds of an element that may be there and of others holds of the others
+pub All-others : {X : Type 0} (P : X → Type 0) (first : Option X) (xs : List X) → All P (option_to_list first ++ xs) → All P xs
+All-others P None xs each = each
+All-others P (Some x) xs each = All-tail P x xs each
+
+-- what holds of what a function gives of each element
+pub All-of_map : {X Y : Type 0} (P : Y → Type 0) (f : X → Y) (xs : List X) → All P (map f xs) → All (λ x. P (f x)) xs
+All-of_map P f [] each = All-nil (λ x. P (f x))
+All-of_map P f (x ∷ xs) each = All-cons (λ y. P (f y)) x xs (All-head P (f x) (map f xs) each) (All-of_map P f xs (All-tail P (f x) (map f xs) each))
+
+-- where two functions give the same lists they give the same of each
+pub All-same_map : {X Y : Type 0} (f g : X → Y) (xs : List X) → map f xs ≡ map g xs → All (λ x. f x ≡ g x) xs
+All-same_map f g [] same = All-nil (λ x. f x ≡ g x)
+All-same_map f g (x ∷ xs) same =
+    let first : f x ≡ g x = cc same in
+    let rest : map f xs ≡ map g xs = cc same in
+    All-cons (λ x. f x ≡ g x) x xs first (All-same_map f g xs rest)
+
+-- what is made of the element at a position, or a default
+pub index-map : {A B : Type 0} (f : A → B) (xs : List A) (k : ℕ) (default : B) → slice_index_or (map f xs) k default ≡ unwrap_or (option_map f (slice_get xs k)) default
+index-map f [] k default = refl
+index-map f (x ∷ xs) zero default = refl
+index-map f (x ∷ xs) (suc k) default = index-map f xs k default
+
+-- the only element of a list
+pub only_one : {A B : Type 0} (f : A → B) (xs : List A) (x : A) → length xs ≡ 1 → x ≡ slice_index_or xs 0 x → map f xs ≡ f x ∷ []
+only_one f [] x one is = absurd (omega (arith, one))
+only_one {A} {B} f (y ∷ []) x one is = ap (λ (z : A). f z ∷ []) (sym is)
+only_one f (y ∷ z ∷ xs) x one is = absurd (omega (arith, one))
+
+-- ---- the same by recursion on the list
+
+-- it holds of every element that a test keeps
+pub every-filter : {X : Type 0} (P : X → Type 0) (test : X → Bool) (xs : List X) → AllByRecursion P xs → AllByRecursion P (filter test xs)
+every-filter P test [] each = tt
+every-filter {X} P test (x ∷ xs) each = grind (arith, every-filter P test xs each.1)
+
+-- of every element that a test keeps, the test holds too
+pub every_kept : {X : Type 0} (P : X → Type 0) (test : X → Bool) (xs : List X) → AllByRecursion P xs → AllByRecursion (λ (x : X). P x × (test x ≡ true)) (filter test xs)
+every_kept P test [] each = tt
+every_kept {X} P test (x ∷ xs) each = grind (arith, every_kept P test xs each.1)
+
+-- it holds of every element of both lists
+pub every-append : {X : Type 0} (P : X → Type 0) (xs ys : List X) → AllByRecursion P xs → AllByRecursion P ys → AllByRecursion P (xs ++ ys)
+every-append P [] ys each others = others
+every-append P (x ∷ xs) ys each others = (each.0, every-append P xs ys each.1 others)
+
+-- and of every element of the first, and of the second
+pub every-parts : {X : Type 0} (P : X → Type 0) (xs ys : List X) → AllByRecursion P (xs ++ ys) → AllByRecursion P xs × AllByRecursion P ys
+every-parts P [] ys each = (tt, each)
+every-parts P (x ∷ xs) ys each = let rest = every-parts P xs ys each.1 in ((each.0, rest.0), rest.1)
+
+-- what follows from it holds too
+pub every-weaker : {X : Type 0} (P Q : X → Type 0) (xs : List X) → ((x : X) → P x → Q x) → AllByRecursion P xs → AllByRecursion Q xs
+every-weaker P Q [] weaker each = tt
+every-weaker P Q (x ∷ xs) weaker each = (weaker x each.0, every-weaker P Q xs weaker each.1)
+
+-- what holds of anything holds of every element
+pub every-always : {X : Type 0} (P : X → Type 0) (xs : List X) → ((x : X) → P x) → AllByRecursion P xs
+every-always P [] always = tt
+every-always P (x ∷ xs) always = (always x, every-always P xs always)
+
+-- two facts hold of every element
+pub every-both : {X : Type 0} (P Q : X → Type 0) (xs : List X) → AllByRecursion P xs → AllByRecursion Q xs → AllByRecursion (λ (x : X). P x × Q x) xs
+every-both P Q [] each others = tt
+every-both P Q (x ∷ xs) each others = ((each.0, others.0), every-both P Q xs each.1 others.1)
+
+-- what holds of the elements of each part holds of those of all parts
+pub every-flat_map : {X Y : Type 0} (P : X → Type 0) (Q : Y → Type 0) (f : X → List Y) (xs : List X) → ((x : X) → P x → AllByRecursion Q (f x)) → AllByRecursion P xs → AllByRecursion Q (flat_map f xs)
+every-flat_map P Q f [] gives each = tt
+every-flat_map P Q f (x ∷ xs) gives each = every-append Q (f x) (flat_map f xs) (gives x each.0) (every-flat_map P Q f xs gives each.1)
+
+-- what holds of every element holds of every element at its place
+pub every-places : {X : Type 0} (P : X → Type 0) (n : ℕ) (xs : List X) → AllByRecursion P xs → AllByRecursion (λ (p : ℕ × X). P p.1) (enumerate_from n xs)
+every-places P n [] each = tt
+every-places P n (x ∷ xs) each = (each.0, every-places P (n + 1) xs each.1)
+
+-- every element shows that there is one
+pub every_shows_one : {X : Type 0} (xs : List X) → AllByRecursion (λ (x : X). 0 < length xs) xs
+every_shows_one {X} [] = tt
+every_shows_one {X} (x ∷ xs) = every-always (λ (y : X). 0 < length (x ∷ xs)) (x ∷ xs) (λ y. omega arith)
+
+-- all are kept where each passes
+pub filter_all : {X : Type 0} (test : X → Bool) (xs : List X) → AllByRecursion (λ (x : X). test x ≡ true) xs → filter test xs ≡ xs
+filter_all test [] each = refl
+filter_all {X} test (x ∷ xs) each = ap (λ (b : Bool). cond b (x ∷ filter test xs) (filter test xs)) each.0 ∙ ap (λ (ys : List X). x ∷ ys) (filter_all test xs each.1)
+
+-- what holds of each element's image holds of all of them
+pub every-map : {X Y : Type 0} (P : Y → Type 0) (f : X → Y) (xs : List X) → AllByRecursion (λ (x : X). P (f x)) xs → AllByRecursion P (map f xs)
+every-map P f [] each = tt
+every-map P f (x ∷ xs) each = (each.0, every-map P f xs each.1)
+
+-- what holds of the elements of all parts holds of those of each part
+pub every-each_part : {X Y : Type 0} (Q : Y → Type 0) (f : X → List Y) (xs : List X) → AllByRecursion Q (flat_map f xs) → AllByRecursion (λ (x : X). AllByRecursion Q (f x)) xs
+every-each_part Q f [] each = tt
+every-each_part Q f (x ∷ xs) each = let parts = every-parts Q (f x) (flat_map f xs) each in (parts.0, every-each_part Q f xs parts.1)
+
+-- ---- fronts and ends
+
+-- of two fronts of one list the shorter is a front of the other
+pub front_of_front : {A : Type 0} (xs ys zs ws : List A) → xs ++ ys ≡ zs ++ ws → length xs ≤ length zs → (more : List A) × (zs ≡ xs ++ more) × (ys ≡ more ++ ws)
+front_of_front [] ys zs ws same shorter = (zs, refl, same)
+front_of_front (x ∷ xs) ys [] ws same shorter = absurd (omega (arith, shorter))
+front_of_front (x ∷ xs) ys (z ∷ zs) ws same shorter =
+    let first : x ≡ z = cc same in
+    let rest : xs ++ ys ≡ zs ++ ws = cc same in
+    let more = front_of_front xs ys zs ws rest (omega (arith, shorter)) in
+    (more.0, ap₂ (λ c cs. c ∷ cs) (sym first) more.1, more.2)
+
+-- a front is as long as it is
+pub take-front : {A : Type 0} (n : ℕ) (xs : List A) → take (length (take n xs)) xs ≡ take n xs
+take-front n xs = ap (λ k. take k xs) (length-take n xs) ∙ take_min n xs
+
+-- one element more is dropped
+pub drop_next : {A : Type 0} (n : ℕ) (xs : List A) (b : A) (rest : List A) → drop n xs ≡ b ∷ rest → drop (n + 1) xs ≡ rest
+drop_next n xs b rest is =
+    let next : n + 1 ≡ suc n = omega arith in
+    let both : slice_index_or xs n b ∷ drop (suc n) xs ≡ b ∷ rest = sym (drop-cons xs n b (omega (arith, length-drop n xs, ap length is))) ∙ is in
+    let behind : drop (suc n) xs ≡ rest = cc both in
+    ap (λ k. drop k xs) next ∙ behind
+
+-- what one more push shows, where the rest is to follow
+pub pushed : {A B : Type 0} (f : A → B) (done : List A) (x : A) (more : List A) (later all : List B) → more ≡ done ++ x ∷ [] → map f done ++ (f x ∷ later) ≡ all → map f more ++ later ≡ all
+pushed f done x more later all pushes shows =
+    ap (λ xs. map f xs ++ later) pushes ∙ ap (λ ys. ys ++ later) (map-append f done (x ∷ [])) ∙ append_assoc (map f done) (f x ∷ []) later ∙ shows
+
+-- ---- two lists, element by element
+
+-- what two functions give of each element
+pub AllZip-map : {X A B : Type 0} (R : A → B → Type 0) (f : X → A) (g : X → B) (xs : List X) → All (λ x. R (f x) (g x)) xs → AllZip R (map f xs) (map g xs)
+AllZip-map R f g [] each = tt
+AllZip-map R f g (x ∷ xs) each =
+    (All-head (λ x. R (f x) (g x)) x xs each, AllZip-map R f g xs (All-tail (λ x. R (f x) (g x)) x xs each))
+
+-- what a function gives of what two functions give
+pub AllZip-map_map : {X Y A : Type 0} (R : A → A → Type 0) (f : Y → A) (g h : X → Y) (xs : List X) → ((x : X) → R (f (g x)) (f (h x))) → AllZip R (map f (map g xs)) (map f (map h xs))
+AllZip-map_map R f g h [] each = tt
+AllZip-map_map R f g h (x ∷ xs) each = (each x, AllZip-map_map R f g h xs each)
+
+-- two pairs of lists, joined
+pub AllZip-append : {A B : Type 0} (R : A → B → Type 0) (xs xs' : List A) (ys ys' : List B) → AllZip R xs ys → AllZip R xs' ys' → AllZip R (xs ++ xs') (ys ++ ys')
+AllZip-append R [] xs' [] ys' front back = back
+AllZip-append R [] xs' (y ∷ ys) ys' front back = absurd front
+AllZip-append R (x ∷ xs) xs' [] ys' front back = absurd front
+AllZip-append R (x ∷ xs) xs' (y ∷ ys) ys' front back = (front.0, AllZip-append R xs xs' ys ys' front.1 back)
+
+-- the parts that two functions give, joined
+pub AllZip-flat_map : {X A B : Type 0} (R : A → B → Type 0) (f : X → List A) (g : X → List B) (xs : List X) → All (λ x. AllZip R (f x) (g x)) xs → AllZip R (flat_map f xs) (flat_map g xs)
+AllZip-flat_map R f g [] each = tt
+AllZip-flat_map R f g (x ∷ xs) each =
+    AllZip-append R (f x) (flat_map f xs) (g x) (flat_map g xs) (All-head (λ x. AllZip R (f x) (g x)) x xs each) (AllZip-flat_map R f g xs (All-tail (λ x. AllZip R (f x) (g x)) x xs each))
+
+-- parts joined by separators
+pub AllZip-join_by : {X A B : Type 0} (R : A → B → Type 0) (f : X → List A) (g : X → List B) (separator : List A) (other : List B) (xs : List X) → AllZip R separator other
+    → All (λ x. AllZip R (f x) (g x)) xs → AllZip R (join_by f separator xs) (join_by g other xs)
+AllZip-join_by R f g separator other [] between each = tt
+AllZip-join_by R f g separator other (x ∷ xs) between each =
+    AllZip-append R (f x) (flat_map (λ y. separator ++ f y) xs) (g x) (flat_map (λ y. other ++ g y) xs) (All-head (λ x. AllZip R (f x) (g x)) x xs each)
+    (AllZip-flat_map R (λ y. separator ++ f y) (λ y. other ++ g y) xs
+    (All-weaker (λ x. AllZip R (f x) (g x)) (λ x. AllZip R (separator ++ f x) (other ++ g x)) (λ x own. AllZip-append R separator (f x) other (g x) between own) xs
+    (All-tail (λ x. AllZip R (f x) (g x)) x xs each)))
+
+-- elements at one place, or defaults
+pub At-or-both : {A B : Type 0} (R : A → B → Type 0) (xs : List A) (ys : List B) (k : ℕ) (x : A) (y : B) → AllZip R xs ys → R x y → R (slice_index_or xs k x) (slice_index_or ys k y)
+At-or-both R [] [] k x y each default = default
+At-or-both R [] (b ∷ ys) k x y each default = absurd each
+At-or-both R (a ∷ xs) [] k x y each default = absurd each
+At-or-both R (a ∷ xs) (b ∷ ys) zero x y each default = each.0
+At-or-both R (a ∷ xs) (b ∷ ys) (suc k) x y each default = At-or-both R xs ys k x y each.1 default
+
+-- what a function gives of each pair of elements
+pub AllZip-map_zip : {A B X Y : Type 0} (R : A → B → Type 0) (Q : X → Y → Type 0) (f : A → X) (g : A × B → Y) → ((x : A) (y : B) → R x y → Q (f x) (g (x, y))) → (xs : List A) (ys : List B)
+    → AllZip R xs ys → AllZip Q (map f xs) (map g (zip xs ys))
+AllZip-map_zip R Q f g gives [] [] each = tt
+AllZip-map_zip R Q f g gives [] (y ∷ ys) each = absurd each
+AllZip-map_zip R Q f g gives (x ∷ xs) [] each = absurd each
+AllZip-map_zip R Q f g gives (x ∷ xs) (y ∷ ys) each = (gives x y each.0, AllZip-map_zip R Q f g gives xs ys each.1)
+
+-- what holds of the second of each pair
+pub every-second : {A B : Type 0} (Q : B → Type 0) (xs : List A) (ys : List B) → AllZip (λ x y. Q y) xs ys → AllByRecursion Q ys
+every-second Q [] [] each = tt
+every-second Q [] (y ∷ ys) each = absurd each
+every-second Q (x ∷ xs) [] each = absurd each
+every-second Q (x ∷ xs) (y ∷ ys) each = (each.0, every-second Q xs ys each.1)
+
+-- the first pairs of two lists
+pub AllZip-take : {A B : Type 0} (R : A → B → Type 0) (n : ℕ) (xs : List A) (ys : List B) → AllZip R xs ys → AllZip R (take n xs) (take n ys)
+AllZip-take R zero xs ys each = tt
+AllZip-take R (suc n) [] [] each = tt
+AllZip-take R (suc n) [] (y ∷ ys) each = absurd each
+AllZip-take R (suc n) (x ∷ xs) [] each = absurd each
+AllZip-take R (suc n) (x ∷ xs) (y ∷ ys) each = (each.0, AllZip-take R n xs ys each.1)
+
+-- beside none there are no pairs
+pub zip-nil : {X Y : Type 0} (xs : List X) → ◌≡◌ {A = List (X × Y)} (zip xs []) []
+zip-nil [] = refl
+zip-nil (x ∷ xs) = refl
+
+-- what a function gives of two lists, where it gives the same of each pair
+pub same_map : {A B : Type 0} (f : A → B) (xs ys : List A) → AllZip (λ x y. f y ≡ f x) xs ys → map f ys ≡ map f xs
+same_map f [] [] each = refl
+same_map f [] (y ∷ ys) each = absurd each
+same_map f (x ∷ xs) [] each = absurd each
+same_map f (x ∷ xs) (y ∷ ys) each = let head = each.0 in let tail = same_map f xs ys each.1 in cc
+
+-- ---- joined or repeated, one part more
+
+-- one time more
+pub repeat_more : {A : Type 0} (n : ℕ) (xs : List A) → repeat (n + 1) xs ≡ repeat n xs ++ xs
+repeat_more n xs = ap (λ k. repeat k xs) (add-one n) ∙ behind n
+  where
+    behind : (n : ℕ) → repeat (suc n) xs ≡ repeat n xs ++ xs
+    behind zero = append-nil xs
+    behind (suc n) = ap (λ ys. xs ++ ys) (behind n) ∙ sym (append_assoc xs (repeat n xs) xs)
+
+-- one part more, after the separator where it isn't the first
+pub join_by_push : {X A : Type 0} (f : X → List A) (separator : List A) (xs : List X) (x : X)
+    → join_by f separator (xs ++ x ∷ []) ≡ (join_by f separator xs ++ (if nat_lt 0 (length xs) then separator else [])) ++ f x
+join_by_push f separator [] x = append-nil (f x)
+join_by_push {X} {A} f separator (y ∷ ys) x = grind (arith, flat_map-append, append-nil, append_assoc)
+
+-- the front of a list, joined, with one element more
+pub join_by_more : {X A : Type 0} (f : X → List A) (separator : List A) (xs : List X) (i : ℕ) (x : X) → i < length xs → x ≡ slice_index_or xs i x
+    → join_by f separator (take (i + 1) xs) ≡ (join_by f separator (take i xs) ++ (if nat_lt 0 i then separator else [])) ++ f x
+join_by_more f separator xs i x below is =
+    let long : length (take i xs) ≡ i = length-take-le i xs (omega arith) in
+    ap (join_by f separator) (take_more xs i x below ∙ ap (λ y. take i xs ++ y ∷ []) (sym is))
+    ∙ join_by_push f separator (take i xs) x
+    ∙ ap (λ n. (join_by f separator (take i xs) ++ (if nat_lt 0 n then separator else [])) ++ f x) long
+
+-- what stands between, where it is drawn at all
+pub between : {A : Type 0} (drawn later : Bool) (xs : List A) → (if drawn && later then xs else []) ≡ (if later then (if drawn then xs else []) else [])
+between true true xs = refl
+between true false xs = refl
+between false true xs = refl
+between false false xs = refl
+
+-- ---- a text that is made part by part
+
+-- one part more after a text that has joined parts at its end
+pub joined_more : {X A : Type 0} (f : X → List A) (drawn : Bool) (separator : List A) (xs : List X) (i : ℕ) (x : X) (start text : List A) → i < length xs → x ≡ slice_index_or xs i x
+    → text ≡ start ++ join_by f (if drawn then separator else []) (take i xs)
+    → (text ++ (if drawn && nat_lt 0 i then separator else [])) ++ f x ≡ start ++ join_by f (if drawn then separator else []) (take (i + 1) xs)
+joined_more {X} {A} f drawn separator xs i x start text below is made =
+    let joined = join_by f (if drawn then separator else []) (take i xs) in
+    let later = if nat_lt 0 i then (if drawn then separator else []) else [] in
+    ap (λ (ys : List A). (ys ++ (if drawn && nat_lt 0 i then separator else [])) ++ f x) made
+    ∙ ap (λ (ys : List A). ((start ++ joined) ++ ys) ++ f x) (between drawn (nat_lt 0 i) separator)
+    ∙ ap (λ (ys : List A). ys ++ f x) (append_assoc start joined later)
+    ∙ append_assoc start (joined ++ later) (f x)
+    ∙ ap (λ (ys : List A). start ++ ys) (sym (join_by_more f (if drawn then separator else []) xs i x below is))
+
+-- and all of them
+pub joined_all : {X A : Type 0} (f : X → List A) (separator : List A) (xs : List X) (i : ℕ) (start text : List A) → length xs ≤ i
+    → text ≡ start ++ join_by f separator (take i xs) → text ≡ start ++ join_by f separator xs
+joined_all f separator xs i start text past made = made ∙ ap (λ ys. start ++ join_by f separator ys) (take_all i xs past)
+
+-- parts that were made of others
+pub join_by-map : {X Y A : Type 0} (f : Y → List A) (g : X → Y) (separator : List A) (xs : List X) → join_by f separator (map g xs) ≡ join_by (λ x. f (g x)) separator xs
+join_by-map f g separator [] = refl
+join_by-map f g separator (x ∷ xs) = ap (λ ys. f (g x) ++ ys) (flat_map-map (λ y. separator ++ f y) g xs)
+
+-- ---- with their positions
+
+-- one element more of those with their positions
+pub enumerated_more : {A B : Type 0} (f : ℕ × A → B) (xs : List A) (i : ℕ) (x : A) → i < length xs → x ≡ slice_index_or xs i x
+    → map f (take (i + 1) (enumerate_from 0 xs)) ≡ map f (take i (enumerate_from 0 xs)) ++ f (i, x) ∷ []
+enumerated_more f xs i x below is =
+    let within : i < length (enumerate_from 0 xs) = omega (arith, length-enumerate_from 0 xs) in
+    let moved : (0 + i, slice_index_or xs i x) ≡ (i, x) = let e : 0 + i ≡ i = omega arith in (λ k. (e k, sym is k)) in
+    ap (map f) (take_more (enumerate_from 0 xs) i (i, x) within)
+    ∙ map-append f (take i (enumerate_from 0 xs)) (slice_index_or (enumerate_from 0 xs) i (i, x) ∷ [])
+    ∙ ap (λ p. map f (take i (enumerate_from 0 xs)) ++ f p ∷ []) (get_or-enumerate_from 0 xs i (i, x) below ∙ moved)
+
+-- and all of them
+pub enumerated_all : {A B : Type 0} (f : ℕ × A → B) (xs : List A) (i : ℕ) → length xs ≤ i → map f (take i (enumerate_from 0 xs)) ≡ map f (enumerate_from 0 xs)
+enumerated_all f xs i past = grind (arith, length-enumerate_from, take_all)
+
+-- one element more, where those that pass a test are kept
+pub filtered_more : {A B : Type 0} (f : ℕ × A → B) (test : ℕ × A → Bool) (xs : List A) (i : ℕ) (x : A) → i < length xs → x ≡ slice_index_or xs i x
+    → map f (filter test (take (i + 1) (enumerate_from 0 xs))) ≡ map f (filter test (take i (enumerate_from 0 xs))) ++ cond (test (i, x)) (f (i, x) ∷ []) []
+filtered_more {A} {B} f test xs i x below is =
+    let kept_here : map f (cond (test (i, x)) ((i, x) ∷ []) []) ≡ cond (test (i, x)) (f (i, x) ∷ []) [] = grind arith in
+    ap (map f) (ap (filter test) more ∙ filter-append test (take i (enumerate_from 0 xs)) ((i, x) ∷ []))
+    ∙ map-append f (filter test (take i (enumerate_from 0 xs))) (filter test ((i, x) ∷ []))
+    ∙ ap (λ (kept : List B). map f (filter test (take i (enumerate_from 0 xs))) ++ kept) kept_here
+  where
+    more : take (i + 1) (enumerate_from 0 xs) ≡ take i (enumerate_from 0 xs) ++ (i, x) ∷ []
+    more = sym (map-id (take (i + 1) (enumerate_from 0 xs))) ∙ enumerated_more (λ (p : ℕ × A). p) xs i x below is ∙ ap (λ (ps : List (ℕ × A)). ps ++ (i, x) ∷ []) (map-id (take i (enumerate_from 0 xs)))
+
+-- and all of them
+pub filtered_all : {A B : Type 0} (f : ℕ × A → B) (test : ℕ × A → Bool) (xs : List A) (i : ℕ) → length xs ≤ i
+    → map f (filter test (take i (enumerate_from 0 xs))) ≡ map f (filter test (enumerate_from 0 xs))
+filtered_all f test xs i past = grind (arith, length-enumerate_from, take_all)
+
+-- functions that agree from a position on give the elements from there the same
+pub map-places : {A X : Type 0} (f g : ℕ → X) (n : ℕ) (xs : List A) → ((i : ℕ) → n ≤ i → f i ≡ g i) → map (λ (p : ℕ × A). f p.0) (enumerate_from n xs) ≡ map (λ (p : ℕ × A). g p.0) (enumerate_from n xs)
+map-places f g n [] same = refl
+map-places f g n (x ∷ xs) same =
+    let first = same n (omega arith) in let rest = map-places f g (n + 1) xs (λ i from. same i (omega arith)) in λ k. first k ∷ rest k
+
+-- tests that agree on the positions keep the same elements
+pub filter-places : {A : Type 0} (f g : ℕ → Bool) (n : ℕ) (xs : List A) → ((i : ℕ) → n ≤ i → i < n + length xs → f i ≡ g i)
+    → filter (λ (p : ℕ × A). f p.0) (enumerate_from n xs) ≡ filter (λ (p : ℕ × A). g p.0) (enumerate_from n xs)
+filter-places f g n [] same = refl
+filter-places f g n (x ∷ xs) same =
+    let first = same n (omega arith) (omega arith) in
+    let rest = filter-places f g (n + 1) xs (λ i from below. same i (omega arith) (omega arith)) in λ k. cond (first k) ((n, x) ∷ rest k) (rest k)
+
+-- the element at an index
+pub index-places : {A X : Type 0} (f : ℕ → X) (n : ℕ) (xs : List A) (i : ℕ) (default : X) → i < length xs → slice_index_or (map (λ (p : ℕ × A). f p.0) (enumerate_from n xs)) i default ≡ f (n + i)
+index-places f n [] i default below = absurd (omega arith)
+index-places f n (x ∷ xs) zero default below = ap f (omega arith)
+index-places f n (x ∷ xs) (suc i) default below =
+    let same : n + 1 + i ≡ n + suc i = omega arith in index-places f (n + 1) xs i default (omega arith) ∙ ap f same
+
+-- another element at an index
+pub set-places : {A X : Type 0} (f : ℕ → X) (i : ℕ) (v : X) (n : ℕ) (xs : List A) → slice_set (map (λ (p : ℕ × A). f p.0) (enumerate_from n xs)) i v ≡ map (λ (p : ℕ × A). cond (n + i == p.0) v (f p.0)) (enumerate_from n xs)
+set-places f i v n [] = refl
+set-places f zero v n (x ∷ xs) =
+    let first = sym (ap (λ (b : Bool). cond b v (f n)) (eq-eqb (n + 0) n (omega arith))) in
+    let rest = map-places f (λ j. cond (n + 0 == j) v (f j)) (n + 1) xs (λ j from. sym (ap (λ (b : Bool). cond b v (f j)) (ne_eqb (n + 0) j (λ same. omega arith)))) in λ k. first k ∷ rest k
+set-places f (suc i) v n (x ∷ xs) =
+    let first = sym (ap (λ (b : Bool). cond b v (f n)) (ne_eqb (n + suc i) n (λ same. omega arith))) in
+    let moved : n + 1 + i ≡ n + suc i = omega arith in
+    let rest = set-places f i v (n + 1) xs ∙ map-places (λ j. cond (n + 1 + i == j) v (f j)) (λ j. cond (n + suc i == j) v (f j)) (n + 1) xs (λ j from. ap (λ (m : ℕ). cond (m == j) v (f j)) moved) in
+    λ k. first k ∷ rest k
+
+-- as many pass before a function is applied as after
+pub length-filter_places : {A X : Type 0} (test : X → Bool) (f : A → X) (xs : List A) → length (filter test (map f xs)) ≡ length (filter (λ (x : A). test (f x)) xs)
+length-filter_places test f [] = refl
+length-filter_places {A} {X} test f (x ∷ xs) = grind (arith, length-filter_places test f xs)
