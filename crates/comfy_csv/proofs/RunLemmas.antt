@@ -1,5 +1,5 @@
 -- What the parts of a call of `draw` ensure, put together.
-use Rattle.std.proofs.Common.{◌≡◌, Bool, true, false, [], List, ◌++◌, Option, Some, Result, Ok, Err, OnOk, IfErr, refl}
+use Rattle.std.proofs.Common.{◌≡◌, Bool, true, false, [], List, ◌++◌, Option, Some, Result, Ok, Err, refl}
 use Rattle.comfy_parts.specs.Text.{Text}
 use Rattle.comfy_run.specs.Outcome.{IsBeginningOnly, NoDeviceFailed, RunFacts}
 use Rattle.comfy_csv_parts.specs.Columns.{IsColumnRefusal}

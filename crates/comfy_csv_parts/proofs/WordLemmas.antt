@@ -1,25 +1,15 @@
 -- What `parse` and `clap` read of a word that is a number.
 use Rattle.std.proofs.Common.{◌≡◌, ℕ, List, ◌<◌, ◌^◌, Bool, true, false, Option, Some, None, Result, Ok, Err, refl, rules, tests, length}
-use Rattle.std.specs.Prelude.{◌&&◌, nat_lt, option_and_then, if◌then◌else◌}
+use Rattle.std.specs.Prelude.{◌&&◌, nat_lt, option_and_then}
 use Rattle.std.specs.Char.{is_ascii_digit}
 use Rattle.std.specs.List.{list_all}
 use Rattle.std.specs.Result.{OkIff, result_ok}
 use Rattle.std.specs.Str.Parse.{IsNumeral, ParsesUnsigned, digits_value, without_leading_plus}
-use Rattle.std.proofs.lemmas.Str.Parse.{IsNumeralModel, numerals_by_value, parse_digits}
+use Rattle.std.proofs.lemmas.Str.Parse.{parse_digits}
 use Rattle.clap.specs.Words.{ReadsOne}
+use Rattle.comfy_parts.proofs.CallerLemmas.{digits, none_where, some_where}
 use Rattle.comfy_parts.specs.Text.{Text}
 use Rattle.comfy_csv_parts.specs.Words.{is_numeral, number_for}
-
-digits : IsNumeralModel (λ word. list_all is_ascii_digit word ≡ true) (digits_value 10)
-digits = numerals_by_value _ (search rules)
-
-none_where : (b : Bool) (n : ℕ) → b ≡ false → None ≡ (if b then Some n else None)
-none_where false n h = refl
-none_where true n h = absurd (cc h)
-
-some_where : (b : Bool) (m n : ℕ) → b ≡ true → m ≡ n → Some m ≡ (if b then Some n else None)
-some_where true m n h e = cc
-some_where false m n h e = absurd (cc h)
 
 not_all : (a b c : Bool) → (a ≡ true → b ≡ true → c ≡ true → ⊥) → (a && b) && c ≡ false
 not_all false b c h = refl

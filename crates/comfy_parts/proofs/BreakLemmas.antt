@@ -1,10 +1,9 @@
 -- A line feed is never part of a sequence, so a text has one only where one is seen.
 use Rattle.std.proofs.Common.{◌≡◌, inl, inr, ⊎_elim, ℕ, true, ◌==◌, List, [], ◌∷◌, ◌++◌, refl, sym, ap, ◌∙◌, subst, eqb-true}
 use Rattle.std.specs.List.{flat_map, list_all, list_any}
-use Rattle.std.proofs.lemmas.Bool.{and_parts, cases_Bool, cond_both, or_from}
+use Rattle.std.proofs.lemmas.Bool.{and_parts, cases_Bool, cond_both, or_from, true≢false}
 use Rattle.comfy_parts.proofs.AbsentByteLemmas.{HasNo-append, HasNo-parts}
 use Rattle.comfy_parts.proofs.ScanLemmas.{AreScanned, bytes_of, scan}
-use Rattle.comfy_parts.proofs.SequenceLemmas.{true_is_false}
 use Rattle.comfy_parts.specs.Text.{HasNo, Text}
 use Rattle.comfy_parts.specs.VisibleText.{Part, is_parameter, parts, visible_bytes, visible_text}
 
@@ -25,7 +24,7 @@ parameters_clear [] all = refl
 parameters_clear (c ∷ cs) all =
     let both = and_parts (is_parameter c) (list_all is_parameter cs) all in
     or_from (c == 0x0A) (list_any (λ x. x == 0x0A) cs)
-    (⊎_elim (λ same. absurd (true_is_false (sym both.0 ∙ ap is_parameter (eqb-true c 0x0A same)))) (λ other. other) (cases_Bool (c == 0x0A))) (parameters_clear cs both.1)
+    (⊎_elim (λ same. absurd (true≢false (sym both.0 ∙ ap is_parameter (eqb-true c 0x0A same)))) (λ other. other) (cases_Bool (c == 0x0A))) (parameters_clear cs both.1)
 
 -- so a sequence has none
 pub sequence_clear : (code : Text) → list_all is_parameter code ≡ true → HasNo 0x0A (0x1B ∷ 0x5B ∷ (code ++ (0x6D ∷ [])))

@@ -9,7 +9,7 @@ use Rattle.comfy_parts.proofs.FollowingLemmas.{first-at}
 use Rattle.comfy_parts.proofs.PlainTextLemmas.{IsPlainLine, wrapped-plain}
 use Rattle.comfy_parts.proofs.PrintableLemmas.{measure-printable}
 use Rattle.comfy_parts.proofs.WideEndLemmas.{exact-columns, first-is, none-wider}
-use Rattle.comfy_parts.specs.Following.{IsAtLine, IsFirstElement, IsMeasured, IsMeasuredBehind, IsWideFrom}
+use Rattle.comfy_parts.specs.Following.{AreColumnsUpTo, IsAtLine, IsFirstElement, IsMeasured, IsMeasuredBehind, IsWideFrom}
 use Rattle.comfy_parts.specs.Laws.{IsPlain}
 use Rattle.comfy_parts.specs.Text.{Text, begins_with, measure}
 use Rattle.comfy_parts.specs.Wrapping.{wrapped}
@@ -57,19 +57,30 @@ pub measured-behind : (d : ℕ) (whole before text : Text) (m : Option Measured)
 measured-behind d whole before text None splits is = is
 measured-behind d whole before text (Some m) splits is = (whole, before, splits, is)
 
--- a line that begins with it
+-- a line that begins with an element of which so much is known
+pub at-first : (w d : ℕ) (text word behind : Text) (columns shown : ℕ) → w ≤ 65535 → IsUtf8 text → begins_with d text ≡ false → IsFirstElement d text word behind
+    → AreColumnsUpTo w columns word → IsWideFrom w shown word → IsAtLine w d text (length word) columns shown
+at-first w d text word behind columns shown narrow utf8 otherwise is columns_are wide_from =
+    let at = first-at d text word behind is in
+    let same = sym (first-is d text word behind is) in
+    record {
+      narrow = narrow;
+      whole = utf8;
+      begins_otherwise = otherwise;
+      boundary = at.0;
+      element = at.1;
+      columns_are = subst (AreColumnsUpTo w columns) same columns_are;
+      wide_from = subst (IsWideFrom w shown) same wide_from;
+    }
+
+-- a line that begins with an element that was measured
 pub at-measured : (w d : ℕ) (text start rest : Text) (left first columns : ℕ) → w ≤ 65535 → IsUtf8 rest → begins_with d rest ≡ false → text ≡ start ++ rest
     → IsMeasuredBehind d text left first columns → left ≡ length rest → IsAtLine w d rest first columns (first + 1)
 at-measured w d text start rest left first columns narrow utf8 otherwise begun (whole, before, splits, is) left_is =
     let same : is.others ≡ rest =
     same_end whole is.front (before ++ start) is.others rest is.splits (splits ∙ ap (λ (t : Text). before ++ t) begun ∙ sym (append_assoc before start rest)) (is.left_is ∙ left_is) in
     let boundary : IsCharBoundary rest first = subst (λ (t : Text). IsCharBoundary t first) same is.boundary in
-    record {
-      narrow = narrow;
-      whole = utf8;
-      begins_otherwise = otherwise;
-      boundary = boundary;
-      element = subst (λ (t : Text). IsFirstElement d t (take first t) (drop first t)) same is.element;
-      columns_are = exact-columns w columns (take first rest) (is.columns_are ∙ ap (λ (t : Text). measure (take first t)) same);
-      wide_from = subst (λ n. IsWideFrom w (n + 1) (take first rest)) (length-take-le first rest boundary.0) (none-wider w (take first rest));
-    }
+    let element = subst (λ (t : Text). IsFirstElement d t (take first t) (drop first t)) same is.element in
+    let exact = exact-columns w columns (take first rest) (is.columns_are ∙ ap (λ (t : Text). measure (take first t)) same) in
+    subst (λ n. IsAtLine w d rest n columns (n + 1)) (length-take-le first rest boundary.0)
+    (at-first w d rest (take first rest) (drop first rest) columns (length (take first rest) + 1) narrow utf8 otherwise element exact (none-wider w (take first rest)))

@@ -2,15 +2,11 @@
 use Rattle.std.proofs.Common.{◌≡◌, ◌⊎◌, inl, inr, ⊎_elim, ℕ, suc, ◌+◌, ◌-◌, Bool, true, false, cond, ◌&&◌, ◌==◌, [], ◌∷◌, ◌++◌, length, take, nat_lt, refl, sym, ap, ap₂, ◌∙◌, arith, eqb-true}
 use Rattle.std.specs.List.{list_all, prefix_len, flat_map, slice_index}
 use Rattle.std.specs.Prelude.{if◌then◌else◌}
-use Rattle.std.proofs.lemmas.Bool.{and_parts, both_ways, cases_Bool, cond_both}
+use Rattle.std.proofs.lemmas.Bool.{and_parts, cases_Bool, cond_both, true≢false}
 use Rattle.std.proofs.lemmas.Bool.Decides.{nat_tests}
 use Rattle.comfy_parts.specs.Text.{Text}
 use Rattle.comfy_parts.specs.VisibleText.{Part, is_parameter, parameter_count, sequence_len, part_at, parts, parts_past, visible_bytes, visible_text}
 use Rattle.comfy_parts.specs.Laws.{SequencesAreTakenOut, OtherBytesAreVisible}
-
--- the two truth values differ
-pub true_is_false : true ≡ false → ⊥
-true_is_false is = both_ways true is refl
 
 -- one place on
 one_on : (c : ℕ) (cs : Text) (n : ℕ) → slice_index (c ∷ cs) (1 + n) ≡ slice_index cs n
@@ -39,7 +35,7 @@ pub record BeginsWithSequence (text : Text) : Type 0 where
 
 -- what is after ESC and `[` and ends so is parameters, an `m` and a rest
 ends_here-is : (text : Text) → ends_here text ≡ true → (code : Text) × (rest : Text) × (list_all is_parameter code ≡ true) × (text ≡ code ++ (0x6D ∷ rest))
-ends_here-is [] ends = absurd (true_is_false (sym ends))
+ends_here-is [] ends = absurd (true≢false (sym ends))
 ends_here-is (c ∷ cs) ends =
     cond_both (is_parameter c) _ _ (λ n. (slice_index (c ∷ cs) n == 0x6D) ≡ true → (code : Text) × (rest : Text) × (list_all is_parameter code ≡ true) × (c ∷ cs ≡ code ++ (0x6D ∷ rest)))
     (λ passes ends.
@@ -68,9 +64,9 @@ begins-two a b text = ap (λ x. (a == 0x1B) && ((b == 0x5B) && (x == 0x6D))) (tw
 
 -- a text that does is such a text
 begins-is : (text : Text) → begins_with_sequence text ≡ true → BeginsWithSequence text
-begins-is [] begins = absurd (true_is_false (sym begins))
+begins-is [] begins = absurd (true≢false (sym begins))
 begins-is (a ∷ []) begins =
-    absurd (true_is_false (sym (and_parts (a == 0x1B) false begins).1))
+    absurd (true≢false (sym (and_parts (a == 0x1B) false begins).1))
 begins-is (a ∷ b ∷ text) begins =
     let first = and_parts (a == 0x1B) ((b == 0x5B) && ends_here text) (sym (begins-two a b text) ∙ begins) in
     let next = and_parts (b == 0x5B) (ends_here text) first.1 in
@@ -114,7 +110,7 @@ visible-stops b [] rest other stops free = by_test (b == 0x1B) (slice_index othe
   where
     by_test : (first next : Bool) → next ≡ false → (first && (next && (slice_index (b ∷ other) (2 + parameter_count (b ∷ other)) == 0x6D))) ≡ false
     by_test false next is = refl
-    by_test true true is = absurd (true_is_false is)
+    by_test true true is = absurd (true≢false is)
     by_test true false is = refl
 visible-stops b (c ∷ cs) rest other stops free =
     begins-two b c (cs ++ other)

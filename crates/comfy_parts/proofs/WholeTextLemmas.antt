@@ -2,7 +2,7 @@
 use Rattle.std.proofs.Common.{◌≡◌, ◌<◌, ◌≤◌, ◌⊎◌, inl, inr, ℕ, zero, suc, Bool, true, false, not, ◌==◌, ◌&&◌, List, [], ◌∷◌, ◌++◌, length, map, nat_le, zip, refl, sym, ap, ◌∙◌, subst, arith, append_assoc, append-nil, length-append}
 use Rattle.std.specs.List.{concat, flat_map}
 use Rattle.std.specs.Prelude.{if◌then◌else◌, bytes_eq}
-use Rattle.std.proofs.lemmas.Bool.{and_parts}
+use Rattle.std.proofs.lemmas.Bool.{and_parts, true≢false}
 use Rattle.std.proofs.lemmas.Bool.Decides.{nat_tests}
 use Rattle.std.proofs.lemmas.List.Folds.{concat-append}
 use Rattle.std.proofs.lemmas.Slice.Eq.{bytes_eq-Decides}
@@ -13,7 +13,6 @@ use Rattle.comfy_parts.specs.VisibleText.{Part, closing, line_text, opened, open
 use Rattle.comfy_parts.specs.Wrapping.{wrapped}
 use Rattle.comfy_parts.specs.Written.{closes_itself}
 use Rattle.comfy_parts.proofs.ScanLemmas.{AreScanned, bytes_of, scan}
-use Rattle.comfy_parts.proofs.SequenceLemmas.{true_is_false}
 use Rattle.comfy_parts.proofs.WrittenLemmas.{line_text-written}
 
 -- how many bytes of some parts are visible
@@ -68,7 +67,7 @@ record AreNone (o : Bool) (ps : List Part) : Type 0 where
 
 none_left : (o : Bool) (ps : List Part) (rest : Text) → AreScanned ps rest → seen_count ps ≡ 0 → closes_itself o false ps ≡ true → AreNone o ps
 none_left false [] rest scanned none closes = record { empty = refl; closed = refl }
-none_left true [] rest scanned none closes = absurd (true_is_false (sym closes))
+none_left true [] rest scanned none closes = absurd (true≢false (sym closes))
 none_left o (p ∷ ps) rest (inr part, more) none closes =
     let seen = ap (λ (x : Part). seen_count (x ∷ ps)) part.is in absurd (omega (arith, none, seen))
 none_left o (p ∷ ps) rest (inl part, more) none closes =
@@ -76,8 +75,8 @@ none_left o (p ∷ ps) rest (inl part, more) none closes =
     (none_left true ps rest more (ap (λ (x : Part). seen_count (x ∷ ps)) (sym part.is) ∙ none))
   where
     by_kind : IsReset [] o false p.bytes ps ⊎ IsOther [] p.bytes ps → (closes_itself true false ps ≡ true → AreNone true ps) → AreNone o (p ∷ ps)
-    by_kind (inl same) behind = absurd (true_is_false (sym same.follows_visible))
-    by_kind (inr other) behind = absurd (true_is_false (behind other.more).closed)
+    by_kind (inl same) behind = absurd (true≢false (sym same.follows_visible))
+    by_kind (inr other) behind = absurd (true≢false (behind other.more).closed)
 
 -- ---- what is written
 
@@ -91,7 +90,7 @@ all_shut ss o follows [] rest scanned is closes = by_length (length ss == 0) (ap
   where
     by_length : (b : Bool) → not (not b) ≡ true → (if b then [] else reset) ≡ []
     by_length true closed = refl
-    by_length false closed = absurd (true_is_false (sym closed))
+    by_length false closed = absurd (true≢false (sym closed))
 all_shut ss o follows (p ∷ ps) rest (inr part, more) is closes =
     subst (λ (x : Part). shut (seen_count (x ∷ ps)) ss (x ∷ ps) ≡ bytes_of (x ∷ ps)) (sym part.is)
     (ap (λ (t : Text). part.byte ∷ t) (all_shut ss o true ps rest more is (ap (λ (x : Part). closes_itself o follows (x ∷ ps)) (sym part.is) ∙ closes)))
@@ -106,7 +105,7 @@ all_shut ss o follows (p ∷ ps) rest (inl part, more) is closes =
     IsShut ts = shut (seen_count ps) ts ps ≡ bytes_of ps
 
     needs_reset : (b : Bool) → not b ≡ true → (if b then [] else reset) ≡ reset
-    needs_reset true some = absurd (true_is_false (sym some))
+    needs_reset true some = absurd (true≢false (sym some))
     needs_reset false some = refl
 
     by_kind : IsReset ss o follows p.bytes ps ⊎ IsOther ss p.bytes ps → ((ts : List Text) (t : Bool) → t ≡ is_open ts → closes_itself t false ps ≡ true → IsShut ts) → IsShut (opened_by ss q)
@@ -115,7 +114,7 @@ all_shut ss o follows (p ∷ ps) rest (inl part, more) is closes =
 
     by_count : (n : ℕ) → seen_count ps ≡ n → IsReset ss o follows p.bytes ps ⊎ IsOther ss p.bytes ps → ((ts : List Text) (t : Bool) → t ≡ is_open ts → closes_itself t false ps ≡ true → IsShut ts)
         → shut n ss (q ∷ ps) ≡ p.bytes ++ bytes_of ps
-    by_count zero none (inr other) behind = absurd (true_is_false (none_left true ps rest more none other.more).closed)
+    by_count zero none (inr other) behind = absurd (true≢false (none_left true ps rest more none other.more).closed)
     by_count zero none (inl same) behind =
         let empty = (none_left false ps rest more none same.more).empty in
         needs_reset (length ss == 0) (sym is ∙ same.closes) ∙ same.is ∙ sym (append-nil p.bytes) ∙ ap (λ (qs : List Part). p.bytes ++ bytes_of qs) (sym empty)
@@ -141,7 +140,7 @@ all_resumed ss o (p ∷ ps) rest (inl part, more) is some closes =
 
     by_kind : IsReset ss o false s ps ⊎ IsOther ss s ps → (closes_itself true false ps ≡ true → resumed (ss ++ s ∷ []) ps ≡ concat (ss ++ s ∷ []) ++ bytes_of ps)
         → resumed ss (sequence_part s ∷ ps) ≡ concat ss ++ (s ++ bytes_of ps)
-    by_kind (inl same) behind = absurd (true_is_false (sym same.follows_visible))
+    by_kind (inl same) behind = absurd (true≢false (sym same.follows_visible))
     by_kind (inr other) behind =
         ap (λ (ts : List Text). resumed ts ps) other.opens
         ∙ behind other.more

@@ -2,13 +2,13 @@
 use Rattle.std.proofs.Common.{◌≡◌, ◌<◌, ◌≤◌, ◌++◌, ◌∙◌, ℕ, ◌+◌, ◌-◌, length, take, drop, sym, ap, ap₂, subst, arith, length-append, take-add, [], refl}
 use Rattle.std.proofs.Math.Seq.{drop-append-add, drop-append_seam, take-append_seam}
 use Rattle.std.proofs.lemmas.List.{append_assoc, take-append-drop}
-use Rattle.std.proofs.lemmas.Str.{IsCharBoundary-from_drop, IsUtf8-append, IsUtf8-nil, IsUtf8-take}
+use Rattle.std.proofs.lemmas.Str.{IsCharBoundary-from_drop, IsUtf8-append, IsUtf8-drop, IsUtf8-nil, IsUtf8-take}
 use Rattle.std.specs.Str.{IsCharBoundary, IsUtf8}
-use Rattle.comfy_parts.proofs.TailLemmas.{measure-tail}
+use Rattle.cluster_width.proofs.TailLemmas.{measure-tail}
 use Rattle.comfy_parts.specs.Following.{AreColumnsUpTo, IsFirstElement, IsWideFrom}
 use Rattle.comfy_parts.specs.Text.{Text, measure}
 
-pub wide-from : (w : ℕ) (word front end : Text) → word ≡ front ++ end → IsUtf8 end → w + 1 < measure end → IsWideFrom w (length end) word
+wide-from : (w : ℕ) (word front end : Text) → word ≡ front ++ end → IsUtf8 end → w + 1 < measure end → IsWideFrom w (length end) word
 wide-from w word a end joins utf8 wide front tail splits before behind long =
     let n = length a - length front in
     let lengths : length a + length end ≡ length front + length tail = sym (length-append a end) ∙ ap length (sym joins ∙ splits) ∙ length-append front tail in
@@ -20,6 +20,11 @@ wide-from w word a end joins utf8 wide front tail splits before behind long =
     let most = measure-tail (take n tail) end (IsUtf8-take tail n behind boundary) in
     let all = ap measure whole in
     omega (arith, most, all, wide)
+
+-- so does what stands after a place in the word
+pub wide-end : (w at : ℕ) (word end : Text) → IsUtf8 word → IsCharBoundary word at → end ≡ drop at word → w + 1 < measure end → IsWideFrom w (length end) word
+wide-end w at word end utf8 boundary back wide =
+    wide-from w word (take at word) end (sym (take-append-drop at word) ∙ ap (λ t. take at word ++ t) (sym back)) (subst IsUtf8 (sym back) (IsUtf8-drop word at utf8 boundary)) wide
 
 -- what is wide from a number of bytes on stays so when its front is taken off
 pub wide-behind : (w bytes : ℕ) (word front rest : Text) → word ≡ front ++ rest → IsUtf8 front → IsWideFrom w bytes word → IsWideFrom w bytes rest

@@ -1,24 +1,13 @@
 -- What `parse` gives of a word that holds digits alone.
-use Rattle.std.proofs.Common.{◌≡◌, ℕ, ◌<◌, ◌≤◌, Bool, true, false, Some, None, Result, Ok, Err, refl, rules, tests, length}
-use Rattle.std.specs.Prelude.{if◌then◌else◌}
+use Rattle.std.proofs.Common.{◌≡◌, ℕ, ◌<◌, ◌≤◌, true, false, None, Result, Ok, Err, rules, tests, length}
 use Rattle.std.specs.Char.{is_ascii_digit}
 use Rattle.std.specs.List.{list_all}
 use Rattle.std.specs.Result.{result_ok}
 use Rattle.std.specs.Str.Parse.{digits_value, ParsesUnsigned}
-use Rattle.std.proofs.lemmas.Str.Parse.{IsNumeralModel, numerals_by_value, parse_digits}
+use Rattle.std.proofs.lemmas.Str.Parse.{parse_digits}
+use Rattle.comfy_parts.proofs.CallerLemmas.{digits, none_where, some_where}
 use Rattle.comfy_parts.specs.Text.{Text}
 use Rattle.comfy_run.specs.Arguments.{is_number, number_for}
-
-digits : IsNumeralModel (λ word. list_all is_ascii_digit word ≡ true) (digits_value 10)
-digits = numerals_by_value _ (search rules)
-
-none_where : (b : Bool) (n : ℕ) → b ≡ false → None ≡ (if b then Some n else None)
-none_where false n h = refl
-none_where true n h = absurd (cc h)
-
-some_where : (b : Bool) (m n : ℕ) → b ≡ true → m ≡ n → Some m ≡ (if b then Some n else None)
-some_where true m n h e = cc
-some_where false m n h e = absurd (cc h)
 
 module _ (word : Text) where
   -- longer words aren't known

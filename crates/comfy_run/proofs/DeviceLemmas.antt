@@ -1,8 +1,10 @@
 -- What a call of a source over memory does, in the words that every source has.
 use Rattle.std.proofs.Common.{zero, suc, ◌≡◌, ◌<◌, ◌≤◌, ℕ, Bool, true, false, ◌||◌, ◌&&◌, nat_lt, ◌==◌, [], ◌∷◌, ◌++◌, Option, Some, None, is_none, Result, Ok, Err, is_err, IfOk, OnOk, OnErr, unwrap_or, refl, sym, ap, ◌∙◌, length, take, drop, min, arith}
+use Rattle.std.proofs.Math.Bool.{or-false}
+use Rattle.std.proofs.lemmas.Bool.{or_parts}
 use Rattle.std.proofs.lemmas.Bool.Decides.{nat_tests}
 use Rattle.std.proofs.lemmas.Grind.{common_steps}
-use Rattle.std.proofs.lemmas.List.{length-take-le}
+use Rattle.std.proofs.lemmas.List.{length-take-le, nil_from_length}
 use Rattle.std.proofs.Math.Seq.{take-append_seam}
 use Rattle.comfy_parts.specs.Text.{Text}
 use Rattle.comfy_run.specs.Device.{MemorySourceValue, left_in, rest_after, after_reading, is_due, is_end}
@@ -26,18 +28,6 @@ end-after None room count e = refl
 end-after (Some []) room count e = grind (arith, nat_tests)
 end-after (Some (x ∷ xs)) room count e = grind (arith, nat_tests)
 
-fresh : (b c : Bool) → (b || c) ≡ false → b ≡ false
-fresh false c e = refl
-fresh true c e = absurd (cc)
-
-or-false : (b : Bool) → b ≡ (b || false)
-or-false false = refl
-or-false true = refl
-
-empty : (text : Text) → length text ≡ 0 → text ≡ []
-empty [] e = refl
-empty (x ∷ xs) e = absurd (omega arith)
-
 -- the clauses of a call of a source over memory: what it returns, and what it leaves
 pub record IsMemoryRead {E : Type 0} (old new : MemorySourceValue) (was now : Text) (r : Result ℕ E) : Type 0 where
   pub fails : is_err r ≡ is_due old.failed old.fails_at
@@ -52,7 +42,7 @@ module _ {E : Type 0} (old new : MemorySourceValue) (was now : Text) where
   within (Err e) h = tt
 
   pub fault : (r : Result ℕ E) → IsMemoryRead old new was now r → new.failed ≡ is_err r
-  fault (Ok n) h = ap (λ (s : MemorySourceValue). s.failed) h.after ∙ fresh old.failed _ (sym h.fails)
+  fault (Ok n) h = ap (λ (s : MemorySourceValue). s.failed) h.after ∙ (or_parts old.failed _ (sym h.fails)).0
   fault (Err e) h = ap (λ (s : MemorySourceValue). s.failed) h.failed
 
   pub stays_failed : (r : Result ℕ E) → IsMemoryRead old new was now r → old.failed ≡ true → new.failed ≡ true
@@ -70,13 +60,13 @@ module _ {E : Type 0} (old new : MemorySourceValue) (was now : Text) where
   bytes (Err e) h = tt
 
   pub end : (r : Result ℕ E) → IsMemoryRead old new was now r → IfOk r (λ n. n ≡ 0 → 0 < length was → (left : Text) → Some (left_in old) ≡ Some left → left ≡ [])
-  end (Ok n) h = λ none room left is. let same : left_in old ≡ left = cc in sym same ∙ empty (left_in old) (omega (arith, h.count))
+  end (Ok n) h = λ none room left is. let same : left_in old ≡ left = cc in sym same ∙ nil_from_length (left_in old) (omega (arith, h.count))
   end (Err e) h = tt
 
   pub end_read : (r : Result ℕ E) → IsMemoryRead old new was now r → is_none new.rest ≡ (is_none old.rest || is_end r (length was))
   end_read (Ok n) h =
       ap (λ (s : MemorySourceValue). is_none s.rest) h.after ∙ end-after old.rest (length was) n h.count
-  end_read (Err e) h = ap (λ (s : MemorySourceValue). is_none s.rest) h.failed ∙ or-false (is_none old.rest)
+  end_read (Err e) h = ap (λ (s : MemorySourceValue). is_none s.rest) h.failed ∙ sym (or-false (is_none old.rest))
 
 -- a call that gave some bytes didn't read the end
 pub not-ended : (b : Bool) (count room : ℕ) → (count ≡ 0 → ⊥) → (b || ((count == 0) && nat_lt 0 room)) ≡ b

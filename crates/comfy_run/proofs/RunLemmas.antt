@@ -1,9 +1,9 @@
 -- What the parts of a run ensure, put together.
-use Rattle.std.proofs.Common.{◌≡◌, Bool, true, false, [], ◌++◌, Option, Some, Result, Ok, Err, OnOk, IfErr, refl}
+use Rattle.std.proofs.Common.{◌≡◌, Bool, true, false, [], ◌++◌, Option, Some, Ok, Err, refl}
 use Rattle.std.specs.Str.{IsUtf8}
 use Rattle.comfy_parts.specs.Text.{Text}
 use Rattle.comfy_run.specs.Input.{IsOutputFor}
-use Rattle.comfy_run.specs.Outcome.{IsBeginningOnly, NoDeviceFailed, RunFacts}
+use Rattle.comfy_run.specs.Outcome.{IsBeginningOnly}
 use Rattle.comfy_run.specs.Run.{IsAfter, IsRefusal}
 use Rattle.comfy_run.specs.declared.error.RunError.{RunError}
 use Rattle.comfy_run.specs.declared.error.RunError.TheVariants.{Read, Write, NotUtf8, Table}
@@ -17,9 +17,6 @@ after_refusal T settings Write input ended failed write_failed sound why = absur
 after_refusal T settings NotUtf8 input ended failed write_failed sound why = record { no_device_failed = record { no_read_failed = why.0; no_write_failed = sound }; whole = why.1; no_text = why.2; nothing_written = refl }
 after_refusal T settings (Table e) input ended failed write_failed sound why = record { no_device_failed = record { no_read_failed = why.0; no_write_failed = sound }; nothing_written = refl; text = why.1 }
 
-none_failed : (facts : RunFacts) → facts.read_failed ≡ false → facts.write_failed ≡ false → NoDeviceFailed facts
-none_failed facts read write = record { no_read_failed = read; no_write_failed = write }
-
 module _ (T : Type 0) (settings : Settings) (input had output : Text) (old new : Option Text) (write_failed : Bool) where
   -- the output was written
   pub after_writing : (x : T) → old ≡ Some had → IsUtf8 input × IsOutputFor settings.width settings.arrangement settings.style input output
@@ -28,7 +25,7 @@ module _ (T : Type 0) (settings : Settings) (input had output : Text) (old new :
   after_writing x known drawn sound all = (
     output,
     all had known,
-    record { no_device_failed = none_failed _ refl sound; has_text = record { whole = refl; is_text = drawn.0 }; output = drawn.1 },
+    record { no_device_failed = record { no_read_failed = refl; no_write_failed = sound }; has_text = record { whole = refl; is_text = drawn.0 }; output = drawn.1 },
   )
 
   -- or a beginning of it

@@ -110,6 +110,16 @@ HasCount-when : (b : Bool) (text : Text) → HasCount 1 text → HasCount (if b 
 HasCount-when true text one = one
 HasCount-when false text one = HasCount-nil
 
+-- one width more, with a separator before each
+pub sum-separated : (w : ℕ) (widths : List ℕ) (b : Bool) → ((if b then 1 else 0) + w) + ((if b then length widths else 0) + sum widths) ≡ (if b then suc (length widths) else 0) + sum (w ∷ widths)
+sum-separated w widths true = let all = sum_by-cons (λ (x : ℕ). x) w widths in omega (arith, all)
+sum-separated w widths false = let all = sum_by-cons (λ (x : ℕ). x) w widths in omega (arith, all)
+
+-- and with one between each two
+pub sum-between : (w : ℕ) (widths : List ℕ) (b : Bool) → w + ((if b then length widths else 0) + sum widths) ≡ (if b then suc (length widths) - 1 else 0) + sum (w ∷ widths)
+sum-between w widths true = let all = sum_by-cons (λ (x : ℕ). x) w widths in omega (arith, all)
+sum-between w widths false = let all = sum_by-cons (λ (x : ℕ). x) w widths in omega (arith, all)
+
 -- pieces with a separator before each
 HasCount-separated : (b : Bool) (separator : Text) (widths : List ℕ) (pieces : List Text) → HasCount 1 separator → AllZip HasCount widths pieces
     → HasCount ((if b then length widths else 0) + sum widths) (flat_map (λ (piece : Text). (if b then separator else []) ++ piece) pieces)
@@ -118,13 +128,9 @@ HasCount-separated false separator [] [] one each = HasCount-nil
 HasCount-separated b separator [] (piece ∷ pieces) one each = absurd each
 HasCount-separated b separator (w ∷ widths) [] one each = absurd each
 HasCount-separated b separator (w ∷ widths) (piece ∷ pieces) one (first, more) =
-    HasCount-same (((if b then 1 else 0) + w) + ((if b then length widths else 0) + sum widths)) ((if b then suc (length widths) else 0) + sum (w ∷ widths)) _ (total b)
+    HasCount-same (((if b then 1 else 0) + w) + ((if b then length widths else 0) + sum widths)) ((if b then suc (length widths) else 0) + sum (w ∷ widths)) _ (sum-separated w widths b)
     (HasCount-append _ _ ((if b then separator else []) ++ piece) (flat_map (λ (piece : Text). (if b then separator else []) ++ piece) pieces)
     (HasCount-append _ w (if b then separator else []) piece (HasCount-when b separator one) first) (HasCount-separated b separator widths pieces one more))
-  where
-    total : (b : Bool) → ((if b then 1 else 0) + w) + ((if b then length widths else 0) + sum widths) ≡ (if b then suc (length widths) else 0) + sum (w ∷ widths)
-    total true = let all = sum_by-cons (λ (x : ℕ). x) w widths in omega (arith, all)
-    total false = let all = sum_by-cons (λ (x : ℕ). x) w widths in omega (arith, all)
 
 -- pieces with a separator between each two
 HasCount-between : (b : Bool) (separator : Text) (widths : List ℕ) (pieces : List Text) → HasCount 1 separator → AllZip HasCount widths pieces
@@ -134,12 +140,8 @@ HasCount-between false separator [] [] one each = HasCount-nil
 HasCount-between b separator [] (piece ∷ pieces) one each = absurd each
 HasCount-between b separator (w ∷ widths) [] one each = absurd each
 HasCount-between b separator (w ∷ widths) (piece ∷ pieces) one (first, more) =
-    HasCount-same (w + ((if b then length widths else 0) + sum widths)) ((if b then suc (length widths) - 1 else 0) + sum (w ∷ widths)) _ (total b)
+    HasCount-same (w + ((if b then length widths else 0) + sum widths)) ((if b then suc (length widths) - 1 else 0) + sum (w ∷ widths)) _ (sum-between w widths b)
     (HasCount-append w _ piece (flat_map (λ (piece : Text). (if b then separator else []) ++ piece) pieces) first (HasCount-separated b separator widths pieces one more))
-  where
-    total : (b : Bool) → w + ((if b then length widths else 0) + sum widths) ≡ (if b then suc (length widths) - 1 else 0) + sum (w ∷ widths)
-    total true = let all = sum_by-cons (λ (x : ℕ). x) w widths in omega (arith, all)
-    total false = let all = sum_by-cons (λ (x : ℕ). x) w widths in omega (arith, all)
 
 -- pieces of these widths between borders have the border characters and the sum of the widths
 pub HasCount-joined : (style : TableStyle) (left junction right : Option ℕ) (widths : List ℕ) (pieces : List Text) → AllZip HasCount widths pieces

@@ -1,9 +1,9 @@
 -- The search for a level: what the columns need at a level grows no more than the room, and where the average no longer passes it the level is found.
-use Rattle.std.proofs.Common.{◌≡◌, ◌<◌, ◌≤◌, ℕ, suc, ◌+◌, ◌-◌, ◌*◌, ◌/◌, Bool, true, false, cond, ◌==◌, List, [], ◌∷◌, length, max, slice_index_or, sum_by, Option, Some, None, option_map, is_none, unwrap_or, filter, refl, ap, ◌∙◌, arith, suc-mul, mul_comm, div-mul-le_self}
-use Rattle.std.specs.List.{enumerate_from, cons_option}
+use Rattle.std.proofs.Common.{◌≡◌, ◌<◌, ◌≤◌, ℕ, ◌+◌, ◌-◌, ◌*◌, ◌/◌, Bool, true, false, cond, ◌==◌, List, [], ◌∷◌, length, max, sum_by, Option, Some, None, option_map, is_none, unwrap_or, filter, refl, ap, ◌∙◌, arith, suc-mul, mul_comm, div-mul-le_self}
+use Rattle.std.specs.List.{cons_option}
 use Rattle.std.proofs.lemmas.List.Sums.{sum_by-cons}
 use Rattle.std.proofs.lemmas.Nat.{le-div}
-use Rattle.comfy_table.specs.Deciding.{is_undecided, undecided_among, undecided_count}
+use Rattle.comfy_table.specs.Deciding.{is_undecided, undecided_among}
 use Rattle.comfy_table.specs.Dynamic.{Placed, Share, IsLevel, average, places_of, settled_at, settled_shares, total, without_shares}
 use Rattle.comfy_table.specs.Widths.{ColumnNeeds}
 use Rattle.comfy_table.proofs.ShareLemmas.{count_at, IsOneEach, length-without}
@@ -136,27 +136,3 @@ one_each-filter test columns one i = omega (arith, fewer columns, one i)
 -- no place has two undecided columns
 pub one_each-undecided : (needs : List ColumnNeeds) (widths : List (Option ℕ)) → IsOneEach (undecided_among needs widths)
 one_each-undecided needs widths = one_each-filter (λ (p : Placed). is_undecided widths p.0) (places_of needs) (one_each-places 0 needs)
-
--- the undecided columns from a place on are as many as the widths there that are none
-undecided_from-count : (all widths : List (Option ℕ)) (n : ℕ) (needs : List ColumnNeeds) → ((j : ℕ) → slice_index_or all (n + j) (Some 0) ≡ slice_index_or widths j (Some 0)) → length widths ≡ length needs
-    → length (filter (λ (p : Placed). is_undecided all p.0) (enumerate_from n needs)) ≡ undecided_count widths
-undecided_from-count all [] n [] each same = refl
-undecided_from-count all [] n (column ∷ more) each same = absurd (omega arith)
-undecided_from-count all (w ∷ widths) n [] each same = absurd (omega arith)
-undecided_from-count all (w ∷ widths) n (column ∷ more) each same =
-    let here : is_undecided all n ≡ is_none w = let moved : n ≡ n + 0 = omega arith in ap (is_undecided all) moved ∙ ap is_none (each 0) in
-    let next : (j : ℕ) → slice_index_or all (n + 1 + j) (Some 0) ≡ slice_index_or widths j (Some 0) =
-    λ j. let moved : n + 1 + j ≡ n + suc j = omega arith in ap (λ (k : ℕ). slice_index_or all k (Some 0)) moved ∙ each (suc j) in
-    ap (λ (b : Bool). length (cond b ((n, column) ∷ rest) rest)) here ∙ by_test (is_none w) (undecided_from-count all widths (n + 1) more next (omega arith))
-  where
-    rest : List Placed
-    rest = filter (λ (p : Placed). is_undecided all p.0) (enumerate_from (n + 1) more)
-
-    by_test : (b : Bool) → length rest ≡ undecided_count widths → length (cond b ((n, column) ∷ rest) rest) ≡ length (cond b (w ∷ filter is_none widths) (filter is_none widths))
-    by_test true is = ap suc is
-    by_test false is = is
-
--- the undecided columns are as many as the widths that are none
-pub undecided_among-count : (needs : List ColumnNeeds) (widths : List (Option ℕ)) → length widths ≡ length needs → length (undecided_among needs widths) ≡ undecided_count widths
-undecided_among-count needs widths same =
-    undecided_from-count widths widths 0 needs (λ j. let moved : 0 + j ≡ j = omega arith in ap (λ (k : ℕ). slice_index_or widths k (Some 0)) moved) same

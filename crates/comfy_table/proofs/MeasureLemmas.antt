@@ -3,11 +3,11 @@ use Rattle.std.proofs.Common.{◌≡◌, ℕ, zero, suc, ◌+◌, ◌-◌, Bool,
 use Rattle.std.specs.List.{repeat, join_by, flat_map, AllZip}
 use Rattle.std.specs.Prelude.{if◌then◌else◌, encode_utf8}
 use Rattle.std.specs.Str.{IsUtf8}
-use Rattle.std.proofs.lemmas.List.Sums.{sum_by-cons}
 use Rattle.std.proofs.lemmas.Str.{IsUtf8-nil}
 use Rattle.comfy_parts.specs.Text.{Text, measure, spaces}
 use Rattle.comfy_parts.proofs.CallerLemmas.{measure-nil, measure-space, measure-spaces_before}
 use Rattle.comfy_parts.specs.Columns.{AddsOneColumn, IsApart}
+use Rattle.comfy_table.proofs.CountLemmas.{sum-between, sum-separated}
 
 -- any text
 abbrev pub IsAny : Text → Type 0
@@ -122,13 +122,9 @@ module _ (Follows : Text → Type 0) (b : Bool) (separator : Text) (one : HasMea
   HasMeasure-separated [] (piece ∷ pieces) each = absurd each
   HasMeasure-separated (w ∷ widths) [] each = absurd each
   HasMeasure-separated (w ∷ widths) (piece ∷ pieces) (first, more) =
-      HasMeasure-same Follows (((if b then 1 else 0) + w) + ((if b then length widths else 0) + sum widths)) ((if b then suc (length widths) else 0) + sum (w ∷ widths)) _ (total b)
+      HasMeasure-same Follows (((if b then 1 else 0) + w) + ((if b then length widths else 0) + sum widths)) ((if b then suc (length widths) else 0) + sum (w ∷ widths)) _ (sum-separated w widths b)
       (HasMeasure-append Follows _ _ (between ++ piece) (flat_map (λ (piece : Text). between ++ piece) pieces)
       (HasMeasure-behind Follows _ w between piece (HasMeasure-when b separator one) first.has) (Fronts-separated widths pieces more) (HasMeasure-separated widths pieces more))
-    where
-      total : (b : Bool) → ((if b then 1 else 0) + w) + ((if b then length widths else 0) + sum widths) ≡ (if b then suc (length widths) else 0) + sum (w ∷ widths)
-      total true = let all = sum_by-cons (λ (x : ℕ). x) w widths in omega (arith, all)
-      total false = let all = sum_by-cons (λ (x : ℕ). x) w widths in omega (arith, all)
 
   -- pieces with a separator between each two
   pub HasMeasure-between : (widths : List ℕ) (pieces : List Text) → AllZip (IsPiece Follows between) widths pieces
@@ -141,9 +137,5 @@ module _ (Follows : Text → Type 0) (b : Bool) (separator : Text) (one : HasMea
   HasMeasure-between [] (piece ∷ pieces) each = absurd each
   HasMeasure-between (w ∷ widths) [] each = absurd each
   HasMeasure-between (w ∷ widths) (piece ∷ pieces) (first, more) =
-      HasMeasure-same Follows (w + ((if b then length widths else 0) + sum widths)) ((if b then suc (length widths) - 1 else 0) + sum (w ∷ widths)) _ (total b)
+      HasMeasure-same Follows (w + ((if b then length widths else 0) + sum widths)) ((if b then suc (length widths) - 1 else 0) + sum (w ∷ widths)) _ (sum-between w widths b)
       (HasMeasure-append Follows w _ piece (flat_map (λ (piece : Text). between ++ piece) pieces) first.has (Fronts-separated widths pieces more) (HasMeasure-separated widths pieces more))
-    where
-      total : (b : Bool) → w + ((if b then length widths else 0) + sum widths) ≡ (if b then suc (length widths) - 1 else 0) + sum (w ∷ widths)
-      total true = let all = sum_by-cons (λ (x : ℕ). x) w widths in omega (arith, all)
-      total false = let all = sum_by-cons (λ (x : ℕ). x) w widths in omega (arith, all)

@@ -1,18 +1,16 @@
 -- Spaces that are written in runs, and the pieces that they make.
-use Rattle.std.proofs.Common.{◌≡◌, Bool, true, false, ℕ, ◌+◌, ◌-◌, ◌<◌, ◌≤◌, ◌==◌, List, [], ◌++◌, Option, None, length, take, ap, refl, sym, ◌∙◌, arith, append-nil, append_assoc, slice_index_or}
+use Rattle.std.proofs.Common.{◌≡◌, Bool, true, false, ℕ, ◌+◌, ◌-◌, ◌<◌, ◌≤◌, [], ◌++◌, None, length, take, ap, refl, sym, ◌∙◌, arith, append-nil, append_assoc, slice_index_or}
 use Rattle.std.proofs.lemmas.List.{get_or-replicate, length-replicate, replicate-append-replicate, take-replicate}
 use Rattle.std.proofs.lemmas.List.Elements.{All-replicate}
 use Rattle.std.proofs.lemmas.Str.{IsUtf8-from_ascii}
 use Rattle.std.proofs.lemmas.Str.Ascii.{IsAscii-from_all}
-use Rattle.std.specs.Prelude.{Result, Ok, Err, OnOk, IsUtf8, codes, if◌then◌else◌}
+use Rattle.std.specs.Prelude.{Result, Ok, Err, OnOk, IsUtf8, if◌then◌else◌}
 use Rattle.comfy_parts.specs.CellValue.{CellValue, ColumnInfo}
 use Rattle.comfy_parts.specs.Text.{Text, spaces}
-use Rattle.comfy_parts.specs.declared.style.attribute.Attribute.{Attribute}
 use Rattle.comfy_parts.specs.declared.style.cell.CellAlignment.{CellAlignment}
 use Rattle.comfy_parts.specs.declared.style.cell.CellAlignment.TheVariants.{Left, Right, Center}
-use Rattle.comfy_parts.specs.declared.style.color.Color.{Color}
 use Rattle.comfy_table.specs.Pieces.{cell_alignment, free_before, free_places, padded, text_piece}
-use Rattle.comfy_table.specs.Styling.{attribute_sequences, background_code, foreground_code, optional_sequence, sequence, style_begin, style_end, style_end_without_attributes, styled}
+use Rattle.comfy_table.specs.Styling.{styled}
 use Rattle.comfy_table.specs.TableValue.{TableValue, should_style}
 
 -- two runs side by side
@@ -43,20 +41,7 @@ whole_width alignment left m right w fits = let among = free_before-le alignment
 
 -- a cell without colours and attributes leaves a text as it is
 pub no_styles : (cell : CellValue) (text : Text) → cell.background ≡ None → cell.foreground ≡ None → cell.attributes ≡ [] → styled cell text ≡ text
-no_styles cell text background foreground attributes =
-    ap (λ (t : Text). t ++ (text ++ style_end cell)) begins ∙ ap (λ (t : Text). text ++ t) ends ∙ append-nil text
-  where
-    begins : style_begin cell ≡ []
-    begins =
-        ap (λ (b : Option Color). optional_sequence background_code b ++ (optional_sequence foreground_code cell.foreground ++ attribute_sequences cell.attributes)) background
-        ∙ ap (λ (f : Option Color). optional_sequence foreground_code f ++ attribute_sequences cell.attributes) foreground
-        ∙ ap attribute_sequences attributes
-
-    ends : style_end cell ≡ []
-    ends =
-        ap (λ (given : List Attribute). if length given == 0 then style_end_without_attributes cell.background cell.foreground else sequence (codes "0")) attributes
-        ∙ ap (λ (b : Option Color). style_end_without_attributes b cell.foreground) background
-        ∙ ap (style_end_without_attributes None) foreground
+no_styles cell text background foreground attributes = grind (arith, background, foreground, attributes, append-nil)
 
 module _ (cell : CellValue) (info : ColumnInfo) (columns left right : ℕ)
     (is_left : left ≡ info.padding.0 + free_before (cell_alignment cell info) (free_places info columns))

@@ -3,7 +3,7 @@ use Rattle.std.proofs.Common.{◌≡◌, ◌≤◌, ◌⊎◌, ℕ, arith, lit�
 use Rattle.std.specs.List.{All}
 use Rattle.std.specs.Prelude.{codes}
 use Rattle.std.proofs.lemmas.List.Elements.{All-cons, All-head, All-nil}
-use Rattle.comfy_parts.proofs.CallerLemmas.{true_is_false}
+use Rattle.std.proofs.lemmas.Bool.{true≢false}
 use Rattle.comfy_parts.proofs.Computing.{wrapping}
 use Rattle.comfy_parts.specs.CellValue.{CellValue, ColumnInfo, ColumnValue, RowValue, new_column, plain_cell, plain_row}
 use Rattle.comfy_parts.specs.Presets.{ascii_full, nothing}
@@ -21,7 +21,7 @@ bold_is_open = refl
 
 -- so such a line leaves one open
 bold_stays_open : ¬ (LeavesNoneOpen (codes "| \u{1b}[1mab |"))
-bold_stays_open none = true_is_false (sym (ap (λ (ss : List Text). length ss == 0) none))
+bold_stays_open none = true≢false (sym (ap (λ (ss : List Text). length ss == 0) none))
 
 bold_is_closed : LeavesNoneOpen (codes "| \u{1b}[1mab\u{1b}[0m |")
 bold_is_closed = refl
@@ -57,7 +57,7 @@ unfolding wrapping
 halves_join = refl
 
 joined_stays_open : ¬ (LeavesNoneOpen (codes "\u{1b}[1m"))
-joined_stays_open none = true_is_false (sym (ap (λ (ss : List Text). length ss == 0) none))
+joined_stays_open none = true≢false (sym (ap (λ (ss : List Text). length ss == 0) none))
 
 -- the paddings are what the first has and the second hasn't
 abbrev EndsInTexts : TableValue → ℕ × ColumnValue → Type 0
@@ -75,7 +75,7 @@ joined_halves_do_not alone =
     by_case : (1 ≤ 0) ⊎ All (λ (cell : CellValue). All HasNoEscape cell.text_lines) (visible_cell (plain_cell (utf8 "\u{1b}[1")) ∷ []) → ⊥
     by_case (inl some) = absurd (omega (arith, some))
     by_case (inr clear) =
-        true_is_false (All-head HasNoEscape (codes "\u{1b}[1") [] (All-head (λ (cell : CellValue). All HasNoEscape cell.text_lines) (visible_cell (plain_cell (utf8 "\u{1b}[1"))) [] clear))
+        true≢false (All-head HasNoEscape (codes "\u{1b}[1") [] (All-head (λ (cell : CellValue). All HasNoEscape cell.text_lines) (visible_cell (plain_cell (utf8 "\u{1b}[1"))) [] clear))
 
 -- ---- lines that aren't cut
 

@@ -1,10 +1,9 @@
-use Rattle.std.proofs.Common.{◌+◌, Option, length, sym, subst}
+use Rattle.std.proofs.Common.{Option, subst}
 use Rattle.std.specs.Prelude.{IfSome}
-use Rattle.comfy_parts.specs.Following.{AreColumnsUpTo, IsMeasuredBehind, IsWideFrom}
+use Rattle.comfy_parts.specs.Following.{IsMeasuredBehind}
 use Rattle.comfy_parts.specs.declared.content_split.ends.Measured.{Measured}
-use Rattle.comfy_parts.proofs.FollowingLemmas.{first-at}
-use Rattle.comfy_parts.proofs.WideEndLemmas.{exact-columns, first-is, none-wider}
-use Rattle.comfy_parts.proofs.MeasuredLineLemmas.{at-measured}
+use Rattle.comfy_parts.proofs.WideEndLemmas.{exact-columns, none-wider}
+use Rattle.comfy_parts.proofs.MeasuredLineLemmas.{at-first, at-measured}
 use Rattle.comfy_parts.proofs.content_split.lines.lines_behind.Goals as goal
 
 pub lines_from-requires : goal.lines_from-requires
@@ -17,41 +16,15 @@ lines_from-requires c =
     }
 
 pub lines_from-requires-then-rest-width : goal.lines_from-requires-then-rest-width
-lines_from-requires-then-rest-width c =
-    let w = c.args.width in
-    let d = c.args.delimiter in
-    let rest = c.line_start-rest.result.now in
-    let word = c.first_element.result.0.now in
-    let at = first-at d rest word c.first_element.result.1.now c.first_element.ensures in
-    let same = sym (first-is d rest word c.first_element.result.1.now c.first_element.ensures) in
-    record {
-      at = record {
-        narrow = c.requires.narrow;
-        whole = c.line_start-rest.utf8;
-        begins_otherwise = c.line_start-rest.ensures.begins;
-        boundary = at.0;
-        element = at.1;
-        columns_are = subst (AreColumnsUpTo w c.columns_up_to-columns.result) same c.columns_up_to-columns.ensures;
-        wide_from = subst (IsWideFrom w c.wide_end-wide.result) same c.wide_end-wide.ensures;
-      };
-    }
+lines_from-requires-then-rest-width c = record {
+  at = at-first c.args.width c.args.delimiter c.line_start-rest.result.now c.first_element.result.0.now c.first_element.result.1.now _ _ c.requires.narrow c.line_start-rest.utf8 c.line_start-rest.ensures.begins c.first_element.ensures
+      c.columns_up_to-columns.ensures c.wide_end-wide.ensures;
+}
 
 pub lines_from-requires-2 : goal.lines_from-requires-2
 lines_from-requires-2 c =
-    let w = c.args.width in
-    let d = c.args.delimiter in
-    let rest = c.line_start-rest.result.now in
     let word = c.measured_element-columns.result.0.now in
-    let at = first-at d rest word c.measured_element-columns.result.1.now c.measured_element-columns.ensures.element in
-    let same = sym (first-is d rest word c.measured_element-columns.result.1.now c.measured_element-columns.ensures.element) in
     record {
-      at = record {
-        narrow = c.requires.narrow;
-        whole = c.line_start-rest.utf8;
-        begins_otherwise = c.line_start-rest.ensures.begins;
-        boundary = at.0;
-        element = at.1;
-        columns_are = subst (AreColumnsUpTo w c.measured_element-columns.result.2) same (exact-columns w c.measured_element-columns.result.2 word c.measured_element-columns.ensures.columns);
-        wide_from = subst (IsWideFrom w (length word + 1)) same (none-wider w word);
-      };
+      at = at-first c.args.width c.args.delimiter c.line_start-rest.result.now word c.measured_element-columns.result.1.now _ _ c.requires.narrow c.line_start-rest.utf8 c.line_start-rest.ensures.begins c.measured_element-columns.ensures.element
+          (exact-columns c.args.width _ word c.measured_element-columns.ensures.columns) (none-wider c.args.width word);
     }

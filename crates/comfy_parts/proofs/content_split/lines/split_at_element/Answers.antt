@@ -1,8 +1,6 @@
 use Rattle.std.proofs.Common.{◌∷◌, ◌++◌, List, take, ap, ◌∙◌, sym}
-use Rattle.std.specs.Str.{IsCharBoundary}
 use Rattle.std.proofs.lemmas.List.{take-append-drop}
 use Rattle.comfy_parts.specs.Text.{Text}
-use Rattle.comfy_parts.specs.Wrapping.{line_end}
 use Rattle.comfy_parts.proofs.LinesLemmas.{element-starts, line-place, line-then, rest-at, rest-shown}
 use Rattle.comfy_parts.proofs.MeasuredLineLemmas.{measured-behind}
 use Rattle.comfy_parts.proofs.content_split.lines.split_at_element.Goals as goal

@@ -1,4 +1,4 @@
-use Rattle.std.proofs.Common.{◌∷◌, List, true, ap, sym, ◌∙◌}
+use Rattle.std.proofs.Common.{◌∷◌, List, ap, sym, ◌∙◌}
 use Rattle.comfy_parts.specs.Text.{Text}
 use Rattle.comfy_parts.specs.Wrapping.{line_end, wrapped}
 use Rattle.comfy_parts.proofs.LinesLemmas.{line-place, line-then, plain-behind, plain-starts}

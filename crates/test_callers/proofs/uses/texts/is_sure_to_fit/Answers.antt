@@ -1,5 +1,4 @@
 use Rattle.std.proofs.Common.{◌∙◌, sym, refl}
-use Rattle.comfy_parts.specs.Columns.{TextFits}
 use Rattle.test_callers.proofs.uses.texts.is_sure_to_fit.Goals as goal
 
 pub returns-then-adds_one_column : goal.returns-then-adds_one_column

@@ -1,5 +1,5 @@
-use Rattle.std.proofs.Common.{◌∙◌, length, sym}
-use Rattle.comfy_parts.proofs.StartLemmas.{not_empty, wrapped-empty}
+use Rattle.std.proofs.Common.{◌∙◌, sym}
+use Rattle.comfy_parts.proofs.StartLemmas.{wrapped-empty}
 use Rattle.comfy_parts.proofs.content_split.lines.WrappedLinesIterator.next.Goals as goal
 
 pub returns-then-is_empty-clause-steps : goal.returns-then-is_empty-clause-steps

@@ -2,11 +2,12 @@ use Rattle.std.proofs.Common.{arith}
 use Rattle.std.proofs.lemmas.List.{length-map}
 use Rattle.comfy_table.specs.Deciding.{all_needs, undecided_among}
 use Rattle.comfy_table.specs.TableValue.{TableValue}
-use Rattle.comfy_table.proofs.LevelSearchLemmas.{level_found, needed_at_first, needed_at_next, one_each-undecided, undecided_among-count}
+use Rattle.comfy_table.proofs.LevelSearchLemmas.{level_found, needed_at_first, needed_at_next, one_each-undecided}
+use Rattle.comfy_table.proofs.UndecidedLemmas.{length-undecided_among}
 use Rattle.comfy_table.proofs.utils.arrangement.dynamic.level.level_from.Goals as goal
 
 pub loop-level-init : goal.loop-level-init
-loop-level-init c = grind (arith, undecided_among-count, length-map, needed_at_first)
+loop-level-init c = grind (arith, length-undecided_among, length-map, needed_at_first)
 
 pub loop-level-preserved : goal.loop-level-preserved
 loop-level-preserved c = grind (arith, needed_at_next, one_each-undecided)
