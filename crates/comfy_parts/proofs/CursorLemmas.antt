@@ -8,7 +8,7 @@ use Rattle.std.proofs.lemmas.Bool.{and_parts, true≢false}
 use Rattle.std.proofs.lemmas.Bool.{cases_lt, cond_both}
 use Rattle.std.proofs.lemmas.Grind.{flat_map-append}
 use Rattle.std.proofs.Math.Seq.{take-append-add, take-append_seam, take-length, drop-append-add, drop-append_seam}
-use Rattle.std.proofs.lemmas.List.{length-take-le, take-append-le, take_all}
+use Rattle.std.proofs.lemmas.List.{length-take-le, take-append-le}
 use Rattle.std.proofs.lemmas.Str.{IsCharBoundary-from_take, IsUtf8-drop}
 use Rattle.comfy_parts.specs.Cursor.{CursorValue, StandsAt, at_byte, begins_with_sequence, behind_bytes, bytes_up_to, character_parts, open_at_end, parts_behind, visible_part}
 use Rattle.comfy_parts.specs.Text.{Text, IsOnly, begins_with}
@@ -16,9 +16,9 @@ use Rattle.comfy_parts.specs.VisibleText.{Part, opened, parts, parts_before, par
 use Rattle.comfy_parts.proofs.FrontLemmas.{parts-behind_sequence, visible-seen}
 use Rattle.comfy_parts.proofs.LineTextLemmas.{before_from, before_further}
 use Rattle.comfy_parts.proofs.OpenLemmas.{opened-append}
-use Rattle.comfy_parts.proofs.ScanLemmas.{AreScanned, bytes_of, scan}
+use Rattle.comfy_parts.proofs.ScanLemmas.{bytes_of, scan}
 use Rattle.comfy_parts.proofs.SequenceLemmas.{begins_with_sequence as begins}
-use Rattle.comfy_parts.proofs.VisibleWholeLemmas.{none_at_front, visible_character, visible_text-whole}
+use Rattle.comfy_parts.proofs.VisibleWholeLemmas.{none_at_front, visible_character}
 use Rattle.cluster_width.proofs.SpaceMeasureLemmas.{one_character}
 use Rattle.comfy_parts.proofs.WrappingLemmas.{begins_with-append}
 
@@ -195,7 +195,7 @@ drops-behind n run rest few =
 
 -- visible bytes at a text's front end where a character does
 pub run-place : (n most : ℕ) (text : Text) → IsUtf8 text → n ≤ most → n ≤ length text → (n < most → IsCharBoundary text n)
-    → parts text ≡ map visible_part (take n text) ++ parts (drop n text) → IsUtf8 (take most (visible_text text)) → IsCharBoundary text n
+    → parts text ≡ map visible_part (take n text) ++ parts (drop n text) → (most ≤ length text → IsUtf8 (take most (visible_text text))) → IsCharBoundary text n
 run-place n most text utf8 within inside before divides whole = by_order (cases_lt n most)
   where
     front : take n (visible_text text) ≡ take n text
@@ -208,7 +208,7 @@ run-place n most text utf8 within inside before divides whole = by_order (cases_
     by_order (inl less) = before less
     by_order (inr equal) =
         let same : most ≡ n = omega (arith, equal, within) in
-        IsCharBoundary-from_take text n utf8 inside (subst IsUtf8 (ap (λ k. take k (visible_text text)) same ∙ front) whole)
+        IsCharBoundary-from_take text n utf8 inside (subst IsUtf8 (ap (λ k. take k (visible_text text)) same ∙ front) (whole (omega (arith, equal, inside))))
 
 -- ---- delimiters
 
@@ -242,47 +242,7 @@ is_taken n old text rest before after =
         ∙ flat_map-append (λ (p : Part). p.bytes) (parts_up_to n old.ahead) (parts_behind n old.ahead)
         ∙ ap (λ t. bytes_up_to n old ++ t) (ap bytes_of after ∙ (scan rest).bytes)
 
--- ---- the whole of a text line
-
--- no more bytes are visible than there are
-fewer_seen : (ps : List Part) → length (flat_map visible_bytes ps) ≤ length (bytes_of ps)
-fewer_seen [] = omega arith
-fewer_seen (p ∷ ps) =
-    let both = length-append p.bytes (bytes_of ps) in
-    cond_both p.is_sequence _ _ (λ bs. length (bs ++ flat_map visible_bytes ps) ≤ length (p.bytes ++ bytes_of ps)) (λ _. omega (arith, fewer_seen ps, both))
-    (λ _. omega (arith, fewer_seen ps, both, length-append p.bytes (flat_map visible_bytes ps)))
-
--- as many visible bytes as a text has bytes are taken whole
-pub whole_seen : (text : Text) → IsUtf8 text → IsUtf8 (take (length text) (visible_text text))
-whole_seen text utf8 =
-    subst IsUtf8 (sym (take_all (length text) (visible_text text) (subst (λ t. length (visible_text text) ≤ length t) (scan text).bytes (fewer_seen (parts text))))) (visible_text-whole text utf8)
-
--- and with them all parts
-up_to_all : (n : ℕ) (ps : List Part) (rest : Text) → AreScanned ps rest → length (bytes_of ps) ≤ n → parts_up_to n ps ≡ ps
-up_to_all zero [] rest scanned few = refl
-up_to_all (suc n) [] rest scanned few = refl
-up_to_all zero (p ∷ ps) rest (inl part, more) few =
-    let bytes = ap length part.sequence.is in
-    let both = length-append p.bytes (bytes_of ps) in
-    absurd (omega (arith, few, bytes, both))
-up_to_all zero (p ∷ ps) rest (inr part, more) few =
-    let bytes = ap (λ (x : Part). length x.bytes) part.is in
-    let both = length-append p.bytes (bytes_of ps) in
-    absurd (omega (arith, few, bytes, both))
-up_to_all (suc n) (p ∷ ps) rest (inl part, more) few =
-    let bytes = ap length part.sequence.is in
-    let both = length-append p.bytes (bytes_of ps) in
-    ap (λ (x : Part). p ∷ parts_up_to (if x.is_sequence then suc n else n) ps) part.is ∙ ap (λ qs. p ∷ qs) (up_to_all (suc n) ps rest more (omega (arith, few, bytes, both)))
-up_to_all (suc n) (p ∷ ps) rest (inr part, more) few =
-    let bytes = ap (λ (x : Part). length x.bytes) part.is in
-    let both = length-append p.bytes (bytes_of ps) in
-    ap (λ (x : Part). p ∷ parts_up_to (if x.is_sequence then suc n else n) ps) part.is ∙ ap (λ qs. p ∷ qs) (up_to_all n ps rest more (omega (arith, few, bytes, both)))
-
--- so as many visible bytes as a text has bytes pass all of it
-pub whole_passed : (text : Text) → parts_up_to (length text) (parts text) ≡ parts text
-whole_passed text =
-    let bytes = ap length (scan text).bytes in
-    up_to_all (length text) (parts text) [] (scan text).scanned (omega (arith, bytes))
+-- ---- sequences
 
 -- texts side by side
 pub concat-map : {X : Type 0} (f : X → Text) (xs : List X) → flat_map f xs ≡ concat (map f xs)

@@ -1,6 +1,8 @@
 -- Private: a cursor over the parts of a cell's text lines: what it passes, and the sequences that are open where it stands.
-use Rattle.std.specs.Prelude.{◌≡◌, ℕ, zero, suc, Bool, true, false, List, [], ◌∷◌, ◌++◌, map, length, flat_map, encode_utf8, if◌then◌else◌}
+use Rattle.std.specs.Prelude.{◌≡◌, ◌<◌, ℕ, zero, suc, Bool, true, false, Option, None, Some, List, [], ◌∷◌, ◌++◌, map, length, flat_map, encode_utf8, if◌then◌else◌}
 use Rattle.comfy_parts.specs.Text.{Text, IsOnly, begins_with}
+use Rattle.comfy_parts.specs.declared.content_split.sequences.TextPart.{TextPart}
+use Rattle.comfy_parts.specs.declared.content_split.sequences.TextPart.TheVariants.{Sequence, Visible}
 use Rattle.comfy_parts.specs.VisibleText.{Part, opened, opened_by, parts_before, parts_from, parts_up_to, visible_bytes}
 
 -- ---- parts
@@ -27,6 +29,12 @@ abbrev pub parts_behind : ℕ → List Part → List Part
 parts_behind zero ps = ps
 parts_behind (suc n) [] = []
 parts_behind (suc n) (p ∷ ps) = parts_behind (if p.is_sequence then suc n else n) ps
+
+-- a call of an iterator over parts gave a sequence, or visible bytes, or nothing where no part was left
+abbrev pub GivesPart : List Part → Option TextPart → List Part → Type 0
+GivesPart old None new = (old ≡ []) × (new ≡ [])
+GivesPart old (Some (Sequence s)) new = old ≡ sequence_part s.now ∷ new
+GivesPart old (Some (Visible t)) new = (old ≡ map visible_part t.now ++ new) × (0 < length t.now)
 
 -- ---- a cursor
 

@@ -1,8 +1,9 @@
 //! SGR sequences in texts: ESC, `[`, digits, `;` and `:`, then `m`. They count nothing.
 
-ghost use Rattle.std.specs.Prelude.{◌≡◌, ◌<◌, ◌≤◌, ◌∷◌, ◌++◌, ◌==◌, not, length, map, take, drop, slice_index, IfNone, IfOk, IfSome, IsUtf8, string_bytes};
+ghost use Rattle.std.specs.Prelude.{◌≡◌, ◌<◌, ◌≤◌, ◌∷◌, ◌++◌, ◌==◌, not, length, map, take, slice_index, IfNone, IfOk, IfSome, IsUtf8, string_bytes};
 ghost use Rattle.std.specs.Str.{IsCharBoundary};
-ghost use Rattle.comfy_parts.specs.Cursor.{sequence_part, visible_part};
+ghost use Rattle.std.specs.Iterator.{item_count};
+ghost use Rattle.comfy_parts.specs.Cursor.{GivesPart, sequence_part, visible_part};
 ghost use Rattle.comfy_parts.specs.VisibleText.{has_escape, is_parameter, open_after, parts, sequence_len, visible_text};
 
 mod cursor;
@@ -30,19 +31,47 @@ pub(crate) fn has_escape(text: &str) -> bool
     found
 }
 
+/// A part of a text.
+#[derive(Clone, Copy)]
+pub(crate) enum TextPart<'a> {
+    Sequence(&'a str),
+    // visible text up to the next ESC
+    Visible(&'a str),
+}
+
+/// The parts of a text, in order.
+#[derive(Drop)]
+pub(crate) struct TextParts<'a>(&'a str);
+
+impl<'a> Iterator for TextParts<'a> {
+    type Item = TextPart<'a>;
+
+    ghost next_gives = { λ old part new. GivesPart (parts old.0.now) part (parts new.0.now) };
+
+    ghost remaining = { item_count (λ left. parts left.0.now) };
+
+    fn next(&mut self) -> Option<TextPart<'a>> {
+        if let Some((sequence, rest)) = split_sequence(self.0) {
+            self.0 = rest;
+            return Some(TextPart::Sequence(sequence));
+        }
+        let (visible, rest) = split_visible(self.0, usize::MAX);
+        self.0 = rest;
+        if visible.is_empty() {
+            return None;
+        }
+        Some(TextPart::Visible(visible))
+    }
+}
+
 /// What is visible of a text: the text without its SGR sequences. What joins where one was taken out isn't looked at again.
 pub fn visible_text(alloc: Global, text: &str) -> Result<String>
     ensures { IfOk result (λ seen. string_bytes seen ≡ visible_text text.now) }
 {
     let mut seen = String::with_capacity(alloc, text.len())?;
-    let mut rest = text;
-    'parts: while !rest.is_empty() {
-        if let Some((_, behind)) = split_sequence(rest) {
-            rest = behind;
-        } else {
-            let (visible, behind) = split_visible(rest);
+    for part in TextParts(text) {
+        if let TextPart::Visible(visible) = part {
             seen.push_str(visible)?;
-            rest = behind;
         }
     }
     Ok(seen)
@@ -53,14 +82,9 @@ pub fn leaves_sequence_open(text: &str) -> bool
     ensures { result ≡ not (length (open_after (parts text.now)) == 0) }
 {
     let mut is_open = false;
-    let mut rest = text;
-    'parts: while !rest.is_empty() {
-        if let Some((sequence, behind)) = split_sequence(rest) {
+    for part in TextParts(text) {
+        if let TextPart::Sequence(sequence) = part {
             is_open = sequence != RESET;
-            rest = behind;
-        } else {
-            let (_, behind) = split_visible(rest);
-            rest = behind;
         }
     }
     is_open
@@ -79,38 +103,29 @@ pub(crate) fn split_sequence(text: &str) -> Option<(&str, &str)>
     Some(text.split_at(len))
 }
 
-/// The visible text up to the next ESC, of a text that has no sequence at its front, and what is after it.
-pub(crate) fn split_visible(text: &str) -> (&str, &str)
-    requires { sequence_len text.now ≡ 0 }
+/// The visible text up to the next ESC, at most so many bytes, and what is after it, of a text that has no sequence at its
+/// front.
+pub(crate) fn split_visible(text: &str, most: usize) -> (&str, &str)
+    requires none { sequence_len text.now ≡ 0 }
+    requires fits { most ≤ length text.now → IsUtf8 (take most (visible_text text.now)) }
     ensures parts { parts text.now ≡ map visible_part result.0.now ++ parts result.1.now }
     ensures whole { IsUtf8 result.0.now }
     ensures whole_behind { IsUtf8 result.1.now }
-    ensures some { 0 < length text.now → 0 < length result.0.now }
-{
-    text.split_at(visible_run(text, text.len()))
-}
-
-/// How many bytes are visible up to the next ESC, at most so many, of a text that has no sequence at its front.
-pub(crate) fn visible_run(text: &str, most: usize) -> usize
-    requires { sequence_len text.now ≡ 0 }
-    ensures parts { parts text.now ≡ map visible_part (take result text.now) ++ parts (drop result text.now) }
-    ensures within { result ≤ most }
-    ensures inside { result ≤ length text.now }
-    ensures boundary { result < most → IsCharBoundary text.now result }
-    ensures some { 0 < most → 0 < length text.now → 0 < result }
-    ensures next { result < most → result < length text.now → slice_index text.now result ≡ 0x1b }
+    ensures within { length result.0.now ≤ most }
+    ensures some { 0 < most → 0 < length text.now → 0 < length result.0.now }
+    ensures next { length result.0.now < most → 0 < length result.1.now → slice_index result.1.now 0 ≡ 0x1b }
 {
     let bytes = text.as_bytes();
     let end = bytes.len().min(most);
     if end == 0 {
-        return 0;
+        return ("", text);
     }
     // An ESC that begins no sequence is visible.
     let mut run = 1;
     'run: while run < end && bytes[run] != ESC {
         run += 1;
     }
-    run
+    text.split_at(run)
 }
 
 // The bytes of the sequence at a text's front, 0 where there is none.

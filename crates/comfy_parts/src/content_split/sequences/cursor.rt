@@ -1,13 +1,13 @@
 //! A cursor that passes the text lines of a cell once, and knows the SGR sequences that are open where it stands.
 
-ghost use Rattle.std.specs.Prelude.{◌≡◌, ◌<◌, ◌≤◌, ◌++◌, [], true, false, length, map, take, drop, IfOk, IsUtf8, OnOk, string_bytes};
+ghost use Rattle.std.specs.Prelude.{◌≡◌, ◌<◌, ◌++◌, [], true, false, map, take, drop, IfOk, IsUtf8, OnOk, string_bytes};
 ghost use Rattle.std.specs.List.{concat};
-ghost use Rattle.comfy_parts.specs.Cursor.{IsBehindGap, StandsAt, at_byte, begins_with_sequence, behind_bytes, bytes_up_to, character_parts, open_at_end, past_sequence, seen_ahead, visible_part};
+ghost use Rattle.comfy_parts.specs.Cursor.{IsBehindGap, StandsAt, at_byte, begins_with_sequence, behind_bytes, bytes_up_to, character_parts, open_at_end, past_sequence, seen_ahead, sequence_part};
 ghost use Rattle.comfy_parts.specs.Text.{begins_with};
-ghost use Rattle.comfy_parts.specs.VisibleText.{parts};
+ghost use Rattle.comfy_parts.specs.VisibleText.{opened_by, parts};
 ghost use Rattle.comfy_parts.specs.Written.{written};
 
-use crate::content_split::sequences::{RESET, split_sequence, visible_run};
+use crate::content_split::sequences::{RESET, TextPart, TextParts, split_sequence, split_visible};
 use crate::error::Result;
 use std::alloc::Global;
 use std::marker::Model;
@@ -46,9 +46,11 @@ impl<'a> Cursor<'a> {
     pub(crate) fn begin(&mut self, text: &'a str) -> Result<()>
         ensures { OnOk result (self.new ≡ record { sequences = open_at_end self.old; ahead = parts text.now }) }
     {
-        // No text has more visible bytes than bytes, so this passes all that is left.
-        let rest = self.rest.len();
-        self.pass_visible(rest)?;
+        for part in TextParts(self.rest) {
+            if let TextPart::Sequence(sequence) = part {
+                self.add(sequence)?;
+            }
+        }
         self.rest = text;
         Ok(())
     }
@@ -115,7 +117,8 @@ impl<'a> Cursor<'a> {
             if self.pass_sequence()? {
                 continue;
             }
-            let passed = self.pass_run(left);
+            let (passed, behind) = split_visible(self.rest, left);
+            self.rest = behind;
             if passed.is_empty() {
                 return Ok(());
             }
@@ -140,26 +143,21 @@ impl<'a> Cursor<'a> {
         let Some((sequence, behind)) = split_sequence(self.rest) else {
             return Ok(false);
         };
+        self.rest = behind;
+        self.add(sequence)?;
+        Ok(true)
+    }
+
+    // Adds a sequence to those that are open. A reset closes them.
+    fn add(&mut self, sequence: &'a str) -> Result<()>
+        ensures { OnOk result (self.new ≡ record self.old { sequences = opened_by self.old.sequences (sequence_part sequence.now) }) }
+    {
         if sequence == RESET {
             self.sequences.clear();
         } else {
             self.sequences.push(sequence)?;
         }
-        self.rest = behind;
-        Ok(true)
-    }
-
-    // Passes the visible text up to the next ESC, at most so many bytes of it, and gives what it passed.
-    fn pass_run(&mut self, most: usize) -> &'a str
-        requires none { begins_with_sequence self.old.ahead ≡ false }
-        requires whole { IsUtf8 (take most (seen_ahead self.old)) }
-        ensures passed { self.old ≡ record self.new { ahead = map visible_part result.now ++ self.new.ahead } }
-        ensures within { length result.now ≤ most }
-        ensures some { 0 < most → result.now ≡ [] → self.old.ahead ≡ [] }
-    {
-        let (passed, behind) = self.rest.split_at(visible_run(self.rest, most));
-        self.rest = behind;
-        passed
+        Ok(())
     }
 
     // Passes the delimiter, where it comes next.

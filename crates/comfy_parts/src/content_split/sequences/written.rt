@@ -10,7 +10,7 @@ ghost use Rattle.comfy_parts.specs.Written.{closes_itself, wrapped_positions, wr
 use crate::content_split::display_info::ColumnDisplayInfo;
 use crate::content_split::lines::wrapped_lines;
 use crate::content_split::sequences::cursor::Cursor;
-use crate::content_split::sequences::{RESET, split_sequence, split_visible};
+use crate::content_split::sequences::{RESET, TextPart, TextParts};
 use crate::error::Result;
 use std::alloc::Global;
 
@@ -91,21 +91,17 @@ pub(crate) fn is_written_whole(text: &str) -> bool
 {
     let mut is_open = false;
     let mut follows_visible = false;
-    let mut rest = text;
-    'parts: while !rest.is_empty() {
-        if let Some((sequence, behind)) = split_sequence(rest) {
-            let is_reset = sequence == RESET;
-            if is_reset && !(is_open && follows_visible) {
-                return false;
-            }
-            is_open = !is_reset;
-            follows_visible = false;
-            rest = behind;
-        } else {
-            let (_, behind) = split_visible(rest);
+    for part in TextParts(text) {
+        let TextPart::Sequence(sequence) = part else {
             follows_visible = true;
-            rest = behind;
+            continue;
+        };
+        let is_reset = sequence == RESET;
+        if is_reset && !(is_open && follows_visible) {
+            return false;
         }
+        is_open = !is_reset;
+        follows_visible = false;
     }
     !is_open
 }

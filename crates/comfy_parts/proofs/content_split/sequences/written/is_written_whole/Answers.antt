@@ -1,25 +1,17 @@
-use Rattle.std.proofs.Common.{◌≡◌, ◌<◌, [], List, length, ap, ◌∙◌, arith, refl, ℕ}
-use Rattle.std.proofs.lemmas.Bool.Decides.{nat_tests}
-use Rattle.std.proofs.lemmas.List.{nil_from_length}
+use Rattle.std.proofs.Common.{ap, ◌∙◌}
 use Rattle.comfy_parts.specs.VisibleText.{parts}
 use Rattle.comfy_parts.specs.Written.{closes_itself}
 use Rattle.comfy_parts.proofs.WholeTextLemmas.{closes-visible, written_whole}
 use Rattle.comfy_parts.proofs.content_split.sequences.written.is_written_whole.Goals as goal
 
-pub parts-preserved : goal.parts-preserved
-parts-preserved c =
-    let some : 0 < length c.parts.rest.now = grind (arith, nat_tests) in
-    record {
-      utf8 = c.split_visible.ensures.whole_behind;
-      left = c.parts.invariant.left
-          ∙ ap (closes_itself c.parts.is_open c.parts.follows_visible) c.split_visible.ensures.parts
-          ∙ closes-visible c.parts.is_open c.parts.follows_visible c.split_visible.result.0.now (parts c.split_visible.result.1.now) (c.split_visible.ensures.some some);
-    }
+pub loop-part-preserved-in_default : goal.loop-part-preserved-in_default
+loop-part-preserved-in_default c =
+    let step = rw c.in_default.is at c.in-Some.ensures.steps in
+    let is_open = c.loop-part.is_open in
+    let follows = c.loop-part.follows_visible in
+    c.loop-part.invariant ∙ ap (closes_itself is_open follows) step.0 ∙ closes-visible is_open follows c.in_default.field-0.now (parts c.next.new.self.0.now) step.1
 
 pub returns : goal.returns
 returns c =
-    let none : c.parts.rest.now ≡ [] = nil_from_length c.parts.rest.now (grind (arith, nat_tests)) in
-    λ closed. written_whole c.args.text.now (c.parts.invariant.left ∙ ap (λ (t : List ℕ). closes_itself c.parts.is_open c.parts.follows_visible (parts t)) none ∙ closed)
-
-pub parts-init : goal.parts-init
-parts-init c = record { utf8 = c.utf8.text; left = refl }
+    let none = c.in-None.ensures.steps.0 in
+    λ closed. written_whole c.args.text.now (c.loop-part.invariant ∙ ap (closes_itself c.loop-part.is_open c.loop-part.follows_visible) none ∙ closed)

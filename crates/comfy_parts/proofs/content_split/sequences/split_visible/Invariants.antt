@@ -1,7 +1,7 @@
 use Rattle.std.proofs.Common.{◌≡◌, ◌<◌, ◌≤◌, ◌-◌, ◌++◌, map, take, drop}
 use Rattle.comfy_parts.specs.Cursor.{visible_part}
 use Rattle.comfy_parts.specs.VisibleText.{parts}
-use Rattle.comfy_parts.proofs.content_split.sequences.visible_run.Given as goal
+use Rattle.comfy_parts.proofs.content_split.sequences.split_visible.Given as goal
 
 abbrev pub invariant-run : goal.invariant-run
 invariant-run l =
