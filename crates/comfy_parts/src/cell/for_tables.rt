@@ -8,7 +8,7 @@ ghost use Rattle.comfy_parts.specs.VisibleLines.{CellLine, line_texts};
 ghost use Rattle.comfy_parts.specs.VisibleText.{has_escape, line_text, visible_text};
 
 use crate::cell::Cell;
-use crate::content_split::ColumnDisplayInfo;
+use crate::content_split::{ColumnDisplayInfo, Cursor, push_lines};
 use crate::error::Result;
 
 /// The text lines, in order, and the terminal columns that each takes. Without sequences they are what is visible of the
@@ -41,19 +41,28 @@ pub fn is_written_whole(text: &str) -> bool
 
 /// The texts that are written for the lines of the cell in a column where SGR sequences count nothing, from the top.
 ///
-/// The lines themselves are those of `measured_lines` without sequences, wrapped at the column's content width. A line's text begins with
-/// the sequences that are active there, keeps those between its visible characters, and ends with `ESC[0m` where one
-/// is open then. Sequences of earlier text lines stay active.
+/// The lines themselves are those of `measured_lines` without sequences, wrapped at the column's content width. A line's
+/// text begins with the sequences that are active there, keeps those between its visible characters, and ends with
+/// `ESC[0m` where one is open then. Sequences of earlier text lines stay active.
 pub fn written_lines(cell: &Cell, info: &ColumnDisplayInfo, delimiter: char) -> Result<Vec<String>>
     ensures { IfOk result (λ texts. map string_bytes texts.items ≡ map (λ (line : CellLine). line.written) (line_texts info.now.content_width delimiter cell.now.text_lines)) }
 {
+    let alloc = *cell.attributes.allocator();
+    let texts = cell.text_lines();
     let (visible, widths) = cell.text_lines.visible();
-    crate::content_split::written_lines(
-        *cell.attributes.allocator(),
-        cell.text_lines(),
-        visible,
-        widths,
-        info,
-        delimiter,
-    )
+    let mut lines = Vec::new(alloc);
+    let mut cursor = Cursor::new(alloc);
+    for position in 0..texts.len() {
+        cursor.begin(texts[position].as_str())?;
+        let visible = visible[position].as_str();
+        push_lines(
+            &mut lines,
+            &mut cursor,
+            visible,
+            widths[position],
+            info,
+            delimiter,
+        )?;
+    }
+    Ok(lines)
 }

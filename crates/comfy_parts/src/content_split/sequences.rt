@@ -6,7 +6,7 @@ ghost use Rattle.std.specs.Iterator.{item_count};
 ghost use Rattle.comfy_parts.specs.Cursor.{GivesPart, sequence_part, visible_part};
 ghost use Rattle.comfy_parts.specs.VisibleText.{has_escape, is_parameter, open_after, parts, sequence_len, visible_text};
 
-mod cursor;
+pub(crate) mod cursor;
 pub mod written;
 
 use crate::error::Result;

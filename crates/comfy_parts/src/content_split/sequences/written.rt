@@ -1,51 +1,20 @@
 //! The texts that are written for the lines of a cell whose text holds SGR sequences.
 
-ghost use Rattle.std.specs.Prelude.{◌≡◌, ◌++◌, [], false, length, map, true, IfOk, OnOk, string_bytes};
+ghost use Rattle.std.specs.Prelude.{◌≡◌, ◌++◌, [], length, map, true, OnOk, string_bytes};
 ghost use Rattle.comfy_parts.specs.Cursor.{open_at_end, seen_ahead};
 ghost use Rattle.comfy_parts.specs.Text.{measure};
-ghost use Rattle.comfy_parts.specs.VisibleLines.{CellLine, line_texts};
-ghost use Rattle.comfy_parts.specs.VisibleText.{line_text, parts, visible_text};
-ghost use Rattle.comfy_parts.specs.Written.{closes_itself, wrapped_positions, written_at, written_of_text};
+ghost use Rattle.comfy_parts.specs.VisibleText.{line_text, visible_text};
+ghost use Rattle.comfy_parts.specs.Written.{wrapped_positions, written_at, written_of_text};
 
 use crate::content_split::display_info::ColumnDisplayInfo;
 use crate::content_split::lines::wrapped_lines;
 use crate::content_split::sequences::cursor::Cursor;
 use crate::content_split::sequences::{RESET, TextPart, TextParts};
 use crate::error::Result;
-use std::alloc::Global;
 
-/// The texts that are written for the lines of a cell, which are those of what is visible of its text lines. Each resumes
-/// the sequences that are open where it begins, and ends with a reset where one is open then.
-pub(crate) fn written_lines(
-    alloc: Global,
-    texts: &[String],
-    seen: &[String],
-    widths: &[usize],
-    info: &ColumnDisplayInfo,
-    delimiter: char,
-) -> Result<Vec<String>>
-    requires seen { map string_bytes seen.now ≡ map visible_text (map string_bytes texts.now) }
-    requires widths { widths.now ≡ map measure (map string_bytes seen.now) }
-    ensures { IfOk result (λ lines. map string_bytes lines.items ≡ map (λ (line : CellLine). line.written) (line_texts info.now.content_width delimiter (map string_bytes texts.now))) }
-{
-    let mut lines = Vec::new(alloc);
-    let mut cursor = Cursor::new(alloc);
-    for position in 0..texts.len() {
-        cursor.begin(texts[position].as_str())?;
-        push_lines(
-            &mut lines,
-            &mut cursor,
-            seen[position].as_str(),
-            widths[position],
-            info,
-            delimiter,
-        )?;
-    }
-    Ok(lines)
-}
-
-// Appends the texts of the lines of the text line that the cursor stands before.
-fn push_lines(
+/// Appends the texts that are written for the lines of the text line that the cursor stands before. Each resumes the
+/// sequences that are open where it begins, and ends with a reset where one is open then.
+pub(crate) fn push_lines(
     lines: &mut Vec<String>,
     cursor: &mut Cursor<'_>,
     seen: &str,
