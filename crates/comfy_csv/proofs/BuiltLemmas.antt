@@ -9,19 +9,19 @@ use Rattle.comfy_parts.specs.Text.{Text}
 use Rattle.comfy_table.proofs.BuiltTableLemmas.{IsBuilt, IsNewColumn, built-header, built-rows}
 use Rattle.comfy_table.specs.TableValue.{TableValue, with_header, with_rows}
 use Rattle.csv.specs.Records.{field_at}
-use Rattle.comfy_csv_parts.specs.Cells.{drawn_text, field_or_blank, header_for, marked, row_for}
+use Rattle.comfy_csv_parts.specs.Cells.{field_text, field_or_blank, header_for, marked, row_for}
 use Rattle.comfy_csv_parts.specs.Cleaning.{after_character, cleaned, start}
 use Rattle.comfy_csv_parts.specs.Columns.{columns_for}
 use Rattle.comfy_csv.specs.Drawn.{empty_table, limited, ok_map, table_for, titled_table, untitled_table}
 use Rattle.comfy_csv_parts.specs.Markdown.{escaped}
 use Rattle.comfy_csv_parts.specs.declared.options.Look.{Look}
 use Rattle.comfy_csv_parts.specs.declared.options.Options.{Options}
-use Rattle.comfy_csv_parts.specs.declared.options.ShownColumn.{ShownColumn}
+use Rattle.comfy_csv_parts.specs.declared.options.DrawnColumn.{DrawnColumn}
 
 -- what was made was made of columns
-pub made_of : (f : List ShownColumn → TableValue) (found : Result (List ShownColumn) Text) (table : TableValue) → ok_map f found ≡ Ok table → (columns : List ShownColumn) × (found ≡ Ok columns) × (f columns ≡ table)
-made_of f (Ok columns) table is = (columns, refl, cc is)
-made_of f (Err name) table is = absurd (cc is)
+pub built_of : (f : List DrawnColumn → TableValue) (found : Result (List DrawnColumn) Text) (table : TableValue) → ok_map f found ≡ Ok table → (columns : List DrawnColumn) × (found ≡ Ok columns) × (f columns ≡ table)
+built_of f (Ok columns) table is = (columns, refl, cc is)
+built_of f (Err name) table is = absurd (cc is)
 
 all_limited : {A : Type 0} (P : A → Type 0) (limit : Option ℕ) (xs : List A) → All P xs → All P (limited limit xs)
 all_limited P None xs each = each
@@ -38,7 +38,7 @@ blank_cleaned : (keeps : Bool) → cleaned keeps [] ≡ []
 blank_cleaned keeps = ap (λ (cs : List ℕ). (fold (after_character keeps) start cs).text) chars-nil
 
 -- the empty field is drawn as it is
-pub blank_drawn : (look : Look) → drawn_text look [] ≡ []
+pub blank_drawn : (look : Look) → field_text look [] ≡ []
 blank_drawn look = by_flags look.is_markdown look.is_raw
   where
     none_escaped : marked true [] ≡ []
@@ -55,29 +55,29 @@ module _ (options : Options) (plain : options.look.has_sequences ≡ false) (Q :
   Built = IsBuilt (empty_table options.look) plain Q
 
   -- Q holds of the header and of the row that are made of some fields
-  abbrev pub MakesRow : List ShownColumn → List Text → Type 0
+  abbrev pub MakesRow : List DrawnColumn → List Text → Type 0
   MakesRow columns fields = Q (header_for options.look columns fields) × Q (row_for options.look columns fields)
 
   -- so it does for each record
   abbrev pub MakesRows : List (List Text) → Type 0
-  MakesRows records = (columns : List ShownColumn) → All (MakesRow columns) records
+  MakesRows records = (columns : List DrawnColumn) → All (MakesRow columns) records
 
   empty : Built (empty_table options.look)
   empty = record { is = refl; columns = All-nil IsNewColumn; header = All-nil Q; rows = All-nil Q }
 
-  with_records : (columns : List ShownColumn) (rows : List (List Text)) (table : TableValue) → MakesRows rows → Built table → Built (with_rows (map (row_for options.look columns) rows) table)
+  with_records : (columns : List DrawnColumn) (rows : List (List Text)) (table : TableValue) → MakesRows rows → Built table → Built (with_rows (map (row_for options.look columns) rows) table)
   with_records columns rows table makes known =
       built-rows (empty_table options.look) plain Q (map (row_for options.look columns) rows) table
       (All-map Q (row_for options.look columns) rows (All-weaker (MakesRow columns) (λ (fields : List Text). Q (row_for options.look columns fields)) (λ fields both. both.1) rows (makes columns))) known
 
   untitled : (rows : List (List Text)) (table : TableValue) → MakesRows rows → untitled_table options rows ≡ Ok table → Built table
   untitled rows table makes is =
-      let found = made_of (λ (columns : List ShownColumn). with_rows (map (row_for options.look columns) rows) (empty_table options.look)) (columns_for options [] rows) table is in
+      let found = built_of (λ (columns : List DrawnColumn). with_rows (map (row_for options.look columns) rows) (empty_table options.look)) (columns_for options [] rows) table is in
       subst Built found.2 (with_records found.0 rows (empty_table options.look) makes empty)
 
-  titled : (names : List Text) (rows : List (List Text)) (table : TableValue) → ((columns : List ShownColumn) → Q (header_for options.look columns names)) → MakesRows rows → titled_table options names rows ≡ Ok table → Built table
+  titled : (names : List Text) (rows : List (List Text)) (table : TableValue) → ((columns : List DrawnColumn) → Q (header_for options.look columns names)) → MakesRows rows → titled_table options names rows ≡ Ok table → Built table
   titled names rows table head makes is =
-      let found = made_of (λ (columns : List ShownColumn). with_rows (map (row_for options.look columns) rows) (with_header (header_for options.look columns names) (empty_table options.look))) (columns_for options names rows) table is in
+      let found = built_of (λ (columns : List DrawnColumn). with_rows (map (row_for options.look columns) rows) (with_header (header_for options.look columns names) (empty_table options.look))) (columns_for options names rows) table is in
       subst Built found.2 (with_records found.0 rows (with_header (header_for options.look found.0 names) (empty_table options.look)) makes (built-header (empty_table options.look) plain Q (header_for options.look found.0 names) (empty_table options.look) (head found.0) empty))
 
   few : (rows : List (List Text)) → MakesRows rows → MakesRows (limited options.limit rows)

@@ -13,7 +13,7 @@ use Rattle.comfy_parts.proofs.CallerLemmas.{All-none, IsUtf8-printable, ascii-pr
 use Rattle.comfy_parts.specs.CellValue.{plain_cell}
 use Rattle.comfy_parts.specs.Text.{Text, is_printable_ascii}
 use Rattle.comfy_csv_parts.proofs.CleaningLemmas.{drawn_so}
-use Rattle.comfy_csv_parts.specs.Cells.{drawn_text, marked}
+use Rattle.comfy_csv_parts.specs.Cells.{field_text, marked}
 use Rattle.comfy_csv_parts.specs.Cleaning.{cleaned}
 use Rattle.comfy_csv.specs.Laws.{PrintableFieldsStay}
 use Rattle.comfy_csv_parts.specs.Markdown.{escaped, escaped_character, is_special}
@@ -62,7 +62,7 @@ one_line text printable =
     subst (All (λ (line : Text). is_printable_ascii line ≡ true)) (sym whole) (All-cons (λ (line : Text). is_printable_ascii line ≡ true) text [] printable (All-nil (λ (line : Text). is_printable_ascii line ≡ true)))
 
 pub fields_stay : (look : Look) (field : Text) → PrintableFieldsStay look field
-fields_stay look field printable = one_line (drawn_text look field) whole
+fields_stay look field printable = one_line (field_text look field) whole
   where
     clean : cleaned look.has_sequences field ≡ field
     clean = sym (drawn_so look.has_sequences field (IsUtf8-printable field printable) (ap (list_any is_control) (chars-IsAscii field (ascii-printable field printable)) ∙ none_pass is_control no_control field printable))
@@ -71,5 +71,5 @@ fields_stay look field printable = one_line (drawn_text look field) whole
     by_raw true = printable
     by_raw false = ap is_printable_ascii clean ∙ printable
 
-    whole : is_printable_ascii (drawn_text look field) ≡ true
+    whole : is_printable_ascii (field_text look field) ≡ true
     whole = marked_stays look.is_markdown (if look.is_raw then field else cleaned look.has_sequences field) (by_raw look.is_raw)

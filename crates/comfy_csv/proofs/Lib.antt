@@ -1,7 +1,7 @@
 pub mod BuiltLemmas
 pub mod FieldLemmas
 pub mod LineLemmas
-pub mod PlainLemmas
+pub mod PrintableTableLemmas
 pub mod RowLemmas
 pub mod RunLemmas
 pub mod StraightLemmas

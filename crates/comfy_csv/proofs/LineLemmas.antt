@@ -10,12 +10,12 @@ use Rattle.comfy_table.specs.Arrangement.{width_kept}
 use Rattle.comfy_table.specs.NewTables.{IsShortRow}
 use Rattle.comfy_table.specs.TableValue.{TableValue, should_style, table_width}
 use Rattle.comfy_csv.proofs.BuiltLemmas.{Built, MakesRow, blank_drawn, built, each_field}
-use Rattle.comfy_csv_parts.specs.Cells.{cell_for, drawn_text, field_or_blank, header_for, row_for, with_weight}
+use Rattle.comfy_csv_parts.specs.Cells.{cell_for, field_text, field_or_blank, header_for, row_for, with_weight}
 use Rattle.comfy_csv.specs.Drawn.{empty_table, note_for, row_count, table_for}
-use Rattle.comfy_csv.specs.Laws.{IsPlainLook, OutputFillsWidth, OutputKeepsToWidth, WholeOutputIsStraight}
+use Rattle.comfy_csv.specs.Laws.{IsUnstyledUncut, OutputFillsWidth, OutputKeepsToWidth, WholeOutputIsStraight}
 use Rattle.comfy_csv_parts.specs.declared.options.Look.{Look}
 use Rattle.comfy_csv_parts.specs.declared.options.Options.{Options}
-use Rattle.comfy_csv_parts.specs.declared.options.ShownColumn.{ShownColumn}
+use Rattle.comfy_csv_parts.specs.declared.options.DrawnColumn.{DrawnColumn}
 
 abbrev pub Any : RowValue → Type 0
 Any row = Unit {0}
@@ -47,23 +47,23 @@ fills_width w options records output wide filled plain made =
       is_table = made.is_table;
       lines = made.is_drawing.0;
       drawing = drawing;
-      counts = record { frame_lines = λ line some. (counts some).frame_lines line; plain_lines = λ is k default below some. (counts some).plain_lines is k default below; straight_lines = λ is k default below some. (counts some).straight_lines is k default below };
+      counts = record { frame_lines = λ line some. (counts some).frame_lines line; printable_lines = λ is k default below some. (counts some).printable_lines is k default below; straight_lines = λ is k default below some. (counts some).straight_lines is k default below };
       joined = made.joined ∙ ap (λ t. t ++ note_for options.limit (row_count options.has_header (length records))) made.is_drawing.2;
     }
 
 -- P holds of each text line of a field as it is drawn
 abbrev pub EachLine : (Text → Type 0) → Look → Text → Type 0
-EachLine P look field = All P (plain_cell (drawn_text look field)).text_lines
+EachLine P look field = All P (plain_cell (field_text look field)).text_lines
 
 module _ (P : Text → Type 0) (empty : P []) (look : Look) where
   -- so P does of each cell of a row
-  pub cells_each : (columns : List ShownColumn) (fields : List Text) → All (EachLine P look) fields
-      → All (λ (cell : CellValue). All P cell.text_lines) (map (λ (column : ShownColumn). with_weight false (cell_for look column.alignment (field_or_blank fields column.position))) columns)
+  pub cells_each : (columns : List DrawnColumn) (fields : List Text) → All (EachLine P look) fields
+      → All (λ (cell : CellValue). All P cell.text_lines) (map (λ (column : DrawnColumn). with_weight false (cell_for look column.alignment (field_or_blank fields column.position))) columns)
   cells_each columns fields each =
-      All-map (λ (cell : CellValue). All P cell.text_lines) (λ (column : ShownColumn). with_weight false (cell_for look column.alignment (field_or_blank fields column.position))) columns
-      (All-every (λ (column : ShownColumn). EachLine P look (field_or_blank fields column.position)) columns (λ column. each_field (EachLine P look) (subst (λ (text : Text). All P (plain_cell text).text_lines) (sym (blank_drawn look)) (All-cons P [] [] empty (All-nil P))) fields column.position each))
+      All-map (λ (cell : CellValue). All P cell.text_lines) (λ (column : DrawnColumn). with_weight false (cell_for look column.alignment (field_or_blank fields column.position))) columns
+      (All-every (λ (column : DrawnColumn). EachLine P look (field_or_blank fields column.position)) columns (λ column. each_field (EachLine P look) (subst (λ (text : Text). All P (plain_cell text).text_lines) (sym (blank_drawn look)) (All-cons P [] [] empty (All-nil P))) fields column.position each))
 
-short_row : (look : Look) (columns : List ShownColumn) (fields : List Text) → IsPlainLook look → All (EachLine (λ text. measure text ≤ 65535) look) fields → IsShortRow (header_for look columns fields) × IsShortRow (row_for look columns fields)
+short_row : (look : Look) (columns : List DrawnColumn) (fields : List Text) → IsUnstyledUncut look → All (EachLine (λ text. measure text ≤ 65535) look) fields → IsShortRow (header_for look columns fields) × IsShortRow (row_for look columns fields)
 short_row look columns fields plain each =
     let cells = cells_each (λ text. measure text ≤ 65535) (rw measure-nil (omega arith)) look columns fields each in (
       record { uncut = refl; short = rw plain.no_bold cells },

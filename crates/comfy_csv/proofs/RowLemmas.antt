@@ -4,47 +4,47 @@ use Rattle.std.proofs.lemmas.List.{length-map}
 use Rattle.comfy_parts.specs.CellValue.{RowValue}
 use Rattle.comfy_parts.specs.Text.{Text}
 use Rattle.comfy_table.specs.TableValue.{TableValue, with_header, with_row, with_rows}
-use Rattle.comfy_csv.proofs.BuiltLemmas.{made_of}
+use Rattle.comfy_csv.proofs.BuiltLemmas.{built_of}
 use Rattle.comfy_csv_parts.specs.Cells.{header_for, row_for}
-use Rattle.comfy_csv_parts.specs.Columns.{columns_for, columns_with, shown_columns}
+use Rattle.comfy_csv_parts.specs.Columns.{columns_for, columns_with, drawn_columns}
 use Rattle.comfy_csv.specs.Drawn.{empty_table, limited, ok_map}
 use Rattle.comfy_csv.specs.Laws.{KeepsRows, TableKeepsRows, drawn_records, names_in}
 use Rattle.comfy_csv_parts.specs.declared.options.Options.{Options}
-use Rattle.comfy_csv_parts.specs.declared.options.ShownColumn.{ShownColumn}
+use Rattle.comfy_csv_parts.specs.declared.options.DrawnColumn.{DrawnColumn}
 
 with_rows-rows : (rows : List RowValue) (t : TableValue) → (with_rows rows t).rows ≡ t.rows ++ rows
 with_rows-rows [] t = sym (append-nil t.rows)
 with_rows-rows (row ∷ rows) t = with_rows-rows rows (with_row row t) ∙ append_assoc t.rows (row ∷ []) rows
 
-positions-shown : (right left : List ℕ) (rows : List (List Text)) (ps : List ℕ) → map (λ (column : ShownColumn). column.position) (shown_columns right left rows ps) ≡ ps
+positions-shown : (right left : List ℕ) (rows : List (List Text)) (ps : List ℕ) → map (λ (column : DrawnColumn). column.position) (drawn_columns right left rows ps) ≡ ps
 positions-shown right left rows [] = refl
 positions-shown right left rows (p ∷ ps) = ap (λ t. p ∷ t) (positions-shown right left rows ps)
 
 -- the columns that are drawn stand at the chosen positions
-chosen : (rows : List (List Text)) (positions right left : Result (List ℕ) Text) (columns : List ShownColumn) → columns_with rows positions right left ≡ Ok columns → positions ≡ Ok (map (λ (column : ShownColumn). column.position) columns)
+chosen : (rows : List (List Text)) (positions right left : Result (List ℕ) Text) (columns : List DrawnColumn) → columns_with rows positions right left ≡ Ok columns → positions ≡ Ok (map (λ (column : DrawnColumn). column.position) columns)
 chosen rows (Ok ps) (Ok right) (Ok left) columns is =
-    let same : shown_columns right left rows ps ≡ columns = cc is in
-    ap Ok (sym (positions-shown right left rows ps) ∙ ap (map (λ (column : ShownColumn). column.position)) same)
+    let same : drawn_columns right left rows ps ≡ columns = cc is in
+    ap Ok (sym (positions-shown right left rows ps) ∙ ap (map (λ (column : DrawnColumn). column.position)) same)
 chosen rows (Ok ps) (Ok right) (Err name) columns is = absurd (cc is)
 chosen rows (Ok ps) (Err name) left columns is = absurd (cc is)
 chosen rows (Err name) right left columns is = absurd (cc is)
 
 -- a table that was made of columns has the rows that were appended
-rows_made : (row_of : List ShownColumn → List RowValue) (base : List ShownColumn → TableValue) → ((columns : List ShownColumn) → (base columns).rows ≡ []) → (found : Result (List ShownColumn) Text) (table : TableValue)
-    → ok_map (λ (columns : List ShownColumn). with_rows (row_of columns) (base columns)) found ≡ Ok table → (columns : List ShownColumn) × (found ≡ Ok columns) × (table.rows ≡ row_of columns)
-rows_made row_of base none found table is =
-    let made = made_of (λ (columns : List ShownColumn). with_rows (row_of columns) (base columns)) found table is in (
+rows_built : (row_of : List DrawnColumn → List RowValue) (base : List DrawnColumn → TableValue) → ((columns : List DrawnColumn) → (base columns).rows ≡ []) → (found : Result (List DrawnColumn) Text) (table : TableValue)
+    → ok_map (λ (columns : List DrawnColumn). with_rows (row_of columns) (base columns)) found ≡ Ok table → (columns : List DrawnColumn) × (found ≡ Ok columns) × (table.rows ≡ row_of columns)
+rows_built row_of base none found table is =
+    let made = built_of (λ (columns : List DrawnColumn). with_rows (row_of columns) (base columns)) found table is in (
       made.0,
       made.1,
       ap (λ (t : TableValue). t.rows) (sym made.2) ∙ with_rows-rows (row_of made.0) (base made.0) ∙ ap (λ (t : List RowValue). t ++ row_of made.0) (none made.0),
     )
 
 module _ (options : Options) (table : TableValue) where
-  kept : (records : List (List Text)) (names : List Text) (rows : List (List Text)) (base : List ShownColumn → TableValue) → ((columns : List ShownColumn) → (base columns).rows ≡ [])
+  kept : (records : List (List Text)) (names : List Text) (rows : List (List Text)) (base : List DrawnColumn → TableValue) → ((columns : List DrawnColumn) → (base columns).rows ≡ [])
       → names_in options.has_header records ≡ names → drawn_records options records ≡ rows
-      → ok_map (λ (columns : List ShownColumn). with_rows (map (row_for options.look columns) rows) (base columns)) (columns_for options names rows) ≡ Ok table → KeepsRows options records table
+      → ok_map (λ (columns : List DrawnColumn). with_rows (map (row_for options.look columns) rows) (base columns)) (columns_for options names rows) ≡ Ok table → KeepsRows options records table
   kept records names rows base none names_are rows_are is =
-      let found = rows_made (λ columns. map (row_for options.look columns) rows) base none (columns_for options names rows) table is in
+      let found = rows_built (λ columns. map (row_for options.look columns) rows) base none (columns_for options names rows) table is in
       let same : table.rows ≡ map (row_for options.look found.0) (drawn_records options records) = found.2 ∙ ap (map (row_for options.look found.0)) (sym rows_are) in
       record {
         columns = found.0;

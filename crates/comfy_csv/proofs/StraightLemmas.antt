@@ -10,18 +10,18 @@ use Rattle.comfy_parts.proofs.CallerLemmas.{All-every}
 use Rattle.comfy_csv.proofs.BuiltLemmas.{Built, MakesRow, built}
 use Rattle.comfy_csv_parts.specs.Cells.{cell_for, field_or_blank, header_for, row_for, with_weight}
 use Rattle.comfy_csv.specs.Drawn.{empty_table, note_for, row_count}
-use Rattle.comfy_csv.specs.Laws.{FittingOutputIsStraight, IsPlainLook}
+use Rattle.comfy_csv.specs.Laws.{FittingOutputIsStraight, IsUnstyledUncut}
 use Rattle.comfy_csv_parts.specs.declared.options.Look.{Look}
 use Rattle.comfy_csv_parts.specs.declared.options.Options.{Options}
-use Rattle.comfy_csv_parts.specs.declared.options.ShownColumn.{ShownColumn}
+use Rattle.comfy_csv_parts.specs.declared.options.DrawnColumn.{DrawnColumn}
 
-pub rows_are_default : (look : Look) (columns : List ShownColumn) (fields : List Text) → IsPlainLook look → IsDefaultRow (header_for look columns fields) × IsDefaultRow (row_for look columns fields)
+pub rows_are_default : (look : Look) (columns : List DrawnColumn) (fields : List Text) → IsUnstyledUncut look → IsDefaultRow (header_for look columns fields) × IsDefaultRow (row_for look columns fields)
 rows_are_default look columns fields plain = (record { uncut = refl; no_delimiters = rw plain.no_bold without }, record { uncut = rw plain.uncut refl; no_delimiters = without })
   where
-    without : All (λ (cell : CellValue). cell.delimiter ≡ None) (map (λ (column : ShownColumn). with_weight false (cell_for look column.alignment (field_or_blank fields column.position))) columns)
+    without : All (λ (cell : CellValue). cell.delimiter ≡ None) (map (λ (column : DrawnColumn). with_weight false (cell_for look column.alignment (field_or_blank fields column.position))) columns)
     without =
-        All-map (λ (cell : CellValue). cell.delimiter ≡ None) (λ (column : ShownColumn). with_weight false (cell_for look column.alignment (field_or_blank fields column.position))) columns
-        (All-every (λ (column : ShownColumn). (with_weight false (cell_for look column.alignment (field_or_blank fields column.position))).delimiter ≡ None) columns (λ column. refl))
+        All-map (λ (cell : CellValue). cell.delimiter ≡ None) (λ (column : DrawnColumn). with_weight false (cell_for look column.alignment (field_or_blank fields column.position))) columns
+        (All-every (λ (column : DrawnColumn). (with_weight false (cell_for look column.alignment (field_or_blank fields column.position))).delimiter ≡ None) columns (λ column. refl))
 
 pub fitting_is_straight : (options : Options) (records : List (List Text)) (output : Text) → FittingOutputIsStraight options records output
 fitting_is_straight options records output characters plain fits made =

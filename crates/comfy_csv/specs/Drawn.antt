@@ -10,7 +10,7 @@ use Rattle.comfy_csv_parts.specs.Columns.{columns_for}
 use Rattle.comfy_csv_parts.specs.Input.{AreRecordsOf}
 use Rattle.comfy_csv_parts.specs.declared.options.Look.{Look}
 use Rattle.comfy_csv_parts.specs.declared.options.Options.{Options}
-use Rattle.comfy_csv_parts.specs.declared.options.ShownColumn.{ShownColumn}
+use Rattle.comfy_csv_parts.specs.declared.options.DrawnColumn.{DrawnColumn}
 
 -- the widths of columns are those of their contents, or keep to a width, or fill it
 abbrev pub arrangement_for : Option ℕ → Bool → ContentArrangement
@@ -35,12 +35,12 @@ ok_map f (Err name) = Err name
 -- the table of these rows under these names, or the name of a column that isn't there
 abbrev pub titled_table : Options → List Text → List (List Text) → Result TableValue Text
 titled_table options names rows =
-    ok_map (λ (columns : List ShownColumn). with_rows (map (row_for options.look columns) rows) (with_header (header_for options.look columns names) (empty_table options.look))) (columns_for options names rows)
+    ok_map (λ (columns : List DrawnColumn). with_rows (map (row_for options.look columns) rows) (with_header (header_for options.look columns names) (empty_table options.look))) (columns_for options names rows)
 
 -- the table of these rows without a header
 abbrev pub untitled_table : Options → List (List Text) → Result TableValue Text
 untitled_table options rows =
-    ok_map (λ (columns : List ShownColumn). with_rows (map (row_for options.look columns) rows) (empty_table options.look)) (columns_for options [] rows)
+    ok_map (λ (columns : List DrawnColumn). with_rows (map (row_for options.look columns) rows) (empty_table options.look)) (columns_for options [] rows)
 
 -- the table of some records, of which the first one is the header
 abbrev pub headed_table : Options → List (List Text) → Result TableValue Text

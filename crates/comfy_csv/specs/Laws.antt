@@ -7,17 +7,17 @@ use Rattle.comfy_table.specs.Arrangement.{IsArranged}
 use Rattle.comfy_table.specs.Drawing.{terminated_text_of}
 use Rattle.comfy_table.specs.FittingTables.{CharactersFitColumn}
 use Rattle.comfy_table.specs.Headline.{EachLineCounts, IsTableDrawing}
-use Rattle.comfy_table.specs.Laws.{IsPlainTable, count, least_total}
+use Rattle.comfy_table.specs.Laws.{IsPrintableTable, count, least_total}
 use Rattle.comfy_table.specs.NewTables.{AreEquallyWide}
 use Rattle.comfy_table.specs.Straight.{EachCell}
 use Rattle.comfy_table.specs.TableValue.{TableValue}
-use Rattle.comfy_table.specs.Widths.{visible_count}
-use Rattle.comfy_csv_parts.specs.Cells.{drawn_text, row_for}
+use Rattle.comfy_table.specs.Widths.{shown_count}
+use Rattle.comfy_csv_parts.specs.Cells.{field_text, row_for}
 use Rattle.comfy_csv_parts.specs.Columns.{chosen_columns, count_of}
 use Rattle.comfy_csv.specs.Drawn.{IsOutputOf, limited, note_for, row_count, table_for}
 use Rattle.comfy_csv_parts.specs.declared.options.Look.{Look}
 use Rattle.comfy_csv_parts.specs.declared.options.Options.{Options}
-use Rattle.comfy_csv_parts.specs.declared.options.ShownColumn.{ShownColumn}
+use Rattle.comfy_csv_parts.specs.declared.options.DrawnColumn.{DrawnColumn}
 
 -- ---- rows
 
@@ -31,10 +31,10 @@ drawn_records options records = limited options.limit (if options.has_header the
 
 -- a row for each record that is drawn, in order, with the fields of the same columns, and these are the chosen ones
 pub record KeepsRows (options : Options) (records : List (List Text)) (table : TableValue) : Type 0 where
-  pub columns : List ShownColumn
+  pub columns : List DrawnColumn
   pub rows : table.rows ≡ map (row_for options.look columns) (drawn_records options records)
   pub as_many : length table.rows ≡ length (drawn_records options records)
-  pub chosen : chosen_columns (names_in options.has_header records) (count_of (names_in options.has_header records) (drawn_records options records)) options.columns.items ≡ Ok (map (λ (column : ShownColumn). column.position) columns)
+  pub chosen : chosen_columns (names_in options.has_header records) (count_of (names_in options.has_header records) (drawn_records options records)) options.columns.items ≡ Ok (map (λ (column : DrawnColumn). column.position) columns)
 
 abbrev pub TableKeepsRows : Options → List (List Text) → TableValue → Type 0
 TableKeepsRows options records table = table_for options records ≡ Ok table → KeepsRows options records table
@@ -56,7 +56,7 @@ IsWithin w table n = n ≤ max w (least_total table)
 
 -- a count is exactly that, where there is a column
 abbrev pub IsFilling : ℕ → TableValue → ℕ → Type 0
-IsFilling w table n = 0 < visible_count table → n ≡ max w (least_total table)
+IsFilling w table n = 0 < shown_count table → n ≡ max w (least_total table)
 
 -- with a width, a frame line keeps to it
 abbrev pub OutputKeepsToWidth : ℕ → Options → List (List Text) → Text → Type 0
@@ -71,7 +71,7 @@ OutputFillsWidth w options records output =
     → EachLineHas (IsFilling w) options records output
 
 -- nothing is in bold, no sequence counts nothing, and no row is cut
-pub record IsPlainLook (look : Look) : Type 0 where
+pub record IsUnstyledUncut (look : Look) : Type 0 where
   pub no_bold : look.has_bold_header ≡ false
   pub no_sequences : look.has_sequences ≡ false
   pub uncut : look.max_height ≡ None
@@ -79,14 +79,14 @@ pub record IsPlainLook (look : Look) : Type 0 where
 -- then each line does, where each field is printable ASCII
 abbrev pub PrintableLinesHave : (TableValue → ℕ → Type 0) → Options → List (List Text) → Text → Type 0
 PrintableLinesHave P options records output =
-    (has : EachLineHas P options records output) → IsPlainLook options.look → All (λ (fields : List Text). All (λ (field : Text). is_printable_ascii field ≡ true) fields) records
+    (has : EachLineHas P options records output) → IsUnstyledUncut options.look → All (λ (fields : List Text). All (λ (field : Text). is_printable_ascii field ≡ true) fields) records
     → All (λ line. P has.table (count line)) has.lines
 
 -- ---- straight edges
 
 -- P holds of each field as it is drawn, cut at its line feeds
 abbrev pub EachText : (Text → Type 0) → Look → List (List Text) → Type 0
-EachText P look records = All (λ (fields : List Text). All (λ (field : Text). All P (plain_cell (drawn_text look field)).text_lines) fields) records
+EachText P look records = All (λ (fields : List Text). All (λ (field : Text). All P (plain_cell (field_text look field)).text_lines) fields) records
 
 -- an output is lines of the same width, each followed by a line feed, before the line on records that aren't drawn
 abbrev pub IsStraightOutput : Options → List (List Text) → Text → Type 0
@@ -96,22 +96,22 @@ IsStraightOutput options records output =
 -- so it is where no width is kept to, for texts of every script
 abbrev pub WholeOutputIsStraight : Options → List (List Text) → Text → Type 0
 WholeOutputIsStraight options records output =
-    IsOneColumnStyle options.look.style → IsPlainLook options.look → options.look.width ≡ None → EachText (λ text. measure text ≤ 65535) options.look records
+    IsOneColumnStyle options.look.style → IsUnstyledUncut options.look → options.look.width ≡ None → EachText (λ text. measure text ≤ 65535) options.look records
     → IsOutputOf options records output → IsStraightOutput options records output
 
 -- and under every width, where each character of each text fits its column
 abbrev pub FittingOutputIsStraight : Options → List (List Text) → Text → Type 0
 FittingOutputIsStraight options records output =
-    IsOneColumnStyle options.look.style → IsPlainLook options.look
+    IsOneColumnStyle options.look.style → IsUnstyledUncut options.look
     → ((table : TableValue) (widths : List ℕ) → table_for options records ≡ Ok table → IsArranged table widths → EachCell CharactersFitColumn table widths)
     → IsOutputOf options records output → IsStraightOutput options records output
 
 -- a field of printable ASCII is drawn as such text
 abbrev pub PrintableFieldsStay : Look → Text → Type 0
-PrintableFieldsStay look field = is_printable_ascii field ≡ true → All (λ text. is_printable_ascii text ≡ true) (plain_cell (drawn_text look field)).text_lines
+PrintableFieldsStay look field = is_printable_ascii field ≡ true → All (λ text. is_printable_ascii text ≡ true) (plain_cell (field_text look field)).text_lines
 
 -- for texts of printable ASCII each line of the table is counted, under every width
-abbrev pub PrintableTableIsPlain : Options → List (List Text) → TableValue → List ℕ → Type 0
-PrintableTableIsPlain options records table widths =
-    IsPlainLook options.look → EachText (λ text. is_printable_ascii text ≡ true) options.look records → table_for options records ≡ Ok table
-    → IsPlainTable table widths
+abbrev pub PrintableTextsMakePrintableTable : Options → List (List Text) → TableValue → List ℕ → Type 0
+PrintableTextsMakePrintableTable options records table widths =
+    IsUnstyledUncut options.look → EachText (λ text. is_printable_ascii text ≡ true) options.look records → table_for options records ≡ Ok table
+    → IsPrintableTable table widths

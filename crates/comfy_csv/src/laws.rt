@@ -2,7 +2,7 @@
 
 ghost use Rattle.std.specs.Prelude.{List, ℕ};
 ghost use Rattle.comfy_parts.specs.Text.{Text};
-ghost use Rattle.comfy_csv.specs.Laws.{FittingOutputIsStraight, IsFilling, IsWithin, OutputFillsWidth, OutputKeepsToWidth, PrintableFieldsStay, PrintableLinesHave, PrintableTableIsPlain, TableKeepsRows, WholeOutputIsStraight};
+ghost use Rattle.comfy_csv.specs.Laws.{FittingOutputIsStraight, IsFilling, IsWithin, OutputFillsWidth, OutputKeepsToWidth, PrintableFieldsStay, PrintableLinesHave, PrintableTextsMakePrintableTable, TableKeepsRows, WholeOutputIsStraight};
 ghost use Rattle.comfy_csv_parts.specs.declared.options.Look.{Look};
 ghost use Rattle.comfy_csv_parts.specs.declared.options.Options.{Options};
 ghost use Rattle.comfy_table.specs.TableValue.{TableValue};
@@ -27,9 +27,9 @@ pub fn outputs_keep_to_a_width()
 
 /// Fields of printable ASCII are drawn as such texts. These make a table of printable ASCII, where nothing is in bold, no
 /// sequence counts nothing, and no row is cut.
-pub fn printable_tables_are_plain()
+pub fn printable_texts_make_printable_tables()
     ensures fields { (look : Look) (field : Text) → PrintableFieldsStay look field }
-    ensures tables { (options : Options) (records : List (List Text)) (table : TableValue) (widths : List ℕ) → PrintableTableIsPlain options records table widths }
+    ensures tables { (options : Options) (records : List (List Text)) (table : TableValue) (widths : List ℕ) → PrintableTextsMakePrintableTable options records table widths }
 {}
 
 /// Where no width is kept to and each character of the style adds one terminal column, all lines of an output are equally

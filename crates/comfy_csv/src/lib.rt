@@ -7,7 +7,7 @@ mod table;
 mod transfer;
 
 pub use comfy_csv_parts::{
-    Asked, ColumnChoice, CsvError, Look, Options, ShownColumn, Surroundings, asked_of, cleaned,
+    Asked, ColumnChoice, CsvError, DrawnColumn, Look, Options, Surroundings, asked_of, cleaned,
     escaped, is_number, records_of,
 };
 pub use process::run_with_arguments;

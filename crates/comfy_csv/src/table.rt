@@ -7,7 +7,7 @@ ghost use Rattle.comfy_csv_parts.specs.Columns.{IsColumnRefusal};
 ghost use Rattle.comfy_csv.specs.Drawn.{arrangement_for, empty_table, limited, table_for, titled_table, untitled_table};
 ghost use Rattle.comfy_table.specs.TableValue.{with_rows};
 
-use comfy_csv_parts::{CsvError, Look, Options, ShownColumn, columns_of, header_of, row_of};
+use comfy_csv_parts::{CsvError, DrawnColumn, Look, Options, columns_of, header_of, row_of};
 use comfy_table::{ContentArrangement, Table};
 use csv::StringRecord;
 use std::alloc::Global;
@@ -107,7 +107,7 @@ fn add_rows(
     table: &mut Table,
     alloc: Global,
     rows: &[StringRecord],
-    columns: &[ShownColumn],
+    columns: &[DrawnColumn],
     look: &Look,
 ) -> comfy_table::Result<()>
     ensures { OnOk result (table.new ≡ with_rows (map (row_for look.now columns.now) (map fields_of rows.now)) table.old) }

@@ -9,7 +9,7 @@ use Rattle.csv.specs.Records.{field_at}
 use Rattle.comfy_csv_parts.specs.Cleaning.{cleaned}
 use Rattle.comfy_csv_parts.specs.Markdown.{escaped}
 use Rattle.comfy_csv_parts.specs.declared.options.Look.{Look}
-use Rattle.comfy_csv_parts.specs.declared.options.ShownColumn.{ShownColumn}
+use Rattle.comfy_csv_parts.specs.declared.options.DrawnColumn.{DrawnColumn}
 
 -- a field of a record, empty where it is missing
 abbrev pub field_or_blank : List Text → ℕ → Text
@@ -20,26 +20,26 @@ abbrev pub marked : Bool → Text → Text
 marked is_markdown text = if is_markdown then encode_utf8_all (escaped (chars text)) else text
 
 -- a field as its cell has it: cleaned unless it is left raw, and escaped where Markdown is wanted
-abbrev pub drawn_text : Look → Text → Text
-drawn_text look field = marked look.is_markdown (if look.is_raw then field else cleaned look.has_sequences field)
+abbrev pub field_text : Look → Text → Text
+field_text look field = marked look.is_markdown (if look.is_raw then field else cleaned look.has_sequences field)
 
 -- the cell of a field, with this alignment
 abbrev pub cell_for : Look → Option CellAlignment → Text → CellValue
-cell_for look alignment field = record (plain_cell (drawn_text look field)) { alignment = alignment }
+cell_for look alignment field = record (plain_cell (field_text look field)) { alignment = alignment }
 
 -- a cell, in bold or as it is
 abbrev pub with_weight : Bool → CellValue → CellValue
 with_weight is_bold cell = if is_bold then record cell { attributes = cell.attributes ++ Bold ∷ [] } else cell
 
 -- a cell for each column
-abbrev pub cells_for : Look → Bool → List ShownColumn → List Text → RowValue
+abbrev pub cells_for : Look → Bool → List DrawnColumn → List Text → RowValue
 cells_for look is_bold columns fields =
-    plain_row (map (λ (column : ShownColumn). with_weight is_bold (cell_for look column.alignment (field_or_blank fields column.position))) columns)
+    plain_row (map (λ (column : DrawnColumn). with_weight is_bold (cell_for look column.alignment (field_or_blank fields column.position))) columns)
 
 -- the header's row
-abbrev pub header_for : Look → List ShownColumn → List Text → RowValue
+abbrev pub header_for : Look → List DrawnColumn → List Text → RowValue
 header_for look columns fields = cells_for look look.has_bold_header columns fields
 
 -- a record's row, cut at the greatest height
-abbrev pub row_for : Look → List ShownColumn → List Text → RowValue
+abbrev pub row_for : Look → List DrawnColumn → List Text → RowValue
 row_for look columns fields = record (cells_for look false columns fields) { max_height = option_map (max 1) look.max_height }

@@ -11,7 +11,7 @@ use Rattle.comfy_csv_parts.specs.declared.error.CsvError.TheVariants.{Read, Writ
 use Rattle.comfy_csv_parts.specs.declared.options.ColumnChoice.{ColumnChoice}
 use Rattle.comfy_csv_parts.specs.declared.options.ColumnChoice.TheVariants.{Named, Numbers}
 use Rattle.comfy_csv_parts.specs.declared.options.Options.{Options}
-use Rattle.comfy_csv_parts.specs.declared.options.ShownColumn.{ShownColumn}
+use Rattle.comfy_csv_parts.specs.declared.options.DrawnColumn.{DrawnColumn}
 
 -- the greatest number of fields of the names and the rows
 abbrev pub count_of : List Text → List (List Text) → ℕ
@@ -73,17 +73,17 @@ alignment_for right left rows position =
     else None
 
 -- the columns at these positions
-abbrev pub shown_columns : List ℕ → List ℕ → List (List Text) → List ℕ → List ShownColumn
-shown_columns right left rows positions = map (λ (p : ℕ). record { position = p; alignment = alignment_for right left rows p }) positions
+abbrev pub drawn_columns : List ℕ → List ℕ → List (List Text) → List ℕ → List DrawnColumn
+drawn_columns right left rows positions = map (λ (p : ℕ). record { position = p; alignment = alignment_for right left rows p }) positions
 
 -- the columns that are drawn, or the first name of what isn't there: in the list of columns, then in that of the right, then in that of the left
-abbrev pub columns_with : List (List Text) → Result (List ℕ) Text → Result (List ℕ) Text → Result (List ℕ) Text → Result (List ShownColumn) Text
-columns_with rows (Ok positions) (Ok right) (Ok left) = Ok (shown_columns right left rows positions)
+abbrev pub columns_with : List (List Text) → Result (List ℕ) Text → Result (List ℕ) Text → Result (List ℕ) Text → Result (List DrawnColumn) Text
+columns_with rows (Ok positions) (Ok right) (Ok left) = Ok (drawn_columns right left rows positions)
 columns_with rows (Ok positions) (Ok right) (Err name) = Err name
 columns_with rows (Ok positions) (Err name) left = Err name
 columns_with rows (Err name) right left = Err name
 
-abbrev pub columns_for : Options → List Text → List (List Text) → Result (List ShownColumn) Text
+abbrev pub columns_for : Options → List Text → List (List Text) → Result (List DrawnColumn) Text
 columns_for options names rows =
     columns_with rows (chosen_columns names (count_of names rows) options.columns.items) (positions_of names (count_of names rows) options.right.items) (positions_of names (count_of names rows) options.left.items)
 

@@ -2,11 +2,11 @@
 
 ghost use Rattle.std.specs.Prelude.{◌≡◌, IfOk, string_bytes};
 ghost use Rattle.csv.specs.Records.{fields_of};
-ghost use Rattle.comfy_csv_parts.specs.Cells.{cell_for, cells_for, drawn_text, header_for, row_for, with_weight};
+ghost use Rattle.comfy_csv_parts.specs.Cells.{cell_for, cells_for, field_text, header_for, row_for, with_weight};
 
 use crate::cleaning::cleaned;
 use crate::markdown::escaped;
-use crate::options::{Look, ShownColumn};
+use crate::options::{DrawnColumn, Look};
 use comfy_parts::style::{Attribute, CellAlignment};
 use comfy_parts::{Cell, Cells, IntoRow, Result, Row};
 use csv::StringRecord;
@@ -16,7 +16,7 @@ use std::alloc::Global;
 pub fn row_of(
     alloc: Global,
     fields: &StringRecord,
-    columns: &[ShownColumn],
+    columns: &[DrawnColumn],
     look: &Look,
 ) -> Result<Row>
     ensures { IfOk result (λ row. row ≡ row_for look.now columns.now (fields_of fields.now)) }
@@ -32,7 +32,7 @@ pub fn row_of(
 pub fn header_of(
     alloc: Global,
     fields: &StringRecord,
-    columns: &[ShownColumn],
+    columns: &[DrawnColumn],
     look: &Look,
 ) -> Result<Row>
     ensures { IfOk result (λ row. row ≡ header_for look.now columns.now (fields_of fields.now)) }
@@ -44,7 +44,7 @@ pub fn header_of(
 fn cells_of(
     alloc: Global,
     fields: &StringRecord,
-    columns: &[ShownColumn],
+    columns: &[DrawnColumn],
     look: &Look,
     is_bold: bool,
 ) -> Result<Row>
@@ -68,7 +68,7 @@ fn cell_of(
 ) -> Result<Cell>
     ensures { IfOk result (λ cell. cell ≡ with_weight is_bold (cell_for look.now alignment field.now)) }
 {
-    let cell = Cell::new_owned(alloc, drawn_text(alloc, field, look)?)?;
+    let cell = Cell::new_owned(alloc, field_text(alloc, field, look)?)?;
     match alignment {
         Some(alignment) => with_weight(cell.set_alignment(alignment), is_bold),
         None => with_weight(cell, is_bold),
@@ -87,8 +87,8 @@ fn with_weight(cell: Cell, is_bold: bool) -> Result<Cell>
 }
 
 // A field as its cell has it.
-fn drawn_text(alloc: Global, field: &str, look: &Look) -> Result<String>
-    ensures { IfOk result (λ text. string_bytes text ≡ drawn_text look.now field.now) }
+fn field_text(alloc: Global, field: &str, look: &Look) -> Result<String>
+    ensures { IfOk result (λ text. string_bytes text ≡ field_text look.now field.now) }
 {
     let text = if look.is_raw {
         String::from_str(alloc, field)?

@@ -3,11 +3,11 @@
 ghost use Rattle.std.specs.Prelude.{◌≡◌, ◌≤◌, ◌-◌, ◌∷◌, [], IfOk, IfErr, Ok, map, string_bytes};
 ghost use Rattle.std.specs.List.{list_all, range_with_len};
 ghost use Rattle.csv.specs.Records.{Row as CsvRow, field_at, fields_of};
-ghost use Rattle.comfy_csv_parts.specs.Columns.{IsColumnRefusal, alignment_for, chosen_columns, columns_for, count_of, is_number_at, is_number_column, is_number_or_empty, is_text, position_named, positions_of, positions_of_choice, range_name, shown_columns};
+ghost use Rattle.comfy_csv_parts.specs.Columns.{IsColumnRefusal, alignment_for, chosen_columns, columns_for, count_of, is_number_at, is_number_column, is_number_or_empty, is_text, position_named, positions_of, positions_of_choice, range_name, drawn_columns};
 
 use crate::error::CsvError;
 use crate::number::is_number;
-use crate::options::{ColumnChoice, Options, ShownColumn};
+use crate::options::{ColumnChoice, DrawnColumn, Options};
 use comfy_parts::style::CellAlignment;
 use csv::StringRecord;
 use std::alloc::{AllocError, Global};
@@ -18,7 +18,7 @@ pub fn columns_of(
     names: &StringRecord,
     rows: &[StringRecord],
     options: &Options,
-) -> Result<Vec<ShownColumn>, CsvError>
+) -> Result<Vec<DrawnColumn>, CsvError>
     ensures ok { IfOk result (λ columns. columns_for options.now (fields_of names.now) (map fields_of rows.now) ≡ Ok columns.items) }
     ensures refused { IfErr result (λ e. IsColumnRefusal e (columns_for options.now (fields_of names.now) (map fields_of rows.now))) }
 {
@@ -26,7 +26,7 @@ pub fn columns_of(
     let positions = chosen_columns(alloc, options.columns.as_slice(), names, count)?;
     let right = positions_of(alloc, options.right.as_slice(), names, count)?;
     let left = positions_of(alloc, options.left.as_slice(), names, count)?;
-    let columns = shown_columns(
+    let columns = drawn_columns(
         alloc,
         positions.as_slice(),
         right.as_slice(),
@@ -165,19 +165,19 @@ fn is_named_at(names: &StringRecord, position: usize, name: &str) -> bool
 }
 
 // The columns at these positions, each with its alignment.
-fn shown_columns(
+fn drawn_columns(
     alloc: Global,
     positions: &[usize],
     right: &[usize],
     left: &[usize],
     rows: &[StringRecord],
-) -> Result<Vec<ShownColumn>, AllocError>
-    ensures { IfOk result (λ columns. columns.items ≡ shown_columns right.now left.now (map fields_of rows.now) positions.now) }
+) -> Result<Vec<DrawnColumn>, AllocError>
+    ensures { IfOk result (λ columns. columns.items ≡ drawn_columns right.now left.now (map fields_of rows.now) positions.now) }
 {
     let mut columns = Vec::with_capacity(alloc, positions.len())?;
     for position in positions {
         let alignment = alignment_of(*position, right, left, rows);
-        columns.push(ShownColumn {
+        columns.push(DrawnColumn {
             position: *position,
             alignment,
         })?;

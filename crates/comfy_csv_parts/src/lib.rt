@@ -21,5 +21,5 @@ pub use columns::columns_of;
 pub use error::CsvError;
 pub use markdown::escaped;
 pub use number::is_number;
-pub use options::{ColumnChoice, Look, Options, ShownColumn};
+pub use options::{ColumnChoice, DrawnColumn, Look, Options};
 pub use records::records_of;

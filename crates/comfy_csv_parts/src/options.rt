@@ -58,7 +58,7 @@ pub enum ColumnChoice {
 
 /// A column that is drawn.
 #[derive(Clone, Copy, Debug)]
-pub struct ShownColumn {
+pub struct DrawnColumn {
     /// The position of its field in a record, counted from 0.
     pub position: usize,
     /// The alignment of its cells, where it isn't that of the table.

@@ -8,15 +8,15 @@ use Rattle.comfy_parts.specs.Text.{HasNo, Text}
 use Rattle.comfy_parts.specs.VisibleText.{Part, is_parameter, parts, visible_bytes, visible_text}
 
 -- what is seen of parts has no byte that they don't have
-seen_clear : (b : ℕ) (ps : List Part) → HasNo b (bytes_of ps) → HasNo b (flat_map visible_bytes ps)
-seen_clear b [] clear = refl
-seen_clear b (p ∷ ps) clear =
+visible_clear : (b : ℕ) (ps : List Part) → HasNo b (bytes_of ps) → HasNo b (flat_map visible_bytes ps)
+visible_clear b [] clear = refl
+visible_clear b (p ∷ ps) clear =
     let both = HasNo-parts b p.bytes (bytes_of ps) clear in
-    HasNo-append b (visible_bytes p) (flat_map visible_bytes ps) (cond_both p.is_sequence [] p.bytes (HasNo b) (λ _. refl) (λ _. both.0)) (seen_clear b ps both.1)
+    HasNo-append b (visible_bytes p) (flat_map visible_bytes ps) (cond_both p.is_sequence [] p.bytes (HasNo b) (λ _. refl) (λ _. both.0)) (visible_clear b ps both.1)
 
 -- nor has what is seen of a text
 pub HasNo-visible : (b : ℕ) (text : Text) → HasNo b text → HasNo b (visible_text text)
-HasNo-visible b text clear = seen_clear b (parts text) (subst (HasNo b) (sym (scan text).bytes) clear)
+HasNo-visible b text clear = visible_clear b (parts text) (subst (HasNo b) (sym (scan text).bytes) clear)
 
 -- parameters are no line feeds
 parameters_clear : (code : Text) → list_all is_parameter code ≡ true → HasNo 0x0A code
@@ -31,16 +31,16 @@ pub sequence_clear : (code : Text) → list_all is_parameter code ≡ true → H
 sequence_clear code all = HasNo-append 0x0A code (0x6D ∷ []) (parameters_clear code all) refl
 
 -- parts have none where none is seen of them
-unseen_clear : (ps : List Part) (rest : Text) → AreScanned ps rest → HasNo 0x0A (flat_map visible_bytes ps) → HasNo 0x0A (bytes_of ps)
-unseen_clear [] rest scanned clear = refl
-unseen_clear (p ∷ ps) rest (inl part, more) clear =
+hidden_clear : (ps : List Part) (rest : Text) → AreScanned ps rest → HasNo 0x0A (flat_map visible_bytes ps) → HasNo 0x0A (bytes_of ps)
+hidden_clear [] rest scanned clear = refl
+hidden_clear (p ∷ ps) rest (inl part, more) clear =
     let s = part.sequence in
     HasNo-append 0x0A p.bytes (bytes_of ps) (subst (HasNo 0x0A) (sym s.is) (sequence_clear s.code s.parameters))
-    (unseen_clear ps rest more (subst (λ (x : Part). HasNo 0x0A (flat_map visible_bytes (x ∷ ps))) part.is clear))
-unseen_clear (p ∷ ps) rest (inr part, more) clear =
+    (hidden_clear ps rest more (subst (λ (x : Part). HasNo 0x0A (flat_map visible_bytes (x ∷ ps))) part.is clear))
+hidden_clear (p ∷ ps) rest (inr part, more) clear =
     let both = HasNo-parts 0x0A (part.byte ∷ []) (flat_map visible_bytes ps) (subst (λ (x : Part). HasNo 0x0A (flat_map visible_bytes (x ∷ ps))) part.is clear) in
-    subst (λ (x : Part). HasNo 0x0A (x.bytes ++ bytes_of ps)) (sym part.is) (HasNo-append 0x0A (part.byte ∷ []) (bytes_of ps) both.0 (unseen_clear ps rest more both.1))
+    subst (λ (x : Part). HasNo 0x0A (x.bytes ++ bytes_of ps)) (sym part.is) (HasNo-append 0x0A (part.byte ∷ []) (bytes_of ps) both.0 (hidden_clear ps rest more both.1))
 
 -- a text has no line feed where none is seen
-pub breaks_are_seen : (text : Text) → HasNo 0x0A (visible_text text) → HasNo 0x0A text
-breaks_are_seen text clear = subst (HasNo 0x0A) (scan text).bytes (unseen_clear (parts text) [] (scan text).scanned clear)
+pub breaks_are_visible : (text : Text) → HasNo 0x0A (visible_text text) → HasNo 0x0A text
+breaks_are_visible text clear = subst (HasNo 0x0A) (scan text).bytes (hidden_clear (parts text) [] (scan text).scanned clear)

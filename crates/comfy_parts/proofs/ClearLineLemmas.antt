@@ -72,16 +72,16 @@ line_text-clear earlier text start len before clear =
     ∙ closed_clear (take len (drop start text)) (HasNo-take 0x1B len (drop start text) (HasNo-drop 0x1B start text clear)))
 
 -- a line that is written as it is seen
-abbrev pub IsAsSeen : CellLine → Type 0
-IsAsSeen line = line.written ≡ line.seen
+abbrev pub IsAsMeasured : CellLine → Type 0
+IsAsMeasured line = line.written ≡ line.measured
 
 -- so are the lines of such texts
-clear_past : (w d : ℕ) (earlier texts : List Text) → AreClear earlier → list_any has_escape texts ≡ false → AllByRecursion IsAsSeen (line_texts_past w d earlier texts)
+clear_past : (w d : ℕ) (earlier texts : List Text) → AreClear earlier → list_any has_escape texts ≡ false → AllByRecursion IsAsMeasured (line_texts_past w d earlier texts)
 clear_past w d earlier [] before clear = tt
 clear_past w d earlier (text ∷ texts) before clear =
     let both = or_parts (has_escape text) (list_any has_escape texts) clear in
-    every-append IsAsSeen (line_texts_of_text w d earlier text) (line_texts_past w d (earlier ++ text ∷ []) texts)
-    (every-second IsAsSeen _ (line_texts_of_text w d earlier text) (each_slice w d (λ from line. IsAsSeen line) earlier text (λ start line stands.
+    every-append IsAsMeasured (line_texts_of_text w d earlier text) (line_texts_past w d (earlier ++ text ∷ []) texts)
+    (every-second IsAsMeasured _ (line_texts_of_text w d earlier text) (each_slice w d (λ from line. IsAsMeasured line) earlier text (λ start line stands.
     line_text-clear earlier text start (length line) before both.0 ∙ ap (λ (t : Text). take (length line) (drop start t)) (sym (clear_text text both.0)) ∙ stands)))
     (clear_past w d (earlier ++ text ∷ []) texts (further both.0) both.1)
   where
@@ -93,5 +93,5 @@ clear_past w d earlier (text ∷ texts) before clear =
         ∙ none_opened [] text
 
 -- of all lines of a cell
-pub clear_written : (w d : ℕ) (texts : List Text) → list_any has_escape texts ≡ false → AllByRecursion IsAsSeen (line_texts w d texts)
+pub clear_written : (w d : ℕ) (texts : List Text) → list_any has_escape texts ≡ false → AllByRecursion IsAsMeasured (line_texts w d texts)
 clear_written w d texts clear = clear_past w d [] texts refl clear

@@ -13,7 +13,7 @@ use Rattle.std.proofs.lemmas.Str.{IsCharBoundary-from_take, IsUtf8-drop}
 use Rattle.comfy_parts.specs.Cursor.{CursorValue, StandsAt, at_byte, begins_with_sequence, behind_bytes, bytes_up_to, character_parts, open_at_end, parts_behind, visible_part}
 use Rattle.comfy_parts.specs.Text.{Text, IsOnly, begins_with}
 use Rattle.comfy_parts.specs.VisibleText.{Part, opened, parts, parts_before, parts_from, parts_up_to, sequence_len, visible_bytes, visible_text}
-use Rattle.comfy_parts.proofs.FrontLemmas.{parts-behind_sequence, visible-seen}
+use Rattle.comfy_parts.proofs.FrontLemmas.{parts-behind_sequence, visible_bytes-visible}
 use Rattle.comfy_parts.proofs.LineTextLemmas.{before_from, before_further}
 use Rattle.comfy_parts.proofs.OpenLemmas.{opened-append}
 use Rattle.comfy_parts.proofs.ScanLemmas.{bytes_of, scan}
@@ -119,11 +119,11 @@ from-fewer [] = omega arith
 from-fewer (p ∷ ps) = cond_both p.is_sequence _ _ (λ qs. length qs ≤ suc (length ps)) (λ _. omega (arith, from-fewer ps)) (λ _. omega arith)
 
 -- sequences aren't seen
-pub seen-front : (ps : List Part) → flat_map visible_bytes (parts_from zero ps) ≡ flat_map visible_bytes ps
-seen-front [] = refl
-seen-front (p ∷ ps) =
+pub visible-front : (ps : List Part) → flat_map visible_bytes (parts_from zero ps) ≡ flat_map visible_bytes ps
+visible-front [] = refl
+visible-front (p ∷ ps) =
     cond_both p.is_sequence _ _ (λ qs. flat_map visible_bytes qs ≡ flat_map visible_bytes (p ∷ ps))
-    (λ is. seen-front ps ∙ ap (λ t. (if t then [] else p.bytes) ++ flat_map visible_bytes ps) (sym is)) (λ _. refl)
+    (λ is. visible-front ps ∙ ap (λ t. (if t then [] else p.bytes) ++ flat_map visible_bytes ps) (sym is)) (λ _. refl)
 
 -- ---- visible bytes are passed
 
@@ -200,7 +200,7 @@ run-place n most text utf8 within inside before divides whole = by_order (cases_
   where
     front : take n (visible_text text) ≡ take n text
     front =
-        let all = ap (flat_map visible_bytes) divides ∙ visible-seen (take n text) (parts (drop n text)) in
+        let all = ap (flat_map visible_bytes) divides ∙ visible_bytes-visible (take n text) (parts (drop n text)) in
         let long = length-take-le n text inside in
         ap (take n) all ∙ take-append-le n (take n text) (visible_text (drop n text)) (omega (arith, long)) ∙ ap (λ k. take k (take n text)) (sym long) ∙ take-length (take n text)
 

@@ -20,7 +20,7 @@ use Rattle.comfy_parts.specs.Following.{Follow, IsFirstElement}
 use Rattle.comfy_parts.specs.Wrapping.{bytes_of_line, bytes_taken, head_or_first, line_end, part_taken}
 use Rattle.comfy_parts.proofs.ElementLemmas.{elements-none, elements-first}
 use Rattle.comfy_parts.proofs.PlaceLemmas.{scalars-parts}
-use Rattle.comfy_parts.proofs.PlainLineLemmas.{some_parts}
+use Rattle.comfy_parts.proofs.PrintableLineLemmas.{some_parts}
 
 -- ---- the first element
 

@@ -64,9 +64,9 @@ character_parts-some c ps =
     omega (arith, some, each, both)
 
 -- what is visible of it
-pub visible-seen : (bs : Text) (ps : List Part) → flat_map visible_bytes (map visible_part bs ++ ps) ≡ bs ++ flat_map visible_bytes ps
-visible-seen [] ps = refl
-visible-seen (b ∷ bs) ps = ap (λ (xs : Text). b ∷ xs) (visible-seen bs ps)
+pub visible_bytes-visible : (bs : Text) (ps : List Part) → flat_map visible_bytes (map visible_part bs ++ ps) ≡ bs ++ flat_map visible_bytes ps
+visible_bytes-visible [] ps = refl
+visible_bytes-visible (b ∷ bs) ps = ap (λ (xs : Text). b ∷ xs) (visible_bytes-visible bs ps)
 
-pub character-seen : (c : ℕ) (ps : List Part) → flat_map visible_bytes (character_parts c ++ ps) ≡ encode_utf8 c ++ flat_map visible_bytes ps
-character-seen c ps = visible-seen (encode_utf8 c) ps
+pub character-visible : (c : ℕ) (ps : List Part) → flat_map visible_bytes (character_parts c ++ ps) ≡ encode_utf8 c ++ flat_map visible_bytes ps
+character-visible c ps = visible_bytes-visible (encode_utf8 c) ps

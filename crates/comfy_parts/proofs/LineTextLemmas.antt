@@ -17,8 +17,8 @@ use Rattle.comfy_parts.proofs.ShownLemmas.{Shows, Shows-nil, Shows-append, Shows
 -- ---- parts before and after a visible byte
 
 -- what is seen of some parts
-abbrev pub seen_of : List Part → Text
-seen_of ps = flat_map visible_bytes ps
+abbrev pub visible_bytes_of : List Part → Text
+visible_bytes_of ps = flat_map visible_bytes ps
 
 -- how many visible bytes there are among some parts
 abbrev pub visible_count : List Part → ℕ
@@ -104,34 +104,34 @@ before_within k (suc len) (p ∷ ps) more short some =
 -- ---- what is seen of scanned parts
 
 -- the visible bytes from one on
-seen_from : (n : ℕ) (ps : List Part) (rest : Text) → AreScanned ps rest → seen_of (parts_from n ps) ≡ drop n (seen_of ps)
-seen_from zero [] rest scanned = refl
-seen_from (suc n) [] rest scanned = refl
-seen_from zero (p ∷ ps) rest (inl part, more) =
-    subst (λ (x : Part). seen_of (parts_from zero (x ∷ ps)) ≡ seen_of (x ∷ ps)) (sym part.is) (seen_from zero ps rest more)
-seen_from zero (p ∷ ps) rest (inr part, more) =
-    subst (λ (x : Part). seen_of (parts_from zero (x ∷ ps)) ≡ seen_of (x ∷ ps)) (sym part.is) refl
-seen_from (suc n) (p ∷ ps) rest (inl part, more) =
-    subst (λ (x : Part). seen_of (parts_from (suc n) (x ∷ ps)) ≡ drop (suc n) (seen_of (x ∷ ps))) (sym part.is) (seen_from (suc n) ps rest more)
-seen_from (suc n) (p ∷ ps) rest (inr part, more) =
-    subst (λ (x : Part). seen_of (parts_from (suc n) (x ∷ ps)) ≡ drop (suc n) (seen_of (x ∷ ps))) (sym part.is) (seen_from n ps rest more)
+visible_bytes_from : (n : ℕ) (ps : List Part) (rest : Text) → AreScanned ps rest → visible_bytes_of (parts_from n ps) ≡ drop n (visible_bytes_of ps)
+visible_bytes_from zero [] rest scanned = refl
+visible_bytes_from (suc n) [] rest scanned = refl
+visible_bytes_from zero (p ∷ ps) rest (inl part, more) =
+    subst (λ (x : Part). visible_bytes_of (parts_from zero (x ∷ ps)) ≡ visible_bytes_of (x ∷ ps)) (sym part.is) (visible_bytes_from zero ps rest more)
+visible_bytes_from zero (p ∷ ps) rest (inr part, more) =
+    subst (λ (x : Part). visible_bytes_of (parts_from zero (x ∷ ps)) ≡ visible_bytes_of (x ∷ ps)) (sym part.is) refl
+visible_bytes_from (suc n) (p ∷ ps) rest (inl part, more) =
+    subst (λ (x : Part). visible_bytes_of (parts_from (suc n) (x ∷ ps)) ≡ drop (suc n) (visible_bytes_of (x ∷ ps))) (sym part.is) (visible_bytes_from (suc n) ps rest more)
+visible_bytes_from (suc n) (p ∷ ps) rest (inr part, more) =
+    subst (λ (x : Part). visible_bytes_of (parts_from (suc n) (x ∷ ps)) ≡ drop (suc n) (visible_bytes_of (x ∷ ps))) (sym part.is) (visible_bytes_from n ps rest more)
 
 -- the visible bytes up to one
-seen_up_to : (n : ℕ) (ps : List Part) (rest : Text) → AreScanned ps rest → seen_of (parts_up_to n ps) ≡ take n (seen_of ps)
-seen_up_to zero ps rest scanned = refl
-seen_up_to (suc n) [] rest scanned = refl
-seen_up_to (suc n) (p ∷ ps) rest (inl part, more) =
-    subst (λ (x : Part). seen_of (parts_up_to (suc n) (x ∷ ps)) ≡ take (suc n) (seen_of (x ∷ ps))) (sym part.is) (seen_up_to (suc n) ps rest more)
-seen_up_to (suc n) (p ∷ ps) rest (inr part, more) =
-    subst (λ (x : Part). seen_of (parts_up_to (suc n) (x ∷ ps)) ≡ take (suc n) (seen_of (x ∷ ps))) (sym part.is) (ap (λ xs. part.byte ∷ xs) (seen_up_to n ps rest more))
+visible_bytes_up_to : (n : ℕ) (ps : List Part) (rest : Text) → AreScanned ps rest → visible_bytes_of (parts_up_to n ps) ≡ take n (visible_bytes_of ps)
+visible_bytes_up_to zero ps rest scanned = refl
+visible_bytes_up_to (suc n) [] rest scanned = refl
+visible_bytes_up_to (suc n) (p ∷ ps) rest (inl part, more) =
+    subst (λ (x : Part). visible_bytes_of (parts_up_to (suc n) (x ∷ ps)) ≡ take (suc n) (visible_bytes_of (x ∷ ps))) (sym part.is) (visible_bytes_up_to (suc n) ps rest more)
+visible_bytes_up_to (suc n) (p ∷ ps) rest (inr part, more) =
+    subst (λ (x : Part). visible_bytes_of (parts_up_to (suc n) (x ∷ ps)) ≡ take (suc n) (visible_bytes_of (x ∷ ps))) (sym part.is) (ap (λ xs. part.byte ∷ xs) (visible_bytes_up_to n ps rest more))
 
 -- as many are counted
-count-seen : (ps : List Part) (rest : Text) → AreScanned ps rest → visible_count ps ≡ length (seen_of ps)
-count-seen [] rest scanned = refl
-count-seen (p ∷ ps) rest (inl part, more) =
-    subst (λ (x : Part). visible_count (x ∷ ps) ≡ length (seen_of (x ∷ ps))) (sym part.is) (count-seen ps rest more)
-count-seen (p ∷ ps) rest (inr part, more) =
-    subst (λ (x : Part). visible_count (x ∷ ps) ≡ length (seen_of (x ∷ ps))) (sym part.is) (ap suc (count-seen ps rest more))
+count-visible : (ps : List Part) (rest : Text) → AreScanned ps rest → visible_count ps ≡ length (visible_bytes_of ps)
+count-visible [] rest scanned = refl
+count-visible (p ∷ ps) rest (inl part, more) =
+    subst (λ (x : Part). visible_count (x ∷ ps) ≡ length (visible_bytes_of (x ∷ ps))) (sym part.is) (count-visible ps rest more)
+count-visible (p ∷ ps) rest (inr part, more) =
+    subst (λ (x : Part). visible_count (x ∷ ps) ≡ length (visible_bytes_of (x ∷ ps))) (sym part.is) (ap suc (count-visible ps rest more))
 
 -- ---- closed texts
 
@@ -161,11 +161,11 @@ none_open text =
         ap (λ b. opened (s ∷ ss) (if b then [] else sequence_part reset ∷ [])) some
 
 -- as much is seen of it as of the text
-pub seen-closed : (text : Text) → visible_text (closed text) ≡ visible_text text
-seen-closed text =
-    ap seen_of (parts-closed text)
+pub visible-closed : (text : Text) → visible_text (closed text) ≡ visible_text text
+visible-closed text =
+    ap visible_bytes_of (parts-closed text)
     ∙ flat_map-append visible_bytes (parts text) (closing_part (open_after (parts text)))
-    ∙ ap (λ xs. visible_text text ++ xs) (cond_both (length (open_after (parts text)) == 0) _ _ (λ ps. seen_of ps ≡ []) (λ _. refl) (λ _. refl))
+    ∙ ap (λ xs. visible_text text ++ xs) (cond_both (length (open_after (parts text)) == 0) _ _ (λ ps. visible_bytes_of ps ≡ []) (λ _. refl) (λ _. refl))
     ∙ append-nil (visible_text text)
 
 -- ---- sequences that are resumed
@@ -189,9 +189,9 @@ bytes_of-sequences [] = refl
 bytes_of-sequences (s ∷ ss) = ap (λ xs. s ++ xs) (bytes_of-sequences ss)
 
 -- nothing is seen of them
-seen_of-sequences : (ss : List Text) → seen_of (map sequence_part ss) ≡ []
-seen_of-sequences [] = refl
-seen_of-sequences (s ∷ ss) = seen_of-sequences ss
+visible_bytes_of-sequences : (ss : List Text) → visible_bytes_of (map sequence_part ss) ≡ []
+visible_bytes_of-sequences [] = refl
+visible_bytes_of-sequences (s ∷ ss) = visible_bytes_of-sequences ss
 
 -- ---- the text of a line
 
@@ -229,25 +229,25 @@ module _ (earlier : List Text) (text : Text) (start len : ℕ) where
       ∙ ap (λ xs. map sequence_part resumed ++ parts xs) (sym (append-nil (bytes_of taken)))
       ∙ ap (λ xs. map sequence_part resumed ++ xs) (parts-scanned taken [] taken_scanned ∙ append-nil taken)
 
-  seen_taken : seen_of taken ≡ take len (drop start (visible_text text))
-  seen_taken = seen_up_to len (parts_from start (parts text)) [] from_scanned ∙ ap (take len) (seen_from start (parts text) [] (scan text).scanned)
+  visible_taken : visible_bytes_of taken ≡ take len (drop start (visible_text text))
+  visible_taken = visible_bytes_up_to len (parts_from start (parts text)) [] from_scanned ∙ ap (take len) (visible_bytes_from start (parts text) [] (scan text).scanned)
 
-  seen_written : visible_text written ≡ take len (drop start (visible_text text))
-  seen_written =
-      ap seen_of parts-written
+  visible_written : visible_text written ≡ take len (drop start (visible_text text))
+  visible_written =
+      ap visible_bytes_of parts-written
       ∙ flat_map-append visible_bytes (map sequence_part resumed) taken
-      ∙ ap (λ xs. xs ++ seen_of taken) (seen_of-sequences resumed)
-      ∙ seen_taken
+      ∙ ap (λ xs. xs ++ visible_bytes_of taken) (visible_bytes_of-sequences resumed)
+      ∙ visible_taken
 
   -- no sequence is open at its end
   pub line_closed : open_after (parts (line_text earlier text start len)) ≡ []
   line_closed = cond_both (len == 0) _ _ (λ t. open_after (parts t) ≡ []) (λ _. refl) (λ _. none_open written)
 
   -- what is seen of it is its slice of what is seen of the text line
-  pub line_seen : visible_text (line_text earlier text start len) ≡ take len (drop start (visible_text text))
-  line_seen =
+  pub line_visible : visible_text (line_text earlier text start len) ≡ take len (drop start (visible_text text))
+  line_visible =
       cond_both (len == 0) _ _ (λ t. visible_text t ≡ take len (drop start (visible_text text)))
-      (λ none. ap (λ n. take n (drop start (visible_text text))) (sym (eqb-true len 0 none))) (λ _. seen-closed written ∙ seen_written)
+      (λ none. ap (λ n. take n (drop start (visible_text text))) (sym (eqb-true len 0 none))) (λ _. visible-closed written ∙ visible_written)
 
   -- before each of its visible bytes the sequences are open that are active there
   pub line_resumes : (k : ℕ) → start + len ≤ length (visible_text text) → k < len → open_after (parts_before k (parts (line_text earlier text start len))) ≡ active earlier text (start + k)
@@ -269,26 +269,26 @@ module _ (earlier : List Text) (text : Text) (start len : ℕ) where
 
       enough : k < visible_count (parts_from start (parts text))
       enough =
-          let counted = count-seen (parts_from start (parts text)) [] from_scanned in
-          let seen = ap length (seen_from start (parts text) [] (scan text).scanned) in
+          let counted = count-visible (parts_from start (parts text)) [] from_scanned in
+          let seen = ap length (visible_bytes_from start (parts text) [] (scan text).scanned) in
           let left = length-drop start (visible_text text) in
           omega (arith, counted, seen, left, within, below)
 
 -- ---- what is seen before any other text
 
 -- scanned parts of which no visible byte is ESC
-Shows-scanned : (ps : List Part) (rest : Text) → AreScanned ps rest → HasNo 0x1B (seen_of ps) → Shows (seen_of ps) (bytes_of ps)
+Shows-scanned : (ps : List Part) (rest : Text) → AreScanned ps rest → HasNo 0x1B (visible_bytes_of ps) → Shows (visible_bytes_of ps) (bytes_of ps)
 Shows-scanned [] rest scanned clear = Shows-nil
 Shows-scanned (p ∷ ps) rest (inl part, more) clear =
     let s = part.sequence in
-    subst (λ (x : Part). Shows (seen_of (x ∷ ps)) (x.bytes ++ bytes_of ps)) (sym part.is)
-    (Shows-append [] (seen_of ps) p.bytes (bytes_of ps) (subst (Shows []) (sym s.is) (Shows-sequence s.code s.parameters))
-    (Shows-scanned ps rest more (subst (λ (x : Part). HasNo 0x1B (seen_of (x ∷ ps))) part.is clear)))
+    subst (λ (x : Part). Shows (visible_bytes_of (x ∷ ps)) (x.bytes ++ bytes_of ps)) (sym part.is)
+    (Shows-append [] (visible_bytes_of ps) p.bytes (bytes_of ps) (subst (Shows []) (sym s.is) (Shows-sequence s.code s.parameters))
+    (Shows-scanned ps rest more (subst (λ (x : Part). HasNo 0x1B (visible_bytes_of (x ∷ ps))) part.is clear)))
 Shows-scanned (p ∷ ps) rest (inr part, more) clear =
-    let here = or_parts (part.byte == 0x1B) (list_any (λ b. b == 0x1B) (seen_of ps)) (subst (λ (x : Part). HasNo 0x1B (seen_of (x ∷ ps))) part.is clear) in
-    subst (λ (x : Part). Shows (seen_of (x ∷ ps)) (x.bytes ++ bytes_of ps)) (sym part.is)
-    (Shows-append (part.byte ∷ []) (seen_of ps) (part.byte ∷ []) (bytes_of ps) (Shows-byte part.byte here.0) (Shows-scanned ps rest more here.1))
+    let here = or_parts (part.byte == 0x1B) (list_any (λ b. b == 0x1B) (visible_bytes_of ps)) (subst (λ (x : Part). HasNo 0x1B (visible_bytes_of (x ∷ ps))) part.is clear) in
+    subst (λ (x : Part). Shows (visible_bytes_of (x ∷ ps)) (x.bytes ++ bytes_of ps)) (sym part.is)
+    (Shows-append (part.byte ∷ []) (visible_bytes_of ps) (part.byte ∷ []) (bytes_of ps) (Shows-byte part.byte here.0) (Shows-scanned ps rest more here.1))
 
 -- a text of which no visible byte is ESC
-pub Shows-seen : (text : Text) → HasNo 0x1B (visible_text text) → Shows (visible_text text) text
-Shows-seen text clear = subst (Shows (visible_text text)) (scan text).bytes (Shows-scanned (parts text) [] (scan text).scanned clear)
+pub Shows-visible : (text : Text) → HasNo 0x1B (visible_text text) → Shows (visible_text text) text
+Shows-visible text clear = subst (Shows (visible_text text)) (scan text).bytes (Shows-scanned (parts text) [] (scan text).scanned clear)

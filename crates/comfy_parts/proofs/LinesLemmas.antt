@@ -4,7 +4,7 @@ use Rattle.std.specs.Str.{IsCharBoundary, IsUtf8}
 use Rattle.std.proofs.lemmas.Str.{IsUtf8-drop}
 use Rattle.std.proofs.lemmas.List.{take-append-drop}
 use Rattle.comfy_parts.specs.Following.{AreColumnsUpTo, IsAtLine, IsFirstElement, IsWideFrom}
-use Rattle.comfy_parts.specs.Laws.{IsPlain}
+use Rattle.comfy_parts.specs.Laws.{IsPrintable}
 use Rattle.comfy_parts.specs.Text.{Text, begins_with, is_printable_ascii}
 use Rattle.comfy_parts.specs.Wrapping.{wrapped, line_end}
 use Rattle.comfy_parts.proofs.FollowingLemmas.{first-inside}
@@ -16,15 +16,15 @@ use Rattle.comfy_parts.proofs.StartLemmas.{line-cut}
 abbrev pub IsLineStart : ℕ → Text → Type 0
 IsLineStart d text = IsUtf8 text × (begins_with d text ≡ false)
 
-pub plain-starts : (w d : ℕ) (text : Text) → IsPlain w d text → begins_with d text ≡ false → IsLineStart d text
-plain-starts w d text plain begins = (IsUtf8-printable text plain.printable, begins)
+pub printable-starts : (w d : ℕ) (text : Text) → IsPrintable w d text → begins_with d text ≡ false → IsLineStart d text
+printable-starts w d text plain begins = (IsUtf8-printable text plain.printable, begins)
 
 pub element-starts : (w d : ℕ) (text : Text) (first columns shown : ℕ) → IsAtLine w d text first columns shown → IsLineStart d text
 element-starts w d text first columns shown at = (at.whole, at.begins_otherwise)
 
--- what follows a line of a plain text is plain
-pub plain-behind : (w d : ℕ) (text : Text) → IsPlain w d text → (end : ℕ) (behind : Text) → behind ≡ drop end text → IsPlain w d behind
-plain-behind w d text plain end behind back = record {
+-- what follows a line of a printable text is plain
+pub printable-behind : (w d : ℕ) (text : Text) → IsPrintable w d text → (end : ℕ) (behind : Text) → behind ≡ drop end text → IsPrintable w d behind
+printable-behind w d text plain end behind back = record {
   columns = plain.columns;
   delimiter = plain.delimiter;
   printable = ap is_printable_ascii back ∙ back-printable (take end text) (drop end text) (ap is_printable_ascii (take-append-drop end text) ∙ plain.printable);

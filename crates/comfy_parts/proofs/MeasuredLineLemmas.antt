@@ -6,20 +6,20 @@ use Rattle.std.specs.List.{All}
 use Rattle.std.specs.Prelude.{IfSome, IsUtf8}
 use Rattle.std.specs.Str.{IsCharBoundary}
 use Rattle.comfy_parts.proofs.FollowingLemmas.{first-at}
-use Rattle.comfy_parts.proofs.PlainTextLemmas.{IsPlainLine, wrapped-plain}
+use Rattle.comfy_parts.proofs.PrintableTextLemmas.{IsPrintableLine, wrapped-printable}
 use Rattle.comfy_parts.proofs.PrintableLemmas.{measure-printable}
 use Rattle.comfy_parts.proofs.WideEndLemmas.{exact-columns, first-is, none-wider}
 use Rattle.comfy_parts.specs.Following.{AreColumnsUpTo, IsAtLine, IsFirstElement, IsMeasured, IsMeasuredBehind, IsWideFrom}
-use Rattle.comfy_parts.specs.Laws.{IsPlain}
+use Rattle.comfy_parts.specs.Laws.{IsPrintable}
 use Rattle.comfy_parts.specs.Text.{Text, begins_with, measure}
 use Rattle.comfy_parts.specs.Wrapping.{wrapped}
 use Rattle.comfy_parts.specs.declared.content_split.ends.Measured.{Measured}
 
 -- the columns of the first line of a plain text are its bytes
-pub first-measured : (w d : ℕ) (text line : Text) (others : List Text) → IsPlain w d text → wrapped w d text ≡ line ∷ others → length line ≡ measure line
+pub first-measured : (w d : ℕ) (text line : Text) (others : List Text) → IsPrintable w d text → wrapped w d text ≡ line ∷ others → length line ≡ measure line
 first-measured w d text line others plain is =
-    let all : All (IsPlainLine w) (line ∷ others) = subst (All (IsPlainLine w)) is (wrapped-plain w d text plain) in
-    let first : IsPlainLine w line = all 0 line (omega arith) in
+    let all : All (IsPrintableLine w) (line ∷ others) = subst (All (IsPrintableLine w)) is (wrapped-printable w d text plain) in
+    let first : IsPrintableLine w line = all 0 line (omega arith) in
     sym (measure-printable line first.printable)
 
 -- ends of one text that have the same length are the same

@@ -3,7 +3,7 @@ use Rattle.std.proofs.Common.{◌≡◌, inl, inr, ◌==◌, true, List, [], ◌
 use Rattle.std.specs.List.{list_all, list_any}
 use Rattle.std.proofs.lemmas.Bool.{or_parts}
 use Rattle.comfy_parts.proofs.BreakLemmas.{HasNo-visible}
-use Rattle.comfy_parts.proofs.LineTextLemmas.{seen-closed, seen_of}
+use Rattle.comfy_parts.proofs.LineTextLemmas.{visible-closed, visible_bytes_of}
 use Rattle.comfy_parts.proofs.OpenLemmas.{opened-append}
 use Rattle.comfy_parts.proofs.ScanLemmas.{AreScanned, bytes_of, parts-scanned, scan, scanned-stops}
 use Rattle.comfy_parts.proofs.SequenceLemmas.{Stops, Stops-escape, no_sequence, parts-sequence, parts-visible}
@@ -22,24 +22,24 @@ stands-scanned text scanned =
     record { alone = λ rest. ap (λ t. parts (t ++ rest)) (sym (scan text).bytes) ∙ parts-scanned (parts text) rest (scanned rest) }
 
 -- scanned parts of which no visible byte is ESC are so before every text
-scanned-clear : (ps : List Part) (rest other : Text) → AreScanned ps rest → HasNo 0x1B (seen_of ps) → AreScanned ps other
+scanned-clear : (ps : List Part) (rest other : Text) → AreScanned ps rest → HasNo 0x1B (visible_bytes_of ps) → AreScanned ps other
 scanned-clear [] rest other scanned clear = tt
 scanned-clear (p ∷ ps) rest other (inl part, more) clear =
-    (inl part, scanned-clear ps rest other more (subst (λ (x : Part). HasNo 0x1B (seen_of (x ∷ ps))) part.is clear))
+    (inl part, scanned-clear ps rest other more (subst (λ (x : Part). HasNo 0x1B (visible_bytes_of (x ∷ ps))) part.is clear))
 scanned-clear (p ∷ ps) rest other (inr part, more) clear =
-    let here = or_parts (part.byte == 0x1B) (list_any (λ b. b == 0x1B) (seen_of ps)) (subst (λ (x : Part). HasNo 0x1B (seen_of (x ∷ ps))) part.is clear) in
+    let here = or_parts (part.byte == 0x1B) (list_any (λ b. b == 0x1B) (visible_bytes_of ps)) (subst (λ (x : Part). HasNo 0x1B (visible_bytes_of (x ∷ ps))) part.is clear) in
     (inr (record { byte = part.byte; free = no_sequence part.byte (bytes_of ps ++ other) here.0; is = part.is }), scanned-clear ps rest other more here.1)
 
 -- a text of which no visible byte is ESC
-pub stands-seen : (text : Text) → HasNo 0x1B (visible_text text) → StandsAlone text
-stands-seen text clear = stands-scanned text (λ rest. scanned-clear (parts text) [] rest (scan text).scanned clear)
+pub stands-visible : (text : Text) → HasNo 0x1B (visible_text text) → StandsAlone text
+stands-visible text clear = stands-scanned text (λ rest. scanned-clear (parts text) [] rest (scan text).scanned clear)
 
 -- a text without ESC, also once it is closed
 pub stands-clear : (text : Text) → HasNo 0x1B text → StandsAlone text
-stands-clear text clear = stands-seen text (HasNo-visible 0x1B text clear)
+stands-clear text clear = stands-visible text (HasNo-visible 0x1B text clear)
 
 pub stands-closed : (text : Text) → HasNo 0x1B text → StandsAlone (closed text)
-stands-closed text clear = stands-seen (closed text) (subst (HasNo 0x1B) (sym (seen-closed text)) (HasNo-visible 0x1B text clear))
+stands-closed text clear = stands-visible (closed text) (subst (HasNo 0x1B) (sym (visible-closed text)) (HasNo-visible 0x1B text clear))
 
 -- two such texts
 pub stands-append : (xs ys : Text) → StandsAlone xs → StandsAlone ys → StandsAlone (xs ++ ys)

@@ -10,21 +10,21 @@ abbrev pub Entry : Type 0
 Entry = Bor Text × TableStyle
 
 -- as its definition has it
-abbrev pub as_seen : Entry → Text × TableStyle
-as_seen entry = (entry.0.now, entry.1)
+abbrev pub as_measured : Entry → Text × TableStyle
+as_measured entry = (entry.0.now, entry.1)
 
 -- what stands beside a word from a place on
 abbrev pub from : List Entry → ℕ → Text → Option TableStyle
-from entries i word = beside (map as_seen (drop i entries)) word
+from entries i word = beside (map as_measured (drop i entries)) word
 
 pub found : (entries : List Entry) (i : ℕ) (default : Entry) (word : Text) → i < length entries → bytes_eq word (slice_index_or entries i default).0.now ≡ true → from entries i word ≡ Some (slice_index_or entries i default).1
 found [] i default word below is = absurd (omega (arith, below))
-found (e ∷ es) zero default word below is = ap (λ b. option_map (λ (x : Text × TableStyle). x.1) (if b then Some (as_seen e) else find (λ (x : Text × TableStyle). bytes_eq word x.0) (map as_seen es))) is
+found (e ∷ es) zero default word below is = ap (λ b. option_map (λ (x : Text × TableStyle). x.1) (if b then Some (as_measured e) else find (λ (x : Text × TableStyle). bytes_eq word x.0) (map as_measured es))) is
 found (e ∷ es) (suc i) default word below is = found es i default word (omega (arith, below)) is
 
 past-next : (entries : List Entry) (i : ℕ) (default : Entry) (word : Text) → i < length entries → bytes_eq word (slice_index_or entries i default).0.now ≡ false → from entries i word ≡ from entries (suc i) word
 past-next [] i default word below is = absurd (omega (arith, below))
-past-next (e ∷ es) zero default word below is = ap (λ b. option_map (λ (x : Text × TableStyle). x.1) (if b then Some (as_seen e) else find (λ (x : Text × TableStyle). bytes_eq word x.0) (map as_seen es))) is
+past-next (e ∷ es) zero default word below is = ap (λ b. option_map (λ (x : Text × TableStyle). x.1) (if b then Some (as_measured e) else find (λ (x : Text × TableStyle). bytes_eq word x.0) (map as_measured es))) is
 past-next (e ∷ es) (suc i) default word below is = past-next es i default word (omega (arith, below)) is
 
 pub passed : (entries : List Entry) (i : ℕ) (default : Entry) (word : Text) → i < length entries → bytes_eq word (slice_index_or entries i default).0.now ≡ false → from entries i word ≡ from entries (i + 1) word

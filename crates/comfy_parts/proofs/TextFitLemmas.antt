@@ -20,7 +20,7 @@ use Rattle.comfy_parts.proofs.PlaceLemmas.{head-utf8}
 use Rattle.comfy_parts.specs.Text.{Text, measure, head, elements}
 use Rattle.comfy_parts.specs.Wrapping.{IsWrapped, head_or_first, lines_of_text, wrapped}
 use Rattle.comfy_parts.proofs.LinesFitLemmas.{BreaksWell, IsCut, IsFittingLine, wrapped-fit}
-use Rattle.comfy_parts.proofs.PlainLineLemmas.{parts-all}
+use Rattle.comfy_parts.proofs.PrintableLineLemmas.{parts-all}
 use Rattle.cluster_width.proofs.SpaceMeasureLemmas.{measure-nil}
 use Rattle.comfy_parts.proofs.UncutLemmas.{only-utf8}
 use Rattle.std.proofs.lemmas.List.Sums.{AllPass-from_list_all}

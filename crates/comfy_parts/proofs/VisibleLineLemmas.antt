@@ -9,7 +9,7 @@ use Rattle.comfy_parts.specs.VisibleLines.{CellLine, LineStart, line_starts, lin
 use Rattle.comfy_parts.specs.VisibleText.{parts, visible_text, open_after, line_text}
 use Rattle.comfy_parts.specs.Wrapping.{lines_past, wrapped, lines_of_text, line_end, part_end}
 use Rattle.comfy_parts.specs.Laws.{IsResumedLine, LinesAreResumed}
-use Rattle.comfy_parts.proofs.LineTextLemmas.{line_closed, line_resumes, line_seen}
+use Rattle.comfy_parts.proofs.LineTextLemmas.{line_closed, line_resumes, line_visible}
 use Rattle.std.proofs.lemmas.Simd.{map-map}
 use Rattle.std.proofs.lemmas.Slice.Zip.{AllZip-long, seconds-zip}
 use Rattle.comfy_parts.proofs.ListLemmas.{AllZip-append, AllZip-map_zip, drop_next, every-always, every-second, take-front}
@@ -49,34 +49,34 @@ text_lines_stand w d text =
 -- ---- lines that are written
 
 -- the lines of a text line are seen as those of its visible text
-seen_of_text : (w d : ℕ) (earlier : List Text) (text : Text) → map (λ (line : CellLine). line.seen) (line_texts_of_text w d earlier text) ≡ lines_of_text w d (visible_text text)
-seen_of_text w d earlier text =
-    map-map (λ (line : CellLine). line.seen) (λ (p : ℕ × Text). record { seen = p.1; written = line_text earlier text p.0 (length p.1) }) (zip (starts_of_text w d (visible_text text)) (lines_of_text w d (visible_text text)))
+visible_of_text : (w d : ℕ) (earlier : List Text) (text : Text) → map (λ (line : CellLine). line.measured) (line_texts_of_text w d earlier text) ≡ lines_of_text w d (visible_text text)
+visible_of_text w d earlier text =
+    map-map (λ (line : CellLine). line.measured) (λ (p : ℕ × Text). record { measured = p.1; written = line_text earlier text p.0 (length p.1) }) (zip (starts_of_text w d (visible_text text)) (lines_of_text w d (visible_text text)))
     ∙ seconds-zip (starts_of_text w d (visible_text text)) (lines_of_text w d (visible_text text)) (AllZip-long _ _ _ (text_lines_stand w d (visible_text text)))
 
-seen_past : (w d : ℕ) (earlier text_lines : List Text) → map (λ (line : CellLine). line.seen) (line_texts_past w d earlier text_lines) ≡ flat_map (lines_of_text w d) (map visible_text text_lines)
-seen_past w d earlier [] = refl
-seen_past w d earlier (text ∷ more) =
-    map-append (λ (line : CellLine). line.seen) (line_texts_of_text w d earlier text) (line_texts_past w d (earlier ++ text ∷ []) more)
-    ∙ ap₂ (λ (xs ys : List Text). xs ++ ys) (seen_of_text w d earlier text) (seen_past w d (earlier ++ text ∷ []) more)
+visible_past : (w d : ℕ) (earlier text_lines : List Text) → map (λ (line : CellLine). line.measured) (line_texts_past w d earlier text_lines) ≡ flat_map (lines_of_text w d) (map visible_text text_lines)
+visible_past w d earlier [] = refl
+visible_past w d earlier (text ∷ more) =
+    map-append (λ (line : CellLine). line.measured) (line_texts_of_text w d earlier text) (line_texts_past w d (earlier ++ text ∷ []) more)
+    ∙ ap₂ (λ (xs ys : List Text). xs ++ ys) (visible_of_text w d earlier text) (visible_past w d (earlier ++ text ∷ []) more)
 
 -- the lines of a cell are seen as those of its visible texts
-pub seen_lines : (w d : ℕ) (text_lines : List Text) → map (λ (line : CellLine). line.seen) (line_texts w d text_lines) ≡ flat_map (lines_of_text w d) (map visible_text text_lines)
-seen_lines w d text_lines = seen_past w d [] text_lines
+pub visible_lines : (w d : ℕ) (text_lines : List Text) → map (λ (line : CellLine). line.measured) (line_texts w d text_lines) ≡ flat_map (lines_of_text w d) (map visible_text text_lines)
+visible_lines w d text_lines = visible_past w d [] text_lines
 
 -- what holds of each slice of what is visible, and of its text, holds of each line of a text line
 pub each_slice : (w d : ℕ) (Q : LineStart → CellLine → Type 0) (earlier : List Text) (text : Text)
     → ((start : ℕ) (line : Text) → take (length line) (drop start (visible_text text)) ≡ line
-    → Q (record { earlier = earlier; text = text; at = start }) (record { seen = line; written = line_text earlier text start (length line) }))
+    → Q (record { earlier = earlier; text = text; at = start }) (record { measured = line; written = line_text earlier text start (length line) }))
     → AllZip Q (map (λ (at : ℕ). record { earlier = earlier; text = text; at = at }) (starts_of_text w d (visible_text text))) (line_texts_of_text w d earlier text)
 each_slice w d Q earlier text gives =
-    AllZip-map_zip (StandsIn (visible_text text)) Q _ (λ (p : ℕ × Text). record { seen = p.1; written = line_text earlier text p.0 (length p.1) }) gives
+    AllZip-map_zip (StandsIn (visible_text text)) Q _ (λ (p : ℕ × Text). record { measured = p.1; written = line_text earlier text p.0 (length p.1) }) gives
     (starts_of_text w d (visible_text text)) (lines_of_text w d (visible_text text)) (text_lines_stand w d (visible_text text))
 
 -- where that is so in text lines of some kind, it holds of each line of a cell of such text lines
 each_line : (w d : ℕ) (P : Text → Type 0) (Q : LineStart → CellLine → Type 0)
     → ((earlier : List Text) (text : Text) → P text → (start : ℕ) (line : Text) → take (length line) (drop start (visible_text text)) ≡ line
-    → Q (record { earlier = earlier; text = text; at = start }) (record { seen = line; written = line_text earlier text start (length line) }))
+    → Q (record { earlier = earlier; text = text; at = start }) (record { measured = line; written = line_text earlier text start (length line) }))
     → (earlier text_lines : List Text) → AllByRecursion P text_lines → AllZip Q (line_starts_past w d earlier text_lines) (line_texts_past w d earlier text_lines)
 each_line w d P Q gives earlier [] each = tt
 each_line w d P Q gives earlier (text ∷ more) each =
@@ -91,10 +91,10 @@ module _ (w d : ℕ) (text_lines : List Text) where
       (each_line w d (λ text. Unit {0}) (λ from line. open_after (parts line.written) ≡ []) (λ earlier text _ start line stands. line_closed earlier text start (length line)) [] text_lines (every-always _ text_lines (λ _. tt)))
 
   -- the sequences taken out of a line's text, what is seen of it is left
-  pub lines_seen : AllByRecursion (λ (line : CellLine). visible_text line.written ≡ line.seen) (line_texts w d text_lines)
-  lines_seen =
+  pub lines_visible : AllByRecursion (λ (line : CellLine). visible_text line.written ≡ line.measured) (line_texts w d text_lines)
+  lines_visible =
       every-second _ (line_starts w d text_lines) _
-      (each_line w d (λ text. Unit {0}) (λ from line. visible_text line.written ≡ line.seen) (λ earlier text _ start line stands. line_seen earlier text start (length line) ∙ stands) [] text_lines (every-always _ text_lines (λ _. tt)))
+      (each_line w d (λ text. Unit {0}) (λ from line. visible_text line.written ≡ line.measured) (λ earlier text _ start line stands. line_visible earlier text start (length line) ∙ stands) [] text_lines (every-always _ text_lines (λ _. tt)))
 
   -- before each visible byte of a line the sequences are open that are active there
   pub lines_resumed : LinesAreResumed w d text_lines

@@ -13,7 +13,7 @@ use Rattle.unicode_segmentation.proofs.TextLemmas.{encode_utf8_nonempty}
 use Rattle.comfy_parts.specs.Text.{Text}
 use Rattle.comfy_parts.specs.VisibleText.{parts, parameter_count, sequence_len, visible_text, visible_bytes}
 use Rattle.comfy_parts.proofs.SequenceLemmas.{BeginsWithSequence, begins_with_sequence, front_of, parts-sequence, sequence_len-sequence, slice_index_behind}
-use Rattle.comfy_parts.proofs.FrontLemmas.{character-seen, parts-character}
+use Rattle.comfy_parts.proofs.FrontLemmas.{character-visible, parts-character}
 use Rattle.std.specs.List.{flat_map}
 
 -- what stands after a sequence at the front
@@ -46,7 +46,7 @@ WholeWithin fuel = (text : Text) → length text ≤ fuel → IsUtf8 text → Is
 
 -- a character without a sequence at its place stays
 pub visible_character : (c : ℕ) (more : Text) → begins_with_sequence (encode_utf8 c ++ more) ≡ false → visible_text (encode_utf8 c ++ more) ≡ encode_utf8 c ++ visible_text more
-visible_character c more free = ap (flat_map visible_bytes) (parts-character c more free) ∙ character-seen c (parts more)
+visible_character c more free = ap (flat_map visible_bytes) (parts-character c more free) ∙ character-visible c (parts more)
 
 -- after a visible character
 behind_character : (fuel c : ℕ) (cs : List ℕ) (text : Text) → text ≡ encode_utf8 c ++ encode_utf8_all cs → all_scalars (c ∷ cs) ≡ true → begins_with_sequence text ≡ false → length text ≤ suc fuel → WholeWithin fuel → IsUtf8 (visible_text text)
@@ -95,7 +95,7 @@ none_at_front text none =
 
 -- what stands after a sequence at the front
 pub record IsBehind (text rest : Text) : Type 0 where
-  pub seen : visible_text text ≡ visible_text rest
+  pub visible : visible_text text ≡ visible_text rest
   pub whole : IsUtf8 rest
 
 pub behind_sequence : (text : Text) → IsUtf8 text → 0 < sequence_len text → IsBehind text (drop (sequence_len text) text)
@@ -106,4 +106,4 @@ behind_sequence text utf8 some = by_front (front_of text)
     by_front (inl s) =
         let len : sequence_len text ≡ length s.code + 3 = ap sequence_len s.is ∙ sequence_len-sequence s.code s.rest s.parameters ∙ omega arith in
         subst (IsBehind text) (sym (past_sequence text s (sequence_len text) len))
-        (record { seen = ap visible_text s.is ∙ ap (flat_map visible_bytes) (parts-sequence s.code s.rest s.parameters); whole = rest_whole text s utf8 })
+        (record { visible = ap visible_text s.is ∙ ap (flat_map visible_bytes) (parts-sequence s.code s.rest s.parameters); whole = rest_whole text s utf8 })

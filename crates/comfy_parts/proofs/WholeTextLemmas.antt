@@ -16,8 +16,8 @@ use Rattle.comfy_parts.proofs.ScanLemmas.{AreScanned, bytes_of, scan}
 use Rattle.comfy_parts.proofs.WrittenLemmas.{line_text-written}
 
 -- how many bytes of some parts are visible
-abbrev seen_count : List Part → ℕ
-seen_count ps = length (flat_map visible_bytes ps)
+abbrev visible_byte_count : List Part → ℕ
+visible_byte_count ps = length (flat_map visible_bytes ps)
 
 -- whether one of these sequences is open
 abbrev is_open : List Text → Bool
@@ -65,14 +65,14 @@ record AreNone (o : Bool) (ps : List Part) : Type 0 where
   empty : ps ≡ []
   closed : o ≡ false
 
-none_left : (o : Bool) (ps : List Part) (rest : Text) → AreScanned ps rest → seen_count ps ≡ 0 → closes_itself o false ps ≡ true → AreNone o ps
+none_left : (o : Bool) (ps : List Part) (rest : Text) → AreScanned ps rest → visible_byte_count ps ≡ 0 → closes_itself o false ps ≡ true → AreNone o ps
 none_left false [] rest scanned none closes = record { empty = refl; closed = refl }
 none_left true [] rest scanned none closes = absurd (true≢false (sym closes))
 none_left o (p ∷ ps) rest (inr part, more) none closes =
-    let seen = ap (λ (x : Part). seen_count (x ∷ ps)) part.is in absurd (omega (arith, none, seen))
+    let seen = ap (λ (x : Part). visible_byte_count (x ∷ ps)) part.is in absurd (omega (arith, none, seen))
 none_left o (p ∷ ps) rest (inl part, more) none closes =
     by_kind (at_sequence [] o false p.bytes ps (ap (λ (x : Part). closes_itself o false (x ∷ ps)) (sym part.is) ∙ closes))
-    (none_left true ps rest more (ap (λ (x : Part). seen_count (x ∷ ps)) (sym part.is) ∙ none))
+    (none_left true ps rest more (ap (λ (x : Part). visible_byte_count (x ∷ ps)) (sym part.is) ∙ none))
   where
     by_kind : IsReset [] o false p.bytes ps ⊎ IsOther [] p.bytes ps → (closes_itself true false ps ≡ true → AreNone true ps) → AreNone o (p ∷ ps)
     by_kind (inl same) behind = absurd (true≢false (sym same.follows_visible))
@@ -85,24 +85,24 @@ abbrev shut : ℕ → List Text → List Part → Text
 shut n ss ps = bytes_of (parts_up_to n ps) ++ closing (opened ss (parts_up_to n ps))
 
 -- that is all, where no sequence stands in front or it is known
-all_shut : (ss : List Text) (o follows : Bool) (ps : List Part) (rest : Text) → AreScanned ps rest → o ≡ is_open ss → closes_itself o follows ps ≡ true → shut (seen_count ps) ss ps ≡ bytes_of ps
+all_shut : (ss : List Text) (o follows : Bool) (ps : List Part) (rest : Text) → AreScanned ps rest → o ≡ is_open ss → closes_itself o follows ps ≡ true → shut (visible_byte_count ps) ss ps ≡ bytes_of ps
 all_shut ss o follows [] rest scanned is closes = by_length (length ss == 0) (ap not (sym is) ∙ closes)
   where
     by_length : (b : Bool) → not (not b) ≡ true → (if b then [] else reset) ≡ []
     by_length true closed = refl
     by_length false closed = absurd (true≢false (sym closed))
 all_shut ss o follows (p ∷ ps) rest (inr part, more) is closes =
-    subst (λ (x : Part). shut (seen_count (x ∷ ps)) ss (x ∷ ps) ≡ bytes_of (x ∷ ps)) (sym part.is)
+    subst (λ (x : Part). shut (visible_byte_count (x ∷ ps)) ss (x ∷ ps) ≡ bytes_of (x ∷ ps)) (sym part.is)
     (ap (λ (t : Text). part.byte ∷ t) (all_shut ss o true ps rest more is (ap (λ (x : Part). closes_itself o follows (x ∷ ps)) (sym part.is) ∙ closes)))
 all_shut ss o follows (p ∷ ps) rest (inl part, more) is closes =
-    subst (λ (x : Part). shut (seen_count (x ∷ ps)) ss (x ∷ ps) ≡ bytes_of (x ∷ ps)) (sym part.is)
-    (by_count (seen_count ps) refl (at_sequence ss o follows p.bytes ps (ap (λ (x : Part). closes_itself o follows (x ∷ ps)) (sym part.is) ∙ closes)) (λ ts t is. all_shut ts t false ps rest more is))
+    subst (λ (x : Part). shut (visible_byte_count (x ∷ ps)) ss (x ∷ ps) ≡ bytes_of (x ∷ ps)) (sym part.is)
+    (by_count (visible_byte_count ps) refl (at_sequence ss o follows p.bytes ps (ap (λ (x : Part). closes_itself o follows (x ∷ ps)) (sym part.is) ∙ closes)) (λ ts t is. all_shut ts t false ps rest more is))
   where
     q : Part
     q = sequence_part p.bytes
 
     IsShut : List Text → Type 0
-    IsShut ts = shut (seen_count ps) ts ps ≡ bytes_of ps
+    IsShut ts = shut (visible_byte_count ps) ts ps ≡ bytes_of ps
 
     needs_reset : (b : Bool) → not b ≡ true → (if b then [] else reset) ≡ reset
     needs_reset true some = absurd (true≢false (sym some))
@@ -112,7 +112,7 @@ all_shut ss o follows (p ∷ ps) rest (inl part, more) is closes =
     by_kind (inl same) behind = subst IsShut (sym same.opens) (behind [] false refl same.more)
     by_kind (inr other) behind = subst IsShut (sym other.opens) (behind (ss ++ p.bytes ∷ []) true (some_open ss p.bytes) other.more)
 
-    by_count : (n : ℕ) → seen_count ps ≡ n → IsReset ss o follows p.bytes ps ⊎ IsOther ss p.bytes ps → ((ts : List Text) (t : Bool) → t ≡ is_open ts → closes_itself t false ps ≡ true → IsShut ts)
+    by_count : (n : ℕ) → visible_byte_count ps ≡ n → IsReset ss o follows p.bytes ps ⊎ IsOther ss p.bytes ps → ((ts : List Text) (t : Bool) → t ≡ is_open ts → closes_itself t false ps ≡ true → IsShut ts)
         → shut n ss (q ∷ ps) ≡ p.bytes ++ bytes_of ps
     by_count zero none (inr other) behind = absurd (true≢false (none_left true ps rest more none other.more).closed)
     by_count zero none (inl same) behind =
@@ -124,16 +124,16 @@ all_shut ss o follows (p ∷ ps) rest (inl part, more) is closes =
 
 -- with the sequences in front
 abbrev resumed : List Text → List Part → Text
-resumed ss ps = concat (opened ss (parts_before 0 ps)) ++ shut (seen_count ps) (opened ss (parts_before 0 ps)) (parts_from 0 ps)
+resumed ss ps = concat (opened ss (parts_before 0 ps)) ++ shut (visible_byte_count ps) (opened ss (parts_before 0 ps)) (parts_from 0 ps)
 
-all_resumed : (ss : List Text) (o : Bool) (ps : List Part) (rest : Text) → AreScanned ps rest → o ≡ is_open ss → 0 < seen_count ps → closes_itself o false ps ≡ true → resumed ss ps ≡ concat ss ++ bytes_of ps
+all_resumed : (ss : List Text) (o : Bool) (ps : List Part) (rest : Text) → AreScanned ps rest → o ≡ is_open ss → 0 < visible_byte_count ps → closes_itself o false ps ≡ true → resumed ss ps ≡ concat ss ++ bytes_of ps
 all_resumed ss o [] rest scanned is some closes = absurd (omega (arith, some))
 all_resumed ss o (p ∷ ps) rest (inr part, more) is some closes =
-    subst (λ (x : Part). resumed ss (x ∷ ps) ≡ concat ss ++ shut (seen_count (x ∷ ps)) ss (x ∷ ps)) (sym part.is) refl
+    subst (λ (x : Part). resumed ss (x ∷ ps) ≡ concat ss ++ shut (visible_byte_count (x ∷ ps)) ss (x ∷ ps)) (sym part.is) refl
     ∙ ap (λ (t : Text). concat ss ++ t) (all_shut ss o false (p ∷ ps) rest (inr part, more) is closes)
 all_resumed ss o (p ∷ ps) rest (inl part, more) is some closes =
     subst (λ (x : Part). resumed ss (x ∷ ps) ≡ concat ss ++ bytes_of (x ∷ ps)) (sym part.is) (by_kind (at_sequence ss o false p.bytes ps (ap (λ (x : Part). closes_itself o false (x ∷ ps)) (sym part.is) ∙ closes))
-    (all_resumed (ss ++ p.bytes ∷ []) true ps rest more (some_open ss p.bytes) (subst (λ (x : Part). 0 < seen_count (x ∷ ps)) part.is some)))
+    (all_resumed (ss ++ p.bytes ∷ []) true ps rest more (some_open ss p.bytes) (subst (λ (x : Part). 0 < visible_byte_count (x ∷ ps)) part.is some)))
   where
     s : Text
     s = p.bytes
@@ -149,12 +149,12 @@ all_resumed ss o (p ∷ ps) rest (inl part, more) is some closes =
 
 -- the line of such a text
 pub written_whole : (text : Text) → closes_itself false false (parts text) ≡ true → line_text [] text 0 (length (visible_text text)) ≡ text
-written_whole text closes = sym (line_text-written [] text 0 (seen_count ps)) ∙ by_count (seen_count ps) refl ∙ (scan text).bytes
+written_whole text closes = sym (line_text-written [] text 0 (visible_byte_count ps)) ∙ by_count (visible_byte_count ps) refl ∙ (scan text).bytes
   where
     ps : List Part
     ps = parts text
 
-    by_count : (n : ℕ) → seen_count ps ≡ n → (if n == 0 then [] else concat (opened [] (parts_before 0 ps)) ++ shut n (opened [] (parts_before 0 ps)) (parts_from 0 ps)) ≡ bytes_of ps
+    by_count : (n : ℕ) → visible_byte_count ps ≡ n → (if n == 0 then [] else concat (opened [] (parts_before 0 ps)) ++ shut n (opened [] (parts_before 0 ps)) (parts_from 0 ps)) ≡ bytes_of ps
     by_count zero none = sym (ap bytes_of (none_left false ps [] (scan text).scanned none closes).empty)
     by_count (suc n) some =
         let more : (suc n == 0) ≡ false = grind (arith, nat_tests) in
@@ -163,9 +163,9 @@ written_whole text closes = sym (line_text-written [] text 0 (seen_count ps)) �
         ∙ all_resumed [] false ps [] (scan text).scanned refl (omega (arith, some)) closes
 
 -- and of a cell of this text alone, where what is visible of it fits
-pub line_of_whole : (w d : ℕ) (text : Text) → measure (visible_text text) ≤ w → line_text [] text 0 (length (visible_text text)) ≡ text → line_texts w d (text ∷ []) ≡ record { seen = visible_text text; written = text } ∷ []
+pub line_of_whole : (w d : ℕ) (text : Text) → measure (visible_text text) ≤ w → line_text [] text 0 (length (visible_text text)) ≡ text → line_texts w d (text ∷ []) ≡ record { measured = visible_text text; written = text } ∷ []
 line_of_whole w d text fits whole =
     let seen = visible_text text in
     let fit : nat_le (measure seen) w ≡ true = grind (arith, nat_tests, fits) in
-    ap (λ (b : Bool). map (λ (p : ℕ × Text). record { seen = p.1; written = line_text [] text p.0 (length p.1) }) (zip (if b then 0 ∷ [] else starts_past w d 0 0 seen) (if b then seen ∷ [] else wrapped w d seen)) ++ []) fit
-    ∙ ap (λ (t : Text). record { seen = seen; written = t } ∷ []) whole
+    ap (λ (b : Bool). map (λ (p : ℕ × Text). record { measured = p.1; written = line_text [] text p.0 (length p.1) }) (zip (if b then 0 ∷ [] else starts_past w d 0 0 seen) (if b then seen ∷ [] else wrapped w d seen)) ++ []) fit
+    ∙ ap (λ (t : Text). record { measured = seen; written = t } ∷ []) whole

@@ -7,7 +7,7 @@ use Rattle.std.proofs.lemmas.Grind.{flat_map-append}
 use Rattle.std.proofs.lemmas.List.{drop_all, drop_more, get_or-map, length-map, length-take, map-append, take-append-drop}
 use Rattle.std.proofs.lemmas.Str.{IsUtf8-take}
 use Rattle.unicode_segmentation.proofs.TextLemmas.{encode_utf8_nonempty}
-use Rattle.comfy_parts.specs.Cursor.{CursorValue, IsBehindGap, StandsAt, at_byte, open_at_end, seen_ahead}
+use Rattle.comfy_parts.specs.Cursor.{CursorValue, IsBehindGap, StandsAt, at_byte, open_at_end, visible_ahead}
 use Rattle.comfy_parts.specs.Text.{Text, IsOnly, begins_with, measure}
 use Rattle.comfy_parts.specs.VisibleLines.{CellLine, line_texts, line_texts_of_text, line_texts_past, starts_of_text, starts_past}
 use Rattle.comfy_parts.specs.VisibleText.{Part, active, closed, closing, line_text, open_after, parts, parts_before, parts_from, parts_up_to, opened, text_between, visible_text}
@@ -130,13 +130,13 @@ some_bytes w d line behind (b ∷ bs) is = omega arith
 
 -- the first line of a wrapped text, with those after it, where a cursor stands before its gap and another after that
 pub record IsNextLine (w d : ℕ) (old mid : CursorValue) (line : Text) (behind : List Text) : Type 0 where
-  pub whole : IsUtf8 (take (length line) (seen_ahead mid))
-  pub rest_whole : IsUtf8 (drop (length line) (seen_ahead mid))
-  pub lines : behind ≡ wrapped w d (drop (length line) (seen_ahead mid))
-  pub written_is : (new : CursorValue) → StandsAt new (length line) mid → seen_ahead new ≡ drop (length line) (seen_ahead mid)
-      → written_at old (wrapped_positions w d (seen_ahead old)) ≡ written (length line) (at_byte 0 mid) ∷ written_at new (wrapped_positions w d (seen_ahead new))
+  pub whole : IsUtf8 (take (length line) (visible_ahead mid))
+  pub rest_whole : IsUtf8 (drop (length line) (visible_ahead mid))
+  pub lines : behind ≡ wrapped w d (drop (length line) (visible_ahead mid))
+  pub written_is : (new : CursorValue) → StandsAt new (length line) mid → visible_ahead new ≡ drop (length line) (visible_ahead mid)
+      → written_at old (wrapped_positions w d (visible_ahead old)) ≡ written (length line) (at_byte 0 mid) ∷ written_at new (wrapped_positions w d (visible_ahead new))
 
-pub next_line : (w d : ℕ) (old mid : CursorValue) (line : Text) (behind : List Text) → IsScalar d → IsUtf8 (seen_ahead old) → IsBehindGap d old mid → line ∷ behind ≡ wrapped w d (seen_ahead old)
+pub next_line : (w d : ℕ) (old mid : CursorValue) (line : Text) (behind : List Text) → IsScalar d → IsUtf8 (visible_ahead old) → IsBehindGap d old mid → line ∷ behind ≡ wrapped w d (visible_ahead old)
     → IsNextLine w d old mid line behind
 next_line w d old mid line behind scalar utf8 gap lines =
     record {
@@ -154,7 +154,7 @@ next_line w d old mid line behind scalar utf8 gap lines =
     }
   where
     seen : Text
-    seen = seen_ahead mid
+    seen = visible_ahead mid
 
     whole : IsUtf8 seen
     whole = whole-past_gap d gap.only.0 seen (subst IsUtf8 (gap.seen ∙ ap (λ g. g ++ seen) gap.only.1) utf8)
@@ -231,7 +231,7 @@ text_lines-written : (w d : ℕ) (earlier : List Text) (text : Text)
 text_lines-written w d earlier text = each (starts_of_text w d (visible_text text)) (lines_of_text w d (visible_text text))
   where
     each : (starts : List ℕ) (lines : List Text) → written_at (at (open_after (flat_map parts earlier)) (parts text)) (zip starts (map length lines))
-        ≡ map (λ (line : CellLine). line.written) (map (λ (p : ℕ × Text). record { seen = p.1; written = line_text earlier text p.0 (length p.1) }) (zip starts lines))
+        ≡ map (λ (line : CellLine). line.written) (map (λ (p : ℕ × Text). record { measured = p.1; written = line_text earlier text p.0 (length p.1) }) (zip starts lines))
     each [] lines = refl
     each (s ∷ ss) [] = refl
     each (s ∷ ss) (line ∷ lines) = ap₂ (λ (t : Text) ts. t ∷ ts) (line_text-written earlier text s (length line)) (each ss lines)
@@ -258,25 +258,25 @@ cell-written w d texts = past-written w d [] texts
 pub text_at : {X : Type 0} (f : X → Text) (xs : List X) (place : ℕ) (x : X) → place < length xs → x ≡ slice_index_or xs place x → slice_index_or (map f xs) place [] ≡ f x
 text_at f xs place x below is = get_or-map f xs place x [] below ∙ ap f (sym is)
 
-as_many : {X : Type 0} (f : X → Text) (texts seens : List X) → map f seens ≡ map visible_text (map f texts) → length seens ≡ length texts
-as_many f texts seens same = sym (length-map seens f) ∙ ap length same ∙ length-map (map f texts) visible_text ∙ length-map texts f
+as_many : {X : Type 0} (f : X → Text) (texts visibles : List X) → map f visibles ≡ map visible_text (map f texts) → length visibles ≡ length texts
+as_many f texts visibles same = sym (length-map visibles f) ∙ ap length same ∙ length-map (map f texts) visible_text ∙ length-map texts f
 
 -- what is visible of a text line is the text at the same position of those
-pub seen_at : {X : Type 0} (f : X → Text) (texts seens : List X) (place : ℕ) (text seen : X) → map f seens ≡ map visible_text (map f texts) → place < length texts
-    → text ≡ slice_index_or texts place text → seen ≡ slice_index_or seens place seen → f seen ≡ visible_text (f text)
-seen_at f texts seens place text seen same below is is' =
-    sym (text_at f seens place seen (omega (arith, as_many f texts seens same, below)) is')
+pub visible_at : {X : Type 0} (f : X → Text) (texts visibles : List X) (place : ℕ) (text seen : X) → map f visibles ≡ map visible_text (map f texts) → place < length texts
+    → text ≡ slice_index_or texts place text → seen ≡ slice_index_or visibles place seen → f seen ≡ visible_text (f text)
+visible_at f texts visibles place text seen same below is is' =
+    sym (text_at f visibles place seen (omega (arith, as_many f texts visibles same, below)) is')
     ∙ ap (λ (ts : List Text). slice_index_or ts place []) same
     ∙ get_or-map visible_text (map f texts) place [] [] (omega (arith, length-map texts f, below))
     ∙ ap visible_text (text_at f texts place text below is)
 
 -- and its measure is kept there
-pub width_at : {X : Type 0} (f : X → Text) (texts seens : List X) (widths : List ℕ) (place : ℕ) (seen : X) → map f seens ≡ map visible_text (map f texts) → widths ≡ map measure (map f seens)
-    → place < length texts → seen ≡ slice_index_or seens place seen → slice_index_or widths place 0 ≡ measure (f seen)
-width_at f texts seens widths place seen same measured below is =
+pub width_at : {X : Type 0} (f : X → Text) (texts visibles : List X) (widths : List ℕ) (place : ℕ) (seen : X) → map f visibles ≡ map visible_text (map f texts) → widths ≡ map measure (map f visibles)
+    → place < length texts → seen ≡ slice_index_or visibles place seen → slice_index_or widths place 0 ≡ measure (f seen)
+width_at f texts visibles widths place seen same measured below is =
     ap (λ ws. slice_index_or ws place 0) measured
-    ∙ get_or-map measure (map f seens) place [] 0 (omega (arith, length-map seens f, as_many f texts seens same, below))
-    ∙ ap measure (text_at f seens place seen (omega (arith, as_many f texts seens same, below)) is)
+    ∙ get_or-map measure (map f visibles) place [] 0 (omega (arith, length-map visibles f, as_many f texts visibles same, below))
+    ∙ ap measure (text_at f visibles place seen (omega (arith, as_many f texts visibles same, below)) is)
 
 -- a text line more is written
 pub next_text : (w d : ℕ) (texts done more : List Text) (place : ℕ) (text : Text) (old mid new : CursorValue) → place < length texts → slice_index_or texts place [] ≡ text

@@ -123,8 +123,8 @@ abbrev pub is_hidden_column : ColumnValue → Bool
 is_hidden_column column = is_hidden_constraint column.constraint
 
 -- how many of these columns are visible
-abbrev pub visible_among : List ColumnValue → ℕ
-visible_among columns = length (filter (λ (column : ColumnValue). not (is_hidden_column column)) columns)
+abbrev pub shown_among : List ColumnValue → ℕ
+shown_among columns = length (filter (λ (column : ColumnValue). not (is_hidden_column column)) columns)
 
 -- a column drawn with this content width, at least 1
 abbrev pub info_of : ColumnValue → ℕ → ColumnInfo

@@ -44,8 +44,8 @@ pub record CursorValue : Type 0 where
   pub ahead : List Part
 
 -- what is visible of the parts that come next
-abbrev pub seen_ahead : CursorValue → Text
-seen_ahead c = flat_map visible_bytes c.ahead
+abbrev pub visible_ahead : CursorValue → Text
+visible_ahead c = flat_map visible_bytes c.ahead
 
 -- the cursor after the first of these parts, which come next
 abbrev pub stepped : CursorValue → List Part → CursorValue
@@ -80,6 +80,6 @@ StandsAt new n old = at_byte 0 new ≡ at_byte n old
 pub record IsBehindGap (d : ℕ) (old new : CursorValue) : Type 0 where
   pub gap : Text
   pub only : IsOnly d gap
-  pub seen : seen_ahead old ≡ gap ++ seen_ahead new
+  pub seen : visible_ahead old ≡ gap ++ visible_ahead new
   pub stands : StandsAt new (length gap) old
-  pub begins_otherwise : begins_with d (seen_ahead new) ≡ false
+  pub begins_otherwise : begins_with d (visible_ahead new) ≡ false

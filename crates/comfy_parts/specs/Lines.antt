@@ -1,12 +1,12 @@
 -- Private: what is known where a line begins.
 use Rattle.std.specs.Prelude.{◌≡◌, ℕ, false}
 use Rattle.comfy_parts.specs.Following.{IsAtLine}
-use Rattle.comfy_parts.specs.Laws.{IsPlain}
+use Rattle.comfy_parts.specs.Laws.{IsPrintable}
 use Rattle.comfy_parts.specs.Text.{Text, begins_with}
 use Rattle.comfy_parts.specs.declared.content_split.lines.Next.{Next}
 use Rattle.comfy_parts.specs.declared.content_split.lines.Next.TheVariants.{Printable, Element}
 
 -- that the text is printable ASCII from there on, or its first element
 abbrev pub IsAtNext : Next → ℕ → ℕ → Text → Type 0
-IsAtNext Printable w d text = IsPlain w d text × (begins_with d text ≡ false)
+IsAtNext Printable w d text = IsPrintable w d text × (begins_with d text ≡ false)
 IsAtNext (Element e) w d text = IsAtLine w d text e.len e.columns e.wide

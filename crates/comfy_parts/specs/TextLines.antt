@@ -5,32 +5,32 @@ use Rattle.comfy_parts.specs.Text.{Text, measure}
 use Rattle.comfy_parts.specs.VisibleText.{has_escape, visible_text}
 use Rattle.comfy_parts.specs.declared.cell.text_lines.Kept.{Kept}
 use Rattle.comfy_parts.specs.declared.cell.text_lines.Kept.TheVariants as kept
-use Rattle.comfy_parts.specs.declared.cell.text_lines.Lines.{Lines}
-use Rattle.comfy_parts.specs.declared.cell.text_lines.Lines.TheVariants.{One, Several}
+use Rattle.comfy_parts.specs.declared.cell.text_lines.Texts.{Texts}
+use Rattle.comfy_parts.specs.declared.cell.text_lines.Texts.TheVariants.{One, Several}
 
 -- the texts
-abbrev pub texts_of : Lines → List Text
+abbrev pub texts_of : Texts → List Text
 texts_of (One text width) = string_bytes text ∷ []
 texts_of (Several texts widths) = map string_bytes texts.items
 
 -- their kept widths
-abbrev pub widths_of : Lines → List ℕ
+abbrev pub widths_of : Texts → List ℕ
 widths_of (One text width) = width ∷ []
 widths_of (Several texts widths) = widths.items
 
 -- some lines are the visible ones of others, each with its measure beside it
-pub record AreVisible (whole visible : Lines) : Type 0 where
+pub record AreVisible (whole visible : Texts) : Type 0 where
   pub escaped : list_any has_escape (texts_of whole) ≡ true
   pub texts : texts_of visible ≡ map visible_text (texts_of whole)
   pub widths : widths_of visible ≡ map measure (texts_of visible)
 
 -- the visible lines are kept where ESC stands in a line
-abbrev pub IsVisible : Lines → Option Lines → Type 0
+abbrev pub IsVisible : Texts → Option Texts → Type 0
 IsVisible whole None = list_any has_escape (texts_of whole) ≡ false
 IsVisible whole (Some visible) = AreVisible whole visible
 
 -- each text has its measure beside it, and what is visible of it with its measure
-pub record AreMeasured (whole : Lines) (visible : Option Lines) : Type 0 where
+pub record AreMeasured (whole : Texts) (visible : Option Texts) : Type 0 where
   pub widths : widths_of whole ≡ map measure (texts_of whole)
   pub seen : IsVisible whole visible
 

@@ -6,7 +6,7 @@ use Rattle.comfy_parts.specs.Wrapping.{lines_of_text, part_end}
 
 -- a line of a cell: what is seen of it, which alone is measured and cut, and what is written
 pub record CellLine : Type 0 where
-  pub seen : Text
+  pub measured : Text
   pub written : Text
 
 -- where a line of a cell begins: in a text line of it, which has earlier ones before it, at this visible byte
@@ -31,7 +31,7 @@ module _ (w d : ℕ) where
 -- the lines of a text line that follows earlier ones of its cell
 abbrev pub line_texts_of_text : ℕ → ℕ → List Text → Text → List CellLine
 line_texts_of_text w d earlier text =
-    map (λ (p : ℕ × Text). record { seen = p.1; written = line_text earlier text p.0 (length p.1) }) (zip (starts_of_text w d (visible_text text)) (lines_of_text w d (visible_text text)))
+    map (λ (p : ℕ × Text). record { measured = p.1; written = line_text earlier text p.0 (length p.1) }) (zip (starts_of_text w d (visible_text text)) (lines_of_text w d (visible_text text)))
 
 -- the lines of text lines that follow earlier ones: their sequences stay active
 abbrev pub line_texts_past : ℕ → ℕ → List Text → List Text → List CellLine

@@ -1,7 +1,7 @@
 -- Private: what is written for the lines of a cell with SGR sequences, from a cursor that passes each of its text lines once.
 use Rattle.std.specs.Prelude.{ℕ, Bool, true, false, not, ◌&&◌, ◌==◌, List, [], ◌∷◌, ◌++◌, bytes_eq, map, zip, length, if◌then◌else◌}
 use Rattle.std.specs.List.{concat}
-use Rattle.comfy_parts.specs.Cursor.{CursorValue, at_byte, behind_bytes, bytes_up_to, seen_ahead}
+use Rattle.comfy_parts.specs.Cursor.{CursorValue, at_byte, behind_bytes, bytes_up_to, visible_ahead}
 use Rattle.comfy_parts.specs.Text.{Text}
 use Rattle.comfy_parts.specs.VisibleLines.{starts_of_text, starts_past}
 use Rattle.comfy_parts.specs.VisibleText.{Part, opened, closing, parts, reset}
@@ -27,7 +27,7 @@ positions_of_text w d text = zip (starts_of_text w d text) (map length (lines_of
 
 -- for the lines of the text line that a cursor stands before
 abbrev pub written_of_text : ℕ → ℕ → CursorValue → List Text
-written_of_text w d c = written_at c (positions_of_text w d (seen_ahead c))
+written_of_text w d c = written_at c (positions_of_text w d (visible_ahead c))
 
 -- for the lines of text lines, where these sequences are open
 abbrev pub written_past : ℕ → ℕ → List Text → List Text → List Text

@@ -9,7 +9,7 @@ ghost use Rattle.std.specs.Cmp.{IsTotalOrder};
 ghost use Rattle.comfy_parts.specs.CellEquality.{cell_eq, cell_hash};
 ghost use Rattle.comfy_parts.specs.Columns.{AddingUpFits, FittingCharactersFit, FrameCharactersAddOneColumn, FrameTextsAreApart, HeadFits, IsOneColumnPreset, PartsAddUp, SpaceAddsOneColumn, TextLinesFit, presets_all};
 ghost use Rattle.comfy_parts.specs.Comparisons.{ascends, attribute_cmp, attribute_eq, attribute_hash, attributes_in_order, color_cmp, color_eq, color_hash, colors_in_order, EqHashesAlike, EqIsSame, EqualIsSame};
-ghost use Rattle.comfy_parts.specs.Laws.{ActiveIsResumed, ClosedTextsLeaveNone, CutLinesAreFull, HeadIsLongest, IsCutOutsideNarrow, LinesAreFew, LinesAreFewest, LinesAreResumed, LinesAreSeen, LinesFit, LinesKeepTheText, NeighboursFillALine, NoneIsLeftOpen, OtherBytesAreVisible, PrintableClustersAreCharacters, PrintableAddsOneColumnEach, PrintableMeasuresItsLength, SequencesAreTakenOut, SequencesLeaveTheLines, WrappedIsOne, WrappedIsWrapped};
+ghost use Rattle.comfy_parts.specs.Laws.{ActiveIsResumed, ClosedTextsLeaveNone, CutLinesAreFull, HeadIsLongest, IsCutOutsideNarrow, LinesAreFew, LinesAreFewest, LinesAreResumed, LinesAreVisible, LinesFit, LinesKeepTheText, NeighboursFillALine, NoneIsLeftOpen, OtherBytesAreVisible, PrintableClustersAreCharacters, PrintableAddsOneColumnEach, PrintableMeasuresItsLength, SequencesAreTakenOut, SequencesLeaveTheLines, WrappedIsOne, WrappedIsWrapped};
 ghost use Rattle.comfy_parts.specs.Text.{Text};
 ghost use Rattle.comfy_parts.specs.Wrapping.{IsWrapped};
 
@@ -105,7 +105,7 @@ pub fn sequences_are_taken_out_in_one_pass()
 /// The lines of a cell with sequences are those of its visible texts, and the sequences taken out of what is written for
 /// a line, the line is left.
 pub fn sequences_count_nothing()
-    ensures lines { (w d : ℕ) (text_lines : List Text) → LinesAreSeen w d text_lines }
+    ensures lines { (w d : ℕ) (text_lines : List Text) → LinesAreVisible w d text_lines }
     ensures written { (w d : ℕ) (text_lines : List Text) → SequencesLeaveTheLines w d text_lines }
 {}
 

@@ -11,17 +11,17 @@ use Rattle.comfy_parts.specs.declared.style.table.ContentArrangement.{ContentArr
 use Rattle.comfy_parts.specs.declared.style.table.ContentArrangement.TheVariants.{Dynamic, DynamicFullWidth}
 use Rattle.comfy_parts.specs.declared.style.table_style.TableStyle.{TableStyle}
 use Rattle.comfy_run.proofs.StraightLemmas.{OfLine, base, base_width, built}
-use Rattle.comfy_run.specs.Counts.{EachLineHas, HasSettings, IsPlainInput, OutputFillsWidth, OutputKeepsToWidth, is_plain_byte}
+use Rattle.comfy_run.specs.Counts.{EachLineHas, HasSettings, IsPrintableInput, OutputFillsWidth, OutputKeepsToWidth, is_printable_input_byte}
 use Rattle.comfy_run.specs.Input.{input_table}
 use Rattle.comfy_run.specs.Rows.{break_of, cells_of_line, row_of_line}
 use Rattle.comfy_table.proofs.BuiltTableLemmas.{IsBuilt, IsNewColumn, columns_known, rows_known, unconstrained}
 use Rattle.comfy_parts.proofs.CallerLemmas.{All-at, All-every, All-found}
 use Rattle.comfy_table.specs.Drawing.{infos_of, terminated_text_of}
 use Rattle.comfy_table.specs.Headline.{EachLineCounts, IsTableDrawing}
-use Rattle.comfy_table.specs.Laws.{AddsOneColumnEachWhereWritten, HasPlainCells, IsPlainCell, count, least_total, line_total}
+use Rattle.comfy_table.specs.Laws.{AddsOneColumnEachWhereWritten, HasPrintableCells, IsPrintableCell, count, least_total, line_total}
 use Rattle.comfy_table.specs.Lines.{cell_delimiter}
-use Rattle.comfy_table.specs.Pieces.{visible_infos}
-use Rattle.comfy_table.specs.TableValue.{TableValue, column_cells, seen_rows, should_style, table_width, visible_columns}
+use Rattle.comfy_table.specs.Pieces.{shown_infos}
+use Rattle.comfy_table.specs.TableValue.{TableValue, column_cells, measured_rows, should_style, table_width, shown_columns}
 
 -- ---- plain bytes
 
@@ -51,15 +51,15 @@ pieces_pass f p (b ∷ bs) each =
 abbrev is_printable_or : ℕ → ℕ → Bool
 is_printable_or c b = is_in_range 0x20 0x7E b || (b == c)
 
-break-plain : (b : ℕ) → is_printable_or 0x0B b ≡ true → is_printable_or 0x0A (break_of b) ≡ true
-break-plain b plain =
+break-printable : (b : ℕ) → is_printable_or 0x0B b ≡ true → is_printable_or 0x0A (break_of b) ≡ true
+break-printable b plain =
     cond_both (b == 0x0B) _ _ (λ c. is_printable_or 0x0A c ≡ true) (λ _. refl) (λ none. ap (λ t. t || (b == 0x0A)) (first_of (is_in_range 0x20 0x7E b) (b == 0x0B) plain none))
 
-breaks-plain : (text : Text) → list_all (is_printable_or 0x0B) text ≡ true → list_all (is_printable_or 0x0A) (map break_of text) ≡ true
-breaks-plain [] plain = refl
-breaks-plain (b ∷ bs) plain =
+breaks-printable : (text : Text) → list_all (is_printable_or 0x0B) text ≡ true → list_all (is_printable_or 0x0A) (map break_of text) ≡ true
+breaks-printable [] plain = refl
+breaks-printable (b ∷ bs) plain =
     let both = and_parts (is_printable_or 0x0B b) (list_all (is_printable_or 0x0B) bs) plain in
-    ap₂ (λ s t. s && t) (break-plain b both.0) (breaks-plain bs both.1)
+    ap₂ (λ s t. s && t) (break-printable b both.0) (breaks-printable bs both.1)
 
 -- ---- the cells of a plain line
 
@@ -73,10 +73,10 @@ record IsBareRow (row : RowValue) : Type 0 where
   uncut : row.max_height ≡ None
   cells : All IsBareCell row.cells
 
-cells_printable : (line : Text) → list_all is_plain_byte line ≡ true → All (λ (cell : CellValue). All (λ text. is_printable_ascii text ≡ true) cell.text_lines) (cells_of_line line)
+cells_printable : (line : Text) → list_all is_printable_input_byte line ≡ true → All (λ (cell : CellValue). All (λ text. is_printable_ascii text ≡ true) cell.text_lines) (cells_of_line line)
 cells_printable line plain =
     All-map (λ (cell : CellValue). All (λ text. is_printable_ascii text ≡ true) cell.text_lines) (λ (text : Text). plain_cell (map break_of text)) (slice_split (λ b. b == 0x09) line)
-    (All-weaker (Passes (is_printable_or 0x0B)) (λ (piece : Text). All (λ text. is_printable_ascii text ≡ true) (plain_cell (map break_of piece)).text_lines) (λ piece own. pieces_pass (is_in_range 0x20 0x7E) (λ b. b == 0x0A) (map break_of piece) (breaks-plain piece own)) (slice_split (λ b. b == 0x09) line) (pieces_pass (is_printable_or 0x0B) (λ b. b == 0x09) line plain))
+    (All-weaker (Passes (is_printable_or 0x0B)) (λ (piece : Text). All (λ text. is_printable_ascii text ≡ true) (plain_cell (map break_of piece)).text_lines) (λ piece own. pieces_pass (is_in_range 0x20 0x7E) (λ b. b == 0x0A) (map break_of piece) (breaks-printable piece own)) (slice_split (λ b. b == 0x09) line) (pieces_pass (is_printable_or 0x0B) (λ b. b == 0x09) line plain))
 
 bare_row : (line : Text) → OfLine (λ text. is_printable_ascii text ≡ true) line → IsBareRow (row_of_line line)
 bare_row line each =
@@ -108,29 +108,29 @@ module _ (width : Option ℕ) (arrangement : ContentArrangement) (style : TableS
       known : IsBuilt own refl (λ row. Unit {0}) table
       known = built width arrangement style (λ text. Unit {0}) (λ row. Unit {0}) (λ line each. tt) (lines input) (All-every _ (lines input) (λ line. All-every _ (cells_of_line line) (λ cell. All-every _ cell.text_lines (λ text. tt))))
 
-  module _ (plain : IsPlainInput input) where
+  module _ (plain : IsPrintableInput input) where
     bare : IsBuilt own refl IsBareRow table
     bare = built width arrangement style (λ text. is_printable_ascii text ≡ true) IsBareRow bare_row (lines input) (λ k default below. cells_printable (slice_index_or (lines input) k default) (plain k default below))
 
-    pub plain_cells : HasPlainCells table
-    plain_cells = All-weaker (λ (p : ℕ × ColumnValue). IsNewColumn p.1) (λ (p : ℕ × ColumnValue). All (IsPlainCell table p.1.delimiter) (column_cells table p.0)) of_column (visible_columns table) (columns_known own refl IsBareRow table bare)
+    pub printable_cells : HasPrintableCells table
+    printable_cells = All-weaker (λ (p : ℕ × ColumnValue). IsNewColumn p.1) (λ (p : ℕ × ColumnValue). All (IsPrintableCell table p.1.delimiter) (column_cells table p.0)) of_column (shown_columns table) (columns_known own refl IsBareRow table bare)
       where
-        plain_cell-is : (delimiter : Option ℕ) (cell : CellValue) → delimiter ≡ None → IsBareCell cell → IsPlainCell table delimiter cell
-        plain_cell-is delimiter cell none is =
+        printable_cell-is : (delimiter : Option ℕ) (cell : CellValue) → delimiter ≡ None → IsBareCell cell → IsPrintableCell table delimiter cell
+        printable_cell-is delimiter cell none is =
             let space : cell_delimiter table delimiter cell ≡ 0x20 =
             ap (λ o. unwrap_or o (unwrap_or delimiter (unwrap_or table.delimiter 0x20))) is.no_delimiter ∙ ap (λ o. unwrap_or o (unwrap_or table.delimiter 0x20)) none ∙ ap (λ (t : TableValue). unwrap_or t.delimiter 0x20) bare.is in
             (is.printable, ap (is_in_range 0x20 0x7E) space)
 
-        of_column : (p : ℕ × ColumnValue) → IsNewColumn p.1 → All (IsPlainCell table p.1.delimiter) (column_cells table p.0)
+        of_column : (p : ℕ × ColumnValue) → IsNewColumn p.1 → All (IsPrintableCell table p.1.delimiter) (column_cells table p.0)
         of_column p new =
-            All-found (IsPlainCell table p.1.delimiter) (λ (row : RowValue). slice_get row.cells p.0) (seen_rows table)
-            (All-weaker IsBareRow (λ (row : RowValue). (cell : CellValue) → slice_get row.cells p.0 ≡ Some cell → IsPlainCell table p.1.delimiter cell) (λ row is cell found. plain_cell-is p.1.delimiter cell new.no_delimiter (All-at IsBareCell row.cells p.0 cell is.cells found)) (seen_rows table) (rows_known own refl IsBareRow table bare))
+            All-found (IsPrintableCell table p.1.delimiter) (λ (row : RowValue). slice_get row.cells p.0) (measured_rows table)
+            (All-weaker IsBareRow (λ (row : RowValue). (cell : CellValue) → slice_get row.cells p.0 ≡ Some cell → IsPrintableCell table p.1.delimiter cell) (λ row is cell found. printable_cell-is p.1.delimiter cell new.no_delimiter (All-at IsBareCell row.cells p.0 cell is.cells found)) (measured_rows table) (rows_known own refl IsBareRow table bare))
 
     -- no indicator is written
-    uncut : (widths : List ℕ) → All (λ (row : RowValue). All (AddsOneColumnEachWhereWritten table row) (visible_infos (infos_of table widths))) (seen_rows table)
+    uncut : (widths : List ℕ) → All (λ (row : RowValue). All (AddsOneColumnEachWhereWritten table row) (shown_infos (infos_of table widths))) (measured_rows table)
     uncut widths =
-        All-weaker IsBareRow (λ (row : RowValue). All (AddsOneColumnEachWhereWritten table row) (visible_infos (infos_of table widths)))
-        (λ row is. All-every (AddsOneColumnEachWhereWritten table row) (visible_infos (infos_of table widths)) (λ p cell h found limited. absurd (cc (is.uncut, limited)))) (seen_rows table) (rows_known own refl IsBareRow table bare)
+        All-weaker IsBareRow (λ (row : RowValue). All (AddsOneColumnEachWhereWritten table row) (shown_infos (infos_of table widths)))
+        (λ row is. All-every (AddsOneColumnEachWhereWritten table row) (shown_infos (infos_of table widths)) (λ p cell h found limited. absurd (cc (is.uncut, limited)))) (measured_rows table) (rows_known own refl IsBareRow table bare)
 
     -- the lines of its drawing, where P holds of their counts
     counted : (P : ℕ → Type 0) (output : Text) (drawn : List Text) (drawing : IsTableDrawing table drawn) → EachLineCounts P table drawing.widths → output ≡ terminated_text_of drawn → EachLineHas P output
@@ -139,7 +139,7 @@ module _ (width : Option ℕ) (arrangement : ContentArrangement) (style : TableS
           line_total table drawing.widths,
           subst P (drawing.frame_counts style.top_border) (counts.frame_lines style.top_border),
           drawn,
-          subst (All (λ line. count line ≡ line_total table drawing.widths)) (sym unstyled) (drawing.equal_counts (record { plain_cells = plain_cells; indicator_adds_one_column_each = uncut drawing.widths })),
+          subst (All (λ line. count line ≡ line_total table drawing.widths)) (sym unstyled) (drawing.equal_counts (record { printable_cells = printable_cells; indicator_adds_one_column_each = uncut drawing.widths })),
           same,
         )
 

@@ -12,16 +12,16 @@ use Rattle.comfy_parts.specs.declared.style.table_style.TableStyle.{TableStyle}
 use Rattle.comfy_run.specs.declared.settings.Settings.{Settings}
 
 -- the settings of the program without arguments: no width, contents alone decide, and the first preset
-abbrev pub plain_settings : Settings
-plain_settings = record { width = None; arrangement = Disabled; style = ascii_full }
+abbrev pub default_settings : Settings
+default_settings = record { width = None; arrangement = Disabled; style = ascii_full }
 
 -- one to five digits, of a number that is at most 65535
-abbrev pub is_number : Text → Bool
-is_number word = list_all is_ascii_digit word && nat_lt 0 (length word) && nat_le (length word) 5 && nat_le (digits_value 10 word) 65535
+abbrev pub is_short_number : Text → Bool
+is_short_number word = list_all is_ascii_digit word && nat_lt 0 (length word) && nat_le (length word) 5 && nat_le (digits_value 10 word) 65535
 
 -- such a number
 abbrev pub number_for : Text → Option ℕ
-number_for word = if is_number word then Some (digits_value 10 word) else None
+number_for word = if is_short_number word then Some (digits_value 10 word) else None
 
 -- a width, which is none for a hyphen
 abbrev pub width_for : Text → Option (Option ℕ)
@@ -38,7 +38,7 @@ settings_with _ _ _ = None
 
 -- the settings that the words ask for: a width, an arrangement and a style, of which the last ones may be missing
 abbrev pub settings_for : List (Bor Text) → Option Settings
-settings_for [] = Some plain_settings
+settings_for [] = Some default_settings
 settings_for (width ∷ []) = settings_with (width_for width.now) (Some Disabled) (Some ascii_full)
 settings_for (width ∷ arrangement ∷ []) = settings_with (width_for width.now) (arrangement_for arrangement.now) (Some ascii_full)
 settings_for (width ∷ arrangement ∷ style ∷ []) = settings_with (width_for width.now) (arrangement_for arrangement.now) (preset_named style.now)

@@ -9,17 +9,17 @@ use Rattle.comfy_parts.specs.declared.style.table.ContentArrangement.TheVariants
 use Rattle.comfy_parts.specs.declared.style.table_style.TableStyle.{TableStyle}
 use Rattle.comfy_run.specs.Input.{IsOutputFor, input_table}
 use Rattle.comfy_table.specs.Drawing.{terminated_text_of}
-use Rattle.comfy_table.specs.Laws.{HasPlainCells, NoConstraints, count, least_total}
+use Rattle.comfy_table.specs.Laws.{HasPrintableCells, NoConstraints, count, least_total}
 use Rattle.comfy_table.specs.TableValue.{TableValue, should_style, table_width}
-use Rattle.comfy_table.specs.Widths.{visible_count}
+use Rattle.comfy_table.specs.Widths.{shown_count}
 
 -- printable ASCII, U+000B, which breaks a line in a cell, or a TAB, which divides cells
-abbrev pub is_plain_byte : ℕ → Bool
-is_plain_byte b = (is_in_range 0x20 0x7E b || (b == 0x0B)) || (b == 0x09)
+abbrev pub is_printable_input_byte : ℕ → Bool
+is_printable_input_byte b = (is_in_range 0x20 0x7E b || (b == 0x0B)) || (b == 0x09)
 
 -- so is each byte of an input's lines
-abbrev pub IsPlainInput : Text → Type 0
-IsPlainInput input = All (λ line. list_all is_plain_byte line ≡ true) (lines input)
+abbrev pub IsPrintableInput : Text → Type 0
+IsPrintableInput input = All (λ line. list_all is_printable_input_byte line ≡ true) (lines input)
 
 -- the output is lines of the same number of characters, of which P holds, each followed by a line feed
 abbrev pub EachLineHas : (ℕ → Type 0) → Text → Type 0
@@ -40,16 +40,16 @@ module _ (width : Option ℕ) (arrangement : ContentArrangement) (style : TableS
     pub no_custom_styling : table.custom_styling ≡ false
 
   -- a plain input gives plain cells
-  abbrev pub PlainInputHasPlainCells : Type 0
-  PlainInputHasPlainCells = IsPlainInput input → HasPlainCells table
+  abbrev pub PrintableInputHasPrintableCells : Type 0
+  PrintableInputHasPrintableCells = IsPrintableInput input → HasPrintableCells table
 
 -- under `Dynamic` a line has at most as many characters as the width, or as borders, paddings and one for each column
 abbrev pub OutputKeepsToWidth : ℕ → TableStyle → Text → Text → Type 0
 OutputKeepsToWidth w style input output =
-    IsPlainInput input → IsOutputFor (Some w) Dynamic style input output → EachLineHas (λ n. n ≤ max w (least_total (input_table (Some w) Dynamic style input))) output
+    IsPrintableInput input → IsOutputFor (Some w) Dynamic style input output → EachLineHas (λ n. n ≤ max w (least_total (input_table (Some w) Dynamic style input))) output
 
 -- under `DynamicFullWidth` it has exactly so many, where there is a column
 abbrev pub OutputFillsWidth : ℕ → TableStyle → Text → Text → Type 0
 OutputFillsWidth w style input output =
-    IsPlainInput input → 0 < visible_count (input_table (Some w) DynamicFullWidth style input) → IsOutputFor (Some w) DynamicFullWidth style input output
+    IsPrintableInput input → 0 < shown_count (input_table (Some w) DynamicFullWidth style input) → IsOutputFor (Some w) DynamicFullWidth style input output
     → EachLineHas (λ n. n ≡ max w (least_total (input_table (Some w) DynamicFullWidth style input))) output

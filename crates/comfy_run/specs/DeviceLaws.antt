@@ -8,5 +8,5 @@ nothing_left None fails_at failed ended left e = cc
 nothing_left (Some bytes) fails_at failed ended left e = absurd (cc)
 
 -- after the end there is no byte
-pub none_is_left : (s : MemorySourceValue) → is_none s.rest ≡ true → (left : List ℕ) → Some (left_in s) ≡ Some left → left ≡ []
-none_is_left s ended left e = nothing_left s.rest s.fails_at s.failed ended left e
+pub none_is_left_in_memory : (s : MemorySourceValue) → is_none s.rest ≡ true → (left : List ℕ) → Some (left_in s) ≡ Some left → left ≡ []
+none_is_left_in_memory s ended left e = nothing_left s.rest s.fails_at s.failed ended left e

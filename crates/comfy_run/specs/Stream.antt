@@ -8,7 +8,7 @@ pub record ReaderValue (R : Type 0) : Type 0 where
   pub ended : Bool
 
 -- a writer, whether it has failed, and whether that was since no reader was left
-pub record WriterValue (W : Type 0) : Type 0 where
+pub record ToWriterValue (W : Type 0) : Type 0 where
   pub writer : W
   pub failed : Bool
   pub unread : Bool

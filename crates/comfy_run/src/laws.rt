@@ -4,7 +4,7 @@ ghost use Rattle.std.specs.Prelude.{Option, ℕ};
 ghost use Rattle.comfy_parts.specs.Text.{Text};
 ghost use Rattle.comfy_parts.specs.declared.style.table.ContentArrangement.{ContentArrangement};
 ghost use Rattle.comfy_parts.specs.declared.style.table_style.TableStyle.{TableStyle};
-ghost use Rattle.comfy_run.specs.Counts.{HasSettings, OutputFillsWidth, OutputKeepsToWidth, PlainInputHasPlainCells};
+ghost use Rattle.comfy_run.specs.Counts.{HasSettings, OutputFillsWidth, OutputKeepsToWidth, PrintableInputHasPrintableCells};
 ghost use Rattle.comfy_run.specs.Straight.{FittingOutputIsStraight, WholeOutputIsStraight};
 
 /// All lines of an output are equally many terminal columns wide, where each character of the style adds one: for texts
@@ -19,7 +19,7 @@ pub fn outputs_are_straight()
 /// styled. An input of printable ASCII, TAB, U+000B and line ends gives cells of printable ASCII.
 pub fn input_tables_have_their_settings()
     ensures settings { (width : Option ℕ) (arrangement : ContentArrangement) (style : TableStyle) (input : Text) → HasSettings width arrangement style input }
-    ensures plain { (width : Option ℕ) (arrangement : ContentArrangement) (style : TableStyle) (input : Text) → PlainInputHasPlainCells width arrangement style input }
+    ensures printable { (width : Option ℕ) (arrangement : ContentArrangement) (style : TableStyle) (input : Text) → PrintableInputHasPrintableCells width arrangement style input }
 {}
 
 /// All lines of the output for such an input have the same number of characters. Under `Dynamic` it is at most the width,

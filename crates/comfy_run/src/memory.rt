@@ -2,7 +2,7 @@
 
 ghost use Rattle.std.specs.Prelude.{◌≡◌, ◌||◌, ◌++◌, true, false, Some, [], IfOk, OnOk, OnErr, is_err, is_none, length, min, take, drop};
 ghost use Rattle.comfy_run.specs.Device.{left_in, is_due, after_reading, is_full_for, fitting, after_writing};
-ghost use Rattle.comfy_run.specs.DeviceLaws.{none_is_left};
+ghost use Rattle.comfy_run.specs.DeviceLaws.{none_is_left_in_memory};
 
 use crate::device::{DeviceFault, Sink, Source};
 use std::alloc::Global;
@@ -50,7 +50,7 @@ impl Source for MemorySource<'_> {
 
     ghost end_was_read = { λ s. is_none s.rest };
 
-    ghost ended = { none_is_left };
+    ghost ended = { none_is_left_in_memory };
 
     fn read(&mut self, buffer: &mut [u8]) -> Result<usize, DeviceFault>
         ensures fails { is_err result ≡ is_due self.old.failed self.old.fails_at }

@@ -73,9 +73,9 @@ pub struct ToWriter<W> {
 }
 
 impl<W> Model for ToWriter<W> {
-    ghost use Rattle.comfy_run.specs.Stream.{WriterValue};
+    ghost use Rattle.comfy_run.specs.Stream.{ToWriterValue};
 
-    ghost Value = { WriterValue W };
+    ghost Value = { ToWriterValue W };
 
     ghost view = { λ s. record { writer = s.writer; failed = s.failed; unread = s.unread } };
 }

@@ -8,12 +8,12 @@ use Rattle.comfy_parts.specs.CellValue.{ColumnInfo, ColumnValue, info_of, is_hid
 use Rattle.comfy_table.specs.AllWidths.{all_widths, given_in_order}
 use Rattle.comfy_table.specs.Arrangement.{IsArranged, is_full_width, room_beside_borders, widths_at, width_kept}
 use Rattle.comfy_table.specs.Dynamic.{IsDynamic, added}
-use Rattle.comfy_table.specs.TableValue.{TableValue, column_content_width, table_width, visible_columns}
-use Rattle.comfy_table.specs.Widths.{ColumnNeeds, disabled_width, needs_of, visible_count, visible_needs}
+use Rattle.comfy_table.specs.TableValue.{TableValue, column_content_width, table_width, shown_columns}
+use Rattle.comfy_table.specs.Widths.{ColumnNeeds, disabled_width, needs_of, shown_count, shown_needs}
 use Rattle.comfy_table.proofs.BudgetLemmas.{length-contents_after}
 use Rattle.comfy_table.proofs.SpreadLemmas.{length-even_spread}
 
--- ---- the dynamic widths are as many as the visible columns
+-- ---- the dynamic widths are as many as the shown columns
 
 -- numbers added place by place are as many as the first ones
 length-added : (xs ys : List ℕ) → length xs ≡ length ys → length (added xs ys) ≡ length xs
@@ -72,14 +72,14 @@ hidden_given table all widths at (column ∷ columns) each =
         ap₂ (λ (x : ℕ) (xs : List ℕ). x ∷ xs) (first_from all at _ _ these) (hidden (behind_first all at _ _ these))
     by_test false hidden visible these = visible (behind_first all at _ _ these)
 
--- the visible columns have the given widths, where there is one for each
-visible_given : (table : TableValue) (all widths : List ℕ) (at : ℕ) (columns : List ColumnValue) → AreFrom all at (given_in_order table widths (enumerate_from at columns))
+-- the shown columns have the given widths, where there is one for each
+shown_given : (table : TableValue) (all widths : List ℕ) (at : ℕ) (columns : List ColumnValue) → AreFrom all at (given_in_order table widths (enumerate_from at columns))
     → length widths ≡ length (passing (λ (c : ColumnValue). not (is_hidden_column c)) at columns)
     → widths_at all (passing (λ (c : ColumnValue). not (is_hidden_column c)) at columns) ≡ widths
-visible_given table all [] at [] each enough = refl
-visible_given table all (w ∷ widths) at [] each enough = absurd (omega arith)
-visible_given table all widths at (column ∷ columns) each enough =
-    by_test (is_hidden_column column) widths (λ ws. visible_given table all ws (at + 1) columns) each enough
+shown_given table all [] at [] each enough = refl
+shown_given table all (w ∷ widths) at [] each enough = absurd (omega arith)
+shown_given table all widths at (column ∷ columns) each enough =
+    by_test (is_hidden_column column) widths (λ ws. shown_given table all ws (at + 1) columns) each enough
   where
     later : List (ℕ × ColumnValue)
     later = passing (λ (c : ColumnValue). not (is_hidden_column c)) (at + 1) columns
@@ -104,25 +104,25 @@ from_start all i = let moved : 0 + i ≡ i = omega arith in ap (slice_index all)
 
 -- where a width is kept, the dynamic widths are the table's
 pub arranged_by_widths : (table : TableValue) (w : ℕ) (widths : List ℕ) → width_kept table.arrangement (table_width table) ≡ Some w
-    → IsDynamic (room_beside_borders table w) (visible_needs table) (is_full_width table.arrangement) widths → IsArranged table (all_widths table widths)
+    → IsDynamic (room_beside_borders table w) (shown_needs table) (is_full_width table.arrangement) widths → IsArranged table (all_widths table widths)
 arranged_by_widths table w widths kept dynamic = record {
   one_for_each = length-given_in_order table widths (enumerate_from 0 table.columns) ∙ length-enumerate_from 0 table.columns;
   hidden_widths = hidden_given table (all_widths table widths) widths 0 table.columns (from_start (all_widths table widths));
-  visible_widths =
-      subst (λ (o : Option ℕ). MatchOption o (shown ≡ map (disabled_width table) (visible_columns table)) (λ v. IsDynamic (room_beside_borders table v) (visible_needs table) (is_full_width table.arrangement) shown)) (sym kept)
-      (subst (λ (ws : List ℕ). IsDynamic (room_beside_borders table w) (visible_needs table) (is_full_width table.arrangement) ws) (sym shown_is) dynamic);
+  shown_widths =
+      subst (λ (o : Option ℕ). MatchOption o (shown ≡ map (disabled_width table) (shown_columns table)) (λ v. IsDynamic (room_beside_borders table v) (shown_needs table) (is_full_width table.arrangement) shown)) (sym kept)
+      (subst (λ (ws : List ℕ). IsDynamic (room_beside_borders table w) (shown_needs table) (is_full_width table.arrangement) ws) (sym shown_is) dynamic);
 }
   where
     shown : List ℕ
-    shown = widths_at (all_widths table widths) (visible_columns table)
+    shown = widths_at (all_widths table widths) (shown_columns table)
 
-    enough : length widths ≡ visible_count table
+    enough : length widths ≡ shown_count table
     enough =
-        length-dynamic (room_beside_borders table w) (visible_needs table) (is_full_width table.arrangement) widths dynamic
-        ∙ length-map (visible_columns table) (needs_of table)
+        length-dynamic (room_beside_borders table w) (shown_needs table) (is_full_width table.arrangement) widths dynamic
+        ∙ length-map (shown_columns table) (needs_of table)
 
     shown_is : shown ≡ widths
-    shown_is = visible_given table (all_widths table widths) widths 0 table.columns (from_start (all_widths table widths)) enough
+    shown_is = shown_given table (all_widths table widths) widths 0 table.columns (from_start (all_widths table widths)) enough
 
 -- ---- what the columns are drawn by
 

@@ -4,15 +4,15 @@ use Rattle.std.specs.List.{All, slice_split}
 use Rattle.std.specs.Str.{IsUtf8}
 use Rattle.std.proofs.lemmas.List.Elements.{All-from_recursion, All-head, All-tail}
 use Rattle.std.proofs.lemmas.List.Splits.{slice_split_at, slice_split_none}
-use Rattle.comfy_parts.proofs.CallerLemmas.{All-none, HasNo-append, HasNo-visible, breaks_are_seen, every-second, seen-closed, sequence_clear}
+use Rattle.comfy_parts.proofs.CallerLemmas.{All-none, HasNo-append, HasNo-visible, breaks_are_visible, every-second, visible-closed, sequence_clear}
 use Rattle.comfy_parts.specs.Text.{Text}
 use Rattle.comfy_parts.specs.VisibleText.{closed}
 use Rattle.comfy_table.proofs.KeptDrawingLemmas.{keeps_drawing}
-use Rattle.comfy_table.proofs.SeenLemmas.{IsRowOf}
+use Rattle.comfy_table.proofs.MeasuredLemmas.{IsRowOf}
 use Rattle.comfy_table.proofs.StyledLemmas.{KeptByDrawing}
 use Rattle.comfy_table.specs.Drawing.{drawing, infos_of, terminated_text_of, text_of}
 use Rattle.comfy_table.specs.Laws.{HasNoBreak, HasUnbrokenStyle, JoinedLinesAreFound, TerminatedLinesAreFound, unstyled}
-use Rattle.comfy_table.specs.TableValue.{TableValue, seen_rows}
+use Rattle.comfy_table.specs.TableValue.{TableValue, measured_rows}
 
 -- texts without a line feed have none as they are drawn, whatever is shown of them
 breaks_kept : KeptByDrawing 0x0A (λ shown text. HasNoBreak text)
@@ -20,12 +20,12 @@ breaks_kept =
     record {
       joins = record { seven_bits = omega arith; no_space = refl; of_clear = λ text clear. clear; of_both = λ shown others xs ys. HasNo-append 0x0A xs ys };
       of_sequence = sequence_clear;
-      of_seen = breaks_are_seen;
-      of_closed = λ text clear. breaks_are_seen (closed text) (subst HasNoBreak (sym (seen-closed text)) (HasNo-visible 0x0A text clear));
+      of_measured = breaks_are_visible;
+      of_closed = λ text clear. breaks_are_visible (closed text) (subst HasNoBreak (sym (visible-closed text)) (HasNo-visible 0x0A text clear));
     }
 
 -- so no line of a drawing has one
-pub without_breaks : (table : TableValue) (widths : List ℕ) → All (IsRowOf IsUtf8) (seen_rows table) → All (IsRowOf HasNoBreak) (seen_rows table) → HasUnbrokenStyle table → All HasNoBreak (drawing table widths)
+pub without_breaks : (table : TableValue) (widths : List ℕ) → All (IsRowOf IsUtf8) (measured_rows table) → All (IsRowOf HasNoBreak) (measured_rows table) → HasUnbrokenStyle table → All HasNoBreak (drawing table widths)
 without_breaks table widths whole clear style =
     All-from_recursion HasNoBreak (drawing table widths)
     (every-second HasNoBreak (drawing (unstyled table) widths) (drawing table widths) (keeps_drawing 0x0A (λ shown text. HasNoBreak text) breaks_kept table (infos_of table widths) style whole clear))

@@ -13,7 +13,7 @@ use Rattle.comfy_table.specs.Headline.{IsTableDrawing}
 use Rattle.comfy_table.specs.Laws.{HasNoEscape, IsStyleWithout, NoConstraints, line_total}
 use Rattle.comfy_table.specs.NewTables.{AreEquallyWide, IsShortRow, NewTablesAreStraight, NewTablesLeaveNoneOpen}
 use Rattle.comfy_table.specs.Straight.{IsShownWhole, IsStraightTable}
-use Rattle.comfy_table.specs.TableValue.{TableValue, column_cells, header_and_rows, new_table, seen_rows, should_style, table_width, visible_columns, visible_row, with_header, with_row, with_rows}
+use Rattle.comfy_table.specs.TableValue.{TableValue, column_cells, header_and_rows, new_table, measured_rows, should_style, table_width, shown_columns, visible_row, with_header, with_row, with_rows}
 
 -- a column as it is made
 pub record IsNewColumn (column : ColumnValue) : Type 0 where
@@ -48,24 +48,24 @@ module _ (base : TableValue) (plain : base.custom_styling ≡ false) (P : RowVal
   built-rows (row ∷ rows) table each known = built-rows rows (with_row row table) (All-tail P row rows each) (built-row row table (All-head P row rows each) known)
 
   module _ (table : TableValue) (known : IsBuilt table) where
-    -- its rows are seen as they are
-    pub rows_known : All P (seen_rows table)
-    rows_known = subst (All P) (sym seen) (All-append P (option_to_list table.header) table.rows known.header known.rows)
+    -- its rows are measured as they are
+    pub rows_known : All P (measured_rows table)
+    rows_known = subst (All P) (sym measured) (All-append P (option_to_list table.header) table.rows known.header known.rows)
       where
-        seen : seen_rows table ≡ header_and_rows table
-        seen =
+        measured : measured_rows table ≡ header_and_rows table
+        measured =
             ap (λ (b : Bool). option_to_list (if b then option_map visible_row table.header else table.header) ++ (if b then map visible_row table.rows else table.rows)) (ap (λ (t : TableValue). t.custom_styling) known.is ∙ plain)
 
-    pub columns_known : All (λ (p : ℕ × ColumnValue). IsNewColumn p.1) (visible_columns table)
+    pub columns_known : All (λ (p : ℕ × ColumnValue). IsNewColumn p.1) (shown_columns table)
     columns_known = All-filter (λ (p : ℕ × ColumnValue). not (is_hidden_column p.1)) (λ (p : ℕ × ColumnValue). IsNewColumn p.1) _ (All-from_recursion (λ p. IsNewColumn p.1) _ (every-places IsNewColumn 0 table.columns (recursion_from_All IsNewColumn table.columns known.columns)))
 
-    pub padded : All (λ (p : ℕ × ColumnValue). 1 ≤ p.1.padding.0) (visible_columns table)
+    pub padded : All (λ (p : ℕ × ColumnValue). 1 ≤ p.1.padding.0) (shown_columns table)
     padded =
         All-weaker (λ (p : ℕ × ColumnValue). IsNewColumn p.1) (λ (p : ℕ × ColumnValue). 1 ≤ p.1.padding.0)
-        (λ p new. let one : p.1.padding.0 ≡ 1 = ap (λ (x : ℕ × ℕ). x.0) new.padding in omega (arith, one)) (visible_columns table) columns_known
+        (λ p new. let one : p.1.padding.0 ≡ 1 = ap (λ (x : ℕ × ℕ). x.0) new.padding in omega (arith, one)) (shown_columns table) columns_known
 
     pub unconstrained : NoConstraints table
-    unconstrained = All-weaker (λ (p : ℕ × ColumnValue). IsNewColumn p.1) (λ (p : ℕ × ColumnValue). p.1.constraint ≡ None) (λ p new. new.no_constraint) (visible_columns table) columns_known
+    unconstrained = All-weaker (λ (p : ℕ × ColumnValue). IsNewColumn p.1) (λ (p : ℕ × ColumnValue). p.1.constraint ≡ None) (λ p new. new.no_constraint) (shown_columns table) columns_known
 
     -- its characters are those of the base
     pub characters_known : All IsOneColumn (style_characters base.style) → All IsOneColumn (style_characters table.style)
@@ -77,7 +77,7 @@ pub built_is_straight : (base : TableValue) (plain : base.custom_styling ≡ fal
 built_is_straight base plain table widths known characters no_width =
     record { characters = characters_known base plain IsShortRow table known characters; apart = inr (inl (padded base plain IsShortRow table known)); fits = inr (inr shown) }
   where
-    rows : All IsShortRow (seen_rows table)
+    rows : All IsShortRow (measured_rows table)
     rows = rows_known base plain IsShortRow table known
 
     shown : IsShownWhole table
@@ -85,8 +85,8 @@ built_is_straight base plain table widths known characters no_width =
         record {
           no_width = no_width;
           no_constraints = unconstrained base plain IsShortRow table known;
-          uncut = All-weaker IsShortRow (λ (row : RowValue). row.max_height ≡ None) (λ row own. own.uncut) (seen_rows table) rows;
-          short = All-weaker IsShortRow (λ (row : RowValue). All (λ (cell : CellValue). All (λ line. measure line ≤ 65535) cell.text_lines) row.cells) (λ row own. own.short) (seen_rows table) rows;
+          uncut = All-weaker IsShortRow (λ (row : RowValue). row.max_height ≡ None) (λ row own. own.uncut) (measured_rows table) rows;
+          short = All-weaker IsShortRow (λ (row : RowValue). All (λ (cell : CellValue). All (λ line. measure line ≤ 65535) cell.text_lines) row.cells) (λ row own. own.short) (measured_rows table) rows;
         }
 
 -- its lines are equally wide
@@ -123,7 +123,7 @@ new_tables_leave_none_open style header rows lines clear drawing =
       styling = inl (ap should_style known.is);
       style = record { indicator = ap (λ (t : TableValue). list_any (λ x. x == 0x1B) t.indicator) known.is; characters = subst (IsStyleWithout 0x1B) (sym (ap (λ (t : TableValue). t.style) known.is)) clear };
       ends = All-weaker (λ (p : ℕ × ColumnValue). IsNewColumn p.1) (λ (p : ℕ × ColumnValue). (1 ≤ p.1.padding.1) ⊎ All (λ (cell : CellValue). All HasNoEscape cell.text_lines) (column_cells (record table { custom_styling = true }) p.0))
-          (λ p new. let one : p.1.padding.1 ≡ 1 = ap (λ (x : ℕ × ℕ). x.1) new.padding in inl (omega (arith, one))) (visible_columns table) (columns_known (new_table style) refl (λ row. Unit {0}) table known);
+          (λ p new. let one : p.1.padding.1 ≡ 1 = ap (λ (x : ℕ × ℕ). x.1) new.padding in inl (omega (arith, one))) (shown_columns table) (columns_known (new_table style) refl (λ row. Unit {0}) table known);
     })
   where
     table : TableValue

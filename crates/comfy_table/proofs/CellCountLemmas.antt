@@ -7,14 +7,14 @@ use Rattle.std.proofs.lemmas.Bool.Decides.{nat_tests}
 use Rattle.std.proofs.lemmas.List.{length-take}
 use Rattle.std.proofs.lemmas.List.Elements.{All-weaker}
 use Rattle.std.proofs.lemmas.Str.{IsUtf8-nil, chars-nil}
-use Rattle.comfy_parts.proofs.CallerLemmas.{All-flat_map, IsPlainLine, head-printable, lines_of_text-plain, measure-printable, take-printable}
+use Rattle.comfy_parts.proofs.CallerLemmas.{All-flat_map, IsPrintableLine, head-printable, lines_of_text-printable, measure-printable, take-printable}
 use Rattle.comfy_parts.specs.CellValue.{CellValue, RowValue, ColumnInfo, info_width}
 use Rattle.comfy_parts.specs.Text.{Text, measure, is_printable_ascii, AddsOneColumnEach}
 use Rattle.comfy_parts.specs.Wrapping.{lines_of_text}
 use Rattle.comfy_table.proofs.CountLemmas.{HasCount, HasCount-same, HasCount-append, HasCount-printable, HasCount-utf8, HasCount-spaces}
-use Rattle.comfy_table.proofs.CutLemmas.{All-cut, plain_piece, seen_in_row}
+use Rattle.comfy_table.proofs.CutLemmas.{All-cut, unstyled_piece, measured_in_row}
 use Rattle.comfy_table.proofs.SpaceLemmas.{whole_width}
-use Rattle.comfy_table.specs.Laws.{count, IsPlainCell}
+use Rattle.comfy_table.specs.Laws.{count, IsPrintableCell}
 use Rattle.comfy_table.specs.Lines.{cell_lines, cell_delimiter, fitting_indicator, cut_text}
 use Rattle.comfy_table.specs.Pieces.{cell_alignment, free_before, free_places}
 use Rattle.comfy_table.specs.TableValue.{TableValue}
@@ -25,17 +25,17 @@ pub record IsCountedLine (w : ℕ) (line : Text) : Type 0 where
   pub counted : HasCount (measure line) line
 
 -- a plain line is counted
-counted-plain : (w : ℕ) (line : Text) → IsPlainLine w line → IsCountedLine w line
-counted-plain w line plain =
+counted-printable : (w : ℕ) (line : Text) → IsPrintableLine w line → IsCountedLine w line
+counted-printable w line plain =
     record { fits = plain.fits; counted = HasCount-same (length line) (measure line) line (sym (measure-printable line plain.printable)) (HasCount-printable line plain.printable) }
 
 -- the lines of a plain cell are plain
-pub cell_lines-plain : (table : TableValue) (delimiter : Option ℕ) (w : ℕ) (cell : CellValue) → 1 ≤ w → IsPlainCell table delimiter cell
-    → All (IsPlainLine w) (cell_lines w (cell_delimiter table delimiter cell) cell)
-cell_lines-plain table delimiter w cell places plain =
-    All-flat_map (IsPlainLine w) (lines_of_text w (cell_delimiter table delimiter cell)) cell.text_lines
-    (All-weaker (λ line. is_printable_ascii line ≡ true) (λ line. All (IsPlainLine w) (lines_of_text w (cell_delimiter table delimiter cell) line))
-    (λ line printable. lines_of_text-plain w (cell_delimiter table delimiter cell) line (record { columns = places; delimiter = plain.1; printable = printable })) cell.text_lines plain.0)
+pub cell_lines-printable : (table : TableValue) (delimiter : Option ℕ) (w : ℕ) (cell : CellValue) → 1 ≤ w → IsPrintableCell table delimiter cell
+    → All (IsPrintableLine w) (cell_lines w (cell_delimiter table delimiter cell) cell)
+cell_lines-printable table delimiter w cell places plain =
+    All-flat_map (IsPrintableLine w) (lines_of_text w (cell_delimiter table delimiter cell)) cell.text_lines
+    (All-weaker (λ line. is_printable_ascii line ≡ true) (λ line. All (IsPrintableLine w) (lines_of_text w (cell_delimiter table delimiter cell) line))
+    (λ line printable. lines_of_text-printable w (cell_delimiter table delimiter cell) line (record { columns = places; delimiter = plain.1; printable = printable })) cell.text_lines plain.0)
 
 -- ---- cut lines
 
@@ -64,19 +64,19 @@ cut_text-counted w indicator line utf8 even printable =
 
 -- the lines of a plain cell in a row are counted, where the indicator adds one column for each character if a line is cut
 pub row_cell_lines-counted : (table : TableValue) (row : RowValue) (info : ColumnInfo) (cell : CellValue) → 1 ≤ info.content_width → IsUtf8 table.indicator
-    → IsPlainCell table info.delimiter cell
+    → IsPrintableCell table info.delimiter cell
     → ((h : ℕ) → row.max_height ≡ Some h → h < length (cell_lines info.content_width (cell_delimiter table info.delimiter cell) cell) → AddsOneColumnEach (fitting_indicator info.content_width table.indicator))
-    → All (IsCountedLine info.content_width) (seen_in_row table row info cell)
+    → All (IsCountedLine info.content_width) (measured_in_row table row info cell)
 row_cell_lines-counted table row info cell places utf8 plain even =
-    All-cut (IsPlainLine info.content_width) (IsCountedLine info.content_width) (cut_text info.content_width table.indicator) row.max_height (cell_lines info.content_width (cell_delimiter table info.delimiter cell) cell)
-    (cell_lines-plain table info.delimiter info.content_width cell places plain) (counted-plain info.content_width)
+    All-cut (IsPrintableLine info.content_width) (IsCountedLine info.content_width) (cut_text info.content_width table.indicator) row.max_height (cell_lines info.content_width (cell_delimiter table info.delimiter cell) cell)
+    (cell_lines-printable table info.delimiter info.content_width cell places plain) (counted-printable info.content_width)
     (λ h limited below line own. cut_text-counted info.content_width table.indicator line utf8 (even h limited below) own.printable)
 
 -- ---- pieces
 
 -- a counted line gives a piece as wide as its column
-pub HasCount-plain_piece : (cell : CellValue) (info : ColumnInfo) (line : Text) → IsCountedLine info.content_width line → HasCount (info_width info) (plain_piece cell info line)
-HasCount-plain_piece cell info line counted =
+pub HasCount-unstyled_piece : (cell : CellValue) (info : ColumnInfo) (line : Text) → IsCountedLine info.content_width line → HasCount (info_width info) (unstyled_piece cell info line)
+HasCount-unstyled_piece cell info line counted =
     HasCount-same _ _ _ (whole_width (cell_alignment cell info) info.padding.0 (measure line) info.padding.1 info.content_width counted.fits)
     (HasCount-append info.padding.0 _ _ _ (HasCount-spaces info.padding.0)
     (HasCount-append (free_before (cell_alignment cell info) (free_places info (measure line))) _ _ _ (HasCount-spaces _)

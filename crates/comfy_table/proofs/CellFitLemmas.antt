@@ -13,10 +13,10 @@ use Rattle.comfy_parts.specs.Columns.{IsApart, SelectorsAgree}
 use Rattle.comfy_parts.specs.Text.{Text, measure, head}
 use Rattle.comfy_parts.specs.VisibleLines.{CellLine}
 use Rattle.comfy_parts.specs.Wrapping.{lines_of_text}
-use Rattle.comfy_table.proofs.CutLemmas.{All-cut, row-unstyled, seen_in_row}
+use Rattle.comfy_table.proofs.CutLemmas.{All-cut, row-unstyled, measured_in_row}
 use Rattle.comfy_table.proofs.MeasureLemmas.{apart_follows}
-use Rattle.comfy_table.specs.Lines.{as_seen, cell_delimiter, cell_lines, cut_text, fitting_indicator}
-use Rattle.comfy_table.specs.Straight.{LinesFit, TextsFit}
+use Rattle.comfy_table.specs.Lines.{as_measured, cell_delimiter, cell_lines, cut_text, fitting_indicator}
+use Rattle.comfy_table.specs.Straight.{CellLinesFit, TextsFit}
 use Rattle.comfy_table.specs.TableValue.{TableValue}
 
 -- ---- cut lines
@@ -44,7 +44,7 @@ IsWholeCell table row info cell = All IsUtf8 cell.text_lines × IsScalar (cell_d
 
 -- its lines are whole characters that fit
 abbrev pub HasFittingLines : TableValue → RowValue → ColumnInfo → CellValue → Type 0
-HasFittingLines table row info cell = All (IsFittingLine info.content_width) (seen_in_row table row info cell)
+HasFittingLines table row info cell = All (IsFittingLine info.content_width) (measured_in_row table row info cell)
 
 module _ (table : TableValue) (row : RowValue) (info : ColumnInfo) (cell : CellValue) (indicator : IsUtf8 table.indicator) (known : IsWholeCell table row info cell) where
   abbrev w : ℕ
@@ -60,17 +60,17 @@ module _ (table : TableValue) (row : RowValue) (info : ColumnInfo) (cell : CellV
   whole = All-flat_map IsUtf8 (lines_of_text w d) cell.text_lines (All-weaker IsUtf8 (λ text. All IsUtf8 (lines_of_text w d text)) (lines_of_text-utf8 w d) cell.text_lines known.0)
 
   -- all lines are whole characters, cut ones too
-  whole_lines : All IsUtf8 (seen_in_row table row info cell)
+  whole_lines : All IsUtf8 (measured_in_row table row info cell)
   whole_lines =
       All-cut IsUtf8 IsUtf8 (cut_text w table.indicator) row.max_height lines whole (λ line own. own)
       (λ h limited below line own. IsUtf8-append (head _ line) (fitting_indicator w table.indicator) (head-utf8 _ _ own) (cond_both (nat_lt w (measure table.indicator)) _ _ IsUtf8 (λ _. IsUtf8-nil) (λ _. indicator)))
 
   -- so lines that are no wider than the column fit
-  pub lines-fit : LinesFit table row info cell → HasFittingLines table row info cell
+  pub lines-fit : CellLinesFit table row info cell → HasFittingLines table row info cell
   lines-fit narrow k default below =
       record {
         whole = whole_lines k default below;
-        fits = All-of_map (λ (line : CellLine). measure line.seen ≤ w) as_seen (seen_in_row table row info cell) (subst (All (λ (line : CellLine). measure line.seen ≤ w)) (row-unstyled table row info cell) narrow) k default below;
+        fits = All-of_map (λ (line : CellLine). measure line.measured ≤ w) as_measured (measured_in_row table row info cell) (subst (All (λ (line : CellLine). measure line.measured ≤ w)) (row-unstyled table row info cell) narrow) k default below;
       }
 
   -- and so do the lines of texts that fit

@@ -5,7 +5,7 @@ use Rattle.std.specs.Prelude.{if◌then◌else◌, option_map}
 use Rattle.std.specs.Str.{IsUtf8}
 use Rattle.std.proofs.lemmas.Bool.Decides.{nat_tests}
 use Rattle.std.proofs.lemmas.List.Elements.{All-cons, All-from_recursion, All-map, All-nil, All-weaker}
-use Rattle.comfy_parts.proofs.CallerLemmas.{All-at, All-given, All-of_map, AllZip-map, At-or, OpensNone, StandsAlone, every-second, none-after, opens-alone, opens-append, opens-clear, opens-reset, opens-spaced, stands-append, stands-clear, stands-closed, stands-seen, stands-sequence}
+use Rattle.comfy_parts.proofs.CallerLemmas.{All-at, All-given, All-of_map, AllZip-map, At-or, OpensNone, StandsAlone, every-second, none-after, opens-alone, opens-append, opens-clear, opens-reset, opens-spaced, stands-append, stands-clear, stands-closed, stands-visible, stands-sequence}
 use Rattle.comfy_parts.specs.CellValue.{CellValue, ColumnInfo, ColumnValue, RowValue, info_width}
 use Rattle.comfy_parts.specs.Text.{HasNo, Text, measure, spaces}
 use Rattle.comfy_parts.specs.VisibleLines.{CellLine}
@@ -16,16 +16,16 @@ use Rattle.comfy_parts.specs.declared.style.table_style.LineStyle.{LineStyle}
 use Rattle.comfy_table.proofs.EqualCountLemmas.{All-drawing, All-row}
 use Rattle.comfy_table.proofs.InfoLemmas.{infos-known}
 use Rattle.comfy_table.proofs.KeptDrawingLemmas.{IsClearContent, IsClearFrame, IsClearStyle, frame_kept, keeps_joined, style_clear}
-use Rattle.comfy_table.proofs.SeenLemmas.{IsRowOf, cell_seen, get_seen, row_seen, seen_rows-is}
+use Rattle.comfy_table.proofs.MeasuredLemmas.{IsRowOf, cell_measured, get_measured, row_measured, measured_rows-is}
 use Rattle.comfy_table.proofs.SpaceLemmas.{no_styles, spaces-append}
 use Rattle.comfy_table.proofs.StyledLemmas.{KeptByDrawing, KeptByJoining, keeps_spaces}
 use Rattle.comfy_table.proofs.WrittenLemmas.{keeps_lines, none_is_open_at_the_end}
 use Rattle.comfy_table.specs.Drawing.{drawing, drawn_row, infos_of, whole_widths}
 use Rattle.comfy_table.specs.Frame.{optional_frame_line}
 use Rattle.comfy_table.specs.Laws.{EndsItsStyling, HasNoEscape, HasSequencesInTextsAlone, LeavesNoneOpen}
-use Rattle.comfy_table.specs.Pieces.{blank_piece, cell_pieces, free_before, free_places, cell_alignment, padded, piece, pieces_at, pieces_of_optional, row_cell_lines, row_line, visible_infos}
+use Rattle.comfy_table.specs.Pieces.{blank_piece, cell_pieces, free_before, free_places, cell_alignment, padded, piece, pieces_at, pieces_of_optional, row_cell_lines, row_line, shown_infos}
 use Rattle.comfy_table.specs.Styling.{style_begin, style_end, style_end_without_attributes, styled}
-use Rattle.comfy_table.specs.TableValue.{TableValue, column_cells, header_and_rows, seen_rows, should_style}
+use Rattle.comfy_table.specs.TableValue.{TableValue, column_cells, header_and_rows, measured_rows, should_style}
 
 -- ---- what stays true as texts are drawn and joined
 
@@ -35,7 +35,7 @@ stands_kept =
     record {
       joins = record { seven_bits = omega arith; no_space = refl; of_clear = stands-clear; of_both = λ shown others xs ys. stands-append xs ys };
       of_sequence = stands-sequence;
-      of_seen = stands-seen;
+      of_measured = stands-visible;
       of_closed = stands-closed;
     }
 
@@ -99,7 +99,7 @@ opens-piece : (table : TableValue) (cell : CellValue) (info : ColumnInfo) (line 
 opens-piece table cell info line styling ends inside = by_case styling
   where
     columns : ℕ
-    columns = measure line.seen
+    columns = measure line.measured
 
     plain : OpensNone (padded cell info columns line.written)
     plain = opens-padded cell info columns line.written ends inside
@@ -124,15 +124,15 @@ opens-piece table cell info line styling ends inside = by_case styling
 -- what is known of a cell that a row has in a column: its styling ends or isn't written, and its texts end inside
 record IsClosedCell (table : TableValue) (info : ColumnInfo) (cell : CellValue) : Type 0 where
   styling : (should_style table ≡ false) ⊎ EndsItsStyling cell
-  ends : (1 ≤ info.padding.1) ⊎ All HasNoEscape (cell_seen table.custom_styling cell).text_lines
-  whole : All IsUtf8 (cell_seen table.custom_styling cell).text_lines
+  ends : (1 ≤ info.padding.1) ⊎ All HasNoEscape (cell_measured table.custom_styling cell).text_lines
+  whole : All IsUtf8 (cell_measured table.custom_styling cell).text_lines
 
 module _ (table : TableValue) (on : table.custom_styling ≡ true) (mark : HasNo 0x1B table.indicator) where
   -- its lines end inside
   ends_inside : (row : RowValue) (info : ColumnInfo) (cell : CellValue) → IsClosedCell table info cell → All (λ (line : CellLine). EndsInside info line.written) (row_cell_lines table row info cell)
   ends_inside row info cell own = by_case own.ends
     where
-      by_case : (1 ≤ info.padding.1) ⊎ All HasNoEscape (cell_seen table.custom_styling cell).text_lines → All (λ (line : CellLine). EndsInside info line.written) (row_cell_lines table row info cell)
+      by_case : (1 ≤ info.padding.1) ⊎ All HasNoEscape (cell_measured table.custom_styling cell).text_lines → All (λ (line : CellLine). EndsInside info line.written) (row_cell_lines table row info cell)
       by_case (inl some) = λ k default below. inl some
       by_case (inr clear) = λ k default below.
           inr (opens-alone (slice_index_or (row_cell_lines table row info cell) k default).written (none_is_open_at_the_end table row info cell on k default below)
@@ -156,10 +156,10 @@ module _ (table : TableValue) (on : table.custom_styling ≡ true) (mark : HasNo
   -- ---- lines
 
   module _ (infos : List ColumnInfo) where
-    -- each cell that a row has in a visible column is such a cell
+    -- each cell that a row has in a shown column is such a cell
     abbrev IsClosedRow : RowValue → Type 0
     IsClosedRow row =
-        All (λ (p : ℕ × ColumnInfo). (cell : CellValue) → slice_get row.cells p.0 ≡ Some cell → IsClosedCell table p.1 cell) (visible_infos infos)
+        All (λ (p : ℕ × ColumnInfo). (cell : CellValue) → slice_get row.cells p.0 ≡ Some cell → IsClosedCell table p.1 cell) (shown_infos infos)
 
     -- the lines of such a row
     opens_row : (line : ContentLineStyle) → IsClearContent 0x1B line → (row : RowValue) → IsClosedRow row → All OpensNone (drawn_row table infos line row)
@@ -167,9 +167,9 @@ module _ (table : TableValue) (on : table.custom_styling ≡ true) (mark : HasNo
         All-row OpensNone table infos line row
         (λ k.
         keeps_joined 0x1B (λ shown text. OpensNone text) opens_joined table.style line.left line.junction line.right (row_line table infos row k) (row_line table infos row k) clear.left clear.junction clear.right
-        (AllZip-map (λ shown text. OpensNone text) (λ (p : ℕ × ColumnInfo). slice_index_or (pieces_at table row p) k (blank_piece p.1)) (λ (p : ℕ × ColumnInfo). slice_index_or (pieces_at table row p) k (blank_piece p.1)) (visible_infos infos)
+        (AllZip-map (λ shown text. OpensNone text) (λ (p : ℕ × ColumnInfo). slice_index_or (pieces_at table row p) k (blank_piece p.1)) (λ (p : ℕ × ColumnInfo). slice_index_or (pieces_at table row p) k (blank_piece p.1)) (shown_infos infos)
         (λ j other below.
-        let p : ℕ × ColumnInfo = slice_index_or (visible_infos infos) j other in
+        let p : ℕ × ColumnInfo = slice_index_or (shown_infos infos) j other in
         At-or OpensNone (pieces_at table row p) k (blank_piece p.1) (opens_column row p (known j other below)) (opens_spaces (info_width p.1)))))
 
     -- a frame line
@@ -180,13 +180,13 @@ module _ (table : TableValue) (on : table.custom_styling ≡ true) (mark : HasNo
 
 -- ---- tables
 
--- what is known of the rows of a table as they are seen is known row by row
-of_seen_rows : (table : TableValue) (P : RowValue → Type 0) → All P (seen_rows table) → All (λ row. P (row_seen table.custom_styling row)) (header_and_rows table)
-of_seen_rows table P each =
-    All-of_map P (row_seen table.custom_styling) (header_and_rows table) (subst (All P) (seen_rows-is table) each)
+-- what is known of the rows of a table as they are measured is known row by row
+of_measured_rows : (table : TableValue) (P : RowValue → Type 0) → All P (measured_rows table) → All (λ row. P (row_measured table.custom_styling row)) (header_and_rows table)
+of_measured_rows table P each =
+    All-of_map P (row_measured table.custom_styling) (header_and_rows table) (subst (All P) (measured_rows-is table) each)
 
 -- no sequence is open after a line of the drawing
-pub lines_are_closed : (table : TableValue) (widths : List ℕ) → length widths ≡ length table.columns → table.custom_styling ≡ true → HasSequencesInTextsAlone table → All (IsRowOf IsUtf8) (seen_rows table)
+pub lines_are_closed : (table : TableValue) (widths : List ℕ) → length widths ≡ length table.columns → table.custom_styling ≡ true → HasSequencesInTextsAlone table → All (IsRowOf IsUtf8) (measured_rows table)
     → All LeavesNoneOpen (drawing table widths)
 lines_are_closed table widths same on alone whole =
     All-weaker OpensNone LeavesNoneOpen none-after (drawing table widths)
@@ -207,32 +207,32 @@ lines_are_closed table widths same on alone whole =
     Ends : ℕ × ColumnInfo → Type 0
     Ends p = (1 ≤ p.1.padding.1) ⊎ All (λ (cell : CellValue). All HasNoEscape cell.text_lines) (column_cells table p.0)
 
-    ends : All Ends (visible_infos infos)
+    ends : All Ends (shown_infos infos)
     ends =
         infos-known table widths (λ (p : ℕ × ColumnValue). (1 ≤ p.1.padding.1) ⊎ All (λ (cell : CellValue). All HasNoEscape cell.text_lines) (column_cells table p.0)) Ends same alone.ends (λ i column w own. own)
 
-    found_seen : (row : RowValue) (i : ℕ) (cell : CellValue) → slice_get row.cells i ≡ Some cell → slice_get (row_seen table.custom_styling row).cells i ≡ Some (cell_seen table.custom_styling cell)
-    found_seen row i cell found = get_seen table.custom_styling row.cells i ∙ ap (option_map (cell_seen table.custom_styling)) found
+    found_measured : (row : RowValue) (i : ℕ) (cell : CellValue) → slice_get row.cells i ≡ Some cell → slice_get (row_measured table.custom_styling row).cells i ≡ Some (cell_measured table.custom_styling cell)
+    found_measured row i cell found = get_measured table.custom_styling row.cells i ∙ ap (option_map (cell_measured table.custom_styling)) found
 
     rows : All (IsClosedRow table on mark infos) (header_and_rows table)
     rows k default under j other below cell found =
-        record { styling = styling alone.styling; ends = inside (ends j other below); whole = All-at (λ (cell : CellValue). All IsUtf8 cell.text_lines) (row_seen table.custom_styling row).cells p.0 (cell_seen table.custom_styling cell) (of_seen_rows table (IsRowOf IsUtf8) whole k default under) seen }
+        record { styling = styling alone.styling; ends = inside (ends j other below); whole = All-at (λ (cell : CellValue). All IsUtf8 cell.text_lines) (row_measured table.custom_styling row).cells p.0 (cell_measured table.custom_styling cell) (of_measured_rows table (IsRowOf IsUtf8) whole k default under) measured }
       where
         row : RowValue
         row = slice_index_or (header_and_rows table) k default
 
         p : ℕ × ColumnInfo
-        p = slice_index_or (visible_infos infos) j other
+        p = slice_index_or (shown_infos infos) j other
 
-        seen : slice_get (row_seen table.custom_styling row).cells p.0 ≡ Some (cell_seen table.custom_styling cell)
-        seen = found_seen row p.0 cell found
+        measured : slice_get (row_measured table.custom_styling row).cells p.0 ≡ Some (cell_measured table.custom_styling cell)
+        measured = found_measured row p.0 cell found
 
         styling : (should_style table ≡ false) ⊎ All (λ (row : RowValue). All EndsItsStyling row.cells) (header_and_rows table) → (should_style table ≡ false) ⊎ EndsItsStyling cell
         styling (inl off) = inl off
         styling (inr none) = inr (All-at EndsItsStyling row.cells p.0 cell (none k default under) found)
 
-        inside : Ends p → (1 ≤ p.1.padding.1) ⊎ All HasNoEscape (cell_seen table.custom_styling cell).text_lines
+        inside : Ends p → (1 ≤ p.1.padding.1) ⊎ All HasNoEscape (cell_measured table.custom_styling cell).text_lines
         inside (inl some) = inl some
         inside (inr clear) =
-            inr (of_seen_rows table (λ (row : RowValue). (y : CellValue) → slice_get row.cells p.0 ≡ Some y → All HasNoEscape y.text_lines)
-            (All-given (λ (cell : CellValue). All HasNoEscape cell.text_lines) (λ (row : RowValue). slice_get row.cells p.0) (seen_rows table) clear) k default under (cell_seen table.custom_styling cell) seen)
+            inr (of_measured_rows table (λ (row : RowValue). (y : CellValue) → slice_get row.cells p.0 ≡ Some y → All HasNoEscape y.text_lines)
+            (All-given (λ (cell : CellValue). All HasNoEscape cell.text_lines) (λ (row : RowValue). slice_get row.cells p.0) (measured_rows table) clear) k default under (cell_measured table.custom_styling cell) measured)

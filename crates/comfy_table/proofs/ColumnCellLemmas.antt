@@ -6,37 +6,37 @@ use Rattle.std.proofs.lemmas.List.{map-append}
 use Rattle.comfy_parts.specs.CellValue.{CellValue, ColumnInfo, RowValue}
 use Rattle.comfy_parts.specs.Text.{greatest, measure}
 use Rattle.comfy_parts.specs.Wrapping.{lines_of_text}
-use Rattle.comfy_table.proofs.SeenLemmas.{cell_seen, get_seen, row_seen, seen_rows-is}
+use Rattle.comfy_table.proofs.MeasuredLemmas.{cell_measured, get_measured, row_measured, measured_rows-is}
 use Rattle.comfy_table.specs.Lines.{cell_delimiter, cell_lines, longest_line}
 use Rattle.comfy_table.specs.LongestLine.{cell_longest_line}
-use Rattle.comfy_table.specs.TableValue.{TableValue, cells_at, cells_with_header, column_cells, header_and_rows, seen_cell}
+use Rattle.comfy_table.specs.TableValue.{TableValue, cells_at, cells_with_header, column_cells, header_and_rows, measured_cell}
 
 module _ (table : TableValue) (f : CellValue → ℕ) where
-  -- what a cell gives as it is seen, 0 where there is none
-  abbrev pub of_seen : Option CellValue → ℕ
-  of_seen None = 0
-  of_seen (Some cell) = f (seen_cell table cell)
+  -- what a cell gives as it is measured, 0 where there is none
+  abbrev pub of_measured : Option CellValue → ℕ
+  of_measured None = 0
+  of_measured (Some cell) = f (measured_cell table cell)
 
   -- of some cells and perhaps one more
-  one_more : (cell : Option CellValue) (cells : List CellValue) → greatest (map f (cons_option (option_map (cell_seen table.custom_styling) cell) cells)) ≡ max (of_seen cell) (greatest (map f cells))
+  one_more : (cell : Option CellValue) (cells : List CellValue) → greatest (map f (cons_option (option_map (cell_measured table.custom_styling) cell) cells)) ≡ max (of_measured cell) (greatest (map f cells))
   one_more None cells = omega arith
   one_more (Some cell) cells = refl
 
   -- row by row
-  of_rows : (i : ℕ) (rows : List RowValue) → greatest (map f (filter_map (λ (row : RowValue). slice_get row.cells i) (map (row_seen table.custom_styling) rows))) ≡ greatest (map of_seen (cells_at rows i))
+  of_rows : (i : ℕ) (rows : List RowValue) → greatest (map f (filter_map (λ (row : RowValue). slice_get row.cells i) (map (row_measured table.custom_styling) rows))) ≡ greatest (map of_measured (cells_at rows i))
   of_rows i [] = refl
-  of_rows i (row ∷ rows) = grind (arith, get_seen, one_more, of_rows i rows)
+  of_rows i (row ∷ rows) = grind (arith, get_measured, one_more, of_rows i rows)
 
   -- after the header's cell
   of_header : (i : ℕ) (header : Option RowValue) (rows : List RowValue)
-      → greatest (map of_seen (cells_at (option_to_list header ++ rows) i)) ≡ max (of_seen (option_and_then (λ (row : RowValue). slice_get row.cells i) header)) (greatest (map of_seen (cells_at rows i)))
+      → greatest (map of_measured (cells_at (option_to_list header ++ rows) i)) ≡ max (of_measured (option_and_then (λ (row : RowValue). slice_get row.cells i) header)) (greatest (map of_measured (cells_at rows i)))
   of_header i None rows = omega arith
   of_header i (Some header) rows = refl
 
   -- of all cells of a column
-  pub greatest_seen : (i : ℕ) → greatest (map f (column_cells table i)) ≡ greatest (map of_seen (cells_with_header table i))
-  greatest_seen i =
-      ap (λ (rows : List RowValue). greatest (map f (filter_map (λ (row : RowValue). slice_get row.cells i) rows))) (seen_rows-is table)
+  pub greatest_measured : (i : ℕ) → greatest (map f (column_cells table i)) ≡ greatest (map of_measured (cells_with_header table i))
+  greatest_measured i =
+      ap (λ (rows : List RowValue). greatest (map f (filter_map (λ (row : RowValue). slice_get row.cells i) rows))) (measured_rows-is table)
       ∙ of_rows i (header_and_rows table)
       ∙ of_header i table.header table.rows
 
@@ -55,8 +55,8 @@ greatest-flat_map f g (x ∷ xs) =
 
 -- the longest line of a column
 pub longest_line-is : (table : TableValue) (info : ColumnInfo) (i : ℕ)
-    → longest_line table i info.delimiter info.content_width ≡ greatest (map (of_seen table (cell_longest_line table info)) (cells_with_header table i))
+    → longest_line table i info.delimiter info.content_width ≡ greatest (map (of_measured table (cell_longest_line table info)) (cells_with_header table i))
 longest_line-is table info i =
     greatest-flat_map measure (λ (cell : CellValue). cell_lines info.content_width (cell_delimiter table info.delimiter cell) cell) (column_cells table i)
     ∙ (λ j. greatest (map (λ (cell : CellValue). greatest-flat_map measure (lines_of_text info.content_width (cell_delimiter table info.delimiter cell)) cell.text_lines j) (column_cells table i)))
-    ∙ greatest_seen table (cell_longest_line table info) i
+    ∙ greatest_measured table (cell_longest_line table info) i

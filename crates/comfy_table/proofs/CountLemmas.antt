@@ -19,7 +19,7 @@ use Rattle.comfy_parts.specs.declared.style.table_style.TableStyle.{TableStyle}
 use Rattle.comfy_table.specs.Drawing.{whole_widths}
 use Rattle.comfy_table.specs.Frame.{border_count, character, between_borders, frame_line, draws_left_border, draws_right_border, draws_vertical_lines}
 use Rattle.comfy_table.specs.Laws.{count}
-use Rattle.comfy_table.specs.Pieces.{visible_infos}
+use Rattle.comfy_table.specs.Pieces.{shown_infos}
 
 -- before any rest, the text adds n characters
 pub record HasCount (n : ℕ) (text : Text) : Type 0 where
@@ -162,13 +162,13 @@ pub HasCount-frame_line : (style : TableStyle) (line : LineStyle) (widths : List
 HasCount-frame_line style line widths =
     HasCount-joined style line.left line.junction line.right widths (map (λ (width : ℕ). repeat width (character line.fill)) widths) (fills line.fill widths)
 
--- whatever the style, a frame line has the border characters and the whole widths of the visible columns
+-- whatever the style, a frame line has the border characters and the whole widths of the shown columns
 abbrev pub FrameLinesCount : TableStyle → LineStyle → List ColumnInfo → Type 0
 FrameLinesCount style line infos =
-    count (frame_line style line (whole_widths infos)) ≡ border_count style (length (visible_infos infos)) + sum (whole_widths infos)
+    count (frame_line style line (whole_widths infos)) ≡ border_count style (length (shown_infos infos)) + sum (whole_widths infos)
 
 -- a frame line has the border characters and the whole widths
 pub frame_lines_count : (style : TableStyle) (line : LineStyle) (infos : List ColumnInfo) → FrameLinesCount style line infos
 frame_lines_count style line infos =
     count-is _ _ (HasCount-frame_line style line (whole_widths infos))
-    ∙ ap (λ n. border_count style n + sum (whole_widths infos)) (length-map (visible_infos infos) _)
+    ∙ ap (λ n. border_count style n + sum (whole_widths infos)) (length-map (shown_infos infos) _)

@@ -5,14 +5,14 @@ use Rattle.std.proofs.lemmas.Bool.{cond_both}
 use Rattle.std.proofs.lemmas.Bool.Decides.{nat_tests}
 use Rattle.std.proofs.lemmas.List.{drop-map, length-map, map-append, take-map}
 use Rattle.std.proofs.lemmas.List.Elements.{All-append, All-cons, All-drop, All-nil, All-map, All-take, All-weaker}
-use Rattle.comfy_parts.proofs.CallerLemmas.{seen_lines}
+use Rattle.comfy_parts.proofs.CallerLemmas.{visible_lines}
 use Rattle.comfy_parts.specs.CellValue.{CellValue, ColumnInfo, RowValue}
 use Rattle.comfy_parts.specs.Text.{Text, measure}
 use Rattle.comfy_parts.specs.VisibleLines.{CellLine}
 use Rattle.std.proofs.lemmas.Simd.{map-map}
-use Rattle.comfy_table.proofs.SeenLemmas.{cell_seen}
+use Rattle.comfy_table.proofs.MeasuredLemmas.{cell_measured}
 use Rattle.comfy_table.specs.Laws.{unstyled}
-use Rattle.comfy_table.specs.Lines.{as_seen, cell_delimiter, cell_lines, cut_line, cut_text, cut_to_height, cut_to_limit, whole_lines}
+use Rattle.comfy_table.specs.Lines.{as_measured, cell_delimiter, cell_lines, cut_line, cut_text, cut_to_height, cut_to_limit, whole_lines}
 use Rattle.comfy_table.specs.Pieces.{blank_piece, cell_pieces, padded, pieces_at, pieces_of_optional, row_cell_lines}
 use Rattle.comfy_table.specs.TableValue.{TableValue}
 
@@ -42,53 +42,53 @@ All-cut P Q cut (Some h) lines each whole one =
     (λ taller. All-append Q (take (h - 1) lines) _ (All-weaker P Q whole _ (All-take P (h - 1) lines each))
     (All-map Q cut _ (All-weaker P (λ line. Q (cut line)) (one h refl (grind (arith, nat_tests, taller))) _ (All-take P 1 _ (All-drop P (h - 1) lines each)))))
 
--- ---- what is seen of the lines of a cell
+-- ---- what is measured of the lines of a cell
 
--- what is seen of lines
-abbrev pub seen_of : List CellLine → List Text
-seen_of lines = map (λ (line : CellLine). line.seen) lines
+-- what is measured of lines
+abbrev pub measured_of : List CellLine → List Text
+measured_of lines = map (λ (line : CellLine). line.measured) lines
 
--- of those of a cell it is the lines of what is seen of the cell
-pub whole-seen : (custom : Bool) (w d : ℕ) (cell : CellValue) → seen_of (whole_lines custom w d cell) ≡ cell_lines w d (cell_seen custom cell)
-whole-seen true w d cell = seen_lines w d cell.text_lines
-whole-seen false w d cell = as_they_are (cell_lines w d cell)
+-- of those of a cell it is the lines of what is measured of the cell
+pub whole-measured : (custom : Bool) (w d : ℕ) (cell : CellValue) → measured_of (whole_lines custom w d cell) ≡ cell_lines w d (cell_measured custom cell)
+whole-measured true w d cell = visible_lines w d cell.text_lines
+whole-measured false w d cell = as_they_are (cell_lines w d cell)
   where
-    as_they_are : (lines : List Text) → seen_of (map as_seen lines) ≡ lines
+    as_they_are : (lines : List Text) → measured_of (map as_measured lines) ≡ lines
     as_they_are [] = refl
     as_they_are (line ∷ lines) = ap (λ (more : List Text). line ∷ more) (as_they_are lines)
 
--- the lines of a cell in a row as they are seen
-abbrev pub seen_in_row : TableValue → RowValue → ColumnInfo → CellValue → List Text
-seen_in_row table row info cell =
+-- the lines of a cell in a row as they are measured
+abbrev pub measured_in_row : TableValue → RowValue → ColumnInfo → CellValue → List Text
+measured_in_row table row info cell =
     cut_to_limit (cut_text info.content_width table.indicator) row.max_height (cell_lines info.content_width (cell_delimiter table info.delimiter cell) cell)
 
--- they are what is seen of its lines
-pub row-seen : (table : TableValue) (row : RowValue) (info : ColumnInfo) (cell : CellValue) → seen_of (row_cell_lines table row info cell) ≡ seen_in_row table row info (cell_seen table.custom_styling cell)
-row-seen table row info cell =
-    map-cut (λ (line : CellLine). line.seen) (cut_line table.custom_styling info.content_width table.indicator) (cut_text info.content_width table.indicator) row.max_height _ (λ line. refl)
-    ∙ ap (cut_to_limit (cut_text info.content_width table.indicator) row.max_height) (whole-seen table.custom_styling info.content_width (cell_delimiter table info.delimiter cell) cell)
+-- they are what is measured of its lines
+pub row-measured : (table : TableValue) (row : RowValue) (info : ColumnInfo) (cell : CellValue) → measured_of (row_cell_lines table row info cell) ≡ measured_in_row table row info (cell_measured table.custom_styling cell)
+row-measured table row info cell =
+    map-cut (λ (line : CellLine). line.measured) (cut_line table.custom_styling info.content_width table.indicator) (cut_text info.content_width table.indicator) row.max_height _ (λ line. refl)
+    ∙ ap (cut_to_limit (cut_text info.content_width table.indicator) row.max_height) (whole-measured table.custom_styling info.content_width (cell_delimiter table info.delimiter cell) cell)
 
 -- ---- unstyled tables
 
--- the lines are written as they are seen
-pub row-unstyled : (table : TableValue) (row : RowValue) (info : ColumnInfo) (cell : CellValue) → row_cell_lines (unstyled table) row info cell ≡ map as_seen (seen_in_row table row info cell)
+-- the lines are written as they are measured
+pub row-unstyled : (table : TableValue) (row : RowValue) (info : ColumnInfo) (cell : CellValue) → row_cell_lines (unstyled table) row info cell ≡ map as_measured (measured_in_row table row info cell)
 row-unstyled table row info cell =
-    sym (map-cut as_seen (cut_text info.content_width table.indicator) (cut_line false info.content_width table.indicator) row.max_height _ (λ line. refl))
+    sym (map-cut as_measured (cut_text info.content_width table.indicator) (cut_line false info.content_width table.indicator) row.max_height _ (λ line. refl))
 
 -- the piece of a line without styling
-abbrev pub plain_piece : CellValue → ColumnInfo → Text → Text
-plain_piece cell info line = padded cell info (measure line) line
+abbrev pub unstyled_piece : CellValue → ColumnInfo → Text → Text
+unstyled_piece cell info line = padded cell info (measure line) line
 
 -- such are all pieces
-pub pieces-unstyled : (table : TableValue) (row : RowValue) (info : ColumnInfo) (cell : CellValue) → cell_pieces (unstyled table) row info cell ≡ map (plain_piece cell info) (seen_in_row table row info cell)
+pub pieces-unstyled : (table : TableValue) (row : RowValue) (info : ColumnInfo) (cell : CellValue) → cell_pieces (unstyled table) row info cell ≡ map (unstyled_piece cell info) (measured_in_row table row info cell)
 pieces-unstyled table row info cell = grind (arith, row-unstyled, map-map)
 
--- what holds of the pieces of lines as they are seen, and of a blank one, holds of all pieces in a column
+-- what holds of the pieces of lines as they are measured, and of a blank one, holds of all pieces in a column
 pub All-pieces : (P : Text → Type 0) (table : TableValue) (row : RowValue) (p : ℕ × ColumnInfo) → P (blank_piece p.1)
-    → ((cell : CellValue) → slice_get row.cells p.0 ≡ Some cell → All (λ line. P (plain_piece cell p.1 line)) (seen_in_row table row p.1 cell)) → All P (pieces_at (unstyled table) row p)
+    → ((cell : CellValue) → slice_get row.cells p.0 ≡ Some cell → All (λ line. P (unstyled_piece cell p.1 line)) (measured_in_row table row p.1 cell)) → All P (pieces_at (unstyled table) row p)
 All-pieces P table row p blank = by_option (slice_get row.cells p.0)
   where
-    by_option : (o : Option CellValue) → ((cell : CellValue) → o ≡ Some cell → All (λ line. P (plain_piece cell p.1 line)) (seen_in_row table row p.1 cell)) → All P (pieces_of_optional (unstyled table) row p.1 o)
+    by_option : (o : Option CellValue) → ((cell : CellValue) → o ≡ Some cell → All (λ line. P (unstyled_piece cell p.1 line)) (measured_in_row table row p.1 cell)) → All P (pieces_of_optional (unstyled table) row p.1 o)
     by_option None each = All-cons P (blank_piece p.1) [] blank (All-nil P)
     by_option (Some cell) each =
-        subst (All P) (sym (pieces-unstyled table row p.1 cell)) (All-map P (plain_piece cell p.1) (seen_in_row table row p.1 cell) (each cell refl))
+        subst (All P) (sym (pieces-unstyled table row p.1 cell)) (All-map P (unstyled_piece cell p.1) (measured_in_row table row p.1 cell) (each cell refl))

@@ -4,24 +4,24 @@ use Rattle.std.specs.List.{enumerate_from, filter}
 use Rattle.std.specs.Prelude.{if◌then◌else◌, zip}
 use Rattle.std.proofs.lemmas.List.{length-map}
 use Rattle.std.proofs.lemmas.List.FromFn.{length-enumerate_from}
-use Rattle.comfy_parts.specs.CellValue.{ColumnInfo, ColumnValue, info_of, is_hidden_column, visible_among}
+use Rattle.comfy_parts.specs.CellValue.{ColumnInfo, ColumnValue, info_of, is_hidden_column, shown_among}
 use Rattle.std.specs.Prelude.{MatchOption}
 use Rattle.comfy_table.specs.Arrangement.{IsArranged, is_full_width, room_beside_borders, widths_at, width_kept}
 use Rattle.comfy_table.specs.Drawing.{infos_of}
 use Rattle.comfy_table.specs.Dynamic.{IsDynamic}
 use Rattle.comfy_table.specs.DisabledWidths.{width_by_content, widths_by_content}
-use Rattle.comfy_table.specs.TableValue.{TableValue, column_content_width, table_width, visible_columns}
-use Rattle.comfy_table.specs.Widths.{disabled_width, visible_count, visible_needs}
+use Rattle.comfy_table.specs.TableValue.{TableValue, column_content_width, table_width, shown_columns}
+use Rattle.comfy_table.specs.Widths.{disabled_width, shown_count, shown_needs}
 
 -- as many columns are visible among those with a position as among those without
 pub visible_from-count : (n : ℕ) (columns : List ColumnValue)
-    → length (filter (λ (p : ℕ × ColumnValue). not (is_hidden_column p.1)) (enumerate_from n columns)) ≡ visible_among columns
+    → length (filter (λ (p : ℕ × ColumnValue). not (is_hidden_column p.1)) (enumerate_from n columns)) ≡ shown_among columns
 visible_from-count n [] = refl
 visible_from-count n (column ∷ columns) = grind (arith, visible_from-count (n + 1) columns)
 
--- a table's visible columns are counted by either
-pub visible_count-among : (table : TableValue) → visible_count table ≡ visible_among table.columns
-visible_count-among table = visible_from-count 0 table.columns
+-- a table's shown columns are counted by either
+pub shown_count-among : (table : TableValue) → shown_count table ≡ shown_among table.columns
+shown_count-among table = visible_from-count 0 table.columns
 
 -- the numbers at the positions of the columns that pass a test, where g gives the numbers of all
 picked : (g f : ℕ × ColumnValue → ℕ) (test : ColumnValue → Bool) → ((p : ℕ × ColumnValue) → test p.1 ≡ true → g p ≡ f p)
@@ -62,12 +62,12 @@ visible_width table p is = grind arith
 -- where no width is kept, the widths by content are the table's
 pub arranged_by_content : (table : TableValue) → width_kept table.arrangement (table_width table) ≡ None → IsArranged table (widths_by_content table)
 arranged_by_content table none =
-    let shown : List ℕ = widths_at (widths_by_content table) (visible_columns table) in
+    let shown : List ℕ = widths_at (widths_by_content table) (shown_columns table) in
     record {
       one_for_each = length-map (enumerate_from 0 table.columns) (width_by_content table) ∙ length-enumerate_from 0 table.columns;
       hidden_widths = picked_by_content table (λ p. max 1 (column_content_width table p.0)) is_hidden_column (hidden_width table);
-      visible_widths =
-          subst (λ (o : Option ℕ). MatchOption o (shown ≡ map (disabled_width table) (visible_columns table)) (λ w. IsDynamic (room_beside_borders table w) (visible_needs table) (is_full_width table.arrangement) shown)) (sym none)
+      shown_widths =
+          subst (λ (o : Option ℕ). MatchOption o (shown ≡ map (disabled_width table) (shown_columns table)) (λ w. IsDynamic (room_beside_borders table w) (shown_needs table) (is_full_width table.arrangement) shown)) (sym none)
           (picked_by_content table (disabled_width table) (λ (c : ColumnValue). not (is_hidden_column c)) (visible_width table));
     }
 

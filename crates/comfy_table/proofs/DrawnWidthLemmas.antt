@@ -14,8 +14,8 @@ use Rattle.comfy_table.specs.Dynamic.{Share, Steps, IsArrangedBy, IsDynamic, con
 use Rattle.comfy_table.specs.Frame.{border_count}
 use Rattle.comfy_table.specs.Laws.{NoConstraints, KeepsToWidth, FillsWidth, line_total, least_total, least_with_steps}
 use Rattle.comfy_table.specs.Levels.{IsUnconstrained}
-use Rattle.comfy_table.specs.TableValue.{TableValue, table_width, visible_columns, column_content_width}
-use Rattle.comfy_table.specs.Widths.{ColumnNeeds, needs_of, visible_needs, visible_count, even_spread, lower_boundary, upper_boundary, fixed_by_constraint}
+use Rattle.comfy_table.specs.TableValue.{TableValue, table_width, shown_columns, column_content_width}
+use Rattle.comfy_table.specs.Widths.{ColumnNeeds, needs_of, shown_needs, shown_count, even_spread, lower_boundary, upper_boundary, fixed_by_constraint}
 use Rattle.comfy_table.proofs.BudgetLemmas.{keeps_to_wider_bound, fills_wider_bound}
 use Rattle.comfy_table.proofs.ContentLemmas.{each_content, each_content_short, steps_with}
 use Rattle.comfy_table.proofs.UnconstrainedLemmas.{least_with_steps-unconstrained}
@@ -72,8 +72,8 @@ sum-drawn_from widths n (column ∷ more) (w ∷ ws) same at each =
         )
 
 -- the whole widths of a table whose visible widths are at least 1
-pub sum-whole_widths : (table : TableValue) (widths : List ℕ) → length widths ≡ length table.columns → AllByRecursion (λ (w : ℕ). 1 ≤ w) (widths_at widths (visible_columns table))
-    → sum (whole_widths (infos_of table widths)) ≡ sum_by (λ (p : ℕ × ColumnValue). column_padding p.1) (visible_columns table) + sum (widths_at widths (visible_columns table))
+pub sum-whole_widths : (table : TableValue) (widths : List ℕ) → length widths ≡ length table.columns → AllByRecursion (λ (w : ℕ). 1 ≤ w) (widths_at widths (shown_columns table))
+    → sum (whole_widths (infos_of table widths)) ≡ sum_by (λ (p : ℕ × ColumnValue). column_padding p.1) (shown_columns table) + sum (widths_at widths (shown_columns table))
 sum-whole_widths table widths same each =
     sum-drawn_from widths 0 table.columns widths same (λ k. let here : 0 + k ≡ k = omega arith in ap (λ (i : ℕ). get_or widths i 0) here) each
 
@@ -84,16 +84,16 @@ unconstrained_needs : (table : TableValue) (columns : List (ℕ × ColumnValue))
 unconstrained_needs table [] each = tt
 unconstrained_needs table (p ∷ more) each = (
   record {
-    no_early = ap (fixed_by_constraint table (visible_count table) (column_content_width table p.0) (column_padding p.1)) each.0;
-    no_lower = ap (lower_boundary table (visible_count table)) each.0;
-    no_upper = ap (upper_boundary table (visible_count table)) each.0;
+    no_early = ap (fixed_by_constraint table (shown_count table) (column_content_width table p.0) (column_padding p.1)) each.0;
+    no_lower = ap (lower_boundary table (shown_count table)) each.0;
+    no_upper = ap (upper_boundary table (shown_count table)) each.0;
   },
   unconstrained_needs table more each.1,
 )
 
--- the needs of the visible columns are unconstrained
-pub unconstrained_visible : (table : TableValue) → NoConstraints table → AllByRecursion IsUnconstrained (visible_needs table)
-unconstrained_visible table none = unconstrained_needs table (visible_columns table) (recursion_from_All (λ (p : ℕ × ColumnValue). p.1.constraint ≡ None) (visible_columns table) none)
+-- the needs of the shown columns are unconstrained
+pub unconstrained_shown : (table : TableValue) → NoConstraints table → AllByRecursion IsUnconstrained (shown_needs table)
+unconstrained_shown table none = unconstrained_needs table (shown_columns table) (recursion_from_All (λ (p : ℕ × ColumnValue). p.1.constraint ≡ None) (shown_columns table) none)
 
 -- their paddings
 pub paddings_of_needs : (table : TableValue) (columns : List (ℕ × ColumnValue)) → sum_by (λ (column : ColumnNeeds). column.padding) (map (needs_of table) columns) ≡ sum_by (λ (p : ℕ × ColumnValue). column_padding p.1) columns
@@ -132,34 +132,34 @@ some_width room columns plain full steps widths arranged =
 
 -- the visible widths of a table whose width is known are dynamic
 pub dynamic_widths : (table : TableValue) (arrangement : ContentArrangement) (w : ℕ) (widths : List ℕ) → width_kept arrangement (Some w) ≡ Some w → table.arrangement ≡ arrangement → table_width table ≡ Some w → IsArranged table widths
-    → IsDynamic (room_beside_borders table w) (visible_needs table) (is_full_width arrangement) (widths_at widths (visible_columns table))
+    → IsDynamic (room_beside_borders table w) (shown_needs table) (is_full_width arrangement) (widths_at widths (shown_columns table))
 dynamic_widths table arrangement w widths kept same known arranged = grind arith
 
 module _ (table : TableValue) (w : ℕ) (widths : List ℕ) (full : Bool) (none : NoConstraints table) (arranged : IsArranged table widths)
-    (steps : Steps) (by : IsArrangedBy (room_beside_borders table w) (visible_needs table) full steps (widths_at widths (visible_columns table))) where
+    (steps : Steps) (by : IsArrangedBy (room_beside_borders table w) (shown_needs table) full steps (widths_at widths (shown_columns table))) where
   -- a line's total is the border characters, the paddings and the widths
-  line_total-is : line_total table widths ≡ border_count table.style (visible_count table) + (sum_by (λ (column : ColumnNeeds). column.padding) (visible_needs table) + sum (widths_at widths (visible_columns table)))
+  line_total-is : line_total table widths ≡ border_count table.style (shown_count table) + (sum_by (λ (column : ColumnNeeds). column.padding) (shown_needs table) + sum (widths_at widths (shown_columns table)))
   line_total-is =
-      let drawn = sum-whole_widths table widths arranged.one_for_each (some_width (room_beside_borders table w) (visible_needs table) (unconstrained_visible table none) full steps (widths_at widths (visible_columns table)) by) in
-      omega (arith, drawn, paddings_of_needs table (visible_columns table))
+      let drawn = sum-whole_widths table widths arranged.one_for_each (some_width (room_beside_borders table w) (shown_needs table) (unconstrained_shown table none) full steps (widths_at widths (shown_columns table)) by) in
+      omega (arith, drawn, paddings_of_needs table (shown_columns table))
 
   -- the least total is the border characters, the paddings and one for each column
-  least_total-is : border_count table.style (visible_count table) + least_with_steps (visible_needs table) steps ≡ least_total table
+  least_total-is : border_count table.style (shown_count table) + least_with_steps (shown_needs table) steps ≡ least_total table
   least_total-is =
-      let least = least_with_steps-unconstrained (room_beside_borders table w) (visible_needs table) (unconstrained_visible table none) full steps (widths_at widths (visible_columns table)) by in
-      omega (arith, least, paddings_of_needs table (visible_columns table), length-map (visible_columns table) (needs_of table))
+      let least = least_with_steps-unconstrained (room_beside_borders table w) (shown_needs table) (unconstrained_shown table none) full steps (widths_at widths (shown_columns table)) by in
+      omega (arith, least, paddings_of_needs table (shown_columns table), length-map (shown_columns table) (needs_of table))
 
 -- a line keeps to the width, or to the least total
 pub keeps_to_width : (table : TableValue) (w : ℕ) (widths : List ℕ) → KeepsToWidth table w widths
 keeps_to_width table w widths none dynamic known arranged =
     let found = dynamic_widths table Dynamic w widths refl dynamic known arranged in
-    let bound = keeps_to_wider_bound (room_beside_borders table w) (visible_needs table) found.0 (widths_at widths (visible_columns table)) found.1 in
+    let bound = keeps_to_wider_bound (room_beside_borders table w) (shown_needs table) found.0 (widths_at widths (shown_columns table)) found.1 in
     omega (arith, bound, line_total-is table w widths false none arranged found.0 found.1, least_total-is table w widths false none arranged found.0 found.1)
 
 -- with full width a line has exactly that
 pub fills_width : (table : TableValue) (w : ℕ) (widths : List ℕ) → FillsWidth table w widths
 fills_width table w widths none dynamic known some arranged =
     let found = dynamic_widths table DynamicFullWidth w widths refl dynamic known arranged in
-    let needed = length-map (visible_columns table) (needs_of table) in
-    let exact = fills_wider_bound (room_beside_borders table w) (visible_needs table) found.0 (widths_at widths (visible_columns table)) (omega (arith, needed, some)) found.1 in
+    let needed = length-map (shown_columns table) (needs_of table) in
+    let exact = fills_wider_bound (room_beside_borders table w) (shown_needs table) found.0 (widths_at widths (shown_columns table)) (omega (arith, needed, some)) found.1 in
     omega (arith, exact, line_total-is table w widths true none arranged found.0 found.1, least_total-is table w widths true none arranged found.0 found.1)

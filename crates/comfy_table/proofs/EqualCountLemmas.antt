@@ -10,17 +10,17 @@ use Rattle.comfy_parts.specs.CellValue.{CellValue, RowValue, ColumnValue, Column
 use Rattle.comfy_parts.specs.Text.{Text}
 use Rattle.comfy_parts.specs.declared.style.table_style.ContentLineStyle.{ContentLineStyle}
 use Rattle.comfy_parts.specs.declared.style.table_style.LineStyle.{LineStyle}
-use Rattle.comfy_table.proofs.CutLemmas.{All-pieces, plain_piece, seen_in_row}
-use Rattle.comfy_table.proofs.CellCountLemmas.{IsCountedLine, row_cell_lines-counted, HasCount-plain_piece}
+use Rattle.comfy_table.proofs.CutLemmas.{All-pieces, unstyled_piece, measured_in_row}
+use Rattle.comfy_table.proofs.CellCountLemmas.{IsCountedLine, row_cell_lines-counted, HasCount-unstyled_piece}
 use Rattle.comfy_table.proofs.CountLemmas.{HasCount, HasCount-spaces, HasCount-joined, HasCount-frame_line, count-is}
 use Rattle.comfy_parts.proofs.CallerLemmas.{All-every, All-given, All-join_by, All-others, AllZip-map, At-or}
 use Rattle.comfy_table.proofs.InfoLemmas.{columns_from, infos_from, infos-known}
 use Rattle.comfy_table.specs.Drawing.{infos_of, whole_widths, drawn_row, drawn_header, drawn_rows, drawing_of_infos, drawing}
 use Rattle.comfy_table.specs.Frame.{border_count, content_line, frame_line, is_drawn, optional_frame_line}
-use Rattle.comfy_table.specs.Laws.{count, unstyled, line_total, IsPlainCell, AddsOneColumnEachWhereWritten, IsPlainTable}
-use Rattle.comfy_table.specs.Pieces.{blank_piece, pieces_at, row_line, row_lines, row_height, visible_infos}
-use Rattle.comfy_table.specs.TableValue.{TableValue, column_cells, seen_rows}
-use Rattle.comfy_table.specs.Widths.{visible_count}
+use Rattle.comfy_table.specs.Laws.{count, unstyled, line_total, IsPrintableCell, AddsOneColumnEachWhereWritten, IsPrintableTable}
+use Rattle.comfy_table.specs.Pieces.{blank_piece, pieces_at, row_line, row_lines, row_height, shown_infos}
+use Rattle.comfy_table.specs.TableValue.{TableValue, column_cells, measured_rows}
+use Rattle.comfy_table.specs.Widths.{shown_count}
 use Rattle.comfy_table.specs.Arrangement.{IsArranged}
 
 -- ---- columns
@@ -45,10 +45,10 @@ ArePiecesCounted table row p = All (HasCount (info_width p.1)) (pieces_at (unsty
 
 -- the pieces of a plain cell are as wide as the column, and so is the blank_piece of a missing one
 pieces-counted : (table : TableValue) (row : RowValue) (p : ℕ × ColumnInfo) → IsUtf8 table.indicator → 1 ≤ p.1.content_width
-    → ((cell : CellValue) → slice_get row.cells p.0 ≡ Some cell → IsPlainCell table p.1.delimiter cell) → AddsOneColumnEachWhereWritten table row p → ArePiecesCounted table row p
+    → ((cell : CellValue) → slice_get row.cells p.0 ≡ Some cell → IsPrintableCell table p.1.delimiter cell) → AddsOneColumnEachWhereWritten table row p → ArePiecesCounted table row p
 pieces-counted table row p utf8 places plain even =
     All-pieces (HasCount (info_width p.1)) table row p (HasCount-spaces (info_width p.1))
-    (λ cell found. All-weaker (IsCountedLine p.1.content_width) (λ line. HasCount (info_width p.1) (plain_piece cell p.1 line)) (HasCount-plain_piece cell p.1) (seen_in_row table row p.1 cell)
+    (λ cell found. All-weaker (IsCountedLine p.1.content_width) (λ line. HasCount (info_width p.1) (unstyled_piece cell p.1 line)) (HasCount-unstyled_piece cell p.1) (measured_in_row table row p.1 cell)
     (row_cell_lines-counted table row p.1 cell places utf8 (plain cell found) (λ h. even cell h found)))
 
 -- ---- the drawing
@@ -88,14 +88,14 @@ module _ (table : TableValue) (infos : List ColumnInfo) where
   total_of = border_count table.style (length (whole_widths infos)) + sum (whole_widths infos)
 
   -- each line of a row has them
-  row_counted : (line : ContentLineStyle) (row : RowValue) → All (ArePiecesCounted table row) (visible_infos infos) → All (HasCount total_of) (drawn_row (unstyled table) infos line row)
+  row_counted : (line : ContentLineStyle) (row : RowValue) → All (ArePiecesCounted table row) (shown_infos infos) → All (HasCount total_of) (drawn_row (unstyled table) infos line row)
   row_counted line row each =
       All-row (HasCount total_of) (unstyled table) infos line row
       (λ k.
       HasCount-joined table.style line.left line.junction line.right (whole_widths infos) (row_line (unstyled table) infos row k)
-      (AllZip-map HasCount (λ (p : ℕ × ColumnInfo). info_width p.1) (λ (p : ℕ × ColumnInfo). slice_index_or (pieces_at (unstyled table) row p) k (blank_piece p.1)) (visible_infos infos)
+      (AllZip-map HasCount (λ (p : ℕ × ColumnInfo). info_width p.1) (λ (p : ℕ × ColumnInfo). slice_index_or (pieces_at (unstyled table) row p) k (blank_piece p.1)) (shown_infos infos)
       (All-weaker (ArePiecesCounted table row) (λ (p : ℕ × ColumnInfo). HasCount (info_width p.1) (slice_index_or (pieces_at (unstyled table) row p) k (blank_piece p.1)))
-      (λ p counted. At-or (HasCount (info_width p.1)) (pieces_at (unstyled table) row p) k (blank_piece p.1) counted (HasCount-spaces (info_width p.1))) (visible_infos infos) each)))
+      (λ p counted. At-or (HasCount (info_width p.1)) (pieces_at (unstyled table) row p) k (blank_piece p.1) counted (HasCount-spaces (info_width p.1))) (shown_infos infos) each)))
 
   -- a frame line that is drawn has them
   frame_counted : (line : LineStyle) → All (HasCount total_of) (optional_frame_line table.style line (whole_widths infos))
@@ -106,22 +106,22 @@ module _ (table : TableValue) (infos : List ColumnInfo) where
       (λ _. All-nil (HasCount total_of))
 
   -- all lines have them
-  drawing_counted : All (λ row. All (ArePiecesCounted table row) (visible_infos infos)) (seen_rows table) → All (HasCount total_of) (drawing_of_infos (unstyled table) infos)
+  drawing_counted : All (λ row. All (ArePiecesCounted table row) (shown_infos infos)) (measured_rows table) → All (HasCount total_of) (drawing_of_infos (unstyled table) infos)
   drawing_counted each =
-      All-drawing (HasCount total_of) (unstyled table) infos (λ row. All (ArePiecesCounted table row) (visible_infos infos))
+      All-drawing (HasCount total_of) (unstyled table) infos (λ row. All (ArePiecesCounted table row) (shown_infos infos))
       (frame_counted table.style.top_border) (frame_counted table.style.header_separator) (frame_counted table.style.row_separator) (frame_counted table.style.bottom_border)
       (row_counted table.style.header_lines) (row_counted table.style.content_lines) each
 
 -- all lines, frame lines too, have the same count, whatever the arrangement and the constraints; an indicator that ends inside a character would swallow what follows it
 abbrev pub EqualCounts : TableValue → List ℕ → Type 0
 EqualCounts table widths =
-    IsUtf8 table.indicator → IsPlainTable table widths → IsArranged table widths → All (λ line. count line ≡ line_total table widths) (drawing (unstyled table) widths)
+    IsUtf8 table.indicator → IsPrintableTable table widths → IsArranged table widths → All (λ line. count line ≡ line_total table widths) (drawing (unstyled table) widths)
 
 -- all lines of a plain table have the same count
 pub equal_counts : (table : TableValue) (widths : List ℕ) → EqualCounts table widths
 equal_counts table widths utf8 plain arranged =
-    let columns : length (whole_widths infos) ≡ visible_count table =
-    length-map (visible_infos infos) _ ∙ length-infos_from 0 table.columns widths arranged.one_for_each in
+    let columns : length (whole_widths infos) ≡ shown_count table =
+    length-map (shown_infos infos) _ ∙ length-infos_from 0 table.columns widths arranged.one_for_each in
     All-weaker (HasCount (total_of table infos)) (λ line. count line ≡ line_total table widths) (λ line has. count-is _ line has ∙ ap (λ n. border_count table.style n + sum (whole_widths infos)) columns) (drawing (unstyled table) widths)
     (drawing_counted table infos each)
   where
@@ -129,15 +129,15 @@ equal_counts table widths utf8 plain arranged =
     infos = infos_of table widths
 
     Known : ℕ → Option ℕ → Type 0
-    Known i delimiter = All (IsPlainCell table delimiter) (column_cells table i)
+    Known i delimiter = All (IsPrintableCell table delimiter) (column_cells table i)
 
-    known : All (IsKnownInfo Known) (visible_infos infos)
+    known : All (IsKnownInfo Known) (shown_infos infos)
     known =
-        infos-known table widths (λ (p : ℕ × ColumnValue). Known p.0 p.1.delimiter) (IsKnownInfo Known) arranged.one_for_each plain.plain_cells
+        infos-known table widths (λ (p : ℕ × ColumnValue). Known p.0 p.1.delimiter) (IsKnownInfo Known) arranged.one_for_each plain.printable_cells
         (λ i column w is. record { places = omega arith; known = is })
 
-    each : All (λ row. All (ArePiecesCounted table row) (visible_infos infos)) (seen_rows table)
+    each : All (λ row. All (ArePiecesCounted table row) (shown_infos infos)) (measured_rows table)
     each k default below j other low =
-        pieces-counted table (slice_index_or (seen_rows table) k default) (slice_index_or (visible_infos infos) j other) utf8 (known j other low).places
-        (All-given (IsPlainCell table (slice_index_or (visible_infos infos) j other).1.delimiter) (λ (row : RowValue). slice_get row.cells (slice_index_or (visible_infos infos) j other).0) (seen_rows table) (known j other low).known k default below)
+        pieces-counted table (slice_index_or (measured_rows table) k default) (slice_index_or (shown_infos infos) j other) utf8 (known j other low).places
+        (All-given (IsPrintableCell table (slice_index_or (shown_infos infos) j other).1.delimiter) (λ (row : RowValue). slice_get row.cells (slice_index_or (shown_infos infos) j other).0) (measured_rows table) (known j other low).known k default below)
         (plain.indicator_adds_one_column_each k default below j other low)

@@ -12,9 +12,9 @@ use Rattle.comfy_table.specs.Drawing.{infos_of}
 use Rattle.comfy_table.specs.FittingTables.{CharactersFitColumn, FitsByCharacters, FittingTablesAreStraight}
 use Rattle.comfy_table.specs.Headline.{IsTableDrawing}
 use Rattle.comfy_table.specs.Lines.{cell_delimiter}
-use Rattle.comfy_table.specs.Pieces.{visible_infos}
+use Rattle.comfy_table.specs.Pieces.{shown_infos}
 use Rattle.comfy_table.specs.Straight.{EachCell, IsStraightTable, TextsFit}
-use Rattle.comfy_table.specs.TableValue.{TableValue, seen_rows}
+use Rattle.comfy_table.specs.TableValue.{TableValue, measured_rows}
 
 pub fitting_tables_are_straight : (table : TableValue) (lines : List Text) → FittingTablesAreStraight table lines
 fitting_tables_are_straight table lines drawing characters apart each =
@@ -22,8 +22,8 @@ fitting_tables_are_straight table lines drawing characters apart each =
   where
     fits : EachCell (TextsFit table) table drawing.widths
     fits k default under j other below cell found =
-        let row = slice_index_or (seen_rows table) k default in
-        let p = slice_index_or (visible_infos (infos_of table drawing.widths)) j other in
+        let row = slice_index_or (measured_rows table) k default in
+        let p = slice_index_or (shown_infos (infos_of table drawing.widths)) j other in
         let own : FitsByCharacters table row p.1 cell = each k default under j other below cell found in
         let whole = All-at (λ (c : CellValue). All IsUtf8 c.text_lines) row.cells p.0 cell (drawing.whole_texts k default under) found in
         record {
@@ -48,8 +48,8 @@ built_of_fitting_is_straight base plain no_delimiter table known lines drawing c
   where
     fits : EachCell (FitsByCharacters table) table drawing.widths
     fits k default under j other below cell found =
-        let row = slice_index_or (seen_rows table) k default in
-        let p = slice_index_or (visible_infos (infos_of table drawing.widths)) j other in
+        let row = slice_index_or (measured_rows table) k default in
+        let p = slice_index_or (shown_infos (infos_of table drawing.widths)) j other in
         let of_row = rows_known base plain IsDefaultRow table known k default under in
         let of_cell = All-at (λ (c : CellValue). c.delimiter ≡ None) row.cells p.0 cell of_row.no_delimiters found in
         let of_column : p.1.delimiter ≡ None =

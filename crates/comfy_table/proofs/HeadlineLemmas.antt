@@ -9,7 +9,7 @@ use Rattle.comfy_parts.proofs.Computing.{wrapping}
 use Rattle.comfy_parts.proofs.CallerLemmas.{All-at, All-every, All-of_map, one_character, wrapped_is_wrapped}
 use Rattle.comfy_table.proofs.BreakLemmas.{without_breaks}
 use Rattle.comfy_table.proofs.ClosedLineLemmas.{lines_are_closed}
-use Rattle.comfy_table.proofs.SeenLemmas.{HasCells, IsRowOf, rows_of, seen_kept}
+use Rattle.comfy_table.proofs.MeasuredLemmas.{HasCells, IsRowOf, rows_of, measured_kept}
 use Rattle.comfy_parts.specs.CellValue.{CellValue, ColumnInfo, ColumnValue, IsCell, IsColumn, IsDelimiter, IsRow, RowValue, info_of}
 use Rattle.comfy_parts.specs.Text.{Text, measure}
 use Rattle.comfy_table.proofs.DrawnWidthLemmas.{fills_width, keeps_to_width}
@@ -27,9 +27,9 @@ use Rattle.comfy_table.proofs.UnstyledLemmas.{unstyled_drawing}
 use Rattle.comfy_table.specs.Drawing.{drawing, drawing_of_infos, infos_of}
 use Rattle.comfy_table.specs.Headline.{EachLineCounts, IsClosedInRow, IsCutClosedInRow, IsResumedInRow, IsCutIntoSlices, IsTableDrawing, IsTextOrSlices}
 use Rattle.comfy_table.specs.Laws.{HasNoBreak, IsFreeOfEscapes, LeavesNoneOpen, count, least_total, line_total, unstyled}
-use Rattle.comfy_table.specs.Pieces.{visible_infos}
+use Rattle.comfy_table.specs.Pieces.{shown_infos}
 use Rattle.comfy_table.specs.TableLaws.{wider_total}
-use Rattle.comfy_table.specs.TableValue.{KeepsParts, TableValue, ellipsis, header_and_rows, indicator_of, seen_rows}
+use Rattle.comfy_table.specs.TableValue.{KeepsParts, TableValue, ellipsis, header_and_rows, indicator_of, measured_rows}
 
 -- the lines of a text are the text, or slices of it
 text_or_slices : (w d : ℕ) (text : Text) → IsScalar d → IsUtf8 text → IsTextOrSlices w d text
@@ -55,7 +55,7 @@ row_slices table row p whole cell is = grind (arith, text_or_slices)
 all_rows : (table : TableValue) → KeepsParts table → All IsRow (header_and_rows table)
 all_rows table kept = grind arith
 
--- the visible columns are drawn with the delimiters of the table's columns
+-- the shown columns are drawn with the delimiters of the table's columns
 info_delimiters : (n : ℕ) (columns : List ColumnValue) (widths : List ℕ) → All IsColumn columns
     → All (λ (p : ℕ × ColumnInfo). IsDelimiter p.1.delimiter) (enumerate_from n (map (λ (p : ColumnValue × ℕ). info_of p.0 p.1) (zip columns widths)))
 info_delimiters n [] widths kept = All-nil (λ (p : ℕ × ColumnInfo). IsDelimiter p.1.delimiter)
@@ -69,7 +69,7 @@ each_line_counts : (P : ℕ → Type 0) (table : TableValue) (widths : List ℕ)
 each_line_counts P table widths utf8 cells arranged meets =
     record {
       frame_lines = λ line. subst P (sym (frame_counts table widths line arranged.one_for_each)) meets;
-      plain_lines = λ plain. All-weaker (λ line. count line ≡ line_total table widths) (λ line. P (count line)) (λ line is. subst P (sym is) meets) (drawing (unstyled table) widths) (equal_counts table widths utf8 plain arranged);
+      printable_lines = λ plain. All-weaker (λ line. count line ≡ line_total table widths) (λ line. P (count line)) (λ line is. subst P (sym is) meets) (drawing (unstyled table) widths) (equal_counts table widths utf8 plain arranged);
       straight_lines = λ is. All-weaker (λ line. measure line ≡ line_total table widths) (λ line. P (measure line)) (λ line same. subst P (sym same) meets) (drawing (unstyled table) widths) (straight table widths utf8 cells arranged is);
     }
 
@@ -77,35 +77,35 @@ each_line_counts P table widths utf8 cells arranged meets =
 pub table_drawing : (table : TableValue) (infos : List ColumnInfo) (lines : List Text) → IsUtf8 table.indicator → KeepsParts table → AreInfosOf table infos → lines ≡ drawing_of_infos table infos → IsTableDrawing table lines
 table_drawing table infos lines utf8 kept (widths, arranged, is) drawn =
     let whole = drawn ∙ ap (drawing_of_infos table) is in
-    let rows : All HasCells (seen_rows table) = seen_kept table (All-weaker IsRow HasCells (λ row own. own.cells) (header_and_rows table) (all_rows table kept)) in
-    let texts : All (IsRowOf IsUtf8) (seen_rows table) = rows_of IsUtf8 (λ texts own. own.whole) (seen_rows table) rows in
-    let delimiters : All (λ (p : ℕ × ColumnInfo). IsDelimiter p.1.delimiter) (visible_infos (infos_of table widths)) =
+    let rows : All HasCells (measured_rows table) = measured_kept table (All-weaker IsRow HasCells (λ row own. own.cells) (header_and_rows table) (all_rows table kept)) in
+    let texts : All (IsRowOf IsUtf8) (measured_rows table) = rows_of IsUtf8 (λ texts own. own.whole) (measured_rows table) rows in
+    let delimiters : All (λ (p : ℕ × ColumnInfo). IsDelimiter p.1.delimiter) (shown_infos (infos_of table widths)) =
     All-filter (λ (p : ℕ × ColumnInfo). not p.1.is_hidden) (λ (p : ℕ × ColumnInfo). IsDelimiter p.1.delimiter) _ (info_delimiters 0 table.columns widths kept.columns) in
     let cells : EachCell (IsWholeCell table) table widths =
-    All-weaker HasCells (λ (row : RowValue). All (λ (p : ℕ × ColumnInfo). (cell : CellValue) → slice_get row.cells p.0 ≡ Some cell → IsWholeCell table row p.1 cell) (visible_infos (infos_of table widths)))
+    All-weaker HasCells (λ (row : RowValue). All (λ (p : ℕ × ColumnInfo). (cell : CellValue) → slice_get row.cells p.0 ≡ Some cell → IsWholeCell table row p.1 cell) (shown_infos (infos_of table widths)))
     (λ row each. All-weaker (λ (p : ℕ × ColumnInfo). IsDelimiter p.1.delimiter) (λ (p : ℕ × ColumnInfo). (cell : CellValue) → slice_get row.cells p.0 ≡ Some cell → IsWholeCell table row p.1 cell)
-    (whole_cell table row kept.delimiter each) (visible_infos (infos_of table widths)) delimiters)
-    (seen_rows table) rows in
+    (whole_cell table row kept.delimiter each) (shown_infos (infos_of table widths)) delimiters)
+    (measured_rows table) rows in
     let free_lines = λ (free : IsFreeOfEscapes table). ap (map visible_text) whole ∙ styling_taken_out table widths texts free in
     record {
       widths = widths;
       arranged = arranged;
       drawn = whole;
       whole_texts = texts;
-      slices = λ k default under j other below. row_slices table (slice_index_or (seen_rows table) k default) (slice_index_or (visible_infos (infos_of table widths)) j other) (cells k default under j other below);
+      slices = λ k default under j other below. row_slices table (slice_index_or (measured_rows table) k default) (slice_index_or (shown_infos (infos_of table widths)) j other) (cells k default under j other below);
       unstyled_lines = λ off plain. whole ∙ sym (unstyled_drawing table (infos_of table widths) off plain);
       equal_counts = λ plain. equal_counts table widths utf8 plain arranged;
       straight = straight table widths utf8 cells arranged;
       without_sequences = free_lines;
       straight_without_sequences = λ free is. All-of_map (λ text. measure text ≡ line_total table widths) visible_text lines
           (subst (All (λ text. measure text ≡ line_total table widths)) (sym (free_lines free)) (straight table widths utf8 cells arranged is));
-      without_breaks = λ style. subst (All HasNoBreak) (sym whole) (without_breaks table widths texts (rows_of HasNoBreak (λ texts own. own.no_breaks) (seen_rows table) rows) style);
-      closed = λ on. All-every (λ (row : RowValue). All (IsClosedInRow table row) (visible_infos (infos_of table widths))) (header_and_rows table)
-          (λ row. All-every (IsClosedInRow table row) (visible_infos (infos_of table widths)) (λ p cell is. none_is_open_at_the_end table row p.1 cell on));
-      resumed = λ on. All-every (λ (row : RowValue). All (IsResumedInRow table row) (visible_infos (infos_of table widths))) (header_and_rows table)
-          (λ row. All-every (IsResumedInRow table row) (visible_infos (infos_of table widths)) (λ p cell is. lines_are_resumed table row p.1 cell on));
-      cut_closed = λ on. All-every (λ (row : RowValue). All (IsCutClosedInRow table row) (visible_infos (infos_of table widths))) (header_and_rows table)
-          (λ row. All-every (IsCutClosedInRow table row) (visible_infos (infos_of table widths)) (λ p cell is. cut_lines_are_closed table row p.1 cell on));
+      without_breaks = λ style. subst (All HasNoBreak) (sym whole) (without_breaks table widths texts (rows_of HasNoBreak (λ texts own. own.no_breaks) (measured_rows table) rows) style);
+      closed = λ on. All-every (λ (row : RowValue). All (IsClosedInRow table row) (shown_infos (infos_of table widths))) (header_and_rows table)
+          (λ row. All-every (IsClosedInRow table row) (shown_infos (infos_of table widths)) (λ p cell is. none_is_open_at_the_end table row p.1 cell on));
+      resumed = λ on. All-every (λ (row : RowValue). All (IsResumedInRow table row) (shown_infos (infos_of table widths))) (header_and_rows table)
+          (λ row. All-every (IsResumedInRow table row) (shown_infos (infos_of table widths)) (λ p cell is. lines_are_resumed table row p.1 cell on));
+      cut_closed = λ on. All-every (λ (row : RowValue). All (IsCutClosedInRow table row) (shown_infos (infos_of table widths))) (header_and_rows table)
+          (λ row. All-every (IsCutClosedInRow table row) (shown_infos (infos_of table widths)) (λ p cell is. cut_lines_are_closed table row p.1 cell on));
       closed_lines = λ on alone. subst (All LeavesNoneOpen) (sym whole) (lines_are_closed table widths arranged.one_for_each on alone texts);
       frame_counts = λ line. frame_counts table widths line arranged.one_for_each;
       keeps_to_width = λ w none dynamic known. each_line_counts (λ n. n ≤ max w (least_total table)) table widths utf8 cells arranged (keeps_to_width table w widths none dynamic known arranged);

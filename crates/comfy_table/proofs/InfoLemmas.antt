@@ -1,4 +1,4 @@
--- What is known of the visible columns is known of them as they are drawn.
+-- What is known of the shown columns is known of them as they are drawn.
 use Rattle.std.proofs.Common.{◌≡◌, ℕ, ◌+◌, Bool, true, false, not, cond, List, [], ◌∷◌, ◌++◌, length, map, refl, sym, ap, ◌∙◌, arith, append_assoc, length-append}
 use Rattle.std.specs.List.{All, enumerate_from, filter}
 use Rattle.std.specs.Prelude.{slice_index, zip}
@@ -6,8 +6,8 @@ use Rattle.std.proofs.Math.Seq.{get_or-append_seam}
 use Rattle.std.proofs.lemmas.List.Elements.{All-cons, All-nil, All-head, All-tail}
 use Rattle.comfy_parts.specs.CellValue.{ColumnInfo, ColumnValue, info_of, is_hidden_column}
 use Rattle.comfy_table.specs.Drawing.{infos_of}
-use Rattle.comfy_table.specs.Pieces.{visible_infos}
-use Rattle.comfy_table.specs.TableValue.{TableValue, visible_columns}
+use Rattle.comfy_table.specs.Pieces.{shown_infos}
+use Rattle.comfy_table.specs.TableValue.{TableValue, shown_columns}
 
 -- the visible ones of some columns that begin at position n
 abbrev pub columns_from : ℕ → List ColumnValue → List (ℕ × ColumnValue)
@@ -40,11 +40,11 @@ module _ (all : List ℕ) (Known : ℕ × ColumnValue → Type 0) (Holds : ℕ �
           (rest (All-tail Known (n, column) (columns_from (n + 1) columns) each))
 
 -- with the width at its position
-pub infos-at : (table : TableValue) (widths : List ℕ) (Known : ℕ × ColumnValue → Type 0) (Holds : ℕ × ColumnInfo → Type 0) → All Known (visible_columns table)
-    → ((i : ℕ) (column : ColumnValue) (w : ℕ) → w ≡ slice_index widths i → Known (i, column) → Holds (i, info_of column w)) → All Holds (visible_infos (infos_of table widths))
+pub infos-at : (table : TableValue) (widths : List ℕ) (Known : ℕ × ColumnValue → Type 0) (Holds : ℕ × ColumnInfo → Type 0) → All Known (shown_columns table)
+    → ((i : ℕ) (column : ColumnValue) (w : ℕ) → w ≡ slice_index widths i → Known (i, column) → Holds (i, info_of column w)) → All Holds (shown_infos (infos_of table widths))
 infos-at table widths Known Holds each gives = from widths Known Holds gives [] 0 table.columns widths refl refl each
 
 -- whatever its width
-pub infos-known : (table : TableValue) (widths : List ℕ) (Known : ℕ × ColumnValue → Type 0) (Holds : ℕ × ColumnInfo → Type 0) → length widths ≡ length table.columns → All Known (visible_columns table)
-    → ((i : ℕ) (column : ColumnValue) (w : ℕ) → Known (i, column) → Holds (i, info_of column w)) → All Holds (visible_infos (infos_of table widths))
+pub infos-known : (table : TableValue) (widths : List ℕ) (Known : ℕ × ColumnValue → Type 0) (Holds : ℕ × ColumnInfo → Type 0) → length widths ≡ length table.columns → All Known (shown_columns table)
+    → ((i : ℕ) (column : ColumnValue) (w : ℕ) → Known (i, column) → Holds (i, info_of column w)) → All Holds (shown_infos (infos_of table widths))
 infos-known table widths Known Holds same each gives = infos-at table widths Known Holds each (λ i column w at known. gives i column w known)

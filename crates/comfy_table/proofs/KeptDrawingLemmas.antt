@@ -13,18 +13,18 @@ use Rattle.comfy_parts.specs.declared.style.table_style.ContentLineStyle.{Conten
 use Rattle.comfy_parts.specs.declared.style.table_style.LineStyle.{LineStyle}
 use Rattle.comfy_parts.specs.declared.style.table_style.TableStyle.{TableStyle}
 use Rattle.comfy_table.proofs.AbsentByteLemmas.{HasNo-character}
-use Rattle.comfy_table.proofs.CutLemmas.{pieces-unstyled, plain_piece, row-seen}
+use Rattle.comfy_table.proofs.CutLemmas.{pieces-unstyled, unstyled_piece, row-measured}
 use Rattle.std.proofs.lemmas.Simd.{map-map}
 use Rattle.comfy_parts.proofs.CallerLemmas.{All-at, All-every, All-none, All-of_map, All-others, AllZip-append, AllZip-join_by, AllZip-map, AllZip-map_map, At-or-both, join_by-map}
-use Rattle.comfy_table.proofs.SeenLemmas.{IsRowOf, cell_seen, get_seen, header_seen, row_seen, rows_seen, seen_rows-is}
+use Rattle.comfy_table.proofs.MeasuredLemmas.{IsRowOf, cell_measured, get_measured, header_measured, row_measured, rows_measured, measured_rows-is}
 use Rattle.comfy_table.proofs.StyledLemmas.{KeptByDrawing, KeptByJoining, keeps_nothing, keeps_piece, keeps_spaces}
 use Rattle.comfy_table.proofs.WrittenLemmas.{keeps_lines}
 use Rattle.comfy_table.specs.Drawing.{whole_widths, drawn_row, drawn_header, drawn_rows, drawing_of_infos}
 use Rattle.comfy_table.specs.Frame.{character, between_borders, content_line, is_drawn, optional_frame_line, draws_left_border, draws_right_border, draws_vertical_lines}
 use Rattle.comfy_table.specs.Laws.{unstyled, HasStyleWithout}
 use Rattle.comfy_parts.specs.VisibleLines.{CellLine}
-use Rattle.comfy_table.specs.Pieces.{cell_pieces, blank_piece, pieces_of_optional, pieces_at, piece, row_cell_lines, row_line, row_height, visible_infos}
-use Rattle.comfy_table.specs.TableValue.{TableValue, header_and_rows, seen_rows}
+use Rattle.comfy_table.specs.Pieces.{cell_pieces, blank_piece, pieces_of_optional, pieces_at, piece, row_cell_lines, row_line, row_height, shown_infos}
+use Rattle.comfy_table.specs.TableValue.{TableValue, header_and_rows, measured_rows}
 
 -- ---- styles
 
@@ -128,101 +128,101 @@ module _ (b : ℕ) (R : Text → Text → Type 0) (joins : KeptByJoining b R) wh
 module _ (b : ℕ) (R : Text → Text → Type 0) (kept : KeptByDrawing b R) where
   -- ---- rows
 
-  -- the pieces of a cell, and the unstyled ones of the cell as it is seen
-  cell_pieces_kept : (table : TableValue) (row : RowValue) (info : ColumnInfo) (cell : CellValue) → HasNo b table.indicator → All IsUtf8 (cell_seen table.custom_styling cell).text_lines → All (HasNo b) (cell_seen table.custom_styling cell).text_lines
-      → AllZip R (cell_pieces (unstyled table) row info (cell_seen table.custom_styling cell)) (cell_pieces table row info cell)
+  -- the pieces of a cell, and the unstyled ones of the cell as it is measured
+  cell_pieces_kept : (table : TableValue) (row : RowValue) (info : ColumnInfo) (cell : CellValue) → HasNo b table.indicator → All IsUtf8 (cell_measured table.custom_styling cell).text_lines → All (HasNo b) (cell_measured table.custom_styling cell).text_lines
+      → AllZip R (cell_pieces (unstyled table) row info (cell_measured table.custom_styling cell)) (cell_pieces table row info cell)
   cell_pieces_kept table row info cell mark whole clear =
       subst (λ (pieces : List Text). AllZip R pieces (cell_pieces table row info cell)) (sym same)
-      (AllZip-map R (λ (line : CellLine). plain_piece cell info line.seen) (piece table cell info) lines
-      (All-weaker (λ (line : CellLine). R line.seen line.written) (λ (line : CellLine). R (plain_piece cell info line.seen) (piece table cell info line)) (keeps_piece b R kept table cell info) lines
+      (AllZip-map R (λ (line : CellLine). unstyled_piece cell info line.measured) (piece table cell info) lines
+      (All-weaker (λ (line : CellLine). R line.measured line.written) (λ (line : CellLine). R (unstyled_piece cell info line.measured) (piece table cell info line)) (keeps_piece b R kept table cell info) lines
       (keeps_lines table row info cell b R kept table.custom_styling mark whole clear)))
     where
       lines : List CellLine
       lines = row_cell_lines table row info cell
 
-      same : cell_pieces (unstyled table) row info (cell_seen table.custom_styling cell) ≡ map (λ (line : CellLine). plain_piece cell info line.seen) lines
+      same : cell_pieces (unstyled table) row info (cell_measured table.custom_styling cell) ≡ map (λ (line : CellLine). unstyled_piece cell info line.measured) lines
       same =
-          pieces-unstyled table row info (cell_seen table.custom_styling cell) ∙ ap (map (plain_piece cell info)) (sym (row-seen table row info cell)) ∙ map-map (plain_piece cell info) (λ (line : CellLine). line.seen) lines
+          pieces-unstyled table row info (cell_measured table.custom_styling cell) ∙ ap (map (unstyled_piece cell info)) (sym (row-measured table row info cell)) ∙ map-map (unstyled_piece cell info) (λ (line : CellLine). line.measured) lines
 
   -- the pieces in a column
-  pieces_kept : (table : TableValue) (row : RowValue) (p : ℕ × ColumnInfo) → HasNo b table.indicator → IsClearRow b (row_seen table.custom_styling row)
-      → AllZip R (pieces_at (unstyled table) (row_seen table.custom_styling row) p) (pieces_at table row p)
+  pieces_kept : (table : TableValue) (row : RowValue) (p : ℕ × ColumnInfo) → HasNo b table.indicator → IsClearRow b (row_measured table.custom_styling row)
+      → AllZip R (pieces_at (unstyled table) (row_measured table.custom_styling row) p) (pieces_at table row p)
   pieces_kept table row p mark cells =
-      subst (λ (o : Option CellValue). AllZip R (pieces_of_optional (unstyled table) (row_seen table.custom_styling row) p.1 o) (pieces_at table row p)) (sym (get_seen table.custom_styling row.cells p.0))
-      (by_option (slice_get row.cells p.0) (get_seen table.custom_styling row.cells p.0))
+      subst (λ (o : Option CellValue). AllZip R (pieces_of_optional (unstyled table) (row_measured table.custom_styling row) p.1 o) (pieces_at table row p)) (sym (get_measured table.custom_styling row.cells p.0))
+      (by_option (slice_get row.cells p.0) (get_measured table.custom_styling row.cells p.0))
     where
-      by_option : (o : Option CellValue) → slice_get (row_seen table.custom_styling row).cells p.0 ≡ option_map (cell_seen table.custom_styling) o
-          → AllZip R (pieces_of_optional (unstyled table) (row_seen table.custom_styling row) p.1 (option_map (cell_seen table.custom_styling) o)) (pieces_of_optional table row p.1 o)
+      by_option : (o : Option CellValue) → slice_get (row_measured table.custom_styling row).cells p.0 ≡ option_map (cell_measured table.custom_styling) o
+          → AllZip R (pieces_of_optional (unstyled table) (row_measured table.custom_styling row) p.1 (option_map (cell_measured table.custom_styling) o)) (pieces_of_optional table row p.1 o)
       by_option None none = (keeps_spaces b R kept.joins (info_width p.1), tt)
       by_option (Some cell) found =
           cell_pieces_kept table row p.1 cell mark
-          (All-at (λ (cell : CellValue). All IsUtf8 cell.text_lines) (row_seen table.custom_styling row).cells p.0 (cell_seen table.custom_styling cell) cells.whole found)
-          (All-at (λ (cell : CellValue). All (HasNo b) cell.text_lines) (row_seen table.custom_styling row).cells p.0 (cell_seen table.custom_styling cell) cells.clear found)
+          (All-at (λ (cell : CellValue). All IsUtf8 cell.text_lines) (row_measured table.custom_styling row).cells p.0 (cell_measured table.custom_styling cell) cells.whole found)
+          (All-at (λ (cell : CellValue). All (HasNo b) cell.text_lines) (row_measured table.custom_styling row).cells p.0 (cell_measured table.custom_styling cell) cells.clear found)
 
   module _ (table : TableValue) (infos : List ColumnInfo) (mark : HasNo b table.indicator) where
-    -- a row as it is seen
-    abbrev seen : RowValue → RowValue
-    seen row = row_seen table.custom_styling row
+    -- a row as it is measured
+    abbrev measured : RowValue → RowValue
+    measured row = row_measured table.custom_styling row
 
     -- styling changes no height
-    row_height-unstyled : (row : RowValue) → IsClearRow b (seen row) → row_height (unstyled table) infos (seen row) ≡ row_height table infos row
-    row_height-unstyled row cells = λ i. greatest (map (λ (p : ℕ × ColumnInfo). at p i) (visible_infos infos))
+    row_height-unstyled : (row : RowValue) → IsClearRow b (measured row) → row_height (unstyled table) infos (measured row) ≡ row_height table infos row
+    row_height-unstyled row cells = λ i. greatest (map (λ (p : ℕ × ColumnInfo). at p i) (shown_infos infos))
       where
-        at : (p : ℕ × ColumnInfo) → length (pieces_at (unstyled table) (seen row) p) ≡ length (pieces_at table row p)
-        at p = sym (AllZip-long R (pieces_at (unstyled table) (seen row) p) (pieces_at table row p) (pieces_kept table row p mark cells))
+        at : (p : ℕ × ColumnInfo) → length (pieces_at (unstyled table) (measured row) p) ≡ length (pieces_at table row p)
+        at p = sym (AllZip-long R (pieces_at (unstyled table) (measured row) p) (pieces_at table row p) (pieces_kept table row p mark cells))
 
     -- the lines of a row, and the unstyled ones
-    row_kept : (line : ContentLineStyle) (row : RowValue) → IsClearContent b line → IsClearRow b (seen row) → AllZip R (drawn_row (unstyled table) infos line (seen row)) (drawn_row table infos line row)
+    row_kept : (line : ContentLineStyle) (row : RowValue) → IsClearContent b line → IsClearRow b (measured row) → AllZip R (drawn_row (unstyled table) infos line (measured row)) (drawn_row table infos line row)
     row_kept line row clear cells =
-        subst (λ h. AllZip R (map (content_line table.style line) (map (row_line (unstyled table) infos (seen row)) (range_with_len 0 h))) (drawn_row table infos line row)) (sym (row_height-unstyled row cells))
-        (AllZip-map_map R (content_line table.style line) (row_line (unstyled table) infos (seen row)) (row_line table infos row) (range_with_len 0 (row_height table infos row)) at)
+        subst (λ h. AllZip R (map (content_line table.style line) (map (row_line (unstyled table) infos (measured row)) (range_with_len 0 h))) (drawn_row table infos line row)) (sym (row_height-unstyled row cells))
+        (AllZip-map_map R (content_line table.style line) (row_line (unstyled table) infos (measured row)) (row_line table infos row) (range_with_len 0 (row_height table infos row)) at)
       where
-        at : (k : ℕ) → R (content_line table.style line (row_line (unstyled table) infos (seen row) k)) (content_line table.style line (row_line table infos row k))
+        at : (k : ℕ) → R (content_line table.style line (row_line (unstyled table) infos (measured row) k)) (content_line table.style line (row_line table infos row k))
         at k =
-            keeps_joined b R kept.joins table.style line.left line.junction line.right (row_line (unstyled table) infos (seen row) k) (row_line table infos row k) clear.left clear.junction clear.right
-            (AllZip-map R (λ (p : ℕ × ColumnInfo). slice_index_or (pieces_at (unstyled table) (seen row) p) k (blank_piece p.1)) (λ (p : ℕ × ColumnInfo). slice_index_or (pieces_at table row p) k (blank_piece p.1)) (visible_infos infos)
-            (All-every (λ (p : ℕ × ColumnInfo). R (slice_index_or (pieces_at (unstyled table) (seen row) p) k (blank_piece p.1)) (slice_index_or (pieces_at table row p) k (blank_piece p.1))) (visible_infos infos)
-            (λ p. At-or-both R (pieces_at (unstyled table) (seen row) p) (pieces_at table row p) k (blank_piece p.1) (blank_piece p.1) (pieces_kept table row p mark cells) (keeps_spaces b R kept.joins (info_width p.1)))))
+            keeps_joined b R kept.joins table.style line.left line.junction line.right (row_line (unstyled table) infos (measured row) k) (row_line table infos row k) clear.left clear.junction clear.right
+            (AllZip-map R (λ (p : ℕ × ColumnInfo). slice_index_or (pieces_at (unstyled table) (measured row) p) k (blank_piece p.1)) (λ (p : ℕ × ColumnInfo). slice_index_or (pieces_at table row p) k (blank_piece p.1)) (shown_infos infos)
+            (All-every (λ (p : ℕ × ColumnInfo). R (slice_index_or (pieces_at (unstyled table) (measured row) p) k (blank_piece p.1)) (slice_index_or (pieces_at table row p) k (blank_piece p.1))) (shown_infos infos)
+            (λ p. At-or-both R (pieces_at (unstyled table) (measured row) p) (pieces_at table row p) k (blank_piece p.1) (blank_piece p.1) (pieces_kept table row p mark cells) (keeps_spaces b R kept.joins (info_width p.1)))))
 
     -- ---- the drawing
 
     -- all lines, and the unstyled ones
-    drawing_kept : IsClearStyle b table.style → All (λ (row : RowValue). IsClearRow b (seen row)) (header_and_rows table) → AllZip R (drawing_of_infos (unstyled table) infos) (drawing_of_infos table infos)
+    drawing_kept : IsClearStyle b table.style → All (λ (row : RowValue). IsClearRow b (measured row)) (header_and_rows table) → AllZip R (drawing_of_infos (unstyled table) infos) (drawing_of_infos table infos)
     drawing_kept style each =
         AllZip-append R (optional_frame_line table.style table.style.top_border (whole_widths infos)) _ (optional_frame_line table.style table.style.top_border (whole_widths infos)) _
         (frame_kept b R kept.joins table.style table.style.top_border (whole_widths infos) style.top_border)
         (AllZip-append R (drawn_header (unstyled table) infos (unstyled table).header) _ (drawn_header table infos table.header) _
-        (subst (λ (header : Option RowValue). AllZip R (drawn_header (unstyled table) infos header) (drawn_header table infos table.header)) (sym (header_seen table.custom_styling table.header)) (header_kept table.header each))
+        (subst (λ (header : Option RowValue). AllZip R (drawn_header (unstyled table) infos header) (drawn_header table infos table.header)) (sym (header_measured table.custom_styling table.header)) (header_kept table.header each))
         (AllZip-append R (drawn_rows (unstyled table) infos (unstyled table).rows) _ (drawn_rows table infos table.rows) _
-        (subst (λ (rows : List RowValue). AllZip R (drawn_rows (unstyled table) infos rows) (drawn_rows table infos table.rows)) (sym (rows_seen table.custom_styling table.rows)) (rows_kept (All-others IsClearSeen table.header table.rows each)))
+        (subst (λ (rows : List RowValue). AllZip R (drawn_rows (unstyled table) infos rows) (drawn_rows table infos table.rows)) (sym (rows_measured table.custom_styling table.rows)) (rows_kept (All-others IsClearMeasured table.header table.rows each)))
         (frame_kept b R kept.joins table.style table.style.bottom_border (whole_widths infos) style.bottom_border)))
       where
-        IsClearSeen : RowValue → Type 0
-        IsClearSeen row = IsClearRow b (seen row)
+        IsClearMeasured : RowValue → Type 0
+        IsClearMeasured row = IsClearRow b (measured row)
 
-        header_kept : (header : Option RowValue) → All IsClearSeen (option_to_list header ++ table.rows) → AllZip R (drawn_header (unstyled table) infos (option_map seen header)) (drawn_header table infos header)
+        header_kept : (header : Option RowValue) → All IsClearMeasured (option_to_list header ++ table.rows) → AllZip R (drawn_header (unstyled table) infos (option_map measured header)) (drawn_header table infos header)
         header_kept None each = tt
         header_kept (Some row) each =
-            AllZip-append R (drawn_row (unstyled table) infos table.style.header_lines (seen row)) _ (drawn_row table infos table.style.header_lines row) _
-            (row_kept table.style.header_lines row style.header_lines (All-head IsClearSeen row table.rows each))
+            AllZip-append R (drawn_row (unstyled table) infos table.style.header_lines (measured row)) _ (drawn_row table infos table.style.header_lines row) _
+            (row_kept table.style.header_lines row style.header_lines (All-head IsClearMeasured row table.rows each))
             (frame_kept b R kept.joins table.style table.style.header_separator (whole_widths infos) style.header_separator)
 
-        rows_kept : All IsClearSeen table.rows → AllZip R (drawn_rows (unstyled table) infos (map seen table.rows)) (drawn_rows table infos table.rows)
+        rows_kept : All IsClearMeasured table.rows → AllZip R (drawn_rows (unstyled table) infos (map measured table.rows)) (drawn_rows table infos table.rows)
         rows_kept each =
             subst (λ (lines : List Text). AllZip R lines (drawn_rows table infos table.rows))
-            (sym (join_by-map (drawn_row (unstyled table) infos table.style.content_lines) seen (optional_frame_line table.style table.style.row_separator (whole_widths infos)) table.rows))
-            (AllZip-join_by R (λ (row : RowValue). drawn_row (unstyled table) infos table.style.content_lines (seen row)) (drawn_row table infos table.style.content_lines)
+            (sym (join_by-map (drawn_row (unstyled table) infos table.style.content_lines) measured (optional_frame_line table.style table.style.row_separator (whole_widths infos)) table.rows))
+            (AllZip-join_by R (λ (row : RowValue). drawn_row (unstyled table) infos table.style.content_lines (measured row)) (drawn_row table infos table.style.content_lines)
             (optional_frame_line table.style table.style.row_separator (whole_widths infos)) (optional_frame_line table.style table.style.row_separator (whole_widths infos)) table.rows
             (frame_kept b R kept.joins table.style table.style.row_separator (whole_widths infos) style.row_separator)
-            (All-weaker IsClearSeen (λ row. AllZip R (drawn_row (unstyled table) infos table.style.content_lines (seen row)) (drawn_row table infos table.style.content_lines row))
+            (All-weaker IsClearMeasured (λ row. AllZip R (drawn_row (unstyled table) infos table.style.content_lines (measured row)) (drawn_row table infos table.style.content_lines row))
             (λ row cells. row_kept table.style.content_lines row style.content_lines cells) table.rows each))
 
--- the rows of a table as it is seen, row by row
-rows_clear : (b : ℕ) (table : TableValue) → All (IsClearRow b) (seen_rows table) → All (λ (row : RowValue). IsClearRow b (row_seen table.custom_styling row)) (header_and_rows table)
-rows_clear b table each = All-of_map (IsClearRow b) (row_seen table.custom_styling) (header_and_rows table) (subst (All (IsClearRow b)) (seen_rows-is table) each)
+-- the rows of a table as it is measured, row by row
+rows_clear : (b : ℕ) (table : TableValue) → All (IsClearRow b) (measured_rows table) → All (λ (row : RowValue). IsClearRow b (row_measured table.custom_styling row)) (header_and_rows table)
+rows_clear b table each = All-of_map (IsClearRow b) (row_measured table.custom_styling) (header_and_rows table) (subst (All (IsClearRow b)) (measured_rows-is table) each)
 
 -- it stays true of all lines, beside the unstyled ones
-pub keeps_drawing : (b : ℕ) (R : Text → Text → Type 0) → KeptByDrawing b R → (table : TableValue) (infos : List ColumnInfo) → HasStyleWithout b table → All (IsRowOf IsUtf8) (seen_rows table) → All (IsRowOf (HasNo b)) (seen_rows table)
+pub keeps_drawing : (b : ℕ) (R : Text → Text → Type 0) → KeptByDrawing b R → (table : TableValue) (infos : List ColumnInfo) → HasStyleWithout b table → All (IsRowOf IsUtf8) (measured_rows table) → All (IsRowOf (HasNo b)) (measured_rows table)
     → AllZip R (drawing_of_infos (unstyled table) infos) (drawing_of_infos table infos)
 keeps_drawing b R kept table infos free whole clear =
     drawing_kept b R kept table infos free.indicator (style_clear b table free)

@@ -9,12 +9,12 @@ use Rattle.comfy_parts.specs.Text.{Text, measure}
 use Rattle.comfy_parts.specs.VisibleLines.{line_texts}
 use Rattle.comfy_parts.specs.VisibleText.{has_escape, line_text, visible_text}
 use Rattle.comfy_parts.specs.Wrapping.{lines_of_text}
-use Rattle.comfy_table.proofs.DrawnLineLemmas.{own_texts}
-use Rattle.comfy_table.proofs.SeenLemmas.{cell_seen}
+use Rattle.comfy_table.proofs.DrawnLineLemmas.{without_custom_styling}
+use Rattle.comfy_table.proofs.MeasuredLemmas.{cell_measured}
 use Rattle.comfy_table.specs.DrawnLines.{drawn_line}
-use Rattle.comfy_table.specs.Lines.{as_seen, cell_lines, whole_lines}
+use Rattle.comfy_table.specs.Lines.{as_measured, cell_lines, whole_lines}
 
--- the only width of what is seen of a single text line
+-- the only width of what is measured of a single text line
 pub only_width : (custom : Bool) (texts : List Text) (text : Text) (widths : List ℕ) → texts ≡ text ∷ [] → widths ≡ map measure (if custom then map visible_text texts else texts)
     → map measure (if custom then map visible_text texts else texts) ≡ slice_index_or widths 0 0 ∷ []
 only_width custom texts text widths single are = one ∙ ap (λ (ns : List ℕ). slice_index_or ns 0 0 ∷ []) (sym (are ∙ one))
@@ -28,19 +28,19 @@ module _ (custom : Bool) (w d : ℕ) (cell : CellValue) (text : Text) (columns :
   IsOneLine = record { columns = columns; written = text } ∷ [] ≡ map drawn_line (whole_lines custom w d cell)
 
   -- so has a cell of one text line that fits and has no text of its own
-  pub seen_line : cell.text_lines ≡ text ∷ [] → map measure (cell_seen custom cell).text_lines ≡ columns ∷ [] → columns ≤ w → (custom && list_any has_escape cell.text_lines) ≡ false → IsOneLine
-  seen_line single wide fits none =
-      let seen : (cell_seen custom cell).text_lines ≡ text ∷ [] = as_it_is custom none ∙ single in
-      let width : measure text ≡ columns = let e = sym (ap (map measure) seen) ∙ wide in ap (λ (ns : List ℕ). slice_index_or ns 0 0) e in
-      let one : cell_lines w d (cell_seen custom cell) ≡ text ∷ [] = ap (flat_map (lines_of_text w d)) seen ∙ grind (arith, nat_tests, width, fits) in
-      ap (λ n. record { columns = n; written = text } ∷ []) (sym width) ∙ sym (ap (map drawn_line) (own_texts custom w d cell none ∙ ap (map as_seen) one))
+  pub measured_line : cell.text_lines ≡ text ∷ [] → map measure (cell_measured custom cell).text_lines ≡ columns ∷ [] → columns ≤ w → (custom && list_any has_escape cell.text_lines) ≡ false → IsOneLine
+  measured_line single wide fits none =
+      let measured : (cell_measured custom cell).text_lines ≡ text ∷ [] = as_it_is custom none ∙ single in
+      let width : measure text ≡ columns = let e = sym (ap (map measure) measured) ∙ wide in ap (λ (ns : List ℕ). slice_index_or ns 0 0) e in
+      let one : cell_lines w d (cell_measured custom cell) ≡ text ∷ [] = ap (flat_map (lines_of_text w d)) measured ∙ grind (arith, nat_tests, width, fits) in
+      ap (λ n. record { columns = n; written = text } ∷ []) (sym width) ∙ sym (ap (map drawn_line) (without_custom_styling custom w d cell none ∙ ap (map as_measured) one))
     where
       as_it_is : (custom : Bool) → (custom && list_any has_escape cell.text_lines) ≡ false → (if custom then map visible_text cell.text_lines else cell.text_lines) ≡ cell.text_lines
       as_it_is true none = sym (clear_lines cell.text_lines none)
       as_it_is false none = refl
 
   -- or is written as it is
-  pub whole_line : cell.text_lines ≡ text ∷ [] → map measure (cell_seen custom cell).text_lines ≡ columns ∷ [] → columns ≤ w
+  pub whole_line : cell.text_lines ≡ text ∷ [] → map measure (cell_measured custom cell).text_lines ≡ columns ∷ [] → columns ≤ w
       → custom ≡ true → line_text [] text 0 (length (visible_text text)) ≡ text → IsOneLine
   whole_line single wide fits on whole =
       let width : measure (visible_text text) ≡ columns =

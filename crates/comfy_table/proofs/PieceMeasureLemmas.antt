@@ -8,7 +8,7 @@ use Rattle.comfy_parts.specs.declared.style.table_style.LineStyle.{LineStyle}
 use Rattle.comfy_parts.specs.declared.style.table_style.TableStyle.{TableStyle}
 use Rattle.comfy_table.specs.Frame.{border_count, character, between_borders, frame_line, draws_left_border, draws_right_border, draws_vertical_lines}
 use Rattle.comfy_table.specs.Pieces.{cell_alignment, free_before, free_places, spaces_after}
-use Rattle.comfy_table.proofs.CutLemmas.{plain_piece}
+use Rattle.comfy_table.proofs.CutLemmas.{unstyled_piece}
 use Rattle.comfy_table.proofs.SpaceLemmas.{whole_width}
 use Rattle.comfy_table.proofs.MeasureLemmas.{IsAny, IsFollowing, apart_follows, HasMeasure, Fronts, HasMeasure-same, HasMeasure-any, HasMeasure-append, HasMeasure-behind, HasMeasure-spaces, HasMeasure-text, HasMeasure-repeat, HasMeasure-character, HasMeasure-when, HasMeasure-between, Fronts-when, IsPiece, any_follows}
 use Rattle.comfy_parts.proofs.CallerLemmas.{IsFittingLine}
@@ -73,13 +73,13 @@ HasMeasure-behind_line cell info line = HasMeasure-behind IsAny _ _ _ _ (HasMeas
 -- what stands before it
 HasMeasure-padded : (Follows : Text → Type 0) (cell : CellValue) (info : ColumnInfo) (line : Text) → IsFittingLine info.content_width line
     → HasMeasure Follows (measure line + ((free_places info (measure line) - free_before (cell_alignment cell info) (free_places info (measure line))) + info.padding.1)) (line ++ behind cell info line)
-    → HasMeasure Follows (info_width info) (plain_piece cell info line)
+    → HasMeasure Follows (info_width info) (unstyled_piece cell info line)
 HasMeasure-padded Follows cell info line fitting last =
     HasMeasure-same Follows _ _ _ (whole_width (cell_alignment cell info) info.padding.0 (measure line) info.padding.1 info.content_width fitting.fits)
     (HasMeasure-behind Follows info.padding.0 _ _ _ (HasMeasure-spaces info.padding.0) (HasMeasure-behind Follows _ _ _ _ (HasMeasure-spaces _) last))
 
 -- before what stands apart, the piece of a line that fits is as wide as its column
-pub piece-apart : (cell : CellValue) (info : ColumnInfo) (line : Text) → IsFittingLine info.content_width line → HasMeasure IsApart (info_width info) (plain_piece cell info line)
+pub piece-apart : (cell : CellValue) (info : ColumnInfo) (line : Text) → IsFittingLine info.content_width line → HasMeasure IsApart (info_width info) (unstyled_piece cell info line)
 piece-apart cell info line fitting =
     HasMeasure-padded IsApart cell info line fitting
     (HasMeasure-append IsApart (measure line) _ line (behind cell info line) (HasMeasure-text line fitting.whole)
@@ -87,7 +87,7 @@ piece-apart cell info line fitting =
     (HasMeasure-any IsApart _ _ (HasMeasure-behind_line cell info line)))
 
 -- with a padding at its right before everything
-pub piece-any : (cell : CellValue) (info : ColumnInfo) (line : Text) → 1 ≤ info.padding.1 → IsFittingLine info.content_width line → HasMeasure IsAny (info_width info) (plain_piece cell info line)
+pub piece-any : (cell : CellValue) (info : ColumnInfo) (line : Text) → 1 ≤ info.padding.1 → IsFittingLine info.content_width line → HasMeasure IsAny (info_width info) (unstyled_piece cell info line)
 piece-any cell info line some fitting = HasMeasure-padded IsAny cell info line fitting (record { measures = λ rest _. all rest })
   where
     all : (rest : Text) → measure ((line ++ behind cell info line) ++ rest) ≡ (measure line + ((free_places info (measure line) - free_before (cell_alignment cell info) (free_places info (measure line))) + info.padding.1)) + measure rest

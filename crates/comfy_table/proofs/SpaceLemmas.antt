@@ -47,8 +47,8 @@ module _ (cell : CellValue) (info : ColumnInfo) (columns left right : ℕ)
     (is_left : left ≡ info.padding.0 + free_before (cell_alignment cell info) (free_places info columns))
     (is_right : right ≡ free_places info columns - free_before (cell_alignment cell info) (free_places info columns) + info.padding.1) where
   -- a text between the spaces that a line leaves and the paddings
-  padded-made : (text : Text) → spaces left ++ (text ++ spaces right) ≡ padded cell info columns text
-  padded-made text =
+  padded-is : (text : Text) → spaces left ++ (text ++ spaces right) ≡ padded cell info columns text
+  padded-is text =
       let before = free_before (cell_alignment cell info) (free_places info columns) in
       ap (λ n. spaces n ++ (text ++ spaces right)) is_left
       ∙ ap (λ n. spaces (info.padding.0 + before) ++ (text ++ spaces n)) is_right
@@ -57,11 +57,11 @@ module _ (cell : CellValue) (info : ColumnInfo) (columns left right : ℕ)
       ∙ ap (λ (t : Text). spaces info.padding.0 ++ (spaces before ++ (text ++ t))) (sym (spaces-append (free_places info columns - before) info.padding.1))
 
   -- the piece of a line without styling, of a cell without styles, with its text styled, and styled as a whole
-  pub plain-made : (table : TableValue) (text : Text) → should_style table ≡ false → spaces left ++ (text ++ spaces right) ≡ text_piece table cell info columns text
-  plain-made table text off = grind (arith, padded-made)
+  pub unstyled-is : (table : TableValue) (text : Text) → should_style table ≡ false → spaces left ++ (text ++ spaces right) ≡ text_piece table cell info columns text
+  unstyled-is table text off = grind (arith, padded-is)
 
-  pub bare-made : (table : TableValue) (text : Text) → ((t : Text) → styled cell t ≡ t) → spaces left ++ (text ++ spaces right) ≡ text_piece table cell info columns text
-  bare-made table text bare = padded-made text ∙ sym (by_settings (should_style table) table.style_text_only)
+  pub bare-is : (table : TableValue) (text : Text) → ((t : Text) → styled cell t ≡ t) → spaces left ++ (text ++ spaces right) ≡ text_piece table cell info columns text
+  bare-is table text bare = padded-is text ∙ sym (by_settings (should_style table) table.style_text_only)
     where
       by_settings : (styles alone : Bool) → (if styles then (if alone then padded cell info columns (styled cell text) else styled cell (padded cell info columns text)) else padded cell info columns text) ≡ padded cell info columns text
       by_settings true true = ap (padded cell info columns) (bare text)
@@ -69,10 +69,10 @@ module _ (cell : CellValue) (info : ColumnInfo) (columns left right : ℕ)
       by_settings false alone = refl
 
   pub line-styled : (table : TableValue) (text : Text) → should_style table ≡ true → table.style_text_only ≡ true → spaces left ++ (styled cell (text ++ []) ++ spaces right) ≡ text_piece table cell info columns text
-  line-styled table text on alone = ap (λ (t : Text). spaces left ++ (styled cell t ++ spaces right)) (append-nil text) ∙ grind (arith, padded-made)
+  line-styled table text on alone = ap (λ (t : Text). spaces left ++ (styled cell t ++ spaces right)) (append-nil text) ∙ grind (arith, padded-is)
 
   pub all-styled : (table : TableValue) (text : Text) → should_style table ≡ true → table.style_text_only ≡ false → styled cell (spaces left ++ (text ++ spaces right)) ++ [] ≡ text_piece table cell info columns text
-  all-styled table text on whole = append-nil (styled cell (spaces left ++ (text ++ spaces right))) ∙ grind (arith, padded-made)
+  all-styled table text on whole = append-nil (styled cell (spaces left ++ (text ++ spaces right))) ∙ grind (arith, padded-is)
 
 -- the last text appended on success
 pub last-pushed : {T E : Type 0} (r : Result T E) (new before c : Text) (wanted : Text) → (new ≡ before ++ c → new ≡ wanted) → OnOk r (new ≡ before ++ c) → OnOk r (new ≡ wanted)

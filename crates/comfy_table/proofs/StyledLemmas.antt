@@ -8,7 +8,7 @@ use Rattle.std.proofs.lemmas.List.Folds.{list_all-append}
 use Rattle.comfy_parts.specs.CellValue.{CellValue, ColumnInfo}
 use Rattle.comfy_parts.specs.Text.{HasNo, Text, measure, spaces}
 use Rattle.comfy_parts.specs.VisibleLines.{CellLine}
-use Rattle.comfy_table.proofs.CutLemmas.{plain_piece}
+use Rattle.comfy_table.proofs.CutLemmas.{unstyled_piece}
 use Rattle.comfy_parts.specs.VisibleText.{closed, is_parameter, visible_text}
 use Rattle.comfy_parts.specs.declared.style.attribute.Attribute.{Attribute}
 use Rattle.comfy_parts.specs.declared.style.color.Color.{Color}
@@ -30,7 +30,7 @@ pub record KeptByJoining (b : ℕ) (R : Text → Text → Type 0) : Type 0 where
 pub record KeptByDrawing (b : ℕ) (R : Text → Text → Type 0) : Type 0 where
   pub joins : KeptByJoining b R
   pub of_sequence : (code : Text) → list_all is_parameter code ≡ true → R [] (sequence code)
-  pub of_seen : (text : Text) → HasNo b (visible_text text) → R (visible_text text) text
+  pub of_measured : (text : Text) → HasNo b (visible_text text) → R (visible_text text) text
   pub of_closed : (text : Text) → HasNo b text → R text (closed text)
 
 -- ---- codes are parameters
@@ -137,16 +137,16 @@ module _ (b : ℕ) (R : Text → Text → Type 0) (kept : KeptByDrawing b R) whe
   keeps_padded : (cell : CellValue) (info : ColumnInfo) (columns : ℕ) (shown text : Text) → R shown text → R (padded cell info columns shown) (padded cell info columns text)
   keeps_padded cell info columns shown text own = grind (arith, kept.joins.of_both, keeps_spaces b R kept.joins)
 
-  -- the piece of a line, and the plain piece of what is seen of it
-  pub keeps_piece : (table : TableValue) (cell : CellValue) (info : ColumnInfo) (line : CellLine) → R line.seen line.written → R (plain_piece cell info line.seen) (piece table cell info line)
+  -- the piece of a line, and the plain piece of what is measured of it
+  pub keeps_piece : (table : TableValue) (cell : CellValue) (info : ColumnInfo) (line : CellLine) → R line.measured line.written → R (unstyled_piece cell info line.measured) (piece table cell info line)
   keeps_piece table cell info line own = by_tests (should_style table) table.style_text_only
     where
       columns : ℕ
-      columns = measure line.seen
+      columns = measure line.measured
 
       by_tests : (styles text_only : Bool)
-          → R (plain_piece cell info line.seen) (if styles then (if text_only then padded cell info columns (styled cell line.written) else styled cell (padded cell info columns line.written)) else padded cell info columns line.written)
-      by_tests true true = keeps_padded cell info columns line.seen (styled cell line.written) (keeps_styled cell line.seen line.written own)
+          → R (unstyled_piece cell info line.measured) (if styles then (if text_only then padded cell info columns (styled cell line.written) else styled cell (padded cell info columns line.written)) else padded cell info columns line.written)
+      by_tests true true = keeps_padded cell info columns line.measured (styled cell line.written) (keeps_styled cell line.measured line.written own)
       by_tests true false =
-          keeps_styled cell (plain_piece cell info line.seen) (padded cell info columns line.written) (keeps_padded cell info columns line.seen line.written own)
-      by_tests false text_only = keeps_padded cell info columns line.seen line.written own
+          keeps_styled cell (unstyled_piece cell info line.measured) (padded cell info columns line.written) (keeps_padded cell info columns line.measured line.written own)
+      by_tests false text_only = keeps_padded cell info columns line.measured line.written own

@@ -2,15 +2,15 @@
 use Rattle.std.proofs.Common.{◌≡◌, ℕ, List, [], ◌∷◌, map, refl, sym, ap₂, ◌∙◌, subst, arith}
 use Rattle.std.specs.List.{All, AllZip}
 use Rattle.std.specs.Str.{IsUtf8}
-use Rattle.comfy_parts.proofs.CallerLemmas.{Shows, Shows-append, Shows-clear, Shows-seen, Shows-sequence, seen-closed, visible_text-is}
+use Rattle.comfy_parts.proofs.CallerLemmas.{Shows, Shows-append, Shows-clear, Shows-visible, Shows-sequence, visible-closed, visible_text-is}
 use Rattle.comfy_parts.specs.Text.{Text}
 use Rattle.comfy_parts.specs.VisibleText.{closed, visible_text}
 use Rattle.comfy_table.proofs.KeptDrawingLemmas.{keeps_drawing}
-use Rattle.comfy_table.proofs.SeenLemmas.{IsRowOf}
+use Rattle.comfy_table.proofs.MeasuredLemmas.{IsRowOf}
 use Rattle.comfy_table.proofs.StyledLemmas.{KeptByDrawing}
 use Rattle.comfy_table.specs.Drawing.{drawing, infos_of}
 use Rattle.comfy_table.specs.Laws.{HasNoEscape, IsFreeOfEscapes, unstyled}
-use Rattle.comfy_table.specs.TableValue.{TableValue, seen_rows}
+use Rattle.comfy_table.specs.TableValue.{TableValue, measured_rows}
 
 -- what texts without ESC show, they still show as they are drawn
 shows_kept : KeptByDrawing 0x1B Shows
@@ -18,10 +18,10 @@ shows_kept =
     record {
       joins = record { seven_bits = omega arith; no_space = refl; of_clear = Shows-clear; of_both = Shows-append };
       of_sequence = Shows-sequence;
-      of_seen = Shows-seen;
+      of_measured = Shows-visible;
       of_closed = λ text clear.
-          let same : visible_text (closed text) ≡ text = seen-closed text ∙ visible_text-is text text (Shows-clear text clear) in
-          subst (λ s. Shows s (closed text)) same (Shows-seen (closed text) (subst HasNoEscape (sym same) clear));
+          let same : visible_text (closed text) ≡ text = visible-closed text ∙ visible_text-is text text (Shows-clear text clear) in
+          subst (λ s. Shows s (closed text)) same (Shows-visible (closed text) (subst HasNoEscape (sym same) clear));
     }
 
 -- lines that show these have them as their visible texts
@@ -33,6 +33,6 @@ visible_texts-are (s ∷ shown) (text ∷ texts) each =
     ap₂ (λ x xs. x ∷ xs) (visible_text-is s text each.0) (visible_texts-are shown texts each.1)
 
 -- the sequences taken out of the drawn lines, the unstyled lines are left; bytes that are no UTF-8 could be cut so that an ESC arises
-pub styling_taken_out : (table : TableValue) (widths : List ℕ) → All (IsRowOf IsUtf8) (seen_rows table) → IsFreeOfEscapes table → map visible_text (drawing table widths) ≡ drawing (unstyled table) widths
+pub styling_taken_out : (table : TableValue) (widths : List ℕ) → All (IsRowOf IsUtf8) (measured_rows table) → IsFreeOfEscapes table → map visible_text (drawing table widths) ≡ drawing (unstyled table) widths
 styling_taken_out table widths whole free =
     visible_texts-are (drawing (unstyled table) widths) (drawing table widths) (keeps_drawing 0x1B Shows shows_kept table (infos_of table widths) free.style whole free.text_lines)

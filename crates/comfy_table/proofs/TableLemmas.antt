@@ -6,7 +6,7 @@ use Rattle.std.proofs.lemmas.List.Elements.{All-from_recursion}
 use Rattle.comfy_parts.specs.declared.style.table.ContentArrangement.TheVariants.{Dynamic, DynamicFullWidth}
 use Rattle.comfy_parts.specs.declared.style.table_style.LineStyle.{LineStyle}
 use Rattle.comfy_table.proofs.CountLemmas.{frame_lines_count}
-use Rattle.comfy_table.proofs.DrawnWidthLemmas.{keeps_to_width, fills_width, dynamic_widths, unconstrained_visible}
+use Rattle.comfy_table.proofs.DrawnWidthLemmas.{keeps_to_width, fills_width, dynamic_widths, unconstrained_shown}
 use Rattle.comfy_table.proofs.EqualCountLemmas.{length-infos_from}
 use Rattle.comfy_table.proofs.FitLemmas.{contents_that_fit_are_kept}
 use Rattle.comfy_table.proofs.LevelLemmas.{level_is_best}
@@ -14,9 +14,9 @@ use Rattle.comfy_table.proofs.LevelledLemmas.{dynamic_is_levelled, dynamic_is_fu
 use Rattle.comfy_table.specs.Arrangement.{room_beside_borders}
 use Rattle.comfy_table.specs.Laws.{NoConstraints}
 use Rattle.comfy_table.specs.Levels.{IsUnconstrained}
-use Rattle.comfy_table.specs.TableLaws.{FrameCounts, FrameKeepsToWidth, FrameFillsWidth, TableIsLevelled, TableIsFull, TableKeepsContents, TableLevelIsBest, visible_contents}
-use Rattle.comfy_table.specs.TableValue.{TableValue, visible_columns}
-use Rattle.comfy_table.specs.Widths.{visible_count, visible_needs, needs_of}
+use Rattle.comfy_table.specs.TableLaws.{FrameCounts, FrameKeepsToWidth, FrameFillsWidth, TableIsLevelled, TableIsFull, TableKeepsContents, TableLevelIsBest, shown_contents}
+use Rattle.comfy_table.specs.TableValue.{TableValue, shown_columns}
+use Rattle.comfy_table.specs.Widths.{shown_count, shown_needs, needs_of}
 
 -- a table's frame lines have the line's total
 pub frame_counts : (table : TableValue) (widths : List ℕ) (line : LineStyle) → FrameCounts table widths line
@@ -33,30 +33,30 @@ frame_fills_width table w widths line none full known some arranged =
     frame_counts table widths line arranged.one_for_each ∙ fills_width table w widths none full known some arranged
 
 -- a table without constraints has needs without constraints
-all_unconstrained : (table : TableValue) → NoConstraints table → All IsUnconstrained (visible_needs table)
-all_unconstrained table none = All-from_recursion IsUnconstrained (visible_needs table) (unconstrained_visible table none)
+all_unconstrained : (table : TableValue) → NoConstraints table → All IsUnconstrained (shown_needs table)
+all_unconstrained table none = All-from_recursion IsUnconstrained (shown_needs table) (unconstrained_shown table none)
 
--- there are as many needs as visible columns
-length-visible_needs : (table : TableValue) → length (visible_needs table) ≡ visible_count table
-length-visible_needs table = length-map (visible_columns table) (needs_of table)
+-- there are as many needs as shown columns
+length-shown_needs : (table : TableValue) → length (shown_needs table) ≡ shown_count table
+length-shown_needs table = length-map (shown_columns table) (needs_of table)
 
--- under `Dynamic` the visible columns keep to a level
+-- under `Dynamic` the shown columns keep to a level
 pub table_is_levelled : (table : TableValue) (w : ℕ) (widths : List ℕ) → TableIsLevelled table w widths
-table_is_levelled table w widths none dynamic known some arranged = grind (arith, dynamic_is_levelled, all_unconstrained, length-visible_needs, dynamic_widths)
+table_is_levelled table w widths none dynamic known some arranged = grind (arith, dynamic_is_levelled, all_unconstrained, length-shown_needs, dynamic_widths)
 
 -- under `DynamicFullWidth` they fill the room too
 pub table_is_full : (table : TableValue) (w : ℕ) (widths : List ℕ) → TableIsFull table w widths
 table_is_full table w widths none full known some arranged =
-    dynamic_is_full (room_beside_borders table w) (visible_needs table) (visible_contents table widths) (all_unconstrained table none) (omega (arith, some, length-visible_needs table))
+    dynamic_is_full (room_beside_borders table w) (shown_needs table) (shown_contents table widths) (all_unconstrained table none) (omega (arith, some, length-shown_needs table))
     (dynamic_widths table DynamicFullWidth w widths refl full known arranged)
 
 -- contents that fit with borders and paddings are kept
 pub table_keeps_contents : (table : TableValue) (w : ℕ) (widths : List ℕ) → TableKeepsContents table w widths
 table_keeps_contents table w widths none dynamic known arranged fit =
-    contents_that_fit_are_kept (room_beside_borders table w) (visible_needs table) (visible_contents table widths) (all_unconstrained table none) (omega (arith, fit))
+    contents_that_fit_are_kept (room_beside_borders table w) (shown_needs table) (shown_contents table widths) (all_unconstrained table none) (omega (arith, fit))
     (dynamic_widths table Dynamic w widths refl dynamic known arranged)
 
 -- the level is the best
 pub table_level_is_best : (table : TableValue) (w level : ℕ) (widths : List ℕ) → TableLevelIsBest table w level widths
 table_level_is_best table w level widths none dynamic known arranged room levelled wider =
-    level_is_best (room_beside_borders table w) (visible_needs table) level (visible_contents table widths) (all_unconstrained table none) (omega (arith, room, length-visible_needs table)) levelled wider
+    level_is_best (room_beside_borders table w) (shown_needs table) level (shown_contents table widths) (all_unconstrained table none) (omega (arith, room, length-shown_needs table)) levelled wider

@@ -11,16 +11,16 @@ use Rattle.comfy_parts.specs.Wrapping.{IsSlicesWhere, IsWrapped, wrapped, lines_
 use Rattle.comfy_parts.specs.declared.style.column.ColumnConstraint.{ColumnConstraint}
 use Rattle.comfy_parts.specs.declared.style.table.ContentArrangement.{ContentArrangement}
 use Rattle.comfy_parts.specs.declared.style.table.ContentArrangement.TheVariants.{Dynamic}
-use Rattle.comfy_table.specs.Arrangement.{AreVisibleWidths, width_kept, is_full_width, room_beside_borders}
+use Rattle.comfy_table.specs.Arrangement.{AreShownWidths, width_kept, is_full_width, room_beside_borders}
 use Rattle.comfy_table.specs.Dynamic.{Share, IsArrangedBy, IsDynamic, contents_after, content_room}
-use Rattle.comfy_table.specs.Laws.{IsPlainCell, NoConstraints, HasPlainCells}
-use Rattle.comfy_table.specs.TableLaws.{IsAtMostThreeOver, visible_contents}
+use Rattle.comfy_table.specs.Laws.{IsPrintableCell, NoConstraints, HasPrintableCells}
+use Rattle.comfy_table.specs.TableLaws.{IsAtMostThreeOver, shown_contents}
 use Rattle.comfy_table.specs.Levels.{IsUnconstrained}
 use Rattle.comfy_table.specs.Lines.{cell_delimiter, cell_lines, longest_line}
-use Rattle.comfy_table.specs.TableValue.{TableValue, table_width, visible_columns, column_cells, column_content_width, cell_content_width}
-use Rattle.comfy_table.specs.Widths.{ColumnNeeds, needs_of, visible_needs, visible_count, disabled_width, capped_content, fixed_by_constraint, upper_boundary}
+use Rattle.comfy_table.specs.TableValue.{TableValue, table_width, shown_columns, column_cells, column_content_width, cell_content_width}
+use Rattle.comfy_table.specs.Widths.{ColumnNeeds, needs_of, shown_needs, shown_count, disabled_width, capped_content, fixed_by_constraint, upper_boundary}
 use Rattle.comfy_table.proofs.ContentLemmas.{steps_with, each_content, each_content_short}
-use Rattle.comfy_table.proofs.DrawnWidthLemmas.{unconstrained_visible}
+use Rattle.comfy_table.proofs.DrawnWidthLemmas.{unconstrained_shown}
 
 -- ---- lines are no longer than their text
 
@@ -59,7 +59,7 @@ greatest-le cap bound f [] each = omega arith
 greatest-le cap bound f (x ∷ xs) each = omega (arith, each.0, greatest-le cap bound f xs each.1)
 
 -- up to 65535, the lines of a plain cell are within its content
-cell_lines-le : (table : TableValue) (delimiter : Option ℕ) (w : ℕ) (cell : CellValue) → IsPlainCell table delimiter cell
+cell_lines-le : (table : TableValue) (delimiter : Option ℕ) (w : ℕ) (cell : CellValue) → IsPrintableCell table delimiter cell
     → AllByRecursion (λ (line : Text). min 65535 (measure line) ≤ cell_content_width cell) (cell_lines w (cell_delimiter table delimiter cell) cell)
 cell_lines-le table delimiter w cell plain =
     let d = cell_delimiter table delimiter cell in
@@ -69,15 +69,15 @@ cell_lines-le table delimiter w cell plain =
     (recursion_from_All (λ (text : Text). is_printable_ascii text ≡ true) cell.text_lines plain.0) (every-le-greatest measure cell.text_lines))
 
 -- up to 65535, the longest line of a column of plain cells is within its content
-longest_line-le : (table : TableValue) (i : ℕ) (delimiter : Option ℕ) (w : ℕ) → AllByRecursion (IsPlainCell table delimiter) (column_cells table i) → min 65535 (longest_line table i delimiter w) ≤ column_content_width table i
+longest_line-le : (table : TableValue) (i : ℕ) (delimiter : Option ℕ) (w : ℕ) → AllByRecursion (IsPrintableCell table delimiter) (column_cells table i) → min 65535 (longest_line table i delimiter w) ≤ column_content_width table i
 longest_line-le table i delimiter w plain =
     let cells = column_cells table i in
     let content = column_content_width table i in
     greatest-le 65535 content measure (flat_map (λ (cell : CellValue). cell_lines w (cell_delimiter table delimiter cell) cell) cells)
-    (every-flat_map (λ (cell : CellValue). IsPlainCell table delimiter cell × (cell_content_width cell ≤ content)) (λ (line : Text). min 65535 (measure line) ≤ content) (λ (cell : CellValue). cell_lines w (cell_delimiter table delimiter cell) cell) cells
+    (every-flat_map (λ (cell : CellValue). IsPrintableCell table delimiter cell × (cell_content_width cell ≤ content)) (λ (line : Text). min 65535 (measure line) ≤ content) (λ (cell : CellValue). cell_lines w (cell_delimiter table delimiter cell) cell) cells
     (λ cell facts. every-weaker (λ (line : Text). min 65535 (measure line) ≤ cell_content_width cell) (λ (line : Text). min 65535 (measure line) ≤ content) (cell_lines w (cell_delimiter table delimiter cell) cell)
     (λ line short. le_trans short facts.1) (cell_lines-le table delimiter w cell facts.0))
-    (every-both (IsPlainCell table delimiter) (λ (cell : CellValue). cell_content_width cell ≤ content) cells plain (every-le-greatest cell_content_width cells)))
+    (every-both (IsPrintableCell table delimiter) (λ (cell : CellValue). cell_content_width cell ≤ content) cells plain (every-le-greatest cell_content_width cells)))
 
 -- ---- widths over needs
 
@@ -112,11 +112,11 @@ with_needs (column ∷ more) (w ∷ widths) within each = (each.0 within.0, with
 -- ---- a table
 
 -- the needs of columns of plain cells
-every_within : (table : TableValue) (columns : List (ℕ × ColumnValue)) → AllByRecursion (λ (p : ℕ × ColumnValue). All (IsPlainCell table p.1.delimiter) (column_cells table p.0)) columns
+every_within : (table : TableValue) (columns : List (ℕ × ColumnValue)) → AllByRecursion (λ (p : ℕ × ColumnValue). All (IsPrintableCell table p.1.delimiter) (column_cells table p.0)) columns
     → AllByRecursion IsWithinContent (map (needs_of table) columns)
 every_within table [] plain = tt
 every_within table (p ∷ more) plain = (
-  λ b. longest_line-le table p.0 p.1.delimiter b (recursion_from_All (IsPlainCell table p.1.delimiter) (column_cells table p.0) plain.0),
+  λ b. longest_line-le table p.0 p.1.delimiter b (recursion_from_All (IsPrintableCell table p.1.delimiter) (column_cells table p.0) plain.0),
   every_within table more plain.1,
 )
 
@@ -127,31 +127,31 @@ disabled-le table [] none = tt
 disabled-le table (p ∷ more) none = (omega (arith, is), disabled-le table more none.1)
   where
     is : disabled_width table p ≡ max 1 (column_content_width table p.0)
-    is = ap (λ (o : Option ColumnConstraint). unwrap_or (fixed_by_constraint table (visible_count table) (column_content_width table p.0) (column_padding p.1) o) (capped_content (column_content_width table p.0) (column_padding p.1) (upper_boundary table (visible_count table) o))) none.0
+    is = ap (λ (o : Option ColumnConstraint). unwrap_or (fixed_by_constraint table (shown_count table) (column_content_width table p.0) (column_padding p.1) o) (capped_content (column_content_width table p.0) (column_padding p.1) (upper_boundary table (shown_count table) o))) none.0
 
 -- the visible widths of a table of at most 65535 places
-three_places : (table : TableValue) (visible : List ℕ) → ((w : ℕ) → table_width table ≡ Some w → w ≤ 65535) → NoConstraints table → HasPlainCells table → table.arrangement ≡ Dynamic → AreVisibleWidths table visible
-    → AllZip (λ (column : ColumnNeeds) (width : ℕ). width ≤ column.content + 3) (visible_needs table) visible
+three_places : (table : TableValue) (visible : List ℕ) → ((w : ℕ) → table_width table ≡ Some w → w ≤ 65535) → NoConstraints table → HasPrintableCells table → table.arrangement ≡ Dynamic → AreShownWidths table visible
+    → AllZip (λ (column : ColumnNeeds) (width : ℕ). width ≤ column.content + 3) (shown_needs table) visible
 three_places table visible small none plain dynamic are =
-    by_width (table_width table) small (subst (λ (a : ContentArrangement). MatchOption (width_kept a (table_width table)) (visible ≡ map (disabled_width table) (visible_columns table)) (λ w. IsDynamic (room_beside_borders table w) (visible_needs table) (is_full_width a) visible)) dynamic are)
+    by_width (table_width table) small (subst (λ (a : ContentArrangement). MatchOption (width_kept a (table_width table)) (visible ≡ map (disabled_width table) (shown_columns table)) (λ w. IsDynamic (room_beside_borders table w) (shown_needs table) (is_full_width a) visible)) dynamic are)
   where
-    constraints : AllByRecursion (λ (p : ℕ × ColumnValue). p.1.constraint ≡ None) (visible_columns table)
-    constraints = recursion_from_All (λ (p : ℕ × ColumnValue). p.1.constraint ≡ None) (visible_columns table) none
+    constraints : AllByRecursion (λ (p : ℕ × ColumnValue). p.1.constraint ≡ None) (shown_columns table)
+    constraints = recursion_from_All (λ (p : ℕ × ColumnValue). p.1.constraint ≡ None) (shown_columns table) none
 
-    within : AllByRecursion IsWithinContent (visible_needs table)
-    within = every_within table (visible_columns table) (recursion_from_All (λ (p : ℕ × ColumnValue). All (IsPlainCell table p.1.delimiter) (column_cells table p.0)) (visible_columns table) plain)
+    within : AllByRecursion IsWithinContent (shown_needs table)
+    within = every_within table (shown_columns table) (recursion_from_All (λ (p : ℕ × ColumnValue). All (IsPrintableCell table p.1.delimiter) (column_cells table p.0)) (shown_columns table) plain)
 
     by_width : (o : Option ℕ) → ((w : ℕ) → o ≡ Some w → w ≤ 65535)
-        → MatchOption (width_kept Dynamic o) (visible ≡ map (disabled_width table) (visible_columns table)) (λ w. IsDynamic (room_beside_borders table w) (visible_needs table) (is_full_width Dynamic) visible)
-        → AllZip (λ (column : ColumnNeeds) (width : ℕ). width ≤ column.content + 3) (visible_needs table) visible
-    by_width None few is = subst (AllZip (λ (column : ColumnNeeds) (width : ℕ). width ≤ column.content + 3) (visible_needs table)) (sym is) (disabled-le table (visible_columns table) constraints)
+        → MatchOption (width_kept Dynamic o) (visible ≡ map (disabled_width table) (shown_columns table)) (λ w. IsDynamic (room_beside_borders table w) (shown_needs table) (is_full_width Dynamic) visible)
+        → AllZip (λ (column : ColumnNeeds) (width : ℕ). width ≤ column.content + 3) (shown_needs table) visible
+    by_width None few is = subst (AllZip (λ (column : ColumnNeeds) (width : ℕ). width ≤ column.content + 3) (shown_needs table)) (sym is) (disabled-le table (shown_columns table) constraints)
     by_width (Some w) few (steps, arranged) =
         let known = few w refl in
         let room = room_beside_borders table w in
-        let each = three_over room (visible_needs table) (unconstrained_visible table none) steps.lower steps.level steps.shrunk visible arranged (omega (arith, known)) in
-        with_needs (visible_needs table) visible within (subst (AllZip IsThreeOver (visible_needs table)) (sym arranged.widths_are) each)
+        let each = three_over room (shown_needs table) (unconstrained_shown table none) steps.lower steps.level steps.shrunk visible arranged (omega (arith, known)) in
+        with_needs (shown_needs table) visible within (subst (AllZip IsThreeOver (shown_needs table)) (sym arranged.widths_are) each)
 
 -- no column is more than three places wider than its content
 pub is_at_most_three_over : (table : TableValue) (w : ℕ) (widths : List ℕ) → IsAtMostThreeOver table w widths
 is_at_most_three_over table w widths small none plain dynamic known arranged =
-    three_places table (visible_contents table widths) (λ v is. omega (arith, small, ap (λ (o : Option ℕ). unwrap_or o 0) (sym is ∙ known))) none plain dynamic arranged.visible_widths
+    three_places table (shown_contents table widths) (λ v is. omega (arith, small, ap (λ (o : Option ℕ). unwrap_or o 0) (sym is ∙ known))) none plain dynamic arranged.shown_widths

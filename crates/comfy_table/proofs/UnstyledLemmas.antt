@@ -7,7 +7,7 @@ use Rattle.comfy_parts.specs.declared.style.table_style.ContentLineStyle.{Conten
 use Rattle.comfy_table.specs.Drawing.{drawing_of_infos, drawn_header, drawn_row, drawn_rows, whole_widths}
 use Rattle.comfy_table.specs.Frame.{content_line, optional_frame_line}
 use Rattle.comfy_table.specs.Laws.{unstyled}
-use Rattle.comfy_table.specs.Pieces.{blank_piece, pieces_of_optional, row_height, row_line, row_lines, visible_infos}
+use Rattle.comfy_table.specs.Pieces.{blank_piece, pieces_of_optional, row_height, row_line, row_lines, shown_infos}
 use Rattle.comfy_table.specs.TableValue.{TableValue, should_style}
 
 module _ (table : TableValue) (infos : List ColumnInfo) (off : should_style table ≡ false) (plain : table.custom_styling ≡ false) where
@@ -16,10 +16,10 @@ module _ (table : TableValue) (infos : List ColumnInfo) (off : should_style tabl
   same_pieces row info (Some cell) = grind arith
 
   same_height : (row : RowValue) → row_height (unstyled table) infos row ≡ row_height table infos row
-  same_height row = λ i. greatest (map (λ (p : ℕ × ColumnInfo). length (same_pieces row p.1 (slice_get row.cells p.0) i)) (visible_infos infos))
+  same_height row = λ i. greatest (map (λ (p : ℕ × ColumnInfo). length (same_pieces row p.1 (slice_get row.cells p.0) i)) (shown_infos infos))
 
   same_line : (row : RowValue) (k : ℕ) → row_line (unstyled table) infos row k ≡ row_line table infos row k
-  same_line row k = λ i. map (λ (p : ℕ × ColumnInfo). slice_index_or (same_pieces row p.1 (slice_get row.cells p.0) i) k (blank_piece p.1)) (visible_infos infos)
+  same_line row k = λ i. map (λ (p : ℕ × ColumnInfo). slice_index_or (same_pieces row p.1 (slice_get row.cells p.0) i) k (blank_piece p.1)) (shown_infos infos)
 
   same_lines : (row : RowValue) → row_lines (unstyled table) infos row ≡ row_lines table infos row
   same_lines row = λ i. map (λ k. same_line row k i) (range_with_len 0 (same_height row i))

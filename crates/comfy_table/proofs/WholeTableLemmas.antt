@@ -11,9 +11,9 @@ use Rattle.comfy_parts.proofs.CallerLemmas.{All-at, All-given, All-same_map}
 use Rattle.comfy_table.specs.Arrangement.{IsArranged, is_full_width, room_beside_borders, widths_at}
 use Rattle.comfy_table.specs.Drawing.{infos_of}
 use Rattle.comfy_table.specs.Dynamic.{IsDynamic}
-use Rattle.comfy_table.specs.Pieces.{visible_infos}
-use Rattle.comfy_table.specs.TableValue.{TableValue, cell_content_width, column_cells, column_content_width, seen_rows, visible_columns}
-use Rattle.comfy_table.specs.Widths.{capped_content, disabled_width, fixed_by_constraint, upper_boundary, visible_count, visible_needs}
+use Rattle.comfy_table.specs.Pieces.{shown_infos}
+use Rattle.comfy_table.specs.TableValue.{TableValue, cell_content_width, column_cells, column_content_width, measured_rows, shown_columns}
+use Rattle.comfy_table.specs.Widths.{capped_content, disabled_width, fixed_by_constraint, upper_boundary, shown_count, shown_needs}
 use Rattle.comfy_table.specs.Straight.{EachCell, IsShownWhole, TextsFit}
 use Rattle.comfy_table.proofs.InfoLemmas.{infos-at}
 
@@ -26,24 +26,24 @@ all-le-greatest f (x ∷ xs) =
 -- without a constraint the width by content is the content
 unconstrained_width : (table : TableValue) (i : ℕ) (column : ColumnValue) → column.constraint ≡ None → disabled_width table (i, column) ≡ max 1 (column_content_width table i)
 unconstrained_width table i column none =
-    ap (λ (c : Option ColumnConstraint). unwrap_or (fixed_by_constraint table (visible_count table) (column_content_width table i) (column_padding column) c) (capped_content (column_content_width table i) (column_padding column) (upper_boundary table (visible_count table) c))) none
+    ap (λ (c : Option ColumnConstraint). unwrap_or (fixed_by_constraint table (shown_count table) (column_content_width table i) (column_padding column) c) (capped_content (column_content_width table i) (column_padding column) (upper_boundary table (shown_count table) c))) none
 
 -- the texts of a table that is shown whole fit
 pub whole_table_fits : (table : TableValue) (widths : List ℕ) → IsShownWhole table → IsArranged table widths → EachCell (TextsFit table) table widths
 whole_table_fits table widths is arranged = each
   where
-    shown : widths_at widths (visible_columns table) ≡ map (disabled_width table) (visible_columns table)
+    shown : widths_at widths (shown_columns table) ≡ map (disabled_width table) (shown_columns table)
     shown =
-        subst (λ (o : Option ℕ). MatchOption o (widths_at widths (visible_columns table) ≡ map (disabled_width table) (visible_columns table)) (λ w. IsDynamic (room_beside_borders table w) (visible_needs table) (is_full_width table.arrangement) (widths_at widths (visible_columns table)))) is.no_width arranged.visible_widths
+        subst (λ (o : Option ℕ). MatchOption o (widths_at widths (shown_columns table) ≡ map (disabled_width table) (shown_columns table)) (λ w. IsDynamic (room_beside_borders table w) (shown_needs table) (is_full_width table.arrangement) (widths_at widths (shown_columns table)))) is.no_width arranged.shown_widths
 
     -- a column without a constraint at its width by content
     Known : ℕ × ColumnValue → Type 0
     Known p = (p.1.constraint ≡ None) × (slice_index widths p.0 ≡ disabled_width table p)
 
-    known : All Known (visible_columns table)
-    known k default below = (is.no_constraints k default below, All-same_map (λ (p : ℕ × ColumnValue). slice_index widths p.0) (disabled_width table) (visible_columns table) shown k default below)
+    known : All Known (shown_columns table)
+    known k default below = (is.no_constraints k default below, All-same_map (λ (p : ℕ × ColumnValue). slice_index widths p.0) (disabled_width table) (shown_columns table) shown k default below)
 
-    wide : All (λ (q : ℕ × ColumnInfo). column_content_width table q.0 ≤ q.1.content_width) (visible_infos (infos_of table widths))
+    wide : All (λ (q : ℕ × ColumnInfo). column_content_width table q.0 ≤ q.1.content_width) (shown_infos (infos_of table widths))
     wide = infos-at table widths Known (λ (q : ℕ × ColumnInfo). column_content_width table q.0 ≤ q.1.content_width) known
         (λ i column w at both. let own = unconstrained_width table i column both.0 in let same = both.1 in omega (arith, at, same, own))
 
@@ -58,8 +58,8 @@ whole_table_fits table widths is arranged = each
 
     each : EachCell (TextsFit table) table widths
     each k default under j other below cell found =
-        cell_fits (slice_index_or (seen_rows table) k default) (slice_index_or (visible_infos (infos_of table widths)) j other) cell (wide j other below)
-        (All-given (λ (c : CellValue). cell_content_width c ≤ column_content_width table (slice_index_or (visible_infos (infos_of table widths)) j other).0) (λ (row : RowValue). slice_get row.cells (slice_index_or (visible_infos (infos_of table widths)) j other).0) (seen_rows table)
-        (all-le-greatest cell_content_width (column_cells table (slice_index_or (visible_infos (infos_of table widths)) j other).0)) k default under cell found)
+        cell_fits (slice_index_or (measured_rows table) k default) (slice_index_or (shown_infos (infos_of table widths)) j other) cell (wide j other below)
+        (All-given (λ (c : CellValue). cell_content_width c ≤ column_content_width table (slice_index_or (shown_infos (infos_of table widths)) j other).0) (λ (row : RowValue). slice_get row.cells (slice_index_or (shown_infos (infos_of table widths)) j other).0) (measured_rows table)
+        (all-le-greatest cell_content_width (column_cells table (slice_index_or (shown_infos (infos_of table widths)) j other).0)) k default under cell found)
         (is.uncut k default under)
-        (All-at (λ (c : CellValue). All (λ line. measure line ≤ 65535) c.text_lines) (slice_index_or (seen_rows table) k default).cells (slice_index_or (visible_infos (infos_of table widths)) j other).0 cell (is.short k default under) found)
+        (All-at (λ (c : CellValue). All (λ line. measure line ≤ 65535) c.text_lines) (slice_index_or (measured_rows table) k default).cells (slice_index_or (shown_infos (infos_of table widths)) j other).0 cell (is.short k default under) found)

@@ -20,9 +20,9 @@ use Rattle.comfy_table.specs.Arrangement.{IsArranged, room_beside_borders}
 use Rattle.comfy_table.specs.Dynamic.{Placed, Share, Steps, IsArrangedBy, IsTakenAfter, lower_of_boundary, shrunk_at, settled_at, settled_shares, fixed_shares, places_of, without_shares, share_at, undecided, others, unsettled, even_columns, even_shares, all_shares, contents_after, room_left, content_room, room_of_unsettled, average}
 use Rattle.comfy_table.specs.Frame.{border_count}
 use Rattle.comfy_table.specs.Laws.{line_total, least_with_steps}
-use Rattle.comfy_table.specs.TableLaws.{KeepsToWiderTotal, KeepsToWiderTotalInFull, FillsWiderTotal, visible_contents}
-use Rattle.comfy_table.specs.TableValue.{TableValue, visible_columns, column_content_width}
-use Rattle.comfy_table.specs.Widths.{ColumnNeeds, needs_of, visible_needs, visible_count, without_padding, even_spread, fixed_by_boundary, fixed_by_constraint, resolved_width}
+use Rattle.comfy_table.specs.TableLaws.{KeepsToWiderTotal, KeepsToWiderTotalInFull, FillsWiderTotal, shown_contents}
+use Rattle.comfy_table.specs.TableValue.{TableValue, shown_columns, column_content_width}
+use Rattle.comfy_table.specs.Widths.{ColumnNeeds, needs_of, shown_needs, shown_count, without_padding, even_spread, fixed_by_boundary, fixed_by_constraint, resolved_width}
 
 -- a share of at least one place
 abbrev HasPlace : Share → Type 0
@@ -72,7 +72,7 @@ fixed-some table n content padding (Some (Boundaries lower upper)) width is = bo
 every_early : (table : TableValue) (columns : List (ℕ × ColumnValue)) → AllByRecursion HasEarlyPlace (map (needs_of table) columns)
 every_early table [] = tt
 every_early table (p ∷ more) =
-    (fixed-some table (visible_count table) (column_content_width table p.0) (column_padding p.1) p.1.constraint, every_early table more)
+    (fixed-some table (shown_count table) (column_content_width table p.0) (column_padding p.1) p.1.constraint, every_early table more)
 
 -- ---- all shares have a place
 
@@ -124,7 +124,7 @@ module _ (room : ℕ) (columns : List ColumnNeeds) (fair : AllByRecursion HasEar
 
 -- ---- the wider bound
 
--- with full width they keep to it too, also where no column is visible
+-- with full width they keep to it too, also where no column is shown
 abbrev pub KeepsToWiderBoundInFull : ℕ → List ColumnNeeds → Steps → List ℕ → Type 0
 KeepsToWiderBoundInFull room columns steps widths =
     IsArrangedBy room columns true steps widths
@@ -137,29 +137,29 @@ keeps_to_wider_bound_in_full room (column ∷ more) steps widths arranged =
     omega (arith, fills_wider_bound room (column ∷ more) steps widths (omega arith) arranged)
 
 -- a line's total is the border characters, the paddings and the widths
-line_total-parts : (table : TableValue) (w : ℕ) (widths : List ℕ) (full : Bool) (steps : Steps) → IsArranged table widths → IsArrangedBy (room_beside_borders table w) (visible_needs table) full steps (visible_contents table widths)
-    → line_total table widths ≡ border_count table.style (visible_count table) + (sum_by (λ (column : ColumnNeeds). column.padding) (visible_needs table) + sum (visible_contents table widths))
+line_total-parts : (table : TableValue) (w : ℕ) (widths : List ℕ) (full : Bool) (steps : Steps) → IsArranged table widths → IsArrangedBy (room_beside_borders table w) (shown_needs table) full steps (shown_contents table widths)
+    → line_total table widths ≡ border_count table.style (shown_count table) + (sum_by (λ (column : ColumnNeeds). column.padding) (shown_needs table) + sum (shown_contents table widths))
 line_total-parts table w widths full steps arranged by =
-    let drawn = sum-whole_widths table widths arranged.one_for_each (every_width_has_place (room_beside_borders table w) (visible_needs table) (every_early table (visible_columns table)) full steps (visible_contents table widths) by) in
-    omega (arith, drawn, paddings_of_needs table (visible_columns table))
+    let drawn = sum-whole_widths table widths arranged.one_for_each (every_width_has_place (room_beside_borders table w) (shown_needs table) (every_early table (shown_columns table)) full steps (shown_contents table widths) by) in
+    omega (arith, drawn, paddings_of_needs table (shown_columns table))
 
 -- under `Dynamic` a line keeps to the width, or to the wider total
 pub keeps_to_wider_total : (table : TableValue) (w : ℕ) (widths : List ℕ) → KeepsToWiderTotal table w widths
 keeps_to_wider_total table w widths dynamic known arranged =
     let found = dynamic_widths table Dynamic w widths refl dynamic known arranged in
-    let bound = keeps_to_wider_bound (room_beside_borders table w) (visible_needs table) found.0 (visible_contents table widths) found.1 in
+    let bound = keeps_to_wider_bound (room_beside_borders table w) (shown_needs table) found.0 (shown_contents table widths) found.1 in
     (found.0, found.1, omega (arith, bound, line_total-parts table w widths false found.0 arranged found.1))
 
 -- under `DynamicFullWidth` a line keeps to the width, or to the wider total
 pub keeps_to_wider_total_in_full : (table : TableValue) (w : ℕ) (widths : List ℕ) → KeepsToWiderTotalInFull table w widths
 keeps_to_wider_total_in_full table w widths full known arranged =
     let found = dynamic_widths table DynamicFullWidth w widths refl full known arranged in
-    let bound = keeps_to_wider_bound_in_full (room_beside_borders table w) (visible_needs table) found.0 (visible_contents table widths) found.1 in
+    let bound = keeps_to_wider_bound_in_full (room_beside_borders table w) (shown_needs table) found.0 (shown_contents table widths) found.1 in
     (found.0, found.1, omega (arith, bound, line_total-parts table w widths true found.0 arranged found.1))
 
--- and it has exactly that many characters, where a column is visible
+-- and it has exactly that many characters, where a column is shown
 pub fills_wider_total : (table : TableValue) (w : ℕ) (widths : List ℕ) → FillsWiderTotal table w widths
 fills_wider_total table w widths full known some arranged =
     let found = dynamic_widths table DynamicFullWidth w widths refl full known arranged in
-    let exact = fills_wider_bound (room_beside_borders table w) (visible_needs table) found.0 (visible_contents table widths) (omega (arith, some, length-map (visible_columns table) (needs_of table))) found.1 in
+    let exact = fills_wider_bound (room_beside_borders table w) (shown_needs table) found.0 (shown_contents table widths) (omega (arith, some, length-map (shown_columns table) (needs_of table))) found.1 in
     (found.0, found.1, omega (arith, exact, line_total-parts table w widths true found.0 arranged found.1))

@@ -9,8 +9,8 @@ use Rattle.comfy_parts.specs.declared.style.table.ContentArrangement.TheVariants
 use Rattle.comfy_table.specs.Drawing.{drawing, infos_of}
 use Rattle.comfy_table.specs.Dynamic.{IsDynamic}
 use Rattle.comfy_table.specs.Frame.{border_count}
-use Rattle.comfy_table.specs.TableValue.{TableValue, table_width, visible_columns, column_content_width}
-use Rattle.comfy_table.specs.Widths.{disabled_width, visible_needs, visible_count}
+use Rattle.comfy_table.specs.TableValue.{TableValue, table_width, shown_columns, column_content_width}
+use Rattle.comfy_table.specs.Widths.{disabled_width, shown_needs, shown_count}
 
 -- the width that a dynamic arrangement keeps to; none under `Disabled`
 abbrev pub width_kept : ContentArrangement → Option ℕ → Option ℕ
@@ -24,7 +24,7 @@ is_full_width _ = false
 
 -- the table's width less the border characters of a line
 abbrev pub room_beside_borders : TableValue → ℕ → ℕ
-room_beside_borders table w = w - border_count table.style (visible_count table)
+room_beside_borders table w = w - border_count table.style (shown_count table)
 
 -- the hidden columns, each with its position
 abbrev pub hidden_columns : TableValue → List (ℕ × ColumnValue)
@@ -34,17 +34,17 @@ hidden_columns table = filter (λ (p : ℕ × ColumnValue). is_hidden_column p.1
 abbrev pub widths_at : List ℕ → List (ℕ × ColumnValue) → List ℕ
 widths_at widths columns = map (λ (p : ℕ × ColumnValue). slice_index widths p.0) columns
 
--- the content widths of the visible columns: by content alone where no width is kept, else dynamic
-abbrev pub AreVisibleWidths : TableValue → List ℕ → Type 0
-AreVisibleWidths table widths =
-    MatchOption (width_kept table.arrangement (table_width table)) (widths ≡ map (disabled_width table) (visible_columns table))
-    (λ w. IsDynamic (room_beside_borders table w) (visible_needs table) (is_full_width table.arrangement) widths)
+-- the content widths of the shown columns: by content alone where no width is kept, else dynamic
+abbrev pub AreShownWidths : TableValue → List ℕ → Type 0
+AreShownWidths table widths =
+    MatchOption (width_kept table.arrangement (table_width table)) (widths ≡ map (disabled_width table) (shown_columns table))
+    (λ w. IsDynamic (room_beside_borders table w) (shown_needs table) (is_full_width table.arrangement) widths)
 
 -- one content width for each column, in list order; a hidden column has its content's
 pub record IsArranged (table : TableValue) (widths : List ℕ) : Type 0 where
   pub one_for_each : length widths ≡ length table.columns
   pub hidden_widths : widths_at widths (hidden_columns table) ≡ map (λ (p : ℕ × ColumnValue). max 1 (column_content_width table p.0)) (hidden_columns table)
-  pub visible_widths : AreVisibleWidths table (widths_at widths (visible_columns table))
+  pub shown_widths : AreShownWidths table (widths_at widths (shown_columns table))
 
 -- the columns with their widths, as they are drawn
 abbrev pub AreInfosOf : TableValue → List ColumnInfo → Type 0

@@ -8,15 +8,15 @@ use Rattle.comfy_table.specs.Widths.{ColumnNeeds, even_spread}
 use Rattle.comfy_table.specs.declared.utils.arrangement.dynamic.budget.Budget.{Budget}
 use Rattle.comfy_table.specs.declared.utils.arrangement.dynamic.taking.Rule.{Rule}
 use Rattle.comfy_table.specs.declared.utils.arrangement.dynamic.taking.Rule.TheVariants.{Lower, Shrunk}
-use Rattle.comfy_table.specs.declared.utils.arrangement.dynamic.visible.VisibleColumn.{VisibleColumn}
+use Rattle.comfy_table.specs.declared.utils.arrangement.dynamic.needs.WidthNeeds.{WidthNeeds}
 
--- what the width of a visible column depends on, as it is kept beside the column
-abbrev pub needs_in : TableValue → VisibleColumn → ColumnNeeds
+-- what the width of a shown column depends on, as it is kept beside the column
+abbrev pub needs_in : TableValue → WidthNeeds → ColumnNeeds
 needs_in table v =
     record { content = v.content; padding = column_padding v.column.now; fixed = v.fixed; lower = v.lower; upper = v.upper; longest = longest_line table v.position v.column.now.delimiter }
 
--- what the widths of all visible columns depend on, in list order
-abbrev pub all_needs : TableValue → List VisibleColumn → List ColumnNeeds
+-- what the widths of all shown columns depend on, in list order
+abbrev pub all_needs : TableValue → List WidthNeeds → List ColumnNeeds
 all_needs table columns = map (needs_in table) columns
 
 -- whether the column at a position has no width yet; past the last column there is none

@@ -6,16 +6,16 @@ use Rattle.comfy_parts.specs.CellValue.{RowValue, ColumnValue, ColumnInfo, info_
 use Rattle.comfy_parts.specs.Text.{Text}
 use Rattle.comfy_parts.specs.declared.style.table_style.ContentLineStyle.{ContentLineStyle}
 use Rattle.comfy_table.specs.Frame.{content_line, optional_frame_line}
-use Rattle.comfy_table.specs.Pieces.{row_lines, visible_infos}
+use Rattle.comfy_table.specs.Pieces.{row_lines, shown_infos}
 use Rattle.comfy_table.specs.TableValue.{TableValue}
 
 -- each column with its content width, hidden ones too, in list order
 abbrev pub infos_of : TableValue → List ℕ → List ColumnInfo
 infos_of table widths = map (λ (p : ColumnValue × ℕ). info_of p.0 p.1) (zip table.columns widths)
 
--- the whole widths of the visible columns, in list order
+-- the whole widths of the shown columns, in list order
 abbrev pub whole_widths : List ColumnInfo → List ℕ
-whole_widths infos = map (λ (p : ℕ × ColumnInfo). info_width p.1) (visible_infos infos)
+whole_widths infos = map (λ (p : ℕ × ColumnInfo). info_width p.1) (shown_infos infos)
 
 module _ (table : TableValue) (infos : List ColumnInfo) where
   -- the lines of a row, framed as header lines or as content lines

@@ -1,4 +1,4 @@
--- Private: the cells of a row as its visible columns draw them.
+-- Private: the cells of a row as its shown columns draw them.
 use Rattle.std.specs.Prelude.{ℕ, List, [], ◌∷◌, Option, Some, None, map, length, slice_index_or}
 use Rattle.comfy_parts.specs.CellValue.{CellValue, RowValue, ColumnInfo}
 use Rattle.comfy_parts.specs.Text.{Text, greatest}
@@ -6,7 +6,7 @@ use Rattle.comfy_table.specs.DrawnLines.{DrawnLine}
 use Rattle.comfy_table.specs.Pieces.{blank_piece, pieces_at, text_piece}
 use Rattle.comfy_table.specs.TableValue.{TableValue}
 
--- a visible column, and its pieces in a row
+-- a shown column, and its pieces in a row
 pub record DrawnCell : Type 0 where
   pub info : ColumnInfo
   pub pieces : List Text
@@ -16,7 +16,7 @@ abbrev pub pieces_of_content : TableValue → ColumnInfo → Option (CellValue �
 pieces_of_content table info None = blank_piece info ∷ []
 pieces_of_content table info (Some content) = map (λ (line : DrawnLine). text_piece table content.0 info line.columns line.written) content.1
 
--- a visible column with its position in a row
+-- a shown column with its position in a row
 abbrev pub drawn_cell : TableValue → RowValue → ℕ × ColumnInfo → DrawnCell
 drawn_cell table row p = record { info = p.1; pieces = pieces_at table row p }
 

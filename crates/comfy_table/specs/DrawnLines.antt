@@ -2,20 +2,20 @@
 use Rattle.std.specs.Prelude.{ℕ, List, [], ◌∷◌}
 use Rattle.comfy_parts.specs.Text.{Text, measure}
 use Rattle.comfy_parts.specs.VisibleLines.{CellLine}
-use Rattle.comfy_table.specs.Lines.{as_seen}
+use Rattle.comfy_table.specs.Lines.{as_measured}
 
--- a line of a cell as it is drawn: the terminal columns of what is seen of it, and what is written
+-- a line of a cell as it is drawn: the terminal columns of what is measured of it, and what is written
 pub record DrawnLine : Type 0 where
   pub columns : ℕ
   pub written : Text
 
 -- that of a line
 abbrev pub drawn_line : CellLine → DrawnLine
-drawn_line line = record { columns = measure line.seen; written = line.written }
+drawn_line line = record { columns = measure line.measured; written = line.written }
 
--- that of a line which is written as it is seen
+-- that of a line which is written as it is measured
 abbrev pub drawn_text : Text → DrawnLine
-drawn_text line = drawn_line (as_seen line)
+drawn_text line = drawn_line (as_measured line)
 
 -- lines of which the first have texts of their own
 abbrev pub with_texts : List DrawnLine → List Text → List DrawnLine

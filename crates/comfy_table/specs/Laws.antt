@@ -16,9 +16,9 @@ use Rattle.comfy_table.specs.Drawing.{infos_of, terminated_text_of, text_of, who
 use Rattle.comfy_table.specs.Dynamic.{Steps, IsDynamic, fixed_shares, places_of, total}
 use Rattle.comfy_table.specs.Frame.{border_count}
 use Rattle.comfy_table.specs.Lines.{cell_lines, cell_delimiter, fitting_indicator, uncut_count, whole_lines}
-use Rattle.comfy_table.specs.Pieces.{visible_infos, row_cell_lines}
-use Rattle.comfy_table.specs.TableValue.{TableValue, table_width, visible_columns, column_cells, header_and_rows, seen_cell, seen_table, seen_rows, should_style}
-use Rattle.comfy_table.specs.Widths.{ColumnNeeds, visible_count}
+use Rattle.comfy_table.specs.Pieces.{shown_infos, row_cell_lines}
+use Rattle.comfy_table.specs.TableValue.{TableValue, table_width, shown_columns, column_cells, header_and_rows, measured_cell, measured_table, measured_rows, should_style}
+use Rattle.comfy_table.specs.Widths.{ColumnNeeds, shown_count}
 
 -- ---- counts of lines
 
@@ -26,22 +26,22 @@ use Rattle.comfy_table.specs.Widths.{ColumnNeeds, visible_count}
 abbrev pub count : Text → ℕ
 count line = length (chars line)
 
--- the table as it is seen, without styling
+-- the table as it is measured, without styling
 abbrev pub unstyled : TableValue → TableValue
-unstyled table = record (seen_table table) { no_tty = true; enforce_styling = false }
+unstyled table = record (measured_table table) { no_tty = true; enforce_styling = false }
 
--- the border characters of a line, and the whole widths of the visible columns
+-- the border characters of a line, and the whole widths of the shown columns
 abbrev pub line_total : TableValue → List ℕ → ℕ
-line_total table widths = border_count table.style (visible_count table) + sum (whole_widths (infos_of table widths))
+line_total table widths = border_count table.style (shown_count table) + sum (whole_widths (infos_of table widths))
 
--- borders, paddings and one terminal column for each visible column
+-- borders, paddings and one terminal column for each shown column
 abbrev pub least_total : TableValue → ℕ
 least_total table =
-    border_count table.style (visible_count table) + (sum_by (λ (p : ℕ × ColumnValue). column_padding p.1) (visible_columns table) + visible_count table)
+    border_count table.style (shown_count table) + (sum_by (λ (p : ℕ × ColumnValue). column_padding p.1) (shown_columns table) + shown_count table)
 
 -- a cell's text lines and its delimiter in this column are printable ASCII
-abbrev pub IsPlainCell : TableValue → Option ℕ → CellValue → Type 0
-IsPlainCell table column_delimiter cell =
+abbrev pub IsPrintableCell : TableValue → Option ℕ → CellValue → Type 0
+IsPrintableCell table column_delimiter cell =
     All (λ line. is_printable_ascii line ≡ true) cell.text_lines × (is_in_range 0x20 0x7E (cell_delimiter table column_delimiter cell) ≡ true)
 
 -- where a row cuts the cell of this column, the indicator that is written adds one column for each of its characters
@@ -51,20 +51,20 @@ AddsOneColumnEachWhereWritten table row p =
     → h < length (cell_lines p.1.content_width (cell_delimiter table p.1.delimiter cell) cell)
     → AddsOneColumnEach (fitting_indicator p.1.content_width table.indicator)
 
--- all known cells of the visible columns are printable ASCII
-abbrev pub HasPlainCells : TableValue → Type 0
-HasPlainCells table = All (λ (p : ℕ × ColumnValue). All (IsPlainCell table p.1.delimiter) (column_cells table p.0)) (visible_columns table)
+-- all known cells of the shown columns are printable ASCII
+abbrev pub HasPrintableCells : TableValue → Type 0
+HasPrintableCells table = All (λ (p : ℕ × ColumnValue). All (IsPrintableCell table p.1.delimiter) (column_cells table p.0)) (shown_columns table)
 
--- all known cells of the visible columns are printable ASCII, and the indicator adds one column for each of its characters wherever it is written
-pub record IsPlainTable (table : TableValue) (widths : List ℕ) : Type 0 where
-  pub plain_cells : HasPlainCells table
-  pub indicator_adds_one_column_each : All (λ (row : RowValue). All (AddsOneColumnEachWhereWritten table row) (visible_infos (infos_of table widths))) (seen_rows table)
+-- all known cells of the shown columns are printable ASCII, and the indicator adds one column for each of its characters wherever it is written
+pub record IsPrintableTable (table : TableValue) (widths : List ℕ) : Type 0 where
+  pub printable_cells : HasPrintableCells table
+  pub indicator_adds_one_column_each : All (λ (row : RowValue). All (AddsOneColumnEachWhereWritten table row) (shown_infos (infos_of table widths))) (measured_rows table)
 
 -- ---- totals
 
--- no visible column has a constraint
+-- no shown column has a constraint
 abbrev pub NoConstraints : TableValue → Type 0
-NoConstraints table = All (λ (p : ℕ × ColumnValue). p.1.constraint ≡ None) (visible_columns table)
+NoConstraints table = All (λ (p : ℕ × ColumnValue). p.1.constraint ≡ None) (shown_columns table)
 
 -- under `Dynamic` a line keeps to the width, or to borders, paddings and one terminal column for each column
 abbrev pub KeepsToWidth : TableValue → ℕ → List ℕ → Type 0
@@ -72,10 +72,10 @@ KeepsToWidth table w widths =
     NoConstraints table → table.arrangement ≡ Dynamic → table_width table ≡ Some w → IsArranged table widths
     → line_total table widths ≤ max w (least_total table)
 
--- under `DynamicFullWidth` a line has exactly that width, where a column is visible
+-- under `DynamicFullWidth` a line has exactly that width, where a column is shown
 abbrev pub FillsWidth : TableValue → ℕ → List ℕ → Type 0
 FillsWidth table w widths =
-    NoConstraints table → table.arrangement ≡ DynamicFullWidth → table_width table ≡ Some w → 0 < visible_count table → IsArranged table widths
+    NoConstraints table → table.arrangement ≡ DynamicFullWidth → table_width table ≡ Some w → 0 < shown_count table → IsArranged table widths
     → line_total table widths ≡ max w (least_total table)
 
 -- with constraints, the whole widths of the fixed and lower columns stand for one terminal column and their paddings; `room` is the width less the borders
@@ -92,12 +92,12 @@ DynamicIsOne room columns full widths others = IsDynamic room columns full width
 
 -- ---- texts
 
--- the lines of a cell that no height cuts, as they are seen, have all characters of its text, in order, but for delimiters
+-- the lines of a cell that no height cuts, as they are measured, have all characters of its text, in order, but for delimiters
 abbrev pub CellKeepsItsText : TableValue → RowValue → ColumnInfo → CellValue → Type 0
 CellKeepsItsText table row info cell =
-    row.max_height ≡ None → IsScalar (cell_delimiter table info.delimiter cell) → All IsUtf8 (seen_cell table cell).text_lines
-    → characters_without (cell_delimiter table info.delimiter cell) (concat (map (λ (line : CellLine). line.seen) (row_cell_lines table row info cell)))
-    ≡ characters_without (cell_delimiter table info.delimiter cell) (concat (seen_cell table cell).text_lines)
+    row.max_height ≡ None → IsScalar (cell_delimiter table info.delimiter cell) → All IsUtf8 (measured_cell table cell).text_lines
+    → characters_without (cell_delimiter table info.delimiter cell) (concat (map (λ (line : CellLine). line.measured) (row_cell_lines table row info cell)))
+    ≡ characters_without (cell_delimiter table info.delimiter cell) (concat (measured_cell table cell).text_lines)
 
 -- ---- styling and sequences
 
@@ -118,9 +118,9 @@ pub record HasStyleWithout (b : ℕ) (table : TableValue) : Type 0 where
   pub indicator : HasNo b table.indicator
   pub characters : IsStyleWithout b table.style
 
--- no text line as it is seen, no character of the style and no indicator holds ESC
+-- no text line as it is measured, no character of the style and no indicator holds ESC
 pub record IsFreeOfEscapes (table : TableValue) : Type 0 where
-  pub text_lines : All (λ (row : RowValue). All (λ (cell : CellValue). All HasNoEscape cell.text_lines) row.cells) (seen_rows table)
+  pub text_lines : All (λ (row : RowValue). All (λ (cell : CellValue). All HasNoEscape cell.text_lines) row.cells) (measured_rows table)
   pub style : HasStyleWithout 0x1B table
 
 -- neither a character of the style nor the indicator holds a line feed
@@ -159,10 +159,10 @@ LinesAreResumedInRow table row info cell =
     AllZip IsResumedLine (take (uncut_in_row table row info cell) (line_starts info.content_width (cell_delimiter table info.delimiter cell) cell.text_lines))
     (take (uncut_in_row table row info cell) (row_cell_lines table row info cell))
 
--- with custom styling, a line that is cut is written as it is seen, closed
+-- with custom styling, a line that is cut is written as it is measured, closed
 abbrev pub CutLinesAreClosed : TableValue → RowValue → ColumnInfo → CellValue → Type 0
 CutLinesAreClosed table row info cell =
-    All (λ (line : CellLine). line.written ≡ closed line.seen) (drop (uncut_in_row table row info cell) (row_cell_lines table row info cell))
+    All (λ (line : CellLine). line.written ≡ closed line.measured) (drop (uncut_in_row table row info cell) (row_cell_lines table row info cell))
 
 -- ---- sequences in drawn lines
 
@@ -178,10 +178,10 @@ EndsItsStyling cell = ((cell.background ≡ None) × (cell.foreground ≡ None))
 abbrev pub EndsStyling : TableValue → Type 0
 EndsStyling table = (should_style table ≡ false) ⊎ All (λ (row : RowValue). All EndsItsStyling row.cells) (header_and_rows table)
 
--- each visible column has a padding at its right, or no ESC is seen in its cells: so no sequence begins in a text and ends outside it
+-- each shown column has a padding at its right, or no ESC is measured in its cells: so no sequence begins in a text and ends outside it
 abbrev pub EndsSequencesInTexts : TableValue → Type 0
 EndsSequencesInTexts table =
-    All (λ (p : ℕ × ColumnValue). (1 ≤ p.1.padding.1) ⊎ All (λ (cell : CellValue). All HasNoEscape cell.text_lines) (column_cells table p.0)) (visible_columns table)
+    All (λ (p : ℕ × ColumnValue). (1 ≤ p.1.padding.1) ⊎ All (λ (cell : CellValue). All HasNoEscape cell.text_lines) (column_cells table p.0)) (shown_columns table)
 
 -- only texts of cells hold sequences, but for styling that ends: neither the style nor the indicator holds ESC, and no sequence ends outside its text
 pub record HasSequencesInTextsAlone (table : TableValue) : Type 0 where

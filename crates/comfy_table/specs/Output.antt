@@ -14,10 +14,10 @@ pub record OutputValue : Type 0 where
   pub text : Text
 
 -- the lines that are kept as texts of their own
-abbrev pub own_lines : OutputForm → List Text → List Text
-own_lines Lines lines = lines
-own_lines Joined lines = []
-own_lines Trimmed lines = []
+abbrev pub lines_in_list : OutputForm → List Text → List Text
+lines_in_list Lines lines = lines
+lines_in_list Joined lines = []
+lines_in_list Trimmed lines = []
 
 -- what stands in the one text for a line
 abbrev pub line_in_text : OutputForm → Text → Text
@@ -32,7 +32,7 @@ new_output form = record { form = form; lines = []; text = [] }
 -- an output with these lines after its own
 abbrev pub with_lines : List Text → OutputValue → OutputValue
 with_lines more output =
-    record output { lines = output.lines ++ own_lines output.form more; text = output.text ++ flat_map (line_in_text output.form) more }
+    record output { lines = output.lines ++ lines_in_list output.form more; text = output.text ++ flat_map (line_in_text output.form) more }
 
 -- what draws a table: the table, its columns' infos, and the output
 pub record WriterValue : Type 0 where

@@ -42,9 +42,9 @@ abbrev pub text_piece : TableValue → CellValue → ColumnInfo → ℕ → Text
 text_piece table cell info columns text =
     if should_style table then (if table.style_text_only then padded cell info columns (styled cell text) else styled cell (padded cell info columns text)) else padded cell info columns text
 
--- the piece of a line: what is seen of it is measured
+-- the piece of a line: what is measured of it is measured
 abbrev pub piece : TableValue → CellValue → ColumnInfo → CellLine → Text
-piece table cell info line = text_piece table cell info (measure line.seen) line.written
+piece table cell info line = text_piece table cell info (measure line.measured) line.written
 
 -- what stands where a column has no line
 abbrev pub blank_piece : ColumnInfo → Text
@@ -65,21 +65,21 @@ pieces_of_optional table row info None = blank_piece info ∷ []
 pieces_of_optional table row info (Some cell) = cell_pieces table row info cell
 
 -- the drawn columns that are visible, each with its position
-abbrev pub visible_infos : List ColumnInfo → List (ℕ × ColumnInfo)
-visible_infos infos = filter (λ (p : ℕ × ColumnInfo). not p.1.is_hidden) (enumerate_from 0 infos)
+abbrev pub shown_infos : List ColumnInfo → List (ℕ × ColumnInfo)
+shown_infos infos = filter (λ (p : ℕ × ColumnInfo). not p.1.is_hidden) (enumerate_from 0 infos)
 
--- the pieces of a row in the visible column at a position: those of the cell at the same position
+-- the pieces of a row in the shown column at a position: those of the cell at the same position
 abbrev pub pieces_at : TableValue → RowValue → ℕ × ColumnInfo → List Text
 pieces_at table row p = pieces_of_optional table row p.1 (slice_get row.cells p.0)
 
--- the height of a row: the greatest number of lines in a visible column, 0 where none is visible
+-- the height of a row: the greatest number of lines in a shown column, 0 where none is shown
 abbrev pub row_height : TableValue → List ColumnInfo → RowValue → ℕ
-row_height table infos row = greatest (map (λ (p : ℕ × ColumnInfo). length (pieces_at table row p)) (visible_infos infos))
+row_height table infos row = greatest (map (λ (p : ℕ × ColumnInfo). length (pieces_at table row p)) (shown_infos infos))
 
--- line k of a row: the k-th piece of each visible column, or a blank_piece
+-- line k of a row: the k-th piece of each shown column, or a blank_piece
 abbrev pub row_line : TableValue → List ColumnInfo → RowValue → ℕ → List Text
 row_line table infos row k =
-    map (λ (p : ℕ × ColumnInfo). slice_index_or (pieces_at table row p) k (blank_piece p.1)) (visible_infos infos)
+    map (λ (p : ℕ × ColumnInfo). slice_index_or (pieces_at table row p) k (blank_piece p.1)) (shown_infos infos)
 
 -- the lines of a row, each as its pieces
 abbrev pub row_lines : TableValue → List ColumnInfo → RowValue → List (List Text)

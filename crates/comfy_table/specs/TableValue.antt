@@ -128,21 +128,21 @@ abbrev pub visible_row : RowValue → RowValue
 visible_row row = record row { cells = map visible_cell row.cells }
 
 -- a cell as its widths, line ends and cuts are found: with custom styling by what is visible of it
-abbrev pub seen_cell : TableValue → CellValue → CellValue
-seen_cell table cell = record cell { text_lines = if table.custom_styling then map visible_text cell.text_lines else cell.text_lines }
+abbrev pub measured_cell : TableValue → CellValue → CellValue
+measured_cell table cell = record cell { text_lines = if table.custom_styling then map visible_text cell.text_lines else cell.text_lines }
 
 -- a table as its widths, line ends and cuts are found, which then has no custom styling: what joins where a sequence was taken out isn't looked at again
-abbrev pub seen_table : TableValue → TableValue
-seen_table table =
+abbrev pub measured_table : TableValue → TableValue
+measured_table table =
     record table { header = if table.custom_styling then option_map visible_row table.header else table.header; rows = if table.custom_styling then map visible_row table.rows else table.rows; custom_styling = false }
 
 -- its header, if there is one, and its rows
-abbrev pub seen_rows : TableValue → List RowValue
-seen_rows table = header_and_rows (seen_table table)
+abbrev pub measured_rows : TableValue → List RowValue
+measured_rows table = header_and_rows (measured_table table)
 
--- the cells at position i of the header and the rows as they are seen, from the top; a row without one is passed over
+-- the cells at position i of the header and the rows as they are measured, from the top; a row without one is passed over
 abbrev pub column_cells : TableValue → ℕ → List CellValue
-column_cells table i = filter_map (λ (row : RowValue). slice_get row.cells i) (seen_rows table)
+column_cells table i = filter_map (λ (row : RowValue). slice_get row.cells i) (measured_rows table)
 
 -- the greatest measure of a cell's text lines, at least 1 and at most 65535
 abbrev pub cell_content_width : CellValue → ℕ
@@ -156,6 +156,6 @@ column_content_width table i = greatest (map cell_content_width (column_cells ta
 abbrev pub max_content_widths : TableValue → List ℕ
 max_content_widths table = map (column_content_width table) (range_with_len 0 (length table.columns))
 
--- the visible columns, each with its position
-abbrev pub visible_columns : TableValue → List (ℕ × ColumnValue)
-visible_columns table = filter (λ (p : ℕ × ColumnValue). not (is_hidden_column p.1)) (enumerate_from 0 table.columns)
+-- the shown columns, each with its position
+abbrev pub shown_columns : TableValue → List (ℕ × ColumnValue)
+shown_columns table = filter (λ (p : ℕ × ColumnValue). not (is_hidden_column p.1)) (enumerate_from 0 table.columns)

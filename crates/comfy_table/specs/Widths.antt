@@ -8,7 +8,7 @@ use Rattle.comfy_parts.specs.declared.style.column.Width.{Width}
 use Rattle.comfy_parts.specs.declared.style.column.Width.TheVariants.{Fixed, Percentage}
 use Rattle.comfy_table.specs.Frame.{border_count}
 use Rattle.comfy_table.specs.Lines.{longest_line}
-use Rattle.comfy_table.specs.TableValue.{TableValue, table_width, column_content_width, visible_columns}
+use Rattle.comfy_table.specs.TableValue.{TableValue, table_width, column_content_width, shown_columns}
 
 -- the part at an index of an even spread of x over k: x / k, and one more for each of the first x mod k
 abbrev pub part_of : ℕ → ℕ → ℕ → ℕ
@@ -19,15 +19,15 @@ abbrev pub even_spread : ℕ → ℕ → List ℕ
 even_spread x k = map (part_of x k) (range_with_len 0 k)
 
 -- how many columns are visible
-abbrev pub visible_count : TableValue → ℕ
-visible_count table = length (visible_columns table)
+abbrev pub shown_count : TableValue → ℕ
+shown_count table = length (shown_columns table)
 
 -- p percent, at most 100, of the known width less the border characters, rounded down
 abbrev pub percentage_of : Option ℕ → ℕ → ℕ → Option ℕ
 percentage_of None borders p = None
 percentage_of (Some w) borders p = Some (min p 100 * (w - borders) / 100)
 
--- a width over n visible columns: a fixed one is itself, a percentage needs a known table width
+-- a width over n shown columns: a fixed one is itself, a percentage needs a known table width
 abbrev pub resolved_width : TableValue → ℕ → Width → Option ℕ
 resolved_width table n (Fixed x) = Some x
 resolved_width table n (Percentage p) = percentage_of (table_width table) (border_count table.style n) p
@@ -59,22 +59,22 @@ fixed_by_constraint table n content padding (Some ContentWidth) = Some (max 1 co
 fixed_by_constraint table n content padding (Some (Absolute x)) = option_map (without_padding padding) (resolved_width table n x)
 fixed_by_constraint table n content padding constraint = fixed_by_boundary content padding (lower_boundary table n constraint)
 
--- the fixed width of a visible column, where it has one
+-- the fixed width of a shown column, where it has one
 abbrev pub fixed_width : TableValue → ℕ × ColumnValue → Option ℕ
 fixed_width table p =
-    fixed_by_constraint table (visible_count table) (column_content_width table p.0) (column_padding p.1) p.1.constraint
+    fixed_by_constraint table (shown_count table) (column_content_width table p.0) (column_padding p.1) p.1.constraint
 
 -- the content, but the upper boundary less the paddings where that boundary is below the content
 abbrev pub capped_content : ℕ → ℕ → Option ℕ → ℕ
 capped_content content padding None = max 1 content
 capped_content content padding (Some u) = if nat_lt u content then without_padding padding u else max 1 content
 
--- the width of a visible column that is arranged by its content alone
+-- the width of a shown column that is arranged by its content alone
 abbrev pub disabled_width : TableValue → ℕ × ColumnValue → ℕ
 disabled_width table p =
-    unwrap_or (fixed_width table p) (capped_content (column_content_width table p.0) (column_padding p.1) (upper_boundary table (visible_count table) p.1.constraint))
+    unwrap_or (fixed_width table p) (capped_content (column_content_width table p.0) (column_padding p.1) (upper_boundary table (shown_count table) p.1.constraint))
 
--- what a dynamic width of a visible column depends on
+-- what a dynamic width of a shown column depends on
 pub record ColumnNeeds : Type 0 where
   -- the content
   pub content : ℕ
@@ -87,11 +87,11 @@ pub record ColumnNeeds : Type 0 where
   -- the longest line of its cells at a width
   pub longest : ℕ → ℕ
 
--- the needs of a visible column
+-- the needs of a shown column
 abbrev pub needs_of : TableValue → ℕ × ColumnValue → ColumnNeeds
 needs_of table p =
-    record { content = column_content_width table p.0; padding = column_padding p.1; fixed = fixed_width table p; lower = lower_boundary table (visible_count table) p.1.constraint; upper = upper_boundary table (visible_count table) p.1.constraint; longest = longest_line table p.0 p.1.delimiter }
+    record { content = column_content_width table p.0; padding = column_padding p.1; fixed = fixed_width table p; lower = lower_boundary table (shown_count table) p.1.constraint; upper = upper_boundary table (shown_count table) p.1.constraint; longest = longest_line table p.0 p.1.delimiter }
 
--- the needs of the visible columns, in list order
-abbrev pub visible_needs : TableValue → List ColumnNeeds
-visible_needs table = map (needs_of table) (visible_columns table)
+-- the needs of the shown columns, in list order
+abbrev pub shown_needs : TableValue → List ColumnNeeds
+shown_needs table = map (needs_of table) (shown_columns table)

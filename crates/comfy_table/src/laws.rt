@@ -28,15 +28,15 @@ pub fn columns_only_grow()
     ensures { (n : ℕ) (columns : List ColumnValue) → NoFewerColumns n columns }
 {}
 
-/// A frame line has as many characters as the borders and the whole widths of the visible columns together, whatever the
+/// A frame line has as many characters as the borders and the whole widths of the shown columns together, whatever the
 /// texts.
 pub fn frame_lines_have_one_count()
     ensures { (table : TableValue) (widths : List ℕ) (line : LineStyle) → FrameCounts table widths line }
 {}
 
-/// Where no visible column has a constraint, a frame line has at most as many characters as the set width, or as borders,
-/// paddings and one character for each visible column, under `Dynamic`. Under `DynamicFullWidth` it has exactly so many,
-/// where a column is visible.
+/// Where no shown column has a constraint, a frame line has at most as many characters as the set width, or as borders,
+/// paddings and one character for each shown column, under `Dynamic`. Under `DynamicFullWidth` it has exactly so many,
+/// where a column is shown.
 pub fn frame_lines_keep_to_the_width()
     ensures dynamic { (table : TableValue) (w : ℕ) (widths : List ℕ) (line : LineStyle) → FrameKeepsToWidth table w widths line }
     ensures full { (table : TableValue) (w : ℕ) (widths : List ℕ) (line : LineStyle) → FrameFillsWidth table w widths line }
@@ -70,9 +70,9 @@ pub fn new_tables_leave_no_sequence_open()
     ensures { (style : TableStyle) (header : RowValue) (rows : List RowValue) (lines : List Text) → NewTablesLeaveNoneOpen style header rows lines }
 {}
 
-/// Where no visible column has a constraint, borders and whole widths together keep to the set width, or to borders,
-/// paddings and one terminal column for each visible column, whichever is more. Under `DynamicFullWidth` they are
-/// exactly that wide, where a column is visible.
+/// Where no shown column has a constraint, borders and whole widths together keep to the set width, or to borders,
+/// paddings and one terminal column for each shown column, whichever is more. Under `DynamicFullWidth` they are
+/// exactly that wide, where a column is shown.
 pub fn widths_keep_to_the_width()
     ensures dynamic { (table : TableValue) (w : ℕ) (widths : List ℕ) → KeepsToWidth table w widths }
     ensures full { (table : TableValue) (w : ℕ) (widths : List ℕ) → FillsWidth table w widths }
@@ -80,7 +80,7 @@ pub fn widths_keep_to_the_width()
 
 /// Under every constraint borders and whole widths together keep to the set width or to a least total, whichever is more.
 /// The total is borders, the whole widths of the columns that a constraint decides first, and paddings and one terminal
-/// column for each other column. Under `DynamicFullWidth` they are exactly that wide, where a column is visible.
+/// column for each other column. Under `DynamicFullWidth` they are exactly that wide, where a column is shown.
 pub fn widths_keep_to_the_wider_total()
     ensures dynamic { (table : TableValue) (w : ℕ) (widths : List ℕ) → KeepsToWiderTotal table w widths }
     ensures full_at_most { (table : TableValue) (w : ℕ) (widths : List ℕ) → KeepsToWiderTotalInFull table w widths }
@@ -123,7 +123,7 @@ pub fn shrinking_keeps_the_lines()
     ensures { (table : TableValue) (p : ℕ × ColumnValue) (b : ℕ) → ShrinkingKeepsCells table p b }
 {}
 
-/// The lines of a cell that no height cuts, as they are seen, have all characters of its text, in order, but for
+/// The lines of a cell that no height cuts, as they are measured, have all characters of its text, in order, but for
 /// delimiters. What is drawn of a cell are these lines with paddings and spaces, and with sequences where styles are
 /// written.
 pub fn cells_keep_their_text()

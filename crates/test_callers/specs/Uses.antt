@@ -10,8 +10,8 @@ use Rattle.comfy_parts.specs.declared.style.table.ContentArrangement.TheVariants
 use Rattle.comfy_parts.specs.declared.style.table_style.LineStyle.{LineStyle}
 use Rattle.comfy_table.specs.Drawing.{drawing, infos_of, whole_widths}
 use Rattle.comfy_table.specs.Frame.{frame_line}
-use Rattle.comfy_table.specs.Laws.{FillsWidth, IsPlainTable, KeepsToWidth, NoConstraints, count, least_total, unstyled}
-use Rattle.comfy_table.specs.Pieces.{row_cell_lines, visible_infos}
+use Rattle.comfy_table.specs.Laws.{FillsWidth, IsPrintableTable, KeepsToWidth, NoConstraints, count, least_total, unstyled}
+use Rattle.comfy_table.specs.Pieces.{row_cell_lines, shown_infos}
 use Rattle.comfy_table.specs.TableLaws.{FillsWiderTotal, FrameCounts, FrameFillsWidth, FrameKeepsToWidth, IsAtMostThreeOver, KeepsToWiderTotal, KeepsToWiderTotalInFull, TableIsFull, TableIsLevelled, TableKeepsContents, TableLevelIsBest}
 use Rattle.comfy_table.specs.TableValue.{TableValue, header_and_rows, new_table, with_header, with_row}
 use Rattle.test_callers.specs.declared.uses.items.NumberRows.{NumberRows}
@@ -29,16 +29,16 @@ table_within w header row = with_row row (with_header header (record (new_table 
 -- no line of the text has more than w characters, where the table is plain and w is enough for it
 abbrev pub IsPrintedWithin : ℕ → TableValue → Text → Type 0
 IsPrintedWithin w table text =
-    NoConstraints table → ((widths : List ℕ) → IsPlainTable table widths) → least_total table ≤ w → All (λ line. count line ≤ w) (slice_split (λ b. b == 0x0A) text)
+    NoConstraints table → ((widths : List ℕ) → IsPrintableTable table widths) → least_total table ≤ w → All (λ line. count line ≤ w) (slice_split (λ b. b == 0x0A) text)
 
 -- a table of one text that keeps to a width
 abbrev pub text_within : ℕ → Text → TableValue
 text_within w text = with_row (plain_row (plain_cell text ∷ [])) (record (new_table ascii_full) { set_width = Some w; arrangement = Dynamic })
 
--- what is seen of the lines of that text in a new column of content width w
+-- what is visible of the lines of that text in a new column of content width w
 abbrev pub lines_of_one : TableValue → ℕ → Text → List Text
 lines_of_one table w text =
-    map (λ (line : CellLine). line.seen) (row_cell_lines table (plain_row (plain_cell text ∷ [])) (info_of (new_column 0) w) (plain_cell text))
+    map (λ (line : CellLine). line.measured) (row_cell_lines table (plain_row (plain_cell text ∷ [])) (info_of (new_column 0) w) (plain_cell text))
 
 -- the lines are a drawing of the table in which the lines of the text, one after another, have all its characters, in order, but for spaces and line feeds
 abbrev pub IsDrawnWhole : TableValue → Text → List Text → Type 0
@@ -47,14 +47,14 @@ IsDrawnWhole table text lines =
     × (characters_without 0x20 (concat (lines_of_one table w text)) ≡ characters_without 0x20 (concat (slice_split (λ b. b == 0x0A) text)))
 
 -- the lines are a drawing of the table without colours and attributes
-abbrev pub IsPlainDrawing : TableValue → List Text → Type 0
-IsPlainDrawing table lines = (widths : List ℕ) × (lines ≡ drawing (unstyled table) widths)
+abbrev pub IsUnstyledDrawing : TableValue → List Text → Type 0
+IsUnstyledDrawing table lines = (widths : List ℕ) × (lines ≡ drawing (unstyled table) widths)
 
--- the lines are a drawing of the table, whose rows and header have cells for which P holds in each visible column
+-- the lines are a drawing of the table, whose rows and header have cells for which P holds in each shown column
 abbrev pub IsDrawnWithCells : (RowValue → ColumnInfo → CellValue → Type 0) → TableValue → List Text → Type 0
 IsDrawnWithCells P table lines =
     (widths : List ℕ) × (lines ≡ drawing table widths)
-    × All (λ (row : RowValue). All (λ (p : ℕ × ColumnInfo). (cell : CellValue) → slice_get row.cells p.0 ≡ Some cell → P row p.1 cell) (visible_infos (infos_of table widths))) (header_and_rows table)
+    × All (λ (row : RowValue). All (λ (p : ℕ × ColumnInfo). (cell : CellValue) → slice_get row.cells p.0 ≡ Some cell → P row p.1 cell) (shown_infos (infos_of table widths))) (header_and_rows table)
 
 -- the rows that the iterator still gives: each number that is left, in a list of its own
 abbrev pub rows_left : NumberRows → List (List ℕ)

@@ -7,8 +7,8 @@ ghost use Rattle.comfy_run.specs.Input.{IsOutputFor};
 ghost use Rattle.comfy_table.specs.Arrangement.{IsDrawingOf};
 ghost use Rattle.comfy_table.specs.Laws.{NoConstraints, least_total};
 ghost use Rattle.comfy_table.specs.TableValue.{new_table, should_style, with_header, with_row};
-ghost use Rattle.comfy_table.specs.Widths.{visible_count};
-ghost use Rattle.test_callers.specs.Uses.{HasFrameOf, IsPlainDrawing};
+ghost use Rattle.comfy_table.specs.Widths.{shown_count};
+ghost use Rattle.test_callers.specs.Uses.{HasFrameOf, IsUnstyledDrawing};
 
 pub mod cells;
 pub mod columns;
@@ -70,12 +70,12 @@ pub fn drawn(alloc: Global, header: Row, row: Row) -> comfy_table::Result<Lines>
     table.lines()
 }
 
-/// Draws a table over a whole width. Where a column is visible and none of the visible ones has a constraint, each frame
-/// line has as many characters as the width, or as borders, paddings and one character for each visible column, whichever
+/// Draws a table over a whole width. Where a column is shown and none of the visible ones has a constraint, each frame
+/// line has as many characters as the width, or as borders, paddings and one character for each shown column, whichever
 /// is more.
 pub fn drawn_over_width(table: &mut Table, width: u16) -> comfy_table::Result<Lines>
     ensures set { table.new ≡ record table.old { set_width = Some width; arrangement = ContentArrangement.DynamicFullWidth } }
-    ensures frame { IfOk result (λ lines. 0 < visible_count table.old → NoConstraints table.old → HasFrameOf (max width (least_total table.old)) table.new lines) }
+    ensures frame { IfOk result (λ lines. 0 < shown_count table.old → NoConstraints table.old → HasFrameOf (max width (least_total table.old)) table.new lines) }
 {
     table
         .set_width(width)
@@ -85,8 +85,8 @@ pub fn drawn_over_width(table: &mut Table, width: u16) -> comfy_table::Result<Li
 
 /// The drawing of a table. Where neither colours and attributes are written nor sequences inside cells are looked for, it
 /// is the drawing without them.
-pub fn drawn_plainly(table: &Table) -> comfy_table::Result<Lines>
-    ensures { IfOk result (λ lines. should_style table.now ≡ false → table.now.custom_styling ≡ false → IsPlainDrawing table.now lines) }
+pub fn drawn_unstyled(table: &Table) -> comfy_table::Result<Lines>
+    ensures { IfOk result (λ lines. should_style table.now ≡ false → table.now.custom_styling ≡ false → IsUnstyledDrawing table.now lines) }
 {
     table.lines()
 }

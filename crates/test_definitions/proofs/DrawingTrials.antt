@@ -15,7 +15,7 @@ use Rattle.comfy_parts.proofs.Computing.{wrapping}
 
 nothing_added : IsDrawingOf (new_table ascii_full) (texts ("++" ∷ "++" ∷ []))
 unfolding wrapping trim_end
-nothing_added = ([], record { one_for_each = refl; hidden_widths = refl; visible_widths = refl }, refl)
+nothing_added = ([], record { one_for_each = refl; hidden_widths = refl; shown_widths = refl }, refl)
 
 abbrev three_texts : TableValue
 three_texts =
@@ -35,7 +35,7 @@ several_lines_in_a_cell : IsDrawingOf three_texts (texts
     ∷ "+----------------------+----------------------+------------------------+" ∷ []))
 unfolding wrapping trim_end
 several_lines_in_a_cell =
-    (20 ∷ 20 ∷ 22 ∷ [], record { one_for_each = refl; hidden_widths = refl; visible_widths = refl }, refl)
+    (20 ∷ 20 ∷ 22 ∷ [], record { one_for_each = refl; hidden_widths = refl; shown_widths = refl }, refl)
 
 missing_cells : IsDrawingOf
     (table_of ascii_full ("Header1" ∷ "Header2" ∷ "Header3" ∷ []) (("One One" ∷ "One Two" ∷ "One Three" ∷ []) ∷ ("Two One" ∷ "Two Two" ∷ []) ∷ ("Three One" ∷ []) ∷ [])) (texts
@@ -50,14 +50,14 @@ missing_cells : IsDrawingOf
     ∷ "+-----------+---------+-----------+" ∷ []))
 unfolding wrapping trim_end
 missing_cells =
-    (9 ∷ 7 ∷ 9 ∷ [], record { one_for_each = refl; hidden_widths = refl; visible_widths = refl }, refl)
+    (9 ∷ 7 ∷ 9 ∷ [], record { one_for_each = refl; hidden_widths = refl; shown_widths = refl }, refl)
 
 -- a table whose columns are all hidden: only the side borders are left
 all_hidden : IsDrawingOf
     (with_constraints (Some Hidden ∷ Some Hidden ∷ [])
     (table_of utf8_full ("hidden_header" ∷ "smol" ∷ []) (("start_hidden" ∷ "smol" ∷ []) ∷ ("asdf" ∷ "smol" ∷ []) ∷ []))) (texts ("┌┐" ∷ "╞╡" ∷ "├┤" ∷ "└┘" ∷ []))
 unfolding wrapping trim_end
-all_hidden = (13 ∷ 4 ∷ [], record { one_for_each = refl; hidden_widths = refl; visible_widths = refl }, refl)
+all_hidden = (13 ∷ 4 ∷ [], record { one_for_each = refl; hidden_widths = refl; shown_widths = refl }, refl)
 
 -- only a fill is set in the separator, and only side borders in the content
 abbrev sides_and_a_separator : TableStyle
@@ -88,7 +88,7 @@ trimmed_top_border = refl
 -- a left character alone makes a line, and a left border
 left_character_alone : IsDrawingOf (rows_of (style_of "*___" "___" "____" "___" "____" "____") (("a" ∷ []) ∷ [])) (texts ("*   " ∷ "  a " ∷ []))
 unfolding wrapping trim_end
-left_character_alone = (1 ∷ [], record { one_for_each = refl; hidden_widths = refl; visible_widths = refl }, refl)
+left_character_alone = (1 ∷ [], record { one_for_each = refl; hidden_widths = refl; shown_widths = refl }, refl)
 
 -- ---- styles
 
@@ -148,7 +148,7 @@ paddings : IsDrawingOf
     ∷ "|     Three One     | Three Two |Three Three|"
     ∷ "+-------------------+-----------+-----------+" ∷ []))
 unfolding wrapping trim_end
-paddings = (9 ∷ 9 ∷ 11 ∷ [], record { one_for_each = refl; hidden_widths = refl; visible_widths = refl }, refl)
+paddings = (9 ∷ 9 ∷ 11 ∷ [], record { one_for_each = refl; hidden_widths = refl; shown_widths = refl }, refl)
 
 -- a cell's alignment goes before its column's
 alignments : drawing

@@ -9,7 +9,7 @@ use Rattle.comfy_parts.specs.Text.{Text}
 use Rattle.comfy_parts.specs.declared.style.table.ContentArrangement.{ContentArrangement}
 use Rattle.comfy_parts.specs.declared.style.table_style.TableStyle.{TableStyle}
 use Rattle.std.specs.List.{list_all}
-use Rattle.comfy_run.specs.Counts.{is_plain_byte}
+use Rattle.comfy_run.specs.Counts.{is_printable_input_byte}
 use Rattle.comfy_run.specs.Input.{input_table}
 use Rattle.comfy_table.specs.Arrangement.{IsDrawingOf}
 use Rattle.comfy_table.specs.Drawing.{terminated_text_of}
@@ -22,7 +22,7 @@ IsWrittenFor width arrangement style text output =
 empty_input : IsWrittenFor None Disabled ascii_full [] (0x2B ∷ 0x2B ∷ 0x0A ∷ 0x2B ∷ 0x2B ∷ 0x0A ∷ [])
 unfolding wrapping
 empty_input =
-    (codes "++" ∷ codes "++" ∷ [], ([], record { one_for_each = refl; hidden_widths = refl; visible_widths = refl }, refl), refl)
+    (codes "++" ∷ codes "++" ∷ [], ([], record { one_for_each = refl; hidden_widths = refl; shown_widths = refl }, refl), refl)
 
 no_room : IsWrittenFor (Some 0) Dynamic ascii_full (codes "ab\tcd\n") (codes "+---+---+\n| a | c |\n| b | d |\n+=======+\n+---+---+\n")
 unfolding wrapping
@@ -30,7 +30,7 @@ no_room = (
   codes "+---+---+" ∷ codes "| a | c |" ∷ codes "| b | d |" ∷ codes "+=======+" ∷ codes "+---+---+" ∷ [],
   (
     1 ∷ 1 ∷ [],
-    record { one_for_each = refl; hidden_widths = refl; visible_widths = (record { lower = []; level = None; shrunk = [] }, record { lower_taken = refl; level_found = lit< tt; shrunk_taken = refl; widths_are = refl }) },
+    record { one_for_each = refl; hidden_widths = refl; shown_widths = (record { lower = []; level = None; shrunk = [] }, record { lower_taken = refl; level_found = lit< tt; shrunk_taken = refl; widths_are = refl }) },
     refl,
   ),
   refl,
@@ -40,7 +40,7 @@ breaks_and_carriage_returns : IsWrittenFor None Disabled ascii_full (codes "a\r\
 unfolding wrapping
 breaks_and_carriage_returns = (
   codes "+---+---+" ∷ codes "| a |   |" ∷ codes "+=======+" ∷ codes "| b | d |" ∷ codes "| c |   |" ∷ codes "+---+---+" ∷ [],
-  (1 ∷ 1 ∷ [], record { one_for_each = refl; hidden_widths = refl; visible_widths = refl }, refl),
+  (1 ∷ 1 ∷ [], record { one_for_each = refl; hidden_widths = refl; shown_widths = refl }, refl),
   refl,
 )
 
@@ -68,7 +68,7 @@ cells_with_breaks = (
       ∷ "|                      | add some             |                        |"
       ∷ "|                      | multi line stuff     |                        |"
       ∷ "+----------------------+----------------------+------------------------+" ∷ []),
-  (20 ∷ 20 ∷ 22 ∷ [], record { one_for_each = refl; hidden_widths = refl; visible_widths = refl }, refl),
+  (20 ∷ 20 ∷ 22 ∷ [], record { one_for_each = refl; hidden_widths = refl; shown_widths = refl }, refl),
   refl,
 )
 
@@ -77,13 +77,13 @@ markdown : IsWrittenFor None Disabled ascii_markdown
 unfolding wrapping
 markdown = (
   codes "| Hello | there |" ∷ codes "|-------|-------|" ∷ codes "| a     | b     |" ∷ [],
-  (5 ∷ 5 ∷ [], record { one_for_each = refl; hidden_widths = refl; visible_widths = refl }, refl),
+  (5 ∷ 5 ∷ [], record { one_for_each = refl; hidden_widths = refl; shown_widths = refl }, refl),
   refl,
 )
 
 -- letters, TAB and U+000B are plain, a byte of `é` isn't
-plain_line : list_all is_plain_byte (codes "a\tb\u{b}c") ≡ true
-plain_line = refl
+printable_line : list_all is_printable_input_byte (codes "a\tb\u{b}c") ≡ true
+printable_line = refl
 
-accented_line : list_all is_plain_byte (0x63 ∷ 0xC3 ∷ 0xA9 ∷ []) ≡ false
+accented_line : list_all is_printable_input_byte (0x63 ∷ 0xC3 ∷ 0xA9 ∷ []) ≡ false
 accented_line = refl

@@ -21,7 +21,7 @@ kept = record { columns = All-nil IsColumn; header = tt; rows = All-nil IsRow; d
 abbrev both_lines : IsOutputFor None Disabled ascii_full [] (codes "++\n++\n")
 unfolding wrapping
 both_lines =
-    (codes "++" ∷ codes "++" ∷ [], table_drawing no_table [] (codes "++" ∷ codes "++" ∷ []) (utf8_indicator {A = Global} None) kept ([], record { one_for_each = refl; hidden_widths = refl; visible_widths = refl }, refl) refl, refl)
+    (codes "++" ∷ codes "++" ∷ [], table_drawing no_table [] (codes "++" ∷ codes "++" ∷ []) (utf8_indicator {A = Global} None) kept ([], record { one_for_each = refl; hidden_widths = refl; shown_widths = refl }, refl) refl, refl)
 
 abbrev all_written : RunFacts
 all_written = record { input = []; end_was_read = true; written = codes "++\n++\n"; read_failed = false; write_failed = false }

@@ -14,9 +14,9 @@ use Rattle.comfy_parts.specs.declared.style.table_style.LineStyle.{LineStyle}
 use Rattle.comfy_parts.specs.declared.style.table_style.TableStyle.{TableStyle}
 use Rattle.comfy_table.specs.Arrangement.{IsArranged}
 use Rattle.comfy_table.specs.Drawing.{drawing, infos_of}
-use Rattle.comfy_table.specs.Laws.{count, line_total, unstyled, IsPlainTable, IsPlainCell, AddsOneColumnEachWhereWritten, HasNoEscape, IsFreeOfEscapes}
+use Rattle.comfy_table.specs.Laws.{count, line_total, unstyled, IsPrintableTable, IsPrintableCell, AddsOneColumnEachWhereWritten, HasNoEscape, IsFreeOfEscapes}
 use Rattle.comfy_table.specs.TableValue.{TableValue, new_table, column_cells, header_and_rows}
-use Rattle.comfy_table.specs.Pieces.{visible_infos}
+use Rattle.comfy_table.specs.Pieces.{shown_infos}
 use Rattle.comfy_parts.specs.VisibleText.{visible_text}
 
 abbrev no_line : LineStyle
@@ -47,12 +47,12 @@ torn_is_even p printable =
     measure_of cs = str_width false cs
 
 -- the table is plain
-torn_is_plain : IsPlainTable torn (1 ∷ [])
+torn_is_printable : IsPrintableTable torn (1 ∷ [])
 unfolding wrapping chars
-torn_is_plain =
+torn_is_printable =
     record {
-      plain_cells = All-cons (λ (p : ℕ × ColumnValue). All (IsPlainCell torn p.1.delimiter) (column_cells torn p.0)) _ [] (All-cons (IsPlainCell torn None) _ [] (printable, refl) (All-nil (IsPlainCell torn None))) (All-nil (λ (p : ℕ × ColumnValue). All (IsPlainCell torn p.1.delimiter) (column_cells torn p.0)));
-      indicator_adds_one_column_each = All-every (λ (row : RowValue). All (AddsOneColumnEachWhereWritten torn row) (visible_infos (infos_of torn (1 ∷ [])))) (header_and_rows torn) (λ row. All-cons (AddsOneColumnEachWhereWritten torn row) _ [] (λ cell h found height cut. torn_is_even) (All-nil (AddsOneColumnEachWhereWritten torn row)));
+      printable_cells = All-cons (λ (p : ℕ × ColumnValue). All (IsPrintableCell torn p.1.delimiter) (column_cells torn p.0)) _ [] (All-cons (IsPrintableCell torn None) _ [] (printable, refl) (All-nil (IsPrintableCell torn None))) (All-nil (λ (p : ℕ × ColumnValue). All (IsPrintableCell torn p.1.delimiter) (column_cells torn p.0)));
+      indicator_adds_one_column_each = All-every (λ (row : RowValue). All (AddsOneColumnEachWhereWritten torn row) (shown_infos (infos_of torn (1 ∷ [])))) (header_and_rows torn) (λ row. All-cons (AddsOneColumnEachWhereWritten torn row) _ [] (λ cell h found height cut. torn_is_even) (All-nil (AddsOneColumnEachWhereWritten torn row)));
     }
   where
     printable : All (λ line. is_printable_ascii line ≡ true) ((0x61 ∷ []) ∷ (0x61 ∷ []) ∷ [])
@@ -62,7 +62,7 @@ torn_is_plain =
 -- its one column has the width 1
 torn_is_arranged : IsArranged torn (1 ∷ [])
 unfolding wrapping chars
-torn_is_arranged = record { one_for_each = refl; hidden_widths = refl; visible_widths = refl }
+torn_is_arranged = record { one_for_each = refl; hidden_widths = refl; shown_widths = refl }
 
 -- the indicator stands before the border
 torn_lines : drawing (unstyled torn) (1 ∷ []) ≡ (0x61 ∷ 0xC3 ∷ 0xE2 ∷ 0x94 ∷ 0x82 ∷ []) ∷ []

@@ -11,9 +11,9 @@ use Rattle.comfy_parts.specs.declared.style.attribute.Attribute.TheVariants.{Bol
 use Rattle.comfy_parts.specs.declared.style.color.Color.{Color}
 use Rattle.comfy_parts.specs.declared.style.color.Color.TheVariants.{Reset, Green, Black, Rgb, AnsiValue}
 use Rattle.test_definitions.proofs.TrialTables.{texts}
-use Rattle.comfy_table.specs.Lines.{as_seen}
+use Rattle.comfy_table.specs.Lines.{as_measured}
 use Rattle.comfy_table.specs.Pieces.{piece}
-use Rattle.comfy_table.specs.TableValue.{TableValue, new_table, with_row, max_content_widths, seen_table}
+use Rattle.comfy_table.specs.TableValue.{TableValue, new_table, with_row, max_content_widths, measured_table}
 use Rattle.comfy_parts.specs.Laws.{characters_without}
 use Rattle.comfy_parts.specs.VisibleLines.{CellLine, LineStart, line_starts, line_texts}
 use Rattle.comfy_table.specs.Drawing.{drawing}
@@ -37,43 +37,43 @@ abbrev styled_cell : String → Option Color → Option Color → List Attribute
 styled_cell text foreground background attributes =
     record (plain_cell (codes text)) { foreground = foreground; background = background; attributes = attributes }
 
-bold_header : piece (styled_table false) (styled_cell "Header1" None None (Bold ∷ [])) wide_info (as_seen (codes "Header1")) ≡ codes "\u{1b}[1m Header1             \u{1b}[0m"
+bold_header : piece (styled_table false) (styled_cell "Header1" None None (Bold ∷ [])) wide_info (as_measured (codes "Header1")) ≡ codes "\u{1b}[1m Header1             \u{1b}[0m"
 unfolding wrapping
 bold_header = refl
 
-all_the_things : piece (styled_table true) (styled_cell "COMBINE ALL THE THINGS" (Some Green) (Some Black) (Bold ∷ SlowBlink ∷ [])) wider_info (as_seen (codes "COMBINE ALL THE THINGS")) ≡ codes " \u{1b}[48;5;0m\u{1b}[38;5;10m\u{1b}[1m\u{1b}[5mCOMBINE ALL THE THINGS\u{1b}[0m        "
+all_the_things : piece (styled_table true) (styled_cell "COMBINE ALL THE THINGS" (Some Green) (Some Black) (Bold ∷ SlowBlink ∷ [])) wider_info (as_measured (codes "COMBINE ALL THE THINGS")) ≡ codes " \u{1b}[48;5;0m\u{1b}[38;5;10m\u{1b}[1m\u{1b}[5mCOMBINE ALL THE THINGS\u{1b}[0m        "
 unfolding wrapping
 all_the_things = refl
 
-two_colours : piece (styled_table false) (styled_cell "x" (Some Green) (Some Black) []) info (as_seen (codes "x")) ≡ codes "\u{1b}[48;5;0m\u{1b}[38;5;10m x \u{1b}[49m\u{1b}[39m"
+two_colours : piece (styled_table false) (styled_cell "x" (Some Green) (Some Black) []) info (as_measured (codes "x")) ≡ codes "\u{1b}[48;5;0m\u{1b}[38;5;10m x \u{1b}[49m\u{1b}[39m"
 unfolding wrapping
 two_colours = refl
 
-each_attribute_once : piece (styled_table true) (styled_cell "x" None None (Underlined ∷ Bold ∷ Bold ∷ [])) info (as_seen (codes "x")) ≡ codes " \u{1b}[1m\u{1b}[4mx\u{1b}[0m "
+each_attribute_once : piece (styled_table true) (styled_cell "x" None None (Underlined ∷ Bold ∷ Bold ∷ [])) info (as_measured (codes "x")) ≡ codes " \u{1b}[1m\u{1b}[4mx\u{1b}[0m "
 unfolding wrapping
 each_attribute_once = refl
 
-reset_foreground : piece (styled_table false) (styled_cell "x" (Some Reset) None []) info (as_seen (codes "x")) ≡ codes "\u{1b}[39m x \u{1b}[39m"
+reset_foreground : piece (styled_table false) (styled_cell "x" (Some Reset) None []) info (as_measured (codes "x")) ≡ codes "\u{1b}[39m x \u{1b}[39m"
 unfolding wrapping
 reset_foreground = refl
 
-three_parts : piece (styled_table false) (styled_cell "x" (Some (Rgb 1 2 3)) None []) info (as_seen (codes "x")) ≡ codes "\u{1b}[38;2;1;2;3m x \u{1b}[39m"
+three_parts : piece (styled_table false) (styled_cell "x" (Some (Rgb 1 2 3)) None []) info (as_measured (codes "x")) ≡ codes "\u{1b}[38;2;1;2;3m x \u{1b}[39m"
 unfolding wrapping digits
 three_parts = refl
 
-one_of_256 : piece (styled_table false) (styled_cell "x" None (Some (AnsiValue 200)) []) info (as_seen (codes "x")) ≡ codes "\u{1b}[48;5;200m x \u{1b}[49m"
+one_of_256 : piece (styled_table false) (styled_cell "x" None (Some (AnsiValue 200)) []) info (as_measured (codes "x")) ≡ codes "\u{1b}[48;5;200m x \u{1b}[49m"
 unfolding wrapping digits
 one_of_256 = refl
 
-nothing_set : piece (styled_table false) (styled_cell "x" None None []) info (as_seen (codes "x")) ≡ codes " x "
+nothing_set : piece (styled_table false) (styled_cell "x" None None []) info (as_measured (codes "x")) ≡ codes " x "
 unfolding wrapping
 nothing_set = refl
 
 -- ---- sequences in cells
 
--- a line as it is seen and as it is written
+-- a line as it is measured and as it is written
 abbrev as_line : String → String → CellLine
-as_line seen written = record { seen = codes seen; written = codes written }
+as_line visible written = record { measured = codes visible; written = codes written }
 
 over_two_lines : line_texts 10 0x20 (codes "hello\u{1b}[34m\u{1b}[2m123" ∷ codes "456\u{1b}[0mcell1" ∷ []) ≡ as_line "hello123" "hello\u{1b}[34m\u{1b}[2m123\u{1b}[0m" ∷ as_line "456cell1" "\u{1b}[34m\u{1b}[2m456\u{1b}[0mcell1" ∷ []
 unfolding wrapping
@@ -89,7 +89,7 @@ sequences_alone : line_texts 5 0x20 (codes "\u{1b}[1m" ∷ codes "a\u{1b}[0m" �
 unfolding wrapping
 sequences_alone = refl
 
--- an ESC that begins no sequence is seen, also where what is taken out would join to one
+-- an ESC that begins no sequence is visible, also where what is taken out would join to one
 visible_escapes : line_texts 9 0x20 (codes "\u{1b}[\u{1b}[1m1mx\u{1b}" ∷ []) ≡ as_line "\u{1b}[1mx\u{1b}" "\u{1b}[\u{1b}[1m1mx\u{1b}\u{1b}[0m" ∷ []
 unfolding wrapping
 visible_escapes = refl
@@ -106,19 +106,19 @@ custom_contents : max_content_widths bold_letters ≡ 6 ∷ []
 unfolding wrapping
 custom_contents = refl
 
-seen_drawing : IsDrawingOf (seen_table bold_letters) (texts ("+--------+" ∷ "| abcdef |" ∷ "+--------+" ∷ []))
+measured_drawing : IsDrawingOf (measured_table bold_letters) (texts ("+--------+" ∷ "| abcdef |" ∷ "+--------+" ∷ []))
 unfolding wrapping
-seen_drawing = (6 ∷ [], record { one_for_each = refl; hidden_widths = refl; visible_widths = refl }, refl)
+measured_drawing = (6 ∷ [], record { one_for_each = refl; hidden_widths = refl; shown_widths = refl }, refl)
 
-seen_dynamic_drawing : IsDrawingOf (seen_table (record bold_letters { arrangement = Dynamic; set_width = Some 7 })) (texts ("+-----+" ∷ "| abc |" ∷ "| def |" ∷ "+-----+" ∷ []))
+measured_dynamic_drawing : IsDrawingOf (measured_table (record bold_letters { arrangement = Dynamic; set_width = Some 7 })) (texts ("+-----+" ∷ "| abc |" ∷ "| def |" ∷ "+-----+" ∷ []))
 unfolding wrapping
-seen_dynamic_drawing =
-    (3 ∷ [], record { one_for_each = refl; hidden_widths = refl; visible_widths = (record { lower = []; level = Some 3; shrunk = [] }, record { lower_taken = refl; level_found = (lit≤ tt, lit≤ tt, lit≤ tt, λ some. refl); shrunk_taken = refl; widths_are = refl }) }, refl)
+measured_dynamic_drawing =
+    (3 ∷ [], record { one_for_each = refl; hidden_widths = refl; shown_widths = (record { lower = []; level = Some 3; shrunk = [] }, record { lower_taken = refl; level_found = (lit≤ tt, lit≤ tt, lit≤ tt, λ some. refl); shrunk_taken = refl; widths_are = refl }) }, refl)
 
 over_a_break : IsDrawingOf (record bold_letters { arrangement = Dynamic; set_width = Some 7 }) (texts ("+-----+" ∷ "| \u{1b}[1mabc\u{1b}[0m |" ∷ "| \u{1b}[1mdef\u{1b}[0m |" ∷ "+-----+" ∷ []))
 unfolding wrapping
 over_a_break =
-    (3 ∷ [], record { one_for_each = refl; hidden_widths = refl; visible_widths = (record { lower = []; level = Some 3; shrunk = [] }, record { lower_taken = refl; level_found = (lit≤ tt, lit≤ tt, lit≤ tt, λ some. refl); shrunk_taken = refl; widths_are = refl }) }, refl)
+    (3 ∷ [], record { one_for_each = refl; hidden_widths = refl; shown_widths = (record { lower = []; level = Some 3; shrunk = [] }, record { lower_taken = refl; level_found = (lit≤ tt, lit≤ tt, lit≤ tt, λ some. refl); shrunk_taken = refl; widths_are = refl }) }, refl)
 
 -- a cut line keeps no sequence
 cut_without_sequences : drawing (record bold_letters { rows = record (plain_row (plain_cell (codes "\u{1b}[1mabcdef\u{1b}[0m") ∷ [])) { max_height = Some 1 } ∷ [] }) (3 ∷ []) ≡ texts ("+-----+" ∷ "| ab… |" ∷ "+-----+" ∷ [])

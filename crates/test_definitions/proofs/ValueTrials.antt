@@ -3,7 +3,7 @@ use Rattle.std.proofs.Common.{◌≡◌, [], ◌∷◌, Some, true, false, refl}
 use Rattle.std.specs.Prelude.{codes}
 use Rattle.std.specs.Fmt.{digits}
 use Rattle.comfy_parts.proofs.Computing.{wrapping}
-use Rattle.comfy_parts.specs.CellValue.{number_cell, bool_cell, char_cell, plain_cell, plain_row, content_of, with_cell, with_max_height, new_column, saturated_padding, visible_among}
+use Rattle.comfy_parts.specs.CellValue.{number_cell, bool_cell, char_cell, plain_cell, plain_row, content_of, with_cell, with_max_height, new_column, saturated_padding, shown_among}
 use Rattle.comfy_parts.specs.Comparisons.{ascends, attribute_cmp, color_cmp}
 use Rattle.comfy_parts.specs.declared.style.attribute.Attribute.TheVariants as attribute
 use Rattle.comfy_parts.specs.declared.style.color.Color.TheVariants as color
@@ -30,7 +30,7 @@ a_row = refl
 wide_padding : saturated_padding (record (new_column 0) { padding = (65535, 65535) }) ≡ 65535
 wide_padding = refl
 
-one_of_two : visible_among (record (new_column 0) { constraint = Some Hidden } ∷ new_column 1 ∷ []) ≡ 1
+one_of_two : shown_among (record (new_column 0) { constraint = Some Hidden } ∷ new_column 1 ∷ []) ≡ 1
 one_of_two = refl
 
 -- constraints past the last column are ignored

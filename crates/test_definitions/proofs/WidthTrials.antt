@@ -34,33 +34,33 @@ seven_over_three = refl
 -- an absolute width less the paddings, and a text of delimiters alone: no content line
 five_spaces : IsDrawingOf (with_constraints (Some (Absolute (Fixed 5)) ∷ []) (rows_of ascii_full (("     " ∷ []) ∷ []))) (texts ("+-----+" ∷ "+-----+" ∷ []))
 unfolding wrapping
-five_spaces = (3 ∷ [], record { one_for_each = refl; hidden_widths = refl; visible_widths = refl }, refl)
+five_spaces = (3 ∷ [], record { one_for_each = refl; hidden_widths = refl; shown_widths = refl }, refl)
 
 -- an upper boundary is compared with the content without its padding
 boundary_above_content : IsDrawingOf (with_constraints (Some (UpperBoundary (Fixed 6)) ∷ []) (rows_of ascii_full (("abcde" ∷ []) ∷ []))) (texts ("+-------+" ∷ "| abcde |" ∷ "+-------+" ∷ []))
 unfolding wrapping
-boundary_above_content = (5 ∷ [], record { one_for_each = refl; hidden_widths = refl; visible_widths = refl }, refl)
+boundary_above_content = (5 ∷ [], record { one_for_each = refl; hidden_widths = refl; shown_widths = refl }, refl)
 
 boundary_below_content : IsDrawingOf (with_constraints (Some (UpperBoundary (Fixed 4)) ∷ []) (rows_of ascii_full (("abcde" ∷ []) ∷ []))) (texts ("+----+" ∷ "| ab |" ∷ "| cd |" ∷ "| e  |" ∷ "+----+" ∷ []))
 unfolding wrapping
-boundary_below_content = (2 ∷ [], record { one_for_each = refl; hidden_widths = refl; visible_widths = refl }, refl)
+boundary_below_content = (2 ∷ [], record { one_for_each = refl; hidden_widths = refl; shown_widths = refl }, refl)
 
 -- half of 20, less the paddings
 half_of_the_width : IsDrawingOf (with_constraints (Some (Absolute (Percentage 50)) ∷ []) (arranged Disabled 22 (rows_of ascii_full (("a" ∷ []) ∷ [])))) (texts ("+----------+" ∷ "| a        |" ∷ "+----------+" ∷ []))
 unfolding wrapping
-half_of_the_width = (8 ∷ [], record { one_for_each = refl; hidden_widths = refl; visible_widths = refl }, refl)
+half_of_the_width = (8 ∷ [], record { one_for_each = refl; hidden_widths = refl; shown_widths = refl }, refl)
 
 half_of_nothing_known : IsDrawingOf (with_constraints (Some (Absolute (Percentage 50)) ∷ []) (rows_of ascii_full (("a" ∷ []) ∷ []))) (texts ("+---+" ∷ "| a |" ∷ "+---+" ∷ []))
 unfolding wrapping
-half_of_nothing_known = (1 ∷ [], record { one_for_each = refl; hidden_widths = refl; visible_widths = refl }, refl)
+half_of_nothing_known = (1 ∷ [], record { one_for_each = refl; hidden_widths = refl; shown_widths = refl }, refl)
 
 half_of_one : IsDrawingOf (with_constraints (Some (Absolute (Percentage 50)) ∷ []) (arranged Disabled 1 (rows_of ascii_full (("a" ∷ []) ∷ [])))) (texts ("+---+" ∷ "| a |" ∷ "+---+" ∷ []))
 unfolding wrapping
-half_of_one = (1 ∷ [], record { one_for_each = refl; hidden_widths = refl; visible_widths = refl }, refl)
+half_of_one = (1 ∷ [], record { one_for_each = refl; hidden_widths = refl; shown_widths = refl }, refl)
 
 lower_boundary_kept : IsDrawingOf (with_constraints (Some (LowerBoundary (Fixed 10)) ∷ []) (rows_of ascii_full (("abc" ∷ []) ∷ []))) (texts ("+----------+" ∷ "| abc      |" ∷ "+----------+" ∷ []))
 unfolding wrapping
-lower_boundary_kept = (8 ∷ [], record { one_for_each = refl; hidden_widths = refl; visible_widths = refl }, refl)
+lower_boundary_kept = (8 ∷ [], record { one_for_each = refl; hidden_widths = refl; shown_widths = refl }, refl)
 
 contents_of_a_header : max_content_widths (table_of ascii_full ("thr" ∷ "four" ∷ "fivef" ∷ []) []) ≡ 3 ∷ 4 ∷ 5 ∷ []
 unfolding wrapping
@@ -99,7 +99,7 @@ columns_only_grow = refl
 -- a cell that was added to a row after the columns is not drawn
 late_cell : IsDrawingOf (record (rows_of ascii_full (("one" ∷ "two" ∷ []) ∷ [])) { rows = row_of ("one" ∷ "two" ∷ "three" ∷ []) ∷ [] }) (texts ("+-----+-----+" ∷ "| one | two |" ∷ "+-----+-----+" ∷ []))
 unfolding wrapping
-late_cell = (3 ∷ 3 ∷ [], record { one_for_each = refl; hidden_widths = refl; visible_widths = refl }, refl)
+late_cell = (3 ∷ 3 ∷ [], record { one_for_each = refl; hidden_widths = refl; shown_widths = refl }, refl)
 
 widest_paddings : map info_width (infos_of (with_paddings ((65535, 65535) ∷ []) (rows_of ascii_full (("a" ∷ []) ∷ []))) (1 ∷ [])) ≡ 131071 ∷ []
 widest_paddings = refl
@@ -130,7 +130,7 @@ three_even_columns : IsDrawingOf
     ∷ "╰────────────┴────────────┴────────────╯" ∷ []))
 unfolding wrapping
 three_even_columns =
-    (10 ∷ 10 ∷ 10 ∷ [], record { one_for_each = refl; hidden_widths = refl; visible_widths = (record { lower = []; level = Some 10; shrunk = [] }, record { lower_taken = refl; level_found = (lit≤ tt, lit≤ tt, lit≤ tt, λ some. refl); shrunk_taken = refl; widths_are = refl }) }, refl)
+    (10 ∷ 10 ∷ 10 ∷ [], record { one_for_each = refl; hidden_widths = refl; shown_widths = (record { lower = []; level = Some 10; shrunk = [] }, record { lower_taken = refl; level_found = (lit≤ tt, lit≤ tt, lit≤ tt, λ some. refl); shrunk_taken = refl; widths_are = refl }) }, refl)
 
 -- at 10 the first column's longest line is 7, and the others share 23
 first_column_shrinks : IsDrawingOf
@@ -148,7 +148,7 @@ first_column_shrinks : IsDrawingOf
     ∷ "╰─────────┴──────────────┴─────────────╯" ∷ []))
 unfolding wrapping
 first_column_shrinks =
-    (7 ∷ 12 ∷ 11 ∷ [], record { one_for_each = refl; hidden_widths = refl; visible_widths = (record { lower = []; level = Some 10; shrunk = (0, 7) ∷ [] }, record { lower_taken = refl; level_found = (lit≤ tt, lit≤ tt, lit≤ tt, λ some. refl); shrunk_taken = (refl, refl); widths_are = refl }) }, refl)
+    (7 ∷ 12 ∷ 11 ∷ [], record { one_for_each = refl; hidden_widths = refl; shown_widths = (record { lower = []; level = Some 10; shrunk = (0, 7) ∷ [] }, record { lower_taken = refl; level_found = (lit≤ tt, lit≤ tt, lit≤ tt, λ some. refl); shrunk_taken = (refl, refl); widths_are = refl }) }, refl)
 
 -- hidden columns keep the cells of their positions
 hidden_columns_are_left_out : IsDrawingOf
@@ -172,7 +172,7 @@ hidden_columns_are_left_out : IsDrawingOf
     ∷ "└──────┴────────┴───────┘" ∷ []))
 unfolding wrapping
 hidden_columns_are_left_out =
-    (13 ∷ 4 ∷ 13 ∷ 27 ∷ 6 ∷ 5 ∷ 13 ∷ [], record { one_for_each = refl; hidden_widths = refl; visible_widths = (record { lower = []; level = Some 5; shrunk = [] }, record { lower_taken = refl; level_found = (lit≤ tt, lit≤ tt, lit≤ tt, λ some. refl); shrunk_taken = refl; widths_are = refl }) }, refl)
+    (13 ∷ 4 ∷ 13 ∷ 27 ∷ 6 ∷ 5 ∷ 13 ∷ [], record { one_for_each = refl; hidden_widths = refl; shown_widths = (record { lower = []; level = Some 5; shrunk = [] }, record { lower_taken = refl; level_found = (lit≤ tt, lit≤ tt, lit≤ tt, λ some. refl); shrunk_taken = refl; widths_are = refl }) }, refl)
 
 every_column_hidden : IsDrawingOf
     (with_constraints (Some Hidden ∷ Some Hidden ∷ Some Hidden ∷ Some Hidden ∷ Some Hidden ∷ Some Hidden ∷ Some Hidden ∷ []) (table_of utf8_full ("hidden_header" ∷ "smol" ∷ "hidden_header" ∷ "Two_hidden_headers_in_a_row" ∷ "Header2" ∷ "Header3" ∷ "hidden_header" ∷ []) (("start_hidden" ∷ "smol" ∷ "middle_hidden" ∷ "two_hidden_headers_in_a_row" ∷ "This is another text" ∷ "This is the third text" ∷ "end_hidden" ∷ []) ∷ ("asdf" ∷ "smol" ∷ "asdf" ∷ "asdf" ∷ "Now\nadd some\nmulti line stuff" ∷ "This is awesome" ∷ "asdf" ∷ []) ∷ []))) (texts
@@ -182,7 +182,7 @@ every_column_hidden : IsDrawingOf
     ∷ "└┘" ∷ []))
 unfolding wrapping
 every_column_hidden =
-    (13 ∷ 4 ∷ 13 ∷ 27 ∷ 20 ∷ 22 ∷ 13 ∷ [], record { one_for_each = refl; hidden_widths = refl; visible_widths = refl }, refl)
+    (13 ∷ 4 ∷ 13 ∷ 27 ∷ 20 ∷ 22 ∷ 13 ∷ [], record { one_for_each = refl; hidden_widths = refl; shown_widths = refl }, refl)
 
 -- two absolute widths, and rows cut at four lines
 absolute_widths_and_cuts : IsDrawingOf
@@ -203,7 +203,7 @@ absolute_widths_and_cuts : IsDrawingOf
     ∷ "+----------------+--------+-------+" ∷ []))
 unfolding wrapping
 absolute_widths_and_cuts =
-    (14 ∷ 6 ∷ 5 ∷ [], record { one_for_each = refl; hidden_widths = refl; visible_widths = (record { lower = []; level = Some 14; shrunk = [] }, record { lower_taken = refl; level_found = (lit≤ tt, lit≤ tt, lit≤ tt, λ some. refl); shrunk_taken = refl; widths_are = refl }) }, refl)
+    (14 ∷ 6 ∷ 5 ∷ [], record { one_for_each = refl; hidden_widths = refl; shown_widths = (record { lower = []; level = Some 14; shrunk = [] }, record { lower_taken = refl; level_found = (lit≤ tt, lit≤ tt, lit≤ tt, λ some. refl); shrunk_taken = refl; widths_are = refl }) }, refl)
 
 -- with an indicator of three columns
 cuts_with_three_points : IsDrawingOf
@@ -224,7 +224,7 @@ cuts_with_three_points : IsDrawingOf
     ∷ "+----------------+--------+-------+" ∷ []))
 unfolding wrapping
 cuts_with_three_points =
-    (14 ∷ 6 ∷ 5 ∷ [], record { one_for_each = refl; hidden_widths = refl; visible_widths = (record { lower = []; level = Some 14; shrunk = [] }, record { lower_taken = refl; level_found = (lit≤ tt, lit≤ tt, lit≤ tt, λ some. refl); shrunk_taken = refl; widths_are = refl }) }, refl)
+    (14 ∷ 6 ∷ 5 ∷ [], record { one_for_each = refl; hidden_widths = refl; shown_widths = (record { lower = []; level = Some 14; shrunk = [] }, record { lower_taken = refl; level_found = (lit≤ tt, lit≤ tt, lit≤ tt, λ some. refl); shrunk_taken = refl; widths_are = refl }) }, refl)
 
 cut_at_one_line : IsDrawingOf
     (arranged Dynamic 40 (with_heights 0 (table_of ascii_full ("Header1" ∷ "Header2" ∷ []) (("some multiline\ncontent" ∷ "single line" ∷ []) ∷ [])))) (texts
@@ -235,7 +235,7 @@ cut_at_one_line : IsDrawingOf
     ∷ "+----------------+-------------+" ∷ []))
 unfolding wrapping
 cut_at_one_line =
-    (14 ∷ 11 ∷ [], record { one_for_each = refl; hidden_widths = refl; visible_widths = (record { lower = []; level = Some 17; shrunk = [] }, record { lower_taken = refl; level_found = (lit≤ tt, lit≤ tt, lit≤ tt, λ none. absurd_below none); shrunk_taken = refl; widths_are = refl }) }, refl)
+    (14 ∷ 11 ∷ [], record { one_for_each = refl; hidden_widths = refl; shown_widths = (record { lower = []; level = Some 17; shrunk = [] }, record { lower_taken = refl; level_found = (lit≤ tt, lit≤ tt, lit≤ tt, λ none. absurd_below none); shrunk_taken = refl; widths_are = refl }) }, refl)
 
 indicator_wider_than_the_column : IsDrawingOf
     (with_indicator "..." (arranged Dynamic 30 (with_constraints (Some (Absolute (Fixed 3)) ∷ []) (with_heights 1 (rows_of ascii_full (("multi\nline" ∷ "some longer content" ∷ []) ∷ [])))))) (texts
@@ -244,7 +244,7 @@ indicator_wider_than_the_column : IsDrawingOf
     ∷ "+---+---------------------+" ∷ []))
 unfolding wrapping
 indicator_wider_than_the_column =
-    (1 ∷ 19 ∷ [], record { one_for_each = refl; hidden_widths = refl; visible_widths = (record { lower = []; level = Some 22; shrunk = [] }, record { lower_taken = refl; level_found = (lit≤ tt, lit≤ tt, lit≤ tt, λ none. absurd_below none); shrunk_taken = refl; widths_are = refl }) }, refl)
+    (1 ∷ 19 ∷ [], record { one_for_each = refl; hidden_widths = refl; shown_widths = (record { lower = []; level = Some 22; shrunk = [] }, record { lower_taken = refl; level_found = (lit≤ tt, lit≤ tt, lit≤ tt, λ none. absurd_below none); shrunk_taken = refl; widths_are = refl }) }, refl)
 
 -- with no room each column has one place
 no_room : IsDrawingOf
@@ -255,7 +255,7 @@ no_room : IsDrawingOf
     ∷ "+---+---+" ∷ []))
 unfolding wrapping
 no_room =
-    (1 ∷ 1 ∷ [], record { one_for_each = refl; hidden_widths = refl; visible_widths = (record { lower = []; level = None; shrunk = [] }, record { lower_taken = refl; level_found = lit< tt; shrunk_taken = refl; widths_are = refl }) }, refl)
+    (1 ∷ 1 ∷ [], record { one_for_each = refl; hidden_widths = refl; shown_widths = (record { lower = []; level = None; shrunk = [] }, record { lower_taken = refl; level_found = lit< tt; shrunk_taken = refl; widths_are = refl }) }, refl)
 
 -- a column without a cell is stored as 1 and takes 1
 empty_columns_take_a_place : IsDrawingOf
@@ -266,7 +266,7 @@ empty_columns_take_a_place : IsDrawingOf
     ∷ "+---+---+---+" ∷ []))
 unfolding wrapping
 empty_columns_take_a_place =
-    (1 ∷ 1 ∷ 1 ∷ [], record { one_for_each = refl; hidden_widths = refl; visible_widths = (record { lower = []; level = Some 1; shrunk = [] }, record { lower_taken = refl; level_found = (lit≤ tt, lit≤ tt, lit≤ tt, λ none. absurd_below none); shrunk_taken = refl; widths_are = refl }) }, refl)
+    (1 ∷ 1 ∷ 1 ∷ [], record { one_for_each = refl; hidden_widths = refl; shown_widths = (record { lower = []; level = Some 1; shrunk = [] }, record { lower_taken = refl; level_found = (lit≤ tt, lit≤ tt, lit≤ tt, λ none. absurd_below none); shrunk_taken = refl; widths_are = refl }) }, refl)
 
 -- three fit with 1 each, 7 are spread as 3, 2, 2
 full_width_adds_the_rest : IsDrawingOf
@@ -278,7 +278,7 @@ full_width_adds_the_rest : IsDrawingOf
     ∷ "+------+-----+-----+" ∷ []))
 unfolding wrapping
 full_width_adds_the_rest =
-    (4 ∷ 3 ∷ 3 ∷ [], record { one_for_each = refl; hidden_widths = refl; visible_widths = (record { lower = []; level = Some 3; shrunk = [] }, record { lower_taken = refl; level_found = (lit≤ tt, lit≤ tt, lit≤ tt, λ none. absurd_below none); shrunk_taken = refl; widths_are = refl }) }, refl)
+    (4 ∷ 3 ∷ 3 ∷ [], record { one_for_each = refl; hidden_widths = refl; shown_widths = (record { lower = []; level = Some 3; shrunk = [] }, record { lower_taken = refl; level_found = (lit≤ tt, lit≤ tt, lit≤ tt, λ none. absurd_below none); shrunk_taken = refl; widths_are = refl }) }, refl)
 
 -- at 10 the lines are `abcd ` and `efghi`
 shrinks_to_five : IsDrawingOf
@@ -289,7 +289,7 @@ shrinks_to_five : IsDrawingOf
     ∷ "+-------+" ∷ []))
 unfolding wrapping
 shrinks_to_five =
-    (5 ∷ [], record { one_for_each = refl; hidden_widths = refl; visible_widths = (record { lower = []; level = Some 10; shrunk = (0, 5) ∷ [] }, record { lower_taken = refl; level_found = (lit≤ tt, lit≤ tt, lit≤ tt, λ some. refl); shrunk_taken = (refl, refl); widths_are = refl }) }, refl)
+    (5 ∷ [], record { one_for_each = refl; hidden_widths = refl; shown_widths = (record { lower = []; level = Some 10; shrunk = (0, 5) ∷ [] }, record { lower_taken = refl; level_found = (lit≤ tt, lit≤ tt, lit≤ tt, λ some. refl); shrunk_taken = (refl, refl); widths_are = refl }) }, refl)
 
 check_mark_in_the_middle : IsDrawingOf
     (arranged Dynamic 8 (table_of ascii_full ("test" ∷ []) (("abc✅def" ∷ []) ∷ []))) (texts
@@ -302,7 +302,7 @@ check_mark_in_the_middle : IsDrawingOf
     ∷ "+------+" ∷ []))
 unfolding wrapping
 check_mark_in_the_middle =
-    (4 ∷ [], record { one_for_each = refl; hidden_widths = refl; visible_widths = (record { lower = []; level = Some 4; shrunk = [] }, record { lower_taken = refl; level_found = (lit≤ tt, lit≤ tt, lit≤ tt, λ some. refl); shrunk_taken = refl; widths_are = refl }) }, refl)
+    (4 ∷ [], record { one_for_each = refl; hidden_widths = refl; shown_widths = (record { lower = []; level = Some 4; shrunk = [] }, record { lower_taken = refl; level_found = (lit≤ tt, lit≤ tt, lit≤ tt, λ some. refl); shrunk_taken = refl; widths_are = refl }) }, refl)
 
 wide_characters : IsDrawingOf
     (arranged Dynamic 8 (table_of ascii_full ("test" ∷ []) (("abc新年快乐edf" ∷ []) ∷ []))) (texts
@@ -316,7 +316,7 @@ wide_characters : IsDrawingOf
     ∷ "+------+" ∷ []))
 unfolding wrapping
 wide_characters =
-    (4 ∷ [], record { one_for_each = refl; hidden_widths = refl; visible_widths = (record { lower = []; level = Some 4; shrunk = [] }, record { lower_taken = refl; level_found = (lit≤ tt, lit≤ tt, lit≤ tt, λ some. refl); shrunk_taken = refl; widths_are = refl }) }, refl)
+    (4 ∷ [], record { one_for_each = refl; hidden_widths = refl; shown_widths = (record { lower = []; level = Some 4; shrunk = [] }, record { lower_taken = refl; level_found = (lit≤ tt, lit≤ tt, lit≤ tt, λ some. refl); shrunk_taken = refl; widths_are = refl }) }, refl)
 
 -- the content line is one place wider than the frame
 wide_character_in_one_place : IsDrawingOf
@@ -326,7 +326,7 @@ wide_character_in_one_place : IsDrawingOf
     ∷ "+---+" ∷ []))
 unfolding wrapping
 wide_character_in_one_place =
-    (1 ∷ [], record { one_for_each = refl; hidden_widths = refl; visible_widths = (record { lower = []; level = None; shrunk = [] }, record { lower_taken = refl; level_found = lit< tt; shrunk_taken = refl; widths_are = refl }) }, refl)
+    (1 ∷ [], record { one_for_each = refl; hidden_widths = refl; shown_widths = (record { lower = []; level = None; shrunk = [] }, record { lower_taken = refl; level_found = lit< tt; shrunk_taken = refl; widths_are = refl }) }, refl)
 
 full_width_widens_early_columns : IsDrawingOf
     (arranged DynamicFullWidth 12 (with_constraints (Some (Absolute (Fixed 5)) ∷ []) (rows_of ascii_full (("a" ∷ []) ∷ [])))) (texts
@@ -335,7 +335,7 @@ full_width_widens_early_columns : IsDrawingOf
     ∷ "+----------+" ∷ []))
 unfolding wrapping
 full_width_widens_early_columns =
-    (8 ∷ [], record { one_for_each = refl; hidden_widths = refl; visible_widths = (record { lower = []; level = Some 1; shrunk = [] }, record { lower_taken = refl; level_found = (lit≤ tt, lit≤ tt, lit≤ tt, λ none. absurd_below none); shrunk_taken = refl; widths_are = refl }) }, refl)
+    (8 ∷ [], record { one_for_each = refl; hidden_widths = refl; shown_widths = (record { lower = []; level = Some 1; shrunk = [] }, record { lower_taken = refl; level_found = (lit≤ tt, lit≤ tt, lit≤ tt, λ none. absurd_below none); shrunk_taken = refl; widths_are = refl }) }, refl)
 
 -- the average is 8, the boundary gets 10 less the paddings
 lower_boundary_above_the_average : IsDrawingOf
@@ -347,7 +347,7 @@ lower_boundary_above_the_average : IsDrawingOf
     ∷ "+----------+---+" ∷ []))
 unfolding wrapping
 lower_boundary_above_the_average =
-    (8 ∷ 1 ∷ [], record { one_for_each = refl; hidden_widths = refl; visible_widths = (record { lower = (0, 8) ∷ []; level = Some 9; shrunk = [] }, record { lower_taken = (refl, refl); level_found = (lit≤ tt, lit≤ tt, lit≤ tt, λ none. absurd_below none); shrunk_taken = refl; widths_are = refl }) }, refl)
+    (8 ∷ 1 ∷ [], record { one_for_each = refl; hidden_widths = refl; shown_widths = (record { lower = (0, 8) ∷ []; level = Some 9; shrunk = [] }, record { lower_taken = (refl, refl); level_found = (lit≤ tt, lit≤ tt, lit≤ tt, λ none. absurd_below none); shrunk_taken = refl; widths_are = refl }) }, refl)
 
 -- the average is 26, so the boundary is not taken
 lower_boundary_below_the_average : IsDrawingOf
@@ -357,7 +357,7 @@ lower_boundary_below_the_average : IsDrawingOf
     ∷ "+----------------------+---+" ∷ []))
 unfolding wrapping
 lower_boundary_below_the_average =
-    (20 ∷ 1 ∷ [], record { one_for_each = refl; hidden_widths = refl; visible_widths = (record { lower = []; level = Some 26; shrunk = [] }, record { lower_taken = refl; level_found = (lit≤ tt, lit≤ tt, lit≤ tt, λ none. absurd_below none); shrunk_taken = refl; widths_are = refl }) }, refl)
+    (20 ∷ 1 ∷ [], record { one_for_each = refl; hidden_widths = refl; shown_widths = (record { lower = []; level = Some 26; shrunk = [] }, record { lower_taken = refl; level_found = (lit≤ tt, lit≤ tt, lit≤ tt, λ none. absurd_below none); shrunk_taken = refl; widths_are = refl }) }, refl)
 
 -- the average is 5, the boundary allows 4, and 6 are left
 upper_boundary_below_the_average : IsDrawingOf
@@ -369,7 +369,7 @@ upper_boundary_below_the_average : IsDrawingOf
     ∷ "+------+--------+" ∷ []))
 unfolding wrapping
 upper_boundary_below_the_average =
-    (4 ∷ 6 ∷ [], record { one_for_each = refl; hidden_widths = refl; visible_widths = (record { lower = []; level = Some 6; shrunk = [] }, record { lower_taken = refl; level_found = (lit≤ tt, lit≤ tt, lit≤ tt, λ some. refl); shrunk_taken = refl; widths_are = refl }) }, refl)
+    (4 ∷ 6 ∷ [], record { one_for_each = refl; hidden_widths = refl; shown_widths = (record { lower = []; level = Some 6; shrunk = [] }, record { lower_taken = refl; level_found = (lit≤ tt, lit≤ tt, lit≤ tt, λ some. refl); shrunk_taken = refl; widths_are = refl }) }, refl)
 
 everything_fits : IsDrawingOf
     (arranged Dynamic 72 (table_of ascii_full ("Header1" ∷ "Header2" ∷ "Header3" ∷ []) (("This is a text" ∷ "This is another text" ∷ "This is the third text" ∷ []) ∷ ("This is another text" ∷ "Now\nadd some\nmulti line stuff" ∷ "This is awesome" ∷ []) ∷ []))) (texts
@@ -384,19 +384,19 @@ everything_fits : IsDrawingOf
     ∷ "+----------------------+----------------------+------------------------+" ∷ []))
 unfolding wrapping
 everything_fits =
-    (20 ∷ 20 ∷ 22 ∷ [], record { one_for_each = refl; hidden_widths = refl; visible_widths = (record { lower = []; level = Some 22; shrunk = [] }, record { lower_taken = refl; level_found = (lit≤ tt, lit≤ tt, lit≤ tt, λ none. absurd_below none); shrunk_taken = refl; widths_are = refl }) }, refl)
+    (20 ∷ 20 ∷ 22 ∷ [], record { one_for_each = refl; hidden_widths = refl; shown_widths = (record { lower = []; level = Some 22; shrunk = [] }, record { lower_taken = refl; level_found = (lit≤ tt, lit≤ tt, lit≤ tt, λ none. absurd_below none); shrunk_taken = refl; widths_are = refl }) }, refl)
 
 -- two fit with 20 each, 21 are left, and the third shrinks to 17
 third_column_shrinks : IsArranged (arranged Dynamic 71 (table_of ascii_full ("Header1" ∷ "Header2" ∷ "Header3" ∷ []) (("This is a text" ∷ "This is another text" ∷ "This is the third text" ∷ []) ∷ ("This is another text" ∷ "Now\nadd some\nmulti line stuff" ∷ "This is awesome" ∷ []) ∷ []))) (20 ∷ 20 ∷ 17 ∷ [])
 unfolding wrapping
 third_column_shrinks =
-    record { one_for_each = refl; hidden_widths = refl; visible_widths = (record { lower = []; level = Some 21; shrunk = (2, 17) ∷ [] }, record { lower_taken = refl; level_found = (lit≤ tt, lit≤ tt, lit≤ tt, λ some. refl); shrunk_taken = (refl, refl); widths_are = refl }) }
+    record { one_for_each = refl; hidden_widths = refl; shown_widths = (record { lower = []; level = Some 21; shrunk = (2, 17) ∷ [] }, record { lower_taken = refl; level_found = (lit≤ tt, lit≤ tt, lit≤ tt, λ some. refl); shrunk_taken = (refl, refl); widths_are = refl }) }
 
 -- the 4 left are spread as 2, 1, 1
 third_column_shrinks_at_full_width : IsArranged (arranged DynamicFullWidth 71 (table_of ascii_full ("Header1" ∷ "Header2" ∷ "Header3" ∷ []) (("This is a text" ∷ "This is another text" ∷ "This is the third text" ∷ []) ∷ ("This is another text" ∷ "Now\nadd some\nmulti line stuff" ∷ "This is awesome" ∷ []) ∷ []))) (22 ∷ 21 ∷ 18 ∷ [])
 unfolding wrapping
 third_column_shrinks_at_full_width =
-    record { one_for_each = refl; hidden_widths = refl; visible_widths = (record { lower = []; level = Some 21; shrunk = (2, 17) ∷ [] }, record { lower_taken = refl; level_found = (lit≤ tt, lit≤ tt, lit≤ tt, λ some. refl); shrunk_taken = (refl, refl); widths_are = refl }) }
+    record { one_for_each = refl; hidden_widths = refl; shown_widths = (record { lower = []; level = Some 21; shrunk = (2, 17) ∷ [] }, record { lower_taken = refl; level_found = (lit≤ tt, lit≤ tt, lit≤ tt, λ some. refl); shrunk_taken = (refl, refl); widths_are = refl }) }
 
 -- at 10 the first column shrinks to 7; the second then has 13, where its text fits
 one_shrinks_and_one_does_not : IsDrawingOf
@@ -407,17 +407,17 @@ one_shrinks_and_one_does_not : IsDrawingOf
     ∷ "+---------+---------------+" ∷ []))
 unfolding wrapping
 one_shrinks_and_one_does_not =
-    (7 ∷ 13 ∷ [], record { one_for_each = refl; hidden_widths = refl; visible_widths = (record { lower = []; level = Some 10; shrunk = (0, 7) ∷ [] }, record { lower_taken = refl; level_found = (lit≤ tt, lit≤ tt, lit≤ tt, λ some. refl); shrunk_taken = (refl, refl); widths_are = refl }) }, refl)
+    (7 ∷ 13 ∷ [], record { one_for_each = refl; hidden_widths = refl; shown_widths = (record { lower = []; level = Some 10; shrunk = (0, 7) ∷ [] }, record { lower_taken = refl; level_found = (lit≤ tt, lit≤ tt, lit≤ tt, λ some. refl); shrunk_taken = (refl, refl); widths_are = refl }) }, refl)
 
 display_widths : IsArranged (table_of ascii_full ("head" ∷ "head" ∷ "head" ∷ []) (("__" ∷ "fivef" ∷ "sixsix" ∷ []) ∷ [])) (4 ∷ 5 ∷ 6 ∷ [])
 unfolding wrapping
 display_widths =
-    record { one_for_each = refl; hidden_widths = refl; visible_widths = refl }
+    record { one_for_each = refl; hidden_widths = refl; shown_widths = refl }
 
 widest_table : IsArranged (arranged DynamicFullWidth 65535 (rows_of ascii_full (("a" ∷ []) ∷ []))) (65531 ∷ [])
 unfolding wrapping
 widest_table =
-    record { one_for_each = refl; hidden_widths = refl; visible_widths = (record { lower = []; level = Some 65531; shrunk = [] }, record { lower_taken = refl; level_found = (lit≤ tt, lit≤ tt, lit≤ tt, λ none. absurd_below none); shrunk_taken = refl; widths_are = refl }) }
+    record { one_for_each = refl; hidden_widths = refl; shown_widths = (record { lower = []; level = Some 65531; shrunk = [] }, record { lower_taken = refl; level_found = (lit≤ tt, lit≤ tt, lit≤ tt, λ none. absurd_below none); shrunk_taken = refl; widths_are = refl }) }
 
 cut_beside_the_indicator : IsDrawingOf
     (with_heights 0 (rows_of ascii_full (("some multiline\ncontent" ∷ []) ∷ []))) (texts
@@ -426,7 +426,7 @@ cut_beside_the_indicator : IsDrawingOf
     ∷ "+----------------+" ∷ []))
 unfolding wrapping
 cut_beside_the_indicator =
-    (14 ∷ [], record { one_for_each = refl; hidden_widths = refl; visible_widths = refl }, refl)
+    (14 ∷ [], record { one_for_each = refl; hidden_widths = refl; shown_widths = refl }, refl)
 
 cut_beside_three_points : IsDrawingOf
     (with_indicator "..." (with_heights 0 (rows_of ascii_full (("some multiline\ncontent" ∷ []) ∷ [])))) (texts
@@ -435,7 +435,7 @@ cut_beside_three_points : IsDrawingOf
     ∷ "+----------------+" ∷ []))
 unfolding wrapping
 cut_beside_three_points =
-    (14 ∷ [], record { one_for_each = refl; hidden_widths = refl; visible_widths = refl }, refl)
+    (14 ∷ [], record { one_for_each = refl; hidden_widths = refl; shown_widths = refl }, refl)
 
 cut_without_an_indicator : IsDrawingOf
     (with_indicator "" (with_heights 0 (rows_of ascii_full (("some multiline\ncontent" ∷ []) ∷ [])))) (texts
@@ -444,7 +444,7 @@ cut_without_an_indicator : IsDrawingOf
     ∷ "+----------------+" ∷ []))
 unfolding wrapping
 cut_without_an_indicator =
-    (14 ∷ [], record { one_for_each = refl; hidden_widths = refl; visible_widths = refl }, refl)
+    (14 ∷ [], record { one_for_each = refl; hidden_widths = refl; shown_widths = refl }, refl)
 
 cut_where_the_indicator_is_too_wide : IsDrawingOf
     (with_indicator "..." (with_heights 1 (with_constraints (Some (Absolute (Fixed 3)) ∷ []) (rows_of ascii_full (("multi\nline" ∷ []) ∷ []))))) (texts
@@ -453,7 +453,7 @@ cut_where_the_indicator_is_too_wide : IsDrawingOf
     ∷ "+---+" ∷ []))
 unfolding wrapping
 cut_where_the_indicator_is_too_wide =
-    (1 ∷ [], record { one_for_each = refl; hidden_widths = refl; visible_widths = refl }, refl)
+    (1 ∷ [], record { one_for_each = refl; hidden_widths = refl; shown_widths = refl }, refl)
 
 cut_wide_characters_at_one_line : IsDrawingOf
     (with_heights 1 (with_constraints (Some (Absolute (Fixed 18)) ∷ []) (rows_of ascii_full (("あいうえおかきくけこさしすせそたちつてと" ∷ []) ∷ [])))) (texts
@@ -462,7 +462,7 @@ cut_wide_characters_at_one_line : IsDrawingOf
     ∷ "+------------------+" ∷ []))
 unfolding wrapping
 cut_wide_characters_at_one_line =
-    (16 ∷ [], record { one_for_each = refl; hidden_widths = refl; visible_widths = refl }, refl)
+    (16 ∷ [], record { one_for_each = refl; hidden_widths = refl; shown_widths = refl }, refl)
 
 cut_wide_characters_at_two_lines : IsDrawingOf
     (with_heights 2 (with_constraints (Some (Absolute (Fixed 18)) ∷ []) (rows_of ascii_full (("あいうえおかきくけこさしすせそたちつてと" ∷ []) ∷ [])))) (texts
@@ -472,7 +472,7 @@ cut_wide_characters_at_two_lines : IsDrawingOf
     ∷ "+------------------+" ∷ []))
 unfolding wrapping
 cut_wide_characters_at_two_lines =
-    (16 ∷ [], record { one_for_each = refl; hidden_widths = refl; visible_widths = refl }, refl)
+    (16 ∷ [], record { one_for_each = refl; hidden_widths = refl; shown_widths = refl }, refl)
 
 cut_without_paddings : IsDrawingOf
     (with_heights 1 (with_paddings ((0, 0) ∷ (0, 0) ∷ []) (rows_of ascii_full (("a\nb" ∷ "cd" ∷ []) ∷ [])))) (texts
@@ -481,7 +481,7 @@ cut_without_paddings : IsDrawingOf
     ∷ "+-+--+" ∷ []))
 unfolding wrapping
 cut_without_paddings =
-    (1 ∷ 2 ∷ [], record { one_for_each = refl; hidden_widths = refl; visible_widths = refl }, refl)
+    (1 ∷ 2 ∷ [], record { one_for_each = refl; hidden_widths = refl; shown_widths = refl }, refl)
 
 -- the fit test counts one place for the delimiter
 wide_delimiter_is_one_place_wider : IsDrawingOf
@@ -491,7 +491,7 @@ wide_delimiter_is_one_place_wider : IsDrawingOf
     ∷ "+-------+" ∷ []))
 unfolding wrapping
 wide_delimiter_is_one_place_wider =
-    (5 ∷ [], record { one_for_each = refl; hidden_widths = refl; visible_widths = refl }, refl)
+    (5 ∷ [], record { one_for_each = refl; hidden_widths = refl; shown_widths = refl }, refl)
 
 -- the position in the list decides, and no label
 swapped_columns : IsDrawingOf
@@ -501,7 +501,7 @@ swapped_columns : IsDrawingOf
     ∷ "+----+--+" ∷ []))
 unfolding wrapping
 swapped_columns =
-    (2 ∷ 2 ∷ [], record { one_for_each = refl; hidden_widths = refl; visible_widths = refl }, refl)
+    (2 ∷ 2 ∷ [], record { one_for_each = refl; hidden_widths = refl; shown_widths = refl }, refl)
 
 -- a cell that no column knows is left out
 cells_past_the_columns : IsDrawingOf
@@ -511,7 +511,7 @@ cells_past_the_columns : IsDrawingOf
     ∷ "+---+" ∷ []))
 unfolding wrapping
 cells_past_the_columns =
-    (1 ∷ [], record { one_for_each = refl; hidden_widths = refl; visible_widths = refl }, refl)
+    (1 ∷ [], record { one_for_each = refl; hidden_widths = refl; shown_widths = refl }, refl)
 
 cells_after_discovery : IsDrawingOf
     (discovered (record (rows_of ascii_full (("one" ∷ "two" ∷ []) ∷ [])) { rows = row_of ("one" ∷ "two" ∷ "three" ∷ []) ∷ [] })) (texts
@@ -520,4 +520,4 @@ cells_after_discovery : IsDrawingOf
     ∷ "+-----+-----+-------+" ∷ []))
 unfolding wrapping
 cells_after_discovery =
-    (3 ∷ 3 ∷ 5 ∷ [], record { one_for_each = refl; hidden_widths = refl; visible_widths = refl }, refl)
+    (3 ∷ 3 ∷ 5 ∷ [], record { one_for_each = refl; hidden_widths = refl; shown_widths = refl }, refl)

@@ -58,7 +58,7 @@ fn fault_of_texts(
     if drawing.leaves_open {
         return Ok(Some("a sequence is left open"));
     }
-    if sample.contents.kind.has_sequences && !is_drawn_as_seen(alloc, sample, drawing)? {
+    if sample.contents.kind.has_sequences && !is_drawn_as_visible(alloc, sample, drawing)? {
         return Ok(Some("sequences change the lines"));
     }
     Ok(None)
@@ -95,15 +95,15 @@ fn is_cut(sample: &Sample, drawing: &Drawing) -> bool {
     }
 }
 
-// whether as many characters are seen of each line as without sequences
-fn is_drawn_as_seen(alloc: Global, sample: &Sample, drawing: &Drawing) -> Result<bool> {
-    let seen = sample.as_seen(alloc)?;
-    is_drawn_alike(alloc, &seen, drawing)
+// whether as many characters are visible of each line as without sequences
+fn is_drawn_as_visible(alloc: Global, sample: &Sample, drawing: &Drawing) -> Result<bool> {
+    let visible = sample.as_visible(alloc)?;
+    is_drawn_alike(alloc, &visible, drawing)
 }
 
-fn is_drawn_alike(alloc: Global, seen: &Sample, drawing: &Drawing) -> Result<bool> {
-    let other = drawing_of(alloc, &seen.table)?;
-    Ok(seen.contents.has_formed || other.has_counts_of(drawing))
+fn is_drawn_alike(alloc: Global, visible: &Sample, drawing: &Drawing) -> Result<bool> {
+    let other = drawing_of(alloc, &visible.table)?;
+    Ok(visible.contents.has_formed || other.has_counts_of(drawing))
 }
 
 /// Whether a frame line of so many characters keeps to the set width, where no constraint says otherwise.
@@ -112,7 +112,7 @@ pub fn keeps_to_width(table: &Table, count: usize) -> bool {
         return true;
     };
     let mut visible: usize = 0;
-    // one character and the paddings of each visible column
+    // one character and the paddings of each shown column
     let mut least: usize = 0;
     let mut are_free = true;
     for column in table.column_iter() {

@@ -29,7 +29,7 @@ pub struct Contents {
     /// What texts are made of.
     pub kind: Kind,
     // whether texts are without their sequences
-    is_seen: bool,
+    is_visible: bool,
     /// Whether a row's height is limited.
     pub is_limited: bool,
     /// Whether a text without its sequences holds one that parts formed.
@@ -37,11 +37,11 @@ pub struct Contents {
 }
 
 impl Contents {
-    /// Nothing was made yet. Texts are without their sequences where these are only to be seen.
-    pub fn new(rng: &mut Pcg32, is_seen: bool) -> Contents {
+    /// Nothing was made yet. Texts are without their sequences where these are only to be visible.
+    pub fn new(rng: &mut Pcg32, is_visible: bool) -> Contents {
         Contents {
             kind: Kind::new(rng),
-            is_seen,
+            is_visible,
             is_limited: false,
             has_formed: false,
         }
@@ -74,22 +74,22 @@ impl Contents {
 
     fn text(&mut self, alloc: Global, rng: &mut Pcg32) -> Result<String> {
         let text = text(alloc, rng, self.kind)?;
-        if self.is_seen {
-            self.seen_text(alloc, text.as_str())
+        if self.is_visible {
+            self.visible_text_of(alloc, text.as_str())
         } else {
             Ok(text)
         }
     }
 
-    fn seen_text(&mut self, alloc: Global, text: &str) -> Result<String> {
+    fn visible_text_of(&mut self, alloc: Global, text: &str) -> Result<String> {
         let scan = Scan::of(alloc, text)?;
-        self.has_formed |= count_seen(alloc, scan.seen.as_str())? != scan.count;
-        Ok(scan.seen)
+        self.has_formed |= count_visible(alloc, scan.visible.as_str())? != scan.count;
+        Ok(scan.visible)
     }
 }
 
-// how many characters are seen of a text
-fn count_seen(alloc: Global, text: &str) -> Result<usize> {
+// how many characters are visible of a text
+fn count_visible(alloc: Global, text: &str) -> Result<usize> {
     let scan = Scan::of(alloc, text)?;
     Ok(scan.count)
 }

@@ -15,7 +15,7 @@ const JUNCTION: char = '┆';
 pub struct Drawing {
     /// The characters of each frame line.
     pub frame_counts: Vec<usize>,
-    /// The characters that are seen of each line of a row.
+    /// The characters that are visible of each line of a row.
     pub row_counts: Vec<usize>,
     /// Whether a line of a row has the indicator of a cut.
     pub has_indicator: bool,
@@ -77,7 +77,7 @@ impl Drawing {
     }
 }
 
-/// What a line of a row has between its side borders, cut at the junctions: the piece of the visible column at a place.
+/// What a line of a row has between its side borders, cut at the junctions: the piece of the shown column at a place.
 pub fn piece_at(line: &str, place: usize) -> &str {
     let line = line.strip_prefix(BORDER).unwrap_or(line);
     let line = line.strip_suffix(BORDER).unwrap_or(line);

@@ -27,15 +27,15 @@ pub struct Sample {
 }
 
 impl Sample {
-    /// The same table with texts as they are seen: without their sequences.
-    pub fn as_seen(&self, alloc: Global) -> Result<Sample> {
+    /// The same table with texts as they are drawn: without their sequences.
+    pub fn as_visible(&self, alloc: Global) -> Result<Sample> {
         Sample::new(alloc, &mut self.numbers.clone()?, true)
     }
 
-    /// A table of up to five rows and four columns, with texts without their sequences where these are only to be seen.
-    pub fn new(alloc: Global, rng: &mut Pcg32, is_seen: bool) -> Result<Sample> {
+    /// A table of up to five rows and four columns, with texts without their sequences where these are only to be visible.
+    pub fn new(alloc: Global, rng: &mut Pcg32, is_visible: bool) -> Result<Sample> {
         let numbers = rng.clone()?;
-        let mut sample = Sample::without_rows(alloc, numbers, Contents::new(rng, is_seen));
+        let mut sample = Sample::without_rows(alloc, numbers, Contents::new(rng, is_visible));
         sample.fill(alloc, rng)?;
         Ok(sample)
     }

@@ -1,4 +1,4 @@
-//! What is seen of a text, read from outside: its characters, and the sequences that are open before each.
+//! What is visible of a text, read from outside: its characters, and the sequences that are open before each.
 
 use comfy_table::Result;
 use std::alloc::Global;
@@ -17,8 +17,8 @@ pub struct Scan {
     /// The characters but for spaces, line feeds, delimiters and the indicator of a cut, each after the sequences that are
     /// open before it.
     pub found: String,
-    /// All characters that were seen.
-    pub seen: String,
+    /// All characters that were visible.
+    pub visible: String,
     /// How many these are.
     pub count: usize,
 }
@@ -31,7 +31,7 @@ impl Scan {
             delimiter: ' ',
             open: String::new(alloc),
             found: String::new(alloc),
-            seen: String::new(alloc),
+            visible: String::new(alloc),
             count: 0,
         }
     }
@@ -48,7 +48,7 @@ impl Scan {
         self.delimiter = delimiter;
         self.open.clear();
         self.found.clear();
-        self.seen.clear();
+        self.visible.clear();
         self.count = 0;
     }
 
@@ -88,7 +88,7 @@ impl Scan {
 
     fn see(&mut self, character: char) -> Result<()> {
         self.count = self.count.saturating_add(1);
-        self.seen.push(character)?;
+        self.visible.push(character)?;
         if character == self.delimiter || matches!(character, ' ' | '\n' | INDICATOR) {
             return Ok(());
         }

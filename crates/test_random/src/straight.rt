@@ -10,7 +10,7 @@ use comfy_table::{Result, Table};
 use promise::characters_fit_columns;
 use rand::RngExt;
 use rand_pcg::Pcg32;
-use random::{is_cut, row, seen_width, set_columns, style, words};
+use random::{is_cut, row, set_columns, style, visible_width, words};
 use std::alloc::Global;
 
 const WIDTHS: [u16; 6] = [10, 18, 25, 37, 60, 200];
@@ -46,7 +46,7 @@ fn fault_of_lines(alloc: Global, table: &Table) -> Result<Option<&'static str>> 
     let mut first = None;
     let mut are_alike = true;
     for line in table.lines()? {
-        let width = seen_width(alloc, line.as_str())?;
+        let width = visible_width(alloc, line.as_str())?;
         are_alike &= *first.get_or_insert(width) == width;
     }
     Ok(fault_of_widths(table, first, are_alike))

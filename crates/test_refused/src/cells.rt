@@ -8,13 +8,13 @@ const TEXT: &str = "Now\nadd some\nmulti line stuff";
 
 /// What came of the call of this name.
 pub fn outcome_of(alloc: Global, call: &str) -> Result<Outcome> {
-    let is_made = match call {
+    let result = match call {
         "new" => succeeded(Cell::new(alloc, TEXT)),
         "new_owned" => succeeded(Cell::new_owned(alloc, String::from_str(alloc, TEXT)?)),
         "add_attributes" => add_attributes(alloc)?,
         _ => return Ok(outcome_on(Cell::new(alloc, TEXT)?, call)),
     };
-    Ok(Outcome::of(is_made))
+    Ok(Outcome::of(result))
 }
 
 // What came of a call that is made on a cell.

@@ -31,13 +31,13 @@ enum Kept {
 // each time without memory, so they are kept.
 #[derive(Drop)]
 struct Several {
-    whole: Lines,
-    visible: Option<Lines>,
+    whole: Texts,
+    visible: Option<Texts>,
 }
 
 // Texts, and the columns that each takes, in the same order. A single one takes no list.
 #[derive(Drop)]
-enum Lines {
+enum Texts {
     One {
         text: String,
         width: usize,
@@ -79,7 +79,7 @@ impl TextLines {
         ensures value { IfOk result (λ lines. lines ≡ (plain_cell (string_bytes text)).text_lines) }
         ensures text_lines { IfOk result HasTextLines }
     {
-        let whole = Lines::of_text(alloc, text)?;
+        let whole = Texts::of_text(alloc, text)?;
         let visible = whole.visible(alloc)?;
         let several = Several { whole, visible };
         Ok(TextLines {
@@ -124,14 +124,14 @@ impl TextLines {
     }
 }
 
-impl Lines {
+impl Texts {
     // What stands between the line feeds of a text.
-    fn of_text(alloc: Global, text: String) -> Result<Lines>
+    fn of_text(alloc: Global, text: String) -> Result<Texts>
         ensures texts { IfOk result (λ lines. texts_of lines ≡ slice_split (λ b. b == 0x0A) (string_bytes text)) }
         ensures widths { IfOk result (λ lines. widths_of lines ≡ map measure (texts_of lines)) }
     {
         if !text.contains('\n') {
-            return Ok(Lines::one(text));
+            return Ok(Texts::one(text));
         }
         let mut texts = Vec::new(alloc);
         let mut widths = Vec::new(alloc);
@@ -139,14 +139,14 @@ impl Lines {
             texts.push(String::from_str(alloc, line)?)?;
             widths.push(measure_text_width(line))?;
         }
-        Ok(Lines::Several { texts, widths })
+        Ok(Texts::Several { texts, widths })
     }
 
-    fn one(text: String) -> Lines
+    fn one(text: String) -> Texts
         ensures texts { texts_of result ≡ string_bytes text ∷ [] }
         ensures widths { widths_of result ≡ map measure (string_bytes text ∷ []) }
     {
-        Lines::One {
+        Texts::One {
             width: measure_text_width(text.as_str()),
             text,
         }
@@ -158,8 +158,8 @@ impl Lines {
         ensures widths { result.1.now ≡ widths_of self.now }
     {
         match self {
-            Lines::One { text, width } => (slice::from_ref(text), slice::from_ref(width)),
-            Lines::Several { texts, widths } => (texts.as_slice(), widths.as_slice()),
+            Texts::One { text, width } => (slice::from_ref(text), slice::from_ref(width)),
+            Texts::Several { texts, widths } => (texts.as_slice(), widths.as_slice()),
         }
     }
 
@@ -175,20 +175,20 @@ impl Lines {
     }
 
     // What is visible of each text line, where ESC stands in one.
-    fn visible(&self, alloc: Global) -> Result<Option<Lines>>
+    fn visible(&self, alloc: Global) -> Result<Option<Texts>>
         ensures { IfOk result (IsVisible self.now) }
     {
         if !self.has_escape() {
             return Ok(None);
         }
         Ok(Some(match self {
-            Lines::One { text, .. } => Lines::one(visible_text(alloc, text.as_str())?),
-            Lines::Several { texts, .. } => visible_lines(alloc, texts.as_slice())?,
+            Texts::One { text, .. } => Texts::one(visible_text(alloc, text.as_str())?),
+            Texts::Several { texts, .. } => visible_lines(alloc, texts.as_slice())?,
         }))
     }
 }
 
-fn visible_lines(alloc: Global, lines: &[String]) -> Result<Lines>
+fn visible_lines(alloc: Global, lines: &[String]) -> Result<Texts>
     ensures texts { IfOk result (λ visible. texts_of visible ≡ map visible_text (map string_bytes lines.now)) }
     ensures widths { IfOk result (λ visible. widths_of visible ≡ map measure (texts_of visible)) }
 {
@@ -199,7 +199,7 @@ fn visible_lines(alloc: Global, lines: &[String]) -> Result<Lines>
         widths.push(measure_text_width(visible.as_str()))?;
         texts.push(visible)?;
     }
-    Ok(Lines::Several { texts, widths })
+    Ok(Texts::Several { texts, widths })
 }
 
 // The columns of a text that is one text line without ESC; none for any other.
@@ -269,16 +269,16 @@ impl Clone for Several {
     }
 }
 
-impl Clone for Lines {
+impl Clone for Texts {
     ghost is_clone = { λ source copy. (texts_of copy ≡ texts_of source) × (widths_of copy ≡ widths_of source) };
 
-    fn clone(&self) -> std::result::Result<Lines, AllocError> {
+    fn clone(&self) -> std::result::Result<Texts, AllocError> {
         match self {
-            Lines::One { text, width } => Ok(Lines::One {
+            Texts::One { text, width } => Ok(Texts::One {
                 text: text.clone()?,
                 width: *width,
             }),
-            Lines::Several { texts, widths } => Ok(Lines::Several {
+            Texts::Several { texts, widths } => Ok(Texts::Several {
                 texts: texts.clone()?,
                 widths: widths.clone()?,
             }),

@@ -3,7 +3,7 @@
 ghost use Rattle.std.specs.Prelude.{◌≡◌, ◌<◌, ◌≤◌, ◌∷◌, [], IfSome, None, false, length, map};
 ghost use Rattle.std.specs.Iterator.{YieldsFirstBy, item_count};
 ghost use Rattle.comfy_parts.specs.Following.{AreColumnsUpTo, IsAtLine, IsMeasuredBehind, IsWideFrom};
-ghost use Rattle.comfy_parts.specs.Laws.{IsPlain};
+ghost use Rattle.comfy_parts.specs.Laws.{IsPrintable};
 ghost use Rattle.comfy_parts.specs.Lines.{IsAtNext};
 ghost use Rattle.comfy_parts.specs.Text.{begins_with, greatest, measure};
 ghost use Rattle.comfy_parts.specs.Wrapping.{IsWrapped, wrapped};
@@ -71,14 +71,14 @@ pub fn wrapped_lines<'a>(
 {
     let width = usize::from(info.content_width);
     if width > 0 && (' '..='~').contains(&delimiter) && is_printable(line.as_bytes()) {
-        return plain_lines(line, width, delimiter);
+        return printable_lines(line, width, delimiter);
     }
     lines_behind(line, width, delimiter, None)
 }
 
 // The lines of printable ASCII after the delimiters at its front.
-fn plain_lines<'a>(text: &'a str, width: usize, delimiter: char) -> WrappedLines<'a>
-    requires plain { IsPlain width delimiter text.now }
+fn printable_lines<'a>(text: &'a str, width: usize, delimiter: char) -> WrappedLines<'a>
+    requires printable { IsPrintable width delimiter text.now }
     ensures { result ≡ wrapped width delimiter text.now }
 {
     let rest = line_start(text, delimiter);
@@ -86,13 +86,13 @@ fn plain_lines<'a>(text: &'a str, width: usize, delimiter: char) -> WrappedLines
 }
 
 // The line at the front of printable ASCII, and the text from the next line on.
-fn split_plain_line(text: &str, width: usize, delimiter: char) -> (&str, &str)
-    requires plain { IsPlain width delimiter text.now }
+fn split_printable_line(text: &str, width: usize, delimiter: char) -> (&str, &str)
+    requires printable { IsPrintable width delimiter text.now }
     requires begins { begins_with delimiter text.now ≡ false }
     requires some { 0 < length text.now }
     ensures lines { wrapped width delimiter text.now ≡ result.0.now ∷ wrapped width delimiter result.1.now }
     ensures columns { length result.0.now ≡ measure result.0.now }
-    ensures plain { IsPlain width delimiter result.1.now }
+    ensures printable { IsPrintable width delimiter result.1.now }
     ensures begins { begins_with delimiter result.1.now ≡ false }
 {
     let end = printable_line_end(text.as_bytes(), width, delimiter);
@@ -178,7 +178,7 @@ impl<'a> WrappedLines<'a> {
         ensures columns { IfSome result (λ line. line.1 ≡ measure line.0.now) }
     {
         if matches!(self.next, Next::Printable) && !self.rest.is_empty() {
-            let (line, rest) = split_plain_line(self.rest, self.width, self.delimiter);
+            let (line, rest) = split_printable_line(self.rest, self.width, self.delimiter);
             self.rest = rest;
             return Some((line, line.len()));
         }
@@ -215,7 +215,7 @@ impl<'a> Iterator for WrappedLines<'a> {
         }
         match self.next {
             Next::Printable => {
-                let (line, rest) = split_plain_line(self.rest, self.width, self.delimiter);
+                let (line, rest) = split_printable_line(self.rest, self.width, self.delimiter);
                 self.rest = rest;
                 Some(line)
             }

@@ -3,13 +3,13 @@
 
 ghost use Rattle.std.specs.Prelude.{◌≡◌, ◌<◌, ◌≤◌, ◌+◌, ◌-◌, ◌==◌, ◌∷◌, List, drop, false, length, map, max, nat_lt, take};
 ghost use Rattle.std.specs.List.{list_any, slice_index, slice_split};
-ghost use Rattle.comfy_parts.specs.Laws.{IsPlain};
+ghost use Rattle.comfy_parts.specs.Laws.{IsPrintable};
 ghost use Rattle.comfy_parts.specs.Text.{Text, begins_with, greatest, measure};
 ghost use Rattle.comfy_parts.specs.Wrapping.{line_end, wrapped};
 
 /// The terminal columns of the longest line that printable ASCII is wrapped into. No line is made for it.
 pub fn printable_longest_line(text: &[u8], width: usize, delimiter: char) -> usize
-    requires plain { IsPlain width delimiter text.now }
+    requires printable { IsPrintable width delimiter text.now }
     ensures { result ≡ greatest (map measure (wrapped width delimiter text.now)) }
 {
     let mut longest = 0;
@@ -24,7 +24,7 @@ pub fn printable_longest_line(text: &[u8], width: usize, delimiter: char) -> usi
 
 // The end of what is passed at once, a delimiter or a line, and the terminal columns of that line.
 fn part_at_front(text: &[u8], width: usize, delimiter: char) -> (usize, usize)
-    requires plain { IsPlain width delimiter text.now }
+    requires printable { IsPrintable width delimiter text.now }
     requires some { 0 < length text.now }
     ensures some { 0 < result.0 }
     ensures bound { result.0 ≤ length text.now }
@@ -39,7 +39,7 @@ fn part_at_front(text: &[u8], width: usize, delimiter: char) -> (usize, usize)
 
 /// The end of the line that begins at the front of printable ASCII.
 pub fn printable_line_end(text: &[u8], width: usize, delimiter: char) -> usize
-    requires plain { IsPlain width delimiter text.now }
+    requires printable { IsPrintable width delimiter text.now }
     requires begins { begins_with delimiter text.now ≡ false }
     ensures { result ≡ line_end width delimiter text.now }
 {
@@ -64,7 +64,7 @@ pub fn printable_line_end(text: &[u8], width: usize, delimiter: char) -> usize
 
 // The end of a line that the text fills, or that a delimiter follows: without a delimiter in its last column.
 fn last_column(text: &[u8], width: usize, delimiter: char) -> usize
-    requires plain { IsPlain width delimiter text.now }
+    requires printable { IsPrintable width delimiter text.now }
     requires begins { begins_with delimiter text.now ≡ false }
     requires enough { width ≤ length text.now }
     requires found { width < length text.now → slice_index text.now width ≡ delimiter }

@@ -23,7 +23,7 @@ pub enum ContentArrangement {
     /// can't be narrow enough: each has one terminal column at least, and constraints can ask for more. Where no width is
     /// known, this is as `Disabled`.
     Dynamic,
-    /// As `Dynamic`, and what is left of the width is spread over the visible columns, also over those with a constraint
+    /// As `Dynamic`, and what is left of the width is spread over the shown columns, also over those with a constraint
     /// where no others take it.
     DynamicFullWidth,
 }

@@ -2,7 +2,7 @@
 
 ghost use Rattle.std.specs.Prelude.{◌≡◌, IfOk, map, string_bytes};
 ghost use Rattle.comfy_parts.specs.Text.{measure};
-ghost use Rattle.comfy_table.specs.TableValue.{cell_content_width, column_content_width, max_content_widths, seen_cell};
+ghost use Rattle.comfy_table.specs.TableValue.{cell_content_width, column_content_width, max_content_widths, measured_cell};
 
 use crate::table::Table;
 use comfy_parts::for_tables::measured_lines;
@@ -25,9 +25,9 @@ pub(crate) fn column_content_width(table: &Table, position: usize) -> u16
 impl Table {
     // The text lines of a cell as widths, line ends and cuts see them, with custom styling without their sequences, and the
     // columns that each takes.
-    pub(crate) fn seen_lines<'a>(&self, cell: &'a Cell) -> (&'a [String], &'a [usize])
-        ensures texts { map string_bytes result.0.now ≡ (seen_cell self.now cell.now).text_lines }
-        ensures widths { result.1.now ≡ map measure (seen_cell self.now cell.now).text_lines }
+    pub(crate) fn measured_lines<'a>(&self, cell: &'a Cell) -> (&'a [String], &'a [usize])
+        ensures texts { map string_bytes result.0.now ≡ (measured_cell self.now cell.now).text_lines }
+        ensures widths { result.1.now ≡ map measure (measured_cell self.now cell.now).text_lines }
     {
         measured_lines(cell, self.custom_styling)
     }
@@ -47,11 +47,11 @@ impl Table {
     }
 }
 
-// The greatest measure of a cell's text lines as they are seen, at least 1 and at most 65535.
+// The greatest measure of a cell's text lines as they are measured, at least 1 and at most 65535.
 fn cell_content_width(table: &Table, cell: &Cell) -> u16
-    ensures { result ≡ cell_content_width (seen_cell table.now cell.now) }
+    ensures { result ≡ cell_content_width (measured_cell table.now cell.now) }
 {
-    let (_, widths) = table.seen_lines(cell);
+    let (_, widths) = table.measured_lines(cell);
     let mut widest = 1;
     for width in widths {
         widest = widest.max((*width).min(65535) as u16);

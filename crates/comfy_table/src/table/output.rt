@@ -16,7 +16,7 @@ use std::vec;
 /// the truncation indicator does.
 ///
 /// After `custom_styling` none leaves a sequence open, where no cell's own colours are written but beside an attribute,
-/// neither the style nor the indicator holds ESC, and each visible column has a padding at its right.
+/// neither the style nor the indicator holds ESC, and each shown column has a padding at its right.
 ///
 /// ```
 /// let top = table.lines()?.next();
@@ -68,7 +68,7 @@ impl Table {
     ///
     /// Where the table's width is known, a frame line keeps to it, whatever the texts: under
     /// `ContentArrangement::Dynamic` it has at most so many characters, and under `DynamicFullWidth` exactly so many, if a
-    /// column is visible. Where the borders, the paddings and one character for each visible column need more than this
+    /// column is shown. Where the borders, the paddings and one character for each shown column need more than this
     /// width, what they need stands in its place. A column with a constraint may need more than the one character: where
     /// its width is fixed or its lower boundary is taken, it needs that width. For printable ASCII this holds for every
     /// line, without its styles, and for a straight table in terminal columns.

@@ -6,7 +6,7 @@ ghost use Rattle.comfy_table.specs.Arrangement.{AreInfosOf, width_kept};
 ghost use Rattle.comfy_table.specs.DisabledWidths.{width_by_content, widths_by_content};
 ghost use Rattle.comfy_table.specs.Drawing.{infos_of};
 ghost use Rattle.comfy_table.specs.TableValue.{table_width};
-ghost use Rattle.comfy_table.specs.Widths.{visible_count};
+ghost use Rattle.comfy_table.specs.Widths.{shown_count};
 
 pub mod constraint;
 mod disabled;
@@ -85,7 +85,7 @@ fn infos_by_content(table: &Table) -> Result<Vec<ColumnDisplayInfo>>
 
 // The content width of the column at a position under `Disabled`: a hidden column has its content's.
 fn width_by_content(table: &Table, position: usize, column: &Column, visible: usize) -> u16
-    requires { visible ≡ visible_count table.now }
+    requires { visible ≡ shown_count table.now }
     ensures { result ≡ width_by_content table.now (position, column.now) }
 {
     let content = column_content_width(table, position);

@@ -1,7 +1,7 @@
 //! Callers that count, constrain and read columns.
 
 ghost use Rattle.std.specs.Prelude.{◌≡◌, ◌*◌, ◌/◌, ◌∷◌, [], IfOk, IfSome, None, OnOk, Some, false, length, max, option_copied, slice_get, true};
-ghost use Rattle.comfy_parts.specs.CellValue.{new_column, visible_among};
+ghost use Rattle.comfy_parts.specs.CellValue.{new_column, shown_among};
 ghost use Rattle.comfy_parts.specs.declared.style.cell.CellAlignment.TheVariants.{Right};
 ghost use Rattle.comfy_parts.specs.declared.style.column.ColumnConstraint.TheVariants.{Absolute, Hidden};
 ghost use Rattle.comfy_parts.specs.declared.style.column.Width.TheVariants.{Fixed};
@@ -133,7 +133,7 @@ pub fn columns_in(table: &mut Table) -> (usize, usize)
 
 /// How many columns of a table are visible.
 pub fn visible_in(table: &Table) -> usize
-    ensures { result ≡ visible_among table.now.columns }
+    ensures { result ≡ shown_among table.now.columns }
 {
     count_visible_columns(table.column_iter().as_slice())
 }

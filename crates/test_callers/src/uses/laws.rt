@@ -1,7 +1,7 @@
 //! Callers whose claims the laws carry, beside the clauses of the calls.
 
 ghost use Rattle.std.specs.Prelude.{◌≡◌, ◌↔◌, [], Bool, IfOk, List, map, string_bytes, true, ℕ};
-ghost use Rattle.comfy_parts.specs.Laws.{ActiveIsResumed, ClosedTextsLeaveNone, CutLinesAreFull, IsCutOutsideNarrow, IsLongestHead, LinesAreFew, LinesAreFewest, LinesAreSeen, LinesFit, NeighboursFillALine, PrintableAddsOneColumnEach};
+ghost use Rattle.comfy_parts.specs.Laws.{ActiveIsResumed, ClosedTextsLeaveNone, CutLinesAreFull, IsCutOutsideNarrow, IsLongestHead, LinesAreFew, LinesAreFewest, LinesAreVisible, LinesFit, NeighboursFillALine, PrintableAddsOneColumnEach};
 ghost use Rattle.comfy_parts.specs.Text.{Text};
 ghost use Rattle.comfy_parts.specs.VisibleText.{visible_text};
 ghost use Rattle.comfy_parts.specs.Wrapping.{IsWrapped};
@@ -117,7 +117,7 @@ pub fn bold(alloc: Global, text: &str) -> Result<String>
 
 /// What the laws say of sequences inside a cell: they count nothing, are closed, and are resumed.
 pub fn sequences_are_kept_apart()
-    ensures lines { (w d : ℕ) (text_lines : List Text) → LinesAreSeen w d text_lines }
+    ensures lines { (w d : ℕ) (text_lines : List Text) → LinesAreVisible w d text_lines }
     ensures closed { (text : Text) → ClosedTextsLeaveNone text }
     ensures resumed { (earlier : List Text) (text : Text) (start len k : ℕ) → ActiveIsResumed earlier text start len k }
 {

@@ -3,7 +3,7 @@
 ghost use Rattle.std.specs.Prelude.{◌≡◌, ◌≤◌, ◌++◌, IfOk, List, Some, false, length, take, true, ℕ};
 ghost use Rattle.comfy_parts.specs.Presets.{ascii_full};
 ghost use Rattle.comfy_parts.specs.Text.{measure};
-ghost use Rattle.comfy_run.specs.Counts.{EachLineHas, IsPlainInput};
+ghost use Rattle.comfy_run.specs.Counts.{EachLineHas, IsPrintableInput};
 ghost use Rattle.comfy_run.specs.Input.{input_table};
 ghost use Rattle.comfy_run.specs.Straight.{EachText, IsStraightOutput};
 ghost use Rattle.comfy_table.specs.Laws.{least_total};
@@ -95,7 +95,7 @@ pub fn output_within(
     room: usize,
     width: u16,
 ) -> Result<MemorySink, RunError>
-    ensures { IfOk result (λ sink. IsPlainInput input.now → least_total (input_table (Some width) ContentArrangement.Dynamic ascii_full input.now) ≤ width → EachLineHas (λ n. n ≤ width) sink.bytes) }
+    ensures { IfOk result (λ sink. IsPrintableInput input.now → least_total (input_table (Some width) ContentArrangement.Dynamic ascii_full input.now) ≤ width → EachLineHas (λ n. n ≤ width) sink.bytes) }
 {
     outputs_keep_to_a_width();
     let mut source = MemorySource::new(input, 0);

@@ -6,7 +6,7 @@ ghost use Rattle.comfy_parts.specs.Text.{measure};
 ghost use Rattle.comfy_parts.specs.VisibleLines.{line_texts};
 ghost use Rattle.comfy_parts.specs.VisibleText.{closed, has_escape, visible_text};
 ghost use Rattle.comfy_table.specs.Laws.{CutLinesAreClosed, IsFreeOfEscapes, LeavesNoneOpen, LinesAreResumedInRow, NoneIsOpenAtTheEnd};
-ghost use Rattle.test_callers.specs.Uses.{IsDrawnWithCells, IsPlainDrawing};
+ghost use Rattle.test_callers.specs.Uses.{IsDrawnWithCells, IsUnstyledDrawing};
 
 use comfy_parts::content_split::leaves_sequence_open;
 use comfy_parts::for_tables::{has_escape, measured_lines, written_lines};
@@ -23,7 +23,7 @@ pub fn drawn_with_sequences(table: &mut Table) -> Result<Lines>
     ensures closed { IfOk result (IsDrawnWithCells (NoneIsOpenAtTheEnd table.new) table.new) }
     ensures resumed { IfOk result (IsDrawnWithCells (LinesAreResumedInRow table.new) table.new) }
     ensures cut { IfOk result (IsDrawnWithCells (CutLinesAreClosed table.new) table.new) }
-    ensures seen { IfOk result (λ lines. IsFreeOfEscapes table.new → IsPlainDrawing table.new (map visible_text lines)) }
+    ensures visible { IfOk result (λ lines. IsFreeOfEscapes table.new → IsUnstyledDrawing table.new (map visible_text lines)) }
 {
     table.custom_styling();
     table.lines()
@@ -62,16 +62,16 @@ pub fn closed_text(alloc: Global, text: &str) -> Result<String>
     Ok(whole)
 }
 
-/// The terminal columns that are seen of the first text line of a cell.
-pub fn first_seen_width(cell: &Cell) -> Option<usize>
+/// The terminal columns that are visible of the first text line of a cell.
+pub fn first_visible_width(cell: &Cell) -> Option<usize>
     ensures { result ≡ slice_get (map measure (map visible_text cell.now.text_lines)) 0 }
 {
     let (_, widths) = measured_lines(cell, true);
     widths.first().copied()
 }
 
-/// What is seen of a text line of a cell, copied.
-pub fn seen_text(alloc: Global, cell: &Cell, position: usize) -> Result<String>
+/// What is visible of a text line of a cell, copied.
+pub fn visible_line(alloc: Global, cell: &Cell, position: usize) -> Result<String>
     requires { position < length cell.now.text_lines }
     ensures { IfOk result (λ text. slice_get (map visible_text cell.now.text_lines) position ≡ Some (string_bytes text)) }
 {

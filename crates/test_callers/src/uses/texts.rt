@@ -27,12 +27,12 @@ pub fn columns_of(text: &str) -> usize
     measure_text_width(text)
 }
 
-/// The terminal columns that are seen of a text with sequences.
-pub fn seen_columns(alloc: Global, text: &str) -> Result<usize>
+/// The terminal columns that are visible of a text with sequences.
+pub fn visible_columns_of_text(alloc: Global, text: &str) -> Result<usize>
     ensures { IfOk result (λ columns. columns ≡ measure (visible_text text.now)) }
 {
-    let seen = visible_text(alloc, text)?;
-    Ok(measure_text_width(seen.as_str()))
+    let visible = visible_text(alloc, text)?;
+    Ok(measure_text_width(visible.as_str()))
 }
 
 /// The front of a text that fits so many terminal columns, and the rest, put together again.
@@ -77,7 +77,7 @@ pub fn borrows_as_many(alloc: Global, text: &str, info: &ColumnDisplayInfo) -> R
     Ok(own.len() == borrowed.len())
 }
 
-/// The whole width of a visible column with this content: two more for its paddings.
+/// The whole width of a shown column with this content: two more for its paddings.
 pub fn whole_width(content: u16) -> Option<usize>
     ensures { 1 ≤ content → result ≡ Some (2 + content) }
 {

@@ -2,7 +2,7 @@
 
 ghost use Rattle.std.specs.Prelude.{Some, is_none};
 ghost use Rattle.comfy_run.specs.Device.{left_in};
-ghost use Rattle.comfy_run.specs.DeviceLaws.{none_is_left};
+ghost use Rattle.comfy_run.specs.DeviceLaws.{none_is_left_in_memory};
 
 use crate::support::sink_of;
 use comfy_run::run::{DeviceFault, MemorySink, MemorySource, Sink, Source, program};
@@ -23,7 +23,7 @@ impl Source for CountedSource<'_> {
 
     ghost end_was_read = { λ s. is_none s.source.rest };
 
-    ghost ended = { λ s. none_is_left s.source };
+    ghost ended = { λ s. none_is_left_in_memory s.source };
 
     fn read(&mut self, buffer: &mut [u8]) -> Result<usize, DeviceFault> {
         self.reads = self.reads.saturating_add(1);

@@ -7,7 +7,7 @@ use comfy_table::utils::formatting::content_split::{
 use comfy_table::{Cell, Result, Row, Table};
 use std::alloc::Global;
 
-/// Whether each character that is seen of a text in a visible column fits the column.
+/// Whether each character that is visible of a text in a shown column fits the column.
 pub fn characters_fit_columns(alloc: Global, table: &Table) -> Result<bool> {
     let infos = arrange_content(table)?;
     let mut do_fit = true;
@@ -27,9 +27,10 @@ fn row_fits(alloc: Global, row: &Row, infos: &[ColumnDisplayInfo]) -> Result<boo
 
 fn cell_fits(alloc: Global, cell: &Cell, width: u16) -> Result<bool> {
     let content = cell.content()?;
-    let seen = visible_text(alloc, content.as_str())?;
+    let visible = visible_text(alloc, content.as_str())?;
     Ok(
-        seen.split('\n')
+        visible
+            .split('\n')
             .all(|line| characters_fit(line, usize::from(width))),
     )
 }

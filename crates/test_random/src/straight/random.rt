@@ -21,10 +21,10 @@ const CONSTRAINTS: [ColumnConstraint; 4] = [
     ColumnConstraint::UpperBoundary(Width::Fixed(9)),
 ];
 
-/// The terminal columns that are seen of a line.
-pub fn seen_width(alloc: Global, line: &str) -> Result<usize> {
-    let seen = visible_text(alloc, line)?;
-    Ok(measure_text_width(seen.as_str()))
+/// The terminal columns that are visible of a line.
+pub fn visible_width(alloc: Global, line: &str) -> Result<usize> {
+    let visible = visible_text(alloc, line)?;
+    Ok(measure_text_width(visible.as_str()))
 }
 
 /// Which words a table has: all where it is as wide as its texts, and else often narrow ones, for narrow columns.

@@ -1,5 +1,5 @@
 use Rattle.comfy_csv.proofs.LineLemmas.{fills_width, keeps_to_width}
-use Rattle.comfy_csv.proofs.PlainLemmas.{lines_have}
+use Rattle.comfy_csv.proofs.PrintableTableLemmas.{lines_have}
 use Rattle.comfy_csv.specs.Laws.{IsFilling, IsWithin}
 use Rattle.comfy_csv.proofs.laws.outputs_keep_to_a_width.Goals as goal
 

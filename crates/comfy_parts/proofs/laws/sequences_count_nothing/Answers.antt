@@ -1,9 +1,9 @@
 use Rattle.std.proofs.lemmas.List.Elements.{All-from_recursion}
-use Rattle.comfy_parts.proofs.VisibleLineLemmas.{seen_lines, lines_seen}
+use Rattle.comfy_parts.proofs.VisibleLineLemmas.{visible_lines, lines_visible}
 use Rattle.comfy_parts.proofs.laws.sequences_count_nothing.Goals as goal
 
 pub returns-clause-lines : goal.returns-clause-lines
-returns-clause-lines c = seen_lines
+returns-clause-lines c = visible_lines
 
 pub returns-clause-written : goal.returns-clause-written
-returns-clause-written c = λ w d text_lines. All-from_recursion _ _ (lines_seen w d text_lines)
+returns-clause-written c = λ w d text_lines. All-from_recursion _ _ (lines_visible w d text_lines)

@@ -2,7 +2,7 @@
 
 ghost use Rattle.std.specs.Prelude.{◌≡◌, ◌<◌, ◌++◌, [], true, false, map, take, drop, IfOk, IsUtf8, OnOk, string_bytes};
 ghost use Rattle.std.specs.List.{concat};
-ghost use Rattle.comfy_parts.specs.Cursor.{IsBehindGap, StandsAt, at_byte, begins_with_sequence, behind_bytes, bytes_up_to, character_parts, open_at_end, past_sequence, seen_ahead, sequence_part};
+ghost use Rattle.comfy_parts.specs.Cursor.{IsBehindGap, StandsAt, at_byte, begins_with_sequence, behind_bytes, bytes_up_to, character_parts, open_at_end, past_sequence, visible_ahead, sequence_part};
 ghost use Rattle.comfy_parts.specs.Text.{begins_with};
 ghost use Rattle.comfy_parts.specs.VisibleText.{opened_by, parts};
 ghost use Rattle.comfy_parts.specs.Written.{written};
@@ -68,10 +68,10 @@ impl<'a> Cursor<'a> {
 
     /// The text that is written for a line of so many visible bytes, which are passed.
     pub(crate) fn take_line(&mut self, bytes: usize) -> Result<String>
-        requires { IsUtf8 (take bytes (seen_ahead self.old)) }
+        requires { IsUtf8 (take bytes (visible_ahead self.old)) }
         ensures written { IfOk result (λ line. string_bytes line ≡ written bytes (at_byte 0 self.old)) }
         ensures stands { OnOk result (StandsAt self.new bytes self.old) }
-        ensures seen { OnOk result (seen_ahead self.new ≡ drop bytes (seen_ahead self.old)) }
+        ensures seen { OnOk result (visible_ahead self.new ≡ drop bytes (visible_ahead self.old)) }
     {
         if bytes == 0 {
             return Ok(String::new(*self.sequences.allocator()));
@@ -95,10 +95,10 @@ impl<'a> Cursor<'a> {
 
     // Passes so many visible bytes and the sequences before each of them, and gives the text that it passed.
     fn take_visible(&mut self, bytes: usize) -> Result<&'a str>
-        requires { IsUtf8 (take bytes (seen_ahead self.old)) }
+        requires { IsUtf8 (take bytes (visible_ahead self.old)) }
         ensures taken { IfOk result (λ taken. taken.now ≡ bytes_up_to bytes self.old) }
         ensures passed { OnOk result (self.new ≡ behind_bytes bytes self.old) }
-        ensures seen { OnOk result (seen_ahead self.new ≡ drop bytes (seen_ahead self.old)) }
+        ensures seen { OnOk result (visible_ahead self.new ≡ drop bytes (visible_ahead self.old)) }
     {
         let text = self.rest;
         self.pass_visible(bytes)?;
@@ -108,9 +108,9 @@ impl<'a> Cursor<'a> {
 
     // Passes so many visible bytes and the sequences before each of them, or all of a text that has fewer.
     fn pass_visible(&mut self, bytes: usize) -> Result<()>
-        requires { IsUtf8 (take bytes (seen_ahead self.old)) }
+        requires { IsUtf8 (take bytes (visible_ahead self.old)) }
         ensures passed { OnOk result (self.new ≡ behind_bytes bytes self.old) }
-        ensures seen { OnOk result (seen_ahead self.new ≡ drop bytes (seen_ahead self.old)) }
+        ensures seen { OnOk result (visible_ahead self.new ≡ drop bytes (visible_ahead self.old)) }
     {
         let mut left = bytes;
         'bytes: while left > 0 {
@@ -165,7 +165,7 @@ impl<'a> Cursor<'a> {
         requires { begins_with_sequence self.old.ahead ≡ false }
         ensures passed { result ≡ true → self.old ≡ record self.new { ahead = character_parts delimiter ++ self.new.ahead } }
         ensures stays { result ≡ false → self.new ≡ self.old }
-        ensures other { result ≡ false → begins_with delimiter (seen_ahead self.old) ≡ false }
+        ensures other { result ≡ false → begins_with delimiter (visible_ahead self.old) ≡ false }
     {
         let Some(behind) = self.rest.strip_prefix(delimiter) else {
             return false;

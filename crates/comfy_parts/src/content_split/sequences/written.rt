@@ -1,7 +1,7 @@
 //! The texts that are written for the lines of a cell whose text holds SGR sequences.
 
 ghost use Rattle.std.specs.Prelude.{◌≡◌, ◌++◌, [], length, map, true, OnOk, string_bytes};
-ghost use Rattle.comfy_parts.specs.Cursor.{open_at_end, seen_ahead};
+ghost use Rattle.comfy_parts.specs.Cursor.{open_at_end, visible_ahead};
 ghost use Rattle.comfy_parts.specs.Text.{measure};
 ghost use Rattle.comfy_parts.specs.VisibleText.{line_text, visible_text};
 ghost use Rattle.comfy_parts.specs.Written.{wrapped_positions, written_at, written_of_text};
@@ -22,7 +22,7 @@ pub(crate) fn push_lines(
     info: &ColumnDisplayInfo,
     delimiter: char,
 ) -> Result<()>
-    requires seen { seen.now ≡ seen_ahead cursor.old }
+    requires seen { seen.now ≡ visible_ahead cursor.old }
     requires width { width ≡ measure seen.now }
     ensures lines { OnOk result (map string_bytes lines.new.items ≡ map string_bytes lines.old.items ++ written_of_text info.now.content_width delimiter cursor.old) }
     ensures stays { OnOk result (open_at_end cursor.new ≡ open_at_end cursor.old) }
@@ -42,7 +42,7 @@ fn push_wrapped(
     info: &ColumnDisplayInfo,
     delimiter: char,
 ) -> Result<()>
-    requires { seen.now ≡ seen_ahead cursor.old }
+    requires { seen.now ≡ visible_ahead cursor.old }
     ensures lines { OnOk result (map string_bytes lines.new.items ≡ map string_bytes lines.old.items ++ written_at cursor.old (wrapped_positions info.now.content_width delimiter seen.now)) }
     ensures stays { OnOk result (open_at_end cursor.new ≡ open_at_end cursor.old) }
 {

@@ -12,14 +12,14 @@ use comfy_parts::style::{ColumnConstraint, Width};
 pub fn min(
     table: &Table,
     constraint: &Option<ColumnConstraint>,
-    visible_columns: usize,
+    shown_columns: usize,
 ) -> Option<u16>
-    ensures { result ≡ lower_boundary table.now visible_columns constraint.now }
+    ensures { result ≡ lower_boundary table.now shown_columns constraint.now }
 {
     match constraint {
         Some(ColumnConstraint::LowerBoundary(lower))
         | Some(ColumnConstraint::Boundaries { lower, .. }) => {
-            absolute_value_from_width(table, lower, visible_columns)
+            absolute_value_from_width(table, lower, shown_columns)
         }
         _ => None,
     }
@@ -30,14 +30,14 @@ pub fn min(
 pub fn max(
     table: &Table,
     constraint: &Option<ColumnConstraint>,
-    visible_columns: usize,
+    shown_columns: usize,
 ) -> Option<u16>
-    ensures { result ≡ upper_boundary table.now visible_columns constraint.now }
+    ensures { result ≡ upper_boundary table.now shown_columns constraint.now }
 {
     match constraint {
         Some(ColumnConstraint::UpperBoundary(upper))
         | Some(ColumnConstraint::Boundaries { upper, .. }) => {
-            absolute_value_from_width(table, upper, visible_columns)
+            absolute_value_from_width(table, upper, shown_columns)
         }
         _ => None,
     }
@@ -45,18 +45,14 @@ pub fn max(
 
 /// A width in terminal columns. A fixed one is itself. A percentage, at most 100, is of the table's width less its
 /// borders, rounded down, and is none where that width isn't known.
-pub fn absolute_value_from_width(
-    table: &Table,
-    width: &Width,
-    visible_columns: usize,
-) -> Option<u16>
-    ensures { result ≡ resolved_width table.now visible_columns width.now }
+pub fn absolute_value_from_width(table: &Table, width: &Width, shown_columns: usize) -> Option<u16>
+    ensures { result ≡ resolved_width table.now shown_columns width.now }
 {
     match width {
         Width::Fixed(width) => Some(*width),
         Width::Percentage(percent) => {
             let whole = table.width()? as usize;
-            let room = whole.saturating_sub(count_border_columns(table, visible_columns));
+            let room = whole.saturating_sub(count_border_columns(table, shown_columns));
             Some((usize::from((*percent).min(100)) * room / 100) as u16)
         }
     }

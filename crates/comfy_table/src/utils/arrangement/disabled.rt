@@ -10,15 +10,15 @@ use crate::utils::arrangement::fixed::fixed_width;
 use crate::utils::arrangement::helper::absolute_width_with_padding;
 use comfy_parts::Column;
 
-// The content width of a visible column: its fixed one, else its upper boundary's where the content passes that boundary,
+// The content width of a shown column: its fixed one, else its upper boundary's where the content passes that boundary,
 // else its content's.
-pub fn disabled_width(table: &Table, column: &Column, content: u16, visible_columns: usize) -> u16
-    ensures { result ≡ unwrap_or (fixed_by_constraint table.now visible_columns content (column_padding column.now) column.now.constraint) (capped_content content (column_padding column.now) (upper_boundary table.now visible_columns column.now.constraint)) }
+pub fn disabled_width(table: &Table, column: &Column, content: u16, shown_columns: usize) -> u16
+    ensures { result ≡ unwrap_or (fixed_by_constraint table.now shown_columns content (column_padding column.now) column.now.constraint) (capped_content content (column_padding column.now) (upper_boundary table.now shown_columns column.now.constraint)) }
 {
-    if let Some(width) = fixed_width(table, column, content, visible_columns) {
+    if let Some(width) = fixed_width(table, column, content, shown_columns) {
         return width;
     }
-    match max(table, &column.constraint().copied(), visible_columns) {
+    match max(table, &column.constraint().copied(), shown_columns) {
         Some(upper) if upper < content => absolute_width_with_padding(column, upper),
         _ => content.max(1),
     }

@@ -8,28 +8,28 @@
 ghost use Rattle.std.specs.Prelude.{◌≡◌, IfOk};
 ghost use Rattle.comfy_table.specs.Arrangement.{is_full_width, room_beside_borders};
 ghost use Rattle.comfy_table.specs.Dynamic.{IsDynamic};
-ghost use Rattle.comfy_table.specs.Widths.{visible_needs};
+ghost use Rattle.comfy_table.specs.Widths.{shown_needs};
 
 mod budget;
 mod level;
+mod needs;
 mod spread;
 mod taking;
-mod visible;
 
 use crate::table::Table;
 use budget::Budget;
 use comfy_parts::Result;
 use comfy_parts::style::ContentArrangement;
 use level::settle;
+use needs::shown_needs;
 use spread::final_widths;
 use taking::{Rule, Takers};
-use visible::visible_columns;
 
-// The content widths of the visible columns of a table of this width, in list order.
+// The content widths of the shown columns of a table of this width, in list order.
 pub fn dynamic_widths(table: &Table, width: u16) -> Result<Vec<u16>>
-    ensures { IfOk result (λ widths. IsDynamic (room_beside_borders table.now width) (visible_needs table.now) (is_full_width table.now.arrangement) widths.items) }
+    ensures { IfOk result (λ widths. IsDynamic (room_beside_borders table.now width) (shown_needs table.now) (is_full_width table.now.arrangement) widths.items) }
 {
-    let visible = visible_columns(table)?;
+    let visible = shown_needs(table)?;
     let columns = visible.as_slice();
     let mut budget = Budget::new(table, columns, width)?;
     let lower = Takers {

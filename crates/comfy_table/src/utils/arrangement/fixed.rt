@@ -16,19 +16,19 @@ pub fn fixed_width(
     table: &Table,
     column: &Column,
     content: u16,
-    visible_columns: usize,
+    shown_columns: usize,
 ) -> Option<u16>
-    ensures { result ≡ fixed_by_constraint table.now visible_columns content (column_padding column.now) column.now.constraint }
+    ensures { result ≡ fixed_by_constraint table.now shown_columns content (column_padding column.now) column.now.constraint }
 {
     let constraint = column.constraint().copied();
     match constraint {
         Some(ColumnConstraint::ContentWidth) => Some(content.max(1)),
         Some(ColumnConstraint::Absolute(width)) => {
-            let whole = absolute_value_from_width(table, &width, visible_columns)?;
+            let whole = absolute_value_from_width(table, &width, shown_columns)?;
             Some(absolute_width_with_padding(column, whole))
         }
         _ => {
-            let lower = min(table, &constraint, visible_columns)?;
+            let lower = min(table, &constraint, shown_columns)?;
             let (left, right) = column.padding();
             let needed = u32::from(content) + u32::from(left) + u32::from(right);
             if needed <= u32::from(lower) {

@@ -1,7 +1,7 @@
 //! Small questions of the arrangement.
 
 ghost use Rattle.std.specs.Prelude.{◌≡◌};
-ghost use Rattle.comfy_parts.specs.CellValue.{column_padding, visible_among};
+ghost use Rattle.comfy_parts.specs.CellValue.{column_padding, shown_among};
 ghost use Rattle.comfy_table.specs.Frame.{saturated_border_count};
 ghost use Rattle.comfy_table.specs.Lines.{cell_delimiter};
 ghost use Rattle.comfy_table.specs.Widths.{without_padding};
@@ -20,7 +20,7 @@ pub fn absolute_width_with_padding(column: &Column, width: u16) -> u16
 
 /// The number of columns that aren't hidden.
 pub fn count_visible_columns(columns: &[Column]) -> usize
-    ensures { result ≡ visible_among columns.now }
+    ensures { result ≡ shown_among columns.now }
 {
     let mut visible = 0;
     for column in columns {
@@ -31,14 +31,14 @@ pub fn count_visible_columns(columns: &[Column]) -> usize
     visible
 }
 
-/// The number of border characters of a line over so many visible columns, or the greatest `usize` where there are more.
-pub fn count_border_columns(table: &Table, visible_columns: usize) -> usize
-    ensures { result ≡ saturated_border_count table.now.style visible_columns }
+/// The number of border characters of a line over so many shown columns, or the greatest `usize` where there are more.
+pub fn count_border_columns(table: &Table, shown_columns: usize) -> usize
+    ensures { result ≡ saturated_border_count table.now.style shown_columns }
 {
     let left = usize::from(table.style.draws_left_border());
     let right = usize::from(table.style.draws_right_border());
     let between = if table.style.draws_vertical_lines() {
-        visible_columns.saturating_sub(1)
+        shown_columns.saturating_sub(1)
     } else {
         0
     };

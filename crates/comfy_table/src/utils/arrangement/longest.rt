@@ -5,7 +5,7 @@ ghost use Rattle.comfy_parts.specs.Text.{greatest, measure};
 ghost use Rattle.comfy_parts.specs.Wrapping.{wrapped};
 ghost use Rattle.comfy_table.specs.Lines.{longest_line, longest_line_at};
 ghost use Rattle.comfy_table.specs.LongestLine.{cell_longest_line, text_longest_line};
-ghost use Rattle.comfy_table.specs.TableValue.{seen_cell};
+ghost use Rattle.comfy_table.specs.TableValue.{measured_cell};
 
 use crate::table::Table;
 use comfy_parts::content_split::{ColumnDisplayInfo, wrapped_lines};
@@ -50,12 +50,12 @@ pub fn column_longest_line(
     longest
 }
 
-// The longest line of a cell as it is seen.
+// The longest line of a cell as it is measured.
 fn cell_longest_line(table: &Table, cell: &Cell, info: &ColumnDisplayInfo) -> usize
-    ensures { result ≡ cell_longest_line table.now info.now (seen_cell table.now cell.now) }
+    ensures { result ≡ cell_longest_line table.now info.now (measured_cell table.now cell.now) }
 {
     let delimiter = table.delimiter_of(cell, info.delimiter);
-    let (texts, widths) = table.seen_lines(cell);
+    let (texts, widths) = table.measured_lines(cell);
     let mut longest = 0;
     for (line, text) in texts.iter().enumerate() {
         let of_text = text_longest_line(text.as_str(), widths[line], info, delimiter);

@@ -7,9 +7,9 @@ ghost use Rattle.comfy_parts.specs.VisibleText.{has_escape};
 ghost use Rattle.comfy_parts.specs.Wrapping.{lines_of_text, wrapped};
 ghost use Rattle.comfy_table.specs.CellLines.{lines_of};
 ghost use Rattle.comfy_table.specs.DrawnLines.{drawn_line, drawn_text, with_texts};
-ghost use Rattle.comfy_table.specs.Lines.{as_seen, cell_delimiter, cell_lines, cut_line, cut_text, fitting_indicator, whole_lines};
+ghost use Rattle.comfy_table.specs.Lines.{as_measured, cell_delimiter, cell_lines, cut_line, cut_text, fitting_indicator, whole_lines};
 ghost use Rattle.comfy_table.specs.Pieces.{row_cell_lines};
-ghost use Rattle.comfy_table.specs.TableValue.{seen_cell};
+ghost use Rattle.comfy_table.specs.TableValue.{measured_cell};
 
 use crate::table::Table;
 use crate::utils::formatting::styling::push_reset;
@@ -21,7 +21,7 @@ use comfy_parts::{Cell, Result, Row};
 use std::borrow::CowStr;
 use std::marker::Model;
 
-/// A line of a cell: the terminal columns of what is seen of it, and the text that is written.
+/// A line of a cell: the terminal columns of what is measured of it, and the text that is written.
 #[derive(Drop)]
 pub struct Line<'a> {
     columns: usize,
@@ -56,7 +56,7 @@ impl<'a> CellLines<'a> {
         }
     }
 
-    /// A line by its position, counted from 0: the columns of what is seen of it, and what is written.
+    /// A line by its position, counted from 0: the columns of what is measured of it, and what is written.
     pub fn get(&self, position: usize) -> Option<(usize, &str)>
         ensures { option_map (λ line. record { columns = line.0; written = line.1.now }) result ≡ slice_get (lines_of self.now) position }
     {
@@ -84,7 +84,7 @@ pub fn row_cell_lines<'a>(
     if let Some((columns, text)) = only_line(table, cell, info) {
         return Ok(CellLines::One(columns, text));
     }
-    Ok(CellLines::Several(made_lines(table, row, cell, info)?))
+    Ok(CellLines::Several(listed_lines(table, row, cell, info)?))
 }
 
 // The columns and the text of a cell's one text line, if it fits and is written as it is.
@@ -96,19 +96,19 @@ fn only_line<'a>(
     ensures { IfSome result (λ line. record { columns = line.0; written = line.1.now } ∷ [] ≡ map drawn_line (whole_lines table.now.custom_styling info.now.content_width (cell_delimiter table.now info.now.delimiter cell.now) cell.now)) }
 {
     let texts = cell.text_lines();
-    let (_, widths) = table.seen_lines(cell);
+    let (_, widths) = table.measured_lines(cell);
     if texts.len() != 1 || widths[0] > usize::from(info.content_width) {
         return None;
     }
     let text = texts[0].as_str();
-    if has_own_texts(table, cell) && !is_written_whole(text) {
+    if is_custom_styled(table, cell) && !is_written_whole(text) {
         return None;
     }
     Some((widths[0], text))
 }
 
-// Whether what is written for the lines of the cell may differ from what is seen of them.
-fn has_own_texts(table: &Table, cell: &Cell) -> bool
+// Whether what is written for the lines of the cell may differ from what is measured of them.
+fn is_custom_styled(table: &Table, cell: &Cell) -> bool
     ensures { result ≡ (table.now.custom_styling && list_any has_escape cell.now.text_lines) }
 {
     table.custom_styling && has_escape(cell)
@@ -116,7 +116,7 @@ fn has_own_texts(table: &Table, cell: &Cell) -> bool
 
 // The lines of a cell in its row, each made by itself. Most cells need none.
 #[inline(never)]
-fn made_lines<'a>(
+fn listed_lines<'a>(
     table: &Table,
     row: &Row,
     cell: &'a Cell,
@@ -124,24 +124,24 @@ fn made_lines<'a>(
 ) -> Result<Vec<Line<'a>>>
     ensures { IfOk result (λ lines. lines.items ≡ map drawn_line (row_cell_lines table.now row.now info.now cell.now)) }
 {
-    let seen = seen_lines(table, cell, info)?;
-    let height = row.height_limit().unwrap_or(seen.len());
-    if seen.len() <= height {
-        return whole_lines(table, cell, info, seen);
+    let measured = cell_lines(table, cell, info)?;
+    let height = row.height_limit().unwrap_or(measured.len());
+    if measured.len() <= height {
+        return whole_lines(table, cell, info, measured);
     }
     let kept = height.saturating_sub(1);
-    let cut = cut_line(table, seen[kept].text.as_str(), info)?;
-    let mut lines = whole_lines(table, cell, info, seen)?;
+    let cut = cut_line(table, measured[kept].text.as_str(), info)?;
+    let mut lines = whole_lines(table, cell, info, measured)?;
     lines.truncate(kept);
     lines.push(cut)?;
     Ok(lines)
 }
 
-// The lines of a cell in a column as they are seen: each text line as it is where it fits, else wrapped.
-fn seen_lines<'a>(table: &Table, cell: &'a Cell, info: &ColumnDisplayInfo) -> Result<Vec<Line<'a>>>
-    ensures { IfOk result (λ lines. lines.items ≡ map drawn_text (cell_lines info.now.content_width (cell_delimiter table.now info.now.delimiter cell.now) (seen_cell table.now cell.now))) }
+// The lines of a cell in a column as they are measured: each text line as it is where it fits, else wrapped.
+fn cell_lines<'a>(table: &Table, cell: &'a Cell, info: &ColumnDisplayInfo) -> Result<Vec<Line<'a>>>
+    ensures { IfOk result (λ lines. lines.items ≡ map drawn_text (cell_lines info.now.content_width (cell_delimiter table.now info.now.delimiter cell.now) (measured_cell table.now cell.now))) }
 {
-    let (texts, widths) = table.seen_lines(cell);
+    let (texts, widths) = table.measured_lines(cell);
     let delimiter = table.delimiter_of(cell, info.delimiter);
     let alloc = *table.columns.allocator();
     let mut lines = Vec::with_capacity(alloc, about_lines(widths, info.content_width))?;
@@ -197,21 +197,21 @@ fn push_wrapped<'a>(
     Ok(())
 }
 
-// Lines of a cell as they are seen, with what is written for each.
+// Lines of a cell as they are measured, with what is written for each.
 fn whole_lines<'a>(
     table: &Table,
     cell: &Cell,
     info: &ColumnDisplayInfo,
-    seen: Vec<Line<'a>>,
+    measured: Vec<Line<'a>>,
 ) -> Result<Vec<Line<'a>>>
-    requires { seen.items ≡ map drawn_text (cell_lines info.now.content_width (cell_delimiter table.now info.now.delimiter cell.now) (seen_cell table.now cell.now)) }
+    requires { measured.items ≡ map drawn_text (cell_lines info.now.content_width (cell_delimiter table.now info.now.delimiter cell.now) (measured_cell table.now cell.now)) }
     ensures { IfOk result (λ lines. lines.items ≡ map drawn_line (whole_lines table.now.custom_styling info.now.content_width (cell_delimiter table.now info.now.delimiter cell.now) cell.now)) }
 {
-    if !has_own_texts(table, cell) {
-        return Ok(seen);
+    if !is_custom_styled(table, cell) {
+        return Ok(measured);
     }
     let texts = written_lines(cell, info, table.delimiter_of(cell, info.delimiter))?;
-    Ok(with_texts(seen, texts))
+    Ok(with_texts(measured, texts))
 }
 
 // Lines of which the first get texts of their own.
@@ -228,11 +228,11 @@ fn with_texts<'a>(mut lines: Vec<Line<'a>>, texts: Vec<String>) -> Vec<Line<'a>>
     lines
 }
 
-// The line that is cut, by what is seen of it.
-fn cut_line<'a>(table: &Table, seen: &str, info: &ColumnDisplayInfo) -> Result<Line<'a>>
-    ensures { IfOk result (λ line. line ≡ drawn_line (cut_line table.now.custom_styling info.now.content_width table.now.indicator (as_seen seen.now))) }
+// The line that is cut, by what is measured of it.
+fn cut_line<'a>(table: &Table, measured: &str, info: &ColumnDisplayInfo) -> Result<Line<'a>>
+    ensures { IfOk result (λ line. line ≡ drawn_line (cut_line table.now.custom_styling info.now.content_width table.now.indicator (as_measured measured.now))) }
 {
-    let mut text = cut_text(table, seen, info)?;
+    let mut text = cut_text(table, measured, info)?;
     let columns = measure_text_width(text.as_str());
     if table.custom_styling && leaves_sequence_open(text.as_str()) {
         push_reset(&mut text)?;

@@ -8,7 +8,7 @@ ghost use Rattle.comfy_table.specs.DrawnCells.{piece_at};
 use crate::table::Table;
 use crate::utils::formatting::drawn_cell::{DrawnCell, greatest_height, set_drawn_cells};
 use crate::utils::formatting::gap::{Gap, push_spaces};
-use crate::utils::formatting::shown_column::shown_columns;
+use crate::utils::formatting::shown_column::shown_infos;
 use comfy_parts::content_split::ColumnDisplayInfo;
 use comfy_parts::{Cell, Result, Row};
 use std::alloc::Global;
@@ -28,7 +28,7 @@ pub fn format_row(
     ensures { IfOk result (λ lines. map (λ pieces. map string_bytes pieces.items) lines.items ≡ row_lines table.now display_infos.now row.now) }
 {
     let alloc = *table.columns.allocator();
-    let columns = shown_columns(alloc, display_infos)?;
+    let columns = shown_infos(alloc, display_infos)?;
     let mut drawn = Vec::with_capacity(alloc, columns.len())?;
     set_drawn_cells(&mut drawn, row, columns.as_slice(), table)?;
     let cells = drawn.as_slice();

@@ -13,7 +13,7 @@ use crate::utils::formatting::borders::{is_drawn, optional_frame_line, push_fram
 use crate::utils::formatting::drawn_cell::{DrawnCell, greatest_height, set_drawn_cells};
 use crate::utils::formatting::output::{Output, OutputForm};
 use crate::utils::formatting::row_gaps::RowGaps;
-use crate::utils::formatting::shown_column::{ShownColumn, shown_columns};
+use crate::utils::formatting::shown_column::{ShownColumn, shown_infos};
 use comfy_parts::content_split::ColumnDisplayInfo;
 use comfy_parts::style::{ContentLineStyle, LineStyle};
 use comfy_parts::{Result, Row};
@@ -44,11 +44,11 @@ struct Writer<'a> {
 impl<'a> Model for Writer<'a> {
     ghost use Rattle.std.specs.Prelude.{◌≡◌};
     ghost use Rattle.comfy_table.specs.Output.{WriterValue};
-    ghost use Rattle.comfy_table.specs.Pieces.{visible_infos};
+    ghost use Rattle.comfy_table.specs.Pieces.{shown_infos};
 
     ghost Value = { WriterValue };
 
-    ghost invariant = { λ w. w.columns.items ≡ visible_infos w.infos.now };
+    ghost invariant = { λ w. w.columns.items ≡ shown_infos w.infos.now };
 
     ghost view = { λ w. record { table = w.table.now; infos = w.infos.now; output = w.output } };
 }
@@ -61,7 +61,7 @@ impl<'a> Writer<'a> {
         Ok(Writer {
             table,
             infos,
-            columns: shown_columns(alloc, infos)?,
+            columns: shown_infos(alloc, infos)?,
             cells: Vec::new(alloc),
             line: String::new(alloc),
             output: Output::new(alloc, form),

@@ -1,7 +1,7 @@
 //! The columns of a table that are shown.
 
 ghost use Rattle.std.specs.Prelude.{◌≡◌, IfOk};
-ghost use Rattle.comfy_table.specs.Pieces.{visible_infos};
+ghost use Rattle.comfy_table.specs.Pieces.{shown_infos};
 
 use comfy_parts::Result;
 use comfy_parts::content_split::ColumnDisplayInfo;
@@ -25,11 +25,11 @@ impl<'a> Model for ShownColumn<'a> {
 }
 
 /// The columns of these infos that aren't hidden, in order.
-pub fn shown_columns<'a>(
+pub fn shown_infos<'a>(
     alloc: Global,
     infos: &'a [ColumnDisplayInfo],
 ) -> Result<Vec<ShownColumn<'a>>>
-    ensures { IfOk result (λ columns. columns.items ≡ visible_infos infos.now) }
+    ensures { IfOk result (λ columns. columns.items ≡ shown_infos infos.now) }
 {
     let mut columns = Vec::new(alloc);
     for (position, info) in infos.iter().enumerate() {

@@ -3,27 +3,27 @@ use Rattle.std.proofs.lemmas.List.{length-map}
 use Rattle.comfy_parts.specs.Text.{measure}
 use Rattle.comfy_parts.specs.VisibleText.{visible_text}
 use Rattle.comfy_parts.specs.VisibleLines.{CellLine, line_texts}
-use Rattle.comfy_parts.specs.Cursor.{open_at_end, seen_ahead}
-use Rattle.comfy_parts.proofs.WrittenLemmas.{cell-written, next_text, seen_at, text_at, texts_written, width_at}
+use Rattle.comfy_parts.specs.Cursor.{open_at_end, visible_ahead}
+use Rattle.comfy_parts.proofs.WrittenLemmas.{cell-written, next_text, visible_at, text_at, texts_written, width_at}
 use Rattle.comfy_parts.proofs.cell.for_tables.written_lines.Goals as goal
 
 pub push_lines-requires-clause-seen : goal.push_lines-requires-clause-seen
 push_lines-requires-clause-seen c =
     let texts = c.text_lines-texts.result.now in
-    let seens = c.visible.result.0.now in
-    let same : map string_bytes seens ≡ map visible_text (map string_bytes texts) = c.visible.ensures.texts ∙ ap (λ v. map visible_text v.text_lines) c.cell.view_is ∙ ap (map visible_text) (sym c.text_lines-texts.ensures.value) in
+    let visibles = c.visible.result.0.now in
+    let same : map string_bytes visibles ≡ map visible_text (map string_bytes texts) = c.visible.ensures.texts ∙ ap (λ v. map visible_text v.text_lines) c.cell.view_is ∙ ap (map visible_text) (sym c.text_lines-texts.ensures.value) in
     c.as_str-visible.ensures.value
-    ∙ seen_at string_bytes texts seens c.loop-position.position c.index-texts-position.result c.index-visible-position.result same c.loop-position-test.true c.index-texts-position.is c.index-visible-position.is
+    ∙ visible_at string_bytes texts visibles c.loop-position.position c.index-texts-position.result c.index-visible-position.result same c.loop-position-test.true c.index-texts-position.is c.index-visible-position.is
     ∙ ap visible_text (sym c.as_str.ensures.value)
-    ∙ ap seen_ahead (sym c.in_ok-begin.ensures)
+    ∙ ap visible_ahead (sym c.in_ok-begin.ensures)
 
 pub push_lines-requires-clause-width : goal.push_lines-requires-clause-width
 push_lines-requires-clause-width c =
     let texts = c.text_lines-texts.result.now in
-    let seens = c.visible.result.0.now in
-    let same : map string_bytes seens ≡ map visible_text (map string_bytes texts) = c.visible.ensures.texts ∙ ap (λ v. map visible_text v.text_lines) c.cell.view_is ∙ ap (map visible_text) (sym c.text_lines-texts.ensures.value) in
+    let visibles = c.visible.result.0.now in
+    let same : map string_bytes visibles ≡ map visible_text (map string_bytes texts) = c.visible.ensures.texts ∙ ap (λ v. map visible_text v.text_lines) c.cell.view_is ∙ ap (map visible_text) (sym c.text_lines-texts.ensures.value) in
     let measured = c.visible.ensures.widths ∙ ap (map measure) (sym c.visible.ensures.texts) in
-    width_at string_bytes texts seens c.visible.result.1.now c.loop-position.position c.index-visible-position.result same measured c.loop-position-test.true c.index-visible-position.is
+    width_at string_bytes texts visibles c.visible.result.1.now c.loop-position.position c.index-visible-position.result same measured c.loop-position-test.true c.index-visible-position.is
     ∙ ap measure (sym c.as_str-visible.ensures.value)
 
 pub loop-position-preserved : goal.loop-position-preserved

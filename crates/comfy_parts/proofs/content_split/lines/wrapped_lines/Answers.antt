@@ -14,4 +14,4 @@ pub returns-clause-slices : goal.returns-clause-slices
 returns-clause-slices c = wrapped_at _ _ _ _ _ c.ranges.delimiter.0 c.utf8.line (c.from-width.ensures ∙ ap (λ i. i.content_width) c.info.view_is) c.lines_behind.ensures
 
 pub returns-then-is_printable-clause-slices : goal.returns-then-is_printable-clause-slices
-returns-then-is_printable-clause-slices c = wrapped_at _ _ _ _ _ c.ranges.delimiter.0 c.utf8.line (c.from-width.ensures ∙ ap (λ i. i.content_width) c.info.view_is) c.plain_lines.ensures
+returns-then-is_printable-clause-slices c = wrapped_at _ _ _ _ _ c.ranges.delimiter.0 c.utf8.line (c.from-width.ensures ∙ ap (λ i. i.content_width) c.info.view_is) c.printable_lines.ensures

@@ -1,6 +1,6 @@
 use Rattle.std.proofs.Common.{◌≡◌, ◌≤◌, ◌==◌, length, nat_lt, arith, ap}
 use Rattle.std.proofs.lemmas.Bool.Decides.{nat_tests}
-use Rattle.comfy_parts.proofs.PlainEndLemmas.{first-long, first-short, spans}
+use Rattle.comfy_parts.proofs.PrintableEndLemmas.{first-long, first-short, spans}
 use Rattle.comfy_parts.proofs.content_split.printable.begins_with_long_part.Goals as goal
 use Rattle.comfy_parts.proofs.content_split.printable.begins_with_long_part.Goals.{then-loop-run-test+then-run-width+else-from, then-loop-run-test+else-run-width, else-loop-run-test}
 

@@ -1,5 +1,5 @@
 use Rattle.std.proofs.Common.{◌≤◌}
-use Rattle.comfy_parts.proofs.PlainEndLemmas.{IsClearAfter}
+use Rattle.comfy_parts.proofs.PrintableEndLemmas.{IsClearAfter}
 use Rattle.comfy_parts.proofs.content_split.printable.last_break.Given as goal
 
 abbrev pub invariant-loop-at : goal.invariant-loop-at

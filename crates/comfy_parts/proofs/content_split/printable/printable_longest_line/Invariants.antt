@@ -1,5 +1,5 @@
 use Rattle.std.proofs.Common.{◌≡◌, length, map, max}
-use Rattle.comfy_parts.specs.Laws.{IsPlain}
+use Rattle.comfy_parts.specs.Laws.{IsPrintable}
 use Rattle.comfy_parts.specs.Text.{greatest, measure}
 use Rattle.comfy_parts.specs.Wrapping.{wrapped}
 use Rattle.comfy_parts.proofs.content_split.printable.printable_longest_line.Given as goal
@@ -7,7 +7,7 @@ use Rattle.comfy_parts.proofs.content_split.printable.printable_longest_line.Giv
 abbrev pub invariant-loop-rest : goal.invariant-loop-rest
 invariant-loop-rest l =
     record {
-      plain : IsPlain l.width l.delimiter l.rest;
+      plain : IsPrintable l.width l.delimiter l.rest;
       longest : max l.longest (greatest (map measure (wrapped l.width l.delimiter l.rest))) ≡ greatest (map measure (wrapped l.width l.delimiter l.text));
     }
 

@@ -1,6 +1,6 @@
 use Rattle.std.proofs.Common.{◌≡◌, List, [], ◌∷◌, ◌++◌, ap, ap₂, sym, ◌∙◌, arith}
-use Rattle.comfy_parts.specs.CellValue.{ColumnInfo, info_of, visible_among}
-use Rattle.comfy_table.proofs.DisabledLemmas.{info_by_content, infos-by_content, visible_count-among}
+use Rattle.comfy_parts.specs.CellValue.{ColumnInfo, info_of, shown_among}
+use Rattle.comfy_table.proofs.DisabledLemmas.{info_by_content, infos-by_content, shown_count-among}
 use Rattle.comfy_parts.proofs.CallerLemmas.{enumerated_all, enumerated_more}
 use Rattle.comfy_table.specs.TableValue.{TableValue}
 use Rattle.comfy_table.proofs.utils.arrangement.infos_by_content.Goals as goal
@@ -8,7 +8,7 @@ use Rattle.comfy_table.proofs.utils.arrangement.infos_by_content.Goals as goal
 pub width_by_content-width-requires : goal.width_by_content-width-requires
 width_by_content-width-requires c =
     let columns : c.as_slice-columns.result.now ≡ c.args.table.now.columns = c.as_slice-columns.ensures.value ∙ ap (λ (t : TableValue). t.columns) c.table.view_is in
-    c.count_visible_columns-visible.ensures ∙ ap visible_among columns ∙ sym (visible_count-among c.args.table.now)
+    c.count_visible_columns-visible.ensures ∙ ap shown_among columns ∙ sym (shown_count-among c.args.table.now)
 
 pub loop-position-preserved : goal.loop-position-preserved
 loop-position-preserved c =

@@ -4,14 +4,14 @@ ghost use Rattle.std.specs.Prelude.{◌≡◌, ◌-◌, IfOk, Some, length, map,
 ghost use Rattle.comfy_table.specs.Arrangement.{room_beside_borders};
 ghost use Rattle.comfy_table.specs.Deciding.{all_needs, average_room, is_undecided, undecided_count};
 ghost use Rattle.comfy_table.specs.Dynamic.{content_room};
-ghost use Rattle.comfy_table.specs.Widths.{ColumnNeeds, visible_count};
+ghost use Rattle.comfy_table.specs.Widths.{ColumnNeeds, shown_count};
 
-use super::visible::VisibleColumn;
+use super::needs::WidthNeeds;
 use crate::table::Table;
 use crate::utils::arrangement::helper::count_border_columns;
 use comfy_parts::Result;
 
-// The content widths of the visible columns while they are decided.
+// The content widths of the shown columns while they are decided.
 #[derive(Drop)]
 pub struct Budget {
     // in list order; none while a column is undecided
@@ -22,8 +22,8 @@ pub struct Budget {
 
 impl Budget {
     // The fixed widths alone, and the room that they, the borders and all paddings leave of the table's width.
-    pub fn new(table: &Table, columns: &[VisibleColumn<'_>], width: u16) -> Result<Budget>
-        requires { length columns.now ≡ visible_count table.now }
+    pub fn new(table: &Table, columns: &[WidthNeeds<'_>], width: u16) -> Result<Budget>
+        requires { length columns.now ≡ shown_count table.now }
         ensures widths { IfOk result (λ budget. budget.widths.items ≡ map (λ (c : ColumnNeeds). c.fixed) (all_needs table.now columns.now)) }
         ensures room { IfOk result (λ budget. budget.room ≡ content_room (room_beside_borders table.now width) (all_needs table.now columns.now)) }
     {

@@ -6,12 +6,12 @@ ghost use Rattle.comfy_table.specs.Dynamic.{IsLevel, average, settled_at, settle
 ghost use Rattle.comfy_table.specs.TableValue.{TableValue};
 
 use super::budget::Budget;
-use super::visible::VisibleColumn;
+use super::needs::WidthNeeds;
 use crate::utils::arrangement::helper::absolute_width_with_padding;
 
 // Settles each undecided column whose upper boundary or content is within the level: the average room of the columns that
 // the level leaves. With an average of 0 none is settled.
-pub fn settle(columns: &[VisibleColumn<'_>], budget: &mut Budget)
+pub fn settle(columns: &[WidthNeeds<'_>], budget: &mut Budget)
     requires { length budget.old.widths.items ≡ length columns.now }
     ensures { (table : TableValue) → HasSettled (all_needs table columns.now) budget.old budget.new }
 {
@@ -23,7 +23,7 @@ pub fn settle(columns: &[VisibleColumn<'_>], budget: &mut Budget)
 }
 
 // The level: from the average up, until what it settles leaves no more room on average than it is.
-fn level_from(columns: &[VisibleColumn<'_>], budget: &Budget, average: usize) -> usize
+fn level_from(columns: &[WidthNeeds<'_>], budget: &Budget, average: usize) -> usize
     requires widths { length budget.now.widths.items ≡ length columns.now }
     requires average { average ≡ average_room budget.now }
     requires some { 0 < average }
@@ -39,7 +39,7 @@ fn level_from(columns: &[VisibleColumn<'_>], budget: &Budget, average: usize) ->
 }
 
 // The average room of the undecided columns that a level leaves; 0 where it leaves none.
-fn average_beside(columns: &[VisibleColumn<'_>], budget: &Budget, level: usize) -> usize
+fn average_beside(columns: &[WidthNeeds<'_>], budget: &Budget, level: usize) -> usize
     ensures at_most { result ≤ budget.now.room }
     ensures average { (table : TableValue) → result ≡ average budget.now.room (undecided_among (all_needs table columns.now) budget.now.widths.items) (settled_shares (Some level) (undecided_among (all_needs table columns.now) budget.now.widths.items)) }
 {
@@ -57,7 +57,7 @@ fn average_beside(columns: &[VisibleColumn<'_>], budget: &Budget, level: usize) 
 }
 
 // Settles the undecided columns at a level.
-fn settle_at(columns: &[VisibleColumn<'_>], budget: &mut Budget, level: usize)
+fn settle_at(columns: &[WidthNeeds<'_>], budget: &mut Budget, level: usize)
     ensures { (table : TableValue) → HasTaken (settled_shares (Some level) (undecided_among (all_needs table columns.now) budget.old.widths.items)) budget.old budget.new }
 {
     for (position, column) in columns.iter().enumerate() {
@@ -71,7 +71,7 @@ fn settle_at(columns: &[VisibleColumn<'_>], budget: &mut Budget, level: usize)
 
 // What an undecided column gets at a level: its upper boundary, where the level allows it and the content reaches it, else
 // a content that is at most the level.
-fn settled_width(column: &VisibleColumn<'_>, level: usize) -> Option<u16>
+fn settled_width(column: &WidthNeeds<'_>, level: usize) -> Option<u16>
     ensures { (table : TableValue) → result ≡ settled_at (Some level) (needs_in table column.now) }
 {
     let most = level.min(usize::from(column.content));

@@ -6,7 +6,7 @@ ghost use Rattle.comfy_table.specs.Deciding.{HasTakenInTurn, all_needs, needs_in
 ghost use Rattle.comfy_table.specs.Dynamic.{lower_of_boundary, shrunk_at};
 
 use super::budget::Budget;
-use super::visible::VisibleColumn;
+use super::needs::WidthNeeds;
 use crate::table::Table;
 use crate::utils::arrangement::helper::absolute_width_with_padding;
 use crate::utils::arrangement::longest::column_longest_line;
@@ -25,7 +25,7 @@ pub enum Rule {
 #[derive(Drop)]
 pub struct Takers<'a> {
     pub table: &'a Table,
-    pub columns: &'a [VisibleColumn<'a>],
+    pub columns: &'a [WidthNeeds<'a>],
     pub rule: Rule,
 }
 
@@ -86,7 +86,7 @@ impl<'a> Takers<'a> {
 }
 
 // What a column takes by its lower boundary, where that is above the average.
-fn lower_width(column: &VisibleColumn<'_>, average: usize) -> Option<u16>
+fn lower_width(column: &WidthNeeds<'_>, average: usize) -> Option<u16>
     ensures { result ≡ lower_of_boundary average (column_padding column.now.column.now) column.now.lower }
 {
     match column.lower {
@@ -99,7 +99,7 @@ fn lower_width(column: &VisibleColumn<'_>, average: usize) -> Option<u16>
 
 // What a column shrinks to where it has this average room: its longest line there, if that leaves three or more terminal
 // columns free.
-fn shrunk_width(table: &Table, column: &VisibleColumn<'_>, average: usize) -> Option<u16>
+fn shrunk_width(table: &Table, column: &WidthNeeds<'_>, average: usize) -> Option<u16>
     requires { average ≤ 65535 }
     ensures { result ≡ shrunk_at average (needs_in table.now column.now) }
 {

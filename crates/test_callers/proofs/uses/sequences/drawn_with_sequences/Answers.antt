@@ -15,6 +15,6 @@ pub returns-clause-cut : goal.returns-clause-cut
 returns-clause-cut c =
     IfOk-weaker c.lines.result _ _ (λ lines (drawn : IsTableDrawing _ lines). (drawn.widths, drawn.drawn, drawn.cut_closed (search rules))) c.lines.ensures.headline
 
-pub returns-clause-seen : goal.returns-clause-seen
-returns-clause-seen c =
+pub returns-clause-visible : goal.returns-clause-visible
+returns-clause-visible c =
     IfOk-weaker c.lines.result _ _ (λ lines (drawn : IsTableDrawing _ lines) free. (drawn.widths, drawn.without_sequences free)) c.lines.ensures.headline

@@ -4,11 +4,11 @@ use Rattle.comfy_parts.proofs.ValueLemmas.{has_text_lines}
 use Rattle.comfy_parts.specs.CellValue.{HasTextLines}
 use Rattle.comfy_parts.specs.Text.{Text}
 use Rattle.comfy_parts.specs.TextLines.{texts_of}
-use Rattle.comfy_parts.specs.declared.cell.text_lines.Lines.{Lines}
-use Rattle.comfy_parts.specs.declared.cell.text_lines.Lines.TheVariants.{One, Several}
+use Rattle.comfy_parts.specs.declared.cell.text_lines.Texts.{Texts}
+use Rattle.comfy_parts.specs.declared.cell.text_lines.Texts.TheVariants.{One, Several}
 use Rattle.comfy_parts.proofs.cell.text_lines.TextLines.several.Goals as goal
 
-whole_lines : (text : Text) (lines : Lines) → texts_of lines ≡ slice_split (λ b. b == 0x0A) text → HasTextLines (texts_of lines)
+whole_lines : (text : Text) (lines : Texts) → texts_of lines ≡ slice_split (λ b. b == 0x0A) text → HasTextLines (texts_of lines)
 whole_lines text (One line width) are = has_text_lines text (line ∷ []) are
 whole_lines text (Several lines widths) are = has_text_lines text lines.items are
 

@@ -3,7 +3,7 @@ use Rattle.std.proofs.lemmas.Grind.{common_steps}
 use Rattle.std.specs.Prelude.{IsUtf8}
 use Rattle.comfy_parts.specs.Text.{Text}
 use Rattle.comfy_parts.specs.Wrapping.{wrapped}
-use Rattle.comfy_parts.specs.Cursor.{IsBehindGap, seen_ahead}
+use Rattle.comfy_parts.specs.Cursor.{IsBehindGap, visible_ahead}
 use Rattle.comfy_parts.specs.Written.{wrapped_positions, written_at}
 use Rattle.comfy_parts.proofs.CursorLemmas.{end-stands}
 use Rattle.comfy_parts.proofs.ListLemmas.{pushed}
@@ -29,7 +29,7 @@ loop-line-preserved c =
     let next = next_line w d old mid line c.next.new.self c.ranges.delimiter.0 c.loop-line.invariant.whole gap lines in
     let stands = c.in_ok-take_line.ensures.stands in
     let seen = c.in_ok-take_line.ensures.seen in
-    let later = written_at new (wrapped_positions w d (seen_ahead new)) in
+    let later = written_at new (wrapped_positions w d (visible_ahead new)) in
     let one = next.written_is new stands seen ∙ ap (λ (t : Text). t ∷ later) (sym c.in_ok-take_line.ensures.written) in
     record {
       whole = subst IsUtf8 (sym seen) next.rest_whole;
@@ -46,7 +46,7 @@ returns-clause-lines c =
     let cursor = c.loop-line.cursor in
     let none = sym c.in-None.ensures.steps.0 ∙ c.loop-line.invariant.lines in
     sym (append-nil (map string_bytes c.loop-line.lines.items))
-    ∙ ap (λ (ts : List Text). map string_bytes c.loop-line.lines.items ++ ts) (sym (written-none w d cursor (seen_ahead cursor) none))
+    ∙ ap (λ (ts : List Text). map string_bytes c.loop-line.lines.items ++ ts) (sym (written-none w d cursor (visible_ahead cursor) none))
     ∙ c.loop-line.invariant.written
 
 pub loop-line-init : goal.loop-line-init

@@ -4,7 +4,7 @@ use Rattle.std.proofs.lemmas.Result.{IfOk-weaker}
 use Rattle.comfy_table.specs.Arrangement.{is_full_width, room_beside_borders}
 use Rattle.comfy_table.specs.Deciding.{all_needs, final_widths, needs_in, undecided_among}
 use Rattle.comfy_table.specs.Dynamic.{IsDynamic, settled_shares}
-use Rattle.comfy_table.specs.Widths.{ColumnNeeds, visible_needs}
+use Rattle.comfy_table.specs.Widths.{ColumnNeeds, shown_needs}
 use Rattle.comfy_table.proofs.DecidedLemmas.{decided_is_dynamic, has_room_to_spread}
 use Rattle.comfy_table.proofs.UndecidedLemmas.{length-with_shares}
 use Rattle.comfy_table.proofs.utils.arrangement.dynamic.dynamic_widths.Goals as goal
@@ -44,7 +44,7 @@ pub returns : goal.returns
 returns c =
     let table = c.args.table.now in
     let columns = c.as_slice-columns.result.now in
-    let needs : all_needs table columns ≡ visible_needs table = ap (all_needs table) c.as_slice-columns.ensures.value ∙ c.in_ok-visible.ensures in
+    let needs : all_needs table columns ≡ shown_needs table = ap (all_needs table) c.as_slice-columns.ensures.value ∙ c.in_ok-visible.ensures in
     IfOk-weaker c.final_widths.result _ _
     (λ widths is.
     let all = decided_is_dynamic (room_beside_borders table c.args.width) (all_needs table columns) c.in_ok-budget.budget c.take_in_turn.new.budget c.settle.new.budget c.take_in_turn-2.new.budget

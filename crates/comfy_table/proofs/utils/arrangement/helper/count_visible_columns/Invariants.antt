@@ -1,10 +1,10 @@
 use Rattle.std.proofs.Common.{◌≡◌, ◌≤◌, ◌+◌, drop}
-use Rattle.comfy_parts.specs.CellValue.{visible_among}
+use Rattle.comfy_parts.specs.CellValue.{shown_among}
 use Rattle.comfy_table.proofs.utils.arrangement.helper.count_visible_columns.Given as goal
 
 -- those so far, and those that are left
 abbrev pub invariant-loop-column : goal.invariant-loop-column
 invariant-loop-column l = record {
-  count : l.visible + visible_among (drop l.column-index l.columns) ≡ visible_among l.columns;
+  count : l.visible + shown_among (drop l.column-index l.columns) ≡ shown_among l.columns;
   few : l.visible ≤ l.column-index;
 }

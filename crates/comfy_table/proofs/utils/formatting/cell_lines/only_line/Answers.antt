@@ -4,9 +4,9 @@ use Rattle.std.proofs.lemmas.Bool.{and_parts}
 use Rattle.comfy_parts.specs.Text.{Text}
 use Rattle.comfy_parts.specs.VisibleText.{has_escape}
 use Rattle.comfy_parts.proofs.CallerLemmas.{only_one}
-use Rattle.comfy_table.proofs.OneLineLemmas.{only_width, seen_line, whole_line}
+use Rattle.comfy_table.proofs.OneLineLemmas.{only_width, measured_line, whole_line}
 use Rattle.comfy_table.specs.Lines.{cell_delimiter}
-use Rattle.comfy_table.proofs.utils.formatting.cell_lines.only_line.Goals.{else-has_own_texts-via-then-has_own_texts+else-not-is_written_whole, else-has_own_texts-via-else-has_own_texts}
+use Rattle.comfy_table.proofs.utils.formatting.cell_lines.only_line.Goals.{else-is_custom_styled-via-then-is_custom_styled+else-not-is_written_whole, else-is_custom_styled-via-else-is_custom_styled}
 use Rattle.comfy_table.proofs.utils.formatting.cell_lines.only_line.Goals as goal
 
 pub returns : goal.returns
@@ -17,13 +17,13 @@ returns c =
     let w = info.content_width in
     let d = cell_delimiter c.args.table.now info.delimiter cell in
     let text = c.as_str-text.result.now in
-    let columns = slice_index_or c.seen_lines.result.1.now 0 0 in
+    let columns = slice_index_or c.measured_lines.result.1.now 0 0 in
     let single : cell.text_lines ≡ text ∷ [] =
     sym c.text_lines-texts.ensures.value ∙ only_one string_bytes c.text_lines-texts.result.now c.index-texts-0.result c.if-texts-ne1.false c.index-texts-0.is ∙ ap (λ (t : Text). t ∷ []) (sym c.as_str-text.ensures.value) in
-    let wide = only_width custom cell.text_lines text c.seen_lines.result.1.now single c.seen_lines.ensures.widths in
+    let wide = only_width custom cell.text_lines text c.measured_lines.result.1.now single c.measured_lines.ensures.widths in
     let fits : columns ≤ w = grind arith in
-    elim c.else-has_own_texts.branch [
-      | else-has_own_texts-via-then-has_own_texts+else-not-is_written_whole b ↦
-          whole_line custom w d cell text columns single wide fits (and_parts custom (list_any has_escape cell.text_lines) (sym c.has_own_texts.ensures ∙ b.if-has_own_texts.true)).0 (b.is_written_whole.ensures b.if-not-is_written_whole.false)
-      | else-has_own_texts-via-else-has_own_texts b ↦ seen_line custom w d cell text columns single wide fits (sym c.has_own_texts.ensures ∙ b.if-has_own_texts.false)
+    elim c.else-is_custom_styled.branch [
+      | else-is_custom_styled-via-then-is_custom_styled+else-not-is_written_whole b ↦
+          whole_line custom w d cell text columns single wide fits (and_parts custom (list_any has_escape cell.text_lines) (sym c.is_custom_styled.ensures ∙ b.if-is_custom_styled.true)).0 (b.is_written_whole.ensures b.if-not-is_written_whole.false)
+      | else-is_custom_styled-via-else-is_custom_styled b ↦ measured_line custom w d cell text columns single wide fits (sym c.is_custom_styled.ensures ∙ b.if-is_custom_styled.false)
     ]

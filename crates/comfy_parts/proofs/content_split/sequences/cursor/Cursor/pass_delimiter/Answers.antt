@@ -1,7 +1,7 @@
 use Rattle.std.proofs.Common.{ap, sym, ◌∙◌, map}
 use Rattle.comfy_parts.specs.Text.{begins_with}
 use Rattle.comfy_parts.specs.VisibleText.{parts}
-use Rattle.comfy_parts.specs.Cursor.{begins_with_sequence, seen_ahead}
+use Rattle.comfy_parts.specs.Cursor.{begins_with_sequence, visible_ahead}
 use Rattle.comfy_parts.proofs.CursorLemmas.{at, begins_visible, none_ahead}
 use Rattle.comfy_parts.proofs.FollowingLemmas.{stripped}
 use Rattle.comfy_parts.proofs.SequenceLemmas.{begins_with_sequence as begins}
@@ -14,7 +14,7 @@ returns-in_default-clause-other c _ =
     let d = c.args.delimiter in
     let rest = c.self.inside.rest.now in
     let free = none_ahead rest (ap (λ v. begins_with_sequence v.ahead) c.self.view_is ∙ c.requires) in
-    ap (λ v. begins_with d (seen_ahead v)) (sym c.self.view_is)
+    ap (λ v. begins_with d (visible_ahead v)) (sym c.self.view_is)
     ∙ begins_visible d rest c.self.invariant free (begins_otherwise-none d rest c.self.invariant c.in_default.ensures.cases)
 
 pub returns-clause-passed : goal.returns-clause-passed

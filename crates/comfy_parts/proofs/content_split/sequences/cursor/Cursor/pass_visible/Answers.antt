@@ -1,10 +1,10 @@
 use Rattle.std.proofs.Common.{rules, false, ◌≡◌, ◌++◌, map, take, drop, ap, sym, subst, ◌∙◌}
 use Rattle.std.specs.Prelude.{IsUtf8, if◌then◌else◌}
 use Rattle.comfy_parts.specs.Text.{Text}
-use Rattle.comfy_parts.specs.Cursor.{CursorValue, behind_bytes, seen_ahead, begins_with_sequence, stepped, visible_part}
+use Rattle.comfy_parts.specs.Cursor.{CursorValue, behind_bytes, visible_ahead, begins_with_sequence, stepped, visible_part}
 use Rattle.comfy_parts.specs.VisibleText.{parts}
 use Rattle.comfy_parts.proofs.CursorLemmas.{at, drops-behind, visible-behind, whole-behind}
-use Rattle.comfy_parts.proofs.FrontLemmas.{visible-seen}
+use Rattle.comfy_parts.proofs.FrontLemmas.{visible_bytes-visible}
 use Rattle.comfy_parts.proofs.content_split.sequences.cursor.Cursor.pass_visible.Goals as goal
 
 pub bytes-preserved : goal.bytes-preserved
@@ -15,10 +15,10 @@ bytes-preserved c =
     let none : begins_with_sequence c.bytes.self.ahead ≡ false = search rules in
     let stays : c.pass_sequence.new.self ≡ c.bytes.self = c.in_ok-pass_sequence.ensures.after ∙ ap (λ b. if b then stepped c.bytes.self c.bytes.self.ahead else c.bytes.self) none in
     let was : c.bytes.self ≡ at new.sequences (map visible_part run ++ new.ahead) = sym stays ∙ sym c.self.view_is ∙ ap (at new.sequences) c.split_visible.ensures.parts in
-    let seen : seen_ahead c.bytes.self ≡ run ++ seen_ahead new = ap seen_ahead was ∙ visible-seen run new.ahead in
+    let seen : visible_ahead c.bytes.self ≡ run ++ visible_ahead new = ap visible_ahead was ∙ visible_bytes-visible run new.ahead in
     let within = c.split_visible.ensures.within in
     record {
-      whole = whole-behind left run (seen_ahead new) c.split_visible.ensures.whole within (subst (λ (t : Text). IsUtf8 (take left t)) seen c.bytes.invariant.whole);
+      whole = whole-behind left run (visible_ahead new) c.split_visible.ensures.whole within (subst (λ (t : Text). IsUtf8 (take left t)) seen c.bytes.invariant.whole);
       passed = sym (visible-behind left new.sequences run new.ahead within) ∙ ap (behind_bytes left) (sym was) ∙ c.bytes.invariant.passed;
-      seen = sym (drops-behind left run (seen_ahead new) within) ∙ ap (drop left) (sym seen) ∙ c.bytes.invariant.seen;
+      seen = sym (drops-behind left run (visible_ahead new) within) ∙ ap (drop left) (sym seen) ∙ c.bytes.invariant.seen;
     }

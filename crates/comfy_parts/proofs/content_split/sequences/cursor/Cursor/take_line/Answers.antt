@@ -1,14 +1,14 @@
 use Rattle.std.proofs.Common.{◌≡◌, ◌+◌, ap, sym, subst, ◌∙◌, take, drop, arith}
 use Rattle.std.proofs.lemmas.Grind.{common_steps}
 use Rattle.std.specs.Prelude.{IsUtf8}
-use Rattle.comfy_parts.specs.Cursor.{StandsAt, at_byte, seen_ahead}
-use Rattle.comfy_parts.proofs.CursorLemmas.{seen-front, stands-behind, stands-itself, stands-more}
+use Rattle.comfy_parts.specs.Cursor.{StandsAt, at_byte, visible_ahead}
+use Rattle.comfy_parts.proofs.CursorLemmas.{visible-front, stands-behind, stands-itself, stands-more}
 use Rattle.comfy_parts.proofs.content_split.sequences.cursor.Cursor.take_line.Goals as goal
 
 pub take_visible-requires : goal.take_visible-requires
 take_visible-requires c =
     let old = c.args.self.now in
-    let same = ap seen_ahead c.in_ok-pass_sequences.ensures ∙ seen-front old.ahead in
+    let same = ap visible_ahead c.in_ok-pass_sequences.ensures ∙ visible-front old.ahead in
     subst (λ t. IsUtf8 (take c.args.bytes t)) (sym same) c.requires
 
 pub returns-clause-stands : goal.returns-clause-stands
@@ -24,7 +24,7 @@ returns-clause-stands c =
 
 pub returns-clause-seen : goal.returns-clause-seen
 returns-clause-seen c =
-    c.in_ok-take_visible.ensures.seen ∙ ap (drop c.args.bytes) (ap seen_ahead c.in_ok-pass_sequences.ensures ∙ seen-front c.args.self.now.ahead)
+    c.in_ok-take_visible.ensures.seen ∙ ap (drop c.args.bytes) (ap visible_ahead c.in_ok-pass_sequences.ensures ∙ visible-front c.args.self.now.ahead)
 
 pub returns-clause-written : goal.returns-clause-written
 returns-clause-written c = grind (arith, common_steps)

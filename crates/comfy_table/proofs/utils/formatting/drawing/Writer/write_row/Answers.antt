@@ -5,7 +5,7 @@ use Rattle.comfy_table.proofs.DrawnCellLemmas.{drawn_between}
 use Rattle.comfy_table.specs.DrawnCells.{drawn_cell}
 use Rattle.comfy_table.specs.Gaps.{row_between}
 use Rattle.comfy_table.specs.Output.{OutputValue, WriterValue, with_lines, with_written}
-use Rattle.comfy_table.specs.Pieces.{visible_infos}
+use Rattle.comfy_table.specs.Pieces.{shown_infos}
 use Rattle.comfy_table.proofs.utils.formatting.drawing.Writer.write_row.Goals as goal
 
 pub returns : goal.returns
@@ -13,7 +13,7 @@ returns c =
     let gaps = c.args.gaps.now in
     let row = c.args.row.now in
     let own : WriterValue = record { table = c.self.inside.table.now; infos = c.self.inside.infos.now; output = c.self.inside.output } in
-    let cells : c.as_slice-2.result.now ≡ map (drawn_cell own.table row) (visible_infos own.infos) =
+    let cells : c.as_slice-2.result.now ≡ map (drawn_cell own.table row) (shown_infos own.infos) =
     c.as_slice-2.ensures.value ∙ c.in_ok-set_drawn_cells.ensures ∙ ap (map (drawn_cell own.table row)) (c.as_slice.ensures.value ∙ c.self.invariant) in
     let lines = drawn_between gaps own.table own.infos row c.as_slice-2.result.now cells in
     on_ok_weaker c.push_row.result

@@ -1,5 +1,5 @@
 use Rattle.std.proofs.Common.{rules, ◌≡◌, true, false, ap, sym, ◌∙◌}
-use Rattle.comfy_table.proofs.SpaceLemmas.{all-styled, bare-made, line-styled, no_styles, plain-made}
+use Rattle.comfy_table.proofs.SpaceLemmas.{all-styled, bare-is, line-styled, no_styles, unstyled-is}
 use Rattle.comfy_table.specs.TableValue.{TableValue, should_style}
 use Rattle.comfy_table.proofs.utils.formatting.piece.Piece.new.Goals.{then-not-should_style-via-then-not-should_style, then-not-should_style-via-else-not-should_style+then-not-has_styles}
 use Rattle.comfy_table.proofs.utils.formatting.piece.Piece.new.Goals as goal
@@ -12,10 +12,10 @@ returns-then-not-should_style c =
     let left = c.spaces_beside-left.ensures.left in
     let right = c.spaces_beside-left.ensures.right in
     elim c.then-not-should_style.branch [
-      | then-not-should_style-via-then-not-should_style w ↦ plain-made cell c.args.info.now c.args.columns _ _ left right table text (sym c.should_style.ensures ∙ w.if-not-should_style.true)
+      | then-not-should_style-via-then-not-should_style w ↦ unstyled-is cell c.args.info.now c.args.columns _ _ left right table text (sym c.should_style.ensures ∙ w.if-not-should_style.true)
       | then-not-should_style-via-else-not-should_style+then-not-has_styles w ↦
           let none = w.if-not-has_styles.true in
-          bare-made cell c.args.info.now c.args.columns _ _ left right table text (λ t. no_styles cell t (w.has_styles.ensures.background none) (w.has_styles.ensures.foreground none) (w.has_styles.ensures.attributes none))
+          bare-is cell c.args.info.now c.args.columns _ _ left right table text (λ t. no_styles cell t (w.has_styles.ensures.background none) (w.has_styles.ensures.foreground none) (w.has_styles.ensures.attributes none))
     ]
 
 pub returns-then-table : goal.returns-then-table

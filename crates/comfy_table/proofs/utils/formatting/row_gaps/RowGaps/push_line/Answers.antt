@@ -1,7 +1,7 @@
 use Rattle.std.proofs.Common.{◌≡◌, ◌<◌, ◌++◌, length, sym, ap, ◌∙◌, arith, append_assoc, string_bytes}
 use Rattle.std.proofs.lemmas.Bool.Decides.{nat_tests}
 use Rattle.comfy_parts.specs.Text.{Text, spaces}
-use Rattle.comfy_table.proofs.RowGapLemmas.{gap_more, made_all, made_of}
+use Rattle.comfy_table.proofs.RowGapLemmas.{gap_more, joined_all, joined_to}
 use Rattle.comfy_table.proofs.SpaceLemmas.{last-pushed}
 use Rattle.comfy_table.specs.DrawnCells.{piece_at}
 use Rattle.comfy_table.proofs.utils.formatting.row_gaps.RowGaps.push_line.Goals as goal
@@ -28,7 +28,7 @@ returns c =
     (λ pushed.
     pushed
     ∙ sym (append_assoc line free gaps.right)
-    ∙ ap (λ (t : Text). t ++ gaps.right) (c.loop-position.invariant ∙ ap (λ i. old ++ made_of gaps drawn cells i) count)
-    ∙ append_assoc old (made_of gaps drawn cells (length cells)) gaps.right
-    ∙ ap (λ (t : Text). old ++ t) (made_all gaps drawn cells some))
+    ∙ ap (λ (t : Text). t ++ gaps.right) (c.loop-position.invariant ∙ ap (λ i. old ++ joined_to gaps drawn cells i) count)
+    ∙ append_assoc old (joined_to gaps drawn cells (length cells)) gaps.right
+    ∙ ap (λ (t : Text). old ++ t) (joined_all gaps drawn cells some))
     c.push_end-2.ensures

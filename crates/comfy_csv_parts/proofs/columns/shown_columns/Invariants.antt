@@ -1,7 +1,0 @@
-use Rattle.std.proofs.Common.{◌≡◌, map, take}
-use Rattle.csv.specs.Records.{fields_of}
-use Rattle.comfy_csv_parts.specs.Columns.{shown_columns}
-use Rattle.comfy_csv_parts.proofs.columns.shown_columns.Given as goal
-
-abbrev pub invariant-loop-position : goal.invariant-loop-position
-invariant-loop-position l = l.columns.items ≡ shown_columns l.right l.left (map fields_of l.rows) (take l.position-index l.positions)

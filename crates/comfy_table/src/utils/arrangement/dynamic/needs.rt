@@ -1,0 +1,76 @@
+//! What the widths of shown columns depend on.
+
+ghost use Rattle.std.specs.Prelude.{◌≡◌, IfOk};
+ghost use Rattle.comfy_parts.specs.CellValue.{column_padding};
+ghost use Rattle.comfy_table.specs.Deciding.{all_needs, needs_in};
+ghost use Rattle.comfy_table.specs.Widths.{needs_of, shown_count, shown_needs};
+
+use crate::table::Table;
+use crate::table::content::column_content_width;
+use crate::utils::arrangement::constraint::{max, min};
+use crate::utils::arrangement::fixed::fixed_width;
+use crate::utils::arrangement::helper::count_visible_columns;
+use comfy_parts::{Column, Result};
+
+// A shown column, and what its width depends on beside its cells. All widths are terminal columns.
+#[derive(Drop)]
+pub struct WidthNeeds<'a> {
+    pub column: &'a Column,
+    // in the table's list of columns
+    pub position: usize,
+    // the width of its widest text line
+    pub content: u16,
+    // its content width, where the column needs no look at the others
+    pub fixed: Option<u16>,
+    // the boundaries of its whole width
+    pub lower: Option<u16>,
+    pub upper: Option<u16>,
+}
+
+impl<'a> WidthNeeds<'a> {
+    // The column at a position of the table, over so many shown columns.
+    fn new(
+        table: &Table,
+        position: usize,
+        column: &'a Column,
+        shown_columns: usize,
+    ) -> WidthNeeds<'a>
+        requires { shown_columns ≡ shown_count table.now }
+        ensures { needs_in table.now result ≡ needs_of table.now (position, column.now) }
+    {
+        let content = column_content_width(table, position);
+        let constraint = column.constraint().copied();
+        WidthNeeds {
+            column,
+            position,
+            content,
+            fixed: fixed_width(table, column, content, shown_columns),
+            lower: min(table, &constraint, shown_columns),
+            upper: max(table, &constraint, shown_columns),
+        }
+    }
+
+    // The paddings of both sides.
+    pub fn padding(&self) -> usize
+        ensures { result ≡ column_padding self.now.column.now }
+    {
+        let (left, right) = self.column.padding();
+        usize::from(left) + usize::from(right)
+    }
+}
+
+// The shown columns of a table, in list order.
+pub fn shown_needs(table: &Table) -> Result<Vec<WidthNeeds<'_>>>
+    ensures { IfOk result (λ columns. all_needs table.now columns.items ≡ shown_needs table.now) }
+{
+    let columns = table.columns.as_slice();
+    let count = count_visible_columns(columns);
+    let mut visible = Vec::new(*table.columns.allocator());
+    for (position, column) in columns.iter().enumerate() {
+        if column.is_hidden() {
+            continue;
+        }
+        visible.push(WidthNeeds::new(table, position, column, count))?;
+    }
+    Ok(visible)
+}
