@@ -4,7 +4,9 @@
     tools/check_proved.py
 
 - docs/PROVED.md: each function, type, clause and field that it names exists, and each public function has a mutation, one
-  of its `try_` form, or stands in OVER_OTHERS. It says how many lines of definitions a reader must believe.
+  of its `try_` form, or stands in OVER_OTHERS. It says how many lines of definitions a reader must believe, for each
+  promise and for all (tools/what_is_believed.py).
+- The laws of comfy_table pass on all those of comfy_parts.
 - README.md: each label that it cites is a heading of PROVED.md, and what it prints is the output of the stored run.
 - CALLING.md of each library: each clause that it quotes stands in the library's source or in that of a caller.
 - Each mutation changes a function that exists.
@@ -17,9 +19,9 @@ import sys
 
 from doc_examples import wrong_examples
 from mutations import must_fail_of, mutations_of
+from what_is_believed import LIBRARIES, counts
 
 TOP = os.path.dirname(os.path.dirname(os.path.realpath(__file__)))
-LIBRARIES = ["cluster_width", "comfy_parts", "comfy_table", "comfy_run", "comfy_csv_parts", "comfy_csv"]
 LAWS_ALONE = ["cluster_width"]  # libraries without code
 WORDS = {"IsAfter", "IsTableDrawing", "input_table"}  # definitions, not functions
 # public calls of a few words over functions that have mutations
@@ -66,7 +68,7 @@ def wrong_in_section(crate, section):
     """What doesn't agree in the section of a crate: its promises name functions, clauses and fields."""
     wrong, functions, mutated = [], functions_of(crate), mutated_in(crate)
     fields = set(re.findall(r"pub (\w+) :", text_of("crates/comfy_table/specs/Headline.antt")))
-    for promise in re.findall(r"^Clauses: (.*?)\.\n\n", section + "\n\n", re.M | re.S):
+    for promise in re.findall(r"^Clauses(?: \(\d+ lines\))?: (.*?)\.\n\n", section + "\n\n", re.M | re.S):
         clauses, _, more = " ".join(promise.split()).partition("; ")
         wrong += [f"no field {it}" for it in re.findall(r"`(\w+)`", more) if it not in fields | WORDS]
         named = re.findall(r"`([A-Z]\w+)`", clauses)
@@ -122,6 +124,10 @@ def main():
     for path in glob.glob("crates/*/CALLING.md", root_dir=TOP):
         wrong += wrong_in_calling(path.split("/")[1])
     wrong += wrong_examples()
+    wrong += [f"docs/PROVED.md gives {given} lines for {label}, which stands on {count}" for label, count, given in counts(page) if count != given]
+    passed_on = re.search(r"^pub use comfy_parts::laws::\{(.*?)\};", text_of("crates/comfy_table/src/laws.rt"), re.M | re.S)[1]
+    laws = re.findall(r"^pub fn (\w+)", text_of("crates/comfy_parts/src/laws.rt"), re.M)
+    wrong += [f"comfy_table::laws doesn't pass on {it}" for it in set(laws) ^ set(re.findall(r"\w+", passed_on))]
     believed = lines_to_believe()
     if f"the {believed} lines" not in page:
         wrong.append(f"docs/PROVED.md doesn't name the {believed} lines of definitions to believe")

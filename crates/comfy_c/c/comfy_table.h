@@ -1,5 +1,10 @@
 /*
- * Tables drawn from tab-separated text, by the library comfy_table, whose drawing is proved.
+ * Tables drawn from tab-separated text, by the library comfy_table.
+ *
+ * Proved: each result but COMFY_OUT_OF_MEMORY comes exactly where the list below says so; the drawing, *needed and what
+ * stays unchanged are as it says.
+ * Tested: that COMFY_OUT_OF_MEMORY comes only after malloc or realloc returned null, that a call keeps no memory, that
+ * several threads may call, and that null stands for an empty slice.
  *
  * Link libcomfy_c.a, and after it liblibc_c.a of the Rattle toolchain, through which it asks for memory.
  */

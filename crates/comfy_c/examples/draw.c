@@ -9,12 +9,17 @@ struct text {
     size_t length;
 };
 
-/* All of a stream, or no bytes where memory runs out. */
+/* All of a stream, or no bytes where it can't be read or memory runs out. */
 static struct text read_all(FILE *stream) {
     size_t room = 1 << 16;
     struct text text = {malloc(room), 0};
     while (text.bytes) {
         size_t count = fread(text.bytes + text.length, 1, room - text.length, stream);
+        if (ferror(stream)) {
+            free(text.bytes);
+            text.bytes = NULL;
+            break;
+        }
         if (count == 0) break;
         text.length += count;
         if (text.length == room) {
@@ -39,9 +44,9 @@ int main(int count, char **words) {
         free(output);
         output = malloc(room = needed);
     }
-    if (status == COMFY_DRAWN) fwrite(output, 1, needed, stdout);
-    else fprintf(stderr, "draw: status %u\n", (unsigned)status);
+    int is_written = status == COMFY_DRAWN && fwrite(output, 1, needed, stdout) == needed && fflush(stdout) == 0;
+    if (status != COMFY_DRAWN) fprintf(stderr, "draw: status %u\n", (unsigned)status);
     free(output);
     free(input.bytes);
-    return status == COMFY_DRAWN ? 0 : 1;
+    return is_written ? 0 : 1;
 }

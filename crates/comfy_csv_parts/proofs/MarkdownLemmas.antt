@@ -4,11 +4,11 @@ use Rattle.std.proofs.lemmas.Bool.{or_parts}
 use Rattle.comfy_csv_parts.specs.Markdown.{escaped, is_special, unescaped}
 
 -- a character that isn't special, before others
-plain : (c : ℕ) (rest : List ℕ) → (c == 0x5C) ≡ false → (c == 0x3C) ≡ false → unescaped (c ∷ rest) ≡ c ∷ unescaped rest
-plain c [] a b = refl
-plain c (x ∷ []) a b = rw a refl
-plain c (x ∷ y ∷ []) a b = rw a refl
-plain c (x ∷ y ∷ z ∷ rest) a b = rw (a, b) refl
+other-unescaped : (c : ℕ) (rest : List ℕ) → (c == 0x5C) ≡ false → (c == 0x3C) ≡ false → unescaped (c ∷ rest) ≡ c ∷ unescaped rest
+other-unescaped c [] a b = refl
+other-unescaped c (x ∷ []) a b = rw a refl
+other-unescaped c (x ∷ y ∷ []) a b = rw a refl
+other-unescaped c (x ∷ y ∷ z ∷ rest) a b = rw (a, b) refl
 
 -- a character after a backslash
 after_backslash : (c : ℕ) (rest : List ℕ) → unescaped (0x5C ∷ c ∷ rest) ≡ c ∷ unescaped rest
@@ -22,7 +22,7 @@ first_back c rest cs more true b feed special = ap (λ (t : List ℕ). 0x0A ∷ 
 first_back c rest cs more false true feed special = after_backslash c rest ∙ ap (λ (t : List ℕ). c ∷ t) more
 first_back c rest cs more false false feed special =
     let none = or_parts ((c == 0x7C) || (c == 0x5C)) (c == 0x3C) special in
-    plain c rest (or_parts (c == 0x7C) (c == 0x5C) none.0).1 none.1 ∙ ap (λ (t : List ℕ). c ∷ t) more
+    other-unescaped c rest (or_parts (c == 0x7C) (c == 0x5C) none.0).1 none.1 ∙ ap (λ (t : List ℕ). c ∷ t) more
 
 pub read_back : (text : List ℕ) → unescaped (escaped text) ≡ text
 read_back [] = refl

@@ -9,7 +9,7 @@ ghost use Rattle.comfy_csv_parts.specs.Words.{IsAsked, LookIsAsked, OptionsAreAs
 
 use crate::number::are_digits;
 use crate::options::{ColumnChoice, Look, Options};
-use crate::words::command;
+use crate::words::{command, style_names};
 use clap::error::ErrorKind;
 use clap::parser::ArgMatches;
 use clap::{Command, Error};
@@ -47,7 +47,8 @@ pub fn asked_of<'a>(
 ) -> Result<Asked, Error>
     ensures { IfOk result (λ asked. IsAsked (map (λ w. w.now) words.entry.now) surroundings asked) }
 {
-    let mut command = command(alloc)?;
+    let styles = style_names(alloc)?;
+    let mut command = command(alloc, styles.as_slice())?;
     asked_by(alloc, &mut command, words, surroundings)
 }
 

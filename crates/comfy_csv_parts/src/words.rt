@@ -7,6 +7,7 @@ ghost use Rattle.comfy_csv_parts.specs.Program.{IsCsvtable, bare};
 ghost use Rattle.comfy_csv_parts.specs.Rules.{lettered, rule_for, with_values};
 
 use clap::{Arg, ArgAction, Command, value_parser};
+use comfy_parts::style::presets;
 use std::alloc::{AllocError, Global};
 
 // A word that the program knows.
@@ -143,40 +144,32 @@ static WORDS: [Word; 15] = [
     },
 ];
 
-// The names of the presets, as `by_name` knows them.
-static STYLES: [&str; 13] = [
-    "ASCII_FULL",
-    "ASCII_FULL_CONDENSED",
-    "ASCII_NO_BORDERS",
-    "ASCII_BORDERS_ONLY",
-    "ASCII_BORDERS_ONLY_CONDENSED",
-    "ASCII_HORIZONTAL_ONLY",
-    "ASCII_MARKDOWN",
-    "UTF8_FULL",
-    "UTF8_FULL_CONDENSED",
-    "UTF8_NO_BORDERS",
-    "UTF8_BORDERS_ONLY",
-    "UTF8_HORIZONTAL_ONLY",
-    "NOTHING",
-];
-
 static COLORS: [&str; 3] = ["auto", "always", "never"];
 
-// The words of `csvtable`, for clap.
-pub(crate) fn command<'a>(alloc: Global) -> Result<Command<'a>, AllocError>
+// The names that `--style` takes.
+pub(crate) fn style_names(alloc: Global) -> Result<Vec<&'static str>, AllocError> {
+    let mut names = Vec::with_capacity(alloc, presets::ALL.len())?;
+    for (name, _) in &presets::ALL {
+        names.push(*name)?;
+    }
+    Ok(names)
+}
+
+// The words of `csvtable`, for clap, with these names of styles.
+pub(crate) fn command<'a>(alloc: Global, styles: &'a [&'a str]) -> Result<Command<'a>, AllocError>
     ensures { IfOk result (λ command. IsCsvtable (app_of command)) }
 {
     let mut command = Command::new(alloc, "csvtable")
         .version("1.0.0")
         .about("Draws the records of a CSV file as a table");
     for word in &WORDS {
-        command = command.arg(arg_of(alloc, word)?)?;
+        command = command.arg(arg_of(alloc, word, styles)?)?;
     }
     Ok(command)
 }
 
 // A word for clap.
-fn arg_of<'a>(alloc: Global, word: &Word) -> Result<Arg<'a>, AllocError>
+fn arg_of<'a>(alloc: Global, word: &Word, styles: &'a [&'a str]) -> Result<Arg<'a>, AllocError>
     ensures { IfOk result (λ arg. bare (rule_of arg) ≡ bare (rule_for word.now)) }
 {
     let arg = with_letter(Arg::new(alloc, word.name).help(word.help), word.letter);
@@ -184,7 +177,7 @@ fn arg_of<'a>(alloc: Global, word: &Word) -> Result<Arg<'a>, AllocError>
         Kind::File => Ok(arg.value_name(word.value)),
         Kind::Flag => Ok(flag(arg, word.name)),
         Kind::Markdown => flag(arg, word.name).conflicts_with("style"),
-        kind => Ok(with_value(arg.long(word.name).value_name(word.value), kind)),
+        kind => Ok(with_value(arg.long(word.name).value_name(word.value), kind, styles)),
     }
 }
 
@@ -205,13 +198,13 @@ fn flag<'a>(arg: Arg<'a>, name: &'a str) -> Arg<'a>
 }
 
 // A word with a value of its kind.
-fn with_value<'a>(arg: Arg<'a>, kind: Kind) -> Arg<'a>
+fn with_value<'a>(arg: Arg<'a>, kind: Kind, styles: &'a [&'a str]) -> Arg<'a>
     ensures { bare (rule_of result) ≡ with_values kind (bare (rule_of arg.entry)) }
 {
     match kind {
         Kind::Width => arg.value_parser(value_parser!(u16)),
         Kind::Count => arg.value_parser(value_parser!(usize)),
-        Kind::Style => arg.value_parser(STYLES.as_slice()),
+        Kind::Style => arg.value_parser(styles),
         Kind::Color => arg.value_parser(COLORS.as_slice()).default_value("auto"),
         _ => arg,
     }

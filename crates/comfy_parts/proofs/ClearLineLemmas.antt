@@ -1,4 +1,4 @@
--- The lines of text lines without ESC are written as they are seen.
+-- The lines of text lines without ESC are written as they are measured.
 use Rattle.std.proofs.Common.{◌≡◌, ℕ, zero, suc, ◌==◌, false, List, [], ◌∷◌, ◌++◌, length, map, take, drop, refl, sym, ap, ap₂, ◌∙◌, append-nil, eqb-true}
 use Rattle.std.specs.List.{concat, list_any, flat_map, AllByRecursion}
 use Rattle.std.proofs.lemmas.Bool.{cond_both, or_parts}
@@ -71,7 +71,7 @@ line_text-clear earlier text start len before clear =
     ∙ up_to_clear len (drop start text))
     ∙ closed_clear (take len (drop start text)) (HasNo-take 0x1B len (drop start text) (HasNo-drop 0x1B start text clear)))
 
--- a line that is written as it is seen
+-- a line that is written as it is measured
 abbrev pub IsAsMeasured : CellLine → Type 0
 IsAsMeasured line = line.written ≡ line.measured
 

@@ -118,7 +118,7 @@ pub from-fewer : (ps : List Part) → length (parts_from zero ps) ≤ length ps
 from-fewer [] = omega arith
 from-fewer (p ∷ ps) = cond_both p.is_sequence _ _ (λ qs. length qs ≤ suc (length ps)) (λ _. omega (arith, from-fewer ps)) (λ _. omega arith)
 
--- sequences aren't seen
+-- sequences aren't visible
 pub visible-front : (ps : List Part) → flat_map visible_bytes (parts_from zero ps) ≡ flat_map visible_bytes ps
 visible-front [] = refl
 visible-front (p ∷ ps) =

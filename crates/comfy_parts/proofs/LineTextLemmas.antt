@@ -1,4 +1,4 @@
--- The text of a line of a cell with sequences: no sequence is left open, those that were active are resumed, and what is seen of it is the line.
+-- The text of a line of a cell with sequences: no sequence is left open, those that were active are resumed, and what is visible of it is the line.
 use Rattle.std.proofs.Common.{◌≡◌, inl, inr, ◌<◌, ◌≤◌, ℕ, zero, suc, ◌+◌, Bool, true, false, ◌==◌, List, [], ◌∷◌, ◌++◌, length, map, take, drop, refl, sym, ap, ◌∙◌, subst, arith, append_assoc, append-nil, eqb-true}
 use Rattle.std.specs.List.{list_any, flat_map, concat, AllByRecursion}
 use Rattle.std.specs.Prelude.{if◌then◌else◌}
@@ -16,7 +16,7 @@ use Rattle.comfy_parts.proofs.ShownLemmas.{Shows, Shows-nil, Shows-append, Shows
 
 -- ---- parts before and after a visible byte
 
--- what is seen of some parts
+-- what is visible of some parts
 abbrev pub visible_bytes_of : List Part → Text
 visible_bytes_of ps = flat_map visible_bytes ps
 
@@ -101,7 +101,7 @@ before_within k (suc len) (p ∷ ps) more short some =
             ∙ ap (λ xs. p ∷ xs) (rest k len (omega (arith, short)) (omega (arith, some)))
             ∙ sym (ap (λ b. p ∷ parts_before (if b then suc k else k) ps) is)
 
--- ---- what is seen of scanned parts
+-- ---- what is visible of scanned parts
 
 -- the visible bytes from one on
 visible_bytes_from : (n : ℕ) (ps : List Part) (rest : Text) → AreScanned ps rest → visible_bytes_of (parts_from n ps) ≡ drop n (visible_bytes_of ps)
@@ -160,7 +160,7 @@ none_open text =
         let some : (length (s ∷ ss) == 0) ≡ false = grind (arith, nat_tests) in
         ap (λ b. opened (s ∷ ss) (if b then [] else sequence_part reset ∷ [])) some
 
--- as much is seen of it as of the text
+-- as much is visible of it as of the text
 pub visible-closed : (text : Text) → visible_text (closed text) ≡ visible_text text
 visible-closed text =
     ap visible_bytes_of (parts-closed text)
@@ -188,7 +188,7 @@ bytes_of-sequences : (ss : List Text) → bytes_of (map sequence_part ss) ≡ co
 bytes_of-sequences [] = refl
 bytes_of-sequences (s ∷ ss) = ap (λ xs. s ++ xs) (bytes_of-sequences ss)
 
--- nothing is seen of them
+-- nothing is visible of them
 visible_bytes_of-sequences : (ss : List Text) → visible_bytes_of (map sequence_part ss) ≡ []
 visible_bytes_of-sequences [] = refl
 visible_bytes_of-sequences (s ∷ ss) = visible_bytes_of-sequences ss
@@ -243,7 +243,7 @@ module _ (earlier : List Text) (text : Text) (start len : ℕ) where
   pub line_closed : open_after (parts (line_text earlier text start len)) ≡ []
   line_closed = cond_both (len == 0) _ _ (λ t. open_after (parts t) ≡ []) (λ _. refl) (λ _. none_open written)
 
-  -- what is seen of it is its slice of what is seen of the text line
+  -- what is visible of it is its slice of what is visible of the text line
   pub line_visible : visible_text (line_text earlier text start len) ≡ take len (drop start (visible_text text))
   line_visible =
       cond_both (len == 0) _ _ (λ t. visible_text t ≡ take len (drop start (visible_text text)))
@@ -270,11 +270,11 @@ module _ (earlier : List Text) (text : Text) (start len : ℕ) where
       enough : k < visible_count (parts_from start (parts text))
       enough =
           let counted = count-visible (parts_from start (parts text)) [] from_scanned in
-          let seen = ap length (visible_bytes_from start (parts text) [] (scan text).scanned) in
+          let visible = ap length (visible_bytes_from start (parts text) [] (scan text).scanned) in
           let left = length-drop start (visible_text text) in
-          omega (arith, counted, seen, left, within, below)
+          omega (arith, counted, visible, left, within, below)
 
--- ---- what is seen before any other text
+-- ---- what is visible before any other text
 
 -- scanned parts of which no visible byte is ESC
 Shows-scanned : (ps : List Part) (rest : Text) → AreScanned ps rest → HasNo 0x1B (visible_bytes_of ps) → Shows (visible_bytes_of ps) (bytes_of ps)

@@ -37,7 +37,7 @@ measured-at d text front others next behind columns splits element measured =
     let at = first-at d others next behind element in
     record { front = front; others = others; splits = splits; left_is = refl; boundary = at.0; element = at.1; columns_are = measured ∙ ap measure (sym (first-is d others next behind element)) }
 
--- seen from a text that has more at its front
+-- looked at from a text that has more at its front
 pub measured-past : (d : ℕ) (text word behind : Text) (m : Option Measured) → text ≡ word ++ behind → IfSome m (λ m. IsMeasured d behind m.left m.first m.columns)
     → IfSome m (λ m. IsMeasured d text m.left m.first m.columns)
 measured-past d text word behind None splits is = is

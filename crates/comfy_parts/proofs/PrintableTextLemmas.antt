@@ -32,7 +32,7 @@ slices-printable Ends d text (line ∷ lines) (tail, slice, ends, more) printabl
     both : (is_printable_ascii line ≡ true) × (is_printable_ascii tail ≡ true)
     both = and_parts (is_printable_ascii line) (is_printable_ascii tail) (sym (list_all-append (is_in_range 0x20 0x7E) line tail) ∙ rest)
 
--- a text of printable ASCII is wrapped into plain lines
+-- a text of printable ASCII is wrapped into printable lines
 pub wrapped-printable : (w d : ℕ) (text : Text) → IsPrintable w d text → All (IsPrintableLine w) (wrapped w d text)
 wrapped-printable w d text plain k default below =
     record { printable = slices-printable _ d text (wrapped w d text) lines plain.printable k default below; fits = lines_fit w d text (wrapped w d text) lines plain k default below }

@@ -1,4 +1,4 @@
--- The lines of a cell with sequences: they are seen as the lines of the visible text, and each is written as its slice with the sequences resumed and closed.
+-- The lines of a cell with sequences: what is measured of them are the lines of the visible text, and each is written as its slice with the sequences resumed and closed.
 use Rattle.std.proofs.Common.{◌≡◌, ℕ, zero, suc, ◌+◌, ◌-◌, Bool, true, false, List, [], ◌∷◌, ◌++◌, length, map, take, drop, zip, nat_le, refl, sym, ap, ap₂, ◌∙◌, arith, ◌<◌, ◌≤◌}
 use Rattle.std.specs.List.{flat_map, AllByRecursion, AllZip}
 use Rattle.std.specs.Prelude.{if◌then◌else◌}
@@ -48,7 +48,7 @@ text_lines_stand w d text =
 
 -- ---- lines that are written
 
--- the lines of a text line are seen as those of its visible text
+-- the lines of a text line are measured as those of its visible text
 visible_of_text : (w d : ℕ) (earlier : List Text) (text : Text) → map (λ (line : CellLine). line.measured) (line_texts_of_text w d earlier text) ≡ lines_of_text w d (visible_text text)
 visible_of_text w d earlier text =
     map-map (λ (line : CellLine). line.measured) (λ (p : ℕ × Text). record { measured = p.1; written = line_text earlier text p.0 (length p.1) }) (zip (starts_of_text w d (visible_text text)) (lines_of_text w d (visible_text text)))
@@ -60,7 +60,7 @@ visible_past w d earlier (text ∷ more) =
     map-append (λ (line : CellLine). line.measured) (line_texts_of_text w d earlier text) (line_texts_past w d (earlier ++ text ∷ []) more)
     ∙ ap₂ (λ (xs ys : List Text). xs ++ ys) (visible_of_text w d earlier text) (visible_past w d (earlier ++ text ∷ []) more)
 
--- the lines of a cell are seen as those of its visible texts
+-- the lines of a cell are measured as those of its visible texts
 pub visible_lines : (w d : ℕ) (text_lines : List Text) → map (λ (line : CellLine). line.measured) (line_texts w d text_lines) ≡ flat_map (lines_of_text w d) (map visible_text text_lines)
 visible_lines w d text_lines = visible_past w d [] text_lines
 
@@ -90,7 +90,7 @@ module _ (w d : ℕ) (text_lines : List Text) where
       every-second _ (line_starts w d text_lines) _
       (each_line w d (λ text. Unit {0}) (λ from line. open_after (parts line.written) ≡ []) (λ earlier text _ start line stands. line_closed earlier text start (length line)) [] text_lines (every-always _ text_lines (λ _. tt)))
 
-  -- the sequences taken out of a line's text, what is seen of it is left
+  -- the sequences taken out of a line's text, what is visible of it is left
   pub lines_visible : AllByRecursion (λ (line : CellLine). visible_text line.written ≡ line.measured) (line_texts w d text_lines)
   lines_visible =
       every-second _ (line_starts w d text_lines) _

@@ -58,7 +58,7 @@ closes-visible o follows [] ps some = absurd (omega (arith, some))
 closes-visible o follows (b ∷ []) ps some = refl
 closes-visible o follows (b ∷ c ∷ bs) ps some = closes-visible o true (c ∷ bs) ps (omega arith)
 
--- ---- where nothing more is seen
+-- ---- where nothing more is visible
 
 -- no part is left then, and no sequence is open
 record AreNone (o : Bool) (ps : List Part) : Type 0 where
@@ -69,7 +69,7 @@ none_left : (o : Bool) (ps : List Part) (rest : Text) → AreScanned ps rest →
 none_left false [] rest scanned none closes = record { empty = refl; closed = refl }
 none_left true [] rest scanned none closes = absurd (true≢false (sym closes))
 none_left o (p ∷ ps) rest (inr part, more) none closes =
-    let seen = ap (λ (x : Part). visible_byte_count (x ∷ ps)) part.is in absurd (omega (arith, none, seen))
+    let visible = ap (λ (x : Part). visible_byte_count (x ∷ ps)) part.is in absurd (omega (arith, none, visible))
 none_left o (p ∷ ps) rest (inl part, more) none closes =
     by_kind (at_sequence [] o false p.bytes ps (ap (λ (x : Part). closes_itself o false (x ∷ ps)) (sym part.is) ∙ closes))
     (none_left true ps rest more (ap (λ (x : Part). visible_byte_count (x ∷ ps)) (sym part.is) ∙ none))
@@ -165,7 +165,7 @@ written_whole text closes = sym (line_text-written [] text 0 (visible_byte_count
 -- and of a cell of this text alone, where what is visible of it fits
 pub line_of_whole : (w d : ℕ) (text : Text) → measure (visible_text text) ≤ w → line_text [] text 0 (length (visible_text text)) ≡ text → line_texts w d (text ∷ []) ≡ record { measured = visible_text text; written = text } ∷ []
 line_of_whole w d text fits whole =
-    let seen = visible_text text in
-    let fit : nat_le (measure seen) w ≡ true = grind (arith, nat_tests, fits) in
-    ap (λ (b : Bool). map (λ (p : ℕ × Text). record { measured = p.1; written = line_text [] text p.0 (length p.1) }) (zip (if b then 0 ∷ [] else starts_past w d 0 0 seen) (if b then seen ∷ [] else wrapped w d seen)) ++ []) fit
-    ∙ ap (λ (t : Text). record { measured = seen; written = t } ∷ []) whole
+    let visible = visible_text text in
+    let fit : nat_le (measure visible) w ≡ true = grind (arith, nat_tests, fits) in
+    ap (λ (b : Bool). map (λ (p : ℕ × Text). record { measured = p.1; written = line_text [] text p.0 (length p.1) }) (zip (if b then 0 ∷ [] else starts_past w d 0 0 visible) (if b then visible ∷ [] else wrapped w d visible)) ++ []) fit
+    ∙ ap (λ (t : Text). record { measured = visible; written = t } ∷ []) whole

@@ -140,52 +140,52 @@ pub next_line : (w d : ℕ) (old mid : CursorValue) (line : Text) (behind : List
     → IsNextLine w d old mid line behind
 next_line w d old mid line behind scalar utf8 gap lines =
     record {
-      whole = subst (λ n. IsUtf8 (take n seen)) (sym long) (IsUtf8-take seen end whole cut.place);
-      rest_whole = subst (λ n. IsUtf8 (drop n seen)) (sym long) cut.whole_rest;
-      lines = second ∙ ap (λ n. wrapped w d (drop n seen)) (sym long);
+      whole = subst (λ n. IsUtf8 (take n visible)) (sym long) (IsUtf8-take visible end whole cut.place);
+      rest_whole = subst (λ n. IsUtf8 (drop n visible)) (sym long) cut.whole_rest;
+      lines = second ∙ ap (λ n. wrapped w d (drop n visible)) (sym long);
       written_is = λ new stands left.
-          ap (λ t. written_at old (wrapped_positions w d t)) gap.seen
-          ∙ ap (written_at old) (positions-gap w d gap.gap seen scalar gap.only)
-          ∙ written-further (length gap.gap) old mid (wrapped_positions w d seen) gap.stands
+          ap (λ t. written_at old (wrapped_positions w d t)) gap.visible
+          ∙ ap (written_at old) (positions-gap w d gap.gap visible scalar gap.only)
+          ∙ written-further (length gap.gap) old mid (wrapped_positions w d visible) gap.stands
           ∙ ap (λ t. written_at mid (wrapped_positions w d t)) (sym halves)
-          ∙ ap (written_at mid) (positions-line w d line (drop end seen) (omega (arith, long, cut.some)) (ap (begins_with d) halves ∙ gap.begins_otherwise) (long ∙ ap (line_end w d) (sym halves)))
+          ∙ ap (written_at mid) (positions-line w d line (drop end visible) (omega (arith, long, cut.some)) (ap (begins_with d) halves ∙ gap.begins_otherwise) (long ∙ ap (line_end w d) (sym halves)))
           ∙ ap (λ (ts : List Text). written (length line) (at_byte 0 mid) ∷ ts)
-          (written-further (length line) mid new (wrapped_positions w d (drop end seen)) stands ∙ ap (λ t. written_at new (wrapped_positions w d t)) (ap (λ n. drop n seen) (sym long) ∙ sym left));
+          (written-further (length line) mid new (wrapped_positions w d (drop end visible)) stands ∙ ap (λ t. written_at new (wrapped_positions w d t)) (ap (λ n. drop n visible) (sym long) ∙ sym left));
     }
   where
-    seen : Text
-    seen = visible_ahead mid
+    visible : Text
+    visible = visible_ahead mid
 
-    whole : IsUtf8 seen
-    whole = whole-past_gap d gap.only.0 seen (subst IsUtf8 (gap.seen ∙ ap (λ g. g ++ seen) gap.only.1) utf8)
+    whole : IsUtf8 visible
+    whole = whole-past_gap d gap.only.0 visible (subst IsUtf8 (gap.visible ∙ ap (λ g. g ++ visible) gap.only.1) utf8)
 
-    same : line ∷ behind ≡ wrapped w d seen
+    same : line ∷ behind ≡ wrapped w d visible
     same =
-        lines ∙ ap (wrapped w d) (gap.seen ∙ ap (λ g. g ++ seen) gap.only.1) ∙ lines_past-gap w d gap.only.0 seen scalar
+        lines ∙ ap (wrapped w d) (gap.visible ∙ ap (λ g. g ++ visible) gap.only.1) ∙ lines_past-gap w d gap.only.0 visible scalar
 
-    cut : IsLineCut w d seen
-    cut = line-cut w d seen whole (some_bytes w d line behind seen same) gap.begins_otherwise
+    cut : IsLineCut w d visible
+    cut = line-cut w d visible whole (some_bytes w d line behind visible same) gap.begins_otherwise
 
     end : ℕ
-    end = line_end w d seen
+    end = line_end w d visible
 
-    both : line ∷ behind ≡ take end seen ∷ wrapped w d (drop end seen)
+    both : line ∷ behind ≡ take end visible ∷ wrapped w d (drop end visible)
     both = same ∙ cut.lines
 
-    first : line ≡ take end seen
+    first : line ≡ take end visible
     first = cc both
 
-    second : behind ≡ wrapped w d (drop end seen)
+    second : behind ≡ wrapped w d (drop end visible)
     second = cc both
 
     long : length line ≡ end
     long =
-        let taken = ap length first ∙ length-take end seen in
-        let within : end ≤ length seen = cut.place.0 in
+        let taken = ap length first ∙ length-take end visible in
+        let within : end ≤ length visible = cut.place.0 in
         omega (arith, taken, within)
 
-    halves : line ++ drop end seen ≡ seen
-    halves = ap (λ t. t ++ drop end seen) first ∙ take-append-drop end seen
+    halves : line ++ drop end visible ≡ visible
+    halves = ap (λ t. t ++ drop end visible) first ∙ take-append-drop end visible
 
 -- after the last line nothing is written
 pub written-none : (w d : ℕ) (c : CursorValue) (text : Text) → [] ≡ wrapped w d text → written_at c (wrapped_positions w d text) ≡ []
@@ -262,21 +262,21 @@ as_many : {X : Type 0} (f : X → Text) (texts visibles : List X) → map f visi
 as_many f texts visibles same = sym (length-map visibles f) ∙ ap length same ∙ length-map (map f texts) visible_text ∙ length-map texts f
 
 -- what is visible of a text line is the text at the same position of those
-pub visible_at : {X : Type 0} (f : X → Text) (texts visibles : List X) (place : ℕ) (text seen : X) → map f visibles ≡ map visible_text (map f texts) → place < length texts
-    → text ≡ slice_index_or texts place text → seen ≡ slice_index_or visibles place seen → f seen ≡ visible_text (f text)
-visible_at f texts visibles place text seen same below is is' =
-    sym (text_at f visibles place seen (omega (arith, as_many f texts visibles same, below)) is')
+pub visible_at : {X : Type 0} (f : X → Text) (texts visibles : List X) (place : ℕ) (text visible : X) → map f visibles ≡ map visible_text (map f texts) → place < length texts
+    → text ≡ slice_index_or texts place text → visible ≡ slice_index_or visibles place visible → f visible ≡ visible_text (f text)
+visible_at f texts visibles place text visible same below is is' =
+    sym (text_at f visibles place visible (omega (arith, as_many f texts visibles same, below)) is')
     ∙ ap (λ (ts : List Text). slice_index_or ts place []) same
     ∙ get_or-map visible_text (map f texts) place [] [] (omega (arith, length-map texts f, below))
     ∙ ap visible_text (text_at f texts place text below is)
 
 -- and its measure is kept there
-pub width_at : {X : Type 0} (f : X → Text) (texts visibles : List X) (widths : List ℕ) (place : ℕ) (seen : X) → map f visibles ≡ map visible_text (map f texts) → widths ≡ map measure (map f visibles)
-    → place < length texts → seen ≡ slice_index_or visibles place seen → slice_index_or widths place 0 ≡ measure (f seen)
-width_at f texts visibles widths place seen same measured below is =
+pub width_at : {X : Type 0} (f : X → Text) (texts visibles : List X) (widths : List ℕ) (place : ℕ) (visible : X) → map f visibles ≡ map visible_text (map f texts) → widths ≡ map measure (map f visibles)
+    → place < length texts → visible ≡ slice_index_or visibles place visible → slice_index_or widths place 0 ≡ measure (f visible)
+width_at f texts visibles widths place visible same measured below is =
     ap (λ ws. slice_index_or ws place 0) measured
     ∙ get_or-map measure (map f visibles) place [] 0 (omega (arith, length-map visibles f, as_many f texts visibles same, below))
-    ∙ ap measure (text_at f visibles place seen (omega (arith, as_many f texts visibles same, below)) is)
+    ∙ ap measure (text_at f visibles place visible (omega (arith, as_many f texts visibles same, below)) is)
 
 -- a text line more is written
 pub next_text : (w d : ℕ) (texts done more : List Text) (place : ℕ) (text : Text) (old mid new : CursorValue) → place < length texts → slice_index_or texts place [] ≡ text

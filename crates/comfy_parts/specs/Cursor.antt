@@ -80,6 +80,6 @@ StandsAt new n old = at_byte 0 new ≡ at_byte n old
 pub record IsBehindGap (d : ℕ) (old new : CursorValue) : Type 0 where
   pub gap : Text
   pub only : IsOnly d gap
-  pub seen : visible_ahead old ≡ gap ++ visible_ahead new
+  pub visible : visible_ahead old ≡ gap ++ visible_ahead new
   pub stands : StandsAt new (length gap) old
   pub begins_otherwise : begins_with d (visible_ahead new) ≡ false

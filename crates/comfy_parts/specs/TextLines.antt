@@ -32,7 +32,7 @@ IsVisible whole (Some visible) = AreVisible whole visible
 -- each text has its measure beside it, and what is visible of it with its measure
 pub record AreMeasured (whole : Texts) (visible : Option Texts) : Type 0 where
   pub widths : widths_of whole ≡ map measure (texts_of whole)
-  pub seen : IsVisible whole visible
+  pub are_visible : IsVisible whole visible
 
 -- a text that is one text line without ESC, of this width
 pub record IsClearLine (text : Text) (columns : ℕ) : Type 0 where

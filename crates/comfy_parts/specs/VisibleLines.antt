@@ -4,7 +4,7 @@ use Rattle.comfy_parts.specs.Text.{Text, measure, begins_with}
 use Rattle.comfy_parts.specs.VisibleText.{visible_text, line_text}
 use Rattle.comfy_parts.specs.Wrapping.{lines_of_text, part_end}
 
--- a line of a cell: what is seen of it, which alone is measured and cut, and what is written
+-- a line of a cell: what is measured of it, and cut, and what is written
 pub record CellLine : Type 0 where
   pub measured : Text
   pub written : Text

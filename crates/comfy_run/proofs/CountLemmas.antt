@@ -1,4 +1,4 @@
--- The table of an input has the settings that were passed, and plain cells where the input is plain. So its lines keep to a width.
+-- The table of an input has the settings that were passed, and cells of printable ASCII where the input is such. So its lines keep to a width.
 use Rattle.std.proofs.Common.{◌≡◌, ℕ, ◌==◌, ◌≤◌, Bool, true, false, ◌&&◌, ◌||◌, List, [], ◌∷◌, Option, Some, None, map, max, refl, sym, ap, ap₂, ◌∙◌, subst, slice_index_or, unwrap_or}
 use Rattle.std.specs.Int.{is_in_range}
 use Rattle.std.specs.List.{All, list_all, onto_first, slice_get, slice_split}
@@ -11,13 +11,14 @@ use Rattle.comfy_parts.specs.declared.style.table.ContentArrangement.{ContentArr
 use Rattle.comfy_parts.specs.declared.style.table.ContentArrangement.TheVariants.{Dynamic, DynamicFullWidth}
 use Rattle.comfy_parts.specs.declared.style.table_style.TableStyle.{TableStyle}
 use Rattle.comfy_run.proofs.StraightLemmas.{OfLine, base, base_width, built}
-use Rattle.comfy_run.specs.Counts.{EachLineHas, HasSettings, IsPrintableInput, OutputFillsWidth, OutputKeepsToWidth, is_printable_input_byte}
+use Rattle.comfy_run.specs.Counts.{EachLineHas, HasSettings, IsPrintableInput, OutputFillsWidth, OutputHasOneCount, OutputKeepsToWidth, is_printable_input_byte}
 use Rattle.comfy_run.specs.Input.{input_table}
 use Rattle.comfy_run.specs.Rows.{break_of, cells_of_line, row_of_line}
 use Rattle.comfy_table.proofs.BuiltTableLemmas.{IsBuilt, IsNewColumn, columns_known, rows_known, unconstrained}
 use Rattle.comfy_parts.proofs.CallerLemmas.{All-at, All-every, All-found}
+use Rattle.comfy_table.specs.Arrangement.{IsArranged}
 use Rattle.comfy_table.specs.Drawing.{infos_of, terminated_text_of}
-use Rattle.comfy_table.specs.Headline.{EachLineCounts, IsTableDrawing}
+use Rattle.comfy_table.specs.Headline.{IsTableDrawing}
 use Rattle.comfy_table.specs.Laws.{AddsOneColumnEachWhereWritten, HasPrintableCells, IsPrintableCell, count, least_total, line_total}
 use Rattle.comfy_table.specs.Lines.{cell_delimiter}
 use Rattle.comfy_table.specs.Pieces.{shown_infos}
@@ -61,7 +62,7 @@ breaks-printable (b ∷ bs) plain =
     let both = and_parts (is_printable_or 0x0B b) (list_all (is_printable_or 0x0B) bs) plain in
     ap₂ (λ s t. s && t) (break-printable b both.0) (breaks-printable bs both.1)
 
--- ---- the cells of a plain line
+-- ---- the cells of a printable line
 
 -- printable ASCII, with no delimiter of its own
 record IsBareCell (cell : CellValue) : Type 0 where
@@ -132,23 +133,33 @@ module _ (width : Option ℕ) (arrangement : ContentArrangement) (style : TableS
         All-weaker IsBareRow (λ (row : RowValue). All (AddsOneColumnEachWhereWritten table row) (shown_infos (infos_of table widths)))
         (λ row is. All-every (AddsOneColumnEachWhereWritten table row) (shown_infos (infos_of table widths)) (λ p cell h found limited. absurd (cc (is.uncut, limited)))) (measured_rows table) (rows_known own refl IsBareRow table bare)
 
-    -- the lines of its drawing, where P holds of their counts
-    counted : (P : ℕ → Type 0) (output : Text) (drawn : List Text) (drawing : IsTableDrawing table drawn) → EachLineCounts P table drawing.widths → output ≡ terminated_text_of drawn → EachLineHas P output
-    counted P output drawn drawing counts same =
+    -- the lines of its drawing, where P holds of their count
+    counted : (P : ℕ → Type 0) (output : Text) (drawn : List Text) (drawing : IsTableDrawing table drawn) → P (line_total table drawing.widths) → output ≡ terminated_text_of drawn → EachLineHas P output
+    counted P output drawn drawing holds same =
         let unstyled = drawing.unstyled_lines has_settings.unstyled has_settings.no_custom_styling in (
           line_total table drawing.widths,
-          subst P (drawing.frame_counts style.top_border) (counts.frame_lines style.top_border),
+          holds,
           drawn,
           subst (All (λ line. count line ≡ line_total table drawing.widths)) (sym unstyled) (drawing.equal_counts (record { printable_cells = printable_cells; indicator_adds_one_column_each = uncut drawing.widths })),
           same,
         )
 
+pub has_one_count : (width : Option ℕ) (arrangement : ContentArrangement) (style : TableStyle) (input output : Text) → OutputHasOneCount width arrangement style input output
+has_one_count width arrangement style input output printable (drawn, drawing, same) =
+    let table = input_table width arrangement style input in
+    let counts = λ n. (widths : List ℕ) × IsArranged table widths × (n ≡ line_total table widths) in
+    counted width arrangement style input printable counts output drawn drawing (drawing.widths, drawing.arranged, refl) same
+
 pub keeps_to_width : (w : ℕ) (style : TableStyle) (input output : Text) → OutputKeepsToWidth w style input output
 keeps_to_width w style input output plain (drawn, drawing, same) =
     let settings = has_settings (Some w) Dynamic style input in
-    counted (Some w) Dynamic style input plain (λ n. n ≤ max w (least_total (input_table (Some w) Dynamic style input))) output drawn drawing (drawing.keeps_to_width w settings.unconstrained settings.arrangement_is settings.width_is) same
+    let within = λ n. n ≤ max w (least_total (input_table (Some w) Dynamic style input)) in
+    counted (Some w) Dynamic style input plain within output drawn drawing
+    (subst within (drawing.frame_counts style.top_border) ((drawing.keeps_to_width w settings.unconstrained settings.arrangement_is settings.width_is).frame_lines style.top_border)) same
 
 pub fills_width : (w : ℕ) (style : TableStyle) (input output : Text) → OutputFillsWidth w style input output
 fills_width w style input output plain some (drawn, drawing, same) =
     let settings = has_settings (Some w) DynamicFullWidth style input in
-    counted (Some w) DynamicFullWidth style input plain (λ n. n ≡ max w (least_total (input_table (Some w) DynamicFullWidth style input))) output drawn drawing (drawing.fills_width w settings.unconstrained settings.arrangement_is settings.width_is some) same
+    let exact = λ n. n ≡ max w (least_total (input_table (Some w) DynamicFullWidth style input)) in
+    counted (Some w) DynamicFullWidth style input plain exact output drawn drawing
+    (subst exact (drawing.frame_counts style.top_border) ((drawing.fills_width w settings.unconstrained settings.arrangement_is settings.width_is some).frame_lines style.top_border)) same

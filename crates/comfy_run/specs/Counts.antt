@@ -8,8 +8,9 @@ use Rattle.comfy_parts.specs.declared.style.table.ContentArrangement.{ContentArr
 use Rattle.comfy_parts.specs.declared.style.table.ContentArrangement.TheVariants.{Dynamic, DynamicFullWidth}
 use Rattle.comfy_parts.specs.declared.style.table_style.TableStyle.{TableStyle}
 use Rattle.comfy_run.specs.Input.{IsOutputFor, input_table}
+use Rattle.comfy_table.specs.Arrangement.{IsArranged}
 use Rattle.comfy_table.specs.Drawing.{terminated_text_of}
-use Rattle.comfy_table.specs.Laws.{HasPrintableCells, NoConstraints, count, least_total}
+use Rattle.comfy_table.specs.Laws.{HasPrintableCells, NoConstraints, count, least_total, line_total}
 use Rattle.comfy_table.specs.TableValue.{TableValue, should_style, table_width}
 use Rattle.comfy_table.specs.Widths.{shown_count}
 
@@ -39,9 +40,15 @@ module _ (width : Option ℕ) (arrangement : ContentArrangement) (style : TableS
     pub unstyled : should_style table ≡ false
     pub no_custom_styling : table.custom_styling ≡ false
 
-  -- a plain input gives plain cells
+  -- such an input gives cells of printable ASCII
   abbrev pub PrintableInputHasPrintableCells : Type 0
   PrintableInputHasPrintableCells = IsPrintableInput input → HasPrintableCells table
+
+-- under every arrangement all lines have as many characters as the full width
+abbrev pub OutputHasOneCount : Option ℕ → ContentArrangement → TableStyle → Text → Text → Type 0
+OutputHasOneCount width arrangement style input output =
+    IsPrintableInput input → IsOutputFor width arrangement style input output
+    → EachLineHas (λ n. (widths : List ℕ) × IsArranged (input_table width arrangement style input) widths × (n ≡ line_total (input_table width arrangement style input) widths)) output
 
 -- under `Dynamic` a line has at most as many characters as the width, or as borders, paddings and one for each column
 abbrev pub OutputKeepsToWidth : ℕ → TableStyle → Text → Text → Type 0

@@ -4,7 +4,7 @@ ghost use Rattle.std.specs.Prelude.{Option, ℕ};
 ghost use Rattle.comfy_parts.specs.Text.{Text};
 ghost use Rattle.comfy_parts.specs.declared.style.table.ContentArrangement.{ContentArrangement};
 ghost use Rattle.comfy_parts.specs.declared.style.table_style.TableStyle.{TableStyle};
-ghost use Rattle.comfy_run.specs.Counts.{HasSettings, OutputFillsWidth, OutputKeepsToWidth, PrintableInputHasPrintableCells};
+ghost use Rattle.comfy_run.specs.Counts.{HasSettings, OutputFillsWidth, OutputHasOneCount, OutputKeepsToWidth, PrintableInputHasPrintableCells};
 ghost use Rattle.comfy_run.specs.Straight.{FittingOutputIsStraight, WholeOutputIsStraight};
 
 /// All lines of an output are equally many terminal columns wide, where each character of the style adds one: for texts
@@ -22,9 +22,11 @@ pub fn input_tables_have_their_settings()
     ensures printable { (width : Option ℕ) (arrangement : ContentArrangement) (style : TableStyle) (input : Text) → PrintableInputHasPrintableCells width arrangement style input }
 {}
 
-/// All lines of the output for such an input have the same number of characters. Under `Dynamic` it is at most the width,
-/// or that of borders, paddings and one character for each column. Under `DynamicFullWidth` it is exactly so many.
+/// All lines of the output for such an input have the same number of characters, under every arrangement: that of the
+/// borders and the whole widths of the columns. With a width it is under `Dynamic` at most the width, or that of borders,
+/// paddings and one character for each column. Under `DynamicFullWidth` it is exactly so many.
 pub fn outputs_keep_to_a_width()
+    ensures any { (width : Option ℕ) (arrangement : ContentArrangement) (style : TableStyle) (input output : Text) → OutputHasOneCount width arrangement style input output }
     ensures dynamic { (w : ℕ) (style : TableStyle) (input output : Text) → OutputKeepsToWidth w style input output }
     ensures full { (w : ℕ) (style : TableStyle) (input output : Text) → OutputFillsWidth w style input output }
 {}

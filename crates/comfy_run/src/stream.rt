@@ -1,10 +1,12 @@
 //! Devices over readers and writers, which keep whether those have failed.
 
-ghost use Rattle.std.specs.Prelude.{◌≡◌, false};
+ghost use Rattle.std.specs.Prelude.{◌≡◌, ◌||◌, ◌↔◌, IfErr, IfOk, Ok, is_err, false, true};
+ghost use Rattle.std.specs.IoError.{error_kind};
+ghost use Rattle.comfy_run.specs.Device.{is_end};
 ghost use Rattle.comfy_run.specs.Stream.{left_before, none_is_left};
 
 use crate::device::{DeviceFault, Sink, Source};
-use std::io::{ErrorKind, Read, Write};
+use std::io::{self, ErrorKind, Read, Write};
 use std::marker::Model;
 
 /// A source over a reader. Every error of the reader is a failure.
@@ -34,6 +36,22 @@ impl<R: Read> FromReader<R> {
             ended: false,
         }
     }
+
+    // What the reader said of so much room, as the source keeps and answers it.
+    fn kept(&mut self, said: io::Result<usize>, room: usize) -> Result<usize, DeviceFault>
+        ensures count { IfOk result (λ count. said ≡ Ok count) }
+        ensures fault { is_err result ≡ is_err said }
+        ensures after { self.new ≡ record self.old { failed = self.old.failed || is_err said; ended = self.old.ended || is_end said room } }
+    {
+        let Ok(count) = said else {
+            self.failed = true;
+            return Err(DeviceFault);
+        };
+        if count == 0 && room > 0 {
+            self.ended = true;
+        }
+        Ok(count)
+    }
 }
 
 impl<R: Read> Source for FromReader<R> {
@@ -52,14 +70,8 @@ impl<R: Read> Source for FromReader<R> {
         if self.ended {
             return Ok(0);
         }
-        let Ok(count) = self.reader.read(buffer) else {
-            self.failed = true;
-            return Err(DeviceFault);
-        };
-        if count == 0 && !buffer.is_empty() {
-            self.ended = true;
-        }
-        Ok(count)
+        let said = self.reader.read(buffer);
+        self.kept(said, buffer.len())
     }
 }
 
@@ -98,6 +110,28 @@ impl<W: Write> ToWriter<W> {
     {
         self.unread
     }
+
+    // What the writer said of a piece of so many bytes, as the sink keeps and answers it.
+    fn kept(&mut self, said: io::Result<usize>, bytes: usize) -> Result<usize, DeviceFault>
+        ensures count { IfOk result (λ count. said ≡ Ok count) }
+        ensures fault { is_err result ≡ (is_err said || is_end said bytes) }
+        ensures after { self.new ≡ record self.old { failed = self.old.failed || (is_err said || is_end said bytes); unread = self.new.unread } }
+        ensures unread { IfErr said (λ error. self.new.unread ≡ true ↔ error_kind error ≡ ErrorKind.BrokenPipe) }
+        ensures read { IfOk said (λ _. self.new.unread ≡ self.old.unread) }
+    {
+        match said {
+            Ok(count) if count > 0 || bytes == 0 => Ok(count),
+            Ok(_) => {
+                self.failed = true;
+                Err(DeviceFault)
+            }
+            Err(error) => {
+                self.failed = true;
+                self.unread = error.kind() == ErrorKind::BrokenPipe;
+                Err(DeviceFault)
+            }
+        }
+    }
 }
 
 impl<W: Write> Sink for ToWriter<W> {
@@ -109,17 +143,7 @@ impl<W: Write> Sink for ToWriter<W> {
         if self.failed {
             return Err(DeviceFault);
         }
-        match self.writer.write(piece) {
-            Ok(count) if count > 0 || piece.is_empty() => Ok(count),
-            Ok(_) => {
-                self.failed = true;
-                Err(DeviceFault)
-            }
-            Err(error) => {
-                self.failed = true;
-                self.unread = error.kind() == ErrorKind::BrokenPipe;
-                Err(DeviceFault)
-            }
-        }
+        let said = self.writer.write(piece);
+        self.kept(said, piece.len())
     }
 }

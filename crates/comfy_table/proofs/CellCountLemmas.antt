@@ -1,4 +1,4 @@
--- Each line of a plain cell fits its column, and its piece is as wide as the column.
+-- Each line of a printable cell fits its column, and its piece is as wide as the column.
 use Rattle.std.proofs.lemmas.Bool.{cond_both}
 use Rattle.std.proofs.Common.{◌≡◌, ◌<◌, ◌≤◌, ℕ, ◌+◌, ◌-◌, true, [], ◌++◌, length, take, Option, Some, nat_lt, refl, sym, ap, subst, arith}
 use Rattle.std.specs.List.{All}
@@ -24,12 +24,12 @@ pub record IsCountedLine (w : ℕ) (line : Text) : Type 0 where
   pub fits : measure line ≤ w
   pub counted : HasCount (measure line) line
 
--- a plain line is counted
+-- a printable line is counted
 counted-printable : (w : ℕ) (line : Text) → IsPrintableLine w line → IsCountedLine w line
 counted-printable w line plain =
     record { fits = plain.fits; counted = HasCount-same (length line) (measure line) line (sym (measure-printable line plain.printable)) (HasCount-printable line plain.printable) }
 
--- the lines of a plain cell are plain
+-- the lines of a printable cell are printable
 pub cell_lines-printable : (table : TableValue) (delimiter : Option ℕ) (w : ℕ) (cell : CellValue) → 1 ≤ w → IsPrintableCell table delimiter cell
     → All (IsPrintableLine w) (cell_lines w (cell_delimiter table delimiter cell) cell)
 cell_lines-printable table delimiter w cell places plain =
@@ -49,7 +49,7 @@ fitting_indicator-le w indicator =
     cond_both (nat_lt w (measure indicator)) [] indicator (λ (text : Text). AddsOneColumnEach text → measure text ≤ w)
     (λ _ even. let none = ap length chars-nil in let measured = even [] refl in omega (arith, none, measured)) (λ narrow even. grind (arith, nat_tests))
 
--- a plain line that is cut is counted
+-- a printable line that is cut is counted
 cut_text-counted : (w : ℕ) (indicator line : Text) → IsUtf8 indicator → AddsOneColumnEach (fitting_indicator w indicator) → is_printable_ascii line ≡ true → IsCountedLine w (cut_text w indicator line)
 cut_text-counted w indicator line utf8 even printable =
     let written : Text = fitting_indicator w indicator in
@@ -62,7 +62,7 @@ cut_text-counted w indicator line utf8 even printable =
     subst (λ front. IsCountedLine w (front ++ written)) (sym (head-printable (w - measure written) line printable))
     (record { fits = omega (arith, both, alone, room, short); counted = HasCount-same (length front + count written) (measure (front ++ written)) (front ++ written) (sym both) (HasCount-append (length front) (count written) front written (HasCount-printable front front_printable) (HasCount-utf8 written (fitting_indicator-utf8 w indicator utf8))) })
 
--- the lines of a plain cell in a row are counted, where the indicator adds one column for each character if a line is cut
+-- the lines of a printable cell in a row are counted, where the indicator adds one column for each character if a line is cut
 pub row_cell_lines-counted : (table : TableValue) (row : RowValue) (info : ColumnInfo) (cell : CellValue) → 1 ≤ info.content_width → IsUtf8 table.indicator
     → IsPrintableCell table info.delimiter cell
     → ((h : ℕ) → row.max_height ≡ Some h → h < length (cell_lines info.content_width (cell_delimiter table info.delimiter cell) cell) → AddsOneColumnEach (fitting_indicator info.content_width table.indicator))

@@ -43,7 +43,7 @@ module _ (table : TableValue) (f : CellValue → ℕ) where
 -- ---- lines
 
 -- of two lists after each other
-greatest-append : (xs ys : List ℕ) → greatest (xs ++ ys) ≡ max (greatest xs) (greatest ys)
+pub greatest-append : (xs ys : List ℕ) → greatest (xs ++ ys) ≡ max (greatest xs) (greatest ys)
 greatest-append [] ys = omega arith
 greatest-append (x ∷ xs) ys = let rest = greatest-append xs ys in omega (arith, rest)
 

@@ -1,4 +1,4 @@
--- All lines of a plain table have the same number of characters.
+-- All lines of a printable table have the same number of characters.
 use Rattle.std.proofs.lemmas.Bool.{cond_both}
 use Rattle.std.proofs.Common.{◌≡◌, ◌≤◌, ℕ, ◌+◌, List, [], ◌∷◌, ◌++◌, Option, Some, None, length, sum, refl, ap, ◌∙◌, arith, slice_index_or}
 use Rattle.std.specs.List.{All, range_with_len, slice_get}
@@ -43,7 +43,7 @@ pub record IsKnownInfo (Known : ℕ → Option ℕ → Type 0) (p : ℕ × Colum
 abbrev ArePiecesCounted : TableValue → RowValue → ℕ × ColumnInfo → Type 0
 ArePiecesCounted table row p = All (HasCount (info_width p.1)) (pieces_at (unstyled table) row p)
 
--- the pieces of a plain cell are as wide as the column, and so is the blank_piece of a missing one
+-- the pieces of a printable cell are as wide as the column, and so is the blank_piece of a missing one
 pieces-counted : (table : TableValue) (row : RowValue) (p : ℕ × ColumnInfo) → IsUtf8 table.indicator → 1 ≤ p.1.content_width
     → ((cell : CellValue) → slice_get row.cells p.0 ≡ Some cell → IsPrintableCell table p.1.delimiter cell) → AddsOneColumnEachWhereWritten table row p → ArePiecesCounted table row p
 pieces-counted table row p utf8 places plain even =
@@ -117,7 +117,7 @@ abbrev pub EqualCounts : TableValue → List ℕ → Type 0
 EqualCounts table widths =
     IsUtf8 table.indicator → IsPrintableTable table widths → IsArranged table widths → All (λ line. count line ≡ line_total table widths) (drawing (unstyled table) widths)
 
--- all lines of a plain table have the same count
+-- all lines of a printable table have the same count
 pub equal_counts : (table : TableValue) (widths : List ℕ) → EqualCounts table widths
 equal_counts table widths utf8 plain arranged =
     let columns : length (whole_widths infos) ≡ shown_count table =

@@ -137,7 +137,7 @@ module _ (b : ℕ) (R : Text → Text → Type 0) (kept : KeptByDrawing b R) whe
   keeps_padded : (cell : CellValue) (info : ColumnInfo) (columns : ℕ) (shown text : Text) → R shown text → R (padded cell info columns shown) (padded cell info columns text)
   keeps_padded cell info columns shown text own = grind (arith, kept.joins.of_both, keeps_spaces b R kept.joins)
 
-  -- the piece of a line, and the plain piece of what is measured of it
+  -- the piece of a line, and the unstyled piece of what is measured of it
   pub keeps_piece : (table : TableValue) (cell : CellValue) (info : ColumnInfo) (line : CellLine) → R line.measured line.written → R (unstyled_piece cell info line.measured) (piece table cell info line)
   keeps_piece table cell info line own = by_tests (should_style table) table.style_text_only
     where

@@ -1,4 +1,4 @@
--- No column of a plain table without constraints is more than three places wider than its content.
+-- No column of a printable table without constraints is more than three places wider than its content.
 use Rattle.std.proofs.Common.{◌≡◌, ◌≤◌, ℕ, ◌+◌, Bool, true, false, List, [], ◌∷◌, length, map, flat_map, min, max, Option, Some, None, unwrap_or, nat_le, MatchOption, refl, sym, ap, ◌∙◌, subst, arith, length-append, le_trans}
 use Rattle.std.specs.Prelude.{if◌then◌else◌}
 use Rattle.std.specs.Int.{is_in_range}
@@ -29,7 +29,7 @@ slices-short : (Ends : Text → Text → Type 0) (d : ℕ) (text : Text) (lines 
 slices-short Ends d text [] slices = tt
 slices-short Ends d text (line ∷ lines) (tail, slice, ends, more) = grind (arith, length-append, every-weaker, slices-short Ends d tail lines more)
 
--- the lines of a plain text measure no more than the text
+-- the lines of a printable text measure no more than the text
 lines_of_text-le : (w d : ℕ) (text : Text) → is_in_range 0x20 0x7E d ≡ true → is_printable_ascii text ≡ true → AllByRecursion (λ (line : Text). measure line ≤ measure text) (lines_of_text w d text)
 lines_of_text-le w d text delimiter printable = by_test (nat_le (measure text) w)
   where
@@ -58,7 +58,7 @@ greatest-le : {X : Type 0} (cap bound : ℕ) (f : X → ℕ) (xs : List X) → A
 greatest-le cap bound f [] each = omega arith
 greatest-le cap bound f (x ∷ xs) each = omega (arith, each.0, greatest-le cap bound f xs each.1)
 
--- up to 65535, the lines of a plain cell are within its content
+-- up to 65535, the lines of a printable cell are within its content
 cell_lines-le : (table : TableValue) (delimiter : Option ℕ) (w : ℕ) (cell : CellValue) → IsPrintableCell table delimiter cell
     → AllByRecursion (λ (line : Text). min 65535 (measure line) ≤ cell_content_width cell) (cell_lines w (cell_delimiter table delimiter cell) cell)
 cell_lines-le table delimiter w cell plain =
@@ -68,7 +68,7 @@ cell_lines-le table delimiter w cell plain =
     (every-both (λ (text : Text). is_printable_ascii text ≡ true) (λ (text : Text). measure text ≤ greatest (map measure cell.text_lines)) cell.text_lines
     (recursion_from_All (λ (text : Text). is_printable_ascii text ≡ true) cell.text_lines plain.0) (every-le-greatest measure cell.text_lines))
 
--- up to 65535, the longest line of a column of plain cells is within its content
+-- up to 65535, the longest line of a column of printable cells is within its content
 longest_line-le : (table : TableValue) (i : ℕ) (delimiter : Option ℕ) (w : ℕ) → AllByRecursion (IsPrintableCell table delimiter) (column_cells table i) → min 65535 (longest_line table i delimiter w) ≤ column_content_width table i
 longest_line-le table i delimiter w plain =
     let cells = column_cells table i in
@@ -111,7 +111,7 @@ with_needs (column ∷ more) (w ∷ widths) within each = (each.0 within.0, with
 
 -- ---- a table
 
--- the needs of columns of plain cells
+-- the needs of columns of printable cells
 every_within : (table : TableValue) (columns : List (ℕ × ColumnValue)) → AllByRecursion (λ (p : ℕ × ColumnValue). All (IsPrintableCell table p.1.delimiter) (column_cells table p.0)) columns
     → AllByRecursion IsWithinContent (map (needs_of table) columns)
 every_within table [] plain = tt

@@ -4,7 +4,7 @@ use Rattle.comfy_parts.specs.Text.{Text, measure}
 use Rattle.comfy_parts.specs.VisibleLines.{CellLine}
 use Rattle.comfy_table.specs.Lines.{as_measured}
 
--- a line of a cell as it is drawn: the terminal columns of what is measured of it, and what is written
+-- a line of a cell as it is drawn: its terminal columns, and what is written
 pub record DrawnLine : Type 0 where
   pub columns : ℕ
   pub written : Text

@@ -1,3 +1,4 @@
+pub mod AddedRows
 pub mod AllWidths
 pub mod Arrangement
 pub mod CellLines

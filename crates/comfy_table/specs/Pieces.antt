@@ -42,7 +42,7 @@ abbrev pub text_piece : TableValue → CellValue → ColumnInfo → ℕ → Text
 text_piece table cell info columns text =
     if should_style table then (if table.style_text_only then padded cell info columns (styled cell text) else styled cell (padded cell info columns text)) else padded cell info columns text
 
--- the piece of a line: what is measured of it is measured
+-- the piece of a line, aligned by what is measured of it
 abbrev pub piece : TableValue → CellValue → ColumnInfo → CellLine → Text
 piece table cell info line = text_piece table cell info (measure line.measured) line.written
 

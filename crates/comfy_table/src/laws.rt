@@ -7,6 +7,7 @@ ghost use Rattle.comfy_parts.specs.CellValue.{CellValue, ColumnInfo, ColumnValue
 ghost use Rattle.comfy_parts.specs.Text.{Text};
 ghost use Rattle.comfy_parts.specs.declared.style.table_style.LineStyle.{LineStyle};
 ghost use Rattle.comfy_parts.specs.declared.style.table_style.TableStyle.{TableStyle};
+ghost use Rattle.comfy_table.specs.AddedRows.{DrawingIsOne, RowIsAddedBelow, ShownLinesStay};
 ghost use Rattle.comfy_table.specs.FittingTables.{FittingTablesAreStraight};
 ghost use Rattle.comfy_table.specs.Laws.{CellKeepsItsText, DynamicIsOne, FillsWidth, JoinedLinesAreFound, KeepsToWidth, NoLinesAreOneEmptyLine, TerminatedLinesAreFound};
 ghost use Rattle.comfy_table.specs.NewTables.{NewTablesAreStraight, NewTablesLeaveNoneOpen};
@@ -15,10 +16,11 @@ ghost use Rattle.comfy_table.specs.TableValue.{TableValue};
 ghost use Rattle.comfy_table.specs.Widths.{ColumnNeeds};
 
 pub use comfy_parts::laws::{
-    active_sequences_are_resumed, cut_lines_are_full, head_is_longest, lines_are_few,
-    lines_are_fewest, lines_fit, lines_keep_the_text, lines_leave_no_sequence_open,
-    lines_of_every_script_fit, narrow_elements_stay_whole, neighbours_fill_a_line,
-    presets_have_columns_of_one, printable_adds_one_column_each, printable_measures_its_length,
+    active_sequences_are_resumed, attributes_are_ordered, cells_are_equal_by_their_values,
+    colors_are_ordered, cut_lines_are_full, head_is_longest, lines_are_few, lines_are_fewest,
+    lines_fit, lines_keep_the_text, lines_leave_no_sequence_open, lines_of_every_script_fit,
+    narrow_elements_stay_whole, neighbours_fill_a_line, presets_have_columns_of_one,
+    printable_adds_one_column_each, printable_measures_its_length,
     sequences_are_taken_out_in_one_pass, sequences_count_nothing,
     spaces_and_borders_add_one_column, wrapped_lines_are_one_list,
 };
@@ -128,4 +130,17 @@ pub fn shrinking_keeps_the_lines()
 /// written.
 pub fn cells_keep_their_text()
     ensures { (table : TableValue) (row : RowValue) (info : ColumnInfo) (cell : CellValue) → CellKeepsItsText table row info cell }
+{}
+
+/// A table has one drawing: two lists of lines that the clauses of `Table::lines` allow are the same.
+pub fn drawings_are_one()
+    ensures { (table : TableValue) (lines others : List Text) → DrawingIsOne table lines others }
+{}
+
+/// What was shown stays. With a further row, over the same widths, a drawing has the lines that it had, and above its
+/// bottom border those of the row, after the row separator where a row stands before it. Where no width is kept, as under
+/// `Disabled`, that holds of all drawings if each cell of the row has a column and is at most as wide as its content.
+pub fn shown_lines_stay()
+    ensures same_widths { (table : TableValue) (row : RowValue) (widths : List ℕ) → RowIsAddedBelow table row widths }
+    ensures by_content { (table : TableValue) (row : RowValue) (lines others : List Text) → ShownLinesStay table row lines others }
 {}

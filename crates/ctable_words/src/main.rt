@@ -1,4 +1,4 @@
-//! `ctable` with a width, an arrangement and a style.
+//! `ctable` with a width, an arrangement and a style, and 200 kB of input.
 #![tactic(auto)]
 
 use comfy_run::run::run_with_arguments;

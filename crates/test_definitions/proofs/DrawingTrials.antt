@@ -6,7 +6,7 @@ use Rattle.comfy_parts.specs.StyleModifiers.{with_solid_inner_borders}
 use Rattle.comfy_parts.specs.declared.style.cell.CellAlignment.TheVariants.{Left, Right, Center}
 use Rattle.comfy_parts.specs.declared.style.column.ColumnConstraint.TheVariants.{Hidden}
 use Rattle.comfy_parts.specs.declared.style.table_style.TableStyle.{TableStyle}
-use Rattle.test_definitions.proofs.TrialTables.{table_of, rows_of, texts, with_constraints, with_paddings, with_alignments, aligned_cell}
+use Rattle.test_definitions.proofs.TrialTables.{table_of, rows_of, texts, with_constraints, with_paddings, with_alignments, aligned_cell, at_widths}
 use Rattle.comfy_table.specs.Arrangement.{IsDrawingOf}
 use Rattle.comfy_table.specs.Drawing.{drawing, trimmed_text_of, text_of}
 use Rattle.comfy_table.specs.TableValue.{TableValue, new_table, with_row}
@@ -15,7 +15,7 @@ use Rattle.comfy_parts.proofs.Computing.{wrapping}
 
 nothing_added : IsDrawingOf (new_table ascii_full) (texts ("++" ∷ "++" ∷ []))
 unfolding wrapping trim_end
-nothing_added = ([], record { one_for_each = refl; hidden_widths = refl; shown_widths = refl }, refl)
+nothing_added = ([], at_widths refl refl refl, refl)
 
 abbrev three_texts : TableValue
 three_texts =
@@ -34,8 +34,7 @@ several_lines_in_a_cell : IsDrawingOf three_texts (texts
     ∷ "|                      | multi line stuff     |                        |"
     ∷ "+----------------------+----------------------+------------------------+" ∷ []))
 unfolding wrapping trim_end
-several_lines_in_a_cell =
-    (20 ∷ 20 ∷ 22 ∷ [], record { one_for_each = refl; hidden_widths = refl; shown_widths = refl }, refl)
+several_lines_in_a_cell = (20 ∷ 20 ∷ 22 ∷ [], at_widths refl refl refl, refl)
 
 missing_cells : IsDrawingOf
     (table_of ascii_full ("Header1" ∷ "Header2" ∷ "Header3" ∷ []) (("One One" ∷ "One Two" ∷ "One Three" ∷ []) ∷ ("Two One" ∷ "Two Two" ∷ []) ∷ ("Three One" ∷ []) ∷ [])) (texts
@@ -49,15 +48,14 @@ missing_cells : IsDrawingOf
     ∷ "| Three One |         |           |"
     ∷ "+-----------+---------+-----------+" ∷ []))
 unfolding wrapping trim_end
-missing_cells =
-    (9 ∷ 7 ∷ 9 ∷ [], record { one_for_each = refl; hidden_widths = refl; shown_widths = refl }, refl)
+missing_cells = (9 ∷ 7 ∷ 9 ∷ [], at_widths refl refl refl, refl)
 
 -- a table whose columns are all hidden: only the side borders are left
 all_hidden : IsDrawingOf
     (with_constraints (Some Hidden ∷ Some Hidden ∷ [])
     (table_of utf8_full ("hidden_header" ∷ "smol" ∷ []) (("start_hidden" ∷ "smol" ∷ []) ∷ ("asdf" ∷ "smol" ∷ []) ∷ []))) (texts ("┌┐" ∷ "╞╡" ∷ "├┤" ∷ "└┘" ∷ []))
 unfolding wrapping trim_end
-all_hidden = (13 ∷ 4 ∷ [], record { one_for_each = refl; hidden_widths = refl; shown_widths = refl }, refl)
+all_hidden = (13 ∷ 4 ∷ [], at_widths refl refl refl, refl)
 
 -- only a fill is set in the separator, and only side borders in the content
 abbrev sides_and_a_separator : TableStyle
@@ -88,7 +86,7 @@ trimmed_top_border = refl
 -- a left character alone makes a line, and a left border
 left_character_alone : IsDrawingOf (rows_of (style_of "*___" "___" "____" "___" "____" "____") (("a" ∷ []) ∷ [])) (texts ("*   " ∷ "  a " ∷ []))
 unfolding wrapping trim_end
-left_character_alone = (1 ∷ [], record { one_for_each = refl; hidden_widths = refl; shown_widths = refl }, refl)
+left_character_alone = (1 ∷ [], at_widths refl refl refl, refl)
 
 -- ---- styles
 
@@ -148,7 +146,7 @@ paddings : IsDrawingOf
     ∷ "|     Three One     | Three Two |Three Three|"
     ∷ "+-------------------+-----------+-----------+" ∷ []))
 unfolding wrapping trim_end
-paddings = (9 ∷ 9 ∷ 11 ∷ [], record { one_for_each = refl; hidden_widths = refl; shown_widths = refl }, refl)
+paddings = (9 ∷ 9 ∷ 11 ∷ [], at_widths refl refl refl, refl)
 
 -- a cell's alignment goes before its column's
 alignments : drawing

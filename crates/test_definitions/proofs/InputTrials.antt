@@ -13,6 +13,7 @@ use Rattle.comfy_run.specs.Counts.{is_printable_input_byte}
 use Rattle.comfy_run.specs.Input.{input_table}
 use Rattle.comfy_table.specs.Arrangement.{IsDrawingOf}
 use Rattle.comfy_table.specs.Drawing.{terminated_text_of}
+use Rattle.test_definitions.proofs.TrialTables.{at_widths, by_steps}
 
 -- the lines of a drawing of the input's table
 abbrev IsWrittenFor : Option ℕ → ContentArrangement → TableStyle → Text → Text → Type 0
@@ -21,8 +22,7 @@ IsWrittenFor width arrangement style text output =
 
 empty_input : IsWrittenFor None Disabled ascii_full [] (0x2B ∷ 0x2B ∷ 0x0A ∷ 0x2B ∷ 0x2B ∷ 0x0A ∷ [])
 unfolding wrapping
-empty_input =
-    (codes "++" ∷ codes "++" ∷ [], ([], record { one_for_each = refl; hidden_widths = refl; shown_widths = refl }, refl), refl)
+empty_input = (codes "++" ∷ codes "++" ∷ [], ([], at_widths refl refl refl, refl), refl)
 
 no_room : IsWrittenFor (Some 0) Dynamic ascii_full (codes "ab\tcd\n") (codes "+---+---+\n| a | c |\n| b | d |\n+=======+\n+---+---+\n")
 unfolding wrapping
@@ -30,7 +30,7 @@ no_room = (
   codes "+---+---+" ∷ codes "| a | c |" ∷ codes "| b | d |" ∷ codes "+=======+" ∷ codes "+---+---+" ∷ [],
   (
     1 ∷ 1 ∷ [],
-    record { one_for_each = refl; hidden_widths = refl; shown_widths = (record { lower = []; level = None; shrunk = [] }, record { lower_taken = refl; level_found = lit< tt; shrunk_taken = refl; widths_are = refl }) },
+    at_widths refl refl (by_steps (record { lower = []; level = None; shrunk = [] }) refl (lit< tt) refl refl),
     refl,
   ),
   refl,
@@ -40,7 +40,7 @@ breaks_and_carriage_returns : IsWrittenFor None Disabled ascii_full (codes "a\r\
 unfolding wrapping
 breaks_and_carriage_returns = (
   codes "+---+---+" ∷ codes "| a |   |" ∷ codes "+=======+" ∷ codes "| b | d |" ∷ codes "| c |   |" ∷ codes "+---+---+" ∷ [],
-  (1 ∷ 1 ∷ [], record { one_for_each = refl; hidden_widths = refl; shown_widths = refl }, refl),
+  (1 ∷ 1 ∷ [], at_widths refl refl refl, refl),
   refl,
 )
 
@@ -68,7 +68,7 @@ cells_with_breaks = (
       ∷ "|                      | add some             |                        |"
       ∷ "|                      | multi line stuff     |                        |"
       ∷ "+----------------------+----------------------+------------------------+" ∷ []),
-  (20 ∷ 20 ∷ 22 ∷ [], record { one_for_each = refl; hidden_widths = refl; shown_widths = refl }, refl),
+  (20 ∷ 20 ∷ 22 ∷ [], at_widths refl refl refl, refl),
   refl,
 )
 
@@ -77,7 +77,7 @@ markdown : IsWrittenFor None Disabled ascii_markdown
 unfolding wrapping
 markdown = (
   codes "| Hello | there |" ∷ codes "|-------|-------|" ∷ codes "| a     | b     |" ∷ [],
-  (5 ∷ 5 ∷ [], record { one_for_each = refl; hidden_widths = refl; shown_widths = refl }, refl),
+  (5 ∷ 5 ∷ [], at_widths refl refl refl, refl),
   refl,
 )
 

@@ -1,3 +1,4 @@
+mod AddedRowTrials
 mod ArgumentTrials
 mod ClosedLineTrials
 mod DrawingTrials

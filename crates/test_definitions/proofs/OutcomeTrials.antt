@@ -10,6 +10,7 @@ use Rattle.comfy_run.specs.Input.{IsOutputFor, input_table}
 use Rattle.comfy_table.proofs.HeadlineLemmas.{table_drawing, utf8_indicator}
 use Rattle.comfy_table.specs.TableValue.{KeepsParts, TableValue}
 use Rattle.comfy_run.specs.Outcome.{RunFacts, IsAfterOk, IsAfterRead, IsAfterWrite}
+use Rattle.test_definitions.proofs.TrialTables.{at_widths}
 
 -- the table of an empty input
 abbrev no_table : TableValue
@@ -20,8 +21,7 @@ kept = record { columns = All-nil IsColumn; header = tt; rows = All-nil IsRow; d
 
 abbrev both_lines : IsOutputFor None Disabled ascii_full [] (codes "++\n++\n")
 unfolding wrapping
-both_lines =
-    (codes "++" ∷ codes "++" ∷ [], table_drawing no_table [] (codes "++" ∷ codes "++" ∷ []) (utf8_indicator {A = Global} None) kept ([], record { one_for_each = refl; hidden_widths = refl; shown_widths = refl }, refl) refl, refl)
+both_lines = (codes "++" ∷ codes "++" ∷ [], table_drawing no_table [] (codes "++" ∷ codes "++" ∷ []) (utf8_indicator {A = Global} None) kept ([], at_widths refl refl refl, refl) refl, refl)
 
 abbrev all_written : RunFacts
 all_written = record { input = []; end_was_read = true; written = codes "++\n++\n"; read_failed = false; write_failed = false }

@@ -10,7 +10,7 @@ use Rattle.comfy_parts.specs.declared.style.attribute.Attribute.{Attribute}
 use Rattle.comfy_parts.specs.declared.style.attribute.Attribute.TheVariants.{Bold, SlowBlink, Underlined}
 use Rattle.comfy_parts.specs.declared.style.color.Color.{Color}
 use Rattle.comfy_parts.specs.declared.style.color.Color.TheVariants.{Reset, Green, Black, Rgb, AnsiValue}
-use Rattle.test_definitions.proofs.TrialTables.{texts}
+use Rattle.test_definitions.proofs.TrialTables.{at_widths, by_steps, texts}
 use Rattle.comfy_table.specs.Lines.{as_measured}
 use Rattle.comfy_table.specs.Pieces.{piece}
 use Rattle.comfy_table.specs.TableValue.{TableValue, new_table, with_row, max_content_widths, measured_table}
@@ -108,17 +108,15 @@ custom_contents = refl
 
 measured_drawing : IsDrawingOf (measured_table bold_letters) (texts ("+--------+" ∷ "| abcdef |" ∷ "+--------+" ∷ []))
 unfolding wrapping
-measured_drawing = (6 ∷ [], record { one_for_each = refl; hidden_widths = refl; shown_widths = refl }, refl)
+measured_drawing = (6 ∷ [], at_widths refl refl refl, refl)
 
 measured_dynamic_drawing : IsDrawingOf (measured_table (record bold_letters { arrangement = Dynamic; set_width = Some 7 })) (texts ("+-----+" ∷ "| abc |" ∷ "| def |" ∷ "+-----+" ∷ []))
 unfolding wrapping
-measured_dynamic_drawing =
-    (3 ∷ [], record { one_for_each = refl; hidden_widths = refl; shown_widths = (record { lower = []; level = Some 3; shrunk = [] }, record { lower_taken = refl; level_found = (lit≤ tt, lit≤ tt, lit≤ tt, λ some. refl); shrunk_taken = refl; widths_are = refl }) }, refl)
+measured_dynamic_drawing = (3 ∷ [], at_widths refl refl (by_steps (record { lower = []; level = Some 3; shrunk = [] }) refl (lit≤ tt, lit≤ tt, lit≤ tt, λ some. refl) refl refl), refl)
 
 over_a_break : IsDrawingOf (record bold_letters { arrangement = Dynamic; set_width = Some 7 }) (texts ("+-----+" ∷ "| \u{1b}[1mabc\u{1b}[0m |" ∷ "| \u{1b}[1mdef\u{1b}[0m |" ∷ "+-----+" ∷ []))
 unfolding wrapping
-over_a_break =
-    (3 ∷ [], record { one_for_each = refl; hidden_widths = refl; shown_widths = (record { lower = []; level = Some 3; shrunk = [] }, record { lower_taken = refl; level_found = (lit≤ tt, lit≤ tt, lit≤ tt, λ some. refl); shrunk_taken = refl; widths_are = refl }) }, refl)
+over_a_break = (3 ∷ [], at_widths refl refl (by_steps (record { lower = []; level = Some 3; shrunk = [] }) refl (lit≤ tt, lit≤ tt, lit≤ tt, λ some. refl) refl refl), refl)
 
 -- a cut line keeps no sequence
 cut_without_sequences : drawing (record bold_letters { rows = record (plain_row (plain_cell (codes "\u{1b}[1mabcdef\u{1b}[0m") ∷ [])) { max_height = Some 1 } ∷ [] }) (3 ∷ []) ≡ texts ("+-----+" ∷ "| ab… |" ∷ "+-----+" ∷ [])

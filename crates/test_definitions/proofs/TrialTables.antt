@@ -1,5 +1,5 @@
 -- What the trials build their tables from.
-use Rattle.std.specs.Prelude.{ℕ, List, [], ◌∷◌, Option, Some, map, codes, encode_utf8_all}
+use Rattle.std.specs.Prelude.{◌≡◌, ℕ, Bool, List, [], ◌∷◌, Option, Some, length, map, max, codes, encode_utf8_all}
 use Prim.Native.String.{String}
 use Rattle.comfy_parts.specs.CellValue.{CellValue, RowValue, ColumnValue, plain_cell, plain_row, with_max_height}
 use Rattle.comfy_parts.specs.Presets.{utf8_full}
@@ -9,7 +9,10 @@ use Rattle.comfy_parts.specs.declared.style.cell.CellAlignment.{CellAlignment}
 use Rattle.comfy_parts.specs.declared.style.column.ColumnConstraint.{ColumnConstraint}
 use Rattle.comfy_parts.specs.declared.style.table.ContentArrangement.{ContentArrangement}
 use Rattle.comfy_parts.specs.declared.style.table_style.TableStyle.{TableStyle}
-use Rattle.comfy_table.specs.TableValue.{TableValue, new_table, with_header, with_rows}
+use Rattle.comfy_table.specs.Arrangement.{AreShownWidths, IsArranged, hidden_columns, widths_at}
+use Rattle.comfy_table.specs.Dynamic.{IsDynamic, IsLevel, IsTakenInOrder, Steps, content_room, lower_offer, others, room_of_others, room_of_unsettled, shrunk_offer, undecided, unsettled, widened}
+use Rattle.comfy_table.specs.TableValue.{TableValue, column_content_width, new_table, shown_columns, with_header, with_rows}
+use Rattle.comfy_table.specs.Widths.{ColumnNeeds}
 
 -- a text, written out
 abbrev pub utf8 : String → Text
@@ -79,3 +82,14 @@ with_indicator indicator table = record table { indicator = utf8 indicator }
 
 abbrev pub with_delimiter : ℕ → TableValue → TableValue
 with_delimiter delimiter table = record table { delimiter = Some delimiter }
+
+-- widths of a table, each fact of them computed
+pub at_widths : {table : TableValue} {widths : List ℕ} → length widths ≡ length table.columns
+    → widths_at widths (hidden_columns table) ≡ map (λ (p : ℕ × ColumnValue). max 1 (column_content_width table p.0)) (hidden_columns table) → AreShownWidths table (widths_at widths (shown_columns table)) → IsArranged table widths
+at_widths one hidden visible = record { one_for_each = one; hidden_widths = hidden; shown_widths = visible }
+
+-- those of the shown columns, by the steps of a dynamic arrangement
+pub by_steps : {room : ℕ} {columns : List ColumnNeeds} {full : Bool} {widths : List ℕ} (steps : Steps) → IsTakenInOrder (undecided room columns) (lower_offer (content_room room columns) (undecided room columns)) steps.lower
+    → IsLevel (room_of_others room columns steps.lower) (others room columns steps.lower) steps.level
+    → IsTakenInOrder (unsettled room columns steps) (shrunk_offer (room_of_unsettled room columns steps) (unsettled room columns steps)) steps.shrunk → widths ≡ widened room columns full steps → IsDynamic room columns full widths
+by_steps steps lower level shrunk are = (steps, record { lower_taken = lower; level_found = level; shrunk_taken = shrunk; widths_are = are })

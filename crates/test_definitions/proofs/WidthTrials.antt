@@ -7,7 +7,7 @@ use Rattle.comfy_parts.specs.declared.style.cell.CellAlignment.TheVariants.{Left
 use Rattle.comfy_parts.specs.declared.style.column.ColumnConstraint.TheVariants.{Hidden, Absolute, LowerBoundary, UpperBoundary}
 use Rattle.comfy_parts.specs.declared.style.column.Width.TheVariants.{Fixed, Percentage}
 use Rattle.comfy_parts.specs.declared.style.table.ContentArrangement.TheVariants.{Disabled, Dynamic, DynamicFullWidth}
-use Rattle.test_definitions.proofs.TrialTables.{table_of, rows_of, row_of, texts, with_constraints, arranged, with_heights, with_paddings, with_alignments, with_indicator, with_delimiter, aligned_cell, cells_of, rounded_utf8}
+use Rattle.test_definitions.proofs.TrialTables.{table_of, rows_of, row_of, texts, with_constraints, arranged, with_heights, with_paddings, with_alignments, with_indicator, with_delimiter, aligned_cell, cells_of, rounded_utf8, at_widths, by_steps}
 use Rattle.comfy_table.specs.Arrangement.{IsArranged, IsDrawingOf}
 use Rattle.comfy_table.specs.TableValue.{TableValue, max_content_widths, new_table, with_row, with_header, discovered, cells_with_header, is_tty, table_width, should_style}
 use Rattle.comfy_table.specs.Lines.{longest_line_at}
@@ -34,33 +34,33 @@ seven_over_three = refl
 -- an absolute width less the paddings, and a text of delimiters alone: no content line
 five_spaces : IsDrawingOf (with_constraints (Some (Absolute (Fixed 5)) ∷ []) (rows_of ascii_full (("     " ∷ []) ∷ []))) (texts ("+-----+" ∷ "+-----+" ∷ []))
 unfolding wrapping
-five_spaces = (3 ∷ [], record { one_for_each = refl; hidden_widths = refl; shown_widths = refl }, refl)
+five_spaces = (3 ∷ [], at_widths refl refl refl, refl)
 
 -- an upper boundary is compared with the content without its padding
 boundary_above_content : IsDrawingOf (with_constraints (Some (UpperBoundary (Fixed 6)) ∷ []) (rows_of ascii_full (("abcde" ∷ []) ∷ []))) (texts ("+-------+" ∷ "| abcde |" ∷ "+-------+" ∷ []))
 unfolding wrapping
-boundary_above_content = (5 ∷ [], record { one_for_each = refl; hidden_widths = refl; shown_widths = refl }, refl)
+boundary_above_content = (5 ∷ [], at_widths refl refl refl, refl)
 
 boundary_below_content : IsDrawingOf (with_constraints (Some (UpperBoundary (Fixed 4)) ∷ []) (rows_of ascii_full (("abcde" ∷ []) ∷ []))) (texts ("+----+" ∷ "| ab |" ∷ "| cd |" ∷ "| e  |" ∷ "+----+" ∷ []))
 unfolding wrapping
-boundary_below_content = (2 ∷ [], record { one_for_each = refl; hidden_widths = refl; shown_widths = refl }, refl)
+boundary_below_content = (2 ∷ [], at_widths refl refl refl, refl)
 
 -- half of 20, less the paddings
 half_of_the_width : IsDrawingOf (with_constraints (Some (Absolute (Percentage 50)) ∷ []) (arranged Disabled 22 (rows_of ascii_full (("a" ∷ []) ∷ [])))) (texts ("+----------+" ∷ "| a        |" ∷ "+----------+" ∷ []))
 unfolding wrapping
-half_of_the_width = (8 ∷ [], record { one_for_each = refl; hidden_widths = refl; shown_widths = refl }, refl)
+half_of_the_width = (8 ∷ [], at_widths refl refl refl, refl)
 
 half_of_nothing_known : IsDrawingOf (with_constraints (Some (Absolute (Percentage 50)) ∷ []) (rows_of ascii_full (("a" ∷ []) ∷ []))) (texts ("+---+" ∷ "| a |" ∷ "+---+" ∷ []))
 unfolding wrapping
-half_of_nothing_known = (1 ∷ [], record { one_for_each = refl; hidden_widths = refl; shown_widths = refl }, refl)
+half_of_nothing_known = (1 ∷ [], at_widths refl refl refl, refl)
 
 half_of_one : IsDrawingOf (with_constraints (Some (Absolute (Percentage 50)) ∷ []) (arranged Disabled 1 (rows_of ascii_full (("a" ∷ []) ∷ [])))) (texts ("+---+" ∷ "| a |" ∷ "+---+" ∷ []))
 unfolding wrapping
-half_of_one = (1 ∷ [], record { one_for_each = refl; hidden_widths = refl; shown_widths = refl }, refl)
+half_of_one = (1 ∷ [], at_widths refl refl refl, refl)
 
 lower_boundary_kept : IsDrawingOf (with_constraints (Some (LowerBoundary (Fixed 10)) ∷ []) (rows_of ascii_full (("abc" ∷ []) ∷ []))) (texts ("+----------+" ∷ "| abc      |" ∷ "+----------+" ∷ []))
 unfolding wrapping
-lower_boundary_kept = (8 ∷ [], record { one_for_each = refl; hidden_widths = refl; shown_widths = refl }, refl)
+lower_boundary_kept = (8 ∷ [], at_widths refl refl refl, refl)
 
 contents_of_a_header : max_content_widths (table_of ascii_full ("thr" ∷ "four" ∷ "fivef" ∷ []) []) ≡ 3 ∷ 4 ∷ 5 ∷ []
 unfolding wrapping
@@ -99,7 +99,7 @@ columns_only_grow = refl
 -- a cell that was added to a row after the columns is not drawn
 late_cell : IsDrawingOf (record (rows_of ascii_full (("one" ∷ "two" ∷ []) ∷ [])) { rows = row_of ("one" ∷ "two" ∷ "three" ∷ []) ∷ [] }) (texts ("+-----+-----+" ∷ "| one | two |" ∷ "+-----+-----+" ∷ []))
 unfolding wrapping
-late_cell = (3 ∷ 3 ∷ [], record { one_for_each = refl; hidden_widths = refl; shown_widths = refl }, refl)
+late_cell = (3 ∷ 3 ∷ [], at_widths refl refl refl, refl)
 
 widest_paddings : map info_width (infos_of (with_paddings ((65535, 65535) ∷ []) (rows_of ascii_full (("a" ∷ []) ∷ []))) (1 ∷ [])) ≡ 131071 ∷ []
 widest_paddings = refl
@@ -129,8 +129,7 @@ three_even_columns : IsDrawingOf
     ∷ "│            ┆ stuff      ┆            │"
     ∷ "╰────────────┴────────────┴────────────╯" ∷ []))
 unfolding wrapping
-three_even_columns =
-    (10 ∷ 10 ∷ 10 ∷ [], record { one_for_each = refl; hidden_widths = refl; shown_widths = (record { lower = []; level = Some 10; shrunk = [] }, record { lower_taken = refl; level_found = (lit≤ tt, lit≤ tt, lit≤ tt, λ some. refl); shrunk_taken = refl; widths_are = refl }) }, refl)
+three_even_columns = (10 ∷ 10 ∷ 10 ∷ [], at_widths refl refl (by_steps (record { lower = []; level = Some 10; shrunk = [] }) refl (lit≤ tt, lit≤ tt, lit≤ tt, λ some. refl) refl refl), refl)
 
 -- at 10 the first column's longest line is 7, and the others share 23
 first_column_shrinks : IsDrawingOf
@@ -147,8 +146,7 @@ first_column_shrinks : IsDrawingOf
     ∷ "│         ┆ stuff        ┆             │"
     ∷ "╰─────────┴──────────────┴─────────────╯" ∷ []))
 unfolding wrapping
-first_column_shrinks =
-    (7 ∷ 12 ∷ 11 ∷ [], record { one_for_each = refl; hidden_widths = refl; shown_widths = (record { lower = []; level = Some 10; shrunk = (0, 7) ∷ [] }, record { lower_taken = refl; level_found = (lit≤ tt, lit≤ tt, lit≤ tt, λ some. refl); shrunk_taken = (refl, refl); widths_are = refl }) }, refl)
+first_column_shrinks = (7 ∷ 12 ∷ 11 ∷ [], at_widths refl refl (by_steps (record { lower = []; level = Some 10; shrunk = (0, 7) ∷ [] }) refl (lit≤ tt, lit≤ tt, lit≤ tt, λ some. refl) (refl, refl) refl), refl)
 
 -- hidden columns keep the cells of their positions
 hidden_columns_are_left_out : IsDrawingOf
@@ -171,8 +169,7 @@ hidden_columns_are_left_out : IsDrawingOf
     ∷ "│      ┆ stuff  ┆       │"
     ∷ "└──────┴────────┴───────┘" ∷ []))
 unfolding wrapping
-hidden_columns_are_left_out =
-    (13 ∷ 4 ∷ 13 ∷ 27 ∷ 6 ∷ 5 ∷ 13 ∷ [], record { one_for_each = refl; hidden_widths = refl; shown_widths = (record { lower = []; level = Some 5; shrunk = [] }, record { lower_taken = refl; level_found = (lit≤ tt, lit≤ tt, lit≤ tt, λ some. refl); shrunk_taken = refl; widths_are = refl }) }, refl)
+hidden_columns_are_left_out = (13 ∷ 4 ∷ 13 ∷ 27 ∷ 6 ∷ 5 ∷ 13 ∷ [], at_widths refl refl (by_steps (record { lower = []; level = Some 5; shrunk = [] }) refl (lit≤ tt, lit≤ tt, lit≤ tt, λ some. refl) refl refl), refl)
 
 every_column_hidden : IsDrawingOf
     (with_constraints (Some Hidden ∷ Some Hidden ∷ Some Hidden ∷ Some Hidden ∷ Some Hidden ∷ Some Hidden ∷ Some Hidden ∷ []) (table_of utf8_full ("hidden_header" ∷ "smol" ∷ "hidden_header" ∷ "Two_hidden_headers_in_a_row" ∷ "Header2" ∷ "Header3" ∷ "hidden_header" ∷ []) (("start_hidden" ∷ "smol" ∷ "middle_hidden" ∷ "two_hidden_headers_in_a_row" ∷ "This is another text" ∷ "This is the third text" ∷ "end_hidden" ∷ []) ∷ ("asdf" ∷ "smol" ∷ "asdf" ∷ "asdf" ∷ "Now\nadd some\nmulti line stuff" ∷ "This is awesome" ∷ "asdf" ∷ []) ∷ []))) (texts
@@ -181,8 +178,7 @@ every_column_hidden : IsDrawingOf
     ∷ "├┤"
     ∷ "└┘" ∷ []))
 unfolding wrapping
-every_column_hidden =
-    (13 ∷ 4 ∷ 13 ∷ 27 ∷ 20 ∷ 22 ∷ 13 ∷ [], record { one_for_each = refl; hidden_widths = refl; shown_widths = refl }, refl)
+every_column_hidden = (13 ∷ 4 ∷ 13 ∷ 27 ∷ 20 ∷ 22 ∷ 13 ∷ [], at_widths refl refl refl, refl)
 
 -- two absolute widths, and rows cut at four lines
 absolute_widths_and_cuts : IsDrawingOf
@@ -202,8 +198,7 @@ absolute_widths_and_cuts : IsDrawingOf
     ∷ "| the middle of… | text   |       |"
     ∷ "+----------------+--------+-------+" ∷ []))
 unfolding wrapping
-absolute_widths_and_cuts =
-    (14 ∷ 6 ∷ 5 ∷ [], record { one_for_each = refl; hidden_widths = refl; shown_widths = (record { lower = []; level = Some 14; shrunk = [] }, record { lower_taken = refl; level_found = (lit≤ tt, lit≤ tt, lit≤ tt, λ some. refl); shrunk_taken = refl; widths_are = refl }) }, refl)
+absolute_widths_and_cuts = (14 ∷ 6 ∷ 5 ∷ [], at_widths refl refl (by_steps (record { lower = []; level = Some 14; shrunk = [] }) refl (lit≤ tt, lit≤ tt, lit≤ tt, λ some. refl) refl refl), refl)
 
 -- with an indicator of three columns
 cuts_with_three_points : IsDrawingOf
@@ -223,8 +218,7 @@ cuts_with_three_points : IsDrawingOf
     ∷ "| the middle ... | text   |       |"
     ∷ "+----------------+--------+-------+" ∷ []))
 unfolding wrapping
-cuts_with_three_points =
-    (14 ∷ 6 ∷ 5 ∷ [], record { one_for_each = refl; hidden_widths = refl; shown_widths = (record { lower = []; level = Some 14; shrunk = [] }, record { lower_taken = refl; level_found = (lit≤ tt, lit≤ tt, lit≤ tt, λ some. refl); shrunk_taken = refl; widths_are = refl }) }, refl)
+cuts_with_three_points = (14 ∷ 6 ∷ 5 ∷ [], at_widths refl refl (by_steps (record { lower = []; level = Some 14; shrunk = [] }) refl (lit≤ tt, lit≤ tt, lit≤ tt, λ some. refl) refl refl), refl)
 
 cut_at_one_line : IsDrawingOf
     (arranged Dynamic 40 (with_heights 0 (table_of ascii_full ("Header1" ∷ "Header2" ∷ []) (("some multiline\ncontent" ∷ "single line" ∷ []) ∷ [])))) (texts
@@ -234,8 +228,7 @@ cut_at_one_line : IsDrawingOf
     ∷ "| some multilin… | single line |"
     ∷ "+----------------+-------------+" ∷ []))
 unfolding wrapping
-cut_at_one_line =
-    (14 ∷ 11 ∷ [], record { one_for_each = refl; hidden_widths = refl; shown_widths = (record { lower = []; level = Some 17; shrunk = [] }, record { lower_taken = refl; level_found = (lit≤ tt, lit≤ tt, lit≤ tt, λ none. absurd_below none); shrunk_taken = refl; widths_are = refl }) }, refl)
+cut_at_one_line = (14 ∷ 11 ∷ [], at_widths refl refl (by_steps (record { lower = []; level = Some 17; shrunk = [] }) refl (lit≤ tt, lit≤ tt, lit≤ tt, λ none. absurd_below none) refl refl), refl)
 
 indicator_wider_than_the_column : IsDrawingOf
     (with_indicator "..." (arranged Dynamic 30 (with_constraints (Some (Absolute (Fixed 3)) ∷ []) (with_heights 1 (rows_of ascii_full (("multi\nline" ∷ "some longer content" ∷ []) ∷ [])))))) (texts
@@ -243,8 +236,7 @@ indicator_wider_than_the_column : IsDrawingOf
     ∷ "| m | some longer content |"
     ∷ "+---+---------------------+" ∷ []))
 unfolding wrapping
-indicator_wider_than_the_column =
-    (1 ∷ 19 ∷ [], record { one_for_each = refl; hidden_widths = refl; shown_widths = (record { lower = []; level = Some 22; shrunk = [] }, record { lower_taken = refl; level_found = (lit≤ tt, lit≤ tt, lit≤ tt, λ none. absurd_below none); shrunk_taken = refl; widths_are = refl }) }, refl)
+indicator_wider_than_the_column = (1 ∷ 19 ∷ [], at_widths refl refl (by_steps (record { lower = []; level = Some 22; shrunk = [] }) refl (lit≤ tt, lit≤ tt, lit≤ tt, λ none. absurd_below none) refl refl), refl)
 
 -- with no room each column has one place
 no_room : IsDrawingOf
@@ -254,8 +246,7 @@ no_room : IsDrawingOf
     ∷ "| b | d |"
     ∷ "+---+---+" ∷ []))
 unfolding wrapping
-no_room =
-    (1 ∷ 1 ∷ [], record { one_for_each = refl; hidden_widths = refl; shown_widths = (record { lower = []; level = None; shrunk = [] }, record { lower_taken = refl; level_found = lit< tt; shrunk_taken = refl; widths_are = refl }) }, refl)
+no_room = (1 ∷ 1 ∷ [], at_widths refl refl (by_steps (record { lower = []; level = None; shrunk = [] }) refl (lit< tt) refl refl), refl)
 
 -- a column without a cell is stored as 1 and takes 1
 empty_columns_take_a_place : IsDrawingOf
@@ -265,8 +256,7 @@ empty_columns_take_a_place : IsDrawingOf
     ∷ "+===========+"
     ∷ "+---+---+---+" ∷ []))
 unfolding wrapping
-empty_columns_take_a_place =
-    (1 ∷ 1 ∷ 1 ∷ [], record { one_for_each = refl; hidden_widths = refl; shown_widths = (record { lower = []; level = Some 1; shrunk = [] }, record { lower_taken = refl; level_found = (lit≤ tt, lit≤ tt, lit≤ tt, λ none. absurd_below none); shrunk_taken = refl; widths_are = refl }) }, refl)
+empty_columns_take_a_place = (1 ∷ 1 ∷ 1 ∷ [], at_widths refl refl (by_steps (record { lower = []; level = Some 1; shrunk = [] }) refl (lit≤ tt, lit≤ tt, lit≤ tt, λ none. absurd_below none) refl refl), refl)
 
 -- three fit with 1 each, 7 are spread as 3, 2, 2
 full_width_adds_the_rest : IsDrawingOf
@@ -277,8 +267,7 @@ full_width_adds_the_rest : IsDrawingOf
     ∷ "| 1    | 2   | 3   |"
     ∷ "+------+-----+-----+" ∷ []))
 unfolding wrapping
-full_width_adds_the_rest =
-    (4 ∷ 3 ∷ 3 ∷ [], record { one_for_each = refl; hidden_widths = refl; shown_widths = (record { lower = []; level = Some 3; shrunk = [] }, record { lower_taken = refl; level_found = (lit≤ tt, lit≤ tt, lit≤ tt, λ none. absurd_below none); shrunk_taken = refl; widths_are = refl }) }, refl)
+full_width_adds_the_rest = (4 ∷ 3 ∷ 3 ∷ [], at_widths refl refl (by_steps (record { lower = []; level = Some 3; shrunk = [] }) refl (lit≤ tt, lit≤ tt, lit≤ tt, λ none. absurd_below none) refl refl), refl)
 
 -- at 10 the lines are `abcd ` and `efghi`
 shrinks_to_five : IsDrawingOf
@@ -288,8 +277,7 @@ shrinks_to_five : IsDrawingOf
     ∷ "| efghi |"
     ∷ "+-------+" ∷ []))
 unfolding wrapping
-shrinks_to_five =
-    (5 ∷ [], record { one_for_each = refl; hidden_widths = refl; shown_widths = (record { lower = []; level = Some 10; shrunk = (0, 5) ∷ [] }, record { lower_taken = refl; level_found = (lit≤ tt, lit≤ tt, lit≤ tt, λ some. refl); shrunk_taken = (refl, refl); widths_are = refl }) }, refl)
+shrinks_to_five = (5 ∷ [], at_widths refl refl (by_steps (record { lower = []; level = Some 10; shrunk = (0, 5) ∷ [] }) refl (lit≤ tt, lit≤ tt, lit≤ tt, λ some. refl) (refl, refl) refl), refl)
 
 check_mark_in_the_middle : IsDrawingOf
     (arranged Dynamic 8 (table_of ascii_full ("test" ∷ []) (("abc✅def" ∷ []) ∷ []))) (texts
@@ -301,8 +289,7 @@ check_mark_in_the_middle : IsDrawingOf
     ∷ "| f    |"
     ∷ "+------+" ∷ []))
 unfolding wrapping
-check_mark_in_the_middle =
-    (4 ∷ [], record { one_for_each = refl; hidden_widths = refl; shown_widths = (record { lower = []; level = Some 4; shrunk = [] }, record { lower_taken = refl; level_found = (lit≤ tt, lit≤ tt, lit≤ tt, λ some. refl); shrunk_taken = refl; widths_are = refl }) }, refl)
+check_mark_in_the_middle = (4 ∷ [], at_widths refl refl (by_steps (record { lower = []; level = Some 4; shrunk = [] }) refl (lit≤ tt, lit≤ tt, lit≤ tt, λ some. refl) refl refl), refl)
 
 wide_characters : IsDrawingOf
     (arranged Dynamic 8 (table_of ascii_full ("test" ∷ []) (("abc新年快乐edf" ∷ []) ∷ []))) (texts
@@ -315,8 +302,7 @@ wide_characters : IsDrawingOf
     ∷ "| edf  |"
     ∷ "+------+" ∷ []))
 unfolding wrapping
-wide_characters =
-    (4 ∷ [], record { one_for_each = refl; hidden_widths = refl; shown_widths = (record { lower = []; level = Some 4; shrunk = [] }, record { lower_taken = refl; level_found = (lit≤ tt, lit≤ tt, lit≤ tt, λ some. refl); shrunk_taken = refl; widths_are = refl }) }, refl)
+wide_characters = (4 ∷ [], at_widths refl refl (by_steps (record { lower = []; level = Some 4; shrunk = [] }) refl (lit≤ tt, lit≤ tt, lit≤ tt, λ some. refl) refl refl), refl)
 
 -- the content line is one place wider than the frame
 wide_character_in_one_place : IsDrawingOf
@@ -325,8 +311,7 @@ wide_character_in_one_place : IsDrawingOf
     ∷ "| ✅ |"
     ∷ "+---+" ∷ []))
 unfolding wrapping
-wide_character_in_one_place =
-    (1 ∷ [], record { one_for_each = refl; hidden_widths = refl; shown_widths = (record { lower = []; level = None; shrunk = [] }, record { lower_taken = refl; level_found = lit< tt; shrunk_taken = refl; widths_are = refl }) }, refl)
+wide_character_in_one_place = (1 ∷ [], at_widths refl refl (by_steps (record { lower = []; level = None; shrunk = [] }) refl (lit< tt) refl refl), refl)
 
 full_width_widens_early_columns : IsDrawingOf
     (arranged DynamicFullWidth 12 (with_constraints (Some (Absolute (Fixed 5)) ∷ []) (rows_of ascii_full (("a" ∷ []) ∷ [])))) (texts
@@ -334,8 +319,7 @@ full_width_widens_early_columns : IsDrawingOf
     ∷ "| a        |"
     ∷ "+----------+" ∷ []))
 unfolding wrapping
-full_width_widens_early_columns =
-    (8 ∷ [], record { one_for_each = refl; hidden_widths = refl; shown_widths = (record { lower = []; level = Some 1; shrunk = [] }, record { lower_taken = refl; level_found = (lit≤ tt, lit≤ tt, lit≤ tt, λ none. absurd_below none); shrunk_taken = refl; widths_are = refl }) }, refl)
+full_width_widens_early_columns = (8 ∷ [], at_widths refl refl (by_steps (record { lower = []; level = Some 1; shrunk = [] }) refl (lit≤ tt, lit≤ tt, lit≤ tt, λ none. absurd_below none) refl refl), refl)
 
 -- the average is 8, the boundary gets 10 less the paddings
 lower_boundary_above_the_average : IsDrawingOf
@@ -346,8 +330,7 @@ lower_boundary_above_the_average : IsDrawingOf
     ∷ "| aaaa     |   |"
     ∷ "+----------+---+" ∷ []))
 unfolding wrapping
-lower_boundary_above_the_average =
-    (8 ∷ 1 ∷ [], record { one_for_each = refl; hidden_widths = refl; shown_widths = (record { lower = (0, 8) ∷ []; level = Some 9; shrunk = [] }, record { lower_taken = (refl, refl); level_found = (lit≤ tt, lit≤ tt, lit≤ tt, λ none. absurd_below none); shrunk_taken = refl; widths_are = refl }) }, refl)
+lower_boundary_above_the_average = (8 ∷ 1 ∷ [], at_widths refl refl (by_steps (record { lower = (0, 8) ∷ []; level = Some 9; shrunk = [] }) (refl, refl) (lit≤ tt, lit≤ tt, lit≤ tt, λ none. absurd_below none) refl refl), refl)
 
 -- the average is 26, so the boundary is not taken
 lower_boundary_below_the_average : IsDrawingOf
@@ -356,8 +339,7 @@ lower_boundary_below_the_average : IsDrawingOf
     ∷ "| aaaaaaaaaaaaaaaaaaaa | b |"
     ∷ "+----------------------+---+" ∷ []))
 unfolding wrapping
-lower_boundary_below_the_average =
-    (20 ∷ 1 ∷ [], record { one_for_each = refl; hidden_widths = refl; shown_widths = (record { lower = []; level = Some 26; shrunk = [] }, record { lower_taken = refl; level_found = (lit≤ tt, lit≤ tt, lit≤ tt, λ none. absurd_below none); shrunk_taken = refl; widths_are = refl }) }, refl)
+lower_boundary_below_the_average = (20 ∷ 1 ∷ [], at_widths refl refl (by_steps (record { lower = []; level = Some 26; shrunk = [] }) refl (lit≤ tt, lit≤ tt, lit≤ tt, λ none. absurd_below none) refl refl), refl)
 
 -- the average is 5, the boundary allows 4, and 6 are left
 upper_boundary_below_the_average : IsDrawingOf
@@ -368,8 +350,7 @@ upper_boundary_below_the_average : IsDrawingOf
     ∷ "| aa   |        |"
     ∷ "+------+--------+" ∷ []))
 unfolding wrapping
-upper_boundary_below_the_average =
-    (4 ∷ 6 ∷ [], record { one_for_each = refl; hidden_widths = refl; shown_widths = (record { lower = []; level = Some 6; shrunk = [] }, record { lower_taken = refl; level_found = (lit≤ tt, lit≤ tt, lit≤ tt, λ some. refl); shrunk_taken = refl; widths_are = refl }) }, refl)
+upper_boundary_below_the_average = (4 ∷ 6 ∷ [], at_widths refl refl (by_steps (record { lower = []; level = Some 6; shrunk = [] }) refl (lit≤ tt, lit≤ tt, lit≤ tt, λ some. refl) refl refl), refl)
 
 everything_fits : IsDrawingOf
     (arranged Dynamic 72 (table_of ascii_full ("Header1" ∷ "Header2" ∷ "Header3" ∷ []) (("This is a text" ∷ "This is another text" ∷ "This is the third text" ∷ []) ∷ ("This is another text" ∷ "Now\nadd some\nmulti line stuff" ∷ "This is awesome" ∷ []) ∷ []))) (texts
@@ -383,20 +364,19 @@ everything_fits : IsDrawingOf
     ∷ "|                      | multi line stuff     |                        |"
     ∷ "+----------------------+----------------------+------------------------+" ∷ []))
 unfolding wrapping
-everything_fits =
-    (20 ∷ 20 ∷ 22 ∷ [], record { one_for_each = refl; hidden_widths = refl; shown_widths = (record { lower = []; level = Some 22; shrunk = [] }, record { lower_taken = refl; level_found = (lit≤ tt, lit≤ tt, lit≤ tt, λ none. absurd_below none); shrunk_taken = refl; widths_are = refl }) }, refl)
+everything_fits = (20 ∷ 20 ∷ 22 ∷ [], at_widths refl refl (by_steps (record { lower = []; level = Some 22; shrunk = [] }) refl (lit≤ tt, lit≤ tt, lit≤ tt, λ none. absurd_below none) refl refl), refl)
 
 -- two fit with 20 each, 21 are left, and the third shrinks to 17
 third_column_shrinks : IsArranged (arranged Dynamic 71 (table_of ascii_full ("Header1" ∷ "Header2" ∷ "Header3" ∷ []) (("This is a text" ∷ "This is another text" ∷ "This is the third text" ∷ []) ∷ ("This is another text" ∷ "Now\nadd some\nmulti line stuff" ∷ "This is awesome" ∷ []) ∷ []))) (20 ∷ 20 ∷ 17 ∷ [])
 unfolding wrapping
 third_column_shrinks =
-    record { one_for_each = refl; hidden_widths = refl; shown_widths = (record { lower = []; level = Some 21; shrunk = (2, 17) ∷ [] }, record { lower_taken = refl; level_found = (lit≤ tt, lit≤ tt, lit≤ tt, λ some. refl); shrunk_taken = (refl, refl); widths_are = refl }) }
+    at_widths refl refl (by_steps (record { lower = []; level = Some 21; shrunk = (2, 17) ∷ [] }) refl (lit≤ tt, lit≤ tt, lit≤ tt, λ some. refl) (refl, refl) refl)
 
 -- the 4 left are spread as 2, 1, 1
 third_column_shrinks_at_full_width : IsArranged (arranged DynamicFullWidth 71 (table_of ascii_full ("Header1" ∷ "Header2" ∷ "Header3" ∷ []) (("This is a text" ∷ "This is another text" ∷ "This is the third text" ∷ []) ∷ ("This is another text" ∷ "Now\nadd some\nmulti line stuff" ∷ "This is awesome" ∷ []) ∷ []))) (22 ∷ 21 ∷ 18 ∷ [])
 unfolding wrapping
 third_column_shrinks_at_full_width =
-    record { one_for_each = refl; hidden_widths = refl; shown_widths = (record { lower = []; level = Some 21; shrunk = (2, 17) ∷ [] }, record { lower_taken = refl; level_found = (lit≤ tt, lit≤ tt, lit≤ tt, λ some. refl); shrunk_taken = (refl, refl); widths_are = refl }) }
+    at_widths refl refl (by_steps (record { lower = []; level = Some 21; shrunk = (2, 17) ∷ [] }) refl (lit≤ tt, lit≤ tt, lit≤ tt, λ some. refl) (refl, refl) refl)
 
 -- at 10 the first column shrinks to 7; the second then has 13, where its text fits
 one_shrinks_and_one_does_not : IsDrawingOf
@@ -406,18 +386,17 @@ one_shrinks_and_one_does_not : IsDrawingOf
     ∷ "| bbbbb   |               |"
     ∷ "+---------+---------------+" ∷ []))
 unfolding wrapping
-one_shrinks_and_one_does_not =
-    (7 ∷ 13 ∷ [], record { one_for_each = refl; hidden_widths = refl; shown_widths = (record { lower = []; level = Some 10; shrunk = (0, 7) ∷ [] }, record { lower_taken = refl; level_found = (lit≤ tt, lit≤ tt, lit≤ tt, λ some. refl); shrunk_taken = (refl, refl); widths_are = refl }) }, refl)
+one_shrinks_and_one_does_not = (7 ∷ 13 ∷ [], at_widths refl refl (by_steps (record { lower = []; level = Some 10; shrunk = (0, 7) ∷ [] }) refl (lit≤ tt, lit≤ tt, lit≤ tt, λ some. refl) (refl, refl) refl), refl)
 
 display_widths : IsArranged (table_of ascii_full ("head" ∷ "head" ∷ "head" ∷ []) (("__" ∷ "fivef" ∷ "sixsix" ∷ []) ∷ [])) (4 ∷ 5 ∷ 6 ∷ [])
 unfolding wrapping
 display_widths =
-    record { one_for_each = refl; hidden_widths = refl; shown_widths = refl }
+    at_widths refl refl refl
 
 widest_table : IsArranged (arranged DynamicFullWidth 65535 (rows_of ascii_full (("a" ∷ []) ∷ []))) (65531 ∷ [])
 unfolding wrapping
 widest_table =
-    record { one_for_each = refl; hidden_widths = refl; shown_widths = (record { lower = []; level = Some 65531; shrunk = [] }, record { lower_taken = refl; level_found = (lit≤ tt, lit≤ tt, lit≤ tt, λ none. absurd_below none); shrunk_taken = refl; widths_are = refl }) }
+    at_widths refl refl (by_steps (record { lower = []; level = Some 65531; shrunk = [] }) refl (lit≤ tt, lit≤ tt, lit≤ tt, λ none. absurd_below none) refl refl)
 
 cut_beside_the_indicator : IsDrawingOf
     (with_heights 0 (rows_of ascii_full (("some multiline\ncontent" ∷ []) ∷ []))) (texts
@@ -425,8 +404,7 @@ cut_beside_the_indicator : IsDrawingOf
     ∷ "| some multilin… |"
     ∷ "+----------------+" ∷ []))
 unfolding wrapping
-cut_beside_the_indicator =
-    (14 ∷ [], record { one_for_each = refl; hidden_widths = refl; shown_widths = refl }, refl)
+cut_beside_the_indicator = (14 ∷ [], at_widths refl refl refl, refl)
 
 cut_beside_three_points : IsDrawingOf
     (with_indicator "..." (with_heights 0 (rows_of ascii_full (("some multiline\ncontent" ∷ []) ∷ [])))) (texts
@@ -434,8 +412,7 @@ cut_beside_three_points : IsDrawingOf
     ∷ "| some multil... |"
     ∷ "+----------------+" ∷ []))
 unfolding wrapping
-cut_beside_three_points =
-    (14 ∷ [], record { one_for_each = refl; hidden_widths = refl; shown_widths = refl }, refl)
+cut_beside_three_points = (14 ∷ [], at_widths refl refl refl, refl)
 
 cut_without_an_indicator : IsDrawingOf
     (with_indicator "" (with_heights 0 (rows_of ascii_full (("some multiline\ncontent" ∷ []) ∷ [])))) (texts
@@ -443,8 +420,7 @@ cut_without_an_indicator : IsDrawingOf
     ∷ "| some multiline |"
     ∷ "+----------------+" ∷ []))
 unfolding wrapping
-cut_without_an_indicator =
-    (14 ∷ [], record { one_for_each = refl; hidden_widths = refl; shown_widths = refl }, refl)
+cut_without_an_indicator = (14 ∷ [], at_widths refl refl refl, refl)
 
 cut_where_the_indicator_is_too_wide : IsDrawingOf
     (with_indicator "..." (with_heights 1 (with_constraints (Some (Absolute (Fixed 3)) ∷ []) (rows_of ascii_full (("multi\nline" ∷ []) ∷ []))))) (texts
@@ -452,8 +428,7 @@ cut_where_the_indicator_is_too_wide : IsDrawingOf
     ∷ "| m |"
     ∷ "+---+" ∷ []))
 unfolding wrapping
-cut_where_the_indicator_is_too_wide =
-    (1 ∷ [], record { one_for_each = refl; hidden_widths = refl; shown_widths = refl }, refl)
+cut_where_the_indicator_is_too_wide = (1 ∷ [], at_widths refl refl refl, refl)
 
 cut_wide_characters_at_one_line : IsDrawingOf
     (with_heights 1 (with_constraints (Some (Absolute (Fixed 18)) ∷ []) (rows_of ascii_full (("あいうえおかきくけこさしすせそたちつてと" ∷ []) ∷ [])))) (texts
@@ -461,8 +436,7 @@ cut_wide_characters_at_one_line : IsDrawingOf
     ∷ "| あいうえおかき…  |"
     ∷ "+------------------+" ∷ []))
 unfolding wrapping
-cut_wide_characters_at_one_line =
-    (16 ∷ [], record { one_for_each = refl; hidden_widths = refl; shown_widths = refl }, refl)
+cut_wide_characters_at_one_line = (16 ∷ [], at_widths refl refl refl, refl)
 
 cut_wide_characters_at_two_lines : IsDrawingOf
     (with_heights 2 (with_constraints (Some (Absolute (Fixed 18)) ∷ []) (rows_of ascii_full (("あいうえおかきくけこさしすせそたちつてと" ∷ []) ∷ [])))) (texts
@@ -471,8 +445,7 @@ cut_wide_characters_at_two_lines : IsDrawingOf
     ∷ "| けこさしすせそ…  |"
     ∷ "+------------------+" ∷ []))
 unfolding wrapping
-cut_wide_characters_at_two_lines =
-    (16 ∷ [], record { one_for_each = refl; hidden_widths = refl; shown_widths = refl }, refl)
+cut_wide_characters_at_two_lines = (16 ∷ [], at_widths refl refl refl, refl)
 
 cut_without_paddings : IsDrawingOf
     (with_heights 1 (with_paddings ((0, 0) ∷ (0, 0) ∷ []) (rows_of ascii_full (("a\nb" ∷ "cd" ∷ []) ∷ [])))) (texts
@@ -480,8 +453,7 @@ cut_without_paddings : IsDrawingOf
     ∷ "|…|cd|"
     ∷ "+-+--+" ∷ []))
 unfolding wrapping
-cut_without_paddings =
-    (1 ∷ 2 ∷ [], record { one_for_each = refl; hidden_widths = refl; shown_widths = refl }, refl)
+cut_without_paddings = (1 ∷ 2 ∷ [], at_widths refl refl refl, refl)
 
 -- the fit test counts one place for the delimiter
 wide_delimiter_is_one_place_wider : IsDrawingOf
@@ -490,8 +462,7 @@ wide_delimiter_is_one_place_wider : IsDrawingOf
     ∷ "| ab年cd |"
     ∷ "+-------+" ∷ []))
 unfolding wrapping
-wide_delimiter_is_one_place_wider =
-    (5 ∷ [], record { one_for_each = refl; hidden_widths = refl; shown_widths = refl }, refl)
+wide_delimiter_is_one_place_wider = (5 ∷ [], at_widths refl refl refl, refl)
 
 -- the position in the list decides, and no label
 swapped_columns : IsDrawingOf
@@ -500,8 +471,7 @@ swapped_columns : IsDrawingOf
     ∷ "| ab |cd|"
     ∷ "+----+--+" ∷ []))
 unfolding wrapping
-swapped_columns =
-    (2 ∷ 2 ∷ [], record { one_for_each = refl; hidden_widths = refl; shown_widths = refl }, refl)
+swapped_columns = (2 ∷ 2 ∷ [], at_widths refl refl refl, refl)
 
 -- a cell that no column knows is left out
 cells_past_the_columns : IsDrawingOf
@@ -510,8 +480,7 @@ cells_past_the_columns : IsDrawingOf
     ∷ "| x |"
     ∷ "+---+" ∷ []))
 unfolding wrapping
-cells_past_the_columns =
-    (1 ∷ [], record { one_for_each = refl; hidden_widths = refl; shown_widths = refl }, refl)
+cells_past_the_columns = (1 ∷ [], at_widths refl refl refl, refl)
 
 cells_after_discovery : IsDrawingOf
     (discovered (record (rows_of ascii_full (("one" ∷ "two" ∷ []) ∷ [])) { rows = row_of ("one" ∷ "two" ∷ "three" ∷ []) ∷ [] })) (texts
@@ -519,5 +488,4 @@ cells_after_discovery : IsDrawingOf
     ∷ "| one | two | three |"
     ∷ "+-----+-----+-------+" ∷ []))
 unfolding wrapping
-cells_after_discovery =
-    (3 ∷ 3 ∷ 5 ∷ [], record { one_for_each = refl; hidden_widths = refl; shown_widths = refl }, refl)
+cells_after_discovery = (3 ∷ 3 ∷ 5 ∷ [], at_widths refl refl refl, refl)

@@ -38,7 +38,7 @@ fn fault_of_counts(sample: &Sample, drawing: &Drawing) -> Option<&'static str> {
     if !keeps_to_width(&sample.table, frame) {
         return Some("the width doesn't hold");
     }
-    if sample.contents.kind.is_plain
+    if sample.contents.kind.is_printable
         && !is_cut(sample, drawing)
         && !are_all(drawing.row_counts.as_slice(), frame)
     {

@@ -83,7 +83,7 @@ const INDICATORS: [&str; 7] = [
 #[derive(Clone, Copy)]
 pub struct Kind {
     /// Texts and delimiters are printable ASCII, but for sequences.
-    pub is_plain: bool,
+    pub is_printable: bool,
     /// Texts hold SGR sequences that count nothing; parts of such too, where they needn't be plain.
     pub has_sequences: bool,
 }
@@ -91,10 +91,10 @@ pub struct Kind {
 impl Kind {
     /// What the texts of the next table are made of.
     pub fn new(rng: &mut Pcg32) -> Kind {
-        let is_plain = once_in(rng, 3);
+        let is_printable = once_in(rng, 3);
         let has_sequences = once_in(rng, 2);
         Kind {
-            is_plain,
+            is_printable,
             has_sequences,
         }
     }
@@ -125,7 +125,7 @@ pub fn delimiter(rng: &mut Pcg32, kind: Kind) -> char {
 // so many from the front, where texts have to be plain, or else all
 fn allowed<'a, T>(all: &'a [T], plain: usize, kind: Kind) -> &'a [T] {
     match all.get(..plain) {
-        Some(front) if kind.is_plain => front,
+        Some(front) if kind.is_printable => front,
         _ => all,
     }
 }

@@ -41,9 +41,9 @@ pub fn is_written_whole(text: &str) -> bool
 
 /// The texts that are written for the lines of the cell in a column where SGR sequences count nothing, from the top.
 ///
-/// The lines themselves are those of `measured_lines` without sequences, wrapped at the column's content width. A line's
-/// text begins with the sequences that are active there, keeps those between its visible characters, and ends with
-/// `ESC[0m` where one is open then. Sequences of earlier text lines stay active.
+/// The lines themselves are those of `measured_lines` without sequences, wrapped at the column's content width. A
+/// line's text begins with the sequences that are active there, keeps those between its visible characters, and ends
+/// with `ESC[0m` where one is open then. Sequences of earlier text lines stay active.
 pub fn written_lines(cell: &Cell, info: &ColumnDisplayInfo, delimiter: char) -> Result<Vec<String>>
     ensures { IfOk result (λ texts. map string_bytes texts.items ≡ map (λ (line : CellLine). line.written) (line_texts info.now.content_width delimiter cell.now.text_lines)) }
 {

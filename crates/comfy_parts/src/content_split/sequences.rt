@@ -66,15 +66,15 @@ impl<'a> Iterator for TextParts<'a> {
 
 /// What is visible of a text: the text without its SGR sequences. What joins where one was taken out isn't looked at again.
 pub fn visible_text(alloc: Global, text: &str) -> Result<String>
-    ensures { IfOk result (λ seen. string_bytes seen ≡ visible_text text.now) }
+    ensures { IfOk result (λ visible. string_bytes visible ≡ visible_text text.now) }
 {
-    let mut seen = String::with_capacity(alloc, text.len())?;
+    let mut joined = String::with_capacity(alloc, text.len())?;
     for part in TextParts(text) {
         if let TextPart::Visible(visible) = part {
-            seen.push_str(visible)?;
+            joined.push_str(visible)?;
         }
     }
-    Ok(seen)
+    Ok(joined)
 }
 
 /// Whether a text leaves a sequence open: its last sequence is another than `ESC[0m`.
@@ -103,8 +103,7 @@ pub(crate) fn split_sequence(text: &str) -> Option<(&str, &str)>
     Some(text.split_at(len))
 }
 
-/// The visible text up to the next ESC, at most so many bytes, and what is after it, of a text that has no sequence at its
-/// front.
+/// Visible text up to the next ESC, at most so many bytes, and what is after it. The text begins with no sequence.
 pub(crate) fn split_visible(text: &str, most: usize) -> (&str, &str)
     requires none { sequence_len text.now ≡ 0 }
     requires fits { most ≤ length text.now → IsUtf8 (take most (visible_text text.now)) }

@@ -3,7 +3,7 @@
 ghost use Rattle.std.specs.Prelude.{◌≡◌, None, Some, Result, false, true};
 ghost use Rattle.comfy_run.specs.Arguments.{settings_for};
 ghost use Rattle.comfy_run.specs.Program.{usage_line, error_line, status_of, report_of, Reports};
-ghost use Rattle.comfy_run.specs.Run.{Between, IsAfter};
+ghost use Rattle.comfy_run.specs.Run.{Between, IsAfter, is_read_fault, is_write_fault};
 ghost use Rattle.comfy_run.specs.declared.settings.Settings.{Settings};
 
 use crate::arguments::settings_of;
@@ -39,6 +39,7 @@ pub fn program<R: Source, W: Sink, F: Sink>(
 ) -> u8
     ensures misused { settings_for args.now ≡ None → (result ≡ 2) × (source.new ≡ source.old) × (sink.new ≡ sink.old) × Reports usage_line (F.taken messages.old) (F.taken messages.new) (F.has_failed messages.new) }
     ensures ran { (settings : Settings) → settings_for args.now ≡ Some settings → (answer : Result (Unit {0}) RunError) × (result ≡ status_of answer) × Reports (report_of answer) (F.taken messages.old) (F.taken messages.new) (F.has_failed messages.new)
+        × (R.has_failed source.new ≡ is_read_fault answer) × (W.has_failed sink.old ≡ false → W.has_failed sink.new ≡ is_write_fault answer)
         × Between
         (record { remaining = R.remaining source.old; end_was_read = R.end_was_read source.old; read_failed = R.has_failed source.old; taken = W.taken sink.old; write_failed = W.has_failed sink.old })
         (record { remaining = R.remaining source.new; end_was_read = R.end_was_read source.new; read_failed = R.has_failed source.new; taken = W.taken sink.new; write_failed = W.has_failed sink.new })

@@ -47,7 +47,7 @@ impl Table {
     }
 }
 
-// The greatest measure of a cell's text lines as they are measured, at least 1 and at most 65535.
+// The greatest measure of a cell's text lines, at least 1 and at most 65535.
 fn cell_content_width(table: &Table, cell: &Cell) -> u16
     ensures { result ≡ cell_content_width (measured_cell table.now cell.now) }
 {

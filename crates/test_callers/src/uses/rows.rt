@@ -1,10 +1,13 @@
 //! Callers that add, copy and read rows.
 
-ghost use Rattle.std.specs.Prelude.{◌≡◌, ◌==◌, IfOk, IfSome, OnErr, OnOk, Some, if◌then◌else◌, length, max, nat_lt, option_map, slice_get, true};
+ghost use Rattle.std.specs.Prelude.{◌≡◌, ◌==◌, IfOk, IfSome, List, None, OnErr, OnOk, Some, ℕ, if◌then◌else◌, length, max, nat_lt, option_map, slice_get, true};
 ghost use Rattle.comfy_parts.specs.CellValue.{RowValue, with_cell, with_max_height};
-ghost use Rattle.comfy_table.specs.TableValue.{IsWithRowsBeforeOne, with_header, with_row, with_rows};
+ghost use Rattle.comfy_table.specs.AddedRows.{AddsBelow, HasColumnsFor, IsWithinContents};
+ghost use Rattle.comfy_table.specs.Arrangement.{width_kept};
+ghost use Rattle.comfy_table.specs.TableValue.{IsWithRowsBeforeOne, table_width, with_header, with_row, with_rows};
 
-use comfy_table::{Cell, Result, Row, Table};
+use comfy_table::laws::shown_lines_stay;
+use comfy_table::{Cell, Lines, Result, Row, Table};
 
 /// Appends a row to a table of at most two.
 pub fn append_to_few(table: &mut Table, row: Row) -> Result<()>
@@ -12,6 +15,18 @@ pub fn append_to_few(table: &mut Table, row: Row) -> Result<()>
 {
     table.add_row_if(|count, _row| count < 3, row)?;
     Ok(())
+}
+
+/// The drawings before and after a row is appended. Where no width is kept and the row widens no column, the second has
+/// the lines of the first, and those of the row above the bottom border.
+pub fn drawn_with_one_more(table: &mut Table, row: Row) -> Result<(Lines, Lines)>
+    ensures { IfOk result (λ drawn. width_kept table.old.arrangement (table_width table.old) ≡ None → HasColumnsFor table.old row → IsWithinContents table.old row → (widths : List ℕ) × AddsBelow table.old row widths drawn.0 drawn.1) }
+{
+    let before = table.lines()?;
+    table.try_add_row(row)?;
+    let after = table.lines()?;
+    shown_lines_stay();
+    Ok((before, after))
 }
 
 /// Appends a row that has cells. After `OutOfMemory` the table is unchanged.

@@ -1,28 +1,297 @@
-//! An input of 2 MB, which no clause says must be drawn.
+//! Inputs that are long in each direction: no clause says that they must be drawn. What is drawn of them follows from the
+//! rules, since each is one piece many times over.
 
-use super::devices::PLAIN;
-use crate::support::{assert_number, sink_of};
-use comfy_run::run::{MemorySource, run};
-use std::alloc::{AllocError, Global};
+use crate::support::{assert_bytes, sink_of};
+use comfy_csv::{Look, Options, draw};
+use comfy_run::run::{FromReader, MemorySource, Settings, ToWriter, run};
+use comfy_table::ContentArrangement;
+use comfy_table::presets::ASCII_FULL;
+use std::alloc::{Alloc, AllocError, Global};
+use std::process::Abort;
 
-// 1,000 lines of one cell of 2,000 characters.
-fn large_input(alloc: Global) -> Result<String, AllocError> {
-    let mut input = String::new(alloc);
-    for _ in 0..1000 {
-        for _ in 0..400 {
-            input.push_str("word ")?;
-        }
-        input.push('\n')?;
-    }
-    Ok(input)
+// A text: pieces, each as often as its number says.
+type Pieces = &'static [(&'static str, usize)];
+
+// A table: its input for `run` and for `draw`, and what is drawn of it without a width and in 40 terminal columns.
+struct Large {
+    tabs: Pieces,
+    commas: Pieces,
+    drawn: Pieces,
+    drawn_in_40: Pieces,
 }
 
-// The drawing has 2,001 lines of 2,005 bytes.
+// 5,000 lines, 200 kB.
+const ROWS: Large = Large {
+    tabs: &[("qwertyuio\tabcdefghi\tABCDEFGHI\tzxcvbnmas\n", 5000)],
+    commas: &[("qwertyuio,abcdefghi,ABCDEFGHI,zxcvbnmas\n", 5000)],
+    drawn: &[
+        ("+-----------+-----------+-----------+-----------+\n", 1),
+        ("| qwertyuio | abcdefghi | ABCDEFGHI | zxcvbnmas |\n", 1),
+        ("+===============================================+\n", 1),
+        (
+            "| qwertyuio | abcdefghi | ABCDEFGHI | zxcvbnmas |\n|-----------+-----------+-----------+-----------|\n",
+            4998,
+        ),
+        ("| qwertyuio | abcdefghi | ABCDEFGHI | zxcvbnmas |\n", 1),
+        ("+-----------+-----------+-----------+-----------+\n", 1),
+    ],
+    drawn_in_40: &[
+        ("+---------+---------+---------+--------+\n", 1),
+        ("| qwertyu | abcdefg | ABCDEFG | zxcvbn |\n", 1),
+        ("| io      | hi      | HI      | mas    |\n", 1),
+        ("+======================================+\n", 1),
+        (
+            "| qwertyu | abcdefg | ABCDEFG | zxcvbn |\n| io      | hi      | HI      | mas    |\n|---------+---------+---------+--------|\n",
+            4998,
+        ),
+        ("| qwertyu | abcdefg | ABCDEFG | zxcvbn |\n", 1),
+        ("| io      | hi      | HI      | mas    |\n", 1),
+        ("+---------+---------+---------+--------+\n", 1),
+    ],
+};
+
+// 1,000 columns. In 40 terminal columns each has one.
+const COLUMNS: Large = Large {
+    tabs: &[
+        ("ab", 1),
+        ("\tab", 999),
+        ("\ncd", 1),
+        ("\tcd", 999),
+        ("\n", 1),
+    ],
+    commas: &[
+        ("ab", 1),
+        (",ab", 999),
+        ("\ncd", 1),
+        (",cd", 999),
+        ("\n", 1),
+    ],
+    drawn: &[
+        ("+----", 1000),
+        ("+\n", 1),
+        ("| ab ", 1000),
+        ("|\n+", 1),
+        ("=", 4999),
+        ("+\n", 1),
+        ("| cd ", 1000),
+        ("|\n", 1),
+        ("+----", 1000),
+        ("+\n", 1),
+    ],
+    drawn_in_40: &[
+        ("+---", 1000),
+        ("+\n", 1),
+        ("| a ", 1000),
+        ("|\n", 1),
+        ("| b ", 1000),
+        ("|\n+", 1),
+        ("=", 3999),
+        ("+\n", 1),
+        ("| c ", 1000),
+        ("|\n", 1),
+        ("| d ", 1000),
+        ("|\n", 1),
+        ("+---", 1000),
+        ("+\n", 1),
+    ],
+};
+
+// A cell of 2,000 text lines, 100 kB.
+const FIELD: Large = Large {
+    tabs: &[
+        ("head\n", 1),
+        (
+            "word word word word word word word word word word\u{b}",
+            1999,
+        ),
+        ("word word word word word word word word word word\n", 1),
+    ],
+    commas: &[
+        ("head\n\"", 1),
+        ("word word word word word word word word word word\n", 1999),
+        ("word word word word word word word word word word\"\n", 1),
+    ],
+    drawn: &[
+        ("+---------------------------------------------------+\n", 1),
+        ("| head                                              |\n", 1),
+        ("+===================================================+\n", 1),
+        (
+            "| word word word word word word word word word word |\n",
+            2000,
+        ),
+        ("+---------------------------------------------------+\n", 1),
+    ],
+    drawn_in_40: &[
+        ("+--------------------------------------+\n", 1),
+        ("| head                                 |\n", 1),
+        ("+======================================+\n", 1),
+        (
+            "| word word word word word word word   |\n| word word word                       |\n",
+            2000,
+        ),
+        ("+--------------------------------------+\n", 1),
+    ],
+};
+
+// A field of 774 words in red, 10 kB, of which sequences count nothing.
+const SEQUENCES: Large = Large {
+    tabs: &[],
+    commas: &[
+        ("head\n", 1),
+        ("\u{1b}[31mred\u{1b}[0m ", 773),
+        ("\u{1b}[31mred\u{1b}[0m\n", 1),
+    ],
+    drawn: &[
+        ("+", 1),
+        ("-", 3097),
+        ("+\n| head", 1),
+        (" ", 3092),
+        ("|\n+", 1),
+        ("=", 3097),
+        ("+\n|", 1),
+        (" \u{1b}[31mred\u{1b}[0m", 774),
+        (" |\n+", 1),
+        ("-", 3097),
+        ("+\n", 1),
+    ],
+    drawn_in_40: &[
+        ("+--------------------------------------+\n", 1),
+        ("| head                                 |\n", 1),
+        ("+======================================+\n", 1),
+        (
+            "| \u{1b}[31mred\u{1b}[0m \u{1b}[31mred\u{1b}[0m \u{1b}[31mred\u{1b}[0m \u{1b}[31mred\u{1b}[0m \u{1b}[31mred\u{1b}[0m \u{1b}[31mred\u{1b}[0m \u{1b}[31mred\u{1b}[0m \u{1b}[31mred\u{1b}[0m \u{1b}[31mred\u{1b}[0m  |\n",
+            86,
+        ),
+        ("+--------------------------------------+\n", 1),
+    ],
+};
+
+fn text_of(alloc: Global, pieces: Pieces) -> Result<String, AllocError> {
+    let mut text = String::new(alloc);
+    for (piece, count) in pieces {
+        push_repeated(&mut text, piece, *count)?;
+    }
+    Ok(text)
+}
+
+fn push_repeated(text: &mut String, piece: &str, count: usize) -> Result<(), AllocError> {
+    for _ in 0..count {
+        text.push_str(piece)?;
+    }
+    Ok(())
+}
+
+fn settings(width: Option<u16>) -> Settings {
+    Settings {
+        width,
+        arrangement: ContentArrangement::Dynamic,
+        style: ASCII_FULL,
+    }
+}
+
+// The widths: none, and 40 terminal columns.
+const WIDTHS: [Option<u16>; 2] = [None, Some(40)];
+
+fn wanted(rt: &(impl Abort + Alloc<A = Global>), large: &Large, width: Option<u16>) -> String {
+    let pieces = if width.is_some() {
+        large.drawn_in_40
+    } else {
+        large.drawn
+    };
+    text_of(rt.alloc(), pieces).expect(rt, "memory")
+}
+
+// What `run` draws, from memory, and from a reader to a writer.
+fn assert_run(rt: &(impl Abort + Alloc<A = Global>), large: &Large, width: Option<u16>) {
+    let input = text_of(rt.alloc(), large.tabs).expect(rt, "memory");
+    let wanted = wanted(rt, large, width);
+    let mut sink = sink_of(rt, 2_000_000, 0);
+    let mut source = MemorySource::new(input.as_bytes(), 0);
+    assert!(rt; run(rt.alloc(), &mut source, &mut sink, settings(width)).is_ok());
+    assert_bytes(rt, sink.bytes(), wanted.as_str());
+    assert_streamed(rt, input.as_bytes(), width, wanted.as_str());
+}
+
+fn assert_streamed(
+    rt: &(impl Abort + Alloc<A = Global>),
+    input: &[u8],
+    width: Option<u16>,
+    wanted: &str,
+) {
+    let mut bytes = Vec::new(rt.alloc());
+    let mut source = FromReader::new(input);
+    let mut sink = ToWriter::new(&mut bytes);
+    assert!(rt; run(rt.alloc(), &mut source, &mut sink, settings(width)).is_ok());
+    assert_bytes(rt, bytes.as_slice(), wanted);
+}
+
+// How records are drawn in this width.
+fn options(alloc: Global, width: Option<u16>, has_sequences: bool) -> Options {
+    Options {
+        delimiter: b',',
+        has_header: true,
+        limit: None,
+        columns: Vec::new(alloc),
+        right: Vec::new(alloc),
+        left: Vec::new(alloc),
+        look: Look {
+            style: ASCII_FULL,
+            width,
+            fills_width: false,
+            max_height: None,
+            has_bold_header: false,
+            has_sequences,
+            is_raw: false,
+            is_markdown: false,
+        },
+    }
+}
+
+// What `draw` draws, from a reader to a writer.
+fn assert_records(
+    rt: &(impl Abort + Alloc<A = Global>),
+    large: &Large,
+    width: Option<u16>,
+    has_sequences: bool,
+) {
+    let input = text_of(rt.alloc(), large.commas).expect(rt, "memory");
+    let mut bytes = Vec::new(rt.alloc());
+    let mut source = FromReader::new(input.as_bytes());
+    let mut sink = ToWriter::new(&mut bytes);
+    let options = options(rt.alloc(), width, has_sequences);
+    assert!(rt; draw(rt.alloc(), &mut source, &mut sink, &options).is_ok());
+    assert_bytes(rt, bytes.as_slice(), wanted(rt, large, width).as_str());
+}
+
 #[test]
-fn a_large_input_is_drawn(rt: HostRuntime) {
-    let input = large_input(rt.alloc()).expect(&rt, "memory");
+fn large_inputs_are_drawn(rt: HostRuntime) {
+    for width in WIDTHS {
+        assert_run(&rt, &ROWS, width);
+        assert_run(&rt, &COLUMNS, width);
+        assert_run(&rt, &FIELD, width);
+    }
+}
+
+#[test]
+fn large_records_are_drawn(rt: HostRuntime) {
+    for width in WIDTHS {
+        assert_records(&rt, &ROWS, width, false);
+        assert_records(&rt, &COLUMNS, width, false);
+        assert_records(&rt, &FIELD, width, false);
+        assert_records(&rt, &SEQUENCES, width, true);
+    }
+}
+
+// 1,000 lines of one cell of 2,000 characters, 2 MB: the drawing has 2,001 lines of 2,005 bytes.
+#[test]
+fn two_megabytes_are_drawn(rt: HostRuntime) {
+    let mut input = String::new(rt.alloc());
+    for _ in 0..1000 {
+        push_repeated(&mut input, "word ", 400).expect(&rt, "memory");
+        input.push('\n').expect(&rt, "memory");
+    }
     let mut source = MemorySource::new(input.as_bytes(), 0);
     let mut sink = sink_of(&rt, 5_000_000, 0);
-    assert!(rt; run(rt.alloc(), &mut source, &mut sink, PLAIN).is_ok());
-    assert_number(&rt, sink.bytes().len(), 4_012_005);
+    assert!(rt; run(rt.alloc(), &mut source, &mut sink, settings(None)).is_ok());
+    assert!(rt; sink.bytes().len() == 4_012_005);
 }

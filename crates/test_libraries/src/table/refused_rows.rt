@@ -25,22 +25,31 @@ impl IntoRow for Given {
     }
 }
 
-const ROWS: [Given; 3] = [Given::Empty, Given::Refused, Given::Empty];
+// Three rows, of which the one at this position, counted from 0, is refused.
+fn rows_with_refused(position: usize) -> [Given; 3] {
+    let mut rows = [Given::Empty, Given::Empty, Given::Empty];
+    rows[position] = Given::Refused;
+    rows
+}
 
-// Of three rows of which the second is refused the first is there.
 #[test]
 fn rows_before_a_refused_one_stay(rt: HostRuntime) {
-    let mut table = Table::new(rt.alloc());
-    assert!(rt; table.add_rows(ROWS).is_err());
-    assert_number(&rt, table.row_count(), 1);
+    for position in 0..3 {
+        let mut table = Table::new(rt.alloc());
+        assert!(rt; table.add_rows(rows_with_refused(position)).is_err());
+        assert_number(&rt, table.row_count(), position);
+    }
 }
 
 // So it is where a predicate is asked.
 #[test]
 fn rows_before_a_refused_one_stay_on_a_condition(rt: HostRuntime) {
-    let mut table = Table::new(rt.alloc());
-    assert!(rt; table.add_rows_if(|_count, _rows| true, ROWS).is_err());
-    assert_number(&rt, table.row_count(), 1);
+    for position in 0..3 {
+        let mut table = Table::new(rt.alloc());
+        let rows = rows_with_refused(position);
+        assert!(rt; table.add_rows_if(|_count, _rows| true, rows).is_err());
+        assert_number(&rt, table.row_count(), position);
+    }
 }
 
 #[test]

@@ -71,7 +71,7 @@ impl<'a> Cursor<'a> {
         requires { IsUtf8 (take bytes (visible_ahead self.old)) }
         ensures written { IfOk result (λ line. string_bytes line ≡ written bytes (at_byte 0 self.old)) }
         ensures stands { OnOk result (StandsAt self.new bytes self.old) }
-        ensures seen { OnOk result (visible_ahead self.new ≡ drop bytes (visible_ahead self.old)) }
+        ensures visible { OnOk result (visible_ahead self.new ≡ drop bytes (visible_ahead self.old)) }
     {
         if bytes == 0 {
             return Ok(String::new(*self.sequences.allocator()));
@@ -98,7 +98,7 @@ impl<'a> Cursor<'a> {
         requires { IsUtf8 (take bytes (visible_ahead self.old)) }
         ensures taken { IfOk result (λ taken. taken.now ≡ bytes_up_to bytes self.old) }
         ensures passed { OnOk result (self.new ≡ behind_bytes bytes self.old) }
-        ensures seen { OnOk result (visible_ahead self.new ≡ drop bytes (visible_ahead self.old)) }
+        ensures visible { OnOk result (visible_ahead self.new ≡ drop bytes (visible_ahead self.old)) }
     {
         let text = self.rest;
         self.pass_visible(bytes)?;
@@ -110,7 +110,7 @@ impl<'a> Cursor<'a> {
     fn pass_visible(&mut self, bytes: usize) -> Result<()>
         requires { IsUtf8 (take bytes (visible_ahead self.old)) }
         ensures passed { OnOk result (self.new ≡ behind_bytes bytes self.old) }
-        ensures seen { OnOk result (visible_ahead self.new ≡ drop bytes (visible_ahead self.old)) }
+        ensures visible { OnOk result (visible_ahead self.new ≡ drop bytes (visible_ahead self.old)) }
     {
         let mut left = bytes;
         'bytes: while left > 0 {

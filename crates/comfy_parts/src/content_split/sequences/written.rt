@@ -17,36 +17,36 @@ use crate::error::Result;
 pub(crate) fn push_lines(
     lines: &mut Vec<String>,
     cursor: &mut Cursor<'_>,
-    seen: &str,
+    visible: &str,
     width: usize,
     info: &ColumnDisplayInfo,
     delimiter: char,
 ) -> Result<()>
-    requires seen { seen.now ≡ visible_ahead cursor.old }
-    requires width { width ≡ measure seen.now }
+    requires visible { visible.now ≡ visible_ahead cursor.old }
+    requires width { width ≡ measure visible.now }
     ensures lines { OnOk result (map string_bytes lines.new.items ≡ map string_bytes lines.old.items ++ written_of_text info.now.content_width delimiter cursor.old) }
     ensures stays { OnOk result (open_at_end cursor.new ≡ open_at_end cursor.old) }
 {
     if width <= usize::from(info.content_width) {
-        lines.push(cursor.take_line(seen.len())?)?;
+        lines.push(cursor.take_line(visible.len())?)?;
         return Ok(());
     }
-    push_wrapped(lines, cursor, seen, info, delimiter)
+    push_wrapped(lines, cursor, visible, info, delimiter)
 }
 
 // Appends those of a text line that is wrapped.
 fn push_wrapped(
     lines: &mut Vec<String>,
     cursor: &mut Cursor<'_>,
-    seen: &str,
+    visible: &str,
     info: &ColumnDisplayInfo,
     delimiter: char,
 ) -> Result<()>
-    requires { seen.now ≡ visible_ahead cursor.old }
-    ensures lines { OnOk result (map string_bytes lines.new.items ≡ map string_bytes lines.old.items ++ written_at cursor.old (wrapped_positions info.now.content_width delimiter seen.now)) }
+    requires { visible.now ≡ visible_ahead cursor.old }
+    ensures lines { OnOk result (map string_bytes lines.new.items ≡ map string_bytes lines.old.items ++ written_at cursor.old (wrapped_positions info.now.content_width delimiter visible.now)) }
     ensures stays { OnOk result (open_at_end cursor.new ≡ open_at_end cursor.old) }
 {
-    for line in wrapped_lines(seen, info, delimiter) {
+    for line in wrapped_lines(visible, info, delimiter) {
         cursor.pass_gap(delimiter)?;
         lines.push(cursor.take_line(line.len())?)?;
     }

@@ -21,7 +21,7 @@ use comfy_parts::{Cell, Result, Row};
 use std::borrow::CowStr;
 use std::marker::Model;
 
-/// A line of a cell: the terminal columns of what is measured of it, and the text that is written.
+/// A line of a cell: its terminal columns, and the text that is written.
 #[derive(Drop)]
 pub struct Line<'a> {
     columns: usize,
@@ -56,7 +56,7 @@ impl<'a> CellLines<'a> {
         }
     }
 
-    /// A line by its position, counted from 0: the columns of what is measured of it, and what is written.
+    /// A line by its position, counted from 0: its terminal columns, and what is written.
     pub fn get(&self, position: usize) -> Option<(usize, &str)>
         ensures { option_map (λ line. record { columns = line.0; written = line.1.now }) result ≡ slice_get (lines_of self.now) position }
     {
@@ -114,7 +114,7 @@ fn is_custom_styled(table: &Table, cell: &Cell) -> bool
     table.custom_styling && has_escape(cell)
 }
 
-// The lines of a cell in its row, each made by itself. Most cells need none.
+// The lines of a cell in its row, as a list. Most cells need none.
 #[inline(never)]
 fn listed_lines<'a>(
     table: &Table,

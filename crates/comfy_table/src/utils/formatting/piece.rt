@@ -36,7 +36,7 @@ impl<'a> Model for Piece<'a> {
 }
 
 impl<'a> Piece<'a> {
-    /// The piece of a line: the text that is written for it, aligned by the columns of what is measured of it.
+    /// The piece of a line: the text that is written for it, aligned by the line's columns.
     pub fn new(
         table: &Table,
         cell: &'a Cell,

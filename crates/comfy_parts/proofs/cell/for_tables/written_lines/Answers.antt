@@ -7,8 +7,8 @@ use Rattle.comfy_parts.specs.Cursor.{open_at_end, visible_ahead}
 use Rattle.comfy_parts.proofs.WrittenLemmas.{cell-written, next_text, visible_at, text_at, texts_written, width_at}
 use Rattle.comfy_parts.proofs.cell.for_tables.written_lines.Goals as goal
 
-pub push_lines-requires-clause-seen : goal.push_lines-requires-clause-seen
-push_lines-requires-clause-seen c =
+pub push_lines-requires-clause-visible : goal.push_lines-requires-clause-visible
+push_lines-requires-clause-visible c =
     let texts = c.text_lines-texts.result.now in
     let visibles = c.visible.result.0.now in
     let same : map string_bytes visibles ≡ map visible_text (map string_bytes texts) = c.visible.ensures.texts ∙ ap (λ v. map visible_text v.text_lines) c.cell.view_is ∙ ap (map visible_text) (sym c.text_lines-texts.ensures.value) in

@@ -11,6 +11,8 @@ returns-in-Ok-clause-ran g c = λ settings is.
       answer,
       refl,
       nothing_reported _ _,
+      c.in-Ok.ensures.source,
+      c.in-Ok.ensures.sink,
       λ input had known taken read write.
           let happened = c.in-Ok.ensures.known input had known taken read write in
           let facts : RunFacts = record { input = input; end_was_read = g.R.Source.end_was_read c.run.new.source; written = happened.0; read_failed = g.R.Source.has_failed c.run.new.source; write_failed = g.W.Sink.has_failed c.run.new.sink } in
@@ -24,6 +26,8 @@ returns-in-Err-clause-ran g c = λ settings is.
       answer,
       refl,
       rw (← c.line_for.ensures) c.report-in-Err.ensures,
+      c.in-Err.ensures.source,
+      c.in-Err.ensures.sink,
       λ input had known taken read write.
           let happened = c.in-Err.ensures.known input had known taken read write in
           let facts : RunFacts = record { input = input; end_was_read = g.R.Source.end_was_read c.run.new.source; written = happened.0; read_failed = g.R.Source.has_failed c.run.new.source; write_failed = g.W.Sink.has_failed c.run.new.sink } in

@@ -7,4 +7,4 @@ pub returns-then-width-from-clause-lines : goal.returns-then-width-from-clause-l
 returns-then-width-from-clause-lines c = grind (arith, common_steps)
 
 pub returns-then-width-from-clause-stays : goal.returns-then-width-from-clause-stays
-returns-then-width-from-clause-stays c = end-stands (length c.args.seen.now) c.take_line.new.self c.args.cursor.now c.in_ok-take_line.ensures.stands
+returns-then-width-from-clause-stays c = end-stands (length c.args.visible.now) c.take_line.new.self c.args.cursor.now c.in_ok-take_line.ensures.stands

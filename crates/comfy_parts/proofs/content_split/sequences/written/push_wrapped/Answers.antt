@@ -28,12 +28,12 @@ loop-line-preserved c =
     let lines = sym c.in-Some.ensures.steps ∙ c.loop-line.invariant.lines in
     let next = next_line w d old mid line c.next.new.self c.ranges.delimiter.0 c.loop-line.invariant.whole gap lines in
     let stands = c.in_ok-take_line.ensures.stands in
-    let seen = c.in_ok-take_line.ensures.seen in
+    let visible = c.in_ok-take_line.ensures.visible in
     let later = written_at new (wrapped_positions w d (visible_ahead new)) in
-    let one = next.written_is new stands seen ∙ ap (λ (t : Text). t ∷ later) (sym c.in_ok-take_line.ensures.written) in
+    let one = next.written_is new stands visible ∙ ap (λ (t : Text). t ∷ later) (sym c.in_ok-take_line.ensures.written) in
     record {
-      whole = subst IsUtf8 (sym seen) next.rest_whole;
-      lines = next.lines ∙ ap (wrapped w d) (sym seen);
+      whole = subst IsUtf8 (sym visible) next.rest_whole;
+      lines = next.lines ∙ ap (wrapped w d) (sym visible);
       written = pushed string_bytes done c.in_ok-take_line.field-0 c.push.new.self.items later _ c.in_ok-push.ensures.items
           (ap (λ (ts : List Text). map string_bytes done ++ ts) (sym one) ∙ c.loop-line.invariant.written);
       stays = end-stands (length line) new mid stands ∙ end-stands (length gap.gap) mid old gap.stands ∙ c.loop-line.invariant.stays;
@@ -50,4 +50,4 @@ returns-clause-lines c =
     ∙ c.loop-line.invariant.written
 
 pub loop-line-init : goal.loop-line-init
-loop-line-init c = record { whole = subst IsUtf8 c.requires c.utf8.seen; lines = grind (arith, common_steps); written = grind (arith, common_steps); stays = refl }
+loop-line-init c = record { whole = subst IsUtf8 c.requires c.utf8.visible; lines = grind (arith, common_steps); written = grind (arith, common_steps); stays = refl }

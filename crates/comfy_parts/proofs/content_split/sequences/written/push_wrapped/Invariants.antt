@@ -11,6 +11,6 @@ invariant-loop-line l =
       whole : IsUtf8 (visible_ahead l.cursor);
       lines : l.line-iterator ≡ wrapped l.info.content_width l.fn.delimiter (visible_ahead l.cursor);
       written : map string_bytes l.lines.items ++ written_at l.cursor (wrapped_positions l.info.content_width l.fn.delimiter (visible_ahead l.cursor))
-          ≡ map string_bytes l.initial.lines.items ++ written_at l.initial.cursor (wrapped_positions l.info.content_width l.fn.delimiter l.seen);
+          ≡ map string_bytes l.initial.lines.items ++ written_at l.initial.cursor (wrapped_positions l.info.content_width l.fn.delimiter l.visible);
       stays : open_at_end l.cursor ≡ open_at_end l.initial.cursor;
     }

@@ -36,12 +36,12 @@ gap-preserved c =
     let stands : StandsAt mid (length (encode_utf8 d)) old = character-stands mid.sequences d mid.ahead ∙ ap (at_byte (length (encode_utf8 d))) (sym was) in
     let after : StandsAt new 0 mid = ap (at_byte 0) now ∙ stands-itself mid in
     let bytes : length gap + length (encode_utf8 d) + 0 ≡ length (gap ++ encode_utf8 d) = let both = length-append gap (encode_utf8 d) in omega (arith, both) in
-    let seen : visible_ahead old ≡ encode_utf8 d ++ visible_ahead new = ap visible_ahead was ∙ character-visible d mid.ahead ∙ ap (λ t. encode_utf8 d ++ t) (sym (ap visible_ahead now ∙ visible-front mid.ahead)) in
+    let visible : visible_ahead old ≡ encode_utf8 d ++ visible_ahead new = ap visible_ahead was ∙ character-visible d mid.ahead ∙ ap (λ t. encode_utf8 d ++ t) (sym (ap visible_ahead now ∙ visible-front mid.ahead)) in
     record {
       passed = (
         gap ++ encode_utf8 d,
         only-push d gap before.1,
-        before.2 ∙ ap (λ t. gap ++ t) seen ∙ sym (append_assoc gap (encode_utf8 d) (visible_ahead new)),
+        before.2 ∙ ap (λ t. gap ++ t) visible ∙ sym (append_assoc gap (encode_utf8 d) (visible_ahead new)),
         subst (λ n. StandsAt new n start) bytes
             (stands-more (length gap + length (encode_utf8 d)) 0 start mid new (stands-more (length gap) (length (encode_utf8 d)) start old mid before.3 stands) after),
       );
@@ -59,7 +59,7 @@ returns c =
     rw stays record {
       gap = before.0;
       only = before.1;
-      seen = sym (ap visible_ahead now ∙ visible-front old.ahead) ∙ before.2;
+      visible = sym (ap visible_ahead now ∙ visible-front old.ahead) ∙ before.2;
       stands = subst (λ n. StandsAt c.gap.self n old) plain (stands-more 0 (length before.0) old start c.gap.self (ap (at_byte 0) now ∙ stands-itself old) before.3);
       begins_otherwise = c.gap-test.ensures.other refl;
     }

@@ -15,10 +15,10 @@ bytes-preserved c =
     let none : begins_with_sequence c.bytes.self.ahead ≡ false = search rules in
     let stays : c.pass_sequence.new.self ≡ c.bytes.self = c.in_ok-pass_sequence.ensures.after ∙ ap (λ b. if b then stepped c.bytes.self c.bytes.self.ahead else c.bytes.self) none in
     let was : c.bytes.self ≡ at new.sequences (map visible_part run ++ new.ahead) = sym stays ∙ sym c.self.view_is ∙ ap (at new.sequences) c.split_visible.ensures.parts in
-    let seen : visible_ahead c.bytes.self ≡ run ++ visible_ahead new = ap visible_ahead was ∙ visible_bytes-visible run new.ahead in
+    let visible : visible_ahead c.bytes.self ≡ run ++ visible_ahead new = ap visible_ahead was ∙ visible_bytes-visible run new.ahead in
     let within = c.split_visible.ensures.within in
     record {
-      whole = whole-behind left run (visible_ahead new) c.split_visible.ensures.whole within (subst (λ (t : Text). IsUtf8 (take left t)) seen c.bytes.invariant.whole);
+      whole = whole-behind left run (visible_ahead new) c.split_visible.ensures.whole within (subst (λ (t : Text). IsUtf8 (take left t)) visible c.bytes.invariant.whole);
       passed = sym (visible-behind left new.sequences run new.ahead within) ∙ ap (behind_bytes left) (sym was) ∙ c.bytes.invariant.passed;
-      seen = sym (drops-behind left run (visible_ahead new) within) ∙ ap (drop left) (sym seen) ∙ c.bytes.invariant.seen;
+      visible = sym (drops-behind left run (visible_ahead new) within) ∙ ap (drop left) (sym visible) ∙ c.bytes.invariant.visible;
     }

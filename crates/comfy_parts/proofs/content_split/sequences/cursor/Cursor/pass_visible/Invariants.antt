@@ -8,7 +8,7 @@ invariant-bytes l =
     record {
       whole : IsUtf8 (take l.left (visible_ahead l.self));
       passed : behind_bytes l.left l.self ≡ behind_bytes l.bytes l.initial.self;
-      seen : drop l.left (visible_ahead l.self) ≡ drop l.bytes (visible_ahead l.initial.self);
+      visible : drop l.left (visible_ahead l.self) ≡ drop l.bytes (visible_ahead l.initial.self);
     }
 
 abbrev pub decreases-bytes : goal.decreases-bytes

@@ -22,9 +22,9 @@ returns-clause-stands c =
     let plain : 0 + bytes ≡ bytes = omega arith in
     subst (λ n. StandsAt new n old) plain (stands-more 0 bytes old mid new first next)
 
-pub returns-clause-seen : goal.returns-clause-seen
-returns-clause-seen c =
-    c.in_ok-take_visible.ensures.seen ∙ ap (drop c.args.bytes) (ap visible_ahead c.in_ok-pass_sequences.ensures ∙ visible-front c.args.self.now.ahead)
+pub returns-clause-visible : goal.returns-clause-visible
+returns-clause-visible c =
+    c.in_ok-take_visible.ensures.visible ∙ ap (drop c.args.bytes) (ap visible_ahead c.in_ok-pass_sequences.ensures ∙ visible-front c.args.self.now.ahead)
 
 pub returns-clause-written : goal.returns-clause-written
 returns-clause-written c = grind (arith, common_steps)

@@ -1,0 +1,172 @@
+-- A row that is added at the end of a table: what was drawn stays above the bottom border, where no column gets wider.
+use Rattle.std.proofs.Common.{◌≡◌, ◌≤◌, ℕ, ◌-◌, ◌+◌, List, [], ◌∷◌, ◌++◌, Option, Some, None, length, map, max, nat_lt, arith, refl, sym, ap, ap₂, ◌∙◌, subst, append-nil, append_assoc, slice_index_or}
+use Rattle.std.specs.List.{join_by, range_with_len, slice_get}
+use Rattle.std.specs.Prelude.{MatchOption, if◌then◌else◌, option_and_then, option_map, unwrap_or}
+use Rattle.std.proofs.lemmas.List.{map-append}
+use Rattle.comfy_parts.specs.CellValue.{CellValue, ColumnInfo, ColumnValue, RowValue, column_padding, columns_grown_to, new_column}
+use Rattle.comfy_parts.specs.Text.{Text, greatest}
+use Rattle.comfy_parts.specs.declared.style.column.ColumnConstraint.{ColumnConstraint}
+use Rattle.comfy_parts.specs.declared.style.column.ColumnConstraint.TheVariants as constraint
+use Rattle.comfy_parts.specs.declared.style.column.Width.{Width}
+use Rattle.comfy_parts.specs.declared.style.column.Width.TheVariants.{Fixed, Percentage}
+use Rattle.comfy_parts.specs.declared.style.table_style.ContentLineStyle.{ContentLineStyle}
+use Rattle.comfy_table.proofs.ColumnCellLemmas.{greatest-append, greatest_measured, of_measured}
+use Rattle.comfy_parts.proofs.CallerLemmas.{join_by_push}
+use Rattle.comfy_table.proofs.OneDrawingLemmas.{arranged_is_one}
+use Rattle.comfy_table.specs.AddedRows.{HasColumnsFor, IsWithinContents, RowIsAddedBelow, ShownLinesStay, added_lines, bottom_lines, lines_above_bottom}
+use Rattle.comfy_table.specs.Arrangement.{IsArranged, hidden_columns, is_full_width, room_beside_borders, width_kept, widths_at}
+use Rattle.comfy_table.specs.Drawing.{drawing, drawing_of_infos, drawn_header, drawn_row, drawn_rows, infos_of, whole_widths}
+use Rattle.comfy_table.specs.Dynamic.{IsDynamic}
+use Rattle.comfy_table.specs.Frame.{content_line, optional_frame_line}
+use Rattle.comfy_table.specs.Pieces.{blank_piece, pieces_at, pieces_of_optional, shown_infos}
+use Rattle.comfy_table.specs.TableValue.{TableValue, cell_content_width, cells_at, cells_with_header, column_content_width, measured_cell, shown_columns, table_width, with_row}
+use Rattle.comfy_table.specs.Widths.{capped_content, disabled_width, fixed_by_boundary, fixed_by_constraint, resolved_width, shown_count, shown_needs, upper_boundary, without_padding}
+
+module _ (table : TableValue) (row : RowValue) where
+  -- the table with the row, and no further column
+  abbrev longer : TableValue
+  longer = record table { rows = table.rows ++ row ∷ [] }
+
+  -- it is the table with the row, where each cell has a column
+  with_row-is : HasColumnsFor table row → with_row row table ≡ longer
+  with_row-is enough =
+      let none : length row.cells - length table.columns ≡ 0 = omega (arith, enough) in
+      ap (λ (columns : List ColumnValue). record longer { columns = columns })
+      (ap (λ n. table.columns ++ map new_column (range_with_len (length table.columns) n)) none ∙ append-nil table.columns)
+
+  -- ---- lines
+
+  module _ (infos : List ColumnInfo) where
+    -- the rows of a table don't change what is drawn of one
+    pieces_same : (r : RowValue) (info : ColumnInfo) (cell : Option CellValue) → pieces_of_optional longer r info cell ≡ pieces_of_optional table r info cell
+    pieces_same r info None = refl
+    pieces_same r info (Some cell) = refl
+
+    row_same : (line : ContentLineStyle) (r : RowValue) → drawn_row longer infos line r ≡ drawn_row table infos line r
+    row_same line r = λ i. framed (λ (p : ℕ × ColumnInfo). pieces_same r p.1 (slice_get r.cells p.0) i)
+      where
+        framed : (ℕ × ColumnInfo → List Text) → List Text
+        framed pieces =
+            map (content_line table.style line)
+            (map (λ k. map (λ (p : ℕ × ColumnInfo). slice_index_or (pieces p) k (blank_piece p.1)) (shown_infos infos)) (range_with_len 0 (greatest (map (λ (p : ℕ × ColumnInfo). length (pieces p)) (shown_infos infos)))))
+
+    header_same : (header : Option RowValue) → drawn_header longer infos header ≡ drawn_header table infos header
+    header_same None = refl
+    header_same (Some header) = ap (λ (lines : List Text). lines ++ optional_frame_line table.style table.style.header_separator (whole_widths infos)) (row_same table.style.header_lines header)
+
+    abbrev separator : List Text
+    separator = optional_frame_line table.style table.style.row_separator (whole_widths infos)
+
+    rows_are : drawn_rows longer infos (table.rows ++ row ∷ []) ≡ drawn_rows table infos table.rows ++ added_lines table infos row
+    rows_are =
+        (λ i. join_by (λ (r : RowValue). row_same table.style.content_lines r i) separator (table.rows ++ row ∷ []))
+        ∙ join_by_push (drawn_row table infos table.style.content_lines) separator table.rows row
+        ∙ append_assoc (drawn_rows table infos table.rows) (if nat_lt 0 (length table.rows) then separator else []) (drawn_row table infos table.style.content_lines row)
+
+    -- four parts, of which the middle ones are joined
+    regrouped : (top header rows bottom : List Text) → top ++ (header ++ (rows ++ bottom)) ≡ (top ++ (header ++ rows)) ++ bottom
+    regrouped top header rows bottom = ap (λ (ls : List Text). top ++ ls) (sym (append_assoc header rows bottom)) ∙ sym (append_assoc top (header ++ rows) bottom)
+
+    above_is : drawing_of_infos table infos ≡ lines_above_bottom table infos ++ bottom_lines table infos
+    above_is = regrouped (optional_frame_line table.style table.style.top_border (whole_widths infos)) (drawn_header table infos table.header) (drawn_rows table infos table.rows) (bottom_lines table infos)
+
+    longer_is : drawing_of_infos longer infos ≡ lines_above_bottom table infos ++ (added_lines table infos row ++ bottom_lines table infos)
+    longer_is =
+        let top = optional_frame_line table.style table.style.top_border (whole_widths infos) in
+        let rows = drawn_rows table infos table.rows in
+        let added = added_lines table infos row in
+        ap (λ (header : List Text). top ++ (header ++ (drawn_rows longer infos (table.rows ++ row ∷ []) ++ bottom_lines table infos))) (header_same table.header)
+        ∙ ap (λ (lines : List Text). top ++ (drawn_header table infos table.header ++ (lines ++ bottom_lines table infos))) rows_are
+        ∙ ap (λ (lines : List Text). top ++ (drawn_header table infos table.header ++ lines)) (append_assoc rows added (bottom_lines table infos))
+        ∙ regrouped top (drawn_header table infos table.header) rows (added ++ bottom_lines table infos)
+
+  -- so the row's lines come above the bottom border
+  pub row_is_added_below : (widths : List ℕ) → RowIsAddedBelow table row widths
+  row_is_added_below widths enough = (above_is (infos_of table widths), ap (λ (t : TableValue). drawing t widths) (with_row-is enough) ∙ longer_is (infos_of table widths))
+
+  -- ---- widths
+
+  module _ (within : IsWithinContents table row) where
+    abbrev own : Option CellValue → ℕ
+    own = of_measured table cell_content_width
+
+    own_same : (cell : Option CellValue) → of_measured longer cell_content_width cell ≡ own cell
+    own_same None = refl
+    own_same (Some cell) = refl
+
+    own_within : (i : ℕ) → own (slice_get row.cells i) ≤ column_content_width table i
+    own_within i = by_cell (slice_get row.cells i) (within i)
+      where
+        by_cell : (o : Option CellValue) → ((cell : CellValue) → o ≡ Some cell → cell_content_width (measured_cell table cell) ≤ column_content_width table i) → own o ≤ column_content_width table i
+        by_cell None each = omega arith
+        by_cell (Some cell) each = each cell refl
+
+    -- the row's cell doesn't widen the column
+    content_same : (i : ℕ) → column_content_width longer i ≡ column_content_width table i
+    content_same i = omega (arith, chain, split, known, own_within i)
+      where
+        header : ℕ
+        header = own (option_and_then (λ (r : RowValue). slice_get r.cells i) table.header)
+
+        chain : column_content_width longer i ≡ max header (greatest (map own (cells_at table.rows i ++ slice_get row.cells i ∷ [])))
+        chain =
+            greatest_measured longer cell_content_width i ∙ (λ j. greatest (map (λ (o : Option CellValue). own_same o j) (cells_with_header longer i)))
+            ∙ ap (λ (cells : List (Option CellValue)). max header (greatest (map own cells))) (map-append (λ (r : RowValue). slice_get r.cells i) table.rows (row ∷ []))
+
+        split : greatest (map own (cells_at table.rows i ++ slice_get row.cells i ∷ [])) ≡ max (greatest (map own (cells_at table.rows i))) (max (own (slice_get row.cells i)) 0)
+        split = ap greatest (map-append own (cells_at table.rows i) (slice_get row.cells i ∷ [])) ∙ greatest-append (map own (cells_at table.rows i)) (own (slice_get row.cells i) ∷ [])
+
+        known : column_content_width table i ≡ max header (greatest (map own (cells_at table.rows i)))
+        known = greatest_measured table cell_content_width i
+
+    resolved_same : (n : ℕ) (width : Width) → resolved_width longer n width ≡ resolved_width table n width
+    resolved_same n (Fixed x) = refl
+    resolved_same n (Percentage p) = refl
+
+    disabled_same : (p : ℕ × ColumnValue) → disabled_width longer p ≡ disabled_width table p
+    disabled_same p =
+        ap (λ content. unwrap_or (fixed_by_constraint longer n content padding p.1.constraint) (capped_content content padding (upper_boundary longer n p.1.constraint))) (content_same p.0) ∙ by_constraint p.1.constraint
+      where
+        n : ℕ
+        n = shown_count table
+
+        padding : ℕ
+        padding = column_padding p.1
+
+        content : ℕ
+        content = column_content_width table p.0
+
+        of_table : TableValue → Option ColumnConstraint → ℕ
+        of_table t o = unwrap_or (fixed_by_constraint t n content padding o) (capped_content content padding (upper_boundary t n o))
+
+        by_constraint : (o : Option ColumnConstraint) → of_table longer o ≡ of_table table o
+        by_constraint None = refl
+        by_constraint (Some constraint.Hidden) = refl
+        by_constraint (Some constraint.ContentWidth) = refl
+        by_constraint (Some (constraint.Absolute w)) = ap (λ (r : Option ℕ). unwrap_or (option_map (without_padding padding) r) (capped_content content padding None)) (resolved_same n w)
+        by_constraint (Some (constraint.LowerBoundary w)) = ap (λ (r : Option ℕ). unwrap_or (fixed_by_boundary content padding r) (capped_content content padding None)) (resolved_same n w)
+        by_constraint (Some (constraint.UpperBoundary w)) = ap (λ (r : Option ℕ). unwrap_or (fixed_by_boundary content padding None) (capped_content content padding r)) (resolved_same n w)
+        by_constraint (Some (constraint.Boundaries lower upper)) =
+            ap₂ (λ (l u : Option ℕ). unwrap_or (fixed_by_boundary content padding l) (capped_content content padding u)) (resolved_same n lower) (resolved_same n upper)
+
+    -- where no width is kept, no column's width changes
+    widths_stay : (widths : List ℕ) → width_kept table.arrangement (table_width table) ≡ None → IsArranged table widths → IsArranged longer widths
+    widths_stay widths none arranged =
+        record {
+          one_for_each = arranged.one_for_each;
+          hidden_widths = arranged.hidden_widths ∙ (λ j. map (λ (p : ℕ × ColumnValue). max 1 (sym (content_same p.0) j)) (hidden_columns table));
+          shown_widths = subst (Are longer) (sym none) (subst (Are table) none arranged.shown_widths ∙ (λ j. map (λ (p : ℕ × ColumnValue). sym (disabled_same p) j) (shown_columns table)));
+        }
+      where
+        shown : List ℕ
+        shown = widths_at widths (shown_columns table)
+
+        Are : TableValue → Option ℕ → Type 0
+        Are t o = MatchOption o (shown ≡ map (disabled_width t) (shown_columns t)) (λ w. IsDynamic (room_beside_borders t w) (shown_needs t) (is_full_width t.arrangement) shown)
+
+  -- so the lines that were shown stay
+  pub shown_lines_stay : (lines others : List Text) → ShownLinesStay table row lines others
+  shown_lines_stay lines others none enough within (ws, before, is) (vs, after, are) =
+      let same : vs ≡ ws = arranged_is_one longer vs ws (subst (λ (t : TableValue). IsArranged t vs) (with_row-is enough) after) (widths_stay within ws none before) in
+      let drawn = row_is_added_below ws enough in
+      (ws, (is ∙ drawn.0, are ∙ ap (drawing (with_row row table)) same ∙ drawn.1))

@@ -1,0 +1,32 @@
+-- What a further row leaves of a drawing, computed.
+use Rattle.std.proofs.Common.{◌≡◌, [], ◌∷◌, refl}
+use Rattle.comfy_parts.proofs.Computing.{wrapping}
+use Rattle.comfy_parts.specs.CellValue.{RowValue}
+use Rattle.comfy_parts.specs.Presets.{ascii_full}
+use Rattle.comfy_table.specs.AddedRows.{AddsBelow, added_lines}
+use Rattle.comfy_table.specs.Drawing.{drawing, infos_of}
+use Rattle.comfy_table.specs.TableValue.{TableValue, with_row}
+use Rattle.test_definitions.proofs.TrialTables.{row_of, table_of, texts}
+
+abbrev two_lines : TableValue
+two_lines = table_of ascii_full ("ab" ∷ []) (("cd" ∷ []) ∷ [])
+
+abbrev short_row : RowValue
+short_row = row_of ("e" ∷ [])
+
+-- the row separator and the row's line come above the bottom border
+one_more_row : AddsBelow two_lines short_row (2 ∷ []) (texts ("+----+" ∷ "| ab |" ∷ "+====+" ∷ "| cd |" ∷ "+----+" ∷ []))
+    (texts ("+----+" ∷ "| ab |" ∷ "+====+" ∷ "| cd |" ∷ "|----|" ∷ "| e  |" ∷ "+----+" ∷ []))
+unfolding wrapping
+one_more_row = (refl, refl)
+
+-- where no row stands before it, no row separator comes
+first_row : added_lines (table_of ascii_full ("ab" ∷ []) []) (infos_of two_lines (2 ∷ [])) short_row ≡ texts ("| e  |" ∷ [])
+unfolding wrapping
+first_row = refl
+
+-- a row that is wider than its column changes what was shown
+wider_row : drawing (with_row (row_of ("efg" ∷ [])) two_lines) (3 ∷ [])
+    ≡ texts ("+-----+" ∷ "| ab  |" ∷ "+=====+" ∷ "| cd  |" ∷ "|-----|" ∷ "| efg |" ∷ "+-----+" ∷ [])
+unfolding wrapping
+wider_row = refl
