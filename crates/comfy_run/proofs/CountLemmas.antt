@@ -147,19 +147,19 @@ module _ (width : Option ℕ) (arrangement : ContentArrangement) (style : TableS
 pub has_one_count : (width : Option ℕ) (arrangement : ContentArrangement) (style : TableStyle) (input output : Text) → OutputHasOneCount width arrangement style input output
 has_one_count width arrangement style input output printable (drawn, drawing, same) =
     let table = input_table width arrangement style input in
-    let counts = λ n. (widths : List ℕ) × IsArranged table widths × (n ≡ line_total table widths) in
+    let counts : ℕ → Type 0 = λ n. (widths : List ℕ) × IsArranged table widths × (n ≡ line_total table widths) in
     counted width arrangement style input printable counts output drawn drawing (drawing.widths, drawing.arranged, refl) same
 
 pub keeps_to_width : (w : ℕ) (style : TableStyle) (input output : Text) → OutputKeepsToWidth w style input output
 keeps_to_width w style input output plain (drawn, drawing, same) =
     let settings = has_settings (Some w) Dynamic style input in
-    let within = λ n. n ≤ max w (least_total (input_table (Some w) Dynamic style input)) in
+    let within : ℕ → Type 0 = λ n. n ≤ max w (least_total (input_table (Some w) Dynamic style input)) in
     counted (Some w) Dynamic style input plain within output drawn drawing
     (subst within (drawing.frame_counts style.top_border) ((drawing.keeps_to_width w settings.unconstrained settings.arrangement_is settings.width_is).frame_lines style.top_border)) same
 
 pub fills_width : (w : ℕ) (style : TableStyle) (input output : Text) → OutputFillsWidth w style input output
 fills_width w style input output plain some (drawn, drawing, same) =
     let settings = has_settings (Some w) DynamicFullWidth style input in
-    let exact = λ n. n ≡ max w (least_total (input_table (Some w) DynamicFullWidth style input)) in
+    let exact : ℕ → Type 0 = λ n. n ≡ max w (least_total (input_table (Some w) DynamicFullWidth style input)) in
     counted (Some w) DynamicFullWidth style input plain exact output drawn drawing
     (subst exact (drawing.frame_counts style.top_border) ((drawing.fills_width w settings.unconstrained settings.arrangement_is settings.width_is some).frame_lines style.top_border)) same

@@ -9,7 +9,7 @@ use crate::device::{DeviceFault, Sink, Source};
 use std::alloc::{AllocError, Global};
 
 // How many bytes are asked for at a time.
-const CHUNK: usize = 65536;
+const CHUNK: usize = 4096;
 
 /// Why a source wasn't read to its end.
 #[derive(Clone, Copy, Debug, PartialEq, Eq)]

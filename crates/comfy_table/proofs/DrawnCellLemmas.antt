@@ -1,22 +1,37 @@
 -- The lines of a row are made of the cells that its shown columns draw.
-use Rattle.std.proofs.Common.{◌≡◌, List, Option, Some, length, map, ap, ◌∙◌, sym}
-use Rattle.std.specs.List.{range_with_len}
+use Rattle.std.proofs.Common.{◌≡◌, ℕ, zero, suc, List, [], ◌∷◌, Option, Some, None, length, map, refl, ap, ◌∙◌, sym, slice_index_or, unwrap_or}
+use Rattle.std.specs.List.{range_with_len, slice_get}
+use Rattle.std.specs.Prelude.{option_map}
+use Rattle.comfy_parts.proofs.CallerLemmas.{index-map}
 use Rattle.comfy_parts.specs.CellValue.{CellValue, RowValue, ColumnInfo}
 use Rattle.comfy_parts.specs.Text.{greatest}
 use Rattle.std.proofs.lemmas.Simd.{map-map}
+use Rattle.comfy_table.specs.CellLines.{line_at}
 use Rattle.comfy_table.specs.DrawnCells.{DrawnCell, drawn_cell, greatest_height, piece_at, pieces_of_content}
 use Rattle.comfy_table.specs.DrawnLines.{DrawnLine, drawn_line}
 use Rattle.comfy_table.specs.Gaps.{RowGapsValue, gap_line, row_between}
-use Rattle.comfy_table.specs.Pieces.{pieces_of_optional, row_cell_lines, row_lines, shown_infos}
+use Rattle.comfy_table.specs.Pieces.{blank_piece, pieces_of_optional, row_cell_lines, row_lines, text_piece, shown_infos}
 use Rattle.comfy_table.specs.TableValue.{TableValue}
 
 -- the pieces of a cell that a row has, with its lines
-pub content_pieces : (table : TableValue) (row : RowValue) (info : ColumnInfo) (o : Option CellValue) (cell : CellValue) (lines : List DrawnLine) → o ≡ Some cell → lines ≡ map drawn_line (row_cell_lines table row info cell)
-    → pieces_of_content table info (Some (cell, lines)) ≡ pieces_of_optional table row info o
-content_pieces table row info o cell lines found are =
-    ap (λ (lines : List DrawnLine). pieces_of_content table info (Some (cell, lines))) are
+pub content_pieces : (table : TableValue) (row : RowValue) (info : ColumnInfo) (o : Option CellValue) (cell : CellValue) (content : Option (CellValue × List DrawnLine)) → o ≡ Some cell → content ≡ Some (cell, map drawn_line (row_cell_lines table row info cell))
+    → pieces_of_content table info content ≡ pieces_of_optional table row info o
+content_pieces table row info o cell content found are =
+    ap (pieces_of_content table info) are
     ∙ map-map _ drawn_line (row_cell_lines table row info cell)
     ∙ ap (pieces_of_optional table row info) (sym found)
+
+-- the piece in a line, by the line
+pub piece_in : (table : TableValue) (info : ColumnInfo) (content : Option (CellValue × List DrawnLine)) (k : ℕ)
+    → slice_index_or (pieces_of_content table info content) k (blank_piece info) ≡ unwrap_or (option_map (λ (p : CellValue × DrawnLine). text_piece table p.0 info p.1.columns p.1.written) (line_at k content)) (blank_piece info)
+piece_in table info None zero = refl
+piece_in table info None (suc k) = refl
+piece_in table info (Some content) k = index-map _ content.1 k (blank_piece info) ∙ by_line (slice_get content.1 k)
+  where
+    by_line : (o : Option DrawnLine) → unwrap_or (option_map (λ (line : DrawnLine). text_piece table content.0 info line.columns line.written) o) (blank_piece info)
+        ≡ unwrap_or (option_map (λ (p : CellValue × DrawnLine). text_piece table p.0 info p.1.columns p.1.written) (option_map (λ line. (content.0, line)) o)) (blank_piece info)
+    by_line None = refl
+    by_line (Some line) = refl
 
 -- the lines of a row, cell by cell
 pub drawn_lines : (table : TableValue) (infos : List ColumnInfo) (row : RowValue) (cells : List DrawnCell) → cells ≡ map (drawn_cell table row) (shown_infos infos)

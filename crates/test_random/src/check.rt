@@ -3,6 +3,7 @@
 use crate::drawing::Drawing;
 use crate::kept::Reader;
 use crate::sample::Sample;
+use crate::stays::shown_lines_stay;
 use comfy_table::utils::arrangement::helper::count_border_columns;
 use comfy_table::{ContentArrangement, Result, Table};
 use std::alloc::Global;
@@ -54,6 +55,9 @@ fn fault_of_texts(
 ) -> Result<Option<&'static str>> {
     if !keeps_texts(alloc, sample, drawing)? {
         return Ok(Some("a text is lost or changed"));
+    }
+    if !shown_lines_stay(&sample.table)? {
+        return Ok(Some("a further row changes lines above it"));
     }
     if drawing.leaves_open {
         return Ok(Some("a sequence is left open"));

@@ -12,6 +12,7 @@ mod sample;
 mod scan;
 mod scripts;
 mod settings;
+mod stays;
 mod straight;
 mod texts;
 

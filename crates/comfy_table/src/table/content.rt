@@ -54,7 +54,7 @@ fn cell_content_width(table: &Table, cell: &Cell) -> u16
     let (_, widths) = table.measured_lines(cell);
     let mut widest = 1;
     for width in widths {
-        widest = widest.max((*width).min(65535) as u16);
+        widest = widest.max(*width);
     }
-    widest
+    widest.min(65535) as u16
 }

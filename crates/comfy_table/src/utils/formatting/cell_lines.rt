@@ -1,11 +1,11 @@
 //! The lines of a cell in its row: its text lines wrapped at the column's width, and cut to the row's height.
 
-ghost use Rattle.std.specs.Prelude.{◌≡◌, ◌++◌, ◌∷◌, ◌&&◌, [], IfOk, IfSome, OnOk, length, map, option_map, slice_get, string_bytes};
+ghost use Rattle.std.specs.Prelude.{◌≡◌, ◌++◌, ◌∷◌, ◌&&◌, [], IfOk, IfSome, OnOk, Some, map, option_map, string_bytes};
 ghost use Rattle.std.specs.List.{list_any};
 ghost use Rattle.comfy_parts.specs.Text.{measure};
 ghost use Rattle.comfy_parts.specs.VisibleText.{has_escape};
 ghost use Rattle.comfy_parts.specs.Wrapping.{lines_of_text, wrapped};
-ghost use Rattle.comfy_table.specs.CellLines.{lines_of};
+ghost use Rattle.comfy_table.specs.CellLines.{line_at, lines_of};
 ghost use Rattle.comfy_table.specs.DrawnLines.{drawn_line, drawn_text, with_texts};
 ghost use Rattle.comfy_table.specs.Lines.{as_measured, cell_delimiter, cell_lines, cut_line, cut_text, fitting_indicator, whole_lines};
 ghost use Rattle.comfy_table.specs.Pieces.{row_cell_lines};
@@ -37,34 +37,29 @@ impl<'a> Model for Line<'a> {
     ghost view = { λ l. record { columns = l.columns; written = cow_str_bytes l.text } };
 }
 
-/// The lines of a cell in its row, from the top.
+/// A cell of a row and its lines, from the top.
 #[derive(Drop)]
 pub enum CellLines<'a> {
+    // no cell stands in the column
+    Missing,
     // the columns and the text of one text line that fits and is written as it is
-    One(usize, &'a str),
-    Several(Vec<Line<'a>>),
+    One(&'a Cell, usize, &'a str),
+    Several(&'a Cell, Vec<Line<'a>>),
 }
 
 impl<'a> CellLines<'a> {
-    /// How many lines there are.
-    pub fn len(&self) -> usize
-        ensures { result ≡ length (lines_of self.now) }
+    /// A line by its position, counted from 0: the cell, the line's terminal columns, and what is written.
+    pub fn get(&self, position: usize) -> Option<(&Cell, usize, &str)>
+        ensures { option_map (λ line. (line.0.now, record { columns = line.1; written = line.2.now })) result ≡ line_at position (lines_of self.now) }
     {
         match self {
-            CellLines::One(_, _) => 1,
-            CellLines::Several(lines) => lines.len(),
-        }
-    }
-
-    /// A line by its position, counted from 0: its terminal columns, and what is written.
-    pub fn get(&self, position: usize) -> Option<(usize, &str)>
-        ensures { option_map (λ line. record { columns = line.0; written = line.1.now }) result ≡ slice_get (lines_of self.now) position }
-    {
-        match self {
-            CellLines::One(columns, text) => (position == 0).then_some((*columns, *text)),
-            CellLines::Several(lines) => {
+            CellLines::Missing => None,
+            CellLines::One(cell, columns, text) => {
+                (position == 0).then_some((*cell, *columns, *text))
+            }
+            CellLines::Several(cell, lines) => {
                 let line = lines.get(position)?;
-                Some((line.columns, line.text.as_str()))
+                Some((*cell, line.columns, line.text.as_str()))
             }
         }
     }
@@ -77,14 +72,14 @@ pub fn row_cell_lines<'a>(
     cell: &'a Cell,
     info: &ColumnDisplayInfo,
 ) -> Result<CellLines<'a>>
-    ensures { IfOk result (λ lines. lines_of lines ≡ map drawn_line (row_cell_lines table.now row.now info.now cell.now)) }
+    ensures { IfOk result (λ lines. lines_of lines ≡ Some (cell.now, map drawn_line (row_cell_lines table.now row.now info.now cell.now))) }
 {
     // the clause of a limit says that it is at least 1
     let _limit = row.height_limit();
     if let Some((columns, text)) = only_line(table, cell, info) {
-        return Ok(CellLines::One(columns, text));
+        return Ok(CellLines::One(cell, columns, text));
     }
-    Ok(CellLines::Several(listed_lines(table, row, cell, info)?))
+    Ok(CellLines::Several(cell, listed_lines(table, row, cell, info)?))
 }
 
 // The columns and the text of a cell's one text line, if it fits and is written as it is.

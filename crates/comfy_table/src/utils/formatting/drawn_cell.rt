@@ -18,18 +18,16 @@ use std::marker::Model;
 pub struct DrawnCell<'a> {
     table: &'a Table,
     info: &'a ColumnDisplayInfo,
-    // the cell and its lines; none where the row has no cell for the column
-    content: Option<(&'a Cell, CellLines<'a>)>,
+    lines: CellLines<'a>,
 }
 
 impl<'a> Model for DrawnCell<'a> {
-    ghost use Rattle.std.specs.Prelude.{option_map};
     ghost use Rattle.comfy_table.specs.CellLines.{lines_of};
     ghost use Rattle.comfy_table.specs.DrawnCells.{DrawnCell, pieces_of_content};
 
     ghost Value = { DrawnCell };
 
-    ghost view = { λ d. record { info = d.info.now; pieces = pieces_of_content d.table.now d.info.now (option_map (λ content. (content.0.now, lines_of content.1)) d.content) } };
+    ghost view = { λ d. record { info = d.info.now; pieces = pieces_of_content d.table.now d.info.now (lines_of d.lines) } };
 }
 
 impl<'a> DrawnCell<'a> {
@@ -37,9 +35,9 @@ impl<'a> DrawnCell<'a> {
     fn height(&self) -> usize
         ensures { result ≡ length self.now.pieces }
     {
-        match &self.content {
-            Some((_, lines)) => lines.len(),
-            None => 1,
+        match &self.lines {
+            CellLines::Missing | CellLines::One(_, _, _) => 1,
+            CellLines::Several(_, lines) => lines.len(),
         }
     }
 
@@ -54,11 +52,10 @@ impl<'a> DrawnCell<'a> {
     pub fn piece_at(&self, line: usize) -> Piece<'_>
         ensures { result ≡ piece_at line self.now }
     {
-        let Some((cell, lines)) = &self.content else {
-            return Piece::blank(self.info);
-        };
-        match lines.get(line) {
-            Some((columns, text)) => Piece::new(self.table, cell, self.info, columns, text),
+        match self.lines.get(line) {
+            Some((cell, columns, text)) => {
+                Piece::new(self.table, cell, self.info, columns, text)
+            }
             None => Piece::blank(self.info),
         }
     }
@@ -100,13 +97,9 @@ fn drawn_cell<'a>(row: &'a Row, column: &ShownColumn<'a>, table: &'a Table) -> R
         return Ok(DrawnCell {
             table,
             info,
-            content: None,
+            lines: CellLines::Missing,
         });
     };
     let lines = row_cell_lines(table, row, cell, info)?;
-    Ok(DrawnCell {
-        table,
-        info,
-        content: Some((cell, lines)),
-    })
+    Ok(DrawnCell { table, info, lines })
 }

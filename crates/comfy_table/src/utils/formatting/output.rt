@@ -48,6 +48,7 @@ impl Output {
     }
 
     /// Appends a drawn line.
+    #[inline(always)]
     pub fn push_line(&mut self, line: &str) -> Result<()>
         ensures { OnOk result (self.new ≡ with_lines (line.now ∷ []) self.old) }
     {

@@ -1,8 +1,8 @@
 //! A line of a cell as it stands in its column.
 
-ghost use Rattle.std.specs.Prelude.{◌≡◌, ◌+◌, ◌-◌, ◌≤◌, ◌++◌, [], IfOk, None, OnOk, false, option_map, string_bytes};
+ghost use Rattle.std.specs.Prelude.{◌≡◌, ◌+◌, ◌-◌, ◌≤◌, ◌++◌, [], IfOk, None, OnOk, false, string_bytes};
 ghost use Rattle.comfy_parts.specs.Text.{spaces};
-ghost use Rattle.comfy_table.specs.Gaps.{spaced, styled_text};
+ghost use Rattle.comfy_table.specs.Gaps.{spaced};
 ghost use Rattle.comfy_table.specs.Pieces.{blank_piece, cell_alignment, free_before, text_piece};
 ghost use Rattle.comfy_table.specs.Styling.{styled};
 
@@ -89,8 +89,13 @@ impl<'a> Piece<'a> {
     pub fn push(&self, line: &mut String, gap: &Gap, free: usize) -> Result<usize>
         ensures { IfOk result (λ right. string_bytes line.new ++ spaces right ≡ string_bytes line.old ++ (spaces free ++ (gap.now ++ self.now))) }
     {
+        if let Some((cell, beside)) = self.styles {
+            gap.push(line, free, self.left)?;
+            push_styled(line, self.text, cell, beside)?;
+            return Ok(self.right);
+        }
         gap.push(line, free, self.left)?;
-        push_text(line, self.text, self.styles)?;
+        line.push_str(self.text)?;
         Ok(self.right)
     }
 }
@@ -102,17 +107,6 @@ fn has_styles(cell: &Cell) -> bool
     ensures attributes { result ≡ false → cell.now.attributes ≡ [] }
 {
     cell.background().is_some() || cell.foreground().is_some() || !cell.attributes().is_empty()
-}
-
-// Appends a text, in the styles of a cell where there is one.
-fn push_text(line: &mut String, text: &str, styles: Option<(&Cell, (usize, usize))>) -> Result<()>
-    ensures { OnOk result (string_bytes line.new ≡ string_bytes line.old ++ styled_text (option_map (λ s. (s.0.now, s.1)) styles.entry) text.now) }
-{
-    if let Some((cell, beside)) = styles {
-        return push_styled(line, text, cell, beside);
-    }
-    line.push_str(text)?;
-    Ok(())
 }
 
 // Appends a text between spaces, in the styles of a cell. Most tables write none.

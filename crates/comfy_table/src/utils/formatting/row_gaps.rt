@@ -61,6 +61,7 @@ impl RowGaps {
     }
 
     /// Appends a line of these cells. Lines of a row are counted from 0.
+    #[inline(never)]
     pub fn push_line(&self, text: &mut String, cells: &[DrawnCell], line: usize) -> Result<()>
         ensures { OnOk result (string_bytes text.new ≡ string_bytes text.old ++ gap_line self.now (map (piece_at line) cells.now)) }
     {
