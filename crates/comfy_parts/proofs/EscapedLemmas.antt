@@ -1,12 +1,12 @@
 -- Text lines without ESC are visible as they are. Printable ASCII is such a text line.
-use Rattle.std.proofs.Common.{◌≡◌, ◌<◌, ◌||◌, ◌==◌, ℕ, true, false, List, [], ◌∷◌, map, refl, sym, ap, ap₂, ◌∙◌, arith, nat_lt, slice_index, lit<, ◌≢◌, rules}
+use Rattle.std.proofs.Common.{◌≡◌, ◌<◌, ◌||◌, ◌==◌, ℕ, Bool, true, false, List, [], ◌∷◌, map, refl, sym, ap, ap₂, ◌∙◌, arith, nat_lt, slice_index, eqb-true}
 use Rattle.std.specs.Int.{is_in_range}
 use Rattle.std.specs.List.{All, list_all, list_any, slice_split}
-use Rattle.std.proofs.lemmas.Bool.{and_parts, or_parts}
+use Rattle.std.proofs.lemmas.Bool.{and_parts, or_parts, true≢false}
 use Rattle.std.proofs.lemmas.Bool.Decides.{nat_tests}
 use Rattle.std.proofs.lemmas.List.Elements.{All-cons, All-from_get_or, All-nil}
 use Rattle.std.proofs.lemmas.List.Folds.{list_any_none}
-use Rattle.std.proofs.lemmas.Str.Pattern.{NoCharPasses-char}
+use Rattle.std.proofs.lemmas.Str.{NoCharPasses-byte}
 use Rattle.std.specs.Str.{NoCharPasses}
 use Rattle.std.proofs.lemmas.List.Splits.{slice_split_none}
 use Rattle.comfy_parts.proofs.ShownLemmas.{Shows-clear, visible_text-is}
@@ -40,13 +40,18 @@ none_of_control c low (b ∷ bs) none =
     let other : (b == c) ≡ false = grind (arith, nat_tests, low, both.0) in
     ap (λ t. t || list_any (λ x. x == c) bs) other ∙ none_of_control c low bs both.1
 
--- a text in which no character is a line feed has no such byte
-pub none_by_characters : (text : Text) → NoCharPasses (λ c. c == 0x0A) text → list_any (λ b. b == 0x0A) text ≡ false
-none_by_characters text none =
-    list_any_none (λ b. b == 0x0A) text (All-from_get_or (λ b. (b == 0x0A) ≡ false) text 0 (λ i below. other (slice_index text i) (NoCharPasses-char 0x0A text i none (lit< tt) below)))
+-- what fails a test that c passes is not c
+pub unlike : (p : ℕ → Bool) (b c : ℕ) → p c ≡ true → (b ≡ c → p b ≡ false) → (b == c) ≡ false
+unlike p b c passes fails = by_test (b == c) refl
   where
-    other : (b : ℕ) → b ≢ 0x0A → (b == 0x0A) ≡ false
-    other b differs = search (rules, differs)
+    by_test : (same : Bool) → (b == c) ≡ same → same ≡ false
+    by_test false differs = refl
+    by_test true same = let is = eqb-true b c same in absurd (true≢false (sym passes ∙ ap p (sym is) ∙ fails is))
+
+-- a text in which no character passes a test has no byte of seven bits that passes it
+pub none_by_characters : (p : ℕ → Bool) (c : ℕ) → c < 128 → p c ≡ true → (text : Text) → NoCharPasses p text → list_any (λ b. b == c) text ≡ false
+none_by_characters p c seven passes text none =
+    list_any_none (λ b. b == c) text (All-from_get_or (λ b. (b == c) ≡ false) text 0 (λ i below. unlike p (slice_index text i) c passes (λ is. NoCharPasses-byte p text i none below (omega (arith, is, seven)))))
 
 -- what has no line feed is one text line
 pub unbroken_line : (text : Text) → list_any (λ b. b == 0x0A) text ≡ false → slice_split (λ b. b == 0x0A) text ≡ text ∷ []

@@ -249,7 +249,13 @@ AllZip-map_zip R Q f g gives [] (y ∷ ys) each = absurd each
 AllZip-map_zip R Q f g gives (x ∷ xs) [] each = absurd each
 AllZip-map_zip R Q f g gives (x ∷ xs) (y ∷ ys) each = (gives x y each.0, AllZip-map_zip R Q f g gives xs ys each.1)
 
--- what holds of the second of each pair
+-- what holds of the first of each pair
+pub every-first : {A B : Type 0} (P : A → Type 0) (xs : List A) (ys : List B) → AllZip (λ x y. P x) xs ys → AllByRecursion P xs
+every-first P [] ys each = tt
+every-first P (x ∷ xs) [] each = absurd each
+every-first P (x ∷ xs) (y ∷ ys) each = (each.0, every-first P xs ys each.1)
+
+-- and of the second
 pub every-second : {A B : Type 0} (Q : B → Type 0) (xs : List A) (ys : List B) → AllZip (λ x y. Q y) xs ys → AllByRecursion Q ys
 every-second Q [] [] each = tt
 every-second Q [] (y ∷ ys) each = absurd each

@@ -10,15 +10,16 @@ use Rattle.comfy_parts.specs.VisibleText.{closed}
 use Rattle.comfy_table.proofs.KeptDrawingLemmas.{keeps_drawing}
 use Rattle.comfy_table.proofs.MeasuredLemmas.{IsRowOf}
 use Rattle.comfy_table.proofs.StyledLemmas.{KeptByDrawing}
+use Rattle.comfy_table.proofs.TextKindLemmas.{byte_kind, byte_style}
 use Rattle.comfy_table.specs.Drawing.{drawing, infos_of, terminated_text_of, text_of}
 use Rattle.comfy_table.specs.Laws.{HasNoBreak, HasUnbrokenStyle, JoinedLinesAreFound, TerminatedLinesAreFound, unstyled}
 use Rattle.comfy_table.specs.TableValue.{TableValue, measured_rows}
 
 -- texts without a line feed have none as they are drawn, whatever is shown of them
-breaks_kept : KeptByDrawing 0x0A (λ shown text. HasNoBreak text)
+breaks_kept : KeptByDrawing HasNoBreak (λ shown text. HasNoBreak text)
 breaks_kept =
     record {
-      joins = record { seven_bits = omega arith; no_space = refl; of_clear = λ text clear. clear; of_both = λ shown others xs ys. HasNo-append 0x0A xs ys };
+      joins = record { kind = byte_kind 0x0A refl; of_kind = λ text clear. clear; of_both = λ shown others xs ys. HasNo-append 0x0A xs ys };
       of_sequence = sequence_clear;
       of_measured = breaks_are_visible;
       of_closed = λ text clear. breaks_are_visible (closed text) (subst HasNoBreak (sym (visible-closed text)) (HasNo-visible 0x0A text clear));
@@ -28,7 +29,7 @@ breaks_kept =
 pub without_breaks : (table : TableValue) (widths : List ℕ) → All (IsRowOf IsUtf8) (measured_rows table) → All (IsRowOf HasNoBreak) (measured_rows table) → HasUnbrokenStyle table → All HasNoBreak (drawing table widths)
 without_breaks table widths whole clear style =
     All-from_recursion HasNoBreak (drawing table widths)
-    (every-second HasNoBreak (drawing (unstyled table) widths) (drawing table widths) (keeps_drawing 0x0A (λ shown text. HasNoBreak text) breaks_kept table (infos_of table widths) style whole clear))
+    (every-second HasNoBreak (drawing (unstyled table) widths) (drawing table widths) (keeps_drawing HasNoBreak (λ shown text. HasNoBreak text) breaks_kept table (infos_of table widths) style.indicator (byte_style 0x0A table.style (omega arith) style.characters) whole clear))
 
 -- ---- texts of lines
 

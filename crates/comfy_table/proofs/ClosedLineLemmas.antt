@@ -19,6 +19,7 @@ use Rattle.comfy_table.proofs.KeptDrawingLemmas.{IsClearContent, IsClearFrame, I
 use Rattle.comfy_table.proofs.MeasuredLemmas.{IsRowOf, cell_measured, get_measured, row_measured, measured_rows-is}
 use Rattle.comfy_table.proofs.SpaceLemmas.{no_styles, spaces-append}
 use Rattle.comfy_table.proofs.StyledLemmas.{KeptByDrawing, KeptByJoining, keeps_spaces}
+use Rattle.comfy_table.proofs.TextKindLemmas.{byte_kind, byte_style}
 use Rattle.comfy_table.proofs.WrittenLemmas.{keeps_lines, none_is_open_at_the_end}
 use Rattle.comfy_table.specs.Drawing.{drawing, drawn_row, infos_of, whole_widths}
 use Rattle.comfy_table.specs.Frame.{optional_frame_line}
@@ -30,22 +31,22 @@ use Rattle.comfy_table.specs.TableValue.{TableValue, column_cells, header_and_ro
 -- ---- what stays true as texts are drawn and joined
 
 -- texts that nothing continues
-stands_kept : KeptByDrawing 0x1B (λ shown text. StandsAlone text)
+stands_kept : KeptByDrawing HasNoEscape (λ shown text. StandsAlone text)
 stands_kept =
     record {
-      joins = record { seven_bits = omega arith; no_space = refl; of_clear = stands-clear; of_both = λ shown others xs ys. stands-append xs ys };
+      joins = record { kind = byte_kind 0x1B refl; of_kind = stands-clear; of_both = λ shown others xs ys. stands-append xs ys };
       of_sequence = stands-sequence;
       of_measured = stands-visible;
       of_closed = stands-closed;
     }
 
 -- texts that open no sequence
-opens_joined : KeptByJoining 0x1B (λ shown text. OpensNone text)
+opens_joined : KeptByJoining HasNoEscape (λ shown text. OpensNone text)
 opens_joined =
-    record { seven_bits = omega arith; no_space = refl; of_clear = opens-clear; of_both = λ shown others xs ys. opens-append xs ys }
+    record { kind = byte_kind 0x1B refl; of_kind = opens-clear; of_both = λ shown others xs ys. opens-append xs ys }
 
 opens_spaces : (n : ℕ) → OpensNone (spaces n)
-opens_spaces n = keeps_spaces 0x1B (λ shown text. OpensNone text) opens_joined n
+opens_spaces n = keeps_spaces HasNoEscape (λ shown text. OpensNone text) opens_joined n
 
 -- ---- pieces
 
@@ -136,7 +137,7 @@ module _ (table : TableValue) (on : table.custom_styling ≡ true) (mark : HasNo
       by_case (inl some) = λ k default below. inl some
       by_case (inr clear) = λ k default below.
           inr (opens-alone (slice_index_or (row_cell_lines table row info cell) k default).written (none_is_open_at_the_end table row info cell on k default below)
-          (keeps_lines table row info cell 0x1B (λ shown text. StandsAlone text) stands_kept table.custom_styling mark own.whole clear k default below))
+          (keeps_lines table row info cell HasNoEscape (λ shown text. StandsAlone text) stands_kept table.custom_styling mark own.whole clear k default below))
 
   -- so its pieces open no sequence
   opens_pieces : (row : RowValue) (info : ColumnInfo) (cell : CellValue) → IsClosedCell table info cell → All OpensNone (cell_pieces table row info cell)
@@ -162,21 +163,21 @@ module _ (table : TableValue) (on : table.custom_styling ≡ true) (mark : HasNo
         All (λ (p : ℕ × ColumnInfo). (cell : CellValue) → slice_get row.cells p.0 ≡ Some cell → IsClosedCell table p.1 cell) (shown_infos infos)
 
     -- the lines of such a row
-    opens_row : (line : ContentLineStyle) → IsClearContent 0x1B line → (row : RowValue) → IsClosedRow row → All OpensNone (drawn_row table infos line row)
+    opens_row : (line : ContentLineStyle) → IsClearContent HasNoEscape line → (row : RowValue) → IsClosedRow row → All OpensNone (drawn_row table infos line row)
     opens_row line clear row known =
         All-row OpensNone table infos line row
         (λ k.
-        keeps_joined 0x1B (λ shown text. OpensNone text) opens_joined table.style line.left line.junction line.right (row_line table infos row k) (row_line table infos row k) clear.left clear.junction clear.right
+        keeps_joined HasNoEscape (λ shown text. OpensNone text) opens_joined table.style line.left line.junction line.right (row_line table infos row k) (row_line table infos row k) clear.left clear.junction clear.right
         (AllZip-map (λ shown text. OpensNone text) (λ (p : ℕ × ColumnInfo). slice_index_or (pieces_at table row p) k (blank_piece p.1)) (λ (p : ℕ × ColumnInfo). slice_index_or (pieces_at table row p) k (blank_piece p.1)) (shown_infos infos)
         (λ j other below.
         let p : ℕ × ColumnInfo = slice_index_or (shown_infos infos) j other in
         At-or OpensNone (pieces_at table row p) k (blank_piece p.1) (opens_column row p (known j other below)) (opens_spaces (info_width p.1)))))
 
     -- a frame line
-    opens_frame : (line : LineStyle) → IsClearFrame 0x1B line → All OpensNone (optional_frame_line table.style line (whole_widths infos))
+    opens_frame : (line : LineStyle) → IsClearFrame HasNoEscape line → All OpensNone (optional_frame_line table.style line (whole_widths infos))
     opens_frame line clear =
         All-from_recursion OpensNone (optional_frame_line table.style line (whole_widths infos))
-        (every-second OpensNone _ (optional_frame_line table.style line (whole_widths infos)) (frame_kept 0x1B (λ shown text. OpensNone text) opens_joined table.style line (whole_widths infos) clear))
+        (every-second OpensNone _ (optional_frame_line table.style line (whole_widths infos)) (frame_kept HasNoEscape (λ shown text. OpensNone text) opens_joined table.style line (whole_widths infos) clear))
 
 -- ---- tables
 
@@ -201,8 +202,8 @@ lines_are_closed table widths same on alone whole =
     mark : HasNo 0x1B table.indicator
     mark = alone.style.indicator
 
-    style : IsClearStyle 0x1B table.style
-    style = style_clear 0x1B table alone.style
+    style : IsClearStyle HasNoEscape table.style
+    style = style_clear HasNoEscape table.style (byte_style 0x1B table.style (omega arith) alone.style.characters)
 
     Ends : ℕ × ColumnInfo → Type 0
     Ends p = (1 ≤ p.1.padding.1) ⊎ All (λ (cell : CellValue). All HasNoEscape cell.text_lines) (column_cells table p.0)

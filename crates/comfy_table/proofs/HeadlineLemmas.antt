@@ -9,6 +9,7 @@ use Rattle.comfy_parts.proofs.Computing.{wrapping}
 use Rattle.comfy_parts.proofs.CallerLemmas.{All-at, All-every, All-of_map, one_character, wrapped_is_wrapped}
 use Rattle.comfy_table.proofs.BreakLemmas.{without_breaks}
 use Rattle.comfy_table.proofs.ClosedLineLemmas.{lines_are_closed}
+use Rattle.comfy_table.proofs.ControlLemmas.{free_of_escapes, without_controls}
 use Rattle.comfy_table.proofs.MeasuredLemmas.{HasCells, IsRowOf, rows_of, measured_kept}
 use Rattle.comfy_parts.specs.CellValue.{CellValue, ColumnInfo, ColumnValue, IsCell, IsColumn, IsDelimiter, IsRow, RowValue, info_of}
 use Rattle.comfy_parts.specs.Text.{Text, measure}
@@ -26,7 +27,7 @@ use Rattle.comfy_parts.specs.VisibleText.{visible_text}
 use Rattle.comfy_table.proofs.UnstyledLemmas.{unstyled_drawing}
 use Rattle.comfy_table.specs.Drawing.{drawing, drawing_of_infos, infos_of}
 use Rattle.comfy_table.specs.Headline.{EachLineCounts, IsClosedInRow, IsCutClosedInRow, IsResumedInRow, IsCutIntoSlices, IsTableDrawing, IsTextOrSlices}
-use Rattle.comfy_table.specs.Laws.{HasNoBreak, IsFreeOfEscapes, LeavesNoneOpen, count, least_total, line_total, unstyled}
+use Rattle.comfy_table.specs.Laws.{HasNoBreak, HasNoControl, IsFreeOfEscapes, LeavesNoneOpen, count, least_total, line_total, unstyled}
 use Rattle.comfy_table.specs.Pieces.{shown_infos}
 use Rattle.comfy_table.specs.TableLaws.{wider_total}
 use Rattle.comfy_table.specs.TableValue.{KeepsParts, TableValue, ellipsis, header_and_rows, indicator_of, measured_rows}
@@ -100,6 +101,7 @@ table_drawing table infos lines utf8 kept (widths, arranged, is) drawn =
       straight_without_sequences = λ free is. All-of_map (λ text. measure text ≡ line_total table widths) visible_text lines
           (subst (All (λ text. measure text ≡ line_total table widths)) (sym (free_lines free)) (straight table widths utf8 cells arranged is));
       without_breaks = λ style. subst (All HasNoBreak) (sym whole) (without_breaks table widths texts (rows_of HasNoBreak (λ texts own. own.no_breaks) (measured_rows table) rows) style);
+      without_controls = λ free. All-of_map HasNoControl visible_text lines (subst (All HasNoControl) (sym (free_lines (free_of_escapes table free))) (without_controls table widths texts free));
       closed = λ on. All-every (λ (row : RowValue). All (IsClosedInRow table row) (shown_infos (infos_of table widths))) (header_and_rows table)
           (λ row. All-every (IsClosedInRow table row) (shown_infos (infos_of table widths)) (λ p cell is. none_is_open_at_the_end table row p.1 cell on));
       resumed = λ on. All-every (λ (row : RowValue). All (IsResumedInRow table row) (shown_infos (infos_of table widths))) (header_and_rows table)

@@ -6,9 +6,10 @@ use Rattle.std.specs.Prelude.{if◌then◌else◌, codes}
 use Rattle.std.proofs.lemmas.Bool.{and_parts, cond_both}
 use Rattle.std.proofs.lemmas.List.Folds.{list_all-append}
 use Rattle.comfy_parts.specs.CellValue.{CellValue, ColumnInfo}
-use Rattle.comfy_parts.specs.Text.{HasNo, Text, measure, spaces}
+use Rattle.comfy_parts.specs.Text.{Text, measure, spaces}
 use Rattle.comfy_parts.specs.VisibleLines.{CellLine}
 use Rattle.comfy_table.proofs.CutLemmas.{unstyled_piece}
+use Rattle.comfy_table.proofs.TextKindLemmas.{IsKind}
 use Rattle.comfy_parts.specs.VisibleText.{closed, is_parameter, visible_text}
 use Rattle.comfy_parts.specs.declared.style.attribute.Attribute.{Attribute}
 use Rattle.comfy_parts.specs.declared.style.color.Color.{Color}
@@ -19,19 +20,18 @@ use Rattle.comfy_table.specs.TableValue.{TableValue, should_style}
 
 -- ---- what is drawn
 
--- what is told of each text and what is shown of it holds of texts without the byte b, and stays true as texts are joined
-pub record KeptByJoining (b : ℕ) (R : Text → Text → Type 0) : Type 0 where
-  pub seven_bits : b < 128
-  pub no_space : HasNo b (0x20 ∷ [])
-  pub of_clear : (text : Text) → HasNo b text → R text text
+-- what is told of each text and what is shown of it holds of texts of the kind C, and stays true as texts are joined
+pub record KeptByJoining (C : Text → Type 0) (R : Text → Text → Type 0) : Type 0 where
+  pub kind : IsKind C
+  pub of_kind : (text : Text) → C text → R text text
   pub of_both : (shown others xs ys : Text) → R shown xs → R others ys → R (shown ++ others) (xs ++ ys)
 
--- and it stays true as they are drawn, where the byte isn't in what is shown
-pub record KeptByDrawing (b : ℕ) (R : Text → Text → Type 0) : Type 0 where
-  pub joins : KeptByJoining b R
+-- and it stays true as they are drawn, where what is shown is of that kind
+pub record KeptByDrawing (C : Text → Type 0) (R : Text → Text → Type 0) : Type 0 where
+  pub joins : KeptByJoining C R
   pub of_sequence : (code : Text) → list_all is_parameter code ≡ true → R [] (sequence code)
-  pub of_measured : (text : Text) → HasNo b (visible_text text) → R (visible_text text) text
-  pub of_closed : (text : Text) → HasNo b text → R text (closed text)
+  pub of_measured : (text : Text) → C (visible_text text) → R (visible_text text) text
+  pub of_closed : (text : Text) → C text → R text (closed text)
 
 -- ---- codes are parameters
 
@@ -80,29 +80,29 @@ background-parameters color = color_code-parameters color
 
 -- ---- what stays true of joined texts
 
-module _ (b : ℕ) (R : Text → Text → Type 0) (joins : KeptByJoining b R) where
+module _ (C : Text → Type 0) (R : Text → Text → Type 0) (joins : KeptByJoining C R) where
   -- an empty text
   pub keeps_nothing : R [] []
-  keeps_nothing = joins.of_clear [] refl
+  keeps_nothing = joins.of_kind [] joins.kind.nothing
 
   -- spaces
   pub keeps_spaces : (n : ℕ) → R (spaces n) (spaces n)
   keeps_spaces zero = keeps_nothing
   keeps_spaces (suc n) =
-      joins.of_both (0x20 ∷ []) (spaces n) (0x20 ∷ []) (spaces n) (joins.of_clear (0x20 ∷ []) joins.no_space) (keeps_spaces n)
+      joins.of_both (0x20 ∷ []) (spaces n) (0x20 ∷ []) (spaces n) (joins.of_kind (0x20 ∷ []) joins.kind.space) (keeps_spaces n)
 
-module _ (b : ℕ) (R : Text → Text → Type 0) (kept : KeptByDrawing b R) where
+module _ (C : Text → Type 0) (R : Text → Text → Type 0) (kept : KeptByDrawing C R) where
   -- ---- sequences, of which nothing is shown
 
   -- the sequence of a colour
   keeps_optional_sequence : (code : Color → Text) (color : Option Color) → ((c : Color) → list_all is_parameter (code c) ≡ true) → R [] (optional_sequence code color)
-  keeps_optional_sequence code None all = keeps_nothing b R kept.joins
+  keeps_optional_sequence code None all = keeps_nothing C R kept.joins
   keeps_optional_sequence code (Some color) all = kept.of_sequence (code color) (all color)
 
   -- the sequences of attributes
   keeps_attributes : (p : Attribute → Bool) (attributes : List Attribute) → list_all (λ (a : Attribute). list_all is_parameter (attribute_code a)) attributes ≡ true
       → R [] (flat_map (λ (a : Attribute). sequence (attribute_code a)) (filter p attributes))
-  keeps_attributes p [] all = keeps_nothing b R kept.joins
+  keeps_attributes p [] all = keeps_nothing C R kept.joins
   keeps_attributes p (a ∷ more) all =
       let both = and_parts (list_all is_parameter (attribute_code a)) (list_all (λ (b : Attribute). list_all is_parameter (attribute_code b)) more) all in
       let rest = keeps_attributes p more both.1 in
@@ -121,8 +121,8 @@ module _ (b : ℕ) (R : Text → Text → Type 0) (kept : KeptByDrawing b R) whe
   keeps_style_end : (cell : CellValue) → R [] (style_end cell)
   keeps_style_end cell =
       cond_both (length cell.attributes == 0) _ _ (R [])
-      (λ _. kept.joins.of_both [] [] _ _ (cond_both (is_some cell.background) _ [] (R []) (λ _. kept.of_sequence (codes "49") refl) (λ _. keeps_nothing b R kept.joins))
-      (cond_both (is_some cell.foreground) _ [] (R []) (λ _. kept.of_sequence (codes "39") refl) (λ _. keeps_nothing b R kept.joins)))
+      (λ _. kept.joins.of_both [] [] _ _ (cond_both (is_some cell.background) _ [] (R []) (λ _. kept.of_sequence (codes "49") refl) (λ _. keeps_nothing C R kept.joins))
+      (cond_both (is_some cell.foreground) _ [] (R []) (λ _. kept.of_sequence (codes "39") refl) (λ _. keeps_nothing C R kept.joins)))
       (λ _. kept.of_sequence (codes "0") refl)
 
   -- a styled text
@@ -135,7 +135,7 @@ module _ (b : ℕ) (R : Text → Text → Type 0) (kept : KeptByDrawing b R) whe
 
   -- a padded text
   keeps_padded : (cell : CellValue) (info : ColumnInfo) (columns : ℕ) (shown text : Text) → R shown text → R (padded cell info columns shown) (padded cell info columns text)
-  keeps_padded cell info columns shown text own = grind (arith, kept.joins.of_both, keeps_spaces b R kept.joins)
+  keeps_padded cell info columns shown text own = grind (arith, kept.joins.of_both, keeps_spaces C R kept.joins)
 
   -- the piece of a line, and the unstyled piece of what is measured of it
   pub keeps_piece : (table : TableValue) (cell : CellValue) (info : ColumnInfo) (line : CellLine) → R line.measured line.written → R (unstyled_piece cell info line.measured) (piece table cell info line)

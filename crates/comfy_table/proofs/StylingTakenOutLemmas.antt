@@ -8,15 +8,16 @@ use Rattle.comfy_parts.specs.VisibleText.{closed, visible_text}
 use Rattle.comfy_table.proofs.KeptDrawingLemmas.{keeps_drawing}
 use Rattle.comfy_table.proofs.MeasuredLemmas.{IsRowOf}
 use Rattle.comfy_table.proofs.StyledLemmas.{KeptByDrawing}
+use Rattle.comfy_table.proofs.TextKindLemmas.{byte_kind, byte_style}
 use Rattle.comfy_table.specs.Drawing.{drawing, infos_of}
 use Rattle.comfy_table.specs.Laws.{HasNoEscape, IsFreeOfEscapes, unstyled}
 use Rattle.comfy_table.specs.TableValue.{TableValue, measured_rows}
 
 -- what texts without ESC show, they still show as they are drawn
-shows_kept : KeptByDrawing 0x1B Shows
+shows_kept : KeptByDrawing HasNoEscape Shows
 shows_kept =
     record {
-      joins = record { seven_bits = omega arith; no_space = refl; of_clear = Shows-clear; of_both = Shows-append };
+      joins = record { kind = byte_kind 0x1B refl; of_kind = Shows-clear; of_both = Shows-append };
       of_sequence = Shows-sequence;
       of_measured = Shows-visible;
       of_closed = λ text clear.
@@ -35,4 +36,4 @@ visible_texts-are (s ∷ shown) (text ∷ texts) each =
 -- the sequences taken out of the drawn lines, the unstyled lines are left; bytes that are no UTF-8 could be cut so that an ESC arises
 pub styling_taken_out : (table : TableValue) (widths : List ℕ) → All (IsRowOf IsUtf8) (measured_rows table) → IsFreeOfEscapes table → map visible_text (drawing table widths) ≡ drawing (unstyled table) widths
 styling_taken_out table widths whole free =
-    visible_texts-are (drawing (unstyled table) widths) (drawing table widths) (keeps_drawing 0x1B Shows shows_kept table (infos_of table widths) free.style whole free.text_lines)
+    visible_texts-are (drawing (unstyled table) widths) (drawing table widths) (keeps_drawing HasNoEscape Shows shows_kept table (infos_of table widths) free.style.indicator (byte_style 0x1B table.style (omega arith) free.style.characters) whole free.text_lines)

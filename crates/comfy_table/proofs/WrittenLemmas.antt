@@ -10,12 +10,12 @@ use Rattle.std.proofs.lemmas.List.Elements.{All-from_recursion, All-map, All-wea
 use Rattle.comfy_parts.proofs.CallerLemmas.{All-flat_map, All-of_map, AllZip-take, lines_closed, lines_of_text-utf8, lines_resumed, lines_visible, none_open}
 use Rattle.comfy_parts.specs.CellValue.{CellValue, RowValue, ColumnInfo}
 use Rattle.comfy_parts.specs.Laws.{IsResumedLine}
-use Rattle.comfy_parts.specs.Text.{HasNo, Text}
+use Rattle.comfy_parts.specs.Text.{Text}
 use Rattle.comfy_parts.specs.VisibleLines.{CellLine, line_starts, line_texts}
 use Rattle.comfy_parts.specs.VisibleText.{closed, open_after, parts, visible_text}
 use Rattle.comfy_parts.specs.Wrapping.{lines_of_text}
 use Rattle.comfy_table.proofs.CutLemmas.{All-cut, whole-measured}
-use Rattle.comfy_table.proofs.AbsentByteLemmas.{cut_text-clear, lines_of_text-clear}
+use Rattle.comfy_table.proofs.TextKindLemmas.{cut_text-kept, lines-kept}
 use Rattle.comfy_table.proofs.MeasuredLemmas.{cell_measured}
 use Rattle.comfy_table.proofs.StyledLemmas.{KeptByDrawing}
 use Rattle.comfy_table.specs.Laws.{CutLinesAreClosed, LinesAreResumedInRow, NoneIsOpenAtTheEnd}
@@ -92,30 +92,39 @@ module _ (table : TableValue) (row : RowValue) (info : ColumnInfo) (cell : CellV
   of_whole P custom each =
       All-of_map P (λ (line : CellLine). line.measured) (whole_lines custom w d cell) (subst (All P) (sym (whole-measured custom w d cell)) each)
 
-  module _ (b : ℕ) (R : Text → Text → Type 0) (kept : KeptByDrawing b R) where
+  module _ (C : Text → Type 0) (R : Text → Text → Type 0) (kept : KeptByDrawing C R) where
+    -- whole characters of the kind
+    abbrev Own : Text → Type 0
+    Own text = IsUtf8 text × C text
+
+    -- what is measured of the lines is such a text, where the text lines are
+    own_lines : (custom : Bool) → All Own (cell_measured custom cell).text_lines → All Own (cell_lines w d (cell_measured custom cell))
+    own_lines custom own =
+        measured_each Own custom (λ text is k default below. (lines_of_text-utf8 w d text is.0 k default below, lines-kept C kept.joins.kind w d text is.0 is.1 k default below)) own
+
     -- the lines that aren't cut
-    keeps_whole : (custom : Bool) → All (HasNo b) (cell_measured custom cell).text_lines → All (λ (line : CellLine). R line.measured line.written) (whole_lines custom w d cell)
-    keeps_whole true clear =
+    keeps_whole : (custom : Bool) → All Own (cell_measured custom cell).text_lines → All (λ (line : CellLine). R line.measured line.written) (whole_lines custom w d cell)
+    keeps_whole true own =
         λ k default below.
         let line : CellLine = slice_index_or (line_texts w d cell.text_lines) k default in
         let is : visible_text line.written ≡ line.measured = All-from_recursion (λ (line : CellLine). visible_text line.written ≡ line.measured) (line_texts w d cell.text_lines) (lines_visible w d cell.text_lines) k default below in
-        let measured : HasNo b line.measured = of_whole (HasNo b) true (measured_each (HasNo b) true (lines_of_text-clear b w d) clear) k default below in
-        subst (λ s. R s line.written) is (kept.of_measured line.written (subst (HasNo b) (sym is) measured))
-    keeps_whole false clear =
-        All-map (λ (line : CellLine). R line.measured line.written) as_measured (cell_lines w d cell) (All-weaker (HasNo b) (λ line. R line line) kept.joins.of_clear (cell_lines w d cell) (measured_each (HasNo b) false (lines_of_text-clear b w d) clear))
+        let measured : Own line.measured = of_whole Own true (own_lines true own) k default below in
+        subst (λ s. R s line.written) is (kept.of_measured line.written (subst C (sym is) measured.1))
+    keeps_whole false own =
+        All-map (λ (line : CellLine). R line.measured line.written) as_measured (cell_lines w d cell) (All-weaker Own (λ line. R line line) (λ line is. kept.joins.of_kind line is.1) (cell_lines w d cell) (own_lines false own))
 
     -- one that is cut
-    keeps_cut : (custom : Bool) (line : CellLine) → HasNo b (cut_text w table.indicator line.measured) → R (cut_text w table.indicator line.measured) (cut_line custom w table.indicator line).written
-    keeps_cut true line clear = kept.of_closed (cut_text w table.indicator line.measured) clear
-    keeps_cut false line clear = kept.joins.of_clear (cut_text w table.indicator line.measured) clear
+    keeps_cut : (custom : Bool) (line : CellLine) → C (cut_text w table.indicator line.measured) → R (cut_text w table.indicator line.measured) (cut_line custom w table.indicator line).written
+    keeps_cut true line own = kept.of_closed (cut_text w table.indicator line.measured) own
+    keeps_cut false line own = kept.joins.of_kind (cut_text w table.indicator line.measured) own
 
     -- all lines
-    pub keeps_lines : (custom : Bool) → HasNo b table.indicator → All IsUtf8 (cell_measured custom cell).text_lines → All (HasNo b) (cell_measured custom cell).text_lines → All (λ (line : CellLine). R line.measured line.written) (lines_with custom)
+    pub keeps_lines : (custom : Bool) → C table.indicator → All IsUtf8 (cell_measured custom cell).text_lines → All C (cell_measured custom cell).text_lines → All (λ (line : CellLine). R line.measured line.written) (lines_with custom)
     keeps_lines custom mark utf8 clear =
-        All-cut (λ line. R line.measured line.written × (IsUtf8 line.measured × HasNo b line.measured)) (λ line. R line.measured line.written) (cut_line custom w table.indicator) row.max_height (whole_lines custom w d cell)
-        (λ k default below. (
-          keeps_whole custom clear k default below,
-          (of_whole IsUtf8 custom (measured_each IsUtf8 custom (lines_of_text-utf8 w d) utf8) k default below, of_whole (HasNo b) custom (measured_each (HasNo b) custom (lines_of_text-clear b w d) clear) k default below),
-        ))
-        (λ line own. own.0)
-        (λ h limited below line own. keeps_cut custom line (cut_text-clear b w table.indicator line.measured mark own.1.0 own.1.1))
+        All-cut (λ line. R line.measured line.written × Own line.measured) (λ line. R line.measured line.written) (cut_line custom w table.indicator) row.max_height (whole_lines custom w d cell)
+        (λ k default below. (keeps_whole custom own k default below, of_whole Own custom (own_lines custom own) k default below))
+        (λ line is. is.0)
+        (λ h limited below line is. keeps_cut custom line (cut_text-kept C kept.joins.kind w table.indicator line.measured mark is.1.0 is.1.1))
+      where
+        own : All Own (cell_measured custom cell).text_lines
+        own k default below = (utf8 k default below, clear k default below)

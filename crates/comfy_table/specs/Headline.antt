@@ -10,7 +10,7 @@ use Rattle.comfy_table.specs.Arrangement.{IsArranged, room_beside_borders}
 use Rattle.comfy_table.specs.Drawing.{drawing, infos_of, terminated_text_of, text_of, trimmed_text_of, whole_widths}
 use Rattle.comfy_table.specs.Dynamic.{Steps, IsArrangedBy}
 use Rattle.comfy_table.specs.Frame.{frame_line}
-use Rattle.comfy_table.specs.Laws.{CutLinesAreClosed, HasNoBreak, HasSequencesInTextsAlone, HasUnbrokenStyle, IsFreeOfEscapes, IsPrintableTable, LeavesNoneOpen, LinesAreResumedInRow, NoConstraints, NoneIsOpenAtTheEnd, count, least_total, line_total, unstyled}
+use Rattle.comfy_table.specs.Laws.{CutLinesAreClosed, HasNoBreak, HasNoControl, HasSequencesInTextsAlone, HasUnbrokenStyle, IsFreeOfControls, IsFreeOfEscapes, IsPrintableTable, LeavesNoneOpen, LinesAreResumedInRow, NoConstraints, NoneIsOpenAtTheEnd, count, least_total, line_total, unstyled}
 use Rattle.comfy_table.specs.Lines.{cell_delimiter}
 use Rattle.comfy_table.specs.Pieces.{shown_infos}
 use Rattle.comfy_table.specs.Straight.{IsStraightTable}
@@ -76,6 +76,8 @@ pub record IsTableDrawing (table : TableValue) (lines : List Text) : Type 0 wher
   pub straight_without_sequences : IsFreeOfEscapes table → IsStraightTable table widths → All (λ line. measure (visible_text line) ≡ line_total table widths) lines
   -- no line holds a line feed, where neither the style nor the indicator does
   pub without_breaks : HasUnbrokenStyle table → All HasNoBreak lines
+  -- without its sequences no line holds a control character, where no text line as it is measured, no character of the style and no indicator does
+  pub without_controls : IsFreeOfControls table → All (λ line. HasNoControl (visible_text line)) lines
   -- with custom styling no line of a cell leaves a sequence open, lines that aren't cut resume those that are active, and cut lines are closed
   pub closed : table.custom_styling ≡ true → All (λ (row : RowValue). All (IsClosedInRow table row) (shown_infos (infos_of table widths))) (header_and_rows table)
   pub resumed : table.custom_styling ≡ true → All (λ (row : RowValue). All (IsResumedInRow table row) (shown_infos (infos_of table widths))) (header_and_rows table)

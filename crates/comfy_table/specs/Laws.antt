@@ -1,8 +1,9 @@
 -- What drawings and widths promise beyond their definitions. Each is a statement at given values.
 use Rattle.std.specs.Prelude.{◌≡◌, ◌⊎◌, ℕ, ◌+◌, ◌-◌, ◌<◌, ◌≤◌, Bool, true, false, List, [], ◌∷◌, ◌++◌, Option, Some, None, take, drop, length, max, sum, sum_by, All, chars, slice_get, map, IsUtf8, unwrap_or, ◌==◌}
-use Rattle.std.specs.Char.{IsScalar}
+use Rattle.std.specs.Char.{IsScalar, is_control}
 use Rattle.std.specs.Int.{is_in_range}
 use Rattle.std.specs.List.{AllZip, concat, list_any, slice_split}
+use Rattle.std.specs.Str.{NoCharPasses}
 use Rattle.comfy_parts.specs.CellValue.{CellValue, RowValue, ColumnValue, ColumnInfo, column_padding}
 use Rattle.comfy_parts.specs.Columns.{style_characters}
 use Rattle.comfy_parts.specs.Text.{Text, HasNo, is_printable_ascii, AddsOneColumnEach}
@@ -126,6 +127,18 @@ pub record IsFreeOfEscapes (table : TableValue) : Type 0 where
 -- neither a character of the style nor the indicator holds a line feed
 abbrev pub HasUnbrokenStyle : TableValue → Type 0
 HasUnbrokenStyle table = HasStyleWithout 0x0A table
+
+-- ---- control characters
+
+-- no character of the text is a control character
+abbrev pub HasNoControl : Text → Type 0
+HasNoControl text = NoCharPasses is_control text
+
+-- no text line as it is measured, no indicator and no character of the style holds one
+pub record IsFreeOfControls (table : TableValue) : Type 0 where
+  pub text_lines : All (λ (row : RowValue). All (λ (cell : CellValue). All HasNoControl cell.text_lines) row.cells) (measured_rows table)
+  pub indicator : HasNoControl table.indicator
+  pub characters : list_any (λ (c : Option ℕ). is_control (unwrap_or c 0x20)) (style_characters table.style) ≡ false
 
 -- ---- texts of lines
 

@@ -9,7 +9,7 @@ ghost use Rattle.comfy_parts.specs.declared.style.table_style.LineStyle.{LineSty
 ghost use Rattle.comfy_parts.specs.declared.style.table_style.TableStyle.{TableStyle};
 ghost use Rattle.comfy_table.specs.AddedRows.{DrawingIsOne, RowIsAddedBelow, ShownLinesStay};
 ghost use Rattle.comfy_table.specs.FittingTables.{FittingTablesAreStraight};
-ghost use Rattle.comfy_table.specs.Laws.{CellKeepsItsText, DynamicIsOne, FillsWidth, JoinedLinesAreFound, KeepsToWidth, NoLinesAreOneEmptyLine, TerminatedLinesAreFound};
+ghost use Rattle.comfy_table.specs.Laws.{CellKeepsItsText, DynamicIsOne, FillsWidth, IsFreeOfControls, IsFreeOfEscapes, JoinedLinesAreFound, KeepsToWidth, NoLinesAreOneEmptyLine, TerminatedLinesAreFound};
 ghost use Rattle.comfy_table.specs.NewTables.{NewTablesAreStraight, NewTablesLeaveNoneOpen};
 ghost use Rattle.comfy_table.specs.TableLaws.{FillsWiderTotal, FrameCounts, FrameFillsWidth, FrameKeepsToWidth, IsAtMostThreeOver, KeepsToWiderTotal, KeepsToWiderTotalInFull, ShrinkingKeepsCells, TableIsFull, TableIsLevelled, TableKeepsContents, TableLevelIsBest};
 ghost use Rattle.comfy_table.specs.TableValue.{TableValue};
@@ -50,6 +50,12 @@ pub fn lines_are_found_in_their_texts()
     ensures joined { (lines : List Text) → JoinedLinesAreFound lines }
     ensures none { NoLinesAreOneEmptyLine }
     ensures terminated { (lines : List Text) → TerminatedLinesAreFound lines }
+{}
+
+/// ESC is a control character: a table without these has none. So its lines without their sequences are its drawing without
+/// styling (field `without_sequences` of `IsTableDrawing`).
+pub fn tables_without_controls_have_no_escape()
+    ensures { (table : TableValue) → IsFreeOfControls table → IsFreeOfEscapes table }
 {}
 
 /// A drawn table is straight, as `IsTableDrawing` asks for equally wide lines, where each character of each text fits its

@@ -1,4 +1,4 @@
-use Rattle.std.proofs.Common.{◌≡◌, arith, false, List, ℕ, ap, sym, ◌∙◌, nat_lt}
+use Rattle.std.proofs.Common.{◌≡◌, ◌==◌, arith, false, List, ℕ, ap, sym, ◌∙◌, lit<, nat_lt, refl}
 use Rattle.std.specs.List.{list_any}
 use Rattle.comfy_parts.proofs.EscapedLemmas.{none_by_characters, none_of_control}
 use Rattle.comfy_parts.proofs.cell.text_lines.is_clear_line.Goals as goal
@@ -15,4 +15,4 @@ returns-then-not-has_control-clause-clear c =
     λ _. none_of_control 0x1B (omega arith) c.args.text.now none
 
 pub returns-then-not-contains-clause-unbroken : goal.returns-then-not-contains-clause-unbroken
-returns-then-not-contains-clause-unbroken c = λ _. none_by_characters c.args.text.now c.if-not-contains.ensures.cases
+returns-then-not-contains-clause-unbroken c = λ _. none_by_characters (λ c. c == 0x0A) 0x0A (lit< tt) refl c.args.text.now c.if-not-contains.ensures.cases

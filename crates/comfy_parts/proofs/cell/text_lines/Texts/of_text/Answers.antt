@@ -1,4 +1,4 @@
-use Rattle.std.proofs.Common.{◌≡◌, ◌==◌, ◌∙◌, ap, arith, false, List, ℕ, lit<, string_bytes, subst, sym}
+use Rattle.std.proofs.Common.{◌≡◌, ◌==◌, ◌∙◌, ap, arith, false, List, ℕ, lit<, refl, string_bytes, subst, sym}
 use Rattle.std.proofs.lemmas.Grind.{common_steps}
 use Rattle.std.proofs.lemmas.Iterator.Consumers.{YieldsList-end}
 use Rattle.std.proofs.lemmas.Iterator.Splits.{YieldsList-from_str_split}
@@ -10,7 +10,7 @@ use Rattle.comfy_parts.proofs.cell.text_lines.Texts.of_text.Goals as goal
 pub returns-then-not-contains-clause-texts : goal.returns-then-not-contains-clause-texts
 returns-then-not-contains-clause-texts c =
     let text = string_bytes c.args.text in
-    let none : list_any (λ b. b == 0x0A) text ≡ false = subst (λ (text : List ℕ). list_any (λ b. b == 0x0A) text ≡ false) c.deref.ensures (none_by_characters c.deref.result.now c.if-not-contains.ensures.cases) in
+    let none : list_any (λ b. b == 0x0A) text ≡ false = subst (λ (text : List ℕ). list_any (λ b. b == 0x0A) text ≡ false) c.deref.ensures (none_by_characters (λ c. c == 0x0A) 0x0A (lit< tt) refl c.deref.result.now c.if-not-contains.ensures.cases) in
     c.one.ensures.texts ∙ sym (unbroken_line text none)
 
 pub loop-line-preserved : goal.loop-line-preserved
