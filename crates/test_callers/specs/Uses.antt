@@ -26,6 +26,10 @@ HasFrameOf n table lines =
 abbrev pub table_within : ℕ → RowValue → RowValue → TableValue
 table_within w header row = with_row row (with_header header (record (new_table ascii_full) { set_width = Some w; arrangement = Dynamic }))
 
+-- a new table of a header and a row
+abbrev pub table_of_two : RowValue → RowValue → TableValue
+table_of_two header row = with_row row (with_header header (new_table ascii_full))
+
 -- no line of the text has more than w characters, where the table is plain and w is enough for it
 abbrev pub IsPrintedWithin : ℕ → TableValue → Text → Type 0
 IsPrintedWithin w table text =

@@ -5,12 +5,15 @@ ghost use Rattle.std.specs.List.{list_any, slice_split};
 ghost use Rattle.comfy_parts.specs.Text.{measure};
 ghost use Rattle.comfy_parts.specs.VisibleLines.{line_texts};
 ghost use Rattle.comfy_parts.specs.VisibleText.{closed, has_escape, visible_text};
-ghost use Rattle.comfy_table.specs.Laws.{CutLinesAreClosed, IsFreeOfEscapes, LeavesNoneOpen, LinesAreResumedInRow, NoneIsOpenAtTheEnd};
-ghost use Rattle.test_callers.specs.Uses.{IsDrawnWithCells, IsUnstyledDrawing};
+ghost use Rattle.comfy_table.specs.Laws.{CutLinesAreClosed, HasNoControl, IsFreeOfControls, IsFreeOfEscapes, LeavesNoneOpen, LinesAreResumedInRow, NoneIsOpenAtTheEnd};
+ghost use Rattle.test_callers.specs.Uses.{IsDrawnWithCells, IsUnstyledDrawing, table_of_two};
 
 use comfy_parts::content_split::leaves_sequence_open;
 use comfy_parts::for_tables::{has_escape, measured_lines, written_lines};
-use comfy_table::laws::{lines_are_found_in_their_texts, new_tables_leave_no_sequence_open};
+use comfy_table::laws::{
+    lines_are_found_in_their_texts, new_tables_leave_no_sequence_open,
+    tables_without_controls_have_no_escape,
+};
 use comfy_table::utils::formatting::content_split::ColumnDisplayInfo;
 use comfy_table::{Cell, Lines, Result, Row, Table};
 use std::alloc::Global;
@@ -38,6 +41,18 @@ pub fn printed_closed(alloc: Global, header: Row, row: Row) -> Result<String>
     lines_are_found_in_their_texts();
     let mut table = Table::new(alloc);
     table.custom_styling().set_header(header)?.add_row(row)?;
+    table.to_terminated_text()
+}
+
+/// A header and a row as a program prints them. Where their texts hold no control character, the text has none but its line
+/// feeds.
+pub fn printed_without_controls(alloc: Global, header: Row, row: Row) -> Result<String>
+    ensures { IfOk result (λ text. IsFreeOfControls (table_of_two header row) → All HasNoControl (slice_split (λ b. b == 10) (string_bytes text))) }
+{
+    tables_without_controls_have_no_escape();
+    lines_are_found_in_their_texts();
+    let mut table = Table::new(alloc);
+    table.set_header(header)?.add_row(row)?;
     table.to_terminated_text()
 }
 
