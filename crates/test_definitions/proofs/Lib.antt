@@ -1,6 +1,7 @@
 mod AddedRowTrials
 mod ArgumentTrials
 mod ClosedLineTrials
+mod ControlTrials
 mod DrawingTrials
 mod InputTrials
 mod OutcomeTrials

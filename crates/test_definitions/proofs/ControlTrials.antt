@@ -1,0 +1,73 @@
+-- Control characters in texts and tables, computed.
+use Rattle.std.proofs.Common.{ℕ, List, [], ◌∷◌, refl, subst, sym, true}
+use Rattle.std.specs.Char.{is_control}
+use Rattle.std.specs.List.{All}
+use Rattle.std.specs.Prelude.{Some, codes, encode_utf8_all}
+use Rattle.std.specs.Str.{NonePass}
+use Rattle.std.proofs.lemmas.Bool.{true≢false}
+use Rattle.std.proofs.lemmas.List.Elements.{All-cons, All-nil}
+use Rattle.std.proofs.lemmas.Str.{encodes_same}
+use Rattle.comfy_parts.proofs.Computing.{wrapping}
+use Rattle.comfy_parts.specs.CellValue.{CellValue, RowValue}
+use Rattle.comfy_parts.specs.Presets.{ascii_full}
+use Rattle.comfy_parts.specs.Text.{Text}
+use Rattle.comfy_parts.specs.VisibleText.{visible_text}
+use Rattle.comfy_table.specs.Laws.{HasNoControl, IsFreeOfControls}
+use Rattle.comfy_table.specs.TableValue.{TableValue}
+use Rattle.test_definitions.proofs.TrialTables.{row_of, rows_of, utf8}
+
+-- a text of these characters is a text of no others
+holds_one : (cs : List ℕ) → (NonePass is_control cs → ⊥) → ¬ (HasNoControl (encode_utf8_all cs))
+holds_one cs found none = found (subst (NonePass is_control) (encodes_same none.0 cs none.1) none.2)
+
+tab_is_one : ¬ (HasNoControl (utf8 "a\t"))
+tab_is_one = holds_one (codes "a\t") (λ none. true≢false none.1.0)
+
+delete_is_one : ¬ (HasNoControl (utf8 "\u{7f}"))
+delete_is_one = holds_one (codes "\u{7f}") (λ none. true≢false none.0)
+
+-- so is the character that some terminals take for ESC and `[`, though it is two bytes
+c1_is_one : ¬ (HasNoControl (utf8 "\u{9b}1m"))
+c1_is_one = holds_one (codes "\u{9b}1m") (λ none. true≢false none.0)
+
+-- the no-break space follows the last of them
+no_break_space_is_none : HasNoControl (utf8 "~\u{a0}…")
+no_break_space_is_none = (codes "~\u{a0}…", refl, (refl, (refl, (refl, tt))))
+
+-- ---- sequences
+
+colours_are_taken_out : HasNoControl (visible_text (codes "\u{1b}[1ma\u{1b}[0m"))
+unfolding wrapping
+colours_are_taken_out = (codes "a", refl, (refl, tt))
+
+-- no other sequence is
+clearing_stays : ¬ (HasNoControl (visible_text (codes "\u{1b}[2J")))
+unfolding wrapping
+clearing_stays = holds_one (codes "\u{1b}[2J") (λ none. true≢false none.0)
+
+-- ---- tables
+
+abbrev plain : TableValue
+plain = rows_of ascii_full (("a" ∷ []) ∷ [])
+
+abbrev HasNoneInCells : RowValue → Type 0
+HasNoneInCells row = All (λ (cell : CellValue). All HasNoControl cell.text_lines) row.cells
+
+plain_is_free : IsFreeOfControls plain
+unfolding wrapping
+plain_is_free =
+    record {
+      text_lines = All-cons HasNoneInCells (row_of ("a" ∷ [])) []
+          (All-cons (λ (cell : CellValue). All HasNoControl cell.text_lines) _ [] (All-cons HasNoControl (codes "a") [] (codes "a", refl, (refl, tt)) (All-nil HasNoControl)) (All-nil (λ (cell : CellValue). All HasNoControl cell.text_lines)))
+          (All-nil HasNoneInCells);
+      indicator = (0x2026 ∷ [], refl, (refl, tt));
+      characters = refl;
+    }
+
+-- a style that fills with TABs isn't
+abbrev with_tabs : TableValue
+with_tabs = record plain { style = record ascii_full { top_border = record ascii_full.top_border { fill = Some 0x09 } } }
+
+tabs_are_not : ¬ (IsFreeOfControls with_tabs)
+unfolding wrapping
+tabs_are_not free = true≢false free.characters
