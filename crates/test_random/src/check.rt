@@ -1,5 +1,6 @@
 //! What can be said of a drawing from outside.
 
+use crate::controls::has_stray_control;
 use crate::drawing::Drawing;
 use crate::kept::Reader;
 use crate::sample::Sample;
@@ -58,6 +59,9 @@ fn fault_of_texts(
     }
     if !shown_lines_stay(&sample.table)? {
         return Ok(Some("a further row changes lines above it"));
+    }
+    if !sample.has_own_indicator && has_stray_control(alloc, &sample.table)? {
+        return Ok(Some("a line has a control character of no text"));
     }
     if drawing.leaves_open {
         return Ok(Some("a sequence is left open"));

@@ -6,6 +6,7 @@
 
 mod check;
 mod contents;
+mod controls;
 mod drawing;
 mod kept;
 mod sample;
