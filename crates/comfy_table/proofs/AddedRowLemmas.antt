@@ -1,15 +1,12 @@
 -- A row that is added at the end of a table: what was drawn stays above the bottom border, where no column gets wider.
-use Rattle.std.proofs.Common.{◌≡◌, ◌≤◌, ℕ, ◌-◌, ◌+◌, List, [], ◌∷◌, ◌++◌, Option, Some, None, length, map, max, nat_lt, arith, refl, sym, ap, ap₂, ◌∙◌, subst, append-nil, append_assoc, slice_index_or}
+use Rattle.std.proofs.Common.{◌≡◌, ◌≤◌, ℕ, ◌-◌, List, [], ◌∷◌, ◌++◌, Option, Some, None, length, map, max, nat_lt, arith, refl, sym, ap, ap₂, ◌∙◌, subst, append-nil, append_assoc, slice_index_or}
 use Rattle.std.specs.List.{join_by, range_with_len, slice_get}
-use Rattle.std.specs.Prelude.{MatchOption, if◌then◌else◌, option_and_then, option_map, unwrap_or}
+use Rattle.std.specs.Prelude.{MatchOption, if◌then◌else◌, option_and_then, unwrap_or}
 use Rattle.std.proofs.lemmas.List.{map-append}
-use Rattle.comfy_parts.specs.CellValue.{CellValue, ColumnInfo, ColumnValue, RowValue, column_padding, columns_grown_to, new_column}
+use Rattle.comfy_parts.specs.CellValue.{CellValue, ColumnInfo, ColumnValue, RowValue, column_padding, new_column}
 use Rattle.comfy_parts.specs.Text.{Text, greatest}
-use Rattle.comfy_parts.specs.declared.style.column.ColumnConstraint.{ColumnConstraint}
-use Rattle.comfy_parts.specs.declared.style.column.ColumnConstraint.TheVariants as constraint
-use Rattle.comfy_parts.specs.declared.style.column.Width.{Width}
-use Rattle.comfy_parts.specs.declared.style.column.Width.TheVariants.{Fixed, Percentage}
 use Rattle.comfy_parts.specs.declared.style.table_style.ContentLineStyle.{ContentLineStyle}
+use Rattle.comfy_table.proofs.BoundaryLemmas.{fixed_same, upper_same}
 use Rattle.comfy_table.proofs.ColumnCellLemmas.{greatest-append, greatest_measured, of_measured}
 use Rattle.comfy_parts.proofs.CallerLemmas.{join_by_push}
 use Rattle.comfy_table.proofs.OneDrawingLemmas.{arranged_is_one}
@@ -18,9 +15,9 @@ use Rattle.comfy_table.specs.Arrangement.{IsArranged, hidden_columns, is_full_wi
 use Rattle.comfy_table.specs.Drawing.{drawing, drawing_of_infos, drawn_header, drawn_row, drawn_rows, infos_of, whole_widths}
 use Rattle.comfy_table.specs.Dynamic.{IsDynamic}
 use Rattle.comfy_table.specs.Frame.{content_line, optional_frame_line}
-use Rattle.comfy_table.specs.Pieces.{blank_piece, pieces_at, pieces_of_optional, shown_infos}
+use Rattle.comfy_table.specs.Pieces.{blank_piece, pieces_of_optional, shown_infos}
 use Rattle.comfy_table.specs.TableValue.{TableValue, cell_content_width, cells_at, cells_with_header, column_content_width, measured_cell, shown_columns, table_width, with_row}
-use Rattle.comfy_table.specs.Widths.{capped_content, disabled_width, fixed_by_boundary, fixed_by_constraint, resolved_width, shown_count, shown_needs, upper_boundary, without_padding}
+use Rattle.comfy_table.specs.Widths.{capped_content, disabled_width, fixed_by_constraint, shown_count, shown_needs, upper_boundary}
 
 module _ (table : TableValue) (row : RowValue) where
   -- the table with the row, and no further column
@@ -119,35 +116,13 @@ module _ (table : TableValue) (row : RowValue) where
         known : column_content_width table i ≡ max header (greatest (map own (cells_at table.rows i)))
         known = greatest_measured table cell_content_width i
 
-    resolved_same : (n : ℕ) (width : Width) → resolved_width longer n width ≡ resolved_width table n width
-    resolved_same n (Fixed x) = refl
-    resolved_same n (Percentage p) = refl
-
     disabled_same : (p : ℕ × ColumnValue) → disabled_width longer p ≡ disabled_width table p
     disabled_same p =
-        ap (λ content. unwrap_or (fixed_by_constraint longer n content padding p.1.constraint) (capped_content content padding (upper_boundary longer n p.1.constraint))) (content_same p.0) ∙ by_constraint p.1.constraint
-      where
-        n : ℕ
-        n = shown_count table
-
-        padding : ℕ
-        padding = column_padding p.1
-
-        content : ℕ
-        content = column_content_width table p.0
-
-        of_table : TableValue → Option ColumnConstraint → ℕ
-        of_table t o = unwrap_or (fixed_by_constraint t n content padding o) (capped_content content padding (upper_boundary t n o))
-
-        by_constraint : (o : Option ColumnConstraint) → of_table longer o ≡ of_table table o
-        by_constraint None = refl
-        by_constraint (Some constraint.Hidden) = refl
-        by_constraint (Some constraint.ContentWidth) = refl
-        by_constraint (Some (constraint.Absolute w)) = ap (λ (r : Option ℕ). unwrap_or (option_map (without_padding padding) r) (capped_content content padding None)) (resolved_same n w)
-        by_constraint (Some (constraint.LowerBoundary w)) = ap (λ (r : Option ℕ). unwrap_or (fixed_by_boundary content padding r) (capped_content content padding None)) (resolved_same n w)
-        by_constraint (Some (constraint.UpperBoundary w)) = ap (λ (r : Option ℕ). unwrap_or (fixed_by_boundary content padding None) (capped_content content padding r)) (resolved_same n w)
-        by_constraint (Some (constraint.Boundaries lower upper)) =
-            ap₂ (λ (l u : Option ℕ). unwrap_or (fixed_by_boundary content padding l) (capped_content content padding u)) (resolved_same n lower) (resolved_same n upper)
+        let n = shown_count table in
+        let padding = column_padding p.1 in
+        ap (λ content. unwrap_or (fixed_by_constraint longer n content padding p.1.constraint) (capped_content content padding (upper_boundary longer n p.1.constraint))) (content_same p.0)
+        ∙ ap₂ (λ (fixed upper : Option ℕ). unwrap_or fixed (capped_content (column_content_width table p.0) padding upper))
+        (fixed_same longer table refl refl n (column_content_width table p.0) padding p.1.constraint) (upper_same longer table refl refl n p.1.constraint)
 
     -- where no width is kept, no column's width changes
     widths_stay : (widths : List ℕ) → width_kept table.arrangement (table_width table) ≡ None → IsArranged table widths → IsArranged longer widths

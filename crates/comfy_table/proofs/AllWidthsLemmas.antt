@@ -38,15 +38,15 @@ abbrev passing : (ColumnValue → Bool) → ℕ → List ColumnValue → List (�
 passing test at columns = filter (λ (p : ℕ × ColumnValue). test p.1) (enumerate_from at columns)
 
 -- from a position on, numbers are these
-abbrev AreFrom : List ℕ → ℕ → List ℕ → Type 0
+abbrev pub AreFrom : List ℕ → ℕ → List ℕ → Type 0
 AreFrom all at numbers = (i : ℕ) → slice_index all (at + i) ≡ slice_index numbers i
 
 -- the first of them
-first_from : (all : List ℕ) (at x : ℕ) (numbers : List ℕ) → AreFrom all at (x ∷ numbers) → slice_index all at ≡ x
+pub first_from : (all : List ℕ) (at x : ℕ) (numbers : List ℕ) → AreFrom all at (x ∷ numbers) → slice_index all at ≡ x
 first_from all at x numbers each = let moved : at ≡ at + 0 = omega arith in ap (slice_index all) moved ∙ each 0
 
 -- and those after it
-behind_first : (all : List ℕ) (at x : ℕ) (numbers : List ℕ) → AreFrom all at (x ∷ numbers) → AreFrom all (at + 1) numbers
+pub behind_first : (all : List ℕ) (at x : ℕ) (numbers : List ℕ) → AreFrom all at (x ∷ numbers) → AreFrom all (at + 1) numbers
 behind_first all at x numbers each i = let moved : at + 1 + i ≡ at + suc i = omega arith in ap (slice_index all) moved ∙ each (suc i)
 
 -- the hidden columns have their contents' widths
@@ -99,7 +99,7 @@ shown_given table all widths at (column ∷ columns) each enough =
 -- ---- a dynamic arrangement
 
 -- from the first position on a list is itself
-from_start : (all : List ℕ) → AreFrom all 0 all
+pub from_start : (all : List ℕ) → AreFrom all 0 all
 from_start all i = let moved : 0 + i ≡ i = omega arith in ap (slice_index all) moved
 
 -- where a width is kept, the dynamic widths are the table's

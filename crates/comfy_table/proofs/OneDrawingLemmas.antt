@@ -9,15 +9,13 @@ use Rattle.comfy_table.specs.AddedRows.{DrawingIsOne}
 use Rattle.comfy_table.specs.Arrangement.{IsArranged, is_full_width, room_beside_borders, widths_at, width_kept}
 use Rattle.comfy_table.specs.Drawing.{drawing}
 use Rattle.comfy_table.specs.Dynamic.{IsDynamic}
+use Rattle.comfy_table.specs.HiddenColumns.{is_shown}
 use Rattle.comfy_table.specs.TableValue.{TableValue, shown_columns, table_width}
 use Rattle.comfy_table.specs.Widths.{disabled_width, shown_needs}
 
 -- the columns from a position on that pass a test
 abbrev passing : (ColumnValue → Bool) → ℕ → List ColumnValue → List (ℕ × ColumnValue)
 passing test at columns = filter (λ (p : ℕ × ColumnValue). test p.1) (enumerate_from at columns)
-
-abbrev is_shown : ColumnValue → Bool
-is_shown column = not (is_hidden_column column)
 
 -- numbers that are the same at hidden columns and at shown ones are the same at the first column, and at later ones
 parts : (ws vs : List ℕ) (at : ℕ) (column : ColumnValue) (hidden shown : List (ℕ × ColumnValue)) (b : Bool)

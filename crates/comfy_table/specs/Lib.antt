@@ -13,6 +13,7 @@ pub mod FittingTables
 pub mod Frame
 pub mod Gaps
 pub mod Headline
+pub mod HiddenColumns
 pub mod Laws
 pub mod Levels
 pub mod Lines

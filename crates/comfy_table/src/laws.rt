@@ -9,6 +9,7 @@ ghost use Rattle.comfy_parts.specs.declared.style.table_style.LineStyle.{LineSty
 ghost use Rattle.comfy_parts.specs.declared.style.table_style.TableStyle.{TableStyle};
 ghost use Rattle.comfy_table.specs.AddedRows.{DrawingIsOne, RowIsAddedBelow, ShownLinesStay};
 ghost use Rattle.comfy_table.specs.FittingTables.{FittingTablesAreStraight};
+ghost use Rattle.comfy_table.specs.HiddenColumns.{HiddenColumnsTellNothing, IsDrawnWithoutHidden};
 ghost use Rattle.comfy_table.specs.Laws.{CellKeepsItsText, DynamicIsOne, FillsWidth, IsFreeOfControls, IsFreeOfEscapes, JoinedLinesAreFound, KeepsToWidth, NoLinesAreOneEmptyLine, TerminatedLinesAreFound};
 ghost use Rattle.comfy_table.specs.NewTables.{NewTablesAreStraight, NewTablesLeaveNoneOpen};
 ghost use Rattle.comfy_table.specs.TableLaws.{FillsWiderTotal, FrameCounts, FrameFillsWidth, FrameKeepsToWidth, IsAtMostThreeOver, KeepsToWiderTotal, KeepsToWiderTotalInFull, ShrinkingKeepsCells, TableIsFull, TableIsLevelled, TableKeepsContents, TableLevelIsBest};
@@ -149,4 +150,11 @@ pub fn drawings_are_one()
 pub fn shown_lines_stay()
     ensures same_widths { (table : TableValue) (row : RowValue) (widths : List ℕ) → RowIsAddedBelow table row widths }
     ensures by_content { (table : TableValue) (row : RowValue) (lines others : List Text) → ShownLinesStay table row lines others }
+{}
+
+/// Hidden columns tell nothing. A table has the drawing that it has without them and their cells, so tables that differ
+/// only in these have the same lines.
+pub fn hidden_columns_tell_nothing()
+    ensures removed { (table : TableValue) (lines : List Text) → IsDrawnWithoutHidden table lines }
+    ensures same { (table other : TableValue) (lines others : List Text) → HiddenColumnsTellNothing table other lines others }
 {}

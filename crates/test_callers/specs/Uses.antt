@@ -6,6 +6,7 @@ use Rattle.comfy_parts.specs.Laws.{characters_without}
 use Rattle.comfy_parts.specs.Presets.{ascii_full}
 use Rattle.comfy_parts.specs.Text.{Text}
 use Rattle.comfy_parts.specs.VisibleLines.{CellLine}
+use Rattle.comfy_parts.specs.declared.style.column.ColumnConstraint.TheVariants.{Hidden}
 use Rattle.comfy_parts.specs.declared.style.table.ContentArrangement.TheVariants.{Dynamic}
 use Rattle.comfy_parts.specs.declared.style.table_style.LineStyle.{LineStyle}
 use Rattle.comfy_table.specs.Drawing.{drawing, infos_of, whole_widths}
@@ -13,7 +14,7 @@ use Rattle.comfy_table.specs.Frame.{frame_line}
 use Rattle.comfy_table.specs.Laws.{FillsWidth, IsPrintableTable, KeepsToWidth, NoConstraints, count, least_total, unstyled}
 use Rattle.comfy_table.specs.Pieces.{row_cell_lines, shown_infos}
 use Rattle.comfy_table.specs.TableLaws.{FillsWiderTotal, FrameCounts, FrameFillsWidth, FrameKeepsToWidth, IsAtMostThreeOver, KeepsToWiderTotal, KeepsToWiderTotalInFull, TableIsFull, TableIsLevelled, TableKeepsContents, TableLevelIsBest}
-use Rattle.comfy_table.specs.TableValue.{TableValue, header_and_rows, new_table, with_header, with_row}
+use Rattle.comfy_table.specs.TableValue.{TableValue, constrained, header_and_rows, new_table, with_header, with_row}
 use Rattle.test_callers.specs.declared.uses.items.NumberRows.{NumberRows}
 
 -- the lines are a drawing of the table in which each frame line has n characters
@@ -34,6 +35,12 @@ table_of_two header row = with_row row (with_header header (new_table ascii_full
 abbrev pub IsPrintedWithin : ℕ → TableValue → Text → Type 0
 IsPrintedWithin w table text =
     NoConstraints table → ((widths : List ℕ) → IsPrintableTable table widths) → least_total table ≤ w → All (λ line. count line ≤ w) (slice_split (λ b. b == 0x0A) text)
+
+-- a table of two texts, of which the first one is hidden
+abbrev pub with_hidden : Text → Text → TableValue
+with_hidden hidden text =
+    let table : TableValue = with_row (plain_row (plain_cell hidden ∷ plain_cell text ∷ [])) (new_table ascii_full) in
+    record table { columns = constrained (Hidden ∷ []) table.columns }
 
 -- a table of one text that keeps to a width
 abbrev pub text_within : ℕ → Text → TableValue

@@ -3,6 +3,7 @@ mod ArgumentTrials
 mod ClosedLineTrials
 mod ControlTrials
 mod DrawingTrials
+mod HiddenColumnTrials
 mod InputTrials
 mod OutcomeTrials
 mod PremiseTrials

@@ -2,6 +2,7 @@
 
 use crate::controls::has_stray_control;
 use crate::drawing::Drawing;
+use crate::hidden;
 use crate::kept::Reader;
 use crate::sample::Sample;
 use crate::stays::shown_lines_stay;
@@ -15,6 +16,9 @@ pub fn fault_of(alloc: Global, sample: &Sample) -> Result<Option<&'static str>> 
     let fault = fault_of_counts(sample, &drawing);
     if fault.is_some() {
         return Ok(fault);
+    }
+    if !hidden::tell_nothing(alloc, &sample.table)? {
+        return Ok(Some("a hidden column changes the lines"));
     }
     fault_of_texts(alloc, sample, &drawing)
 }

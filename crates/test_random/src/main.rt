@@ -8,6 +8,7 @@ mod check;
 mod contents;
 mod controls;
 mod drawing;
+mod hidden;
 mod kept;
 mod sample;
 mod scan;

@@ -5,15 +5,17 @@ ghost use Rattle.comfy_parts.specs.CellValue.{new_column, shown_among};
 ghost use Rattle.comfy_parts.specs.declared.style.cell.CellAlignment.TheVariants.{Right};
 ghost use Rattle.comfy_parts.specs.declared.style.column.ColumnConstraint.TheVariants.{Absolute, Hidden};
 ghost use Rattle.comfy_parts.specs.declared.style.column.Width.TheVariants.{Fixed};
+ghost use Rattle.comfy_table.specs.Arrangement.{IsDrawingOf};
 ghost use Rattle.comfy_table.specs.TableValue.{AllCellsHaveColumns, cells_by_row, constrained, discovered, with_header};
+ghost use Rattle.test_callers.specs.Uses.{with_hidden};
 
-use comfy_table::laws::columns_only_grow;
+use comfy_table::laws::{columns_only_grow, hidden_columns_tell_nothing};
 use comfy_table::utils::arrangement::constraint::{absolute_value_from_width, max, min};
 use comfy_table::utils::arrangement::helper::{
     absolute_width_with_padding, count_border_columns, count_visible_columns, delimiter,
 };
 use comfy_table::{
-    Cell, CellAlignment, Column, ColumnConstraint, Result, Row, Table, TableStyle, Width,
+    Cell, CellAlignment, Column, ColumnConstraint, Lines, Result, Row, Table, TableStyle, Width,
 };
 use std::alloc::Global;
 
@@ -47,6 +49,31 @@ pub fn hide_first(table: &mut Table)
     ensures { table.new ≡ record table.old { columns = constrained (Hidden ∷ []) table.old.columns } }
 {
     table.set_constraints([ColumnConstraint::Hidden]);
+}
+
+/// The drawing of a text beside a hidden one.
+pub fn drawn_with_hidden(alloc: Global, hidden: &str, text: &str) -> Result<Lines>
+    ensures { IfOk result (λ lines. IsDrawingOf (with_hidden hidden.now text.now) lines) }
+{
+    let mut table = Table::new(alloc);
+    table.add_row([hidden, text])?;
+    hide_first(&mut table);
+    table.lines()
+}
+
+/// The drawings of a text beside one hidden text and beside another: the same lines, whatever these are.
+pub fn drawn_with_either_hidden(
+    alloc: Global,
+    hidden: &str,
+    other: &str,
+    text: &str,
+) -> Result<(Lines, Lines)>
+    ensures { IfOk result (λ drawn. drawn.0 ≡ drawn.1) }
+{
+    let first = drawn_with_hidden(alloc, hidden, text)?;
+    let second = drawn_with_hidden(alloc, other, text)?;
+    hidden_columns_tell_nothing();
+    Ok((first, second))
 }
 
 /// How many cells a column has or lacks, without its header.
