@@ -2,7 +2,7 @@
 
 use crate::controls::has_stray_control;
 use crate::drawing::Drawing;
-use crate::hidden;
+use crate::hidden::hidden_columns_tell_nothing;
 use crate::kept::Reader;
 use crate::sample::Sample;
 use crate::stays::shown_lines_stay;
@@ -16,9 +16,6 @@ pub fn fault_of(alloc: Global, sample: &Sample) -> Result<Option<&'static str>> 
     let fault = fault_of_counts(sample, &drawing);
     if fault.is_some() {
         return Ok(fault);
-    }
-    if !hidden::tell_nothing(alloc, &sample.table)? {
-        return Ok(Some("a hidden column changes the lines"));
     }
     fault_of_texts(alloc, sample, &drawing)
 }
@@ -60,6 +57,9 @@ fn fault_of_texts(
 ) -> Result<Option<&'static str>> {
     if !keeps_texts(alloc, sample, drawing)? {
         return Ok(Some("a text is lost or changed"));
+    }
+    if !hidden_columns_tell_nothing(alloc, &sample.table)? {
+        return Ok(Some("a hidden column changes the lines"));
     }
     if !shown_lines_stay(&sample.table)? {
         return Ok(Some("a further row changes lines above it"));

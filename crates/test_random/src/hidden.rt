@@ -7,7 +7,7 @@ use std::alloc::Global;
 const OTHER: &str = "another text\nof\nfour\nlines";
 
 /// Whether a table is drawn as before where other cells stand in its hidden columns, and beyond its columns.
-pub fn tell_nothing(alloc: Global, table: &Table) -> Result<bool> {
+pub fn hidden_columns_tell_nothing(alloc: Global, table: &Table) -> Result<bool> {
     let other = with_others(alloc, table)?;
     let lines = table.to_text()?;
     Ok(lines.as_str() == other.to_text()?.as_str())
