@@ -10,7 +10,7 @@ use Rattle.comfy_table.proofs.BuiltTableLemmas.{IsBuilt, IsNewColumn, built-head
 use Rattle.comfy_table.specs.TableValue.{TableValue, with_header, with_rows}
 use Rattle.csv.specs.Records.{field_at}
 use Rattle.comfy_csv_parts.specs.Cells.{field_text, field_or_blank, header_for, marked, row_for}
-use Rattle.comfy_csv_parts.specs.Cleaning.{after_character, cleaned, start}
+use Rattle.comfy_csv_parts.specs.Cleaning.{after_piece, cleaned, pieces, start}
 use Rattle.comfy_csv_parts.specs.Columns.{columns_for}
 use Rattle.comfy_csv.specs.Drawn.{empty_table, limited, ok_map, table_for, titled_table, untitled_table}
 use Rattle.comfy_csv_parts.specs.Markdown.{escaped}
@@ -35,7 +35,11 @@ each_field P empty (f ∷ fs) zero each = All-head P f fs each
 each_field P empty (f ∷ fs) (suc i) each = each_field P empty fs i (All-tail P f fs each)
 
 blank_cleaned : (keeps : Bool) → cleaned keeps [] ≡ []
-blank_cleaned keeps = ap (λ (cs : List ℕ). (fold (after_character keeps) start cs).text) chars-nil
+blank_cleaned keeps = ap (λ (cs : List ℕ). (fold after_piece start (pieces keeps cs)).text) chars-nil ∙ by_kind keeps
+  where
+    by_kind : (keeps : Bool) → (fold after_piece start (pieces keeps [])).text ≡ []
+    by_kind true = refl
+    by_kind false = refl
 
 -- the empty field is drawn as it is
 pub blank_drawn : (look : Look) → field_text look [] ≡ []

@@ -7,7 +7,7 @@ ghost use Rattle.comfy_csv_parts.specs.declared.options.Look.{Look};
 ghost use Rattle.comfy_csv_parts.specs.declared.options.Options.{Options};
 ghost use Rattle.comfy_table.specs.TableValue.{TableValue};
 
-pub use comfy_csv_parts::laws::escaped_texts_are_read_back;
+pub use comfy_csv_parts::laws::{cleaned_fields_hold_no_controls, escaped_texts_are_read_back};
 
 /// Picking columns loses no row. The table has a row for each record that is drawn, in order, with the fields of the same
 /// columns, and these are the chosen ones.

@@ -4,6 +4,7 @@ pub mod Columns
 pub mod Input
 pub mod Markdown
 pub mod Number
+pub mod Pieces
 pub mod Program
 pub mod Rules
 pub mod Words

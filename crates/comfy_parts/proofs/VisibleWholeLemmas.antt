@@ -17,7 +17,7 @@ use Rattle.comfy_parts.proofs.FrontLemmas.{character-visible, parts-character}
 use Rattle.std.specs.List.{flat_map}
 
 -- what stands after a sequence at the front
-past_sequence : (text : Text) (s : BeginsWithSequence text) (n : ℕ) → n ≡ length s.code + 3 → drop n text ≡ s.rest
+pub past_sequence : (text : Text) (s : BeginsWithSequence text) (n : ℕ) → n ≡ length s.code + 3 → drop n text ≡ s.rest
 past_sequence text s n place =
     let front : Text = 0x1B ∷ 0x5B ∷ (s.code ++ (0x6D ∷ [])) in
     let whole : n ≡ length front = omega (arith, place, length-append s.code (0x6D ∷ [])) in

@@ -23,7 +23,7 @@ pub use prefix::split_long_word;
 pub(crate) use sequences::cursor::Cursor;
 pub(crate) use sequences::has_escape;
 pub(crate) use sequences::written::{is_written_whole, push_lines};
-pub use sequences::{leaves_sequence_open, visible_text};
+pub use sequences::{leaves_sequence_open, sequence_len, visible_text};
 use std::alloc::Global;
 pub(crate) use width::is_printable;
 pub use width::measure_text_width;

@@ -5,7 +5,7 @@ use Rattle.comfy_parts.proofs.Computing.{wrapping}
 use Rattle.comfy_parts.specs.Text.{Text}
 use Rattle.comfy_parts.specs.declared.style.cell.CellAlignment.TheVariants.{Left, Right}
 use Rattle.csv.specs.Records.{field_at}
-use Rattle.comfy_csv_parts.specs.Cleaning.{after_character, start}
+use Rattle.comfy_csv_parts.specs.Cleaning.{after_piece, pieces, start}
 use Rattle.comfy_csv_parts.specs.Columns.{alignment_for, columns_with, position_named, positions_of}
 use Rattle.comfy_csv.specs.Drawn.{limited, note_for}
 use Rattle.comfy_csv_parts.specs.Markdown.{escaped, unescaped}
@@ -34,7 +34,7 @@ no_numbers = refl
 -- ---- fields as they are drawn
 
 abbrev drawn : Bool → List ℕ → Text
-drawn keeps_escape characters = (fold (after_character keeps_escape) start characters).text
+drawn keeps_sequences characters = (fold after_piece start (pieces keeps_sequences characters)).text
 
 -- TABs go to the next multiple of four, and each line begins anew
 tabs : drawn false (0x61 ∷ 0x09 ∷ 0x62 ∷ 0x09 ∷ 0x09 ∷ 0x63 ∷ 0x0A ∷ 0x09 ∷ 0x64 ∷ []) ≡ codes "a   b       c" ++ 0x0A ∷ codes "    d"
@@ -50,14 +50,40 @@ line_breaks : drawn false (0x61 ∷ 0x0D ∷ 0x0A ∷ 0x62 ∷ 0x0D ∷ 0x63 ∷
 unfolding wrapping lib.Utf8.encode
 line_breaks = refl
 
--- BEL and ESC become U+FFFD; ESC stays where sequences count nothing
-control_characters : drawn false (0x07 ∷ 0x1B ∷ []) ≡ 0xEF ∷ 0xBF ∷ 0xBD ∷ 0xEF ∷ 0xBF ∷ 0xBD ∷ []
+abbrev replacement : Text
+replacement = 0xEF ∷ 0xBF ∷ 0xBD ∷ []
+
+-- BEL and ESC become U+FFFD
+control_characters : drawn false (0x07 ∷ 0x1B ∷ []) ≡ replacement ++ replacement
 unfolding wrapping lib.Utf8.encode
 control_characters = refl
 
-kept_escape : drawn true (0x07 ∷ 0x1B ∷ []) ≡ 0xEF ∷ 0xBF ∷ 0xBD ∷ 0x1B ∷ []
+sequence_without_ansi : drawn false (codes "\u{1b}[1m") ≡ replacement ++ codes "[1m"
 unfolding wrapping lib.Utf8.encode
-kept_escape = refl
+sequence_without_ansi = refl
+
+-- SGR sequences stay where they count nothing
+kept_sequences : drawn true (codes "\u{1b}[31ma \u{1b}[0m") ≡ codes "\u{1b}[31ma \u{1b}[0m"
+unfolding wrapping lib.Utf8.encode
+kept_sequences = refl
+
+-- no other ESC does: one that writes to the clipboard, one that clears the screen, and the first of two before a sequence
+clipboard : drawn true (codes "\u{1b}]52;c;aGk=") ≡ replacement ++ codes "]52;c;aGk="
+unfolding wrapping lib.Utf8.encode
+clipboard = refl
+
+clear_screen : drawn true (codes "\u{1b}[2J") ≡ replacement ++ codes "[2J"
+unfolding wrapping lib.Utf8.encode
+clear_screen = refl
+
+escape_before_a_sequence : drawn true (codes "\u{1b}\u{1b}[1m[1m") ≡ replacement ++ codes "\u{1b}[1m[1m"
+unfolding wrapping lib.Utf8.encode
+escape_before_a_sequence = refl
+
+-- a TAB goes to the same stop with a sequence before it
+tab_after_a_sequence : drawn true (codes "a\u{1b}[31m" ++ 0x09 ∷ codes "b") ≡ codes "a\u{1b}[31m   b"
+unfolding wrapping lib.Utf8.encode
+tab_after_a_sequence = refl
 
 -- ---- Markdown
 

@@ -127,8 +127,8 @@ pub(crate) fn split_visible(text: &str, most: usize) -> (&str, &str)
     text.split_at(run)
 }
 
-// The bytes of the sequence at a text's front, 0 where there is none.
-fn sequence_len(text: &str) -> usize
+/// The bytes of the sequence at a text's front, 0 where there is none.
+pub fn sequence_len(text: &str) -> usize
     ensures value { result ≡ sequence_len text.now }
     ensures boundary { IsCharBoundary text.now result }
 {

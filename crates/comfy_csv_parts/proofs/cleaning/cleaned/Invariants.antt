@@ -1,6 +1,6 @@
-use Rattle.std.proofs.Common.{◌≡◌, ℕ, fold, map}
-use Rattle.comfy_csv_parts.specs.Cleaning.{after_character, start}
+use Rattle.std.proofs.Common.{◌≡◌, chars, fold}
+use Rattle.comfy_csv_parts.specs.Cleaning.{after_piece, pieces, start}
 use Rattle.comfy_csv_parts.proofs.cleaning.cleaned.Given as goal
 
-abbrev pub invariant-loop-c : goal.invariant-loop-c
-invariant-loop-c l = l.cleaner ≡ fold (after_character l.keeps_escape) start (map (λ (c : ℕ). c) l.yielded)
+abbrev pub invariant-loop-piece : goal.invariant-loop-piece
+invariant-loop-piece l = fold after_piece l.cleaner l.piece-iterator ≡ fold after_piece start (pieces l.keeps_sequences (chars l.field))
