@@ -28,7 +28,9 @@ impl IntoRow for Given {
 // Three rows, of which the one at this position, counted from 0, is refused.
 fn rows_with_refused(position: usize) -> [Given; 3] {
     let mut rows = [Given::Empty, Given::Empty, Given::Empty];
-    rows[position] = Given::Refused;
+    if let Some(row) = rows.get_mut(position) {
+        *row = Given::Refused;
+    }
     rows
 }
 
