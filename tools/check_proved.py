@@ -19,9 +19,8 @@ import sys
 
 from doc_examples import wrong_examples
 from mutations import must_fail_of, mutations_of
-from what_is_believed import LIBRARIES, counts
+from what_is_believed import LIBRARIES, TOP, counts, functions_of, text_of
 
-TOP = os.path.dirname(os.path.dirname(os.path.realpath(__file__)))
 LAWS_ALONE = ["cluster_width"]  # libraries without code
 WORDS = {"IsAfter", "IsTableDrawing", "input_table"}  # definitions, not functions
 # public calls of a few words over functions that have mutations
@@ -33,29 +32,8 @@ CALLERS = ["test_callers", "test_csv_cases"]
 STORED = ["example_ledger/stdout", "example_ledger/src/main.rt", "ctable/stdout", "csvtable/stdout"]
 
 
-def text_of(path):
-    with open(f"{TOP}/{path}", encoding="utf-8") as file:
-        return file.read()
-
-
 def sources_of(crate):
     return [text_of(path) for path in glob.glob("crates/" + crate + "/src/**/*.rt", root_dir=TOP, recursive=True)]
-
-
-def functions_of(crate):
-    """For each function's name: the names by which a page may call its place, its clauses, and whether it is public."""
-    found = {}
-    for path in glob.glob("crates/" + crate + "/src/**/*.rt", root_dir=TOP, recursive=True):
-        text = text_of(path)
-        starts = list(re.finditer(r"^[ \t]*(?:pub(?:\(\w+\))? )?(?:extern \"C\" )?(?:fn|ghost) (\w+)", text, re.M))
-        for start, after in zip(starts, [it.start() for it in starts[1:]] + [len(text)]):
-            block = ""
-            for it in re.finditer(r"^(?:(?:pub )?(?:impl|trait)\b.*|\})", text[: start.start()], re.M):
-                block = it[0]
-            places = {os.path.basename(path)[: -len(".rt")], *re.findall(r"\w+", block)}
-            clauses = set(re.findall(r"ensures\*? (\w+) \{", text[start.start() : after]))
-            found.setdefault(start[1], []).append((places, clauses, "pub " in start[0]))
-    return found
 
 
 def mutated_in(crate):
@@ -83,7 +61,7 @@ def wrong_in_section(crate, section):
             found = [one for one in functions.get(name, []) if set(place[-1:]) <= one[0]]
             if not found and name not in WORDS:
                 wrong.append(f"{crate} has no function {it[1]}")
-            known = set().union(*(one[1] for one in found))
+            known = {clause for one in found for clause, _ in one[1]}
             wrong += [f"{it[1]} has no clause {clause}" for clause in re.findall(r"\w+", it[2] or "") if clause not in known]
             is_law = place[-1:] == ["laws"] or crate in LAWS_ALONE
             if not is_law and not {name, f"try_{name}"} & mutated and name not in OVER_OTHERS | WORDS:

@@ -1,8 +1,8 @@
 /*
  * Tables drawn from tab-separated text, by the library comfy_table.
  *
- * Proved: each result but COMFY_OUT_OF_MEMORY comes exactly where the list below says so; the drawing, *needed and what
- * stays unchanged are as it says.
+ * Proved: each result comes only where the list below says so, but for what it says of malloc; the drawing, *needed and
+ * what stays unchanged are as it says.
  * Tested: that COMFY_OUT_OF_MEMORY comes only after malloc or realloc returned null, that a call keeps no memory, that
  * several threads may call, and that null stands for an empty slice.
  *
