@@ -54,9 +54,9 @@ blank_drawn look = by_flags look.is_markdown look.is_raw
     by_flags false true = refl
     by_flags false false = blank_cleaned look.has_sequences
 
-module _ (options : Options) (plain : options.look.has_sequences ≡ false) (Q : RowValue → Type 0) where
+module _ (options : Options) (Q : RowValue → Type 0) where
   abbrev pub Built : TableValue → Type 0
-  Built = IsBuilt (empty_table options.look) plain Q
+  Built = IsBuilt (empty_table options.look) Q
 
   -- Q holds of the header and of the row that are made of some fields
   abbrev pub MakesRow : List DrawnColumn → List Text → Type 0
@@ -71,7 +71,7 @@ module _ (options : Options) (plain : options.look.has_sequences ≡ false) (Q :
 
   with_records : (columns : List DrawnColumn) (rows : List (List Text)) (table : TableValue) → MakesRows rows → Built table → Built (with_rows (map (row_for options.look columns) rows) table)
   with_records columns rows table makes known =
-      built-rows (empty_table options.look) plain Q (map (row_for options.look columns) rows) table
+      built-rows (empty_table options.look) Q (map (row_for options.look columns) rows) table
       (All-map Q (row_for options.look columns) rows (All-weaker (MakesRow columns) (λ (fields : List Text). Q (row_for options.look columns fields)) (λ fields both. both.1) rows (makes columns))) known
 
   untitled : (rows : List (List Text)) (table : TableValue) → MakesRows rows → untitled_table options rows ≡ Ok table → Built table
@@ -82,7 +82,7 @@ module _ (options : Options) (plain : options.look.has_sequences ≡ false) (Q :
   titled : (names : List Text) (rows : List (List Text)) (table : TableValue) → ((columns : List DrawnColumn) → Q (header_for options.look columns names)) → MakesRows rows → titled_table options names rows ≡ Ok table → Built table
   titled names rows table head makes is =
       let found = built_of (λ (columns : List DrawnColumn). with_rows (map (row_for options.look columns) rows) (with_header (header_for options.look columns names) (empty_table options.look))) (columns_for options names rows) table is in
-      subst Built found.2 (with_records found.0 rows (with_header (header_for options.look found.0 names) (empty_table options.look)) makes (built-header (empty_table options.look) plain Q (header_for options.look found.0 names) (empty_table options.look) (head found.0) empty))
+      subst Built found.2 (with_records found.0 rows (with_header (header_for options.look found.0 names) (empty_table options.look)) makes (built-header (empty_table options.look) Q (header_for options.look found.0 names) (empty_table options.look) (head found.0) empty))
 
   few : (rows : List (List Text)) → MakesRows rows → MakesRows (limited options.limit rows)
   few rows makes = λ columns. all_limited (MakesRow columns) options.limit rows (makes columns)

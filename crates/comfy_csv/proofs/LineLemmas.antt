@@ -1,5 +1,5 @@
 -- The lines of an output: how many characters they have, and how wide they are.
-use Rattle.std.proofs.Common.{◌≡◌, ℕ, ◌≤◌, ◌++◌, arith, false, List, [], None, Ok, length, map, refl, ap, sym, ◌∙◌, subst}
+use Rattle.std.proofs.Common.{◌≡◌, ℕ, ◌≤◌, ◌++◌, arith, Bool, true, false, List, [], None, Ok, length, refl, ap, sym, ◌∙◌, subst}
 use Rattle.std.specs.List.{All}
 use Rattle.std.proofs.lemmas.List.Elements.{All-cons, All-map, All-nil, All-weaker}
 use Rattle.comfy_parts.proofs.CallerLemmas.{All-every, measure-nil}
@@ -10,7 +10,7 @@ use Rattle.comfy_table.specs.Arrangement.{width_kept}
 use Rattle.comfy_table.specs.NewTables.{IsShortRow}
 use Rattle.comfy_table.specs.TableValue.{TableValue, should_style, table_width}
 use Rattle.comfy_csv.proofs.BuiltLemmas.{Built, MakesRow, blank_drawn, built, each_field}
-use Rattle.comfy_csv_parts.specs.Cells.{cell_for, field_text, field_or_blank, header_for, row_for, with_weight}
+use Rattle.comfy_csv_parts.specs.Cells.{cell_for, cells_for, field_text, field_or_blank, header_for, row_for, with_weight}
 use Rattle.comfy_csv.specs.Drawn.{empty_table, note_for, row_count, table_for}
 use Rattle.comfy_csv.specs.Laws.{IsUnstyledUncut, OutputFillsWidth, OutputKeepsToWidth, WholeOutputIsStraight}
 use Rattle.comfy_csv_parts.specs.declared.options.Look.{Look}
@@ -21,27 +21,27 @@ abbrev pub Any : RowValue → Type 0
 Any row = Unit {0}
 
 -- the table of some records, whatever its rows
-pub any_built : (options : Options) (plain : options.look.has_sequences ≡ false) (records : List (List Text)) (table : TableValue) → table_for options records ≡ Ok table → Built options plain Any table
-any_built options plain records table = built options plain Any records table (λ columns. All-every (MakesRow options plain Any columns) records (λ fields. (tt, tt)))
+pub any_built : (options : Options) (records : List (List Text)) (table : TableValue) → table_for options records ≡ Ok table → Built options Any table
+any_built options records table = built options Any records table (λ columns. All-every (MakesRow options Any columns) records (λ fields. (tt, tt)))
 
 pub keeps_to_width : (w : ℕ) (options : Options) (records : List (List Text)) (output : Text) → OutputKeepsToWidth w options records output
 keeps_to_width w options records output wide kept plain made =
-    let known = any_built options plain records made.table made.is_table in
+    let known = any_built options records made.table made.is_table in
     let drawing = made.is_drawing.1 in
     record {
       table = made.table;
       is_table = made.is_table;
       lines = made.is_drawing.0;
       drawing = drawing;
-      counts = drawing.keeps_to_width w (unconstrained (empty_table options.look) plain Any made.table known) (ap (λ (t : TableValue). t.arrangement) known.is ∙ rw (wide, kept) refl) (ap table_width known.is ∙ rw wide refl);
+      counts = drawing.keeps_to_width w (unconstrained (empty_table options.look) Any made.table known) (ap (λ (t : TableValue). t.arrangement) known.is ∙ rw (wide, kept) refl) (ap table_width known.is ∙ rw wide refl);
       joined = made.joined ∙ ap (λ t. t ++ note_for options.limit (row_count options.has_header (length records))) made.is_drawing.2;
     }
 
 pub fills_width : (w : ℕ) (options : Options) (records : List (List Text)) (output : Text) → OutputFillsWidth w options records output
 fills_width w options records output wide filled plain made =
-    let known = any_built options plain records made.table made.is_table in
+    let known = any_built options records made.table made.is_table in
     let drawing = made.is_drawing.1 in
-    let counts = drawing.fills_width w (unconstrained (empty_table options.look) plain Any made.table known) (ap (λ (t : TableValue). t.arrangement) known.is ∙ rw (wide, filled) refl) (ap table_width known.is ∙ rw wide refl) in
+    let counts = drawing.fills_width w (unconstrained (empty_table options.look) Any made.table known) (ap (λ (t : TableValue). t.arrangement) known.is ∙ rw (wide, filled) refl) (ap table_width known.is ∙ rw wide refl) in
     record {
       table = made.table;
       is_table = made.is_table;
@@ -56,24 +56,28 @@ abbrev pub EachLine : (Text → Type 0) → Look → Text → Type 0
 EachLine P look field = All P (plain_cell (field_text look field)).text_lines
 
 module _ (P : Text → Type 0) (empty : P []) (look : Look) where
+  -- a cell's weight changes no text line
+  weighted : (is_bold : Bool) (cell : CellValue) → All P cell.text_lines → All P (with_weight is_bold cell).text_lines
+  weighted true cell own = own
+  weighted false cell own = own
+
   -- so P does of each cell of a row
-  pub cells_each : (columns : List DrawnColumn) (fields : List Text) → All (EachLine P look) fields
-      → All (λ (cell : CellValue). All P cell.text_lines) (map (λ (column : DrawnColumn). with_weight false (cell_for look column.alignment (field_or_blank fields column.position))) columns)
-  cells_each columns fields each =
-      All-map (λ (cell : CellValue). All P cell.text_lines) (λ (column : DrawnColumn). with_weight false (cell_for look column.alignment (field_or_blank fields column.position))) columns
-      (All-every (λ (column : DrawnColumn). EachLine P look (field_or_blank fields column.position)) columns (λ column. each_field (EachLine P look) (subst (λ (text : Text). All P (plain_cell text).text_lines) (sym (blank_drawn look)) (All-cons P [] [] empty (All-nil P))) fields column.position each))
+  pub cells_each : (is_bold : Bool) (columns : List DrawnColumn) (fields : List Text) → All (EachLine P look) fields → All (λ (cell : CellValue). All P cell.text_lines) (cells_for look is_bold columns fields).cells
+  cells_each is_bold columns fields each =
+      All-map (λ (cell : CellValue). All P cell.text_lines) (λ (column : DrawnColumn). with_weight is_bold (cell_for look column.alignment (field_or_blank fields column.position))) columns
+      (All-every (λ (column : DrawnColumn). All P (with_weight is_bold (cell_for look column.alignment (field_or_blank fields column.position))).text_lines) columns
+      (λ column. weighted is_bold (cell_for look column.alignment (field_or_blank fields column.position))
+      (each_field (EachLine P look) (subst (λ (text : Text). All P (plain_cell text).text_lines) (sym (blank_drawn look)) (All-cons P [] [] empty (All-nil P))) fields column.position each)))
 
 short_row : (look : Look) (columns : List DrawnColumn) (fields : List Text) → IsUnstyledUncut look → All (EachLine (λ text. measure text ≤ 65535) look) fields → IsShortRow (header_for look columns fields) × IsShortRow (row_for look columns fields)
 short_row look columns fields plain each =
-    let cells = cells_each (λ text. measure text ≤ 65535) (rw measure-nil (omega arith)) look columns fields each in (
-      record { uncut = refl; short = rw plain.no_bold cells },
-      record { uncut = rw plain.uncut refl; short = cells },
-    )
+    let cells = λ (is_bold : Bool). cells_each (λ text. measure text ≤ 65535) (rw measure-nil (omega arith)) look is_bold columns fields each in
+    (record { uncut = refl; short = cells look.has_bold_header }, record { uncut = rw plain.uncut refl; short = cells false })
 
 pub whole_is_straight : (options : Options) (records : List (List Text)) (output : Text) → WholeOutputIsStraight options records output
 whole_is_straight options records output characters plain no_width short made =
-    let known : Built options plain.no_sequences IsShortRow made.table =
-    built options plain.no_sequences IsShortRow records made.table (λ columns. All-weaker (All (EachLine (λ text. measure text ≤ 65535) options.look)) (MakesRow options plain.no_sequences IsShortRow columns) (λ fields each. short_row options.look columns fields plain each) records short) made.is_table in
+    let known : Built options IsShortRow made.table =
+    built options IsShortRow records made.table (λ columns. All-weaker (All (EachLine (λ text. measure text ≤ 65535) options.look)) (MakesRow options IsShortRow columns) (λ fields each. short_row options.look columns fields plain each) records short) made.is_table in
     let drawing = made.is_drawing.1 in
     let base = empty_table options.look in
     let none : width_kept made.table.arrangement (table_width made.table) ≡ None = ap (λ (t : TableValue). width_kept t.arrangement (table_width t)) known.is ∙ rw no_width refl in

@@ -1,5 +1,5 @@
 -- Fields of printable ASCII make a table of printable ASCII.
-use Rattle.std.proofs.Common.{◌≡◌, ℕ, true, List, Option, Some, None, refl, ap, sym, subst, ◌∙◌, unwrap_or}
+use Rattle.std.proofs.Common.{◌≡◌, ℕ, Bool, true, false, List, Option, Some, None, refl, ap, sym, subst, ◌∙◌, unwrap_or}
 use Rattle.std.specs.Int.{is_in_range}
 use Rattle.std.specs.List.{All, slice_get}
 use Rattle.std.proofs.lemmas.List.Elements.{All-weaker}
@@ -34,16 +34,18 @@ record IsBareRow (row : RowValue) : Type 0 where
 
 bare_row : (look : Look) (columns : List DrawnColumn) (fields : List Text) → IsUnstyledUncut look → All (EachLine IsPrintable look) fields → IsBareRow (header_for look columns fields) × IsBareRow (row_for look columns fields)
 bare_row look columns fields plain each =
-    let cells = cells_each IsPrintable refl look columns fields each in
-    let same = rows_are_default look columns fields plain in
-    (record { uncut = refl; printable = rw plain.no_bold cells; no_delimiter = same.0.no_delimiters }, record { uncut = same.1.uncut; printable = cells; no_delimiter = same.1.no_delimiters })
+    let cells = λ (is_bold : Bool). cells_each IsPrintable refl look is_bold columns fields each in
+    let same = rows_are_default look columns fields plain in (
+      record { uncut = refl; printable = cells look.has_bold_header; no_delimiter = same.0.no_delimiters },
+      record { uncut = same.1.uncut; printable = cells false; no_delimiter = same.1.no_delimiters },
+    )
 
-module _ (options : Options) (plain : IsUnstyledUncut options.look) (table : TableValue) (known : Built options plain.no_sequences IsBareRow table) where
+module _ (options : Options) (plain : IsUnstyledUncut options.look) (table : TableValue) (known : Built options IsBareRow table) where
   abbrev base : TableValue
   base = empty_table options.look
 
   rows : All IsBareRow (measured_rows table)
-  rows = rows_known base plain.no_sequences IsBareRow table known
+  rows = rows_known base IsBareRow table known plain.no_sequences
 
   printable_cell-is : (delimiter : Option ℕ) (row : RowValue) (i : ℕ) (cell : CellValue) → delimiter ≡ None → IsBareRow row → slice_get row.cells i ≡ Some cell → IsPrintableCell table delimiter cell
   printable_cell-is delimiter row i cell none is found =
@@ -57,7 +59,7 @@ module _ (options : Options) (plain : IsUnstyledUncut options.look) (table : Tab
       All-weaker (λ (p : ℕ × ColumnValue). IsNewColumn p.1) (λ (p : ℕ × ColumnValue). All (IsPrintableCell table p.1.delimiter) (column_cells table p.0))
       (λ p new. All-found (IsPrintableCell table p.1.delimiter) (λ (row : RowValue). slice_get row.cells p.0) (measured_rows table)
       (All-weaker IsBareRow (λ (row : RowValue). (cell : CellValue) → slice_get row.cells p.0 ≡ Some cell → IsPrintableCell table p.1.delimiter cell) (λ row is cell found. printable_cell-is p.1.delimiter row p.0 cell new.no_delimiter is found) (measured_rows table) rows))
-      (shown_columns table) (columns_known base plain.no_sequences IsBareRow table known)
+      (shown_columns table) (columns_known base IsBareRow table known)
 
   -- no indicator is written
   uncut : (widths : List ℕ) → All (λ (row : RowValue). All (AddsOneColumnEachWhereWritten table row) (shown_infos (infos_of table widths))) (measured_rows table)
@@ -67,13 +69,13 @@ module _ (options : Options) (plain : IsUnstyledUncut options.look) (table : Tab
 
 pub printable_table : (options : Options) (records : List (List Text)) (table : TableValue) (widths : List ℕ) → PrintableTextsMakePrintableTable options records table widths
 printable_table options records table widths plain each is =
-    let known = built options plain.no_sequences IsBareRow records table (λ columns. All-weaker (All (EachLine IsPrintable options.look)) (MakesRow options plain.no_sequences IsBareRow columns) (λ fields own. bare_row options.look columns fields plain own) records each) is in
+    let known = built options IsBareRow records table (λ columns. All-weaker (All (EachLine IsPrintable options.look)) (MakesRow options IsBareRow columns) (λ fields own. bare_row options.look columns fields plain own) records each) is in
     record { printable_cells = printable_cells options plain table known; indicator_adds_one_column_each = uncut options plain table known widths }
 
 -- the lines of an output of such records are counted
 pub lines_have : (P : TableValue → ℕ → Type 0) (options : Options) (records : List (List Text)) (output : Text) → PrintableLinesHave P options records output
 lines_have P options records output has plain each =
     let texts = All-weaker (All IsPrintable) (All (EachLine IsPrintable options.look)) (λ fields own. All-weaker IsPrintable (EachLine IsPrintable options.look) (fields_stay options.look) fields own) records each in
-    let known = any_built options plain.no_sequences records has.table has.is_table in
+    let known = any_built options records has.table has.is_table in
     let same = has.drawing.unstyled_lines (ap should_style known.is ∙ rw plain.no_bold refl) (ap (λ (t : TableValue). t.custom_styling) known.is ∙ plain.no_sequences) in
     subst (All (λ line. P has.table (count line))) (sym same) (has.counts.printable_lines (printable_table options records has.table has.drawing.widths plain texts has.is_table))

@@ -26,8 +26,8 @@ rows_are_default look columns fields plain = (record { uncut = refl; no_delimite
 pub fitting_is_straight : (options : Options) (records : List (List Text)) (output : Text) → FittingOutputIsStraight options records output
 fitting_is_straight options records output characters plain fits made =
     let base = empty_table options.look in
-    let known : Built options plain.no_sequences IsDefaultRow made.table =
-    built options plain.no_sequences IsDefaultRow records made.table (λ columns. All-every (MakesRow options plain.no_sequences IsDefaultRow columns) records (λ fields. rows_are_default options.look columns fields plain)) made.is_table in
+    let known : Built options IsDefaultRow made.table =
+    built options IsDefaultRow records made.table (λ columns. All-every (MakesRow options IsDefaultRow columns) records (λ fields. rows_are_default options.look columns fields plain)) made.is_table in
     let drawing = made.is_drawing.1 in (
       made.is_drawing.0,
       made.joined ∙ ap (λ t. t ++ note_for options.limit (row_count options.has_header (length records))) made.is_drawing.2,

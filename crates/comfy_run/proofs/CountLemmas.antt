@@ -101,20 +101,20 @@ module _ (width : Option ℕ) (arrangement : ContentArrangement) (style : TableS
         width_is = ap table_width known.is ∙ base_width width arrangement style;
         arrangement_is = ap (λ (t : TableValue). t.arrangement) known.is;
         style_is = ap (λ (t : TableValue). t.style) known.is;
-        unconstrained = unconstrained own refl (λ row. Unit {0}) table known;
+        unconstrained = unconstrained own (λ row. Unit {0}) table known;
         unstyled = ap should_style known.is;
         no_custom_styling = ap (λ (t : TableValue). t.custom_styling) known.is;
       }
     where
-      known : IsBuilt own refl (λ row. Unit {0}) table
+      known : IsBuilt own (λ row. Unit {0}) table
       known = built width arrangement style (λ text. Unit {0}) (λ row. Unit {0}) (λ line each. tt) (lines input) (All-every _ (lines input) (λ line. All-every _ (cells_of_line line) (λ cell. All-every _ cell.text_lines (λ text. tt))))
 
   module _ (plain : IsPrintableInput input) where
-    bare : IsBuilt own refl IsBareRow table
+    bare : IsBuilt own IsBareRow table
     bare = built width arrangement style (λ text. is_printable_ascii text ≡ true) IsBareRow bare_row (lines input) (λ k default below. cells_printable (slice_index_or (lines input) k default) (plain k default below))
 
     pub printable_cells : HasPrintableCells table
-    printable_cells = All-weaker (λ (p : ℕ × ColumnValue). IsNewColumn p.1) (λ (p : ℕ × ColumnValue). All (IsPrintableCell table p.1.delimiter) (column_cells table p.0)) of_column (shown_columns table) (columns_known own refl IsBareRow table bare)
+    printable_cells = All-weaker (λ (p : ℕ × ColumnValue). IsNewColumn p.1) (λ (p : ℕ × ColumnValue). All (IsPrintableCell table p.1.delimiter) (column_cells table p.0)) of_column (shown_columns table) (columns_known own IsBareRow table bare)
       where
         printable_cell-is : (delimiter : Option ℕ) (cell : CellValue) → delimiter ≡ None → IsBareCell cell → IsPrintableCell table delimiter cell
         printable_cell-is delimiter cell none is =
@@ -125,13 +125,13 @@ module _ (width : Option ℕ) (arrangement : ContentArrangement) (style : TableS
         of_column : (p : ℕ × ColumnValue) → IsNewColumn p.1 → All (IsPrintableCell table p.1.delimiter) (column_cells table p.0)
         of_column p new =
             All-found (IsPrintableCell table p.1.delimiter) (λ (row : RowValue). slice_get row.cells p.0) (measured_rows table)
-            (All-weaker IsBareRow (λ (row : RowValue). (cell : CellValue) → slice_get row.cells p.0 ≡ Some cell → IsPrintableCell table p.1.delimiter cell) (λ row is cell found. printable_cell-is p.1.delimiter cell new.no_delimiter (All-at IsBareCell row.cells p.0 cell is.cells found)) (measured_rows table) (rows_known own refl IsBareRow table bare))
+            (All-weaker IsBareRow (λ (row : RowValue). (cell : CellValue) → slice_get row.cells p.0 ≡ Some cell → IsPrintableCell table p.1.delimiter cell) (λ row is cell found. printable_cell-is p.1.delimiter cell new.no_delimiter (All-at IsBareCell row.cells p.0 cell is.cells found)) (measured_rows table) (rows_known own IsBareRow table bare refl))
 
     -- no indicator is written
     uncut : (widths : List ℕ) → All (λ (row : RowValue). All (AddsOneColumnEachWhereWritten table row) (shown_infos (infos_of table widths))) (measured_rows table)
     uncut widths =
         All-weaker IsBareRow (λ (row : RowValue). All (AddsOneColumnEachWhereWritten table row) (shown_infos (infos_of table widths)))
-        (λ row is. All-every (AddsOneColumnEachWhereWritten table row) (shown_infos (infos_of table widths)) (λ p cell h found limited. absurd (cc (is.uncut, limited)))) (measured_rows table) (rows_known own refl IsBareRow table bare)
+        (λ row is. All-every (AddsOneColumnEachWhereWritten table row) (shown_infos (infos_of table widths)) (λ p cell h found limited. absurd (cc (is.uncut, limited)))) (measured_rows table) (rows_known own IsBareRow table bare refl)
 
     -- the lines of its drawing, where P holds of their count
     counted : (P : ℕ → Type 0) (output : Text) (drawn : List Text) (drawing : IsTableDrawing table drawn) → P (line_total table drawing.widths) → output ≡ terminated_text_of drawn → EachLineHas P output

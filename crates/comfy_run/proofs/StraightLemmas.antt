@@ -39,21 +39,21 @@ module _ (width : Option ℕ) (arrangement : ContentArrangement) (style : TableS
 
   -- the table of lines of which P holds, where Q holds of a row of such a line
   module _ (P : Text → Type 0) (Q : RowValue → Type 0) (row_of : (line : Text) → OfLine P line → Q (row_of_line line)) where
-    built-lines : (others : List Text) (table : TableValue) → All (OfLine P) others → IsBuilt base refl Q table → IsBuilt base refl Q (fold (λ (t : TableValue) (line : Text). with_row (row_of_line line) t) table others)
+    built-lines : (others : List Text) (table : TableValue) → All (OfLine P) others → IsBuilt base Q table → IsBuilt base Q (fold (λ (t : TableValue) (line : Text). with_row (row_of_line line) t) table others)
     built-lines [] table each known = known
     built-lines (line ∷ others) table each known =
-        built-lines others (with_row (row_of_line line) table) (All-tail (OfLine P) line others each) (built-row base refl Q (row_of_line line) table (row_of line (All-head (OfLine P) line others each)) known)
+        built-lines others (with_row (row_of_line line) table) (All-tail (OfLine P) line others each) (built-row base Q (row_of_line line) table (row_of line (All-head (OfLine P) line others each)) known)
 
-    empty : IsBuilt base refl Q base
+    empty : IsBuilt base Q base
     empty = record { is = refl; columns = All-nil IsNewColumn; header = All-nil Q; rows = All-nil Q }
 
-    pub built : (all : List Text) → All (OfLine P) all → IsBuilt base refl Q (table_of_lines base all)
+    pub built : (all : List Text) → All (OfLine P) all → IsBuilt base Q (table_of_lines base all)
     built [] each = empty
     built (first ∷ others) each =
-        built-lines others (with_header (row_of_line first) base) (All-tail (OfLine P) first others each) (built-header base refl Q (row_of_line first) base (row_of first (All-head (OfLine P) first others each)) empty)
+        built-lines others (with_header (row_of_line first) base) (All-tail (OfLine P) first others each) (built-header base Q (row_of_line first) base (row_of first (All-head (OfLine P) first others each)) empty)
 
   -- the lines of a drawing of such a table, where it is straight
-  straight_output : (Q : RowValue → Type 0) (table : TableValue) → IsBuilt base refl Q table → (output : Text) (drawn : List Text) (drawing : IsTableDrawing table drawn) → IsStraightTable table drawing.widths
+  straight_output : (Q : RowValue → Type 0) (table : TableValue) → IsBuilt base Q table → (output : Text) (drawn : List Text) (drawing : IsTableDrawing table drawn) → IsStraightTable table drawing.widths
       → output ≡ terminated_text_of drawn → IsStraightOutput output
   straight_output Q table known output drawn drawing is same = (drawn, same, built_is_equally_wide base refl refl Q table known drawn drawing is)
 
@@ -62,7 +62,7 @@ pub whole_output_is_straight : (width : Option ℕ) (arrangement : ContentArrang
 whole_output_is_straight width arrangement style input output characters no_width short (drawn, drawing, same) =
     straight_output width arrangement style IsShortRow (input_table width arrangement style input) known output drawn drawing (built_is_straight (base width arrangement style) refl (input_table width arrangement style input) drawing.widths known characters none) same
   where
-    known : IsBuilt (base width arrangement style) refl IsShortRow (input_table width arrangement style input)
+    known : IsBuilt (base width arrangement style) IsShortRow (input_table width arrangement style input)
     known = built width arrangement style (λ text. measure text ≤ 65535) IsShortRow (λ line each. record { uncut = refl; short = each }) (lines input) short
 
     none : width_kept (input_table width arrangement style input).arrangement (table_width (input_table width arrangement style input)) ≡ None
@@ -85,7 +85,7 @@ fitting_output_is_straight width arrangement style input output characters fits 
     table : TableValue
     table = input_table width arrangement style input
 
-    known : IsBuilt (base width arrangement style) refl IsDefaultRow table
+    known : IsBuilt (base width arrangement style) IsDefaultRow table
     known =
         built width arrangement style (λ text. Unit {0}) IsDefaultRow (λ line each. row_is_default line) (lines input)
         (All-every (OfLine (λ text. Unit {0})) (lines input) (λ line k default below i text inside. tt))

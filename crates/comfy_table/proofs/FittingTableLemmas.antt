@@ -40,20 +40,20 @@ pub record IsDefaultRow (row : RowValue) : Type 0 where
   pub no_delimiters : All (λ (cell : CellValue). cell.delimiter ≡ None) row.cells
 
 -- a table that is built of such rows is straight, where each character fits its column
-pub built_of_fitting_is_straight : (base : TableValue) (plain : base.custom_styling ≡ false) → base.delimiter ≡ None → (table : TableValue) → IsBuilt base plain IsDefaultRow table
+pub built_of_fitting_is_straight : (base : TableValue) (plain : base.custom_styling ≡ false) → base.delimiter ≡ None → (table : TableValue) → IsBuilt base IsDefaultRow table
     → (lines : List Text) (drawing : IsTableDrawing table lines) → All IsOneColumn (style_characters base.style) → EachCell CharactersFitColumn table drawing.widths
     → IsStraightTable table drawing.widths
 built_of_fitting_is_straight base plain no_delimiter table known lines drawing characters each =
-    fitting_tables_are_straight table lines drawing (characters_known base plain IsDefaultRow table known characters) (inr (inl (padded base plain IsDefaultRow table known))) fits
+    fitting_tables_are_straight table lines drawing (characters_known base IsDefaultRow table known characters) (inr (inl (padded base IsDefaultRow table known))) fits
   where
     fits : EachCell (FitsByCharacters table) table drawing.widths
     fits k default under j other below cell found =
         let row = slice_index_or (measured_rows table) k default in
         let p = slice_index_or (shown_infos (infos_of table drawing.widths)) j other in
-        let of_row = rows_known base plain IsDefaultRow table known k default under in
+        let of_row = rows_known base IsDefaultRow table known plain k default under in
         let of_cell = All-at (λ (c : CellValue). c.delimiter ≡ None) row.cells p.0 cell of_row.no_delimiters found in
         let of_column : p.1.delimiter ≡ None =
-        infos-known table drawing.widths (λ (q : ℕ × ColumnValue). IsNewColumn q.1) (λ (q : ℕ × ColumnInfo). q.1.delimiter ≡ None) drawing.arranged.one_for_each (columns_known base plain IsDefaultRow table known) (λ i column w new. new.no_delimiter) j other below in
+        infos-known table drawing.widths (λ (q : ℕ × ColumnValue). IsNewColumn q.1) (λ (q : ℕ × ColumnInfo). q.1.delimiter ≡ None) drawing.arranged.one_for_each (columns_known base IsDefaultRow table known) (λ i column w new. new.no_delimiter) j other below in
         let space : cell_delimiter table p.1.delimiter cell ≡ 0x20 =
         ap (λ o. unwrap_or o (unwrap_or p.1.delimiter (unwrap_or table.delimiter 0x20))) of_cell ∙ ap (λ o. unwrap_or o (unwrap_or table.delimiter 0x20)) of_column
         ∙ ap (λ (t : TableValue). unwrap_or t.delimiter 0x20) known.is ∙ ap (λ o. unwrap_or o 0x20) no_delimiter in

@@ -54,7 +54,7 @@ digits_onto-parameters (suc k) n acc all =
     by_test false rest = rest
 
 -- a written number is parameters
-decimal-parameters : (n : ℕ) → list_all is_parameter (decimal n) ≡ true
+pub decimal-parameters : (n : ℕ) → list_all is_parameter (decimal n) ≡ true
 unfolding digits
 decimal-parameters n = digits_onto-parameters 64 n [] refl
 
