@@ -1,9 +1,9 @@
 -- A cleaned field has no control characters but line feeds, and those of kept sequences.
-use Rattle.std.proofs.Common.{◌≡◌, ◌⊎◌, inl, inr, ◌==◌, ◌&&◌, ◌||◌, ℕ, Bool, true, false, List, [], ◌∷◌, ◌++◌, chars, codes, encode_utf8, encode_utf8_all, fold, refl, sym, ap, ◌∙◌, subst, arith, tests, append_assoc, append-nil}
+use Rattle.std.proofs.Common.{◌≡◌, inl, inr, ◌==◌, ◌&&◌, ◌||◌, ℕ, Bool, true, false, List, [], ◌∷◌, ◌++◌, chars, codes, encode_utf8, encode_utf8_all, fold, refl, sym, ap, ◌∙◌, subst, arith, tests, append_assoc, append-nil}
 use Rattle.std.proofs.Math.Utf8.{scalar as scalar_of}
 use Rattle.std.proofs.lemmas.Bool.{and_parts, or_from, or_parts}
 use Rattle.std.proofs.lemmas.List.Folds.{list_any-append}
-use Rattle.std.proofs.lemmas.Str.{chars-encodes, encodes-append, scalars-chars}
+use Rattle.std.proofs.lemmas.Str.{IsUtf8-append, IsUtf8-from_ascii, IsUtf8-nil, chars-encodes, encodes-append, scalars-chars}
 use Rattle.std.specs.Char.{is_control}
 use Rattle.std.specs.List.{list_any}
 use Rattle.std.specs.Prelude.{if◌then◌else◌}
@@ -13,12 +13,14 @@ use Rattle.comfy_parts.proofs.CallerLemmas.{AreScanned, HasNo-append, IsSequence
 use Rattle.comfy_parts.specs.Text.{HasNo, Text}
 use Rattle.comfy_parts.specs.VisibleText.{Part, parts}
 use Rattle.comfy_csv_parts.proofs.CleaningLemmas.{each_character}
+use Rattle.comfy_csv_parts.proofs.PieceLemmas.{sequence-IsAscii}
 use Rattle.comfy_csv_parts.specs.Cleaning.{CleanedText, HoldsNoControls, after_character, after_piece, blanks_at, cleaned, column_after, is_harmful, shown, start, visible_of}
 
 -- ---- texts that show harmless characters
 
--- before any rest, the text shows harmless characters
+-- the text is whole characters, and before any rest it shows harmless ones
 record IsHarmless (keeps : Bool) (text : Text) : Type 0 where
+  whole : IsUtf8 text
   seen : List ℕ
   scalars : all_scalars seen ≡ true
   harmless : list_any is_harmful seen ≡ false
@@ -41,11 +43,12 @@ no_escape (c ∷ cs) harmless =
 
 module _ (keeps : Bool) where
   Harmless-nil : IsHarmless keeps []
-  Harmless-nil = record { seen = []; scalars = refl; harmless = refl; shows = λ rest. refl }
+  Harmless-nil = record { whole = IsUtf8-nil; seen = []; scalars = refl; harmless = refl; shows = λ rest. refl }
 
   Harmless-append : (xs ys : Text) → IsHarmless keeps xs → IsHarmless keeps ys → IsHarmless keeps (xs ++ ys)
   Harmless-append xs ys front back =
       record {
+        whole = IsUtf8-append xs ys front.whole back.whole;
         seen = front.seen ++ back.seen;
         scalars = scalars-append front.seen back.seen front.scalars back.scalars;
         harmless = list_any-append is_harmful front.seen back.seen ∙ or_from (list_any is_harmful front.seen) (list_any is_harmful back.seen) front.harmless back.harmless;
@@ -60,7 +63,7 @@ module _ (keeps : Bool) where
   -- characters show themselves
   Harmless-characters : (cs : List ℕ) → all_scalars cs ≡ true → list_any is_harmful cs ≡ false → IsHarmless keeps (encode_utf8_all cs)
   Harmless-characters cs scalars harmless =
-      record { seen = cs; scalars = scalars; harmless = harmless; shows = by_kind keeps }
+      record { whole = (cs, (scalars, refl)); seen = cs; scalars = scalars; harmless = harmless; shows = by_kind keeps }
     where
       by_kind : (keeps : Bool) (rest : Text) → visible_of keeps (encode_utf8_all cs ++ rest) ≡ encode_utf8_all cs ++ visible_of keeps rest
       by_kind true rest = (Shows-clear (encode_utf8_all cs) (no_escape cs harmless)).shows rest
@@ -131,7 +134,8 @@ module _ (keeps : Bool) where
 -- a sequence shows nothing
 Harmless-sequence : (text : Text) → IsSequence text → IsHarmless true text
 Harmless-sequence text s =
-    subst (IsHarmless true) (sym s.is) (record { seen = []; scalars = refl; harmless = refl; shows = (Shows-sequence s.code s.parameters).shows })
+    subst (IsHarmless true) (sym s.is)
+    (record { whole = IsUtf8-from_ascii _ (sequence-IsAscii s.code s.parameters); seen = []; scalars = refl; harmless = refl; shows = (Shows-sequence s.code s.parameters).shows })
 
 after-pieces : (ps : List Part) (s : CleanedText) → AreScanned ps [] → all_scalars (bytes_of ps) ≡ true → IsHarmless true s.text → IsHarmless true (fold after_piece s ps).text
 after-pieces [] s scanned scalars before = before
@@ -153,3 +157,7 @@ cleaned-harmless false field utf8 =
 
 pub no_controls : (keeps : Bool) (field : Text) → HoldsNoControls keeps field
 no_controls keeps field utf8 = none_visible keeps (cleaned keeps field) (cleaned-harmless keeps field utf8)
+
+-- and it is whole characters
+pub cleaned_whole : (keeps : Bool) (field : Text) → IsUtf8 field → IsUtf8 (cleaned keeps field)
+cleaned_whole keeps field utf8 = (cleaned-harmless keeps field utf8).whole

@@ -1,8 +1,12 @@
 pub mod CleaningLemmas
 pub mod ColumnLemmas
 pub mod ControlLemmas
+pub mod FieldControlLemmas
 pub mod MarkdownLemmas
+pub mod MarkedLemmas
 pub mod PieceLemmas
 pub mod ProgramLemmas
 pub mod RecordLemmas
+pub mod StyleLemmas
+pub mod TextLineLemmas
 pub mod WordLemmas

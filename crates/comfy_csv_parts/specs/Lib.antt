@@ -1,6 +1,7 @@
 pub mod Cells
 pub mod Cleaning
 pub mod Columns
+pub mod Controls
 pub mod Input
 pub mod Markdown
 pub mod Number
