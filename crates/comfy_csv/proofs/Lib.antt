@@ -1,6 +1,7 @@
 pub mod BuiltLemmas
 pub mod FieldLemmas
 pub mod LineLemmas
+pub mod OutputControlLemmas
 pub mod PrintableTableLemmas
 pub mod RowLemmas
 pub mod RunLemmas

@@ -3,6 +3,7 @@ use Rattle.std.specs.Prelude.{◌≡◌, ℕ, ◌<◌, ◌≤◌, Bool, true, fa
 use Rattle.comfy_parts.specs.CellValue.{plain_cell}
 use Rattle.comfy_parts.specs.Columns.{IsOneColumnStyle}
 use Rattle.comfy_parts.specs.Text.{Text, is_printable_ascii, measure}
+use Rattle.comfy_parts.specs.VisibleText.{visible_text}
 use Rattle.comfy_table.specs.Arrangement.{IsArranged}
 use Rattle.comfy_table.specs.Drawing.{terminated_text_of}
 use Rattle.comfy_table.specs.FittingTables.{CharactersFitColumn}
@@ -14,7 +15,12 @@ use Rattle.comfy_table.specs.TableValue.{TableValue}
 use Rattle.comfy_table.specs.Widths.{shown_count}
 use Rattle.comfy_csv_parts.specs.Cells.{field_text, row_for}
 use Rattle.comfy_csv_parts.specs.Columns.{chosen_columns, count_of}
-use Rattle.comfy_csv.specs.Drawn.{IsOutputOf, limited, note_for, row_count, table_for}
+use Rattle.comfy_csv_parts.specs.Controls.{HasNothingHarmful, IsStyleWithoutControls}
+use Rattle.comfy_csv_parts.specs.Words.{IsAsked}
+use Rattle.comfy_csv_parts.specs.declared.arguments.Asked.{Asked}
+use Rattle.comfy_csv_parts.specs.declared.arguments.Surroundings.{Surroundings}
+use Rattle.comfy_csv.specs.Drawn.{IsOutputFor, IsOutputOf, limited, note_for, row_count, table_for}
+use Rattle.csv.specs.Records.{AllText}
 use Rattle.comfy_csv_parts.specs.declared.options.Look.{Look}
 use Rattle.comfy_csv_parts.specs.declared.options.Options.{Options}
 use Rattle.comfy_csv_parts.specs.declared.options.DrawnColumn.{DrawnColumn}
@@ -115,3 +121,25 @@ abbrev pub PrintableTextsMakePrintableTable : Options → List (List Text) → T
 PrintableTextsMakePrintableTable options records table widths =
     IsUnstyledUncut options.look → EachText (λ text. is_printable_ascii text ≡ true) options.look records → table_for options records ≡ Ok table
     → IsPrintableTable table widths
+
+-- ---- control characters
+
+-- fields are cleaned, and no character of the style is a control character
+pub record IsLookWithoutControls (look : Look) : Type 0 where
+  pub cleaned : look.is_raw ≡ false
+  pub style : IsStyleWithoutControls look.style
+
+-- then nothing harmful is visible of an output for records that are text
+abbrev pub OutputHoldsNoControls : Options → List (List Text) → Text → Type 0
+OutputHoldsNoControls options records output =
+    IsLookWithoutControls options.look → All AllText records → IsOutputOf options records output → HasNothingHarmful (visible_text output)
+
+-- nor of the output for any input
+abbrev pub InputIsDrawnWithoutControls : Options → Text → Text → Type 0
+InputIsDrawnWithoutControls options input output =
+    IsLookWithoutControls options.look → IsOutputFor options input output → HasNothingHarmful (visible_text output)
+
+-- nor of any output that words ask for, unless they ask for raw fields
+abbrev pub AskedOutputHoldsNoControls : List Text → Surroundings → Asked → Text → Text → Type 0
+AskedOutputHoldsNoControls words surroundings asked input output =
+    IsAsked words surroundings asked → asked.options.look.is_raw ≡ false → IsOutputFor asked.options input output → HasNothingHarmful (visible_text output)

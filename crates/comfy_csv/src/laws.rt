@@ -2,12 +2,16 @@
 
 ghost use Rattle.std.specs.Prelude.{List, ℕ};
 ghost use Rattle.comfy_parts.specs.Text.{Text};
-ghost use Rattle.comfy_csv.specs.Laws.{FittingOutputIsStraight, IsFilling, IsWithin, OutputFillsWidth, OutputKeepsToWidth, PrintableFieldsStay, PrintableLinesHave, PrintableTextsMakePrintableTable, TableKeepsRows, WholeOutputIsStraight};
+ghost use Rattle.comfy_csv.specs.Laws.{AskedOutputHoldsNoControls, FittingOutputIsStraight, InputIsDrawnWithoutControls, IsFilling, IsWithin, OutputFillsWidth, OutputHoldsNoControls, OutputKeepsToWidth, PrintableFieldsStay, PrintableLinesHave, PrintableTextsMakePrintableTable, TableKeepsRows, WholeOutputIsStraight};
+ghost use Rattle.comfy_csv_parts.specs.declared.arguments.Asked.{Asked};
+ghost use Rattle.comfy_csv_parts.specs.declared.arguments.Surroundings.{Surroundings};
 ghost use Rattle.comfy_csv_parts.specs.declared.options.Look.{Look};
 ghost use Rattle.comfy_csv_parts.specs.declared.options.Options.{Options};
 ghost use Rattle.comfy_table.specs.TableValue.{TableValue};
 
-pub use comfy_csv_parts::laws::{cleaned_fields_hold_no_controls, escaped_texts_are_read_back};
+pub use comfy_csv_parts::laws::{
+    cleaned_fields_hold_no_controls, escaped_texts_are_read_back, styles_for_words_hold_no_controls,
+};
 
 /// Picking columns loses no row. The table has a row for each record that is drawn, in order, with the fields of the same
 /// columns, and these are the chosen ones.
@@ -39,4 +43,13 @@ pub fn printable_texts_make_printable_tables()
 pub fn outputs_are_straight()
     ensures whole { (options : Options) (records : List (List Text)) (output : Text) → WholeOutputIsStraight options records output }
     ensures characters_fit { (options : Options) (records : List (List Text)) (output : Text) → FittingOutputIsStraight options records output }
+{}
+
+/// Without its SGR sequences an output holds no control character but line feeds, whatever bytes the input has, under every
+/// width, limit and height, in Markdown and in bold. Fields are not left raw, and no character of the style is a control
+/// character; words ask for no such style. ESC stands in those sequences alone.
+pub fn outputs_hold_no_controls()
+    ensures records { (options : Options) (records : List (List Text)) (output : Text) → OutputHoldsNoControls options records output }
+    ensures input { (options : Options) (input output : Text) → InputIsDrawnWithoutControls options input output }
+    ensures asked { (words : List Text) (surroundings : Surroundings) (asked : Asked) (input output : Text) → AskedOutputHoldsNoControls words surroundings asked input output }
 {}
