@@ -6,6 +6,7 @@ mod DrawingTrials
 mod HiddenColumnTrials
 mod InputTrials
 mod OutcomeTrials
+mod OutputControlTrials
 mod PremiseTrials
 mod PresetTrials
 mod RecordTrials

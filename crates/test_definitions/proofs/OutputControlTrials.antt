@@ -1,0 +1,142 @@
+-- Which texts and outputs of `csvtable` hold harmful characters, computed.
+use Rattle.std.proofs.Common.{◌≡◌, ℕ, true, false, List, [], ◌∷◌, None, Some, refl, sym, ◌∙◌, subst}
+use Rattle.std.specs.List.{list_any}
+use Rattle.std.specs.Prelude.{codes, encode_utf8_all}
+use Rattle.std.specs.Str.{NonePass, chars}
+use Rattle.std.proofs.lemmas.Bool.{or_parts, true≢false}
+use Rattle.std.proofs.lemmas.Str.{encodes_same}
+use Rattle.comfy_parts.proofs.Computing.{wrapping}
+use Rattle.comfy_parts.specs.Presets.{ascii_full}
+use Rattle.comfy_parts.specs.Text.{Text}
+use Rattle.comfy_parts.specs.VisibleText.{visible_text}
+use Rattle.comfy_parts.specs.declared.style.table_style.TableStyle.{TableStyle}
+use Rattle.comfy_table.specs.Drawing.{drawing, terminated_text_of}
+use Rattle.comfy_table.specs.TableValue.{TableValue, with_header, with_rows}
+use Rattle.csv.specs.Records.{field_at}
+use Rattle.comfy_csv_parts.specs.Cells.{field_text, header_for, row_for}
+use Rattle.comfy_csv_parts.specs.Cleaning.{is_harmful}
+use Rattle.comfy_csv_parts.specs.Controls.{HasNothingHarmful, IsStyleWithoutControls}
+use Rattle.comfy_csv_parts.specs.Words.{style_for}
+use Rattle.comfy_csv_parts.specs.declared.options.DrawnColumn.{DrawnColumn}
+use Rattle.comfy_csv_parts.specs.declared.options.Look.{Look}
+use Rattle.comfy_csv.specs.Drawn.{empty_table}
+use Rattle.comfy_csv.specs.Laws.{IsLookWithoutControls}
+use Rattle.test_definitions.proofs.TrialTables.{utf8}
+
+-- ---- texts
+
+none_of : (cs : List ℕ) → list_any is_harmful cs ≡ false → NonePass is_harmful cs
+none_of [] none = tt
+none_of (c ∷ cs) none =
+    let each = or_parts (is_harmful c) (list_any is_harmful cs) none in
+    (each.0, none_of cs each.1)
+
+any_of : (cs : List ℕ) → NonePass is_harmful cs → list_any is_harmful cs ≡ false
+any_of [] none = refl
+any_of (c ∷ cs) none = rw none.0 (any_of cs none.1)
+
+-- a text of these characters is a text of no others
+harmless : (cs : List ℕ) → list_any is_harmful cs ≡ false → HasNothingHarmful (encode_utf8_all cs)
+harmless cs none = (cs, refl, none_of cs none)
+
+harmful : (cs : List ℕ) → list_any is_harmful cs ≡ true → ¬ (HasNothingHarmful (encode_utf8_all cs))
+harmful cs some none = true≢false (sym some ∙ any_of cs (subst (NonePass is_harmful) (encodes_same none.0 cs none.1) none.2))
+
+-- line feeds aren't, and U+00A0 follows the last control character
+line_feed_is_harmless : HasNothingHarmful (utf8 "a\n~\u{a0}…\n")
+line_feed_is_harmless = harmless (codes "a\n~\u{a0}…\n") refl
+
+return_is_harmful : ¬ (HasNothingHarmful (utf8 "a\r\n"))
+return_is_harmful = harmful (codes "a\r\n") refl
+
+c1_is_harmful : ¬ (HasNothingHarmful (utf8 "\u{9b}2J"))
+c1_is_harmful = harmful (codes "\u{9b}2J") refl
+
+colours_are_harmless : HasNothingHarmful (visible_text (codes "\u{1b}[1ma\u{1b}[0m\n"))
+unfolding wrapping lib.Utf8.encode
+colours_are_harmless = harmless (codes "a\n") refl
+
+clearing_is_harmful : ¬ (HasNothingHarmful (visible_text (codes "\u{1b}[2J")))
+unfolding wrapping lib.Utf8.encode
+clearing_is_harmful = harmful (codes "\u{1b}[2J") refl
+
+-- ---- looks
+
+-- sequences are kept, and the header is in bold
+abbrev look : Look
+look = record { style = ascii_full; width = None; fills_width = false; max_height = None; has_bold_header = true; has_sequences = true; is_raw = false; is_markdown = false }
+
+look_is_without : IsLookWithoutControls look
+look_is_without = record { cleaned = refl; style = refl }
+
+raw_look_is_not : ¬ (IsLookWithoutControls (record look { is_raw = true }))
+raw_look_is_not is = true≢false is.cleaned
+
+-- a style that fills with TABs
+abbrev with_tabs : TableStyle
+with_tabs = record ascii_full { top_border = record ascii_full.top_border { fill = Some 0x09 } }
+
+tabs_are_not : ¬ (IsLookWithoutControls (record look { style = with_tabs }))
+tabs_are_not is = true≢false is.style
+
+-- ---- fields
+
+-- a field that clears the screen is cleaned, and stays as it is in a raw look
+cleaned_is_harmless : HasNothingHarmful (visible_text (field_text look (codes "\u{1b}[2J")))
+unfolding wrapping lib.Utf8.encode chars
+cleaned_is_harmless = harmless (codes "�[2J") refl
+
+raw_is_harmful : ¬ (HasNothingHarmful (visible_text (field_text (record look { is_raw = true }) (codes "\u{1b}[2J"))))
+unfolding wrapping lib.Utf8.encode chars
+raw_is_harmful = harmful (codes "\u{1b}[2J") refl
+
+-- sequences stay in Markdown, line feeds become `<br>`
+marked_is_harmless : field_text (record look { is_markdown = true }) (codes "\u{1b}[1ma\n|") ≡ codes "\u{1b}[1ma<br>\\|"
+unfolding wrapping lib.Utf8.encode chars
+marked_is_harmless = refl
+
+-- ---- outputs
+
+-- the first field of each record
+abbrev column : DrawnColumn
+column = record { position = 0; alignment = None }
+
+-- a header, and a record whose field clears the screen and then says so in one byte more
+abbrev table : Look → TableValue
+table look =
+    with_rows (row_for look (column ∷ []) (utf8 "\u{1b}[2J\u{9b}J" ∷ []) ∷ []) (with_header (header_for look (column ∷ []) (utf8 "a" ∷ [])) (empty_table look))
+
+abbrev output : Look → Text
+output look = terminated_text_of (drawing (table look) (6 ∷ []))
+
+output_is : visible_text (output look) ≡ utf8 "+--------+\n| a      |\n+========+\n| �[2J�J |\n+--------+\n"
+unfolding wrapping lib.Utf8.encode chars field_at
+output_is = refl
+
+output_is_harmless : HasNothingHarmful (visible_text (output look))
+output_is_harmless = subst HasNothingHarmful (sym output_is) (harmless (codes "+--------+\n| a      |\n+========+\n| �[2J�J |\n+--------+\n") refl)
+
+-- the two premises are needed
+tabs_are_written : visible_text (output (record look { style = with_tabs })) ≡ utf8 "+\t\t\t\t\t\t\t\t+\n| a      |\n+========+\n| �[2J�J |\n+--------+\n"
+unfolding wrapping lib.Utf8.encode chars field_at
+tabs_are_written = refl
+
+output_with_tabs_is_harmful : ¬ (HasNothingHarmful (visible_text (output (record look { style = with_tabs }))))
+output_with_tabs_is_harmful none =
+    harmful (codes "+\t\t\t\t\t\t\t\t+\n| a      |\n+========+\n| �[2J�J |\n+--------+\n") refl (subst HasNothingHarmful tabs_are_written none)
+
+raw_is_written : visible_text (output (record look { is_raw = true })) ≡ utf8 "+--------+\n| a      |\n+========+\n| \u{1b}[2J\u{9b}J |\n+--------+\n"
+unfolding wrapping lib.Utf8.encode chars field_at
+raw_is_written = refl
+
+raw_output_is_harmful : ¬ (HasNothingHarmful (visible_text (output (record look { is_raw = true }))))
+raw_output_is_harmful none =
+    harmful (codes "+--------+\n| a      |\n+========+\n| \u{1b}[2J\u{9b}J |\n+--------+\n") refl (subst HasNothingHarmful raw_is_written none)
+
+-- ---- styles
+
+styles_for_words : IsStyleWithoutControls (style_for (Some (codes "UTF8_FULL")) false)
+styles_for_words = refl
+
+a_style_with_tabs : ¬ (IsStyleWithoutControls with_tabs)
+a_style_with_tabs is = true≢false is
