@@ -1,11 +1,17 @@
-//! A call of `draw` as a program writes it, with a claim that its contract carries.
+//! Calls as a program writes them, each with a claim that their contracts and the laws carry.
 
-ghost use Rattle.std.specs.Prelude.{IfOk};
+ghost use Rattle.std.specs.Prelude.{◌≡◌, IfOk, IfSome, chars, false, string_bytes};
+ghost use Rattle.std.specs.List.{list_any};
+ghost use Rattle.comfy_parts.specs.VisibleText.{visible_text};
+ghost use Rattle.comfy_csv_parts.specs.Cleaning.{is_harmful};
+ghost use Rattle.comfy_csv_parts.specs.Controls.{HasNothingHarmful};
 ghost use Rattle.comfy_csv.specs.Drawn.{IsOutputFor};
+ghost use Rattle.comfy_csv.specs.Laws.{IsLookWithoutControls};
 
-use comfy_csv::{CsvError, Options, draw};
+use comfy_csv::laws::{cleaned_fields_hold_no_controls, outputs_hold_no_controls};
+use comfy_csv::{CsvError, Options, Surroundings, asked_of, cleaned, draw};
 use comfy_run::run::{MemorySink, MemorySource};
-use std::alloc::Global;
+use std::alloc::{AllocError, Global};
 
 /// A sink that holds the output for an input, both in memory.
 pub fn output_for(
@@ -20,4 +26,44 @@ pub fn output_for(
     let mut sink = MemorySink::new(alloc, room, 0)?;
     draw(alloc, &mut source, &mut sink, options)?;
     Ok(sink)
+}
+
+/// The same, for a terminal. Where fields are cleaned and the style holds no control character, nothing but line feeds and
+/// SGR sequences speaks to it, whatever bytes the input has.
+pub fn output_for_terminal(
+    alloc: Global,
+    input: &[u8],
+    room: usize,
+    options: &Options,
+) -> Result<MemorySink, CsvError>
+    ensures { IfOk result (λ sink. IsLookWithoutControls options.now.look → HasNothingHarmful (visible_text sink.bytes)) }
+{
+    outputs_hold_no_controls();
+    output_for(alloc, input, room, options)
+}
+
+/// The same for what words ask for, unless that is raw fields. Then, and after every error, there is none.
+pub fn output_for_words(
+    alloc: Global,
+    input: &[u8],
+    room: usize,
+    words: &[&str],
+    surroundings: Surroundings,
+) -> Option<MemorySink>
+    ensures { IfSome result (λ sink. HasNothingHarmful (visible_text sink.bytes)) }
+{
+    outputs_hold_no_controls();
+    let asked = asked_of(alloc, words, surroundings).ok()?;
+    if asked.options.look.is_raw {
+        return None;
+    }
+    output_for(alloc, input, room, &asked.options).ok()
+}
+
+/// A field in which no control character stands but line feeds.
+pub fn plain_field(alloc: Global, field: &str) -> Result<String, AllocError>
+    ensures { IfOk result (λ text. list_any is_harmful (chars (string_bytes text)) ≡ false) }
+{
+    cleaned_fields_hold_no_controls();
+    cleaned(alloc, field, false)
 }
