@@ -49,7 +49,7 @@ def name_of(path, before, after):
     if after is None:
         return os.path.basename(path)[: -len(".rt")]
     indent, kind, item = re.match(r"(?:\s*#\[.*\n)*( *)pub (?:const )?(\w+) (\w+)", after).groups()
-    owner = [it[1] for it in re.finditer(r"^impl (\w+) \{", before, re.M)]
+    owner = [it[1] for it in re.finditer(r"^impl(?:<.*?>)? (\w+)(?:<.*?>)? \{", before, re.M)]
     return snake(f"{owner[-1]}_{item}" if kind == "fn" and indent else item)
 
 

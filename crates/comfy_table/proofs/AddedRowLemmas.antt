@@ -1,28 +1,27 @@
 -- A row that is added at the end of a table: what was drawn stays above the bottom border, where no column gets wider.
-use Rattle.std.proofs.Common.{◌≡◌, ◌≤◌, ℕ, ◌-◌, List, [], ◌∷◌, ◌++◌, Option, Some, None, length, map, max, nat_lt, arith, refl, sym, ap, ap₂, ◌∙◌, subst, append-nil, append_assoc, slice_index_or}
+use Rattle.std.proofs.Common.{◌≡◌, ◌≤◌, ℕ, ◌-◌, List, [], ◌∷◌, ◌++◌, Option, Some, None, length, map, max, nat_lt, arith, refl, sym, ap, ap₂, ◌∙◌, subst, append-nil, append_assoc}
 use Rattle.std.specs.List.{join_by, range_with_len, slice_get}
 use Rattle.std.specs.Prelude.{MatchOption, if◌then◌else◌, option_and_then, unwrap_or}
 use Rattle.std.proofs.lemmas.List.{map-append}
 use Rattle.comfy_parts.specs.CellValue.{CellValue, ColumnInfo, ColumnValue, RowValue, column_padding, new_column}
 use Rattle.comfy_parts.specs.Text.{Text, greatest}
-use Rattle.comfy_parts.specs.declared.style.table_style.ContentLineStyle.{ContentLineStyle}
 use Rattle.comfy_table.proofs.BoundaryLemmas.{fixed_same, upper_same}
 use Rattle.comfy_table.proofs.ColumnCellLemmas.{greatest-append, greatest_measured, of_measured}
 use Rattle.comfy_parts.proofs.CallerLemmas.{join_by_push}
 use Rattle.comfy_table.proofs.OneDrawingLemmas.{arranged_is_one}
+use Rattle.comfy_table.proofs.OtherRowLemmas.{header_same, row_same}
 use Rattle.comfy_table.specs.AddedRows.{HasColumnsFor, IsWithinContents, RowIsAddedBelow, ShownLinesStay, added_lines, bottom_lines, lines_above_bottom}
 use Rattle.comfy_table.specs.Arrangement.{IsArranged, hidden_columns, is_full_width, room_beside_borders, width_kept, widths_at}
 use Rattle.comfy_table.specs.Drawing.{drawing, drawing_of_infos, drawn_header, drawn_row, drawn_rows, infos_of, whole_widths}
 use Rattle.comfy_table.specs.Dynamic.{IsDynamic}
-use Rattle.comfy_table.specs.Frame.{content_line, optional_frame_line}
-use Rattle.comfy_table.specs.Pieces.{blank_piece, pieces_of_optional, shown_infos}
-use Rattle.comfy_table.specs.TableValue.{TableValue, cell_content_width, cells_at, cells_with_header, column_content_width, measured_cell, shown_columns, table_width, with_row}
+use Rattle.comfy_table.specs.Frame.{optional_frame_line}
+use Rattle.comfy_table.specs.TableValue.{TableValue, cell_content_width, cells_at, cells_with_header, column_content_width, measured_cell, shown_columns, table_width, with_other_rows, with_row}
 use Rattle.comfy_table.specs.Widths.{capped_content, disabled_width, fixed_by_constraint, shown_count, shown_needs, upper_boundary}
 
 module _ (table : TableValue) (row : RowValue) where
   -- the table with the row, and no further column
   abbrev longer : TableValue
-  longer = record table { rows = table.rows ++ row ∷ [] }
+  longer = with_other_rows (table.rows ++ row ∷ []) table
 
   -- it is the table with the row, where each cell has a column
   with_row-is : HasColumnsFor table row → with_row row table ≡ longer
@@ -34,29 +33,12 @@ module _ (table : TableValue) (row : RowValue) where
   -- ---- lines
 
   module _ (infos : List ColumnInfo) where
-    -- the rows of a table don't change what is drawn of one
-    pieces_same : (r : RowValue) (info : ColumnInfo) (cell : Option CellValue) → pieces_of_optional longer r info cell ≡ pieces_of_optional table r info cell
-    pieces_same r info None = refl
-    pieces_same r info (Some cell) = refl
-
-    row_same : (line : ContentLineStyle) (r : RowValue) → drawn_row longer infos line r ≡ drawn_row table infos line r
-    row_same line r = λ i. framed (λ (p : ℕ × ColumnInfo). pieces_same r p.1 (slice_get r.cells p.0) i)
-      where
-        framed : (ℕ × ColumnInfo → List Text) → List Text
-        framed pieces =
-            map (content_line table.style line)
-            (map (λ k. map (λ (p : ℕ × ColumnInfo). slice_index_or (pieces p) k (blank_piece p.1)) (shown_infos infos)) (range_with_len 0 (greatest (map (λ (p : ℕ × ColumnInfo). length (pieces p)) (shown_infos infos)))))
-
-    header_same : (header : Option RowValue) → drawn_header longer infos header ≡ drawn_header table infos header
-    header_same None = refl
-    header_same (Some header) = ap (λ (lines : List Text). lines ++ optional_frame_line table.style table.style.header_separator (whole_widths infos)) (row_same table.style.header_lines header)
-
     abbrev separator : List Text
     separator = optional_frame_line table.style table.style.row_separator (whole_widths infos)
 
     rows_are : drawn_rows longer infos (table.rows ++ row ∷ []) ≡ drawn_rows table infos table.rows ++ added_lines table infos row
     rows_are =
-        (λ i. join_by (λ (r : RowValue). row_same table.style.content_lines r i) separator (table.rows ++ row ∷ []))
+        (λ i. join_by (λ (r : RowValue). row_same table (table.rows ++ row ∷ []) infos table.style.content_lines r i) separator (table.rows ++ row ∷ []))
         ∙ join_by_push (drawn_row table infos table.style.content_lines) separator table.rows row
         ∙ append_assoc (drawn_rows table infos table.rows) (if nat_lt 0 (length table.rows) then separator else []) (drawn_row table infos table.style.content_lines row)
 
@@ -72,7 +54,7 @@ module _ (table : TableValue) (row : RowValue) where
         let top = optional_frame_line table.style table.style.top_border (whole_widths infos) in
         let rows = drawn_rows table infos table.rows in
         let added = added_lines table infos row in
-        ap (λ (header : List Text). top ++ (header ++ (drawn_rows longer infos (table.rows ++ row ∷ []) ++ bottom_lines table infos))) (header_same table.header)
+        ap (λ (header : List Text). top ++ (header ++ (drawn_rows longer infos (table.rows ++ row ∷ []) ++ bottom_lines table infos))) (header_same table (table.rows ++ row ∷ []) infos table.header)
         ∙ ap (λ (lines : List Text). top ++ (drawn_header table infos table.header ++ (lines ++ bottom_lines table infos))) rows_are
         ∙ ap (λ (lines : List Text). top ++ (drawn_header table infos table.header ++ lines)) (append_assoc rows added (bottom_lines table infos))
         ∙ regrouped top (drawn_header table infos table.header) rows (added ++ bottom_lines table infos)

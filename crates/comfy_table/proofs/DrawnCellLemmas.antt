@@ -1,5 +1,5 @@
 -- The lines of a row are made of the cells that its shown columns draw.
-use Rattle.std.proofs.Common.{◌≡◌, ℕ, zero, suc, List, [], ◌∷◌, Option, Some, None, length, map, refl, ap, ◌∙◌, sym, slice_index_or, unwrap_or}
+use Rattle.std.proofs.Common.{◌≡◌, ℕ, zero, suc, List, Option, Some, None, length, map, refl, ap, ◌∙◌, sym, slice_index_or, unwrap_or}
 use Rattle.std.specs.List.{range_with_len, slice_get}
 use Rattle.std.specs.Prelude.{option_map}
 use Rattle.comfy_parts.proofs.CallerLemmas.{index-map}
@@ -10,7 +10,7 @@ use Rattle.comfy_table.specs.CellLines.{line_at}
 use Rattle.comfy_table.specs.DrawnCells.{DrawnCell, drawn_cell, greatest_height, piece_at, pieces_of_content}
 use Rattle.comfy_table.specs.DrawnLines.{DrawnLine, drawn_line}
 use Rattle.comfy_table.specs.Gaps.{RowGapsValue, gap_line, row_between}
-use Rattle.comfy_table.specs.Pieces.{blank_piece, pieces_of_optional, row_cell_lines, row_lines, text_piece, shown_infos}
+use Rattle.comfy_table.specs.Pieces.{blank_piece, pieces_of_optional, row_cell_lines, row_height, row_lines, text_piece, shown_infos}
 use Rattle.comfy_table.specs.TableValue.{TableValue}
 
 -- the pieces of a cell that a row has, with its lines
@@ -40,7 +40,11 @@ drawn_lines table infos row cells are =
     ap (λ (cells : List DrawnCell). map (λ k. map (piece_at k) cells) (range_with_len 0 (greatest_height cells))) are
     ∙ (λ i. map (λ k. map-map (piece_at k) (drawn_cell table row) (shown_infos infos) i) (range_with_len 0 (greatest (map-map (λ drawn. length drawn.pieces) (drawn_cell table row) (shown_infos infos) i))))
 
--- and between gaps
+-- and its height is theirs
+pub height_of_cells : (table : TableValue) (infos : List ColumnInfo) (row : RowValue) (cells : List DrawnCell) → cells ≡ map (drawn_cell table row) (shown_infos infos) → greatest_height cells ≡ row_height table infos row
+height_of_cells table infos row cells are = ap greatest_height are ∙ ap greatest (map-map (λ (drawn : DrawnCell). length drawn.pieces) (drawn_cell table row) (shown_infos infos))
+
+-- the lines of a row between gaps
 pub drawn_between : (gaps : RowGapsValue) (table : TableValue) (infos : List ColumnInfo) (row : RowValue) (cells : List DrawnCell) → cells ≡ map (drawn_cell table row) (shown_infos infos)
     → map (λ k. gap_line gaps (map (piece_at k) cells)) (range_with_len 0 (greatest_height cells)) ≡ row_between gaps table infos row
 drawn_between gaps table infos row cells are =

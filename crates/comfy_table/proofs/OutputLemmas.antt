@@ -1,15 +1,17 @@
 -- Outputs that lines were written to, one after another.
-use Rattle.std.proofs.Common.{◌≡◌, ◌<◌, ◌≤◌, ◌-◌, ℕ, arith, length, take, List, [], ◌∷◌, ◌++◌, map, refl, ap, ap₂, sym, ◌∙◌, append_assoc, append-nil}
-use Rattle.std.proofs.Math.Seq.{get_or-append_seam, take-append_seam}
+use Rattle.std.proofs.Common.{◌≡◌, ◌<◌, ◌≤◌, ◌-◌, ℕ, arith, length, take, drop, List, [], ◌∷◌, ◌++◌, map, refl, ap, ap₂, sym, subst, ◌∙◌, append_assoc, append-nil}
+use Rattle.std.proofs.Math.Seq.{get_or-append_seam, take-append_seam, take-length}
 use Rattle.std.proofs.lemmas.List.Folds.{flat_map-map}
 use Rattle.std.specs.List.{slice_index}
 use Rattle.std.specs.Prelude.{flat_map}
-use Rattle.std.specs.Str.{trim_end}
-use Rattle.std.proofs.lemmas.List.{length-append}
+use Rattle.std.specs.Str.{IsCharBoundary, IsUtf8, trim_end}
+use Rattle.std.specs.String.Boundary.{IsSplitPoint}
+use Rattle.std.proofs.lemmas.List.{length-append, length-take, take-append-drop}
+use Rattle.std.proofs.lemmas.Str.{IsCharBoundary-from_take}
 use Rattle.std.proofs.lemmas.List.Concat.{flat_map-append}
 use Rattle.comfy_parts.specs.Text.{Text}
 use Rattle.comfy_table.specs.Drawing.{terminated_text_of, text_of}
-use Rattle.comfy_table.specs.Output.{OutputValue, WriterValue, with_lines, with_written}
+use Rattle.comfy_table.specs.Output.{BeginsWith, OutputValue, WriterValue, line_in_text, with_lines, with_written}
 
 -- lines and then more lines
 pub with_lines-append : (first more : List Text) (output : OutputValue) → with_lines more (with_lines first output) ≡ with_lines (first ++ more) output
@@ -29,6 +31,28 @@ four-written one two three four writer =
     written-append three four (with_written two (with_written one writer))
     ∙ written-append two (three ++ four) (with_written one writer)
     ∙ written-append one (two ++ (three ++ four)) writer
+
+-- a text begins with itself
+pub begins-same : (text : Text) → BeginsWith text text
+begins-same text = take-length text
+
+-- what begins with a text that more was appended to begins with the text
+pub begins-before : (front more text : Text) → BeginsWith text (front ++ more) → BeginsWith text front
+begins-before front more text known =
+    let rest = drop (length (front ++ more)) text in
+    ap (take (length front)) (sym (take-append-drop (length (front ++ more)) text) ∙ ap (λ (t : Text). t ++ rest) known ∙ append_assoc front more rest)
+    ∙ take-append_seam front (more ++ rest)
+
+-- what begins with the text of an output that lines were written to begins with the text before them
+pub begins-before_lines : (lines : List Text) (output : OutputValue) (text : Text) → BeginsWith text (with_lines lines output).text → BeginsWith text output.text
+begins-before_lines lines output text known = begins-before output.text (flat_map (line_in_text output.form) lines) text known
+
+-- where a text begins with another it can be cut
+pub begins-split : (front text : Text) (n : ℕ) → IsUtf8 front → IsUtf8 text → n ≡ length front → BeginsWith text front → IsSplitPoint text n
+begins-split front text n front_whole whole size begins =
+    let within : n ≤ length text = omega (arith, size, ap length begins, length-take (length front) text) in
+    let cut : IsCharBoundary text n = IsCharBoundary-from_take text n whole within (subst IsUtf8 (sym (ap (λ k. take k text) size ∙ begins)) front_whole) in
+    (cut.0, λ some below high. cut.1 below high)
 
 -- after the last of some lines stands one line feed more than between them
 terminated : (line : Text) (lines : List Text) → terminated_text_of (line ∷ lines) ≡ text_of (line ∷ lines) ++ 0x0A ∷ []

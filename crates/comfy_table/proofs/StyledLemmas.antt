@@ -1,5 +1,5 @@
 -- What stays true of texts as they are drawn: of styled texts, and of their pieces.
-use Rattle.std.proofs.Common.{◌≡◌, ◌<◌, length, is_some, ℕ, zero, suc, ◌/◌, ◌%◌, Bool, true, false, ◌&&◌, ◌==◌, List, [], ◌∷◌, ◌++◌, Option, Some, None, refl, ap₂, ◌∙◌, subst, arith, append-nil}
+use Rattle.std.proofs.Common.{◌≡◌, length, is_some, ℕ, zero, suc, ◌/◌, ◌%◌, Bool, true, false, ◌&&◌, ◌==◌, List, [], ◌∷◌, ◌++◌, Option, Some, None, refl, ap₂, ◌∙◌, subst, arith, append-nil}
 use Rattle.std.specs.List.{list_all, flat_map, filter}
 use Rattle.std.specs.Fmt.{digits, digits_onto, digit_glyph, decimal}
 use Rattle.std.specs.Prelude.{if◌then◌else◌, codes}

@@ -20,6 +20,7 @@ pub mod Lines
 pub mod LongestLine
 pub mod NewTables
 pub mod Output
+pub mod Parts
 pub mod Pieces
 pub mod Predicate
 pub mod Straight

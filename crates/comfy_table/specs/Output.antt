@@ -1,5 +1,5 @@
 -- Private: the drawn lines of a table as they are kept: each as a text of its own, or all in one text.
-use Rattle.std.specs.Prelude.{List, [], ◌∷◌, ◌++◌, flat_map}
+use Rattle.std.specs.Prelude.{◌≡◌, List, [], ◌∷◌, ◌++◌, flat_map, length, take}
 use Rattle.std.specs.Str.{trim_end}
 use Rattle.comfy_parts.specs.CellValue.{ColumnInfo}
 use Rattle.comfy_parts.specs.Text.{Text}
@@ -34,7 +34,11 @@ abbrev pub with_lines : List Text → OutputValue → OutputValue
 with_lines more output =
     record output { lines = output.lines ++ lines_in_list output.form more; text = output.text ++ flat_map (line_in_text output.form) more }
 
--- what draws a table: the table, its columns' infos, and the output
+-- the text begins with this one
+abbrev pub BeginsWith : Text → Text → Type 0
+BeginsWith text front = take (length front) text ≡ front
+
+-- what draws a table: the table with the rows that are drawn, its columns' infos, and the output
 pub record WriterValue : Type 0 where
   pub table : TableValue
   pub infos : List ColumnInfo

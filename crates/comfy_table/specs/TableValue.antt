@@ -57,6 +57,10 @@ with_row row table = record table { rows = table.rows ++ row ∷ []; columns = c
 abbrev pub with_rows : List RowValue → TableValue → TableValue
 with_rows rows table = fold (λ (t : TableValue) (row : RowValue). with_row row t) table rows
 
+-- the table with these rows in place of its own
+abbrev pub with_other_rows : List RowValue → TableValue → TableValue
+with_other_rows rows table = record table { rows = rows }
+
 -- where one of some rows was refused: the rows before it were appended, and no other
 abbrev pub IsWithRowsBeforeOne : List RowValue → TableValue → TableValue → Type 0
 IsWithRowsBeforeOne rows old new = (n : ℕ) × (n < length rows) × (new ≡ with_rows (take n rows) old)

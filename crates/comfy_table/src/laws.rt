@@ -12,6 +12,7 @@ ghost use Rattle.comfy_table.specs.FittingTables.{FittingTablesAreStraight};
 ghost use Rattle.comfy_table.specs.HiddenColumns.{HiddenColumnsTellNothing, IsDrawnWithoutHidden};
 ghost use Rattle.comfy_table.specs.Laws.{CellKeepsItsText, DynamicIsOne, FillsWidth, IsFreeOfControls, IsFreeOfEscapes, JoinedLinesAreFound, KeepsToWidth, NoLinesAreOneEmptyLine, TerminatedLinesAreFound};
 ghost use Rattle.comfy_table.specs.NewTables.{NewTablesAreStraight, NewTablesLeaveNoneOpen};
+ghost use Rattle.comfy_table.specs.Parts.{AllRowsAreTheTable, PartHasLinesOfTable, PartIsUnstyled};
 ghost use Rattle.comfy_table.specs.TableLaws.{FillsWiderTotal, FrameCounts, FrameFillsWidth, FrameKeepsToWidth, IsAtMostThreeOver, KeepsToWiderTotal, KeepsToWiderTotalInFull, ShrinkingKeepsCells, TableIsFull, TableIsLevelled, TableKeepsContents, TableLevelIsBest};
 ghost use Rattle.comfy_table.specs.TableValue.{TableValue};
 ghost use Rattle.comfy_table.specs.Widths.{ColumnNeeds};
@@ -157,4 +158,12 @@ pub fn shown_lines_stay()
 pub fn hidden_columns_tell_nothing()
     ensures removed { (table : TableValue) (lines : List Text) → IsDrawnWithoutHidden table lines }
     ensures same { (table other : TableValue) (lines others : List Text) → HiddenColumnsTellNothing table other lines others }
+{}
+
+/// Each line of a part of a table is a line of the table over the same widths, so what holds of all of these holds of it. A
+/// part without styling is that part of the table without styling, and all rows make the whole table.
+pub fn parts_have_lines_of_the_table()
+    ensures lines { (table : TableValue) (infos : List ColumnInfo) (first count : ℕ) → PartHasLinesOfTable table infos first count }
+    ensures unstyled { (table : TableValue) (first count : ℕ) → PartIsUnstyled table first count }
+    ensures whole { (table : TableValue) (count : ℕ) → AllRowsAreTheTable table count }
 {}

@@ -17,6 +17,7 @@ pub use comfy_parts::{
     style,
 };
 pub use table::Table;
+pub use table::arranged::ArrangedTable;
 pub use table::column_cells::ColumnCellIter;
 pub use table::output::Lines;
 pub use table::terminal::Terminal;

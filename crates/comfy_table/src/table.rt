@@ -9,6 +9,7 @@ ghost use Rattle.comfy_table.specs.TableLoans.{TableStaysIfErr};
 ghost use Rattle.comfy_table.specs.TableValue.{new_table, with_header, with_row};
 
 mod access;
+pub mod arranged;
 pub mod column_cells;
 mod columns;
 pub(crate) mod content;

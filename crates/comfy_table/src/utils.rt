@@ -13,11 +13,11 @@ pub mod arrangement;
 pub mod formatting;
 
 use crate::table::Table;
+use crate::table::arranged::ArrangedTable;
 use crate::table::output::Lines;
-use arrangement::arrange_content;
 pub use comfy_parts::content_split::ColumnDisplayInfo;
 use comfy_parts::{Column, Result, Row};
-use formatting::{Output, OutputForm, draw};
+use formatting::{Output, OutputForm};
 
 /// The drawn lines of a table: arranged, formatted and framed.
 pub fn build_table(table: &Table) -> Result<Lines>
@@ -28,19 +28,18 @@ pub fn build_table(table: &Table) -> Result<Lines>
     Ok(Lines::new(drawing.into_lines()))
 }
 
-// The drawing of a table. Whatever draws a table does it here.
+// The drawing of a table as a whole.
 pub(crate) fn drawn(table: &Table, form: OutputForm) -> Result<Output>
     ensures { IfOk result (λ output. (lines : List Text) × IsTableDrawing table.now lines × (output ≡ with_lines lines (new_output form))) }
 {
-    look_at_parts(table);
-    // Read for the proof: what was looked at is known to be UTF-8.
-    let _ = &table.indicator;
-    let infos = arrange_content(table)?;
-    draw(table, infos.as_slice(), form)
+    let arranged = ArrangedTable::new(table)?;
+    let mut output = Output::new(*table.columns.allocator(), form);
+    arranged.draw(table.rows.as_slice(), &mut output)?;
+    Ok(output)
 }
 
 // Looks at each part of a table, which shows what every part keeps.
-fn look_at_parts(table: &Table)
+pub(crate) fn look_at_parts(table: &Table)
     ensures { KeepsParts table.now }
 {
     look_at_columns(table.columns.as_slice());

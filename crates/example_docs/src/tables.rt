@@ -3,24 +3,33 @@
 use super::{renew, show};
 use comfy_table::presets::UTF8_FULL;
 use comfy_table::{ColumnConstraint, ContentArrangement, Result, Table, Terminal};
+use std::alloc::Global;
 use std::env;
 use std::io::IsTerminal;
 
 /// Calls each example.
 pub fn run(rt: &HostRuntime, table: &mut Table, new_table: &mut Table) -> anyhow::Result<()> {
-    silent_1(table)?;
+    let alloc = rt.alloc();
+    silent_1(alloc, table)?;
+    silent_2(table)?;
     shown_1(rt, table, new_table)
 }
 
-fn silent_1(table: &mut Table) -> Result<()> {
+fn silent_1(alloc: Global, table: &mut Table) -> Result<()> {
     table_set_header_example(table)?;
     table_add_row_example(table)?;
     table_column_mut_example(table);
+    arranged_table_row_heights_example(table)?;
+    arranged_table_push_rows_example(alloc, table)?;
     column_cell_iter_example(table)?;
     lines_example(table)?;
     table_to_text_example(table)?;
     table_add_rows_example(table)?;
     table_load_style_example(table);
+    Ok(())
+}
+
+fn silent_2(table: &mut Table) -> Result<()> {
     table_set_width_example(table);
     Ok(())
 }
@@ -29,6 +38,8 @@ fn shown_1(rt: &HostRuntime, table: &mut Table, new_table: &mut Table) -> anyhow
     let alloc = rt.alloc();
     renew(alloc, new_table);
     show(rt, table_example(new_table))?;
+    renew(alloc, new_table);
+    arranged_table_example(rt, alloc, new_table)?;
     renew(alloc, new_table);
     table_lines_example(rt, new_table)?;
     renew(alloc, new_table);
@@ -59,6 +70,29 @@ fn table_column_mut_example(table: &mut Table) {
     if let Some(column) = table.column_mut(1) {
         column.set_constraint(ColumnConstraint::Hidden);
     }
+}
+
+fn arranged_table_example(rt: &HostRuntime, alloc: Global, table: &mut Table) -> anyhow::Result<()> {
+    table
+        .add_row(["17", "dock 3"])?
+        .add_row(["8", "rented"])?;
+    let arranged = table.arranged()?;
+    let mut text = String::new(alloc);
+    arranged.push_rows(&mut text, 0, 1)?;
+    arranged.push_rows(&mut text, 1, 1)?;
+    print!(rt; "{text}")?;
+    Ok(())
+}
+
+fn arranged_table_row_heights_example(table: &mut Table) -> Result<()> {
+    let heights = table.arranged()?.row_heights()?;
+    Ok(())
+}
+
+fn arranged_table_push_rows_example(alloc: Global, table: &mut Table) -> Result<()> {
+    let mut page = String::new(alloc);
+    table.arranged()?.push_rows(&mut page, 40, 20)?;
+    Ok(())
 }
 
 fn column_cell_iter_example(table: &mut Table) -> Result<()> {

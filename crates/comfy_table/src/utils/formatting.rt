@@ -13,6 +13,7 @@ mod shown_column;
 mod styling;
 
 pub(crate) use drawing::draw;
+pub(crate) use drawn_cell::row_heights;
 pub(crate) use output::{Output, OutputForm};
 
 /// How texts are measured, cut and wrapped.

@@ -1,12 +1,13 @@
 //! The lines of a table, in their order.
 
-ghost use Rattle.std.specs.Prelude.{◌≡◌, [], nat_lt, IfOk, OnOk, Some, map, string_bytes, option_to_list, if◌then◌else◌};
+ghost use Rattle.std.specs.Prelude.{◌≡◌, [], nat_lt, IfOk, OnErr, OnOk, Some, map, string_bytes, option_to_list, if◌then◌else◌};
 ghost use Rattle.std.specs.List.{join_by, range_with_len};
 ghost use Rattle.comfy_table.specs.DrawnCells.{greatest_height, piece_at};
 ghost use Rattle.comfy_table.specs.Drawing.{drawing_of_infos, drawn_header, drawn_rows, whole_widths};
 ghost use Rattle.comfy_table.specs.Frame.{optional_frame_line};
 ghost use Rattle.comfy_table.specs.Gaps.{gap_line, row_between};
-ghost use Rattle.comfy_table.specs.Output.{new_output, with_lines, with_written};
+ghost use Rattle.comfy_table.specs.Output.{BeginsWith, with_lines, with_written};
+ghost use Rattle.comfy_table.specs.TableValue.{with_other_rows};
 
 use crate::table::Table;
 use crate::utils::formatting::borders::{is_drawn, optional_frame_line, push_frame_line};
@@ -18,14 +19,24 @@ use comfy_parts::content_split::ColumnDisplayInfo;
 use comfy_parts::style::{ContentLineStyle, LineStyle};
 use comfy_parts::{Result, Row};
 use std::marker::Model;
+use std::mem;
 
-/// The lines of a table whose columns are drawn by these infos: top border, header, rows, bottom border.
-pub fn draw(table: &Table, infos: &[ColumnDisplayInfo], form: OutputForm) -> Result<Output>
-    ensures { IfOk result (λ output. output ≡ with_lines (drawing_of_infos table.now infos.now) (new_output form)) }
+/// Appends the lines of a table with these rows alone, whose columns are drawn by these infos: top border, header, rows,
+/// bottom border. After `OutOfMemory` the text of the output begins with what it was.
+pub fn draw<'a>(
+    table: &'a Table,
+    infos: &'a [ColumnDisplayInfo],
+    rows: &'a [Row],
+    output: &mut Output,
+) -> Result<()>
+    ensures ok { OnOk result (output.new ≡ with_lines (drawing_of_infos (with_other_rows rows.now table.now) infos.now) output.old) }
+    ensures err { OnErr result (BeginsWith output.new.text output.old.text) }
 {
-    let mut writer = Writer::new(table, infos, form)?;
-    writer.write()?;
-    Ok(writer.output)
+    let mut writer = Writer::new(table, infos, rows)?;
+    mem::swap(&mut writer.output, output);
+    let written = writer.write();
+    mem::swap(&mut writer.output, output);
+    written
 }
 
 /// What draws a table, line by line.
@@ -33,6 +44,7 @@ pub fn draw(table: &Table, infos: &[ColumnDisplayInfo], form: OutputForm) -> Res
 struct Writer<'a> {
     table: &'a Table,
     infos: &'a [ColumnDisplayInfo],
+    rows: &'a [Row],
     columns: Vec<ShownColumn<'a>>,
     // the cells of the row that is drawn now
     cells: Vec<DrawnCell<'a>>,
@@ -45,32 +57,36 @@ impl<'a> Model for Writer<'a> {
     ghost use Rattle.std.specs.Prelude.{◌≡◌};
     ghost use Rattle.comfy_table.specs.Output.{WriterValue};
     ghost use Rattle.comfy_table.specs.Pieces.{shown_infos};
+    ghost use Rattle.comfy_table.specs.TableValue.{with_other_rows};
 
     ghost Value = { WriterValue };
 
     ghost invariant = { λ w. w.columns.items ≡ shown_infos w.infos.now };
 
-    ghost view = { λ w. record { table = w.table.now; infos = w.infos.now; output = w.output } };
+    ghost view = { λ w. record { table = with_other_rows w.rows.now w.table.now; infos = w.infos.now; output = w.output } };
 }
 
 impl<'a> Writer<'a> {
-    fn new(table: &'a Table, infos: &'a [ColumnDisplayInfo], form: OutputForm) -> Result<Writer<'a>>
-        ensures { IfOk result (λ writer. writer ≡ record { table = table.now; infos = infos.now; output = new_output form }) }
+    // The output is empty.
+    fn new(table: &'a Table, infos: &'a [ColumnDisplayInfo], rows: &'a [Row]) -> Result<Writer<'a>>
+        ensures { IfOk result (λ writer. (writer.table ≡ with_other_rows rows.now table.now) × (writer.infos ≡ infos.now)) }
     {
         let alloc = *table.columns.allocator();
         Ok(Writer {
             table,
             infos,
+            rows,
             columns: shown_infos(alloc, infos)?,
             cells: Vec::new(alloc),
             line: String::new(alloc),
-            output: Output::new(alloc, form),
+            output: Output::new(alloc, OutputForm::Joined),
         })
     }
 
     // All lines.
     fn write(&mut self) -> Result<()>
-        ensures { OnOk result (self.new ≡ with_written (drawing_of_infos self.old.table self.old.infos) self.old) }
+        ensures ok { OnOk result (self.new ≡ with_written (drawing_of_infos self.old.table self.old.infos) self.old) }
+        ensures err { OnErr result (BeginsWith self.new.output.text self.old.output.text) }
     {
         let table = self.table;
         self.write_frame_line(&table.style.top_border)?;
@@ -81,7 +97,8 @@ impl<'a> Writer<'a> {
 
     // A line of the frame, where it is drawn.
     fn write_frame_line(&mut self, style: &LineStyle) -> Result<()>
-        ensures { OnOk result (self.new ≡ with_written (optional_frame_line self.old.table.style style.now (whole_widths self.old.infos)) self.old) }
+        ensures ok { OnOk result (self.new ≡ with_written (optional_frame_line self.old.table.style style.now (whole_widths self.old.infos)) self.old) }
+        ensures err { OnErr result (BeginsWith self.new.output.text self.old.output.text) }
     {
         if !is_drawn(style) {
             return Ok(());
@@ -93,7 +110,8 @@ impl<'a> Writer<'a> {
 
     // The header's lines and the header separator, where there is a header.
     fn write_header(&mut self) -> Result<()>
-        ensures { OnOk result (self.new ≡ with_written (drawn_header self.old.table self.old.infos self.old.table.header) self.old) }
+        ensures ok { OnOk result (self.new ≡ with_written (drawn_header self.old.table self.old.infos self.old.table.header) self.old) }
+        ensures err { OnErr result (BeginsWith self.new.output.text self.old.output.text) }
     {
         let table = self.table;
         match &table.header {
@@ -104,7 +122,8 @@ impl<'a> Writer<'a> {
 
     // The lines of this header, and the header separator.
     fn write_header_lines(&mut self, header: &'a Row) -> Result<()>
-        ensures { OnOk result (self.new ≡ with_written (drawn_header self.old.table self.old.infos (Some header.now)) self.old) }
+        ensures ok { OnOk result (self.new ≡ with_written (drawn_header self.old.table self.old.infos (Some header.now)) self.old) }
+        ensures err { OnErr result (BeginsWith self.new.output.text self.old.output.text) }
     {
         let table = self.table;
         let gaps = RowGaps::new(table, &table.style.header_lines)?;
@@ -114,7 +133,8 @@ impl<'a> Writer<'a> {
 
     // The rows' lines, with the row separator between each two rows.
     fn write_rows(&mut self) -> Result<()>
-        ensures { OnOk result (self.new ≡ with_written (drawn_rows self.old.table self.old.infos self.old.table.rows) self.old) }
+        ensures ok { OnOk result (self.new ≡ with_written (drawn_rows self.old.table self.old.infos self.old.table.rows) self.old) }
+        ensures err { OnErr result (BeginsWith self.new.output.text self.old.output.text) }
     {
         let table = self.table;
         let separator = optional_frame_line(
@@ -127,10 +147,10 @@ impl<'a> Writer<'a> {
     }
 
     fn write_separated_rows(&mut self, gaps: &RowGaps, separator: &Option<String>) -> Result<()>
-        ensures { OnOk result (self.new ≡ with_written (join_by (row_between gaps.now self.old.table self.old.infos) (map string_bytes (option_to_list separator.now)) self.old.table.rows) self.old) }
+        ensures ok { OnOk result (self.new ≡ with_written (join_by (row_between gaps.now self.old.table self.old.infos) (map string_bytes (option_to_list separator.now)) self.old.table.rows) self.old) }
+        ensures err { OnErr result (BeginsWith self.new.output.text self.old.output.text) }
     {
-        let table = self.table;
-        let rows = table.rows.as_slice();
+        let rows = self.rows;
         for (position, row) in rows.iter().enumerate() {
             self.write_separator(separator, position)?;
             self.write_row(gaps, row)?;
@@ -140,7 +160,8 @@ impl<'a> Writer<'a> {
 
     // The row separator, before each row but the first.
     fn write_separator(&mut self, separator: &Option<String>, position: usize) -> Result<()>
-        ensures { OnOk result (self.new ≡ with_written (if nat_lt 0 position then map string_bytes (option_to_list separator.now) else []) self.old) }
+        ensures ok { OnOk result (self.new ≡ with_written (if nat_lt 0 position then map string_bytes (option_to_list separator.now) else []) self.old) }
+        ensures err { OnErr result (BeginsWith self.new.output.text self.old.output.text) }
     {
         if position > 0
             && let Some(text) = separator
@@ -152,7 +173,8 @@ impl<'a> Writer<'a> {
 
     // The lines of a row.
     fn write_row(&mut self, gaps: &RowGaps, row: &'a Row) -> Result<()>
-        ensures { OnOk result (self.new ≡ with_written (row_between gaps.now self.old.table self.old.infos row.now) self.old) }
+        ensures ok { OnOk result (self.new ≡ with_written (row_between gaps.now self.old.table self.old.infos row.now) self.old) }
+        ensures err { OnErr result (BeginsWith self.new.output.text self.old.output.text) }
     {
         set_drawn_cells(&mut self.cells, row, self.columns.as_slice(), self.table)?;
         push_row(
@@ -171,7 +193,8 @@ fn push_row(
     gaps: &RowGaps,
     cells: &[DrawnCell],
 ) -> Result<()>
-    ensures { OnOk result (output.new ≡ with_lines (map (λ k. gap_line gaps.now (map (piece_at k) cells.now)) (range_with_len 0 (greatest_height cells.now))) output.old) }
+    ensures ok { OnOk result (output.new ≡ with_lines (map (λ k. gap_line gaps.now (map (piece_at k) cells.now)) (range_with_len 0 (greatest_height cells.now))) output.old) }
+    ensures err { OnErr result (BeginsWith output.new.text output.old.text) }
 {
     for line in 0..greatest_height(cells) {
         text.clear();

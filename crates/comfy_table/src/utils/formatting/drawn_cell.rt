@@ -3,12 +3,13 @@
 ghost use Rattle.std.specs.Prelude.{◌≡◌, IfOk, OnOk, length, map};
 ghost use Rattle.comfy_parts.specs.CellValue.{info_width};
 ghost use Rattle.comfy_table.specs.DrawnCells.{drawn_cell, greatest_height, piece_at};
+ghost use Rattle.comfy_table.specs.Pieces.{row_height};
 
 use crate::table::Table;
 use crate::table::column_cells::cell_at;
 use crate::utils::formatting::cell_lines::{CellLines, row_cell_lines};
 use crate::utils::formatting::piece::Piece;
-use crate::utils::formatting::shown_column::ShownColumn;
+use crate::utils::formatting::shown_column::{ShownColumn, shown_infos};
 use comfy_parts::content_split::ColumnDisplayInfo;
 use comfy_parts::{Cell, Result, Row};
 use std::marker::Model;
@@ -86,6 +87,22 @@ pub fn greatest_height(cells: &[DrawnCell]) -> usize
         height = cell.height().max(height);
     }
     height
+}
+
+/// How many lines each row of a table is drawn in.
+pub fn row_heights(table: &Table, infos: &[ColumnDisplayInfo]) -> Result<Vec<usize>>
+    ensures { IfOk result (λ heights. heights.items ≡ map (row_height table.now infos.now) table.now.rows) }
+{
+    let alloc = *table.columns.allocator();
+    let columns = shown_infos(alloc, infos)?;
+    let mut cells = Vec::new(alloc);
+    let rows = table.rows.as_slice();
+    let mut heights = Vec::with_capacity(alloc, rows.len())?;
+    for row in rows {
+        set_drawn_cells(&mut cells, row, columns.as_slice(), table)?;
+        heights.push(greatest_height(cells.as_slice()))?;
+    }
+    Ok(heights)
 }
 
 // A shown column with the cell that stands at its position in a row.

@@ -1,7 +1,8 @@
 //! Where drawn lines go.
 
-ghost use Rattle.std.specs.Prelude.{◌≡◌, ◌++◌, ◌∷◌, [], OnOk, map, string_bytes};
-ghost use Rattle.comfy_table.specs.Output.{new_output, with_lines};
+ghost use Rattle.std.specs.Prelude.{◌≡◌, ◌++◌, ◌∷◌, [], OnErr, OnOk, map, string_bytes};
+ghost use Rattle.comfy_table.specs.Output.{BeginsWith, new_output, with_lines};
+ghost use Rattle.comfy_table.specs.declared.utils.formatting.output.OutputForm.TheVariants.{Joined};
 
 use comfy_parts::Result;
 use std::alloc::Global;
@@ -47,10 +48,22 @@ impl Output {
         }
     }
 
-    /// Appends a drawn line.
+    /// An output that goes on with a text, by lines that are each followed by a line feed. It takes no memory.
+    pub fn after(text: String) -> Output
+        ensures { result ≡ record (new_output Joined) { text = string_bytes text } }
+    {
+        Output {
+            form: OutputForm::Joined,
+            lines: Vec::new(*text.allocator()),
+            text,
+        }
+    }
+
+    /// Appends a drawn line. After `OutOfMemory` the one text begins with what it was.
     #[inline(always)]
     pub fn push_line(&mut self, line: &str) -> Result<()>
-        ensures { OnOk result (self.new ≡ with_lines (line.now ∷ []) self.old) }
+        ensures ok { OnOk result (self.new ≡ with_lines (line.now ∷ []) self.old) }
+        ensures err { OnErr result (BeginsWith self.new.text self.old.text) }
     {
         match self.form {
             OutputForm::Lines => {
@@ -80,7 +93,8 @@ impl Output {
 
 // Appends a line and a line feed.
 fn push_terminated(text: &mut String, line: &str) -> Result<()>
-    ensures { OnOk result (string_bytes text.new ≡ string_bytes text.old ++ (line.now ++ 0x0A ∷ [])) }
+    ensures ok { OnOk result (string_bytes text.new ≡ string_bytes text.old ++ (line.now ++ 0x0A ∷ [])) }
+    ensures err { OnErr result (BeginsWith (string_bytes text.new) (string_bytes text.old)) }
 {
     text.push_str(line)?;
     text.push('\n')?;

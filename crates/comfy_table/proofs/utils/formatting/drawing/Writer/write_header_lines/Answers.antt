@@ -7,8 +7,8 @@ use Rattle.comfy_table.specs.Gaps.{RowGapsValue, row_between, row_gaps}
 use Rattle.comfy_table.specs.Output.{WriterValue, with_written}
 use Rattle.comfy_table.proofs.utils.formatting.drawing.Writer.write_header_lines.Goals as goal
 
-pub returns : goal.returns
-returns c =
+pub returns-clause-ok : goal.returns-clause-ok
+returns-clause-ok c =
     let start = c.args.self.now in
     let lines = row_between (row_gaps start.table.style start.table.style.header_lines) start.table start.infos c.args.header.now in
     let separator = optional_frame_line start.table.style start.table.style.header_separator (whole_widths start.infos) in

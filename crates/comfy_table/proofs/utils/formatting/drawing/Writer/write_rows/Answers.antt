@@ -10,8 +10,8 @@ use Rattle.comfy_table.specs.Output.{WriterValue, with_written}
 use Rattle.comfy_table.specs.Pieces.{shown_infos}
 use Rattle.comfy_table.proofs.utils.formatting.drawing.Writer.write_rows.Goals as goal
 
-pub returns : goal.returns
-returns c =
+pub returns-clause-ok : goal.returns-clause-ok
+returns-clause-ok c =
     let start = c.args.self.now in
     let gaps : c.in_ok-gaps.gaps ≡ row_gaps start.table.style start.table.style.content_lines = grind arith in
     let widths : map (λ (p : ℕ × ColumnInfo). info_width p.1) c.as_slice.result.now ≡ whole_widths start.infos =

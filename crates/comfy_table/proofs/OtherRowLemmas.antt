@@ -1,0 +1,34 @@
+-- The rows that a table has change nothing in how one row is drawn.
+use Rattle.std.proofs.Common.{◌≡◌, ℕ, List, ◌++◌, Option, Some, None, length, map, refl, ap}
+use Rattle.std.specs.List.{range_with_len, slice_get}
+use Rattle.std.specs.Prelude.{slice_index_or}
+use Rattle.comfy_parts.specs.CellValue.{CellValue, ColumnInfo, RowValue}
+use Rattle.comfy_parts.specs.Text.{Text, greatest}
+use Rattle.comfy_parts.specs.declared.style.table_style.ContentLineStyle.{ContentLineStyle}
+use Rattle.comfy_table.specs.Drawing.{drawn_header, drawn_row, whole_widths}
+use Rattle.comfy_table.specs.Frame.{content_line, optional_frame_line}
+use Rattle.comfy_table.specs.Pieces.{blank_piece, pieces_of_optional, row_lines, shown_infos}
+use Rattle.comfy_table.specs.TableValue.{TableValue, with_other_rows}
+
+module _ (table : TableValue) (rows : List RowValue) (infos : List ColumnInfo) where
+  -- the table with other rows
+  abbrev other : TableValue
+  other = with_other_rows rows table
+
+  pieces_same : (row : RowValue) (info : ColumnInfo) (cell : Option CellValue) → pieces_of_optional other row info cell ≡ pieces_of_optional table row info cell
+  pieces_same row info None = refl
+  pieces_same row info (Some cell) = refl
+
+  pub lines_same : (row : RowValue) → row_lines other infos row ≡ row_lines table infos row
+  lines_same row = λ i. of_pieces (λ (p : ℕ × ColumnInfo). pieces_same row p.1 (slice_get row.cells p.0) i)
+    where
+      of_pieces : (ℕ × ColumnInfo → List Text) → List (List Text)
+      of_pieces pieces =
+          map (λ k. map (λ (p : ℕ × ColumnInfo). slice_index_or (pieces p) k (blank_piece p.1)) (shown_infos infos)) (range_with_len 0 (greatest (map (λ (p : ℕ × ColumnInfo). length (pieces p)) (shown_infos infos))))
+
+  pub row_same : (line : ContentLineStyle) (row : RowValue) → drawn_row other infos line row ≡ drawn_row table infos line row
+  row_same line row = ap (map (content_line table.style line)) (lines_same row)
+
+  pub header_same : (header : Option RowValue) → drawn_header other infos header ≡ drawn_header table infos header
+  header_same None = refl
+  header_same (Some header) = ap (λ (lines : List Text). lines ++ optional_frame_line table.style table.style.header_separator (whole_widths infos)) (row_same table.style.header_lines header)

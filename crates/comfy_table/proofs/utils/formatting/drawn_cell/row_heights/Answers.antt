@@ -1,0 +1,16 @@
+use Rattle.std.proofs.Common.{◌≡◌, ap, ◌∙◌, arith, map}
+use Rattle.std.proofs.lemmas.Grind.{common_steps}
+use Rattle.comfy_table.proofs.DrawnCellLemmas.{height_of_cells}
+use Rattle.comfy_table.specs.DrawnCells.{drawn_cell}
+use Rattle.comfy_table.specs.Pieces.{row_height}
+use Rattle.comfy_table.proofs.utils.formatting.drawn_cell.row_heights.Goals as goal
+
+pub loop-row-preserved : goal.loop-row-preserved
+loop-row-preserved c =
+    let table = c.args.table.now in
+    let infos = c.args.infos.now in
+    let row = c.row-item.result in
+    let height : c.greatest_height.result ≡ row_height table infos row =
+    c.greatest_height.ensures ∙ height_of_cells table infos row c.as_slice-in-loop-row.result.now
+    (c.as_slice-in-loop-row.ensures.value ∙ c.in_ok-set_drawn_cells.ensures ∙ ap (map (drawn_cell table row)) (c.as_slice.ensures.value ∙ c.in_ok-columns.ensures)) in
+    grind (arith, height, common_steps)
