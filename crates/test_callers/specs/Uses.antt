@@ -1,5 +1,5 @@
 -- What the callers in `uses` say of drawings and of rows.
-use Rattle.std.specs.Prelude.{◌≡◌, ◌≤◌, ◌==◌, ◌∷◌, ℕ, [], List, Some, All, map, slice_get}
+use Rattle.std.specs.Prelude.{◌≡◌, ◌≤◌, ◌==◌, ◌∷◌, ◌++◌, ℕ, [], List, Some, false, All, map, slice_get}
 use Rattle.std.specs.List.{concat, slice_split}
 use Rattle.comfy_parts.specs.CellValue.{CellValue, ColumnInfo, RowValue, info_of, new_column, plain_cell, plain_row}
 use Rattle.comfy_parts.specs.Laws.{characters_without}
@@ -11,10 +11,10 @@ use Rattle.comfy_parts.specs.declared.style.table.ContentArrangement.TheVariants
 use Rattle.comfy_parts.specs.declared.style.table_style.LineStyle.{LineStyle}
 use Rattle.comfy_table.specs.Drawing.{drawing, infos_of, whole_widths}
 use Rattle.comfy_table.specs.Frame.{frame_line}
-use Rattle.comfy_table.specs.Laws.{FillsWidth, IsPrintableTable, KeepsToWidth, NoConstraints, count, least_total, unstyled}
+use Rattle.comfy_table.specs.Laws.{FillsWidth, HasUnbrokenStyle, IsPrintableTable, KeepsToWidth, NoConstraints, count, least_total, unstyled}
 use Rattle.comfy_table.specs.Pieces.{row_cell_lines, shown_infos}
 use Rattle.comfy_table.specs.TableLaws.{FillsWiderTotal, FrameCounts, FrameFillsWidth, FrameKeepsToWidth, IsAtMostThreeOver, KeepsToWiderTotal, KeepsToWiderTotalInFull, TableIsFull, TableIsLevelled, TableKeepsContents, TableLevelIsBest}
-use Rattle.comfy_table.specs.TableValue.{TableValue, constrained, header_and_rows, new_table, with_header, with_row}
+use Rattle.comfy_table.specs.TableValue.{TableValue, constrained, header_and_rows, new_table, should_style, table_width, with_header, with_row}
 use Rattle.test_callers.specs.declared.uses.items.NumberRows.{NumberRows}
 
 -- the lines are a drawing of the table in which each frame line has n characters
@@ -35,6 +35,12 @@ table_of_two header row = with_row row (with_header header (new_table ascii_full
 abbrev pub IsPrintedWithin : ℕ → TableValue → Text → Type 0
 IsPrintedWithin w table text =
     NoConstraints table → ((widths : List ℕ) → IsPrintableTable table widths) → least_total table ≤ w → All (λ line. count line ≤ w) (slice_split (λ b. b == 0x0A) text)
+
+-- a page is appended, no line of which has more than w characters, where the table without styling and line feeds of its own keeps to w, is plain, and w is enough for it
+abbrev pub AppendsPageWithin : TableValue → Text → Text → Type 0
+AppendsPageWithin table old new =
+    (page : Text) × (new ≡ old ++ page)
+    × ((w : ℕ) → table.arrangement ≡ Dynamic → table_width table ≡ Some w → should_style table ≡ false → table.custom_styling ≡ false → HasUnbrokenStyle table → IsPrintedWithin w table page)
 
 -- a table of two texts, of which the first one is hidden
 abbrev pub with_hidden : Text → Text → TableValue

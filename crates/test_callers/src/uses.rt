@@ -15,6 +15,7 @@ pub mod columns;
 pub mod drawing;
 pub mod items;
 pub mod laws;
+pub mod parts;
 pub mod rows;
 pub mod running;
 pub mod sequences;

@@ -7,6 +7,7 @@ mod HiddenColumnTrials
 mod InputTrials
 mod OutcomeTrials
 mod OutputControlTrials
+mod PartTrials
 mod PremiseTrials
 mod PresetTrials
 mod RecordTrials

@@ -1,5 +1,6 @@
 //! Tests of `comfy_table`.
 
+mod parts;
 mod refused_rows;
 mod surface;
 mod tables;

@@ -30,6 +30,7 @@ fn read(table: &Table, call: &str) -> Option<bool> {
         "to_text" => succeeded(table.to_text()),
         "trim_fmt" => succeeded(table.trim_fmt()),
         "to_terminated_text" => succeeded(table.to_terminated_text()),
+        "arranged" => succeeded(table.arranged()),
         _ => return None,
     };
     Some(is_read)

@@ -12,6 +12,7 @@ mod comparison;
 mod conversions;
 mod fixtures;
 mod outcome;
+mod parts;
 mod rows;
 mod runs;
 mod sequences;
@@ -64,6 +65,7 @@ fn outcome_with(alloc: Global, table: &mut Table, name: &str) -> Result<Outcome>
         "Cell" => cells::outcome_of(alloc, call),
         "Row" => rows::outcome_of(alloc, call),
         "Table" => outcome_on_table(alloc, table, call),
+        "ArrangedTable" => parts::outcome_of(alloc, table, call),
         "sequences" => sequences::outcome_of(alloc, table, call),
         _ => conversions::outcome_of(alloc, name),
     }
@@ -76,7 +78,8 @@ fn outcome_on_table(alloc: Global, table: &mut Table, call: &str) -> Result<Outc
         | "lines"
         | "to_text"
         | "trim_fmt"
-        | "to_terminated_text" => borrowing::outcome_of(alloc, table, call),
+        | "to_terminated_text"
+        | "arranged" => borrowing::outcome_of(alloc, table, call),
         _ => changes::outcome_of(alloc, table, call),
     }
 }

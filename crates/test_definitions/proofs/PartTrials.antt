@@ -1,0 +1,41 @@
+-- Parts of tables and heights of rows, computed.
+use Rattle.std.proofs.Common.{◌≡◌, ℕ, List, [], ◌∷◌, Some, None, refl}
+use Rattle.comfy_parts.proofs.Computing.{wrapping}
+use Rattle.comfy_parts.specs.Presets.{ascii_full}
+use Rattle.comfy_parts.specs.declared.style.column.ColumnConstraint.TheVariants.{Hidden}
+use Rattle.comfy_table.specs.Drawing.{infos_of}
+use Rattle.comfy_table.specs.Parts.{ArrangedValue, part_lines, part_text, row_heights}
+use Rattle.comfy_table.specs.TableValue.{TableValue}
+use Rattle.test_definitions.proofs.TrialTables.{table_of, texts, utf8, with_constraints}
+
+abbrev days : TableValue
+days = table_of ascii_full ("Day" ∷ []) (("ab cd" ∷ []) ∷ ("ef" ∷ []) ∷ ("gh ij kl" ∷ []) ∷ [])
+
+-- such a table over widths
+abbrev over : TableValue → List ℕ → ArrangedValue
+over table widths = record { table = table; infos = infos_of table widths }
+
+-- two rows with the header and the row separator between them, as wide as the whole table
+middle_and_last : part_lines (over days (3 ∷ [])) 1 2
+    ≡ texts ("+-----+" ∷ "| Day |" ∷ "+=====+" ∷ "| ef  |" ∷ "|-----|" ∷ "| gh  |" ∷ "| ij  |" ∷ "| kl  |" ∷ "+-----+" ∷ [])
+unfolding wrapping
+middle_and_last = refl
+
+-- rows beyond the last are none
+beyond_the_last : part_lines (over days (3 ∷ [])) 3 1 ≡ texts ("+-----+" ∷ "| Day |" ∷ "+=====+" ∷ "+-----+" ∷ [])
+unfolding wrapping
+beyond_the_last = refl
+
+-- each line is followed by a line feed
+text_of_none : part_text (over (table_of ascii_full ("Day" ∷ []) []) (3 ∷ [])) 0 1 ≡ utf8 "+-----+\n| Day |\n+=====+\n+-----+\n"
+unfolding wrapping
+text_of_none = refl
+
+-- a row is as high as its highest cell, and without a shown column it has no line
+heights : row_heights (over days (3 ∷ [])) ≡ 2 ∷ 1 ∷ 3 ∷ []
+unfolding wrapping
+heights = refl
+
+heights_of_hidden : row_heights (over (with_constraints (Some Hidden ∷ []) days) (3 ∷ [])) ≡ 0 ∷ 0 ∷ 0 ∷ []
+unfolding wrapping
+heights_of_hidden = refl

@@ -1,0 +1,194 @@
+//! Tables drawn in parts: all at the widths of the whole table, each with header and borders.
+
+use crate::support::{assert_given, table_of};
+use comfy_table::{ColumnConstraint, ContentArrangement, Table};
+use std::alloc::{Alloc, Global};
+use std::process::Abort;
+
+// 17 terminal columns less three border characters and four spaces leave five for each text.
+fn fill(rt: &(impl Abort + Alloc<A = Global>), table: &mut Table) {
+    table.try_set_header(["Day", "Count"]).expect(rt, "memory");
+    table
+        .try_add_row(["1 May", "seven eight"])
+        .expect(rt, "memory");
+    table.try_add_row(["2 May", "three"]).expect(rt, "memory");
+    table
+        .try_add_row(["3 May", "eight three seven"])
+        .expect(rt, "memory");
+    table
+        .set_width(17)
+        .set_content_arrangement(ContentArrangement::Dynamic);
+}
+
+fn days(rt: &(impl Abort + Alloc<A = Global>)) -> Table {
+    let mut table = Table::new(rt.alloc());
+    fill(rt, &mut table);
+    table
+}
+
+// The text of these rows, drawn alone.
+fn part(
+    rt: &impl Alloc<A = Global>,
+    table: &Table,
+    first: usize,
+    count: usize,
+) -> comfy_table::Result<String> {
+    let mut text = String::new(rt.alloc());
+    table.arranged()?.push_rows(&mut text, first, count)?;
+    Ok(text)
+}
+
+fn assert_part(
+    rt: &(impl Abort + Alloc<A = Global>),
+    table: &Table,
+    first: usize,
+    count: usize,
+    wanted: &str,
+) {
+    assert_given(rt, part(rt, table, first, count), wanted);
+}
+
+#[test]
+fn each_part_has_the_widths_of_the_whole(rt: HostRuntime) {
+    let table = days(&rt);
+    assert_part(
+        &rt,
+        &table,
+        0,
+        1,
+        "\
++-------+-------+
+| Day   | Count |
++===============+
+| 1 May | seven |
+|       | eight |
++-------+-------+
+",
+    );
+    assert_part(
+        &rt,
+        &table,
+        1,
+        1,
+        "\
++-------+-------+
+| Day   | Count |
++===============+
+| 2 May | three |
++-------+-------+
+",
+    );
+    assert_part(
+        &rt,
+        &table,
+        2,
+        1,
+        "\
++-------+-------+
+| Day   | Count |
++===============+
+| 3 May | eight |
+|       | three |
+|       | seven |
++-------+-------+
+",
+    );
+}
+
+#[test]
+fn rows_of_a_part_have_separators_between_them(rt: HostRuntime) {
+    assert_part(
+        &rt,
+        &days(&rt),
+        1,
+        9,
+        "\
++-------+-------+
+| Day   | Count |
++===============+
+| 2 May | three |
+|-------+-------|
+| 3 May | eight |
+|       | three |
+|       | seven |
++-------+-------+
+",
+    );
+}
+
+const HEADER_ALONE: &str = "\
++-------+-------+
+| Day   | Count |
++===============+
++-------+-------+
+";
+
+#[test]
+fn rows_beyond_the_last_are_none(rt: HostRuntime) {
+    let table = days(&rt);
+    assert_part(&rt, &table, 3, 1, HEADER_ALONE);
+    assert_part(&rt, &table, usize::MAX, usize::MAX, HEADER_ALONE);
+    assert_part(&rt, &table, 1, 0, HEADER_ALONE);
+}
+
+// The parts of a table, one after another, follow what a text has.
+fn two_parts(rt: &impl Alloc<A = Global>, table: &Table) -> comfy_table::Result<String> {
+    let mut text = String::from_str(rt.alloc(), "Days\n")?;
+    let arranged = table.arranged()?;
+    arranged.push_rows(&mut text, 3, 1)?;
+    arranged.push_rows(&mut text, 4, 1)?;
+    Ok(text)
+}
+
+#[test]
+fn parts_follow_what_a_text_has(rt: HostRuntime) {
+    let wanted = "\
+Days
++-------+-------+
+| Day   | Count |
++===============+
++-------+-------+
++-------+-------+
+| Day   | Count |
++===============+
++-------+-------+
+";
+    assert_given(&rt, two_parts(&rt, &days(&rt)), wanted);
+}
+
+#[test]
+fn a_hidden_column_is_in_no_part(rt: HostRuntime) {
+    let mut table = table_of(&rt, ["a", "bc"]);
+    table.try_add_row(["def", "g"]).expect(&rt, "memory");
+    hide(&mut table, 1);
+    assert_part(&rt, &table, 1, 1, "+----+\n| g  |\n+----+\n");
+    hide(&mut table, 2);
+    assert_part(&rt, &table, 1, 1, "++\n++\n");
+    assert_heights(&rt, &table, &[0, 0]);
+}
+
+// Hides the first columns.
+fn hide(table: &mut Table, count: usize) {
+    for column in table.column_iter_mut().take(count) {
+        column.set_constraint(ColumnConstraint::Hidden);
+    }
+}
+
+// The rows are drawn in so many lines.
+fn assert_heights(rt: &impl Abort, table: &Table, wanted: &[usize]) {
+    let arranged = table.arranged().expect(rt, "memory");
+    let heights = arranged.row_heights().expect(rt, "memory");
+    assert_eq!(rt; heights.as_slice(), wanted);
+}
+
+#[test]
+fn rows_have_the_heights_of_their_highest_cells(rt: HostRuntime) {
+    assert_heights(&rt, &days(&rt), &[2, 1, 3]);
+    assert_heights(&rt, &Table::new(rt.alloc()), &[]);
+}
+
+#[test]
+fn a_table_without_rows_has_its_borders_in_each_part(rt: HostRuntime) {
+    let table = Table::new(rt.alloc());
+    assert_part(&rt, &table, 0, 1, "++\n++\n");
+}
