@@ -1,11 +1,10 @@
-use Rattle.std.proofs.Common.{◌≤◌, ◌==◌, ℕ, List, [], ◌∷◌, ◌++◌, ap, arith, length, string_bytes, subst, sym, ◌∙◌, max}
+use Rattle.std.proofs.Common.{◌≤◌, List, [], ◌∷◌, ◌++◌, ap, arith, length, string_bytes, subst, sym, ◌∙◌, max}
 use Rattle.std.specs.List.{All, Contains}
 use Rattle.std.proofs.lemmas.List.Elements.{All-append, All-cons, All-contains, All-nil, All-weaker}
 use Rattle.std.proofs.lemmas.Str.{chars-nil}
 use Rattle.std.proofs.lemmas.Result.{on_ok_weaker}
 use Rattle.comfy_parts.specs.Text.{Text}
 use Rattle.comfy_table.specs.Drawing.{drawing_of_infos, terminated_text_of}
-use Rattle.comfy_table.specs.Headline.{IsTableDrawing}
 use Rattle.comfy_table.specs.Laws.{HasNoBreak, count, least_total}
 use Rattle.comfy_table.specs.Parts.{IsArrangedTable, with_rows_alone}
 use Rattle.comfy_table.specs.TableValue.{TableValue}
