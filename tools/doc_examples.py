@@ -13,7 +13,10 @@ last `let`: a `text`, or `is_so`. So the stored output is what the comments say;
 import glob
 import os
 import re
+import shutil
+import subprocess
 import sys
+import tempfile
 import textwrap
 
 TOP = os.path.dirname(os.path.dirname(os.path.realpath(__file__)))
@@ -229,6 +232,21 @@ fn show(rt: &HostRuntime, text: Result<String>) -> anyhow::Result<()> {
 """
 
 
+def laid_out(texts):
+    """These files in the layout of `rt fmt`, which their comments needn't have."""
+    with tempfile.TemporaryDirectory() as room:
+        shutil.copy(f"{TOP}/crates.txt", room)
+        for path, text in texts.items():
+            os.makedirs(os.path.dirname(f"{room}/{path}"), exist_ok=True)
+            with open(f"{room}/{path}", "w", encoding="utf-8") as file:
+                file.write(text)
+        subprocess.run(["rt", "fmt"], cwd=f"{room}/{CRATE}", check=True, stdout=subprocess.DEVNULL, stderr=subprocess.DEVNULL)
+        for path in texts:
+            with open(f"{room}/{path}", encoding="utf-8") as file:
+                texts[path] = file.read()
+    return texts
+
+
 def files():
     """Each file of the crate that follows from the comments, and its text."""
     found = {"src/main.rt": MAIN}
@@ -238,7 +256,7 @@ def files():
         found[f"src/{name}.rt"] = module(crate, examples)
         printed += [line for it in examples for line in it.prints]
     found["stdout"] = "".join(line + "\n" for line in printed).replace("\\u{1b}", "\x1b")
-    return {f"{CRATE}/{path}": text for path, text in found.items()}
+    return laid_out({f"{CRATE}/{path}": text for path, text in found.items()})
 
 
 def wrong_examples():

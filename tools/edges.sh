@@ -114,10 +114,11 @@ refused() {
 printf 'a,b\nx,y\n' > "$work/input"
 refused 'a file that is not there' "the input can't be read" "$work/none"
 refused 'a folder as a file' "the input can't be read" "$work"
-refused 'a column that is not there' 'there is no column 9' -c 9
+refused 'a column that is not there' 'there is no column 09' -c 09
+refused 'a column at two sides' "column b can't stand at the right and at the left" -r b --left 2
 printf 'a,b\nx,\377\n' > "$work/input"
-refused 'a record that is not UTF-8' "record 2 isn't UTF-8"
-refused 'such a record in a file' "record 2 isn't UTF-8" "$work/input"
+refused 'a line that is not UTF-8' "line 2 isn't UTF-8"
+refused 'such a line in a file' "line 2 isn't UTF-8" "$work/input"
 
 # Compares two runs that have to write the same, and not nothing.
 same() {
@@ -140,7 +141,7 @@ same 'COLUMNS where standard output is no terminal'
 "$program" --help > "$work/second"
 same '-h and --help'
 "$program" -V > "$work/first"
-echo 'csvtable 1.0.0' > "$work/second"
+echo 'csvtable 2.0.0' > "$work/second"
 same '-V'
 : > "$work/out"
 "$program" --wide < "$work/input" > "$work/out" 2> "$work/err"

@@ -1,5 +1,5 @@
 -- The table of some records is built from an empty one.
-use Rattle.std.proofs.Common.{◌≡◌, ℕ, zero, suc, Bool, true, false, List, [], ◌∷◌, Option, Some, None, Result, Ok, Err, encode_utf8_all, fold, map, ap, refl, subst, ◌∙◌}
+use Rattle.std.proofs.Common.{◌≡◌, ℕ, zero, suc, Bool, true, false, List, [], ◌∷◌, Option, Some, None, Result, Ok, Err, encode_utf8_all, map, ap, refl, subst, ◌∙◌}
 use Rattle.std.specs.List.{All}
 use Rattle.std.specs.Prelude.{if◌then◌else◌}
 use Rattle.std.proofs.lemmas.List.Elements.{All-head, All-map, All-nil, All-tail, All-take, All-weaker}
@@ -9,19 +9,21 @@ use Rattle.comfy_parts.specs.Text.{Text}
 use Rattle.comfy_table.proofs.BuiltTableLemmas.{IsBuilt, IsNewColumn, built-header, built-rows}
 use Rattle.comfy_table.specs.TableValue.{TableValue, with_header, with_rows}
 use Rattle.csv.specs.Records.{field_at}
-use Rattle.comfy_csv_parts.specs.Cells.{field_text, field_or_blank, header_for, marked, row_for}
-use Rattle.comfy_csv_parts.specs.Cleaning.{after_piece, cleaned, pieces, start}
+use Rattle.comfy_csv_parts.proofs.CleaningLemmas.{Stays-nil, stays_cleaned}
+use Rattle.comfy_csv_parts.specs.Cells.{field_text, field_or_blank, header_for, kept_by, kept_for_markdown, marked, row_for}
+use Rattle.comfy_csv_parts.specs.Cleaning.{cleaned}
 use Rattle.comfy_csv_parts.specs.Columns.{columns_for}
 use Rattle.comfy_csv.specs.Drawn.{empty_table, limited, ok_map, table_for, titled_table, untitled_table}
 use Rattle.comfy_csv_parts.specs.Markdown.{escaped}
+use Rattle.comfy_csv_parts.specs.declared.cleaning.Kept.{Kept}
 use Rattle.comfy_csv_parts.specs.declared.options.Look.{Look}
 use Rattle.comfy_csv_parts.specs.declared.options.Options.{Options}
 use Rattle.comfy_csv_parts.specs.declared.options.DrawnColumn.{DrawnColumn}
 
 -- what was made was made of columns
-pub built_of : (f : List DrawnColumn → TableValue) (found : Result (List DrawnColumn) Text) (table : TableValue) → ok_map f found ≡ Ok table → (columns : List DrawnColumn) × (found ≡ Ok columns) × (f columns ≡ table)
+pub built_of : {E : Type 0} (f : List DrawnColumn → TableValue) (found : Result (List DrawnColumn) E) (table : TableValue) → ok_map f found ≡ Ok table → (columns : List DrawnColumn) × (found ≡ Ok columns) × (f columns ≡ table)
 built_of f (Ok columns) table is = (columns, refl, cc is)
-built_of f (Err name) table is = absurd (cc is)
+built_of f (Err e) table is = absurd (cc is)
 
 all_limited : {A : Type 0} (P : A → Type 0) (limit : Option ℕ) (xs : List A) → All P xs → All P (limited limit xs)
 all_limited P None xs each = each
@@ -34,25 +36,20 @@ each_field P empty [] i each = empty
 each_field P empty (f ∷ fs) zero each = All-head P f fs each
 each_field P empty (f ∷ fs) (suc i) each = each_field P empty fs i (All-tail P f fs each)
 
-blank_cleaned : (keeps : Bool) → cleaned keeps [] ≡ []
-blank_cleaned keeps = ap (λ (cs : List ℕ). (fold after_piece start (pieces keeps cs)).text) chars-nil ∙ by_kind keeps
-  where
-    by_kind : (keeps : Bool) → (fold after_piece start (pieces keeps [])).text ≡ []
-    by_kind true = refl
-    by_kind false = refl
+blank_cleaned : (kept : Kept) → cleaned kept [] ≡ []
+blank_cleaned kept = stays_cleaned kept [] (Stays-nil kept)
 
 -- the empty field is drawn as it is
 pub blank_drawn : (look : Look) → field_text look [] ≡ []
 blank_drawn look = by_flags look.is_markdown look.is_raw
   where
-    none_escaped : marked true [] ≡ []
+    none_escaped : marked [] ≡ []
     none_escaped = ap (λ (cs : List ℕ). encode_utf8_all (escaped cs)) chars-nil
 
-    by_flags : (is_markdown is_raw : Bool) → marked is_markdown (if is_raw then [] else cleaned look.has_sequences []) ≡ []
-    by_flags true true = none_escaped
-    by_flags true false = ap (marked true) (blank_cleaned look.has_sequences) ∙ none_escaped
+    by_flags : (is_markdown is_raw : Bool) → (if is_markdown then marked (cleaned (kept_for_markdown look) []) else if is_raw then [] else cleaned (kept_by look) []) ≡ []
+    by_flags true is_raw = ap marked (blank_cleaned (kept_for_markdown look)) ∙ none_escaped
     by_flags false true = refl
-    by_flags false false = blank_cleaned look.has_sequences
+    by_flags false false = blank_cleaned (kept_by look)
 
 module _ (options : Options) (Q : RowValue → Type 0) where
   abbrev pub Built : TableValue → Type 0

@@ -1,6 +1,5 @@
 -- Fields of printable ASCII are drawn as printable ASCII.
-use Rattle.std.proofs.Common.{◌≡◌, ℕ, ◌==◌, ◌&&◌, Bool, true, false, List, [], ◌∷◌, All, arith, encode_utf8_all, refl, sym, ap, ap₂, ◌∙◌, subst, tests}
-use Rattle.std.specs.Char.{is_control}
+use Rattle.std.proofs.Common.{◌≡◌, ℕ, ◌==◌, ◌&&◌, Bool, true, false, List, [], ◌∷◌, Option, Some, None, slice_get, All, arith, encode_utf8_all, refl, sym, ap, ap₂, ◌∙◌, subst, tests}
 use Rattle.std.specs.Int.{is_in_range}
 use Rattle.std.specs.List.{list_any}
 use Rattle.std.specs.Prelude.{if◌then◌else◌}
@@ -12,11 +11,12 @@ use Rattle.std.proofs.lemmas.Str.{chars-IsAscii, encodes-IsAscii}
 use Rattle.comfy_parts.proofs.CallerLemmas.{All-none, IsUtf8-printable, ascii-printable}
 use Rattle.comfy_parts.specs.CellValue.{plain_cell}
 use Rattle.comfy_parts.specs.Text.{Text, is_printable_ascii}
-use Rattle.comfy_csv_parts.proofs.CleaningLemmas.{drawn_so}
-use Rattle.comfy_csv_parts.specs.Cells.{field_text, marked}
+use Rattle.comfy_csv_parts.proofs.CleaningLemmas.{drawn_so, none_replaced}
+use Rattle.comfy_csv_parts.specs.Cells.{field_text, kept_by, kept_for_markdown, marked}
 use Rattle.comfy_csv_parts.specs.Cleaning.{cleaned}
 use Rattle.comfy_csv.specs.Laws.{PrintableFieldsStay}
-use Rattle.comfy_csv_parts.specs.Markdown.{escaped, escaped_character, is_special}
+use Rattle.comfy_csv_parts.specs.Markdown.{escaped, escaped_after, escaped_character, is_special}
+use Rattle.comfy_csv_parts.specs.declared.cleaning.Kept.{Kept}
 use Rattle.comfy_csv_parts.specs.declared.options.Look.{Look}
 
 abbrev is_printable : ℕ → Bool
@@ -29,29 +29,25 @@ none_pass p none (c ∷ cs) printable =
     let parts = and_parts (is_printable c) (is_printable_ascii cs) printable in
     rw (none c parts.0) (none_pass p none cs parts.1)
 
-no_control : (c : ℕ) → is_printable c ≡ true → is_control c ≡ false
-no_control c printable = grind (arith, tests)
-
 no_break : (c : ℕ) → is_printable c ≡ true → (c == 0x0A) ≡ false
 no_break c printable = grind (arith, tests)
 
-character_stays : (c : ℕ) → is_printable c ≡ true → is_printable_ascii (escaped_character c) ≡ true
-character_stays c printable = rw (no_break c printable) (by_test (is_special c))
+character_stays : (before : Option ℕ) (c : ℕ) (after : Option ℕ) → is_printable c ≡ true → is_printable_ascii (escaped_character before c after) ≡ true
+character_stays before c after printable = rw (no_break c printable) (by_test (is_special before c after))
   where
     by_test : (b : Bool) → is_printable_ascii (if b then 0x5C ∷ c ∷ [] else c ∷ []) ≡ true
     by_test true = rw printable refl
     by_test false = rw printable refl
 
-escaped_stays : (text : Text) → is_printable_ascii text ≡ true → is_printable_ascii (escaped text) ≡ true
-escaped_stays [] printable = refl
-escaped_stays (c ∷ cs) printable =
+escaped_stays : (before : Option ℕ) (text : Text) → is_printable_ascii text ≡ true → is_printable_ascii (escaped_after before text) ≡ true
+escaped_stays before [] printable = refl
+escaped_stays before (c ∷ cs) printable =
     let parts = and_parts (is_printable c) (is_printable_ascii cs) printable in
-    list_all-append is_printable (escaped_character c) (escaped cs) ∙ ap₂ (λ a b. a && b) (character_stays c parts.0) (escaped_stays cs parts.1)
+    list_all-append is_printable (escaped_character before c (slice_get cs 0)) (escaped_after (Some c) cs) ∙ ap₂ (λ a b. a && b) (character_stays before c (slice_get cs 0) parts.0) (escaped_stays (Some c) cs parts.1)
 
-marked_stays : (is_markdown : Bool) (text : Text) → is_printable_ascii text ≡ true → is_printable_ascii (marked is_markdown text) ≡ true
-marked_stays false text printable = printable
-marked_stays true text printable =
-    let more = escaped_stays text printable in
+marked_stays : (text : Text) → is_printable_ascii text ≡ true → is_printable_ascii (marked text) ≡ true
+marked_stays text printable =
+    let more = escaped_stays None text printable in
     let same : encode_utf8_all (escaped text) ≡ escaped text = encodes-IsAscii (escaped text) (ascii-printable (escaped text) more) in
     ap is_printable_ascii (ap (λ (cs : List ℕ). encode_utf8_all (escaped cs)) (chars-IsAscii text (ascii-printable text printable)) ∙ same) ∙ more
 
@@ -62,14 +58,12 @@ one_line text printable =
     subst (All (λ (line : Text). is_printable_ascii line ≡ true)) (sym whole) (All-cons (λ (line : Text). is_printable_ascii line ≡ true) text [] printable (All-nil (λ (line : Text). is_printable_ascii line ≡ true)))
 
 pub fields_stay : (look : Look) (field : Text) → PrintableFieldsStay look field
-fields_stay look field printable = one_line (field_text look field) whole
+fields_stay look field printable = one_line (field_text look field) (by_flags look.is_markdown look.is_raw)
   where
-    clean : cleaned look.has_sequences field ≡ field
-    clean = sym (drawn_so look.has_sequences field (IsUtf8-printable field printable) (ap (list_any is_control) (chars-IsAscii field (ascii-printable field printable)) ∙ none_pass is_control no_control field printable))
+    clean : (kept : Kept) → is_printable_ascii (cleaned kept field) ≡ true
+    clean kept = ap is_printable_ascii (sym (drawn_so kept field (IsUtf8-printable field printable) (none_replaced kept field printable))) ∙ printable
 
-    by_raw : (is_raw : Bool) → is_printable_ascii (if is_raw then field else cleaned look.has_sequences field) ≡ true
-    by_raw true = printable
-    by_raw false = ap is_printable_ascii clean ∙ printable
-
-    whole : is_printable_ascii (field_text look field) ≡ true
-    whole = marked_stays look.is_markdown (if look.is_raw then field else cleaned look.has_sequences field) (by_raw look.is_raw)
+    by_flags : (is_markdown is_raw : Bool) → is_printable_ascii (if is_markdown then marked (cleaned (kept_for_markdown look) field) else if is_raw then field else cleaned (kept_by look) field) ≡ true
+    by_flags true is_raw = marked_stays (cleaned (kept_for_markdown look) field) (clean (kept_for_markdown look))
+    by_flags false true = printable
+    by_flags false false = clean (kept_by look)

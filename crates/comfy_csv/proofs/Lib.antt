@@ -5,5 +5,6 @@ pub mod OutputControlLemmas
 pub mod PrintableTableLemmas
 pub mod RowLemmas
 pub mod RunLemmas
+pub mod SeparatorLemmas
 pub mod StraightLemmas
 pub mod TableLemmas

@@ -1,16 +1,19 @@
 -- Nothing harmful is visible of an output: its fields, its style, its indicator and its last line hold no control character.
-use Rattle.std.proofs.Common.{◌≡◌, ◌<◌, ℕ, Bool, true, false, List, [], ◌∷◌, ◌++◌, Option, Some, None, Ok, arith, codes, decimal, length, nat_lt, refl, sym, ap, ◌∙◌, subst, tests, append_assoc, append-nil}
-use Rattle.std.proofs.lemmas.Bool.{and_parts}
+use Rattle.std.proofs.Common.{◌≡◌, ◌<◌, ℕ, Bool, true, false, List, [], ◌∷◌, ◌++◌, Option, Some, None, Ok, arith, codes, decimal, length, nat_lt, refl, unwrap_or, sym, ap, ◌∙◌, subst, tests, append_assoc, append-nil}
+use Rattle.std.proofs.lemmas.Bool.{and_parts, or_parts}
+use Rattle.std.proofs.lemmas.List.Folds.{list_any_none}
 use Rattle.std.proofs.lemmas.List.Elements.{All-cons, All-head, All-map, All-nil, All-tail, All-weaker}
 use Rattle.std.proofs.lemmas.Str.{NoCharPasses-append, NoCharPasses-nil, encode_ascii}
 use Rattle.std.specs.Char.{is_control}
-use Rattle.std.specs.List.{All, list_all}
+use Rattle.std.specs.List.{All, list_all, list_any}
 use Rattle.std.specs.Prelude.{if◌then◌else◌}
 use Rattle.std.specs.Str.{IsUtf8, NonePass}
 use lib.Utf8.{encode}
 use Rattle.comfy_parts.proofs.CallerLemmas.{Shows-byte, Shows-visible, none_by_characters}
 use Rattle.comfy_parts.specs.CellValue.{CellValue, RowValue}
+use Rattle.comfy_parts.specs.Columns.{style_characters}
 use Rattle.comfy_parts.specs.Text.{Text}
+use Rattle.comfy_parts.specs.declared.style.table_style.TableStyle.{TableStyle}
 use Rattle.comfy_parts.specs.VisibleText.{is_parameter, visible_text}
 use Rattle.comfy_table.proofs.BuiltTableLemmas.{measured_known}
 use Rattle.comfy_table.proofs.MeasuredLemmas.{IsRowOf, row_measured}
@@ -24,16 +27,17 @@ use Rattle.comfy_csv_parts.proofs.FieldControlLemmas.{field-harmless, visible-ha
 use Rattle.comfy_csv_parts.proofs.StyleLemmas.{styles_without_controls}
 use Rattle.comfy_csv_parts.proofs.TextLineLemmas.{lines_without_controls}
 use Rattle.comfy_csv_parts.specs.Cells.{cells_for, field_text, header_for, row_for}
-use Rattle.comfy_csv_parts.specs.Cleaning.{is_harmful, visible_of}
-use Rattle.comfy_csv_parts.specs.Controls.{HasNothingHarmful, IsStyleWithoutControls}
+use Rattle.comfy_csv_parts.specs.Cleaning.{visible_of}
+use Rattle.comfy_csv_parts.specs.Controls.{HasNoStrayControl, IsStyleWithoutControls, is_stray_control}
 use Rattle.comfy_csv_parts.specs.declared.arguments.Asked.{Asked}
 use Rattle.comfy_csv_parts.specs.declared.arguments.Surroundings.{Surroundings}
 use Rattle.comfy_csv_parts.specs.declared.options.DrawnColumn.{DrawnColumn}
 use Rattle.comfy_csv_parts.specs.declared.options.Look.{Look}
 use Rattle.comfy_csv_parts.specs.declared.options.Options.{Options}
 use Rattle.comfy_csv.proofs.BuiltLemmas.{Built, MakesRow, built}
+use Rattle.comfy_csv.proofs.SeparatorLemmas.{condensed-all}
 use Rattle.comfy_csv.proofs.LineLemmas.{EachLine, cells_each}
-use Rattle.comfy_csv.specs.Drawn.{empty_table, note_for, row_count, table_for}
+use Rattle.comfy_csv.specs.Drawn.{condensed_style, empty_table, note_for, row_count, separated, table_for}
 use Rattle.comfy_csv.specs.Laws.{AskedOutputHoldsNoControls, InputIsDrawnWithoutControls, IsLookWithoutControls, OutputHoldsNoControls}
 
 -- ---- rows
@@ -78,6 +82,17 @@ clear_measured false row own = own
 
 -- ---- the table
 
+none_each : (p : Option ℕ → Bool) (cs : List (Option ℕ)) → list_any p cs ≡ false → All (λ c. p c ≡ false) cs
+none_each p [] none = All-nil (λ c. p c ≡ false)
+none_each p (c ∷ cs) none =
+    let each = or_parts (p c) (list_any p cs) none in
+    All-cons (λ x. p x ≡ false) c cs each.0 (none_each p cs each.1)
+
+condensed_without : (style : TableStyle) → IsStyleWithoutControls style → IsStyleWithoutControls (condensed_style style)
+condensed_without style none =
+    let p = λ (c : Option ℕ). is_control (unwrap_or c 0x20) in
+    list_any_none p (style_characters (condensed_style style)) (condensed-all (λ c. p c ≡ false) refl style (none_each p (style_characters style) none))
+
 ellipsis_is_plain : HasNoControl ellipsis
 unfolding encode
 ellipsis_is_plain = (0x2026 ∷ [], refl, (refl, tt))
@@ -101,62 +116,62 @@ free_of_controls options records table look text is =
 
 -- ---- lines and the last line
 
-weaker : (cs : List ℕ) → NonePass is_control cs → NonePass is_harmful cs
+weaker : (cs : List ℕ) → NonePass is_control cs → NonePass is_stray_control cs
 weaker [] none = tt
 weaker (c ∷ cs) (own, more) = (rw own refl, weaker cs more)
 
-line_feed : HasNothingHarmful (0x0A ∷ [])
+line_feed : HasNoStrayControl (0x0A ∷ [])
 unfolding encode
 line_feed = (0x0A ∷ [], refl, (refl, tt))
 
 -- a line of which no control character is visible, a line feed, and what follows
-after_line : (line rest : Text) → HasNoControl (visible_text line) → HasNothingHarmful (visible_text rest) → HasNothingHarmful (visible_text (line ++ 0x0A ∷ rest))
+after_line : (line rest : Text) → HasNoControl (visible_text line) → HasNoStrayControl (visible_text rest) → HasNoStrayControl (visible_text (line ++ 0x0A ∷ rest))
 after_line line rest none more =
     let clear = none_by_characters is_control 0x1B (omega arith) refl (visible_text line) none in
     let shown : visible_text (line ++ 0x0A ∷ rest) ≡ visible_text line ++ 0x0A ∷ visible_text rest =
     (Shows-visible line clear).shows (0x0A ∷ rest) ∙ ap (λ (t : Text). visible_text line ++ t) ((Shows-byte 0x0A refl).shows rest) in
-    subst HasNothingHarmful (sym shown)
-    (NoCharPasses-append is_harmful (visible_text line) (0x0A ∷ visible_text rest) (none.0, none.1, weaker none.0 none.2) (NoCharPasses-append is_harmful (0x0A ∷ []) (visible_text rest) line_feed more))
+    subst HasNoStrayControl (sym shown)
+    (NoCharPasses-append is_stray_control (visible_text line) (0x0A ∷ visible_text rest) (none.0, none.1, weaker none.0 none.2) (NoCharPasses-append is_stray_control (0x0A ∷ []) (visible_text rest) line_feed more))
 
-after_lines : (lines : List Text) (rest : Text) → All (λ line. HasNoControl (visible_text line)) lines → HasNothingHarmful (visible_text rest) → HasNothingHarmful (visible_text (terminated_text_of lines ++ rest))
+after_lines : (lines : List Text) (rest : Text) → All (λ line. HasNoControl (visible_text line)) lines → HasNoStrayControl (visible_text rest) → HasNoStrayControl (visible_text (terminated_text_of lines ++ rest))
 after_lines [] rest none more = more
 after_lines (line ∷ lines) rest none more =
     let joined : (line ++ 0x0A ∷ []) ++ (terminated_text_of lines ++ rest) ≡ line ++ 0x0A ∷ (terminated_text_of lines ++ rest) = append_assoc line (0x0A ∷ []) (terminated_text_of lines ++ rest) in
-    subst (λ (t : Text). HasNothingHarmful (visible_text t)) (sym (append_assoc (line ++ 0x0A ∷ []) (terminated_text_of lines) rest ∙ joined))
+    subst (λ (t : Text). HasNoStrayControl (visible_text t)) (sym (append_assoc (line ++ 0x0A ∷ []) (terminated_text_of lines) rest ∙ joined))
     (after_line line (terminated_text_of lines ++ rest) (All-head (λ (l : Text). HasNoControl (visible_text l)) line lines none)
     (after_lines lines rest (All-tail (λ (l : Text). HasNoControl (visible_text l)) line lines none) more))
 
 -- what is ASCII and no control character
-parameter_is_plain : (c : ℕ) → is_parameter c ≡ true → (c < 128) × (is_harmful c ≡ false)
+parameter_is_plain : (c : ℕ) → is_parameter c ≡ true → (c < 128) × (is_stray_control c ≡ false)
 parameter_is_plain c is = (grind (arith, tests), grind (arith, tests))
 
-parameters_are_harmless : (code : Text) → list_all is_parameter code ≡ true → HasNothingHarmful code
-parameters_are_harmless [] all = NoCharPasses-nil is_harmful
+parameters_are_harmless : (code : Text) → list_all is_parameter code ≡ true → HasNoStrayControl code
+parameters_are_harmless [] all = NoCharPasses-nil is_stray_control
 parameters_are_harmless (c ∷ cs) all =
     let both = and_parts (is_parameter c) (list_all is_parameter cs) all in
     let own = parameter_is_plain c both.0 in
-    NoCharPasses-append is_harmful (c ∷ []) cs (c ∷ [], append-nil _ ∙ encode_ascii c own.0, (own.1, tt)) (parameters_are_harmless cs both.1)
+    NoCharPasses-append is_stray_control (c ∷ []) cs (c ∷ [], append-nil _ ∙ encode_ascii c own.0, (own.1, tt)) (parameters_are_harmless cs both.1)
 
-number_is_harmless : (n : ℕ) → HasNothingHarmful (decimal n)
+number_is_harmless : (n : ℕ) → HasNoStrayControl (decimal n)
 number_is_harmless n = parameters_are_harmless (decimal n) (decimal-parameters n)
 
-of_is_harmless : HasNothingHarmful (codes " of ")
+of_is_harmless : HasNoStrayControl (codes " of ")
 unfolding encode
 of_is_harmless = (codes " of ", refl, (refl, (refl, (refl, (refl, tt)))))
 
-records_is_harmless : HasNothingHarmful (codes " records\n")
+records_is_harmless : HasNoStrayControl (codes " records\n")
 unfolding encode
 records_is_harmless = (codes " records\n", refl, (refl, (refl, (refl, (refl, (refl, (refl, (refl, (refl, (refl, tt))))))))))
 
-note_is_harmless : (limit : Option ℕ) (count : ℕ) → HasNothingHarmful (note_for limit count)
-note_is_harmless None count = NoCharPasses-nil is_harmful
+note_is_harmless : (limit : Option ℕ) (count : ℕ) → HasNoStrayControl (note_for limit count)
+note_is_harmless None count = NoCharPasses-nil is_stray_control
 note_is_harmless (Some limit) count = by_test (nat_lt limit count)
   where
-    by_test : (more : Bool) → HasNothingHarmful (if more then ((decimal limit ++ codes " of ") ++ decimal count) ++ codes " records\n" else [])
-    by_test false = NoCharPasses-nil is_harmful
+    by_test : (more : Bool) → HasNoStrayControl (if more then ((decimal limit ++ codes " of ") ++ decimal count) ++ codes " records\n" else [])
+    by_test false = NoCharPasses-nil is_stray_control
     by_test true =
-        NoCharPasses-append is_harmful ((decimal limit ++ codes " of ") ++ decimal count) (codes " records\n")
-        (NoCharPasses-append is_harmful (decimal limit ++ codes " of ") (decimal count) (NoCharPasses-append is_harmful (decimal limit) (codes " of ") (number_is_harmless limit) of_is_harmless) (number_is_harmless count)) records_is_harmless
+        NoCharPasses-append is_stray_control ((decimal limit ++ codes " of ") ++ decimal count) (codes " records\n")
+        (NoCharPasses-append is_stray_control (decimal limit ++ codes " of ") (decimal count) (NoCharPasses-append is_stray_control (decimal limit) (codes " of ") (number_is_harmless limit) of_is_harmless) (number_is_harmless count)) records_is_harmless
 
 -- ---- outputs
 
@@ -165,9 +180,13 @@ output_without_controls options records output look text made =
     let lines = made.is_drawing.0 in
     let note = note_for options.limit (row_count options.has_header (length records)) in
     let whole : output ≡ terminated_text_of lines ++ note = made.joined ∙ ap (λ (t : Text). t ++ note) made.is_drawing.2 in
-    subst (λ (t : Text). HasNothingHarmful (visible_text t)) (sym whole)
-    (after_lines lines note (made.is_drawing.1.without_controls (free_of_controls options records made.table look text made.is_table))
+    subst (λ (t : Text). HasNoStrayControl (visible_text t)) (sym whole)
+    (after_lines lines note (made.is_drawing.1.without_controls (by_separators made.has_separators made.is_table))
     (visible-harmless true note (note_is_harmless options.limit (row_count options.has_header (length records)))))
+  where
+    by_separators : (has : Bool) → table_for (separated has options) records ≡ Ok made.table → IsFreeOfControls made.table
+    by_separators true is = free_of_controls options records made.table look text is
+    by_separators false is = free_of_controls (separated false options) records made.table (record { cleaned = look.cleaned; style = condensed_without options.look.style look.style }) text is
 
 -- records of an input are text
 pub input_without_controls : (options : Options) (input output : Text) → InputIsDrawnWithoutControls options input output

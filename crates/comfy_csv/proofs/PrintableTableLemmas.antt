@@ -1,5 +1,5 @@
 -- Fields of printable ASCII make a table of printable ASCII.
-use Rattle.std.proofs.Common.{◌≡◌, ℕ, Bool, true, false, List, Option, Some, None, refl, ap, sym, subst, ◌∙◌, unwrap_or}
+use Rattle.std.proofs.Common.{◌≡◌, ℕ, Bool, true, false, List, Option, Some, None, Ok, refl, ap, sym, subst, ◌∙◌, unwrap_or}
 use Rattle.std.specs.Int.{is_in_range}
 use Rattle.std.specs.List.{All, slice_get}
 use Rattle.std.proofs.lemmas.List.Elements.{All-weaker}
@@ -17,8 +17,8 @@ use Rattle.comfy_csv.proofs.FieldLemmas.{fields_stay}
 use Rattle.comfy_csv.proofs.LineLemmas.{EachLine, any_built, cells_each}
 use Rattle.comfy_csv.proofs.StraightLemmas.{rows_are_default}
 use Rattle.comfy_csv_parts.specs.Cells.{header_for, row_for}
-use Rattle.comfy_csv.specs.Drawn.{empty_table}
-use Rattle.comfy_csv.specs.Laws.{IsUnstyledUncut, PrintableLinesHave, PrintableTextsMakePrintableTable}
+use Rattle.comfy_csv.specs.Drawn.{empty_table, separated, table_for}
+use Rattle.comfy_csv.specs.Laws.{EachText, IsUnstyledUncut, PrintableLinesHave, PrintableTextsMakePrintableTable}
 use Rattle.comfy_csv_parts.specs.declared.options.Look.{Look}
 use Rattle.comfy_csv_parts.specs.declared.options.Options.{Options}
 use Rattle.comfy_csv_parts.specs.declared.options.DrawnColumn.{DrawnColumn}
@@ -74,8 +74,17 @@ printable_table options records table widths plain each is =
 
 -- the lines of an output of such records are counted
 pub lines_have : (P : TableValue → ℕ → Type 0) (options : Options) (records : List (List Text)) (output : Text) → PrintableLinesHave P options records output
-lines_have P options records output has plain each =
-    let texts = All-weaker (All IsPrintable) (All (EachLine IsPrintable options.look)) (λ fields own. All-weaker IsPrintable (EachLine IsPrintable options.look) (fields_stay options.look) fields own) records each in
-    let known = any_built options records has.table has.is_table in
-    let same = has.drawing.unstyled_lines (ap should_style known.is ∙ rw plain.no_bold refl) (ap (λ (t : TableValue). t.custom_styling) known.is ∙ plain.no_sequences) in
-    subst (All (λ line. P has.table (count line))) (sym same) (has.counts.printable_lines (printable_table options records has.table has.drawing.widths plain texts has.is_table))
+lines_have P options records output has plain each = by_separators has.has_separators has.is_table
+  where
+    texts : EachText IsPrintable options.look records
+    texts = All-weaker (All IsPrintable) (All (EachLine IsPrintable options.look)) (λ fields own. All-weaker IsPrintable (EachLine IsPrintable options.look) (fields_stay options.look) fields own) records each
+
+    counted : (options : Options) → table_for options records ≡ Ok has.table → IsUnstyledUncut options.look → EachText IsPrintable options.look records → All (λ line. P has.table (count line)) has.lines
+    counted options is plain texts =
+        let known = any_built options records has.table is in
+        let same = has.drawing.unstyled_lines (ap should_style known.is ∙ rw plain.no_bold refl) (ap (λ (t : TableValue). t.custom_styling) known.is ∙ plain.no_sequences) in
+        subst (All (λ line. P has.table (count line))) (sym same) (has.counts.printable_lines (printable_table options records has.table has.drawing.widths plain texts is))
+
+    by_separators : (separators : Bool) → table_for (separated separators options) records ≡ Ok has.table → All (λ line. P has.table (count line)) has.lines
+    by_separators true is = counted options is plain texts
+    by_separators false is = counted (separated false options) is (record { no_bold = plain.no_bold; no_sequences = plain.no_sequences; uncut = plain.uncut }) texts

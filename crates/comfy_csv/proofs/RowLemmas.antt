@@ -6,7 +6,7 @@ use Rattle.comfy_parts.specs.Text.{Text}
 use Rattle.comfy_table.specs.TableValue.{TableValue, with_header, with_row, with_rows}
 use Rattle.comfy_csv.proofs.BuiltLemmas.{built_of}
 use Rattle.comfy_csv_parts.specs.Cells.{header_for, row_for}
-use Rattle.comfy_csv_parts.specs.Columns.{columns_for, columns_with, drawn_columns}
+use Rattle.comfy_csv_parts.specs.Columns.{ColumnFault, at_two_sides, columns_for, columns_with, drawn_columns, placed_columns}
 use Rattle.comfy_csv.specs.Drawn.{empty_table, limited, ok_map}
 use Rattle.comfy_csv.specs.Laws.{KeepsRows, TableKeepsRows, drawn_records, names_in}
 use Rattle.comfy_csv_parts.specs.declared.options.Options.{Options}
@@ -20,17 +20,23 @@ positions-shown : (right left : List ℕ) (rows : List (List Text)) (ps : List �
 positions-shown right left rows [] = refl
 positions-shown right left rows (p ∷ ps) = ap (λ t. p ∷ t) (positions-shown right left rows ps)
 
--- the columns that are drawn stand at the chosen positions
-chosen : (rows : List (List Text)) (positions right left : Result (List ℕ) Text) (columns : List DrawnColumn) → columns_with rows positions right left ≡ Ok columns → positions ≡ Ok (map (λ (column : DrawnColumn). column.position) columns)
-chosen rows (Ok ps) (Ok right) (Ok left) columns is =
+placed : (names : List Text) (rows : List (List Text)) (ps right left : List ℕ) (columns : List DrawnColumn) (fault : Option ℕ)
+    → placed_columns names rows ps right left fault ≡ Ok columns → ps ≡ map (λ (column : DrawnColumn). column.position) columns
+placed names rows ps right left columns (Some p) is = absurd (cc is)
+placed names rows ps right left columns None is =
     let same : drawn_columns right left rows ps ≡ columns = cc is in
-    ap Ok (sym (positions-shown right left rows ps) ∙ ap (map (λ (column : DrawnColumn). column.position)) same)
-chosen rows (Ok ps) (Ok right) (Err name) columns is = absurd (cc is)
-chosen rows (Ok ps) (Err name) left columns is = absurd (cc is)
-chosen rows (Err name) right left columns is = absurd (cc is)
+    sym (positions-shown right left rows ps) ∙ ap (map (λ (column : DrawnColumn). column.position)) same
+
+-- the columns that are drawn stand at the chosen positions
+chosen : (names : List Text) (rows : List (List Text)) (positions right left : Result (List ℕ) ColumnFault) (columns : List DrawnColumn)
+    → columns_with names rows positions right left ≡ Ok columns → positions ≡ Ok (map (λ (column : DrawnColumn). column.position) columns)
+chosen names rows (Ok ps) (Ok right) (Ok left) columns is = ap Ok (placed names rows ps right left columns (at_two_sides right left) is)
+chosen names rows (Ok ps) (Ok right) (Err fault) columns is = absurd (cc is)
+chosen names rows (Ok ps) (Err fault) left columns is = absurd (cc is)
+chosen names rows (Err fault) right left columns is = absurd (cc is)
 
 -- a table that was made of columns has the rows that were appended
-rows_built : (row_of : List DrawnColumn → List RowValue) (base : List DrawnColumn → TableValue) → ((columns : List DrawnColumn) → (base columns).rows ≡ []) → (found : Result (List DrawnColumn) Text) (table : TableValue)
+rows_built : (row_of : List DrawnColumn → List RowValue) (base : List DrawnColumn → TableValue) → ((columns : List DrawnColumn) → (base columns).rows ≡ []) → (found : Result (List DrawnColumn) ColumnFault) (table : TableValue)
     → ok_map (λ (columns : List DrawnColumn). with_rows (row_of columns) (base columns)) found ≡ Ok table → (columns : List DrawnColumn) × (found ≡ Ok columns) × (table.rows ≡ row_of columns)
 rows_built row_of base none found table is =
     let made = built_of (λ (columns : List DrawnColumn). with_rows (row_of columns) (base columns)) found table is in (
@@ -50,7 +56,7 @@ module _ (options : Options) (table : TableValue) where
         columns = found.0;
         rows = same;
         as_many = ap length same ∙ length-map (drawn_records options records) (row_for options.look found.0);
-        chosen = rw (names_are, rows_are) (chosen rows _ _ _ found.0 found.1);
+        chosen = rw (names_are, rows_are) (chosen names rows _ _ _ found.0 found.1);
       }
 
   headed : (records : List (List Text)) → options.has_header ≡ true → TableKeepsRows options records table

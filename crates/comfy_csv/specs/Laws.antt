@@ -15,11 +15,11 @@ use Rattle.comfy_table.specs.TableValue.{TableValue}
 use Rattle.comfy_table.specs.Widths.{shown_count}
 use Rattle.comfy_csv_parts.specs.Cells.{field_text, row_for}
 use Rattle.comfy_csv_parts.specs.Columns.{chosen_columns, count_of}
-use Rattle.comfy_csv_parts.specs.Controls.{HasNothingHarmful, IsStyleWithoutControls}
+use Rattle.comfy_csv_parts.specs.Controls.{HasNoStrayControl, IsStyleWithoutControls}
 use Rattle.comfy_csv_parts.specs.Words.{IsAsked}
 use Rattle.comfy_csv_parts.specs.declared.arguments.Asked.{Asked}
 use Rattle.comfy_csv_parts.specs.declared.arguments.Surroundings.{Surroundings}
-use Rattle.comfy_csv.specs.Drawn.{IsOutputFor, IsOutputOf, limited, note_for, row_count, table_for}
+use Rattle.comfy_csv.specs.Drawn.{IsOutputFor, IsOutputOf, limited, note_for, row_count, separated, table_for}
 use Rattle.csv.specs.Records.{AllText}
 use Rattle.comfy_csv_parts.specs.declared.options.Look.{Look}
 use Rattle.comfy_csv_parts.specs.declared.options.Options.{Options}
@@ -49,8 +49,9 @@ TableKeepsRows options records table = table_for options records ≡ Ok table �
 
 -- an output is the lines of a drawing, each followed by a line feed, before the line on records that aren't drawn; P holds of their counts
 pub record EachLineHas (P : TableValue → ℕ → Type 0) (options : Options) (records : List (List Text)) (output : Text) : Type 0 where
+  pub has_separators : Bool
   pub table : TableValue
-  pub is_table : table_for options records ≡ Ok table
+  pub is_table : table_for (separated has_separators options) records ≡ Ok table
   pub lines : List Text
   pub drawing : IsTableDrawing table lines
   pub counts : EachLineCounts (P table) table drawing.widths
@@ -109,7 +110,7 @@ WholeOutputIsStraight options records output =
 abbrev pub FittingOutputIsStraight : Options → List (List Text) → Text → Type 0
 FittingOutputIsStraight options records output =
     IsOneColumnStyle options.look.style → IsUnstyledUncut options.look
-    → ((table : TableValue) (widths : List ℕ) → table_for options records ≡ Ok table → IsArranged table widths → EachCell CharactersFitColumn table widths)
+    → ((has_separators : Bool) (table : TableValue) (widths : List ℕ) → table_for (separated has_separators options) records ≡ Ok table → IsArranged table widths → EachCell CharactersFitColumn table widths)
     → IsOutputOf options records output → IsStraightOutput options records output
 
 -- a field of printable ASCII is drawn as such text
@@ -132,14 +133,14 @@ pub record IsLookWithoutControls (look : Look) : Type 0 where
 -- then nothing harmful is visible of an output for records that are text
 abbrev pub OutputHoldsNoControls : Options → List (List Text) → Text → Type 0
 OutputHoldsNoControls options records output =
-    IsLookWithoutControls options.look → All AllText records → IsOutputOf options records output → HasNothingHarmful (visible_text output)
+    IsLookWithoutControls options.look → All AllText records → IsOutputOf options records output → HasNoStrayControl (visible_text output)
 
 -- nor of the output for any input
 abbrev pub InputIsDrawnWithoutControls : Options → Text → Text → Type 0
 InputIsDrawnWithoutControls options input output =
-    IsLookWithoutControls options.look → IsOutputFor options input output → HasNothingHarmful (visible_text output)
+    IsLookWithoutControls options.look → IsOutputFor options input output → HasNoStrayControl (visible_text output)
 
 -- nor of any output that words ask for, unless they ask for raw fields
 abbrev pub AskedOutputHoldsNoControls : List Text → Surroundings → Asked → Text → Text → Type 0
 AskedOutputHoldsNoControls words surroundings asked input output =
-    IsAsked words surroundings asked → asked.options.look.is_raw ≡ false → IsOutputFor asked.options input output → HasNothingHarmful (visible_text output)
+    IsAsked words surroundings asked → asked.options.look.is_raw ≡ false → IsOutputFor asked.options input output → HasNoStrayControl (visible_text output)

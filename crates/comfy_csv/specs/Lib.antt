@@ -1,3 +1,5 @@
 pub mod Drawn
+pub mod Ending
 pub mod Laws
 pub mod Run
+pub mod Separators

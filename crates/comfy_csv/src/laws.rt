@@ -10,7 +10,8 @@ ghost use Rattle.comfy_csv_parts.specs.declared.options.Options.{Options};
 ghost use Rattle.comfy_table.specs.TableValue.{TableValue};
 
 pub use comfy_csv_parts::laws::{
-    cleaned_fields_hold_no_controls, escaped_texts_are_read_back, styles_for_words_hold_no_controls,
+    cleaned_fields_hold_no_controls, escaped_texts_are_read_back, records_of_texts_are_texts,
+    styles_for_words_hold_no_controls,
 };
 
 /// Picking columns loses no row. The table has a row for each record that is drawn, in order, with the fields of the same

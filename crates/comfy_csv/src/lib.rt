@@ -1,14 +1,16 @@
 //! From records of fields between delimiters to a drawn table.
 #![tactic(auto)]
 
+mod ending;
 pub mod laws;
 mod process;
+mod separators;
 mod table;
 mod transfer;
 
 pub use comfy_csv_parts::{
-    Asked, ColumnChoice, CsvError, DrawnColumn, Look, Options, Surroundings, asked_of, cleaned,
-    escaped, is_number, records_of,
+    Asked, CsvError, DrawnColumn, Kept, Look, Options, RowSeparators, Surroundings, asked_of,
+    cleaned, escaped, is_number, records_of, shown_text, text_of,
 };
 pub use process::run_with_arguments;
 pub use table::table_of;

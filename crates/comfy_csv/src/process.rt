@@ -1,21 +1,20 @@
-//! The whole program, as a process runs it: its words, its standard streams and its status.
+//! What only asks the system: the words, the streams, the environment and the file. What is made of it stands in `ending`
+//! and in `asked_of`.
 
+use crate::ending::{Ending, ending_of_drawing, ending_of_words, ending_without_words};
 use crate::transfer::draw;
-use clap::error::{Error, ErrorKind};
 use comfy_csv_parts::{Asked, CsvError, Surroundings, asked_of};
-use comfy_run::run::{FromReader, ToWriter, words_of_process};
+use comfy_run::run::{FromReader, ToWriter, words_of_process, write_all};
+use std::alloc::AllocError;
 use std::env::VarError;
 use std::fs::File;
 use std::io::IsTerminal;
 use std::process::ExitCode;
 use std::{env, io};
 
-// The status after words that aren't known.
-const MISUSED: u8 = 2;
-
 /// Runs the program over the standard streams, with the words after the process's name, and returns its status: 0 where
-/// the drawing was written, 1 with a line on standard error after an error, 2 with clap's words where the words aren't
-/// known. Where a pipe has no reader any more, the status is 1, and nothing is said.
+/// the drawing was written, 1 with a line on standard error after an error, 2 with a reason where the words aren't known.
+/// Where a pipe has no reader any more, the status is 1, and nothing is said.
 ///
 /// ```
 /// fn main(rt: HostRuntime) -> ExitCode {
@@ -23,106 +22,72 @@ const MISUSED: u8 = 2;
 /// }
 /// ```
 pub fn run_with_arguments(rt: &HostRuntime) -> ExitCode {
-    match words_of_process(rt) {
+    let ending = match words_of_process(rt) {
         Ok(words) => run_with_words(rt, words.as_slice()),
-        Err(error) if error.kind() == io::ErrorKind::InvalidData => {
-            let _ = eprintln!(rt; "csvtable: a word isn't UTF-8");
-            ExitCode::from(MISUSED)
-        }
-        Err(_) => failed(rt, &CsvError::OutOfMemory),
-    }
-}
-
-fn run_with_words(rt: &HostRuntime, words: &[String]) -> ExitCode {
-    let mut texts = Vec::new(rt.alloc());
-    for word in words {
-        if texts.push(word.as_str()).is_err() {
-            return failed(rt, &CsvError::OutOfMemory);
-        }
-    }
-    let Ok(surroundings) = surroundings(rt) else {
-        return failed(rt, &CsvError::OutOfMemory);
+        Err(error) => ending_without_words(rt.alloc(), error.kind()),
     };
-    match asked_of(rt.alloc(), texts.as_slice(), surroundings) {
-        Ok(asked) => run(rt, &asked),
-        Err(error) => said(rt, &error),
-    }
+    end(rt, &ending)
 }
 
-// Prints what clap says: help, the version, or why the words aren't known.
-fn said(rt: &HostRuntime, error: &Error) -> ExitCode {
-    if error.kind() == ErrorKind::OutOfMemory {
-        return failed(rt, &CsvError::OutOfMemory);
+// Says what there is to say, and ends. Where a message can't be said there is nowhere left to say so; help is an output.
+fn end(rt: &HostRuntime, ending: &Ending) -> ExitCode {
+    let text = ending.said.text().as_bytes();
+    if ending.is_message {
+        let _ = write_all(&mut ToWriter::new(rt.stderr()), text);
+        return ExitCode::from(ending.status);
     }
-    match error.print(rt) {
+    match write_all(&mut ToWriter::new(rt.stdout()), text) {
+        Ok(()) => ExitCode::from(ending.status),
         Err(_) => ExitCode::FAILURE,
-        Ok(()) if error.exit_code() == 0 => ExitCode::SUCCESS,
-        Ok(()) => ExitCode::from(MISUSED),
     }
 }
 
-// What is known of the terminal and the environment.
-fn surroundings(rt: &HostRuntime) -> Result<Surroundings, CsvError> {
-    Ok(Surroundings {
+fn run_with_words(rt: &HostRuntime, words: &[String]) -> Ending {
+    match asked(rt, words) {
+        Ok(asked) => run(rt, &asked),
+        Err(error) => ending_of_words(rt.alloc(), &error),
+    }
+}
+
+// What the words ask for, here.
+fn asked(rt: &HostRuntime, words: &[String]) -> Result<Asked, clap::Error> {
+    let mut texts = Vec::with_capacity(rt.alloc(), words.len())?;
+    for word in words {
+        texts.push(word.as_str())?;
+    }
+    let columns = variable(rt, "COLUMNS")?;
+    let no_color = variable(rt, "NO_COLOR")?;
+    let surroundings = Surroundings {
         is_terminal: rt.stdout().is_terminal(),
-        width: width(rt)?,
-        has_no_color: has_no_color(rt)?,
-    })
-}
-
-// The width that COLUMNS says; none where it says 0 or nothing.
-fn width(rt: &HostRuntime) -> Result<Option<u16>, CsvError> {
-    let Some(columns) = variable(rt, "COLUMNS")? else {
-        return Ok(None);
+        columns: columns.as_ref().map(|text| text.as_str()),
+        no_color: no_color.as_ref().map(|text| text.as_str()),
     };
-    let width = columns.as_str().parse::<u16>().ok();
-    Ok(width.filter(|width| *width > 0))
-}
-
-// Whether NO_COLOR is set and not empty.
-fn has_no_color(rt: &HostRuntime) -> Result<bool, CsvError> {
-    match variable(rt, "NO_COLOR")? {
-        Some(value) => Ok(!value.is_empty()),
-        None => Ok(false),
-    }
+    asked_of(rt.alloc(), texts.as_slice(), surroundings)
 }
 
 // A variable of the environment, where it is set and is text.
-fn variable(rt: &HostRuntime, name: &str) -> Result<Option<String>, CsvError> {
+fn variable(rt: &HostRuntime, name: &str) -> Result<Option<String>, AllocError> {
     match env::var(rt, name) {
         Ok(value) => Ok(Some(value)),
-        Err(VarError::OutOfMemory) => Err(CsvError::OutOfMemory),
+        Err(VarError::OutOfMemory) => Err(AllocError),
         Err(_) => Ok(None),
     }
 }
 
 // Draws the file, or standard input.
-fn run(rt: &HostRuntime, asked: &Asked) -> ExitCode {
+fn run(rt: &HostRuntime, asked: &Asked) -> Ending {
     let mut sink = ToWriter::new(rt.stdout());
-    match drawn(rt, &mut sink, asked) {
-        Ok(()) => ExitCode::SUCCESS,
-        Err(CsvError::Write) if sink.is_unread() => ExitCode::FAILURE,
-        Err(error) => failed(rt, &error),
-    }
+    let drawn = drawn(rt, &mut sink, asked);
+    ending_of_drawing(rt.alloc(), &drawn, sink.is_unread())
 }
 
 fn drawn(rt: &HostRuntime, sink: &mut ToWriter<io::Stdout>, asked: &Asked) -> Result<(), CsvError> {
     let Some(path) = &asked.file else {
-        return draw(
-            rt.alloc(),
-            &mut FromReader::new(rt.stdin()),
-            sink,
-            &asked.options,
-        );
+        let mut source = FromReader::new(rt.stdin());
+        return draw(rt.alloc(), &mut source, sink, &asked.options);
     };
     let Ok(file) = File::open(rt, path.as_str()) else {
         return Err(CsvError::Read);
     };
     draw(rt.alloc(), &mut FromReader::new(file), sink, &asked.options)
-}
-
-// Says why nothing was drawn. Where that fails there is nowhere left to say it.
-fn failed(rt: &HostRuntime, error: &CsvError) -> ExitCode {
-    let _ = eprintln!(rt; "csvtable: {error}");
-    ExitCode::FAILURE
 }

@@ -12,8 +12,9 @@ use comfy_table::{ContentArrangement, Table};
 use csv::StringRecord;
 use std::alloc::Global;
 
-/// The table of these records, with the columns, rows and looks that are wanted. `NoColumn` has the first name of a
-/// column that isn't there: in the list of columns, then in those of the right and the left.
+/// The table of these records, with the columns, rows and looks that are wanted, and all lines of the style. `NoColumn`
+/// has the first word that chooses no column that is there: in the list of columns, then in those of the right and the
+/// left. `TwoSides` has the first column of the right that is at the left too.
 pub fn table_of(
     alloc: Global,
     records: &[StringRecord],

@@ -1,14 +1,15 @@
 //! Reads an input, draws the table of its records, and writes the drawing.
 
-ghost use Rattle.std.specs.Prelude.{◌≡◌, ◌++◌, List, ℕ, true, false, Some, OnOk, IfOk, IfErr, map, string_bytes};
+ghost use Rattle.std.specs.Prelude.{◌≡◌, ◌++◌, List, ℕ, true, false, Some, OnOk, IfOk, IfErr, IsUtf8, map, string_bytes};
 ghost use Rattle.csv.specs.Records.{fields_of};
 ghost use Rattle.comfy_csv_parts.specs.Columns.{IsColumnRefusal};
 ghost use Rattle.comfy_csv.specs.Drawn.{IsOutputFor, IsOutputOf, note_for, row_count, table_for};
 ghost use Rattle.comfy_csv.specs.Run.{IsAfter, IsReadFailure, IsRefusal, is_read_fault, is_write_fault};
 ghost use Rattle.comfy_run.specs.Run.{Between};
 
+use crate::separators::separate_rows;
 use crate::table::table_of;
-use comfy_csv_parts::{CsvError, Options, records_of};
+use comfy_csv_parts::{CsvError, Options, records_of, text_of};
 use comfy_run::run::{DeviceFault, ReadError, Sink, Source, read_all, write_all};
 use csv::StringRecord;
 use std::alloc::{AllocError, Global};
@@ -17,8 +18,8 @@ use std::fmt::Write;
 /// Reads the whole source, and writes the drawing of the table of its records to the sink, each line followed by a line
 /// feed. Where not all records are drawn, a line says how many there are.
 ///
-/// All memory is asked for before the first write. Where the input can't be read, a record isn't UTF-8, a column that is
-/// named isn't there, or memory runs out, nothing is written. Where the output can't be written, a beginning of it was.
+/// All memory is asked for before the first write. Where the input can't be read or isn't UTF-8, columns can't be chosen
+/// so, or memory runs out, nothing is written. Where the output can't be written, a beginning of it was.
 ///
 /// ```
 /// let mut source = FromReader::new(rt.stdin());
@@ -55,11 +56,12 @@ fn output_for<R: Source>(
     ensures ended { OnOk result (R.end_was_read source.new ≡ true) }
     ensures fault { R.has_failed source.new ≡ is_read_fault result }
     ensures no_write { is_write_fault result ≡ false }
-    ensures output { IfOk result (λ output. (input : List ℕ) → R.remaining source.old ≡ Some input → IsOutputFor options.now input (string_bytes output)) }
+    ensures output { IfOk result (λ output. (input : List ℕ) → R.remaining source.old ≡ Some input → IsUtf8 input × IsOutputFor options.now input (string_bytes output)) }
     ensures refused { IfErr result (λ e. (input : List ℕ) → R.remaining source.old ≡ Some input → IsRefusal options.now e input (R.end_was_read source.new) (R.has_failed source.new)) }
 {
     let input = input_of(alloc, source)?;
-    let records = records_of(alloc, input.as_slice(), options.delimiter)?;
+    let text = text_of(input.as_slice())?;
+    let records = records_of(alloc, text, options.delimiter)?;
     output_of(alloc, records.as_slice(), options)
 }
 
@@ -69,7 +71,7 @@ fn input_of<R: Source>(alloc: Global, source: &mut R) -> Result<Vec<u8>, CsvErro
     ensures fault { R.has_failed source.new ≡ is_read_fault result }
     ensures no_write { is_write_fault result ≡ false }
     ensures input { IfOk result (λ bytes. (input : List ℕ) → R.remaining source.old ≡ Some input → bytes.items ≡ input) }
-    ensures refused { IfErr result (λ e. (input : List ℕ) → R.remaining source.old ≡ Some input → IsReadFailure e (R.has_failed source.new)) }
+    ensures refused { IfErr result (λ e. (input : List ℕ) → R.remaining source.old ≡ Some input → IsReadFailure e input (R.end_was_read source.new) (R.has_failed source.new)) }
 {
     match read_all(alloc, source) {
         Ok(input) => Ok(input),
@@ -83,7 +85,9 @@ fn output_of(alloc: Global, records: &[StringRecord], options: &Options) -> Resu
     ensures output { IfOk result (λ output. IsOutputOf options.now (map fields_of records.now) (string_bytes output)) }
     ensures refused { IfErr result (λ e. IsColumnRefusal e (table_for options.now (map fields_of records.now))) }
 {
-    let mut output = table_of(alloc, records, options)?.to_terminated_text()?;
+    let mut table = table_of(alloc, records, options)?;
+    separate_rows(&mut table, options.look.separators)?;
+    let mut output = table.to_terminated_text()?;
     push_note(
         &mut output,
         options.limit,

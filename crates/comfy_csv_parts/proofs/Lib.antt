@@ -4,9 +4,12 @@ pub mod ControlLemmas
 pub mod FieldControlLemmas
 pub mod MarkdownLemmas
 pub mod MarkedLemmas
+pub mod NamedStyleLemmas
 pub mod PieceLemmas
 pub mod ProgramLemmas
 pub mod RecordLemmas
+pub mod ShownLemmas
 pub mod StyleLemmas
+pub mod TextLemmas
 pub mod TextLineLemmas
 pub mod WordLemmas

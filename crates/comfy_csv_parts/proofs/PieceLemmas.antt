@@ -1,5 +1,5 @@
 -- The piece at a text's front: an SGR sequence, which is the same among bytes and among characters, or a character.
-use Rattle.std.proofs.Common.{◌≡◌, ◌⊎◌, inl, inr, ◌<◌, ◌+◌, ◌&&◌, ℕ, Bool, true, false, [], ◌∷◌, ◌++◌, chars, encode_utf8, encode_utf8_all, length, map, take, drop, refl, sym, ap, ap₂, ◌∙◌, arith, tests, append_assoc, length-append}
+use Rattle.std.proofs.Common.{◌≡◌, ◌⊎◌, inl, inr, ◌<◌, ◌+◌, ℕ, Bool, true, false, [], ◌∷◌, ◌++◌, chars, encode_utf8, encode_utf8_all, length, map, take, drop, sym, ap, ap₂, ◌∙◌, arith, tests, append_assoc, length-append}
 use Rattle.std.proofs.lemmas.Bool.{and_parts}
 use Rattle.std.proofs.lemmas.List.{take-append-le, take_all}
 use Rattle.std.proofs.lemmas.Str.{IsAscii-append, IsUtf8-from_ascii, chars-IsAscii, chars-append, chars-nil, chars_past_char, encodes-IsAscii, encodes-append, encodes-chars}
@@ -7,7 +7,7 @@ use Rattle.std.proofs.lemmas.Str.Ascii.{IsAscii-cons, IsAscii-nil}
 use Rattle.std.specs.List.{list_all}
 use Rattle.std.specs.Prelude.{if◌then◌else◌}
 use Rattle.std.specs.Str.{IsAscii, IsUtf8}
-use Rattle.comfy_parts.proofs.CallerLemmas.{BeginsWithSequence, begins_with_sequence, front_of, none_at_front, parts-sequence, parts-visible, past_sequence, sequence_len-sequence}
+use Rattle.comfy_parts.proofs.CallerLemmas.{BeginsWithSequence, begins_with_sequence, front_of, parts-sequence, parts-visible, past_sequence, sequence_len-sequence}
 use Rattle.comfy_parts.specs.Cursor.{sequence_part, visible_part}
 use Rattle.comfy_parts.specs.Text.{Text}
 use Rattle.comfy_parts.specs.VisibleText.{is_parameter, parameter_count, parts, sequence_len}
@@ -33,7 +33,7 @@ sequence-IsAscii code all =
     (IsAscii-append code (0x6D ∷ []) (code-IsAscii code all) (IsAscii-cons 0x6D [] (omega arith) IsAscii-nil)))
 
 -- what follows a sequence, apart
-apart : (code rest : Text) → 0x1B ∷ 0x5B ∷ (code ++ (0x6D ∷ rest)) ≡ sequence_of code ++ rest
+pub apart : (code rest : Text) → 0x1B ∷ 0x5B ∷ (code ++ (0x6D ∷ rest)) ≡ sequence_of code ++ rest
 apart code rest = ap (λ (xs : Text). 0x1B ∷ 0x5B ∷ xs) (sym (append_assoc code (0x6D ∷ []) rest))
 
 -- a sequence at the front is the first part

@@ -1,6 +1,7 @@
 -- Why a record wasn't read.
-use Rattle.std.proofs.Common.{◌≡◌, ℕ, zero, suc, arith, true, List, [], ◌∷◌, ◌++◌, Option, Some, None, All, length, refl, ap, sym, subst}
+use Rattle.std.proofs.Common.{◌≡◌, ℕ, zero, suc, arith, true, List, [], ◌∷◌, ◌++◌, Option, Some, None, All, refl, sym, subst}
 use Rattle.std.proofs.lemmas.List.Elements.{All-append}
+use Rattle.std.specs.Str.{IsUtf8}
 use Rattle.comfy_parts.specs.Text.{Text}
 use Rattle.csv.specs.Machine.{Read as FoundRecord, next_record}
 use Rattle.csv.specs.Reading.{ExplainsRead, NextIs, Reached, ReadsNext, source_of, strip_bom}
@@ -11,7 +12,8 @@ use Rattle.csv.specs.declared.parser.Config.{Config}
 use Rattle.csv.specs.declared.parser.State.{State}
 use Rattle.csv.specs.declared.parser.State.TheVariants as st
 use Rattle.csv.specs.declared.reader.Reader.{Reader}
-use Rattle.comfy_csv_parts.specs.Input.{IsReadingRefusal, IsRecordRefusal, config_for, number_after}
+use Rattle.comfy_csv_parts.proofs.TextLemmas.{no_ascii}
+use Rattle.comfy_csv_parts.specs.Input.{IsReadingRefusal, IsRecordRefusal, config_for}
 use Rattle.comfy_csv_parts.specs.declared.error.CsvError.{CsvError}
 use Rattle.comfy_csv_parts.specs.declared.error.CsvError.TheVariants.{OutOfMemory}
 
@@ -30,18 +32,29 @@ refused_memory delimiter input e is = subst (λ (x : CsvError). IsReadingRefusal
 
 module _ {R : Type 0} (rem : R → Option Text) (a b : Reader R) (delimiter : ℕ) (input text : Text) (before : List (List Text)) where
   -- what is returned where the next record wasn't read
-  pub refused : (why : ErrorKind) (count : ℕ) (e : CsvError) → a.config ≡ config_for delimiter → source_of rem a ≡ Some text
-      → Reached (config_for delimiter) st.StartRecord (strip_bom input) before a.state text → All AllText before → length before ≡ count
-      → ExplainsRead rem a b true why → IsRecordRefusal why count e → IsReadingRefusal delimiter input e
-  refused (kind.Utf8 pos err) count e config source reached are_text counted explains is =
+  pub refused : (why : ErrorKind) (e : CsvError) → IsUtf8 input → a.config ≡ config_for delimiter → source_of rem a ≡ Some text
+      → Reached (config_for delimiter) st.StartRecord (strip_bom input) before a.state text → All AllText before
+      → ExplainsRead rem a b true why → IsRecordRefusal why e → IsReadingRefusal delimiter input e
+  refused (kind.Utf8 pos err) e utf8 config source reached are_text explains is =
       let next = took (config_for delimiter) a.state text _ explains.1 b.state (rw (config, source) at explains.2) in
+      let no_text = subst (λ (f : List Text). ¬ (AllText f)) next.2 explains.3 in
       subst (λ (x : CsvError). IsReadingRefusal delimiter input x) (sym is)
-      (record { before = before; state = a.state; rest = text; reached = reached; are_text = are_text; next = next.0; is_next = next.1; is_no_text = subst (λ (f : List Text). ¬ (AllText f)) next.2 explains.3; numbered = ap number_after (sym counted) })
-  refused (kind.Io cause) count e config source reached are_text counted explains is = refused_memory delimiter input e is
-  refused (kind.UnequalLengths pos expected len) count e config source reached are_text counted explains is = refused_memory delimiter input e is
-  refused (kind.Serialize why) count e config source reached are_text counted explains is = refused_memory delimiter input e is
-  refused (kind.Deserialize pos err) count e config source reached are_text counted explains is = refused_memory delimiter input e is
-  refused kind.OutOfMemory count e config source reached are_text counted explains is = refused_memory delimiter input e is
+      (record {
+        no_ascii = no_ascii delimiter input before a.state text next.0 utf8 reached next.1 no_text;
+        before = before;
+        state = a.state;
+        rest = text;
+        reached = reached;
+        are_text = are_text;
+        next = next.0;
+        is_next = next.1;
+        is_no_text = no_text;
+      })
+  refused (kind.Io cause) e utf8 config source reached are_text explains is = refused_memory delimiter input e is
+  refused (kind.UnequalLengths pos expected len) e utf8 config source reached are_text explains is = refused_memory delimiter input e is
+  refused (kind.Serialize why) e utf8 config source reached are_text explains is = refused_memory delimiter input e is
+  refused (kind.Deserialize pos err) e utf8 config source reached are_text explains is = refused_memory delimiter input e is
+  refused kind.OutOfMemory e utf8 config source reached are_text explains is = refused_memory delimiter input e is
 
 -- one more record of text
 pub more_text : (rows : List (List Text)) (fields : List Text) → All AllText rows → AllText fields → All AllText (rows ++ fields ∷ [])

@@ -13,8 +13,8 @@ use Rattle.comfy_parts.specs.CellValue.{plain_cell}
 use Rattle.comfy_parts.specs.Text.{HasNo, Text}
 use Rattle.comfy_parts.specs.VisibleText.{Part, parts, visible_bytes, visible_text}
 use Rattle.comfy_csv_parts.proofs.PieceLemmas.{sequence_of}
-use Rattle.comfy_csv_parts.specs.Cleaning.{is_harmful, visible_of}
-use Rattle.comfy_csv_parts.specs.Controls.{HasNothingHarmful}
+use Rattle.comfy_csv_parts.specs.Cleaning.{visible_of}
+use Rattle.comfy_csv_parts.specs.Controls.{HasNoStrayControl, is_stray_control}
 
 -- ---- the first text line
 
@@ -51,7 +51,7 @@ lines-front (b ∷ bs) text clear first others are =
 -- ---- texts without harmful characters
 
 -- a harmless character that is no line feed is no control character
-harmless_is_plain : (c : ℕ) → is_harmful c ≡ false → (c == 0x0A) ≡ false → is_control c ≡ false
+harmless_is_plain : (c : ℕ) → is_stray_control c ≡ false → (c == 0x0A) ≡ false → is_control c ≡ false
 harmless_is_plain c harmless other = by_test (is_control c) (c == 0x0A) harmless other
   where
     by_test : (control feed : Bool) → (control && not feed) ≡ false → feed ≡ false → control ≡ false
@@ -75,7 +75,7 @@ module _ where
       subst (All IsPlain) (sym (lines-front (encode_utf8 c) text (encoded_clear 0x0A c (omega arith) other) lines.first lines.others lines.are))
       (All-cons IsPlain (encode_utf8 c ++ lines.first) lines.others (NoCharPasses-append is_control (encode_utf8 c) lines.first one (All-head IsPlain lines.first lines.others own)) (All-tail IsPlain lines.first lines.others own))
 
-  plain_lines : (cs : List ℕ) → NonePass is_harmful cs → All IsPlain (text_lines (encode_utf8_all cs))
+  plain_lines : (cs : List ℕ) → NonePass is_stray_control cs → All IsPlain (text_lines (encode_utf8_all cs))
   plain_lines [] none = All-cons IsPlain [] [] (NoCharPasses-nil is_control) (All-nil IsPlain)
   plain_lines (c ∷ cs) (own, more) = by_test (c == 0x0A) refl (plain_lines cs more)
     where
@@ -125,10 +125,10 @@ shown-parts (p ∷ ps) rest (inr part, more) clear =
 
 -- ---- text lines without control characters
 
-pub lines_without_controls : (keeps : Bool) (text : Text) → HasNothingHarmful (visible_of keeps text) → All (λ (line : Text). NoCharPasses is_control (visible_of keeps line)) (plain_cell text).text_lines
+pub lines_without_controls : (keeps : Bool) (text : Text) → HasNoStrayControl (visible_of keeps text) → All (λ (line : Text). NoCharPasses is_control (visible_of keeps line)) (plain_cell text).text_lines
 lines_without_controls false text none = subst (λ (t : Text). All IsPlain (text_lines t)) none.1 (plain_lines none.0 none.2)
 lines_without_controls true text none =
-    let clear : HasNo 0x1B (visible_text text) = none_by_characters is_harmful 0x1B (omega arith) refl (visible_text text) none in
+    let clear : HasNo 0x1B (visible_text text) = none_by_characters is_stray_control 0x1B (omega arith) refl (visible_text text) none in
     let shown : AreShown text (visible_text text) = subst (λ (t : Text). AreShown t (visible_text text)) (scan text).bytes (shown-parts (parts text) [] (scan text).scanned clear) in
     All-of_map IsPlain visible_text (text_lines text)
     (subst (All IsPlain) (sym shown) (subst (λ (t : Text). All IsPlain (text_lines t)) none.1 (plain_lines none.0 none.2)))

@@ -9,7 +9,7 @@ use Rattle.std.proofs.lemmas.Str.Parse.{parse_digits}
 use Rattle.clap.specs.Words.{ReadsOne}
 use Rattle.comfy_parts.proofs.CallerLemmas.{digits, none_where, some_where}
 use Rattle.comfy_parts.specs.Text.{Text}
-use Rattle.comfy_csv_parts.specs.Words.{is_numeral, number_for}
+use Rattle.comfy_csv_parts.specs.Numerals.{is_numeral, number_for}
 
 not_all : (a b c : Bool) → (a ≡ true → b ≡ true → c ≡ true → ⊥) → (a && b) && c ≡ false
 not_all false b c h = refl

@@ -8,6 +8,7 @@ use Rattle.comfy_parts.specs.declared.style.cell.CellAlignment.{CellAlignment}
 use Rattle.csv.specs.Records.{field_at}
 use Rattle.comfy_csv_parts.specs.Cleaning.{cleaned}
 use Rattle.comfy_csv_parts.specs.Markdown.{escaped}
+use Rattle.comfy_csv_parts.specs.declared.cleaning.Kept.{Kept}
 use Rattle.comfy_csv_parts.specs.declared.options.Look.{Look}
 use Rattle.comfy_csv_parts.specs.declared.options.DrawnColumn.{DrawnColumn}
 
@@ -15,13 +16,23 @@ use Rattle.comfy_csv_parts.specs.declared.options.DrawnColumn.{DrawnColumn}
 abbrev pub field_or_blank : List Text → ℕ → Text
 field_or_blank fields position = unwrap_or (field_at fields position) []
 
--- a text for a Markdown table where one is wanted
-abbrev pub marked : Bool → Text → Text
-marked is_markdown text = if is_markdown then encode_utf8_all (escaped (chars text)) else text
+-- a text for a Markdown table
+abbrev pub marked : Text → Text
+marked text = encode_utf8_all (escaped (chars text))
 
--- a field as its cell has it: cleaned unless it is left raw, and escaped where Markdown is wanted
+-- what of a field a look leaves as it is; for Markdown no sequences
+abbrev pub kept_by : Look → Kept
+kept_by look = record { sequences = look.has_sequences; directions = look.keeps_bidi }
+
+abbrev pub kept_for_markdown : Look → Kept
+kept_for_markdown look = record { sequences = false; directions = look.keeps_bidi }
+
+-- a field as its cell has it: left raw, or cleaned; for Markdown it is cleaned and escaped
 abbrev pub field_text : Look → Text → Text
-field_text look field = marked look.is_markdown (if look.is_raw then field else cleaned look.has_sequences field)
+field_text look field =
+    if look.is_markdown then marked (cleaned (kept_for_markdown look) field)
+    else if look.is_raw then field
+    else cleaned (kept_by look) field
 
 -- the cell of a field, with this alignment
 abbrev pub cell_for : Look → Option CellAlignment → Text → CellValue

@@ -1,15 +1,15 @@
 -- Which columns are drawn, and how their cells are aligned.
-use Rattle.std.specs.Prelude.{ℕ, Bool, false, ◌≡◌, ◌-◌, ◌==◌, ◌&&◌, ◌||◌, nat_le, nat_lt, List, [], ◌∷◌, ◌++◌, Option, Some, None, Result, Ok, Err, bytes_eq, codes, decimal, fold, length, map, max, ok_or, option_map, string_bytes, if◌then◌else◌}
-use Rattle.std.specs.List.{list_all, list_any, position_from, range_with_len}
+use Rattle.std.specs.Prelude.{ℕ, Bool, true, false, ◌≡◌, ◌+◌, ◌-◌, ◌==◌, ◌&&◌, ◌||◌, nat_le, nat_lt, List, [], ◌++◌, Option, Some, None, Result, Ok, Err, String, bytes_eq, decimal, drop, find, fold, length, map, max, ok_or, option_and_then, option_map, string_bytes, take, unwrap_or, if◌then◌else◌}
+use Rattle.std.specs.List.{list_all, list_any, position, position_from, range_with_len}
 use Rattle.comfy_parts.specs.Text.{Text}
 use Rattle.comfy_parts.specs.declared.style.cell.CellAlignment.{CellAlignment}
 use Rattle.comfy_parts.specs.declared.style.cell.CellAlignment.TheVariants.{Left, Right}
+use Rattle.csv.specs.Records.{field_at}
 use Rattle.comfy_csv_parts.specs.Cells.{field_or_blank}
 use Rattle.comfy_csv_parts.specs.Number.{is_number}
+use Rattle.comfy_csv_parts.specs.Numerals.{number_for}
 use Rattle.comfy_csv_parts.specs.declared.error.CsvError.{CsvError}
-use Rattle.comfy_csv_parts.specs.declared.error.CsvError.TheVariants.{Read, Write, NotUtf8, NoColumn, OutOfMemory}
-use Rattle.comfy_csv_parts.specs.declared.options.ColumnChoice.{ColumnChoice}
-use Rattle.comfy_csv_parts.specs.declared.options.ColumnChoice.TheVariants.{Named, Numbers}
+use Rattle.comfy_csv_parts.specs.declared.error.CsvError.TheVariants.{Read, Write, NotUtf8, SplitCharacter, NoColumn, OutOfMemory, TwoSides}
 use Rattle.comfy_csv_parts.specs.declared.options.Options.{Options}
 use Rattle.comfy_csv_parts.specs.declared.options.DrawnColumn.{DrawnColumn}
 
@@ -26,32 +26,71 @@ abbrev pub is_text : Text → Option Text → Bool
 is_text name None = false
 is_text name (Some field) = bytes_eq field name
 
--- what the message on a range says: 0, which is no column's number, or the range where it ends before it begins, or its last number
-abbrev pub range_name : ℕ → ℕ → Text
-range_name first last =
-    if first == 0 then codes "0"
-    else if nat_lt last first then decimal first ++ (codes "-" ++ decimal last)
-    else decimal last
+-- why columns can't be drawn: a word chooses nothing that is there, or a column is to stand at two sides
+pub record ColumnFault : Type 0 where
+  pub is_missing : Bool
+  pub name : Text
 
--- the positions of one choice, or the name of what isn't there
-abbrev pub positions_of_choice : List Text → ℕ → ColumnChoice → Result (List ℕ) Text
-positions_of_choice names count (Named name) = ok_or (option_map (λ p. p ∷ []) (position_named (string_bytes name) names)) (string_bytes name)
-positions_of_choice names count (Numbers first last) =
-    if (nat_lt 0 first && nat_le first last) && nat_le last count then Ok (range_with_len (first - 1) (last - (first - 1))) else Err (range_name first last)
+abbrev pub missing : Text → ColumnFault
+missing name = record { is_missing = true; name = name }
 
--- one list after another, or the first name of what isn't there
-abbrev pub joined : Result (List ℕ) Text → Result (List ℕ) Text → Result (List ℕ) Text
+abbrev pub two_sided : Text → ColumnFault
+two_sided name = record { is_missing = false; name = name }
+
+-- two numbers, where both are known
+abbrev pub both : Option ℕ → Option ℕ → Option (ℕ × ℕ)
+both (Some first) (Some last) = Some (first, last)
+both (Some first) None = None
+both None last = None
+
+-- the numbers before and after a position
+abbrev pub numbers_around : Text → Option ℕ → Option (ℕ × ℕ)
+numbers_around word None = None
+numbers_around word (Some at) = both (number_for 64 (take at word)) (number_for 64 (drop (at + 1) word))
+
+-- the numbers around a word's first hyphen
+abbrev pub numbers_around_hyphen : Text → Option (ℕ × ℕ)
+numbers_around_hyphen word = numbers_around word (position (λ b. b == 0x2D) word)
+
+-- the columns from one number to another, where they are there, as the position of the first and the one after the last
+abbrev pub numbered : ℕ → ℕ × ℕ → Option (ℕ × ℕ)
+numbered count numbers =
+    if (nat_lt 0 numbers.0 && nat_le numbers.0 numbers.1) && nat_le numbers.1 count then Some (numbers.0 - 1, numbers.1) else None
+
+-- the column at a position, else those from one number to another
+abbrev pub named_or_between : ℕ → Text → Option ℕ → Option (ℕ × ℕ)
+named_or_between count word (Some position) = Some (position, position + 1)
+named_or_between count word None = option_and_then (numbered count) (numbers_around_hyphen word)
+
+-- the columns that a word chooses: that of its number, else that of its name, else those between two numbers around a hyphen
+abbrev pub columns_by : List Text → ℕ → Text → Option ℕ → Option (ℕ × ℕ)
+columns_by names count word (Some number) = numbered count (number, number)
+columns_by names count word None = named_or_between count word (position_named word names)
+
+abbrev pub columns_chosen : List Text → ℕ → Text → Option (ℕ × ℕ)
+columns_chosen names count word = columns_by names count word (number_for 64 word)
+
+-- the positions from one on, before another
+abbrev pub positions_between : ℕ × ℕ → List ℕ
+positions_between ends = range_with_len ends.0 (ends.1 - ends.0)
+
+-- the positions that a word chooses
+abbrev pub positions_of_word : List Text → ℕ → Text → Result (List ℕ) ColumnFault
+positions_of_word names count word = ok_or (option_map positions_between (columns_chosen names count word)) (missing word)
+
+-- one list after another, or the first fault
+abbrev pub joined : Result (List ℕ) ColumnFault → Result (List ℕ) ColumnFault → Result (List ℕ) ColumnFault
 joined (Ok xs) (Ok ys) = Ok (xs ++ ys)
-joined (Ok xs) (Err name) = Err name
-joined (Err name) ys = Err name
+joined (Ok xs) (Err fault) = Err fault
+joined (Err fault) ys = Err fault
 
--- the positions of some choices, in their order
-abbrev pub positions_of : List Text → ℕ → List ColumnChoice → Result (List ℕ) Text
-positions_of names count choices = fold (λ (found : Result (List ℕ) Text) (choice : ColumnChoice). joined found (positions_of_choice names count choice)) (Ok []) choices
+-- the positions that some words choose, in their order
+abbrev pub positions_of : {A : Type 0} → List Text → ℕ → List (String A) → Result (List ℕ) ColumnFault
+positions_of {A} names count words = fold (λ (found : Result (List ℕ) ColumnFault) (word : String A). joined found (positions_of_word names count (string_bytes word))) (Ok []) words
 
 -- those of the columns that are drawn: all where none is chosen
-abbrev pub chosen_columns : List Text → ℕ → List ColumnChoice → Result (List ℕ) Text
-chosen_columns names count choices = if length choices == 0 then Ok (range_with_len 0 count) else positions_of names count choices
+abbrev pub chosen_columns : {A : Type 0} → List Text → ℕ → List (String A) → Result (List ℕ) ColumnFault
+chosen_columns names count words = if length words == 0 then Ok (range_with_len 0 count) else positions_of names count words
 
 abbrev pub is_number_or_empty : Text → Bool
 is_number_or_empty field = (length field == 0) || is_number field
@@ -60,9 +99,13 @@ is_number_or_empty field = (length field == 0) || is_number field
 abbrev pub is_number_at : ℕ → List Text → Bool
 is_number_at position fields = is_number_or_empty (field_or_blank fields position)
 
--- each field of a column is a number or empty
+-- a field that is there and isn't empty
+abbrev pub is_filled_at : ℕ → List Text → Bool
+is_filled_at position fields = nat_lt 0 (length (field_or_blank fields position))
+
+-- each field of a column is a number or empty, and not all are empty
 abbrev pub is_number_column : List (List Text) → ℕ → Bool
-is_number_column rows position = list_all (is_number_at position) rows
+is_number_column rows position = list_all (is_number_at position) rows && list_any (is_filled_at position) rows
 
 -- the alignment of a column: that which was chosen for it, else at the right where its fields are numbers
 abbrev pub alignment_for : List ℕ → List ℕ → List (List Text) → ℕ → Option CellAlignment
@@ -76,21 +119,36 @@ alignment_for right left rows position =
 abbrev pub drawn_columns : List ℕ → List ℕ → List (List Text) → List ℕ → List DrawnColumn
 drawn_columns right left rows positions = map (λ (p : ℕ). record { position = p; alignment = alignment_for right left rows p }) positions
 
--- the columns that are drawn, or the first name of what isn't there: in the list of columns, then in that of the right, then in that of the left
-abbrev pub columns_with : List (List Text) → Result (List ℕ) Text → Result (List ℕ) Text → Result (List ℕ) Text → Result (List DrawnColumn) Text
-columns_with rows (Ok positions) (Ok right) (Ok left) = Ok (drawn_columns right left rows positions)
-columns_with rows (Ok positions) (Ok right) (Err name) = Err name
-columns_with rows (Ok positions) (Err name) left = Err name
-columns_with rows (Err name) right left = Err name
+-- the name of the column at a position, or its number where there is no header
+abbrev pub name_at : List Text → ℕ → Text
+name_at names position = unwrap_or (field_at names position) (decimal (position + 1))
 
-abbrev pub columns_for : Options → List Text → List (List Text) → Result (List DrawnColumn) Text
+-- the first column at the right that is at the left too
+abbrev pub at_two_sides : List ℕ → List ℕ → Option ℕ
+at_two_sides right left = find (λ p. list_any (λ q. q == p) left) right
+
+-- the columns, unless one is to stand at two sides
+abbrev pub placed_columns : List Text → List (List Text) → List ℕ → List ℕ → List ℕ → Option ℕ → Result (List DrawnColumn) ColumnFault
+placed_columns names rows positions right left (Some position) = Err (two_sided (name_at names position))
+placed_columns names rows positions right left None = Ok (drawn_columns right left rows positions)
+
+-- the columns that are drawn, or the first fault: in the list of columns, then in that of the right, then in that of the left, then between these two
+abbrev pub columns_with : List Text → List (List Text) → Result (List ℕ) ColumnFault → Result (List ℕ) ColumnFault → Result (List ℕ) ColumnFault → Result (List DrawnColumn) ColumnFault
+columns_with names rows (Ok positions) (Ok right) (Ok left) = placed_columns names rows positions right left (at_two_sides right left)
+columns_with names rows (Ok positions) (Ok right) (Err fault) = Err fault
+columns_with names rows (Ok positions) (Err fault) left = Err fault
+columns_with names rows (Err fault) right left = Err fault
+
+abbrev pub columns_for : Options → List Text → List (List Text) → Result (List DrawnColumn) ColumnFault
 columns_for options names rows =
-    columns_with rows (chosen_columns names (count_of names rows) options.columns.items) (positions_of names (count_of names rows) options.right.items) (positions_of names (count_of names rows) options.left.items)
+    columns_with names rows (chosen_columns names (count_of names rows) options.columns.items) (positions_of names (count_of names rows) options.right.items) (positions_of names (count_of names rows) options.left.items)
 
--- why there are no columns: one that is named isn't there, or there is no memory
-abbrev pub IsColumnRefusal : {A : Type 0} → CsvError → Result A Text → Type 0
-IsColumnRefusal (NoColumn name) columns = columns ≡ Err (string_bytes name)
+-- why there are no columns: a fault of the lists, or there is no memory
+abbrev pub IsColumnRefusal : {A : Type 0} → CsvError → Result A ColumnFault → Type 0
+IsColumnRefusal (NoColumn name) columns = columns ≡ Err (missing (string_bytes name))
+IsColumnRefusal (TwoSides name) columns = columns ≡ Err (two_sided (string_bytes name))
 IsColumnRefusal OutOfMemory columns = Unit {0}
 IsColumnRefusal Read columns = ⊥
 IsColumnRefusal Write columns = ⊥
-IsColumnRefusal (NotUtf8 number) columns = ⊥
+IsColumnRefusal (NotUtf8 line) columns = ⊥
+IsColumnRefusal SplitCharacter columns = ⊥

@@ -1,16 +1,19 @@
 -- Texts and styles without control characters.
-use Rattle.std.specs.Prelude.{◌≡◌, ℕ, false, Option, unwrap_or}
+use Rattle.std.specs.Prelude.{◌≡◌, ◌==◌, ◌&&◌, ℕ, Bool, false, not, Option, unwrap_or}
 use Rattle.std.specs.Char.{is_control}
 use Rattle.std.specs.List.{list_any}
 use Rattle.std.specs.Str.{NoCharPasses}
 use Rattle.comfy_parts.specs.Columns.{style_characters}
 use Rattle.comfy_parts.specs.Text.{Text}
 use Rattle.comfy_parts.specs.declared.style.table_style.TableStyle.{TableStyle}
-use Rattle.comfy_csv_parts.specs.Cleaning.{is_harmful}
+
+-- a control character that breaks no line
+abbrev pub is_stray_control : ℕ → Bool
+is_stray_control c = is_control c && not (c == 0x0A)
 
 -- no character of the text is a control character but a line feed
-abbrev pub HasNothingHarmful : Text → Type 0
-HasNothingHarmful text = NoCharPasses is_harmful text
+abbrev pub HasNoStrayControl : Text → Type 0
+HasNoStrayControl text = NoCharPasses is_stray_control text
 
 -- no character of the style is a control character
 abbrev pub IsStyleWithoutControls : TableStyle → Type 0

@@ -5,7 +5,10 @@ pub mod Controls
 pub mod Input
 pub mod Markdown
 pub mod Number
+pub mod Numerals
 pub mod Pieces
 pub mod Program
 pub mod Rules
+pub mod Shown
+pub mod Styles
 pub mod Words

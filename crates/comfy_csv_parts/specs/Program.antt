@@ -4,6 +4,7 @@ use Rattle.clap.specs.Words.{App, Rule, new_app, new_rule}
 use Rattle.clap.specs.declared.builder.action.ArgAction.TheVariants.{SetTrue}
 use Rattle.clap.specs.declared.builder.value_parser.ValueParser.{ValueParser}
 use Rattle.clap.specs.declared.builder.value_parser.ValueParser.TheVariants as vp
+use Rattle.comfy_csv_parts.specs.Styles.{style_names}
 use Rattle.comfy_parts.specs.Text.{Text}
 
 -- an option with a value, by its name and its letter
@@ -22,42 +23,60 @@ number name letter parser = record (option name letter) { parser = Some parser }
 abbrev pub choice : Text → Option ℕ → Rule
 choice name letter = record (option name letter) { parser = Some vp.String }
 
-abbrev pub csvtable_rules : List Rule
+-- a rule whose value has no names
+abbrev pub nameless : Rule → Rule × List Text
+nameless rule = (rule, [])
+
+-- when something is done
+abbrev pub whens : List Text
+whens = codes "auto" ∷ codes "always" ∷ codes "never" ∷ []
+
+-- the rules, each with the names that its value may be
+abbrev pub csvtable_rules : List (Rule × List Text)
 csvtable_rules =
-    record (new_rule (codes "file")) { value_names = 1 }
-    ∷ option (codes "delimiter") (Some 0x64)
-    ∷ flag (codes "no-header") (Some 0x6E)
-    ∷ number (codes "limit") None (vp.Unsigned 0 (2 ^ 64 - 1))
-    ∷ option (codes "columns") (Some 0x63)
-    ∷ option (codes "right") (Some 0x72)
-    ∷ option (codes "left") None
-    ∷ number (codes "width") (Some 0x77) (vp.Signed (pos 0) (pos 65535))
-    ∷ flag (codes "full") None
-    ∷ choice (codes "style") (Some 0x73)
-    ∷ number (codes "max-height") (Some 0x6D) (vp.Unsigned 0 (2 ^ 64 - 1))
-    ∷ flag (codes "markdown") None
-    ∷ record (choice (codes "color") None) { defaults = codes "auto" ∷ [] }
-    ∷ flag (codes "ansi") None
-    ∷ flag (codes "raw") None
+    nameless (record (new_rule (codes "file")) { value_names = 1 })
+    ∷ nameless (option (codes "delimiter") (Some 0x64))
+    ∷ nameless (flag (codes "no-header") (Some 0x6E))
+    ∷ nameless (number (codes "limit") None (vp.Unsigned 0 (2 ^ 64 - 1)))
+    ∷ nameless (option (codes "columns") (Some 0x63))
+    ∷ nameless (option (codes "right") (Some 0x72))
+    ∷ nameless (option (codes "left") None)
+    ∷ nameless (number (codes "width") (Some 0x77) (vp.Signed (pos 0) (pos 65535)))
+    ∷ nameless (flag (codes "full") None)
+    ∷ (record (choice (codes "style") (Some 0x73)) { ignore_case = true }, style_names)
+    ∷ nameless (flag (codes "rows") None)
+    ∷ nameless (flag (codes "no-rows") None)
+    ∷ nameless (number (codes "max-height") (Some 0x6D) (vp.Unsigned 0 (2 ^ 64 - 1)))
+    ∷ nameless (flag (codes "markdown") None)
+    ∷ (choice (codes "color") None, whens)
+    ∷ nameless (flag (codes "ansi") None)
+    ∷ nameless (flag (codes "bidi") None)
+    ∷ nameless (flag (codes "raw") None)
     ∷ []
 
--- what reads a value, whichever names it may be
+-- what reads a value, without the names that it may be
 abbrev pub unnamed : Option ValueParser → Option ValueParser
 unnamed (Some (vp.Names names)) = Some vp.String
 unnamed parser = parser
 
--- a rule, whichever names its value may be and whichever options it excludes
-abbrev pub bare : Rule → Rule
-bare rule = record rule { parser = unnamed rule.parser; is_free = true }
+-- the names that a value may be, where it is one of some names
+abbrev pub names_in : Option ValueParser → List Text
+names_in (Some (vp.Names names)) = map (λ name. name.now) names.now
+names_in parser = []
+
+-- a rule without its names, and these
+abbrev pub bare : Rule → Rule × List Text
+bare rule = (record rule { parser = unnamed rule.parser }, names_in rule.parser)
 
 -- a command's own rules
 abbrev pub with_rules : App → List Rule → App
 with_rules app rules = record app { top = record app.top { rules = rules } }
 
--- the program's command: these words, and a version
-abbrev pub csvtable : App
-csvtable = record (new_app (codes "csvtable")) { top = record (new_app (codes "csvtable")).top { has_version = true; rules = csvtable_rules } }
+-- the program's command without its words: it has a version, and of two equal options the last one counts
+abbrev pub wordless : App
+wordless = record (new_app (codes "csvtable")) { top = record (new_app (codes "csvtable")).top { has_version = true; args_override_self = true } }
 
 -- a command that reads words as the program does
-abbrev pub IsCsvtable : App → Type 0
-IsCsvtable app = with_rules app (map bare app.top.rules) ≡ csvtable
+pub record IsCsvtable (app : App) : Type 0 where
+  pub is_wordless : with_rules app [] ≡ wordless
+  pub rules : map bare app.top.rules ≡ csvtable_rules

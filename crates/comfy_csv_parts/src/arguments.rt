@@ -1,21 +1,29 @@
 //! The words after the program's name, and what they ask for.
 
-ghost use Rattle.std.specs.Prelude.{◌≡◌, ◌==◌, IfOk, Some, codes, map, option_map, string_bytes};
-ghost use Rattle.std.specs.Char.{is_ascii_digit};
-ghost use Rattle.std.specs.List.{list_all, slice_split};
-ghost use Rattle.clap.specs.Words.{app_of, first_value, found_of};
+ghost use Rattle.std.specs.Prelude.{◌≡◌, ◌==◌, ◌&&◌, IfOk, IfErr, Some, codes, map, option_map, string_bytes};
+ghost use Rattle.std.specs.List.{list_any, slice_split};
+ghost use Rattle.clap.specs.Words.{app_of, first_value, found_of, kind_of};
+ghost use Rattle.clap.specs.declared.error.kind.ErrorKind.TheVariants.{InvalidValue};
 ghost use Rattle.comfy_csv_parts.specs.Program.{IsCsvtable};
-ghost use Rattle.comfy_csv_parts.specs.Words.{IsAsked, LookIsAsked, OptionsAreAsked, choice_for, choices_for, delimiter_for, file_for, is_bold_for, number_for, numbers_around_hyphen, numbers_for, numbers_or_name, style_for, width_for};
+ghost use Rattle.comfy_csv_parts.specs.Words.{IsAsked, IsWordRefusal, LookIsAsked, OptionsAreAsked, are_exclusive, delimiter_for, file_for, is_bold_for, is_bold_there, is_given, is_markdown_in, separators_for, some_columns, some_width, terminal_width, wants_color, width_for, words_in};
 
-use crate::number::are_digits;
-use crate::options::{ColumnChoice, Look, Options};
-use crate::words::{command, style_names};
+use crate::numerals::number_of;
+use crate::options::{Look, Options, RowSeparators};
+use crate::styles::{is_compact, is_named, style_names, style_of};
+use crate::words::command;
 use clap::error::ErrorKind;
 use clap::parser::ArgMatches;
 use clap::{Command, Error};
-use comfy_parts::style::TableStyle;
-use comfy_parts::style::presets::{ASCII_MARKDOWN, UTF8_FULL, by_name};
 use std::alloc::{AllocError, Global};
+
+// The width of a terminal that doesn't say its own.
+const TERMINAL_WIDTH: u16 = 80;
+
+// Options that exclude each other.
+static EXCLUSIVE_OPTIONS: [(&str, &str); 2] = [("markdown", "style"), ("rows", "no-rows")];
+
+// Options that a table for Markdown excludes.
+static NOT_BESIDE_MARKDOWN: [&str; 5] = ["width", "full", "max-height", "ansi", "raw"];
 
 /// What the words ask for.
 #[derive(Debug, Drop)]
@@ -28,24 +36,25 @@ pub struct Asked {
 
 /// What is known of where the output goes.
 #[derive(Clone, Copy, Debug)]
-pub struct Surroundings {
+pub struct Surroundings<'a> {
     /// Whether standard output is a terminal.
     pub is_terminal: bool,
-    /// The width that the environment says, in terminal columns.
-    pub width: Option<u16>,
-    /// Whether the environment asks for no colours.
-    pub has_no_color: bool,
+    /// What the environment has as `COLUMNS`, where that is text.
+    pub columns: Option<&'a str>,
+    /// What it has as `NO_COLOR`, where that is text.
+    pub no_color: Option<&'a str>,
 }
 
 /// What these words ask for; the first one is the program's name. Help, the version and words that aren't known are
-/// returned as errors, as clap has them. All that is asked for follows from the values that clap finds for the program's
-/// options, and from the surroundings.
+/// returned as errors, as clap has them, and so are options that exclude each other, and a delimiter that is none. All
+/// that is asked for follows from the values that clap finds for the program's options, and from the surroundings.
 pub fn asked_of<'a>(
     alloc: Global,
     words: &'a [&'a str],
-    surroundings: Surroundings,
+    surroundings: Surroundings<'_>,
 ) -> Result<Asked, Error>
-    ensures { IfOk result (λ asked. IsAsked (map (λ w. w.now) words.entry.now) surroundings asked) }
+    ensures ok { IfOk result (λ asked. IsAsked (map (λ w. w.now) words.entry.now) surroundings.entry asked) }
+    ensures refused { IfErr result (λ e. IsWordRefusal (map (λ w. w.now) words.entry.now) e) }
 {
     let styles = style_names(alloc)?;
     let mut command = command(alloc, styles.as_slice())?;
@@ -56,27 +65,93 @@ fn asked_by<'a>(
     alloc: Global,
     command: &mut Command<'a>,
     words: &'a [&'a str],
-    surroundings: Surroundings,
+    surroundings: Surroundings<'_>,
 ) -> Result<Asked, Error>
     requires { IsCsvtable (app_of command.old) }
-    ensures { IfOk result (λ asked. IsAsked (map (λ w. w.now) words.entry.now) surroundings asked) }
+    ensures ok { IfOk result (λ asked. IsAsked (map (λ w. w.now) words.entry.now) surroundings.entry asked) }
+    ensures refused { IfErr result (λ e. IsWordRefusal (map (λ w. w.now) words.entry.now) e) }
 {
     let matches = command.try_get_matches_from_mut(words)?;
-    let Some(delimiter) = delimiter_of(matches.get_str("delimiter")) else {
-        return Err(no_delimiter(command));
-    };
+    if are_exclusive(&matches) {
+        return Err(refusal(
+            command,
+            "`--markdown` and `--style`, and `--rows` and `--no-rows`, exclude each other; a table for Markdown has no \
+             `--width`, `--full`, `--max-height`, `--ansi` or `--raw`",
+        ));
+    }
+    match delimiter_of(matches.get_str("delimiter")) {
+        Some(delimiter) => Ok(asked_with(alloc, &matches, delimiter, surroundings)?),
+        None => Err(refusal(
+            command,
+            "the delimiter is one ASCII character, or `tab`; it's no quote and no line end",
+        )),
+    }
+}
+
+// What the matches ask for, the delimiter being known.
+fn asked_with<'a>(
+    alloc: Global,
+    matches: &ArgMatches<'a>,
+    delimiter: u8,
+    surroundings: Surroundings<'_>,
+) -> Result<Asked, AllocError>
+    requires { delimiter_for (first_value (found_of matches.now) (codes "delimiter")) ≡ Some delimiter }
+    ensures options { IfOk result (λ asked. OptionsAreAsked surroundings.entry (found_of matches.now) asked.options) }
+    ensures file { IfOk result (λ asked. option_map string_bytes asked.file ≡ file_for (first_value (found_of matches.now) (codes "file"))) }
+{
     Ok(Asked {
-        options: options_of(alloc, &matches, delimiter, surroundings)?,
+        options: options_of(alloc, matches, delimiter, surroundings)?,
         file: file_of(alloc, matches.get_str("file"))?,
     })
 }
 
-fn no_delimiter<'a>(command: &mut Command<'a>) -> Error {
-    let said = command.error(
-        ErrorKind::InvalidValue,
-        "the delimiter is one ASCII character, or `tab`; it's no quote and no line end",
-    );
+// The words are refused for this reason.
+fn refusal<'a>(command: &mut Command<'a>, reason: &str) -> Error {
+    let said = command.error(ErrorKind::InvalidValue, reason);
     said.unwrap_or_else(Error::from)
+}
+
+// Whether options were found that exclude each other.
+fn are_exclusive<'a>(matches: &ArgMatches<'a>) -> bool
+    ensures { result ≡ are_exclusive (found_of matches.now) }
+{
+    is_any_pair_given(matches, &EXCLUSIVE_OPTIONS)
+        || is_markdown(matches) && is_any_given(matches, &NOT_BESIDE_MARKDOWN)
+}
+
+fn is_any_pair_given<'a>(matches: &ArgMatches<'a>, pairs: &[(&str, &str)]) -> bool
+    ensures { result ≡ list_any (λ pair. is_given (found_of matches.now) pair.0.now && is_given (found_of matches.now) pair.1.now) pairs.now }
+{
+    pairs.iter().any(|(one, other)| is_given(matches, one) && is_given(matches, other))
+}
+
+fn is_any_given<'a>(matches: &ArgMatches<'a>, ids: &[&str]) -> bool
+    ensures { result ≡ list_any (λ id. is_given (found_of matches.now) id.now) ids.now }
+{
+    ids.iter().any(|id| is_given(matches, id))
+}
+
+// Whether a table for Markdown is asked for.
+fn is_markdown<'a>(matches: &ArgMatches<'a>) -> bool
+    ensures { result ≡ is_markdown_in (found_of matches.now) }
+{
+    if is_given(matches, "markdown") {
+        return true;
+    }
+    match matches.get_str("style") {
+        Some(style) => is_named("markdown", style),
+        None => false,
+    }
+}
+
+// Whether a flag is set, or an option has a value.
+fn is_given<'a>(matches: &ArgMatches<'a>, id: &str) -> bool
+    ensures { result ≡ is_given (found_of matches.now) id.now }
+{
+    match matches.get_str(id) {
+        Some(value) => value != "false",
+        None => false,
+    }
 }
 
 // The file that a word names; none for standard input.
@@ -109,126 +184,144 @@ fn options_of<'a>(
     alloc: Global,
     matches: &ArgMatches<'a>,
     delimiter: u8,
-    surroundings: Surroundings,
+    surroundings: Surroundings<'_>,
 ) -> Result<Options, AllocError>
     requires { delimiter_for (first_value (found_of matches.now) (codes "delimiter")) ≡ Some delimiter }
-    ensures { IfOk result (λ options. OptionsAreAsked surroundings (found_of matches.now) options) }
+    ensures { IfOk result (λ options. OptionsAreAsked surroundings.entry (found_of matches.now) options) }
 {
     Ok(Options {
         delimiter,
-        has_header: !matches.get_flag("no-header"),
+        has_header: !is_given(matches, "no-header"),
         limit: matches.get_one::<usize>("limit"),
-        columns: choices_of(alloc, matches.get_str("columns"))?,
-        right: choices_of(alloc, matches.get_str("right"))?,
-        left: choices_of(alloc, matches.get_str("left"))?,
+        columns: words_of(alloc, matches.get_str("columns"))?,
+        right: words_of(alloc, matches.get_str("right"))?,
+        left: words_of(alloc, matches.get_str("left"))?,
         look: look_of(matches, surroundings),
     })
 }
 
-fn look_of<'a>(matches: &ArgMatches<'a>, surroundings: Surroundings) -> Look
-    ensures { LookIsAsked surroundings (found_of matches.now) result }
+fn look_of<'a>(matches: &ArgMatches<'a>, surroundings: Surroundings<'_>) -> Look
+    ensures { LookIsAsked surroundings.entry (found_of matches.now) result }
 {
-    let is_markdown = matches.get_flag("markdown");
+    let is_markdown = is_markdown(matches);
+    let style = matches.get_str("style");
     Look {
-        style: style_of(matches.get_str("style"), is_markdown),
-        width: width_of(matches.get_one::<u16>("width"), surroundings),
-        fills_width: matches.get_flag("full"),
+        style: style_of(style, is_markdown),
+        separators: separators_of(
+            is_given(matches, "rows"),
+            is_given(matches, "no-rows"),
+            style,
+        ),
+        width: width_of(is_markdown, matches.get_one::<u16>("width"), surroundings),
+        fills_width: is_given(matches, "full"),
         max_height: matches.get_one::<usize>("max-height"),
-        has_bold_header: is_bold(matches.get_str("color"), surroundings),
-        has_sequences: matches.get_flag("ansi"),
-        is_raw: matches.get_flag("raw"),
+        has_bold_header: is_bold(is_markdown, matches.get_str("color"), surroundings),
+        has_sequences: is_given(matches, "ansi"),
+        keeps_bidi: is_given(matches, "bidi"),
+        is_raw: is_given(matches, "raw"),
         is_markdown,
     }
 }
 
-fn style_of(name: Option<&str>, is_markdown: bool) -> TableStyle
-    ensures { result ≡ style_for (option_map (λ w. w.now) name.entry) is_markdown }
+// Where lines between rows are drawn.
+fn separators_of(has_rows: bool, has_none: bool, style: Option<&str>) -> RowSeparators
+    ensures { result ≡ separators_for has_rows has_none (option_map (λ name. name.now) style.entry) }
 {
-    if is_markdown {
-        return ASCII_MARKDOWN;
-    }
-    match name {
-        None => UTF8_FULL.with_rounded_corners(),
-        Some(name) => by_name(name).unwrap_or(UTF8_FULL),
+    if has_rows {
+        RowSeparators::Styled
+    } else if has_none {
+        RowSeparators::Never
+    } else if is_compact(style) {
+        RowSeparators::Needed
+    } else {
+        RowSeparators::Styled
     }
 }
 
-// The width that was asked for, else that of the terminal.
-fn width_of(asked: Option<u16>, surroundings: Surroundings) -> Option<u16>
-    ensures { result ≡ width_for asked surroundings }
+// The width that was asked for, else that of the terminal; 0 is none, and a table for Markdown keeps to none.
+fn width_of(is_markdown: bool, asked: Option<u16>, surroundings: Surroundings<'_>) -> Option<u16>
+    ensures { result ≡ width_for is_markdown asked surroundings.entry }
 {
     match asked {
-        Some(width) => Some(width),
-        None if surroundings.is_terminal => surroundings.width,
+        _ if is_markdown => None,
+        Some(width) => some_width(width),
+        None if surroundings.is_terminal => Some(terminal_width(surroundings.columns)),
         None => None,
     }
 }
 
-fn is_bold(word: Option<&str>, surroundings: Surroundings) -> bool
-    ensures { result ≡ is_bold_for (option_map (λ w. w.now) word.entry) surroundings }
+fn some_width(width: u16) -> Option<u16>
+    ensures { result ≡ some_width width }
 {
-    match word {
-        Some("always") => true,
-        Some("never") => false,
-        _ => surroundings.is_terminal && !surroundings.has_no_color,
+    if width == 0 { None } else { Some(width) }
+}
+
+// The width of a terminal that has this as `COLUMNS`.
+fn terminal_width(columns: Option<&str>) -> u16
+    ensures { result ≡ terminal_width (option_map (λ c. c.now) columns.entry) }
+{
+    match columns {
+        Some(columns) => number_of(columns)
+            .and_then(some_columns)
+            .unwrap_or(TERMINAL_WIDTH),
+        None => TERMINAL_WIDTH,
     }
 }
 
-// What a list chooses; nothing without a list.
-fn choices_of(alloc: Global, list: Option<&str>) -> Result<Vec<ColumnChoice>, AllocError>
-    ensures { IfOk result (λ choices. map numbers_or_name choices.items ≡ choices_for (option_map (λ l. l.now) list.entry)) }
+// So many terminal columns, where a width can be so great.
+fn some_columns(columns: usize) -> Option<u16>
+    ensures { result ≡ some_columns columns }
+{
+    if 0 < columns && columns <= 65535 {
+        Some(columns as u16)
+    } else {
+        None
+    }
+}
+
+fn is_bold(is_markdown: bool, word: Option<&str>, surroundings: Surroundings<'_>) -> bool
+    ensures { result ≡ is_bold_for is_markdown (option_map (λ w. w.now) word.entry) surroundings.entry }
+{
+    match word {
+        _ if is_markdown => false,
+        Some("always") => true,
+        Some("never") => false,
+        _ => is_bold_there(surroundings),
+    }
+}
+
+// Whether the header is in bold where nothing says when.
+fn is_bold_there(surroundings: Surroundings<'_>) -> bool
+    ensures { result ≡ is_bold_there surroundings.entry }
+{
+    surroundings.is_terminal && wants_color(surroundings.no_color)
+}
+
+fn wants_color(no_color: Option<&str>) -> bool
+    ensures { result ≡ wants_color (option_map (λ n. n.now) no_color.entry) }
+{
+    match no_color {
+        Some(text) => text.is_empty(),
+        None => true,
+    }
+}
+
+// The words of a list; none without a list.
+fn words_of(alloc: Global, list: Option<&str>) -> Result<Vec<String>, AllocError>
+    ensures { IfOk result (λ words. map string_bytes words.items ≡ words_in (option_map (λ l. l.now) list.entry)) }
 {
     match list {
-        Some(list) => choices_in(alloc, list),
+        Some(list) => words_between_commas(alloc, list),
         None => Ok(Vec::new(alloc)),
     }
 }
 
-// What the words of a list choose.
-fn choices_in(alloc: Global, list: &str) -> Result<Vec<ColumnChoice>, AllocError>
-    ensures { IfOk result (λ choices. map numbers_or_name choices.items ≡ map choice_for (slice_split (λ b. b == 0x2C) list.now)) }
+fn words_between_commas(alloc: Global, list: &str) -> Result<Vec<String>, AllocError>
+    ensures { IfOk result (λ words. map string_bytes words.items ≡ slice_split (λ b. b == 0x2C) list.now) }
 {
-    let mut choices = Vec::new(alloc);
+    let mut words = Vec::new(alloc);
     for word in list.split(',') {
-        choices.push(choice_of(alloc, word)?)?;
+        words.push(String::from_str(alloc, word)?)?;
     }
-    Ok(choices)
-}
-
-// A number, two numbers around a hyphen, or else a name.
-fn choice_of(alloc: Global, word: &str) -> Result<ColumnChoice, AllocError>
-    ensures { IfOk result (λ choice. numbers_or_name choice ≡ choice_for word.now) }
-{
-    match numbers_of(word) {
-        Some((first, last)) => Ok(ColumnChoice::Numbers { first, last }),
-        None => Ok(ColumnChoice::Named(String::from_str(alloc, word)?)),
-    }
-}
-
-fn numbers_of(word: &str) -> Option<(usize, usize)>
-    ensures { result ≡ numbers_for word.now }
-{
-    match number_of(word) {
-        Some(number) => Some((number, number)),
-        None => numbers_around_hyphen(word),
-    }
-}
-
-fn numbers_around_hyphen(word: &str) -> Option<(usize, usize)>
-    ensures { result ≡ numbers_around_hyphen word.now }
-{
-    let (first, last) = word.split_once('-')?;
-    Some((number_of(first)?, number_of(last)?))
-}
-
-// A number of digits alone: `parse` would take a plus sign too.
-#[tactic(auto, using(crate::proofs::WordLemmas::other, crate::proofs::WordLemmas::parsed))]
-fn number_of(word: &str) -> Option<usize>
-    ensures { result ≡ number_for 64 word.now }
-{
-    if are_digits(word.as_bytes()) {
-        word.parse::<usize>().ok()
-    } else {
-        None
-    }
+    Ok(words)
 }

@@ -2,9 +2,9 @@
 
 ghost use Rattle.std.specs.Prelude.{◌≡◌, IfOk, string_bytes};
 ghost use Rattle.csv.specs.Records.{fields_of};
-ghost use Rattle.comfy_csv_parts.specs.Cells.{cell_for, cells_for, field_text, header_for, row_for, with_weight};
+ghost use Rattle.comfy_csv_parts.specs.Cells.{cell_for, cells_for, field_text, header_for, kept_by, kept_for_markdown, row_for, with_weight};
 
-use crate::cleaning::cleaned;
+use crate::cleaning::{Kept, cleaned};
 use crate::markdown::escaped;
 use crate::options::{DrawnColumn, Look};
 use comfy_parts::style::{Attribute, CellAlignment};
@@ -90,14 +90,32 @@ fn with_weight(cell: Cell, is_bold: bool) -> Result<Cell>
 fn field_text(alloc: Global, field: &str, look: &Look) -> Result<String>
     ensures { IfOk result (λ text. string_bytes text ≡ field_text look.now field.now) }
 {
-    let text = if look.is_raw {
-        String::from_str(alloc, field)?
-    } else {
-        cleaned(alloc, field, look.has_sequences)?
-    };
     if look.is_markdown {
+        let text = cleaned(alloc, field, kept_for_markdown(look))?;
         Ok(escaped(alloc, text.as_str())?)
+    } else if look.is_raw {
+        Ok(String::from_str(alloc, field)?)
     } else {
-        Ok(text)
+        Ok(cleaned(alloc, field, kept_by(look))?)
+    }
+}
+
+// What of a field a look leaves as it is.
+fn kept_by(look: &Look) -> Kept
+    ensures { result ≡ kept_by look.now }
+{
+    Kept {
+        sequences: look.has_sequences,
+        directions: look.keeps_bidi,
+    }
+}
+
+// What of it is left as it is for Markdown.
+fn kept_for_markdown(look: &Look) -> Kept
+    ensures { result ≡ kept_for_markdown look.now }
+{
+    Kept {
+        sequences: false,
+        directions: look.keeps_bidi,
     }
 }

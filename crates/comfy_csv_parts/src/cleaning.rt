@@ -1,47 +1,84 @@
-//! Texts without control characters, so that each character takes the terminal columns that it is counted for.
+//! Texts without control characters, and without those that turn the direction of text, so that each character stands
+//! where it is counted.
 
-ghost use Rattle.std.specs.Prelude.{◌≡◌, ◌∷◌, [], IfNone, IfOk, IfSome, OnOk, chars, if◌then◌else◌, string_bytes};
-ghost use Rattle.std.specs.Char.{is_control};
+ghost use Rattle.std.specs.Prelude.{◌≡◌, ◌∷◌, [], IfNone, IfOk, IfSome, OnOk, chars, if◌then◌else◌, not, string_bytes};
 ghost use Rattle.std.specs.Iterator.{YieldsFirstBy, item_count};
 ghost use Rattle.std.specs.List.{list_any};
 ghost use Rattle.std.specs.Str.{IsCharBoundary};
+ghost use Rattle.comfy_parts.specs.Text.{is_printable_ascii};
 ghost use Rattle.comfy_parts.specs.VisibleText.{sequence_len};
-ghost use Rattle.comfy_csv_parts.specs.Cleaning.{after_character, after_piece, blanks_at, cleaned, pieces, shown, start};
+ghost use Rattle.comfy_csv_parts.specs.Cleaning.{after_character, after_piece, blanks_after, cleaned, is_replaced, pieces, shown, start, turns_direction};
 ghost use Rattle.comfy_csv_parts.specs.Pieces.{part_of};
 
-use comfy_parts::content_split::sequence_len;
+use comfy_parts::content_split::{measure_text_width, sequence_len};
 use std::alloc::{AllocError, Global};
 use std::marker::Model;
-use unicode_width::UnicodeWidthChar;
 
 // How many terminal columns stand between two stops.
 const STOP: usize = 4;
 
-/// A field as it is drawn. A TAB becomes spaces up to the next multiple of four terminal columns. A line feed, a carriage
-/// return, or both in this order reversed, are one line feed. Every other control character becomes U+FFFD. Where
-/// `keeps_sequences` says so, SGR sequences stay as they are and take no terminal columns.
-pub fn cleaned(alloc: Global, field: &str, keeps_sequences: bool) -> Result<String, AllocError>
-    ensures { IfOk result (λ text. string_bytes text ≡ cleaned keeps_sequences field.now) }
+/// What of a field is left as it is.
+#[derive(Clone, Copy, Debug)]
+pub struct Kept {
+    /// Whether SGR sequences are. They take no terminal columns.
+    pub sequences: bool,
+    /// Whether characters that turn the direction of text are: U+202A to U+202E, and U+2066 to U+2069.
+    pub directions: bool,
+}
+
+/// A field as it is drawn. A TAB becomes spaces up to the next multiple of four terminal columns, by what is visible of
+/// its line since the last TAB. A line feed, a carriage return, or both in this order reversed, are one line feed. Every
+/// other control character, and each that turns the direction of text, becomes U+FFFD, unless it is kept.
+pub fn cleaned(alloc: Global, field: &str, kept: Kept) -> Result<String, AllocError>
+    ensures { IfOk result (λ text. string_bytes text ≡ cleaned kept field.now) }
 {
-    if !has_control(field) {
+    if is_clean(field, kept) {
         return String::from_str(alloc, field);
     }
     let mut cleaner = Cleaner::new(alloc);
     let pieces = Pieces {
         rest: field,
-        keeps_sequences,
+        keeps_sequences: kept.sequences,
     };
     for piece in pieces {
-        cleaner.push_piece(piece)?;
+        cleaner.push_piece(piece, kept)?;
     }
     Ok(cleaner.text)
 }
 
-// Whether a field has a control character.
-fn has_control(field: &str) -> bool
-    ensures { result ≡ list_any is_control (chars field.now) }
+// Whether no character of a field is replaced. Most fields are printable ASCII, which is seen faster.
+fn is_clean(field: &str, kept: Kept) -> bool
+    ensures { result ≡ not (list_any (is_replaced kept) (chars field.now)) }
 {
-    field.chars().any(|c| c.is_control())
+    is_printable(field.as_bytes()) || !has_replaced(field, kept)
+}
+
+// Whether a character of a field is drawn as another one.
+fn has_replaced(field: &str, kept: Kept) -> bool
+    ensures { result ≡ list_any (is_replaced kept) (chars field.now) }
+{
+    field.chars().any(|c| is_replaced(c, kept))
+}
+
+// Whether these bytes are printable ASCII.
+fn is_printable(bytes: &[u8]) -> bool
+    ensures { result ≡ is_printable_ascii bytes.now }
+{
+    bytes.iter().all(|byte| matches!(byte, b' '..=b'~'))
+}
+
+/// Whether a character is drawn as another one.
+pub(crate) fn is_replaced(c: char, kept: Kept) -> bool
+    ensures { result ≡ is_replaced kept c }
+{
+    c.is_control() || !kept.directions && turns_direction(c)
+}
+
+// Whether a character turns the direction of what follows it.
+fn turns_direction(c: char) -> bool
+    ensures { result ≡ turns_direction c }
+{
+    matches!(c, '\u{202a}'..='\u{202e}' | '\u{2066}'..='\u{2069}')
 }
 
 // A piece of a field.
@@ -113,8 +150,8 @@ fn kept_len(text: &str, keeps_sequences: bool) -> usize
 #[derive(Drop)]
 struct Cleaner {
     text: String,
-    // the terminal columns of the line since the last stop
-    column: usize,
+    // what is visible of its last line since the last stop
+    seen: String,
     // whether the last character was a carriage return
     after_return: bool,
 }
@@ -125,7 +162,7 @@ impl Model for Cleaner {
 
     ghost Value = { CleanedText };
 
-    ghost view = { λ c. record { text = string_bytes c.text; column = c.column; after_return = c.after_return } };
+    ghost view = { λ c. record { text = string_bytes c.text; seen = string_bytes c.seen; after_return = c.after_return } };
 }
 
 impl Cleaner {
@@ -134,27 +171,27 @@ impl Cleaner {
     {
         Cleaner {
             text: String::new(alloc),
-            column: 0,
+            seen: String::new(alloc),
             after_return: false,
         }
     }
 
     // Writes a piece as it is drawn.
-    fn push_piece(&mut self, piece: Piece<'_>) -> Result<(), AllocError>
-        ensures { OnOk result (self.new ≡ after_piece self.old (part_of piece.entry)) }
+    fn push_piece(&mut self, piece: Piece<'_>, kept: Kept) -> Result<(), AllocError>
+        ensures { OnOk result (self.new ≡ after_piece kept self.old (part_of piece.entry)) }
     {
         match piece {
             Piece::Sequence(sequence) => {
                 self.after_return = false;
                 self.text.push_str(sequence)
             }
-            Piece::Character(c) => self.push(c),
+            Piece::Character(c) => self.push(c, kept),
         }
     }
 
     // Writes a character as it is drawn.
-    fn push(&mut self, c: char) -> Result<(), AllocError>
-        ensures { OnOk result (self.new ≡ after_character self.old c) }
+    fn push(&mut self, c: char, kept: Kept) -> Result<(), AllocError>
+        ensures { OnOk result (self.new ≡ after_character kept self.old c) }
     {
         let follows_return = self.after_return;
         self.after_return = c == '\r';
@@ -162,25 +199,25 @@ impl Cleaner {
             return Ok(());
         }
         if c == '\n' || c == '\r' {
-            self.column = 0;
+            self.seen.clear();
             return self.text.push('\n');
         }
         if c == '\t' {
-            let blanks = blanks_at(self.column);
-            self.column = 0;
+            let blanks = blanks_after(self.seen.as_str());
+            self.seen.clear();
             return self.text.push_str(blanks);
         }
-        let drawn = shown(c);
-        self.column = (self.column % STOP + drawn.width().unwrap_or(0)) % STOP;
+        let drawn = shown(c, kept);
+        self.seen.push(drawn)?;
         self.text.push(drawn)
     }
 }
 
-// The spaces from a column to the next stop.
-fn blanks_at(column: usize) -> &'static str
-    ensures { result.now ≡ blanks_at column }
+// The spaces from a text's end to the next stop.
+fn blanks_after(seen: &str) -> &'static str
+    ensures { result.now ≡ blanks_after seen.now }
 {
-    match column {
+    match measure_text_width(seen) % STOP {
         0 => "    ",
         1 => "   ",
         2 => "  ",
@@ -189,8 +226,8 @@ fn blanks_at(column: usize) -> &'static str
 }
 
 // A character as it is drawn.
-fn shown(c: char) -> char
-    ensures { result ≡ shown c }
+fn shown(c: char, kept: Kept) -> char
+    ensures { result ≡ shown kept c }
 {
-    if c.is_control() { '\u{fffd}' } else { c }
+    if is_replaced(c, kept) { '\u{fffd}' } else { c }
 }

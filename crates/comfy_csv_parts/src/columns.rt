@@ -1,13 +1,14 @@
 //! Which columns are drawn, and how their cells are aligned.
 
-ghost use Rattle.std.specs.Prelude.{◌≡◌, ◌≤◌, ◌-◌, ◌∷◌, [], IfOk, IfErr, Ok, map, string_bytes};
-ghost use Rattle.std.specs.List.{list_all, range_with_len};
+ghost use Rattle.std.specs.Prelude.{◌≡◌, ◌<◌, ◌≤◌, ◌-◌, ◌^◌, IfOk, IfErr, IfSome, Ok, map, string_bytes};
+ghost use Rattle.std.specs.List.{list_all, list_any, range_with_len};
 ghost use Rattle.csv.specs.Records.{Row as CsvRow, field_at, fields_of};
-ghost use Rattle.comfy_csv_parts.specs.Columns.{IsColumnRefusal, alignment_for, chosen_columns, columns_for, count_of, is_number_at, is_number_column, is_number_or_empty, is_text, position_named, positions_of, positions_of_choice, range_name, drawn_columns};
+ghost use Rattle.comfy_csv_parts.specs.Columns.{IsColumnRefusal, alignment_for, at_two_sides, chosen_columns, columns_chosen, columns_for, count_of, drawn_columns, is_filled_at, is_number_at, is_number_column, is_number_or_empty, is_text, name_at, named_or_between, numbered, numbers_around_hyphen, position_named, positions_of, positions_of_word};
 
 use crate::error::CsvError;
 use crate::number::is_number;
-use crate::options::{ColumnChoice, DrawnColumn, Options};
+use crate::numerals::number_of;
+use crate::options::{DrawnColumn, Options};
 use comfy_parts::style::CellAlignment;
 use csv::StringRecord;
 use std::alloc::{AllocError, Global};
@@ -26,6 +27,9 @@ pub fn columns_of(
     let positions = chosen_columns(alloc, options.columns.as_slice(), names, count)?;
     let right = positions_of(alloc, options.right.as_slice(), names, count)?;
     let left = positions_of(alloc, options.left.as_slice(), names, count)?;
+    if let Some(position) = at_two_sides(right.as_slice(), left.as_slice()) {
+        return Err(CsvError::TwoSides(name_at(alloc, names, position)?));
+    }
     let columns = drawn_columns(
         alloc,
         positions.as_slice(),
@@ -34,6 +38,28 @@ pub fn columns_of(
         rows,
     )?;
     Ok(columns)
+}
+
+// The first column at the right that is at the left too.
+fn at_two_sides(right: &[usize], left: &[usize]) -> Option<usize>
+    ensures { result ≡ at_two_sides right.now left.now }
+{
+    for position in right {
+        if left.contains(position) {
+            return Some(*position);
+        }
+    }
+    None
+}
+
+// The name of the column at a position, or its number where there is no header.
+fn name_at(alloc: Global, names: &StringRecord, position: usize) -> Result<String, AllocError>
+    ensures { IfOk result (λ name. string_bytes name ≡ name_at (fields_of names.now) position) }
+{
+    match names.get(position) {
+        Some(name) => String::from_str(alloc, name),
+        None => format!(in alloc; "{}", position as u128 + 1),
+    }
 }
 
 // The greatest number of fields.
@@ -50,75 +76,95 @@ fn count_of(names: &StringRecord, rows: &[StringRecord]) -> usize
 // The positions of the chosen columns; all of them where none is chosen.
 fn chosen_columns(
     alloc: Global,
-    choices: &[ColumnChoice],
+    words: &[String],
     names: &StringRecord,
     count: usize,
 ) -> Result<Vec<usize>, CsvError>
-    ensures ok { IfOk result (λ positions. chosen_columns (fields_of names.now) count choices.now ≡ Ok positions.items) }
-    ensures refused { IfErr result (λ e. IsColumnRefusal e (chosen_columns (fields_of names.now) count choices.now)) }
+    ensures ok { IfOk result (λ positions. chosen_columns (fields_of names.now) count words.now ≡ Ok positions.items) }
+    ensures refused { IfErr result (λ e. IsColumnRefusal e (chosen_columns (fields_of names.now) count words.now)) }
 {
-    if choices.is_empty() {
+    if words.is_empty() {
         Ok(positions_between(alloc, 0, count)?)
     } else {
-        positions_of(alloc, choices, names, count)
+        positions_of(alloc, words, names, count)
     }
 }
 
-// The positions of some columns, in the order in which they were chosen.
+// The positions that some words choose, in their order.
 fn positions_of(
     alloc: Global,
-    choices: &[ColumnChoice],
+    words: &[String],
     names: &StringRecord,
     count: usize,
 ) -> Result<Vec<usize>, CsvError>
-    ensures ok { IfOk result (λ positions. positions_of (fields_of names.now) count choices.now ≡ Ok positions.items) }
-    ensures refused { IfErr result (λ e. IsColumnRefusal e (positions_of (fields_of names.now) count choices.now)) }
+    ensures ok { IfOk result (λ positions. positions_of (fields_of names.now) count words.now ≡ Ok positions.items) }
+    ensures refused { IfErr result (λ e. IsColumnRefusal e (positions_of (fields_of names.now) count words.now)) }
 {
     let mut positions = Vec::new(alloc);
-    for choice in choices {
-        let more = positions_of_choice(alloc, choice, names, count)?;
+    for word in words {
+        let more = positions_of_word(alloc, word.as_str(), names, count)?;
         positions.extend_from_slice(more.as_slice())?;
     }
     Ok(positions)
 }
 
-// The positions of one choice.
-fn positions_of_choice(
+// The positions that a word chooses.
+fn positions_of_word(
     alloc: Global,
-    choice: &ColumnChoice,
+    word: &str,
     names: &StringRecord,
     count: usize,
 ) -> Result<Vec<usize>, CsvError>
-    ensures ok { IfOk result (λ positions. positions_of_choice (fields_of names.now) count choice.now ≡ Ok positions.items) }
-    ensures refused { IfErr result (λ e. IsColumnRefusal e (positions_of_choice (fields_of names.now) count choice.now)) }
+    ensures ok { IfOk result (λ positions. positions_of_word (fields_of names.now) count word.now ≡ Ok positions.items) }
+    ensures refused { IfErr result (λ e. IsColumnRefusal e (positions_of_word (fields_of names.now) count word.now)) }
 {
-    match choice {
-        ColumnChoice::Named(name) => match position_named(names, name.as_str()) {
-            Some(position) => Ok(only_position(alloc, position)?),
-            None => Err(CsvError::NoColumn(name.clone()?)),
-        },
-        ColumnChoice::Numbers { first, last } => {
-            if 0 < *first && *first <= *last && *last <= count {
-                Ok(positions_between(alloc, *first - 1, *last)?)
-            } else {
-                Err(CsvError::NoColumn(range_name(alloc, *first, *last)?))
-            }
-        }
+    match columns_chosen(names, count, word) {
+        Some((start, end)) => Ok(positions_between(alloc, start, end)?),
+        None => Err(CsvError::NoColumn(String::from_str(alloc, word)?)),
     }
 }
 
-// What the message on a range says: 0, which is no column's number, or the range where it ends before it begins, or its
-// last number.
-fn range_name(alloc: Global, first: usize, last: usize) -> Result<String, AllocError>
-    ensures { IfOk result (λ name. string_bytes name ≡ range_name first last) }
+// The columns that a word chooses, as the position of the first and the one after the last: that of its number, else that
+// of its name, else those between two numbers around a hyphen.
+fn columns_chosen(names: &StringRecord, count: usize, word: &str) -> Option<(usize, usize)>
+    ensures value { result ≡ columns_chosen (fields_of names.now) count word.now }
+    ensures ordered { IfSome result (λ ends. ends.0 ≤ ends.1) }
 {
-    if first == 0 {
-        String::from_str(alloc, "0")
-    } else if last < first {
-        format!(in alloc; "{first}-{last}")
-    } else {
-        format!(in alloc; "{last}")
+    match number_of(word) {
+        Some(number) => numbered(count, (number, number)),
+        None => named_or_between(count, word, position_named(names, word)),
     }
+}
+
+fn named_or_between(count: usize, word: &str, named: Option<usize>) -> Option<(usize, usize)>
+    requires { IfSome named (λ position. position < 2 ^ 64 - 1) }
+    ensures value { result ≡ named_or_between count word.now named }
+    ensures ordered { IfSome result (λ ends. ends.0 ≤ ends.1) }
+{
+    match named {
+        Some(position) => Some((position, position + 1)),
+        None => numbered(count, numbers_around_hyphen(word)?),
+    }
+}
+
+// The columns from one number to another, where they are there.
+fn numbered(count: usize, numbers: (usize, usize)) -> Option<(usize, usize)>
+    ensures value { result ≡ numbered count numbers }
+    ensures ordered { IfSome result (λ ends. ends.0 ≤ ends.1) }
+{
+    let (first, last) = numbers;
+    if 0 < first && first <= last && last <= count {
+        Some((first - 1, last))
+    } else {
+        None
+    }
+}
+
+fn numbers_around_hyphen(word: &str) -> Option<(usize, usize)>
+    ensures { result ≡ numbers_around_hyphen word.now }
+{
+    let (first, last) = word.split_once('-')?;
+    Some((number_of(first)?, number_of(last)?))
 }
 
 // The positions from one on, before another.
@@ -133,18 +179,10 @@ fn positions_between(alloc: Global, start: usize, end: usize) -> Result<Vec<usiz
     Ok(positions)
 }
 
-// One position.
-fn only_position(alloc: Global, position: usize) -> Result<Vec<usize>, AllocError>
-    ensures { IfOk result (λ positions. positions.items ≡ position ∷ []) }
-{
-    let mut positions = Vec::new(alloc);
-    positions.push(position)?;
-    Ok(positions)
-}
-
 // The position of the first field that is this text.
 fn position_named(names: &StringRecord, name: &str) -> Option<usize>
-    ensures { result ≡ position_named name.now (fields_of names.now) }
+    ensures value { result ≡ position_named name.now (fields_of names.now) }
+    ensures below { IfSome result (λ position. position < 2 ^ 64 - 1) }
 {
     for position in 0..names.len() {
         if is_named_at(names, position, name) {
@@ -207,17 +245,29 @@ fn alignment_of(
     }
 }
 
-// Whether each field of a column is a number or empty.
+// Whether each field of a column is a number or empty, and not all are empty.
 fn is_number_column(position: usize, rows: &[StringRecord]) -> bool
     ensures { result ≡ is_number_column (map fields_of rows.now) position }
 {
-    are_numbers_at(position, rows)
+    are_numbers_at(position, rows) && is_any_filled_at(position, rows)
 }
 
 fn are_numbers_at(position: usize, rows: &[StringRecord]) -> bool
     ensures { result ≡ list_all (λ (row : CsvRow). is_number_at position (fields_of row)) rows.now }
 {
     rows.iter().all(|row| is_number_at(position, row))
+}
+
+fn is_any_filled_at(position: usize, rows: &[StringRecord]) -> bool
+    ensures { result ≡ list_any (λ (row : CsvRow). is_filled_at position (fields_of row)) rows.now }
+{
+    rows.iter().any(|row| is_filled_at(position, row))
+}
+
+fn is_filled_at(position: usize, row: &StringRecord) -> bool
+    ensures { result ≡ is_filled_at position (fields_of row.now) }
+{
+    !row.get(position).unwrap_or("").is_empty()
 }
 
 fn is_number_at(position: usize, row: &StringRecord) -> bool

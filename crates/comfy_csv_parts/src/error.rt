@@ -16,13 +16,19 @@ pub enum CsvError {
     /// The sink failed during the call.
     #[error("the output can't be written")]
     Write,
-    /// The record of this number isn't UTF-8. The first one has the number 1, a header or not.
-    #[error("record {0} isn't UTF-8")]
+    /// The input isn't UTF-8: in this line stands the first byte that is no text. The first line has the number 1. A line
+    /// ends at a line feed, a carriage return, or a carriage return with a line feed, also between quotes.
+    #[error("line {0} isn't UTF-8")]
     NotUtf8(u64),
-    /// A list of columns has this name, number or range, and there is no such column. Of a range it is the number of a
-    /// missing column, or the range where it ends before it begins.
+    /// The delimiter isn't ASCII, and stands inside a character of a record.
+    #[error("the delimiter splits a character")]
+    SplitCharacter,
+    /// A list of columns has this word, and chooses no column that is there.
     #[error("there is no column {0}")]
     NoColumn(String),
+    /// The column of this name, or of this number where there is no header, is to stand at the right and at the left.
+    #[error("column {0} can't stand at the right and at the left")]
+    TwoSides(String),
     /// There was no memory for the records, their table or its drawing.
     #[error("out of memory")]
     OutOfMemory,

@@ -11,12 +11,13 @@ pub struct Options {
     pub has_header: bool,
     /// How many records below the header are drawn; all where there is no limit.
     pub limit: Option<usize>,
-    /// The columns in the order in which they are drawn; an empty list stands for all of them.
-    pub columns: Vec<ColumnChoice>,
-    /// Columns that stand at the right.
-    pub right: Vec<ColumnChoice>,
-    /// Columns that stand at the left; one that is in both lists stands at the right.
-    pub left: Vec<ColumnChoice>,
+    /// The columns in the order in which they are drawn, by words; an empty list stands for all of them. A word is a
+    /// column's number, counted from 1, else its name, else two numbers around a hyphen.
+    pub columns: Vec<String>,
+    /// Columns that stand at the right, by such words.
+    pub right: Vec<String>,
+    /// Columns that stand at the left, by such words; one that is in both lists is refused.
+    pub left: Vec<String>,
     /// How the table looks.
     pub look: Look,
 }
@@ -26,6 +27,8 @@ pub struct Options {
 pub struct Look {
     /// The characters of the frame.
     pub style: TableStyle,
+    /// Where `draw` has the style's line between two rows.
+    pub separators: RowSeparators,
     /// The width to keep to, in terminal columns; none where none is kept.
     pub width: Option<u16>,
     /// Whether the width is filled too.
@@ -36,24 +39,23 @@ pub struct Look {
     pub has_bold_header: bool,
     /// Whether SGR sequences in fields count no terminal columns. ESC is then kept as it is.
     pub has_sequences: bool,
-    /// Whether control characters are left as they are.
+    /// Whether characters that turn the direction of text are left as they are.
+    pub keeps_bidi: bool,
+    /// Whether control characters, and those that turn the direction of text, are left as they are.
     pub is_raw: bool,
-    /// Whether fields are written for Markdown.
+    /// Whether fields are written for Markdown. They are cleaned then, and no sequence stays.
     pub is_markdown: bool,
 }
 
-/// Some columns of the records.
-#[derive(Debug, Drop)]
-pub enum ColumnChoice {
-    /// The first column whose field in the header is this text.
-    Named(String),
-    /// The columns from one number to another; the first column has the number 1.
-    Numbers {
-        /// The first of them.
-        first: usize,
-        /// The last of them.
-        last: usize,
-    },
+/// Where lines between rows are drawn.
+#[derive(Clone, Copy, Debug, PartialEq, Eq)]
+pub enum RowSeparators {
+    /// Where the style has them.
+    Styled,
+    /// Where the style has them and a drawn row has more than one line.
+    Needed,
+    /// Nowhere.
+    Never,
 }
 
 /// A column that is drawn.

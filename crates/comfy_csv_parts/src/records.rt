@@ -1,4 +1,4 @@
-//! The records of an input.
+//! The records of a text.
 
 ghost use Rattle.std.specs.Prelude.{IfOk, IfErr, map};
 ghost use Rattle.csv.specs.Reading.{error_kind};
@@ -9,35 +9,35 @@ use crate::error::CsvError;
 use csv::{Error, ErrorKind, ReaderBuilder, StringRecord};
 use std::alloc::Global;
 
-/// All records of an input, whose fields stand between delimiters. Records may have different numbers of fields. A
+/// All records of a text, whose fields stand between delimiters. Records may have different numbers of fields. A
 /// byte-order mark at the beginning is dropped.
 ///
-/// `NotUtf8` has the number of the first record that isn't UTF-8.
-pub fn records_of(alloc: Global, input: &[u8], delimiter: u8) -> Result<Vec<StringRecord>, CsvError>
-    ensures all { IfOk result (λ records. AreRecordsOf delimiter input.now (map fields_of records.items)) }
-    ensures refused { IfErr result (λ e. IsReadingRefusal delimiter input.now e) }
+/// `SplitCharacter` comes only of a delimiter that isn't ASCII.
+pub fn records_of(alloc: Global, text: &str, delimiter: u8) -> Result<Vec<StringRecord>, CsvError>
+    ensures all { IfOk result (λ records. AreRecordsOf delimiter text.now (map fields_of records.items)) }
+    ensures refused { IfErr result (λ e. IsReadingRefusal delimiter text.now e) }
 {
     let reader = ReaderBuilder::new()
         .delimiter(delimiter)
         .has_headers(false)
         .flexible(true)
-        .from_reader(alloc, input);
+        .from_reader(alloc, text.as_bytes());
     let mut records = Vec::new(alloc);
     for record in reader.into_records() {
         match record {
             Ok(record) => records.push(record)?,
-            Err(error) => return Err(refusal_of(&error, records.len())),
+            Err(error) => return Err(refusal_of(&error)),
         }
     }
     Ok(records)
 }
 
-// Why no further record was read after so many. A reader of bytes in memory has no fault of its own.
-fn refusal_of(error: &Error, count: usize) -> CsvError
-    ensures { IsRecordRefusal (error_kind error.now) count result }
+// Why no further record was read. A reader of bytes in memory has no fault of its own.
+fn refusal_of(error: &Error) -> CsvError
+    ensures { IsRecordRefusal (error_kind error.now) result }
 {
     match error.kind() {
-        ErrorKind::Utf8 { .. } => CsvError::NotUtf8((count as u64).saturating_add(1)),
+        ErrorKind::Utf8 { .. } => CsvError::SplitCharacter,
         _ => CsvError::OutOfMemory,
     }
 }

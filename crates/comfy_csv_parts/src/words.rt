@@ -1,13 +1,13 @@
 //! The words of the program, as a table for clap.
 
-ghost use Rattle.std.specs.Prelude.{◌≡◌, IfOk, Some};
+ghost use Rattle.std.specs.Prelude.{◌≡◌, IfOk, Some, map};
 ghost use Rattle.clap.specs.Words.{app_of, rule_of};
 ghost use Rattle.clap.specs.declared.builder.action.ArgAction.TheVariants.{SetTrue};
 ghost use Rattle.comfy_csv_parts.specs.Program.{IsCsvtable, bare};
 ghost use Rattle.comfy_csv_parts.specs.Rules.{lettered, rule_for, with_values};
+ghost use Rattle.comfy_csv_parts.specs.Styles.{style_names};
 
 use clap::{Arg, ArgAction, Command, value_parser};
-use comfy_parts::style::presets;
 use std::alloc::{AllocError, Global};
 
 // A word that the program knows.
@@ -27,16 +27,14 @@ enum Kind {
     File,
     // a name without a value
     Flag,
-    // a name without a value, and no style beside it
-    Markdown,
     Text,
     Width,
     Count,
     Style,
-    Color,
+    When,
 }
 
-static WORDS: [Word; 15] = [
+static WORDS: [Word; 18] = [
     Word {
         name: "file",
         letter: None,
@@ -91,7 +89,7 @@ static WORDS: [Word; 15] = [
         letter: Some('w'),
         kind: Kind::Width,
         value: "N",
-        help: "The width to keep to; COLUMNS without it, where standard output is a terminal",
+        help: "The width to keep to, 0 for none; in a terminal COLUMNS without it, else 80",
     },
     Word {
         name: "full",
@@ -105,7 +103,21 @@ static WORDS: [Word; 15] = [
         letter: Some('s'),
         kind: Kind::Style,
         value: "NAME",
-        help: "A preset; UTF8_FULL with rounded corners without it",
+        help: "How the frame looks [default: rounded]",
+    },
+    Word {
+        name: "rows",
+        letter: None,
+        kind: Kind::Flag,
+        value: "",
+        help: "Lines between rows, in each style that has them",
+    },
+    Word {
+        name: "no-rows",
+        letter: None,
+        kind: Kind::Flag,
+        value: "",
+        help: "No lines between rows",
     },
     Word {
         name: "max-height",
@@ -117,16 +129,16 @@ static WORDS: [Word; 15] = [
     Word {
         name: "markdown",
         letter: None,
-        kind: Kind::Markdown,
+        kind: Kind::Flag,
         value: "",
         help: "Draw a table for Markdown",
     },
     Word {
         name: "color",
         letter: None,
-        kind: Kind::Color,
+        kind: Kind::When,
         value: "WHEN",
-        help: "The header in bold; `auto` is in a terminal, unless NO_COLOR is set",
+        help: "The header in bold; `auto` is in a terminal, unless NO_COLOR is set [default: auto]",
     },
     Word {
         name: "ansi",
@@ -134,6 +146,13 @@ static WORDS: [Word; 15] = [
         kind: Kind::Flag,
         value: "",
         help: "SGR sequences in fields count no columns",
+    },
+    Word {
+        name: "bidi",
+        letter: None,
+        kind: Kind::Flag,
+        value: "",
+        help: "Characters that turn the direction of text stay as they are",
     },
     Word {
         name: "raw",
@@ -144,24 +163,17 @@ static WORDS: [Word; 15] = [
     },
 ];
 
-static COLORS: [&str; 3] = ["auto", "always", "never"];
-
-// The names that `--style` takes.
-pub(crate) fn style_names(alloc: Global) -> Result<Vec<&'static str>, AllocError> {
-    let mut names = Vec::with_capacity(alloc, presets::ALL.len())?;
-    for (name, _) in &presets::ALL {
-        names.push(*name)?;
-    }
-    Ok(names)
-}
+static WHENS: [&str; 3] = ["auto", "always", "never"];
 
 // The words of `csvtable`, for clap, with these names of styles.
 pub(crate) fn command<'a>(alloc: Global, styles: &'a [&'a str]) -> Result<Command<'a>, AllocError>
+    requires { map (λ name. name.now) styles.now ≡ style_names }
     ensures { IfOk result (λ command. IsCsvtable (app_of command)) }
 {
     let mut command = Command::new(alloc, "csvtable")
-        .version("1.0.0")
-        .about("Draws the records of a CSV file as a table");
+        .version("2.0.0")
+        .about("Draws the records of a CSV file as a table")
+        .args_override_self(true);
     for word in &WORDS {
         command = command.arg(arg_of(alloc, word, styles)?)?;
     }
@@ -170,13 +182,13 @@ pub(crate) fn command<'a>(alloc: Global, styles: &'a [&'a str]) -> Result<Comman
 
 // A word for clap.
 fn arg_of<'a>(alloc: Global, word: &Word, styles: &'a [&'a str]) -> Result<Arg<'a>, AllocError>
-    ensures { IfOk result (λ arg. bare (rule_of arg) ≡ bare (rule_for word.now)) }
+    requires { map (λ name. name.now) styles.now ≡ style_names }
+    ensures { IfOk result (λ arg. bare (rule_of arg) ≡ rule_for word.now) }
 {
     let arg = with_letter(Arg::new(alloc, word.name).help(word.help), word.letter);
     match word.kind {
         Kind::File => Ok(arg.value_name(word.value)),
         Kind::Flag => Ok(flag(arg, word.name)),
-        Kind::Markdown => flag(arg, word.name).conflicts_with("style"),
         kind => Ok(with_value(arg.long(word.name).value_name(word.value), kind, styles)),
     }
 }
@@ -199,13 +211,14 @@ fn flag<'a>(arg: Arg<'a>, name: &'a str) -> Arg<'a>
 
 // A word with a value of its kind.
 fn with_value<'a>(arg: Arg<'a>, kind: Kind, styles: &'a [&'a str]) -> Arg<'a>
+    requires { map (λ name. name.now) styles.now ≡ style_names }
     ensures { bare (rule_of result) ≡ with_values kind (bare (rule_of arg.entry)) }
 {
     match kind {
         Kind::Width => arg.value_parser(value_parser!(u16)),
         Kind::Count => arg.value_parser(value_parser!(usize)),
-        Kind::Style => arg.value_parser(styles),
-        Kind::Color => arg.value_parser(COLORS.as_slice()).default_value("auto"),
+        Kind::Style => arg.value_parser(styles).ignore_case(true),
+        Kind::When => arg.value_parser(WHENS.as_slice()),
         _ => arg,
     }
 }

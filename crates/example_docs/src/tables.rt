@@ -72,10 +72,12 @@ fn table_column_mut_example(table: &mut Table) {
     }
 }
 
-fn arranged_table_example(rt: &HostRuntime, alloc: Global, table: &mut Table) -> anyhow::Result<()> {
-    table
-        .add_row(["17", "dock 3"])?
-        .add_row(["8", "rented"])?;
+fn arranged_table_example(
+    rt: &HostRuntime,
+    alloc: Global,
+    table: &mut Table,
+) -> anyhow::Result<()> {
+    table.add_row(["17", "dock 3"])?.add_row(["8", "rented"])?;
     let arranged = table.arranged()?;
     let mut text = String::new(alloc);
     arranged.push_rows(&mut text, 0, 1)?;

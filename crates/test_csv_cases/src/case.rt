@@ -16,7 +16,9 @@ pub struct Case {
     words: Vec<String>,
     input: Vec<u8>,
     wanted: String,
-    surroundings: Surroundings,
+    is_terminal: bool,
+    columns: Option<String>,
+    no_color: Option<String>,
 }
 
 impl Case {
@@ -28,11 +30,9 @@ impl Case {
             words: Vec::new(alloc),
             input: Vec::new(alloc),
             wanted: String::new(alloc),
-            surroundings: Surroundings {
-                is_terminal: false,
-                width: None,
-                has_no_color: false,
-            },
+            is_terminal: false,
+            columns: None,
+            no_color: None,
         }
     }
 
@@ -63,12 +63,15 @@ impl Case {
                 Err(_) => Ok(()),
             },
             "terminal" => {
-                self.surroundings.is_terminal = true;
-                self.surroundings.width = rest.parse::<u16>().ok();
+                self.is_terminal = rest == "yes";
                 Ok(())
             }
-            "no_color" => {
-                self.surroundings.has_no_color = true;
+            "COLUMNS" => {
+                self.columns = Some(String::from_str(self.alloc, rest)?);
+                Ok(())
+            }
+            "NO_COLOR" => {
+                self.no_color = Some(String::from_str(self.alloc, rest)?);
                 Ok(())
             }
             _ => Ok(()),
@@ -89,13 +92,17 @@ impl Case {
         Ok(())
     }
 
-    /// The output for the input, or a line that says why there is none. Help and the version are outputs too.
+    /// The output for the input, or what is said where there is none.
     pub fn drawn(&self) -> Result<String, AllocError> {
         let words = self.all_words()?;
-        match asked_of(self.alloc, words.as_slice(), self.surroundings) {
+        let surroundings = Surroundings {
+            is_terminal: self.is_terminal,
+            columns: self.columns.as_ref().map(|text| text.as_str()),
+            no_color: self.no_color.as_ref().map(|text| text.as_str()),
+        };
+        match asked_of(self.alloc, words.as_slice(), surroundings) {
             Ok(asked) => self.drawn_as(&asked),
-            Err(error) if error.exit_code() == 0 => format!(in self.alloc; "{error}"),
-            Err(_) => String::from_str(self.alloc, "the words aren't known\n"),
+            Err(error) => format!(in self.alloc; "{error}"),
         }
     }
 

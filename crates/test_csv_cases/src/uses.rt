@@ -3,15 +3,21 @@
 ghost use Rattle.std.specs.Prelude.{◌≡◌, IfOk, IfSome, chars, false, string_bytes};
 ghost use Rattle.std.specs.List.{list_any};
 ghost use Rattle.comfy_parts.specs.VisibleText.{visible_text};
-ghost use Rattle.comfy_csv_parts.specs.Cleaning.{is_harmful};
-ghost use Rattle.comfy_csv_parts.specs.Controls.{HasNothingHarmful};
+ghost use Rattle.comfy_csv_parts.specs.Cleaning.{is_harmful, nothing_kept};
+ghost use Rattle.comfy_csv_parts.specs.Controls.{HasNoStrayControl};
 ghost use Rattle.comfy_csv.specs.Drawn.{IsOutputFor};
 ghost use Rattle.comfy_csv.specs.Laws.{IsLookWithoutControls};
 
 use comfy_csv::laws::{cleaned_fields_hold_no_controls, outputs_hold_no_controls};
-use comfy_csv::{CsvError, Options, Surroundings, asked_of, cleaned, draw};
+use comfy_csv::{CsvError, Kept, Options, Surroundings, asked_of, cleaned, draw};
 use comfy_run::run::{MemorySink, MemorySource};
 use std::alloc::{AllocError, Global};
+
+// Nothing of a field is left as it is.
+const NOTHING_KEPT: Kept = Kept {
+    sequences: false,
+    directions: false,
+};
 
 /// A sink that holds the output for an input, both in memory.
 pub fn output_for(
@@ -36,7 +42,7 @@ pub fn output_for_terminal(
     room: usize,
     options: &Options,
 ) -> Result<MemorySink, CsvError>
-    ensures { IfOk result (λ sink. IsLookWithoutControls options.now.look → HasNothingHarmful (visible_text sink.bytes)) }
+    ensures { IfOk result (λ sink. IsLookWithoutControls options.now.look → HasNoStrayControl (visible_text sink.bytes)) }
 {
     outputs_hold_no_controls();
     output_for(alloc, input, room, options)
@@ -48,9 +54,9 @@ pub fn output_for_words(
     input: &[u8],
     room: usize,
     words: &[&str],
-    surroundings: Surroundings,
+    surroundings: Surroundings<'_>,
 ) -> Option<MemorySink>
-    ensures { IfSome result (λ sink. HasNothingHarmful (visible_text sink.bytes)) }
+    ensures { IfSome result (λ sink. HasNoStrayControl (visible_text sink.bytes)) }
 {
     outputs_hold_no_controls();
     let asked = asked_of(alloc, words, surroundings).ok()?;
@@ -60,10 +66,10 @@ pub fn output_for_words(
     output_for(alloc, input, room, &asked.options).ok()
 }
 
-/// A field in which no control character stands but line feeds.
+/// A field in which no control character stands but line feeds, and none that turns the direction of text.
 pub fn plain_field(alloc: Global, field: &str) -> Result<String, AllocError>
-    ensures { IfOk result (λ text. list_any is_harmful (chars (string_bytes text)) ≡ false) }
+    ensures { IfOk result (λ text. list_any (is_harmful nothing_kept) (chars (string_bytes text)) ≡ false) }
 {
     cleaned_fields_hold_no_controls();
-    cleaned(alloc, field, false)
+    cleaned(alloc, field, NOTHING_KEPT)
 }

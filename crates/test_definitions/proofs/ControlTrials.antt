@@ -1,5 +1,5 @@
 -- Control characters in texts and tables, computed.
-use Rattle.std.proofs.Common.{ℕ, List, [], ◌∷◌, refl, subst, sym, true}
+use Rattle.std.proofs.Common.{ℕ, List, [], ◌∷◌, refl, subst}
 use Rattle.std.specs.Char.{is_control}
 use Rattle.std.specs.List.{All}
 use Rattle.std.specs.Prelude.{Some, codes, encode_utf8_all}
@@ -10,7 +10,6 @@ use Rattle.std.proofs.lemmas.Str.{encodes_same}
 use Rattle.comfy_parts.proofs.Computing.{wrapping}
 use Rattle.comfy_parts.specs.CellValue.{CellValue, RowValue}
 use Rattle.comfy_parts.specs.Presets.{ascii_full}
-use Rattle.comfy_parts.specs.Text.{Text}
 use Rattle.comfy_parts.specs.VisibleText.{visible_text}
 use Rattle.comfy_table.specs.Laws.{HasNoControl, IsFreeOfControls}
 use Rattle.comfy_table.specs.TableValue.{TableValue}

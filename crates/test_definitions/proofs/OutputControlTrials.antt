@@ -14,9 +14,9 @@ use Rattle.comfy_table.specs.Drawing.{drawing, terminated_text_of}
 use Rattle.comfy_table.specs.TableValue.{TableValue, with_header, with_rows}
 use Rattle.csv.specs.Records.{field_at}
 use Rattle.comfy_csv_parts.specs.Cells.{field_text, header_for, row_for}
-use Rattle.comfy_csv_parts.specs.Cleaning.{is_harmful}
-use Rattle.comfy_csv_parts.specs.Controls.{HasNothingHarmful, IsStyleWithoutControls}
-use Rattle.comfy_csv_parts.specs.Words.{style_for}
+use Rattle.comfy_csv_parts.specs.Controls.{HasNoStrayControl, IsStyleWithoutControls, is_stray_control}
+use Rattle.comfy_csv_parts.specs.Styles.{style_for}
+use Rattle.comfy_csv_parts.specs.declared.options.RowSeparators.TheVariants.{Styled}
 use Rattle.comfy_csv_parts.specs.declared.options.DrawnColumn.{DrawnColumn}
 use Rattle.comfy_csv_parts.specs.declared.options.Look.{Look}
 use Rattle.comfy_csv.specs.Drawn.{empty_table}
@@ -25,38 +25,38 @@ use Rattle.test_definitions.proofs.TrialTables.{utf8}
 
 -- ---- texts
 
-none_of : (cs : List ℕ) → list_any is_harmful cs ≡ false → NonePass is_harmful cs
+none_of : (cs : List ℕ) → list_any is_stray_control cs ≡ false → NonePass is_stray_control cs
 none_of [] none = tt
 none_of (c ∷ cs) none =
-    let each = or_parts (is_harmful c) (list_any is_harmful cs) none in
+    let each = or_parts (is_stray_control c) (list_any is_stray_control cs) none in
     (each.0, none_of cs each.1)
 
-any_of : (cs : List ℕ) → NonePass is_harmful cs → list_any is_harmful cs ≡ false
+any_of : (cs : List ℕ) → NonePass is_stray_control cs → list_any is_stray_control cs ≡ false
 any_of [] none = refl
 any_of (c ∷ cs) none = rw none.0 (any_of cs none.1)
 
 -- a text of these characters is a text of no others
-harmless : (cs : List ℕ) → list_any is_harmful cs ≡ false → HasNothingHarmful (encode_utf8_all cs)
+harmless : (cs : List ℕ) → list_any is_stray_control cs ≡ false → HasNoStrayControl (encode_utf8_all cs)
 harmless cs none = (cs, refl, none_of cs none)
 
-harmful : (cs : List ℕ) → list_any is_harmful cs ≡ true → ¬ (HasNothingHarmful (encode_utf8_all cs))
-harmful cs some none = true≢false (sym some ∙ any_of cs (subst (NonePass is_harmful) (encodes_same none.0 cs none.1) none.2))
+harmful : (cs : List ℕ) → list_any is_stray_control cs ≡ true → ¬ (HasNoStrayControl (encode_utf8_all cs))
+harmful cs some none = true≢false (sym some ∙ any_of cs (subst (NonePass is_stray_control) (encodes_same none.0 cs none.1) none.2))
 
 -- line feeds aren't, and U+00A0 follows the last control character
-line_feed_is_harmless : HasNothingHarmful (utf8 "a\n~\u{a0}…\n")
+line_feed_is_harmless : HasNoStrayControl (utf8 "a\n~\u{a0}…\n")
 line_feed_is_harmless = harmless (codes "a\n~\u{a0}…\n") refl
 
-return_is_harmful : ¬ (HasNothingHarmful (utf8 "a\r\n"))
+return_is_harmful : ¬ (HasNoStrayControl (utf8 "a\r\n"))
 return_is_harmful = harmful (codes "a\r\n") refl
 
-c1_is_harmful : ¬ (HasNothingHarmful (utf8 "\u{9b}2J"))
+c1_is_harmful : ¬ (HasNoStrayControl (utf8 "\u{9b}2J"))
 c1_is_harmful = harmful (codes "\u{9b}2J") refl
 
-colours_are_harmless : HasNothingHarmful (visible_text (codes "\u{1b}[1ma\u{1b}[0m\n"))
+colours_are_harmless : HasNoStrayControl (visible_text (codes "\u{1b}[1ma\u{1b}[0m\n"))
 unfolding wrapping lib.Utf8.encode
 colours_are_harmless = harmless (codes "a\n") refl
 
-clearing_is_harmful : ¬ (HasNothingHarmful (visible_text (codes "\u{1b}[2J")))
+clearing_is_harmful : ¬ (HasNoStrayControl (visible_text (codes "\u{1b}[2J")))
 unfolding wrapping lib.Utf8.encode
 clearing_is_harmful = harmful (codes "\u{1b}[2J") refl
 
@@ -64,7 +64,7 @@ clearing_is_harmful = harmful (codes "\u{1b}[2J") refl
 
 -- sequences are kept, and the header is in bold
 abbrev look : Look
-look = record { style = ascii_full; width = None; fills_width = false; max_height = None; has_bold_header = true; has_sequences = true; is_raw = false; is_markdown = false }
+look = record { style = ascii_full; separators = Styled; width = None; fills_width = false; max_height = None; has_bold_header = true; has_sequences = true; keeps_bidi = false; is_raw = false; is_markdown = false }
 
 look_is_without : IsLookWithoutControls look
 look_is_without = record { cleaned = refl; style = refl }
@@ -82,16 +82,16 @@ tabs_are_not is = true≢false is.style
 -- ---- fields
 
 -- a field that clears the screen is cleaned, and stays as it is in a raw look
-cleaned_is_harmless : HasNothingHarmful (visible_text (field_text look (codes "\u{1b}[2J")))
+cleaned_is_harmless : HasNoStrayControl (visible_text (field_text look (codes "\u{1b}[2J")))
 unfolding wrapping lib.Utf8.encode chars
 cleaned_is_harmless = harmless (codes "�[2J") refl
 
-raw_is_harmful : ¬ (HasNothingHarmful (visible_text (field_text (record look { is_raw = true }) (codes "\u{1b}[2J"))))
+raw_is_harmful : ¬ (HasNoStrayControl (visible_text (field_text (record look { is_raw = true }) (codes "\u{1b}[2J"))))
 unfolding wrapping lib.Utf8.encode chars
 raw_is_harmful = harmful (codes "\u{1b}[2J") refl
 
--- sequences stay in Markdown, line feeds become `<br>`
-marked_is_harmless : field_text (record look { is_markdown = true }) (codes "\u{1b}[1ma\n|") ≡ codes "\u{1b}[1ma<br>\\|"
+-- no sequence stays in Markdown, and line feeds become `<br>`
+marked_is_harmless : field_text (record look { is_markdown = true }) (codes "\u{1b}[1ma\n|") ≡ utf8 "�\\[1ma<br>\\|"
 unfolding wrapping lib.Utf8.encode chars
 marked_is_harmless = refl
 
@@ -113,25 +113,25 @@ output_is : visible_text (output look) ≡ utf8 "+--------+\n| a      |\n+======
 unfolding wrapping lib.Utf8.encode chars field_at
 output_is = refl
 
-output_is_harmless : HasNothingHarmful (visible_text (output look))
-output_is_harmless = subst HasNothingHarmful (sym output_is) (harmless (codes "+--------+\n| a      |\n+========+\n| �[2J�J |\n+--------+\n") refl)
+output_is_harmless : HasNoStrayControl (visible_text (output look))
+output_is_harmless = subst HasNoStrayControl (sym output_is) (harmless (codes "+--------+\n| a      |\n+========+\n| �[2J�J |\n+--------+\n") refl)
 
 -- the two premises are needed
 tabs_are_written : visible_text (output (record look { style = with_tabs })) ≡ utf8 "+\t\t\t\t\t\t\t\t+\n| a      |\n+========+\n| �[2J�J |\n+--------+\n"
 unfolding wrapping lib.Utf8.encode chars field_at
 tabs_are_written = refl
 
-output_with_tabs_is_harmful : ¬ (HasNothingHarmful (visible_text (output (record look { style = with_tabs }))))
+output_with_tabs_is_harmful : ¬ (HasNoStrayControl (visible_text (output (record look { style = with_tabs }))))
 output_with_tabs_is_harmful none =
-    harmful (codes "+\t\t\t\t\t\t\t\t+\n| a      |\n+========+\n| �[2J�J |\n+--------+\n") refl (subst HasNothingHarmful tabs_are_written none)
+    harmful (codes "+\t\t\t\t\t\t\t\t+\n| a      |\n+========+\n| �[2J�J |\n+--------+\n") refl (subst HasNoStrayControl tabs_are_written none)
 
 raw_is_written : visible_text (output (record look { is_raw = true })) ≡ utf8 "+--------+\n| a      |\n+========+\n| \u{1b}[2J\u{9b}J |\n+--------+\n"
 unfolding wrapping lib.Utf8.encode chars field_at
 raw_is_written = refl
 
-raw_output_is_harmful : ¬ (HasNothingHarmful (visible_text (output (record look { is_raw = true }))))
+raw_output_is_harmful : ¬ (HasNoStrayControl (visible_text (output (record look { is_raw = true }))))
 raw_output_is_harmful none =
-    harmful (codes "+--------+\n| a      |\n+========+\n| \u{1b}[2J\u{9b}J |\n+--------+\n") refl (subst HasNothingHarmful raw_is_written none)
+    harmful (codes "+--------+\n| a      |\n+========+\n| \u{1b}[2J\u{9b}J |\n+--------+\n") refl (subst HasNoStrayControl raw_is_written none)
 
 -- ---- styles
 

@@ -1,20 +1,28 @@
 -- What `csvtable` makes of fields and columns: numbers, control characters, Markdown, chosen columns, alignment. And what words ask for.
-use Rattle.std.proofs.Common.{◌≡◌, ℕ, Bool, true, false, List, [], ◌∷◌, ◌++◌, Option, Some, None, Ok, Err, codes, decimal, fold, map, refl}
+use Rattle.std.proofs.Common.{◌≡◌, ℕ, Bool, true, false, List, [], ◌∷◌, ◌++◌, Option, Some, None, Ok, Err, codes, decimal, encode_utf8_all, fold, map, refl}
 use Prim.Native.String.{String}
 use Rattle.comfy_parts.proofs.Computing.{wrapping}
 use Rattle.comfy_parts.specs.Text.{Text}
 use Rattle.comfy_parts.specs.declared.style.cell.CellAlignment.TheVariants.{Left, Right}
 use Rattle.csv.specs.Records.{field_at}
 use Rattle.comfy_csv_parts.specs.Cleaning.{after_piece, pieces, start}
-use Rattle.comfy_csv_parts.specs.Columns.{alignment_for, columns_with, position_named, positions_of}
-use Rattle.comfy_csv.specs.Drawn.{limited, note_for}
+use Rattle.comfy_csv_parts.specs.Input.{line_breaks as line_breaks_of, line_of}
+use Rattle.comfy_csv_parts.specs.declared.cleaning.Kept.{Kept}
+use Rattle.comfy_csv_parts.specs.Columns.{alignment_for, columns_with, missing, position_named, positions_of_word, two_sided}
+use Rattle.comfy_csv.specs.Drawn.{condensed_style, limited, note_for}
 use Rattle.comfy_csv_parts.specs.Markdown.{escaped, unescaped}
 use Rattle.comfy_csv_parts.specs.Number.{is_number}
 use Rattle.clap.proofs.OnLiterals.{clap_on_literals}
 use Rattle.clap.specs.Words.{first_of, matches_of}
-use Rattle.comfy_csv_parts.specs.Program.{csvtable}
-use Rattle.comfy_csv_parts.specs.Words.{choice_for, choices_for, file_for, number_for}
-use Rattle.comfy_csv_parts.specs.declared.options.ColumnChoice.TheVariants.{Numbers}
+use Rattle.comfy_csv_parts.specs.Program.{csvtable_rules, with_rules, wordless}
+use Rattle.comfy_csv_parts.specs.Words.{file_for, is_bold_for, separators_for, terminal_width, wants_color, width_for, words_in}
+use Rattle.comfy_csv_parts.specs.Numerals.{number_for}
+use Rattle.comfy_csv_parts.specs.Shown.{shown_in}
+use Rattle.comfy_csv_parts.specs.Styles.{style_for}
+use Rattle.comfy_csv_parts.specs.declared.arguments.Surroundings.{Surroundings}
+use Rattle.comfy_csv_parts.specs.declared.options.RowSeparators.TheVariants.{Styled, Needed, Never}
+use Rattle.comfy_parts.specs.Presets.{nothing, utf8_full, utf8_full_condensed}
+use Rattle.comfy_parts.specs.StyleModifiers.{with_rounded_corners}
 
 abbrev texts : List String → List Text
 texts words = map (λ (word : String). codes word) words
@@ -33,8 +41,11 @@ no_numbers = refl
 
 -- ---- fields as they are drawn
 
+abbrev drawn_with : Kept → List ℕ → Text
+drawn_with kept characters = (fold (after_piece kept) start (pieces kept.sequences characters)).text
+
 abbrev drawn : Bool → List ℕ → Text
-drawn keeps_sequences characters = (fold after_piece start (pieces keeps_sequences characters)).text
+drawn keeps_sequences = drawn_with (record { sequences = keeps_sequences; directions = false })
 
 -- TABs go to the next multiple of four, and each line begins anew
 tabs : drawn false (0x61 ∷ 0x09 ∷ 0x62 ∷ 0x09 ∷ 0x09 ∷ 0x63 ∷ 0x0A ∷ 0x09 ∷ 0x64 ∷ []) ≡ codes "a   b       c" ++ 0x0A ∷ codes "    d"
@@ -45,6 +56,15 @@ tabs = refl
 wide_before_a_tab : drawn false (0x738B ∷ 0x09 ∷ 0x62 ∷ []) ≡ 0xE7 ∷ 0x8E ∷ 0x8B ∷ codes "  b"
 unfolding wrapping lib.Utf8.encode
 wide_before_a_tab = refl
+
+-- a letter with an accent takes one, and a flag of two characters takes two
+joined_before_a_tab : drawn false (0x65 ∷ 0x0301 ∷ 0x09 ∷ 0x62 ∷ []) ≡ 0x65 ∷ 0xCC ∷ 0x81 ∷ codes "   b"
+unfolding wrapping lib.Utf8.encode
+joined_before_a_tab = refl
+
+flag_before_a_tab : drawn false (0x1F1E9 ∷ 0x1F1EA ∷ 0x09 ∷ 0x62 ∷ []) ≡ encode_utf8_all (0x1F1E9 ∷ 0x1F1EA ∷ []) ++ codes "  b"
+unfolding wrapping lib.Utf8.encode
+flag_before_a_tab = refl
 
 line_breaks : drawn false (0x61 ∷ 0x0D ∷ 0x0A ∷ 0x62 ∷ 0x0D ∷ 0x63 ∷ 0x0A ∷ 0x0D ∷ 0x64 ∷ []) ≡ 0x61 ∷ 0x0A ∷ 0x62 ∷ 0x0A ∷ 0x63 ∷ 0x0A ∷ 0x0A ∷ 0x64 ∷ []
 unfolding wrapping lib.Utf8.encode
@@ -57,6 +77,16 @@ replacement = 0xEF ∷ 0xBF ∷ 0xBD ∷ []
 control_characters : drawn false (0x07 ∷ 0x1B ∷ []) ≡ replacement ++ replacement
 unfolding wrapping lib.Utf8.encode
 control_characters = refl
+
+-- so do an override, an isolate and their ends; a mark for the direction stays
+directions : drawn false (0x202E ∷ 0x202C ∷ 0x2066 ∷ 0x2069 ∷ 0x200F ∷ []) ≡ replacement ++ (replacement ++ (replacement ++ (replacement ++ 0xE2 ∷ 0x80 ∷ 0x8F ∷ [])))
+unfolding wrapping lib.Utf8.encode
+directions = refl
+
+-- where they are kept, they stay
+kept_directions : drawn_with (record { sequences = false; directions = true }) (0x202E ∷ 0x07 ∷ []) ≡ 0xE2 ∷ 0x80 ∷ 0xAE ∷ replacement
+unfolding wrapping lib.Utf8.encode
+kept_directions = refl
 
 sequence_without_ansi : drawn false (codes "\u{1b}[1m") ≡ replacement ++ codes "[1m"
 unfolding wrapping lib.Utf8.encode
@@ -90,13 +120,34 @@ tab_after_a_sequence = refl
 escapes : escaped (codes "a|b<c" ++ 0x0A ∷ 0x5C ∷ []) ≡ codes "a" ++ 0x5C ∷ codes "|b" ++ 0x5C ∷ codes "<c<br>" ++ 0x5C ∷ 0x5C ∷ []
 escapes = refl
 
+-- an underscore at the front of a text is in no word
+underscore : escaped (codes "_") ≡ codes "\\_"
+underscore = refl
+
 read_back : unescaped (codes "<br>" ++ 0x5C ∷ codes "<br>") ≡ 0x0A ∷ codes "<br>"
 read_back = refl
 
+-- ---- lines of an input
+
+-- a carriage return and a line feed are one break, in the other order they are two
+breaks : line_breaks_of (0x61 ∷ 0x0D ∷ 0x0A ∷ 0x62 ∷ 0x0D ∷ 0x63 ∷ 0x0A ∷ 0x0D ∷ 0x64 ∷ []) ≡ 4
+breaks = refl
+
+-- between a carriage return and a line feed a line has ended
+lines : map (line_of (0x0D ∷ 0x0A ∷ 0x61 ∷ [])) (0 ∷ 1 ∷ 2 ∷ 3 ∷ []) ≡ 1 ∷ 2 ∷ 2 ∷ 2 ∷ []
+lines = refl
+
 -- ---- columns
 
-by_number : positions_of [] 4 (Numbers 4 4 ∷ Numbers 1 2 ∷ []) ≡ Ok (3 ∷ 0 ∷ 1 ∷ [])
+by_number : map (positions_of_word [] 4) (texts ("4" ∷ "1-2" ∷ "3-3" ∷ "002" ∷ [])) ≡ Ok (3 ∷ []) ∷ Ok (0 ∷ 1 ∷ []) ∷ Ok (2 ∷ []) ∷ Ok (1 ∷ []) ∷ []
 by_number = refl
+
+-- a number is no name, and a name is no range
+by_number_first : positions_of_word (texts ("2" ∷ "b" ∷ [])) 2 (codes "2") ≡ Ok (1 ∷ [])
+by_number_first = refl
+
+by_name_before_range : positions_of_word (texts ("1-2" ∷ "b" ∷ [])) 2 (codes "1-2") ≡ Ok (0 ∷ [])
+by_name_before_range = refl
 
 by_name : position_named (codes "b") (texts ("a" ∷ "b" ∷ "b" ∷ [])) ≡ Some 1
 by_name = refl
@@ -104,20 +155,29 @@ by_name = refl
 no_such_name : position_named (codes "c") (texts ("a" ∷ "b" ∷ [])) ≡ None
 no_such_name = refl
 
--- what a message names: the range that ends before it begins, 0, the number past the last column, the first of two
+-- a message names the word as it is
 missing_columns :
-    map (positions_of [] 3) ((Numbers 3 1 ∷ []) ∷ (Numbers 0 1 ∷ []) ∷ (Numbers 9 9 ∷ []) ∷ (Numbers 2 9 ∷ []) ∷ (Numbers 1 1 ∷ Numbers 5 5 ∷ Numbers 4 4 ∷ []) ∷ [])
-    ≡ Err (decimal 3 ++ (codes "-" ++ decimal 1)) ∷ Err (codes "0") ∷ Err (decimal 9) ∷ Err (decimal 9) ∷ Err (decimal 5) ∷ []
+    map (positions_of_word [] 3) (texts ("3-1" ∷ "0" ∷ "0-1" ∷ "09" ∷ "2-9" ∷ "a" ∷ "" ∷ []))
+    ≡ map (λ word. Err (missing word)) (texts ("3-1" ∷ "0" ∷ "0-1" ∷ "09" ∷ "2-9" ∷ "a" ∷ "" ∷ []))
 missing_columns = refl
 
-columns_before_right : columns_with [] (Err (codes "a")) (Err (codes "b")) (Err (codes "c")) ≡ Err (codes "a")
+columns_before_right : columns_with [] [] (Err (missing (codes "a"))) (Err (missing (codes "b"))) (Err (missing (codes "c"))) ≡ Err (missing (codes "a"))
 columns_before_right = refl
+
+-- the first column at the right that is at the left too; it has a name, or else a number
+at_two_sides_named : columns_with (texts ("a" ∷ "b" ∷ [])) [] (Ok (0 ∷ 1 ∷ [])) (Ok (1 ∷ 0 ∷ [])) (Ok (0 ∷ 1 ∷ [])) ≡ Err (two_sided (codes "b"))
+unfolding field_at
+at_two_sides_named = refl
+
+at_two_sides_numbered : columns_with [] [] (Ok (0 ∷ [])) (Ok (2 ∷ [])) (Ok (2 ∷ [])) ≡ Err (two_sided (decimal 3))
+unfolding field_at
+at_two_sides_numbered = refl
 
 abbrev rows : List (List Text)
 rows = texts ("x" ∷ "1" ∷ "2" ∷ []) ∷ texts ("3" ∷ "" ∷ []) ∷ []
 
 -- a column with a word, one with an empty field, one with a missing field, and one that has none
-alignments : map (alignment_for [] [] rows) (0 ∷ 1 ∷ 2 ∷ 3 ∷ []) ≡ None ∷ Some Right ∷ Some Right ∷ Some Right ∷ []
+alignments : map (alignment_for [] [] rows) (0 ∷ 1 ∷ 2 ∷ 3 ∷ []) ≡ None ∷ Some Right ∷ Some Right ∷ None ∷ []
 unfolding field_at
 alignments = refl
 
@@ -136,26 +196,74 @@ first_rows = refl
 
 -- ---- words
 
--- a number stands for the first and the last column, also with zeros before it; a hyphen stands between two
-numbers_chosen : map choice_for (texts ("3" ∷ "3-5" ∷ "5-3" ∷ "007" ∷ [])) ≡ Ok (3, 3) ∷ Ok (3, 5) ∷ Ok (5, 3) ∷ Ok (7, 7) ∷ []
-numbers_chosen = refl
-
-names_chosen : map choice_for (texts ("name" ∷ "a-b" ∷ "1-b" ∷ "1-2-3" ∷ "-3" ∷ "3-" ∷ "+3" ∷ "" ∷ [])) ≡ map Err (texts ("name" ∷ "a-b" ∷ "1-b" ∷ "1-2-3" ∷ "-3" ∷ "3-" ∷ "+3" ∷ "" ∷ []))
-names_chosen = refl
-
-listed : choices_for (Some (codes "name,3-5,,2")) ≡ Err (codes "name") ∷ Ok (3, 5) ∷ Err [] ∷ Ok (2, 2) ∷ []
+listed : words_in (Some (codes "name,3-5,,2")) ≡ texts ("name" ∷ "3-5" ∷ "" ∷ "2" ∷ [])
 listed = refl
+
+none_listed : words_in None ≡ []
+none_listed = refl
 
 bits : map (number_for 16) (texts ("65535" ∷ "65536" ∷ "" ∷ "1x" ∷ [])) ≡ Some 65535 ∷ None ∷ None ∷ None ∷ []
 bits = refl
 
--- values after a space, after `=`, and behind a letter; a flag that is used, one that isn't, a default, and an option without a value
+-- values after a space, after `=`, and behind a letter, the last of two; a flag that is used, one that isn't, and options without a value
 abbrev found : String → Option Text
-found id = first_of (codes id) (matches_of csvtable (texts ("csvtable" ∷ "-w" ∷ "60" ∷ "--limit=2" ∷ "-nr3" ∷ "a.csv" ∷ [])))
+found id = first_of (codes id) (matches_of (with_rules wordless (map (λ known. known.0) csvtable_rules)) (texts ("csvtable" ∷ "-w" ∷ "9" ∷ "-w" ∷ "60" ∷ "--limit=2" ∷ "-nr3" ∷ "a.csv" ∷ [])))
 
-values : map found ("width" ∷ "limit" ∷ "right" ∷ "file" ∷ "no-header" ∷ "full" ∷ "color" ∷ "columns" ∷ []) ≡ Some (codes "60") ∷ Some (codes "2") ∷ Some (codes "3") ∷ Some (codes "a.csv") ∷ Some (codes "true") ∷ Some (codes "false") ∷ Some (codes "auto") ∷ None ∷ []
+values : map found ("width" ∷ "limit" ∷ "right" ∷ "file" ∷ "no-header" ∷ "full" ∷ "color" ∷ "columns" ∷ []) ≡ Some (codes "60") ∷ Some (codes "2") ∷ Some (codes "3") ∷ Some (codes "a.csv") ∷ Some (codes "true") ∷ Some (codes "false") ∷ None ∷ None ∷ []
 unfolding clap_on_literals
 values = refl
 
 files : map file_for (None ∷ Some (codes "-") ∷ Some (codes "a.csv") ∷ []) ≡ None ∷ None ∷ Some (codes "a.csv") ∷ []
 files = refl
+
+-- ---- what words ask for
+
+-- a number from 1 to 65535, else 80
+terminal_widths :
+    map terminal_width (None ∷ map Some (texts ("40" ∷ "0" ∷ "1" ∷ "65535" ∷ "65536" ∷ "+40" ∷ "" ∷ "wide" ∷ [])))
+    ≡ 80 ∷ 40 ∷ 80 ∷ 1 ∷ 65535 ∷ 80 ∷ 80 ∷ 80 ∷ 80 ∷ []
+terminal_widths = refl
+
+-- in a terminal: nothing asked for, 0, a width; for Markdown none
+abbrev terminal : Surroundings
+terminal = record { is_terminal = true; columns = None; no_color = None }
+
+widths_kept : map (λ (asked : Option ℕ). width_for false asked terminal) (None ∷ Some 0 ∷ Some 7 ∷ []) ≡ Some 80 ∷ None ∷ Some 7 ∷ []
+widths_kept = refl
+
+widths_in_markdown : map (λ (asked : Option ℕ). width_for true asked terminal) (None ∷ Some 7 ∷ []) ≡ None ∷ None ∷ []
+widths_in_markdown = refl
+
+widths_elsewhere : map (λ (asked : Option ℕ). width_for false asked (record terminal { is_terminal = false })) (None ∷ Some 0 ∷ Some 7 ∷ []) ≡ None ∷ None ∷ Some 7 ∷ []
+widths_elsewhere = refl
+
+colors : map wants_color (None ∷ Some [] ∷ Some (codes "1") ∷ []) ≡ true ∷ true ∷ false ∷ []
+colors = refl
+
+bold : map (λ (word : Option Text). is_bold_for false word terminal) (None ∷ Some (codes "auto") ∷ Some (codes "never") ∷ Some (codes "always") ∷ []) ≡ true ∷ true ∷ false ∷ true ∷ []
+bold = refl
+
+no_bold_markdown : is_bold_for true (Some (codes "always")) terminal ≡ false
+no_bold_markdown = refl
+
+-- names in any case of letters, and no name
+styles : map (λ (name : Option Text). style_for name false) (None ∷ map Some (texts ("Rounded" ∷ "BOX" ∷ "grid" ∷ "plain" ∷ "utf8_full" ∷ []))) ≡ with_rounded_corners utf8_full ∷ with_rounded_corners utf8_full ∷ utf8_full ∷ with_rounded_corners utf8_full ∷ nothing ∷ utf8_full ∷ []
+styles = refl
+
+separators :
+    map (λ (name : Option Text). separators_for false false name) (None ∷ map Some (texts ("rounded" ∷ "box" ∷ "grid" ∷ "UTF8_FULL" ∷ []))) ≡ Needed ∷ Needed ∷ Needed ∷ Styled ∷ Styled ∷ []
+separators = refl
+
+separators_by_words : separators_for true false None ∷ separators_for false true (Some (codes "grid")) ∷ [] ≡ Styled ∷ Never ∷ []
+separators_by_words = refl
+
+condensed : condensed_style utf8_full ≡ utf8_full_condensed
+condensed = refl
+
+-- ---- texts of messages
+
+said : map (shown_in false) (0x61 ∷ 0x1B ∷ 0x0A ∷ 0x9B ∷ 0x202E ∷ 0x200F ∷ []) ≡ 0x61 ∷ 0xFFFD ∷ 0xFFFD ∷ 0xFFFD ∷ 0xFFFD ∷ 0x200F ∷ []
+said = refl
+
+said_in_lines : map (shown_in true) (0x09 ∷ 0x0A ∷ []) ≡ 0xFFFD ∷ 0x0A ∷ []
+said_in_lines = refl

@@ -1,6 +1,7 @@
-//! Tests of `comfy_run`.
+//! Tests of `comfy_run` and `comfy_csv`.
 
 mod counted;
 mod devices;
 mod large;
 mod program;
+mod records;

@@ -2,7 +2,7 @@
 //! rules, since each is one piece many times over.
 
 use crate::support::{assert_bytes, sink_of};
-use comfy_csv::{Look, Options, draw};
+use comfy_csv::{Look, Options, RowSeparators, draw};
 use comfy_run::run::{FromReader, MemorySource, Settings, ToWriter, run};
 use comfy_table::ContentArrangement;
 use comfy_table::presets::ASCII_FULL;
@@ -236,11 +236,13 @@ fn options(alloc: Global, width: Option<u16>, has_sequences: bool) -> Options {
         left: Vec::new(alloc),
         look: Look {
             style: ASCII_FULL,
+            separators: RowSeparators::Styled,
             width,
             fills_width: false,
             max_height: None,
             has_bold_header: false,
             has_sequences,
+            keeps_bidi: false,
             is_raw: false,
             is_markdown: false,
         },

@@ -3,8 +3,8 @@ use Rattle.csv.specs.Records.{fields_of}
 use Rattle.comfy_csv_parts.proofs.ColumnLemmas.{found_at, not_at}
 use Rattle.comfy_csv_parts.proofs.columns.position_named.Goals as goal
 
-pub returns-then-is_named_at : goal.returns-then-is_named_at
-returns-then-is_named_at c =
+pub returns-then-is_named_at-clause-value : goal.returns-then-is_named_at-clause-value
+returns-then-is_named_at-clause-value c =
     sym (found_at c.args.name.now c.loop-position.position (fields_of c.args.names.now) c.loop-position.position (sym c.is_named_at.ensures ∙ c.if-is_named_at.true)) ∙ c.loop-position.invariant
 
 pub loop-position-preserved : goal.loop-position-preserved

@@ -3,5 +3,5 @@ use Rattle.csv.specs.Records.{fields_of}
 use Rattle.comfy_csv_parts.specs.Columns.{positions_of}
 use Rattle.comfy_csv_parts.proofs.columns.positions_of.Given as goal
 
-abbrev pub invariant-loop-choice : goal.invariant-loop-choice
-invariant-loop-choice l = positions_of (fields_of l.names) l.count (take l.choice-index l.choices) ≡ Ok l.positions.items
+abbrev pub invariant-loop-word : goal.invariant-loop-word
+invariant-loop-word l = positions_of (fields_of l.names) l.count (take l.word-index l.words) ≡ Ok l.positions.items

@@ -1,25 +1,27 @@
-use Rattle.std.proofs.Common.{◌≡◌, ◌++◌, ◌∷◌, [], ℕ, List, ap, map, string_bytes, sym, ◌∙◌, append-nil, rules}
-use Rattle.std.proofs.lemmas.Iterator.{YieldsList-from_chars}
-use Rattle.std.proofs.lemmas.Iterator.Consumers.{YieldsList-end}
-use Rattle.std.proofs.lemmas.List.{map-id}
-use Rattle.std.proofs.lemmas.List.Concat.{flat_map-append}
-use Rattle.std.proofs.lemmas.Str.{encodes-append}
+use Rattle.std.proofs.Common.{◌≡◌, ◌++◌, ◌∷◌, [], ℕ, List, Some, ap, chars, rules, slice_get, string_bytes, sym, ◌∙◌, append_assoc, append-nil}
+use Rattle.std.proofs.lemmas.Str.{chars-nil, chars_past_char, encodes-append}
 use Rattle.std.specs.Str.{encode_utf8_all}
-use Rattle.std.specs.Str.Iter.{chars_rest}
-use Rattle.comfy_csv_parts.specs.Markdown.{escaped, escaped_character}
+use Rattle.comfy_csv_parts.specs.Markdown.{escaped_after, escaped_character}
 use Rattle.comfy_csv_parts.proofs.markdown.escaped.Goals as goal
-
-more : (had : List ℕ) (c : ℕ) → encode_utf8_all (escaped (map (λ (x : ℕ). x) (had ++ c ∷ []))) ≡ encode_utf8_all (escaped (map (λ (x : ℕ). x) had)) ++ encode_utf8_all (escaped_character c)
-more had c =
-    rw (map-id (had ++ c ∷ []), map-id had) (ap encode_utf8_all (flat_map-append escaped_character had (c ∷ []) ∙ ap (λ (t : List ℕ). escaped had ++ t) (append-nil (escaped_character c))) ∙ encodes-append (escaped had) (escaped_character c))
 
 pub loop-c-preserved : goal.loop-c-preserved
 loop-c-preserved c =
-    let pushed : string_bytes c.push_escaped.new.cell ≡ string_bytes c.loop-c.cell ++ encode_utf8_all (escaped_character c.in-Some.c) = search rules in
-    pushed ∙ ap (λ (t : List ℕ). t ++ encode_utf8_all (escaped_character c.in-Some.c)) c.loop-c.invariant ∙ sym (more c.loop-c.yielded c.in-Some.c)
+    let had = string_bytes c.loop-c.cell in
+    let behind = chars c.in-Some.behind.now in
+    let found : chars c.loop-c.rest.now ≡ c.in-Some.c ∷ behind = chars_past_char c.loop-c.rest.now c.in-Some.behind.now c.in-Some.c c.loop-c.invariant.utf8 c.in-Some.ensures.some in
+    let first : c.first.result ≡ slice_get behind 0 = search rules in
+    let more = escaped_character c.loop-c.before c.in-Some.c (slice_get behind 0) in
+    let pushed : string_bytes c.push_escaped.new.cell ≡ had ++ encode_utf8_all more = c.in_ok-push_escaped.ensures ∙ ap (λ a. had ++ encode_utf8_all (escaped_character c.loop-c.before c.in-Some.c a)) first in
+    record {
+      utf8 = search rules;
+      whole = ap (λ (t : List ℕ). t ++ encode_utf8_all (escaped_after (Some c.in-Some.c) behind)) pushed
+          ∙ append_assoc had (encode_utf8_all more) (encode_utf8_all (escaped_after (Some c.in-Some.c) behind))
+          ∙ ap (λ (t : List ℕ). had ++ t) (sym (encodes-append more (escaped_after (Some c.in-Some.c) behind)))
+          ∙ ap (λ (cs : List ℕ). had ++ encode_utf8_all (escaped_after c.loop-c.before cs)) (sym found)
+          ∙ c.loop-c.invariant.whole;
+    }
 
 pub returns : goal.returns
 returns c =
-    let cut = YieldsList-from_chars c.args.text.now c.utf8.text (ap chars_rest c.into_iter-c-iterator.ensures.into_iter_gives ∙ c.chars-c-items.ensures.rest) in
-    let all = YieldsList-end cut c.loop-c.yielded _ c.loop-c.yielded_by _ _ c.in-None.is c.next.ensures.steps in
-    c.loop-c.invariant ∙ ap (λ (t : List ℕ). encode_utf8_all (escaped t)) all.0
+    let none : chars c.loop-c.rest.now ≡ [] = ap chars (search rules) ∙ chars-nil in
+    sym (append-nil (string_bytes c.loop-c.cell)) ∙ ap (λ (cs : List ℕ). string_bytes c.loop-c.cell ++ encode_utf8_all (escaped_after c.loop-c.before cs)) (sym none) ∙ c.loop-c.invariant.whole

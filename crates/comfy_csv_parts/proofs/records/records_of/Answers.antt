@@ -1,6 +1,6 @@
-use Rattle.std.proofs.Common.{Bor, arith, List, ℕ, ◌≡◌, ◌∙◌, sym, refl, rules, inl, inr, true, map, length, Some, ◌∷◌, []}
+use Rattle.std.proofs.Common.{Bor, arith, List, ℕ, ◌≡◌, ◌∙◌, sym, refl, rules, inl, inr, true, map, Some, ◌∷◌, []}
 use Rattle.std.specs.Result.{is_ok}
-use Rattle.std.proofs.lemmas.List.{length-map, map-append}
+use Rattle.std.proofs.lemmas.List.{map-append}
 use Rattle.csv.specs.Reading.{Reached, strip_bom}
 use Rattle.csv.specs.Records.{fields_of}
 use Rattle.csv.specs.declared.parser.State.TheVariants as st
@@ -21,8 +21,8 @@ loop-record-init c =
       inr (inr (rw (c.flexible.ensures, c.has_headers.ensures) at fr.has_headers, fr.headers)),
       left,
       rw (c.flexible.ensures, c.has_headers.ensures, c.delimiter.ensures, c.new.ensures.config) at fr.config,
-      strip_bom c.args.input.now,
-      fr.source,
+      strip_bom c.args.text.now,
+      rw c.as_bytes.ensures.value at fr.source,
       (sym fr.state, refl),
       λ k d h. absurd (omega arith),
     )
@@ -34,7 +34,7 @@ loop-record-preserved c =
     let good : is_ok c.push.result ≡ true = search rules in
     let items = rw good at c.push.ensures.items in
     let fields = fields_of c.in-Ok.record in
-    let m = rows-more (λ (s : Bor (List ℕ)). Some s.now) c.loop-record.record-iterator.rdr c.next.new.self.rdr fields (config_for c.args.delimiter) st.StartRecord (strip_bom c.args.input.now) inv.4 (map fields_of c.loop-record.records.items) inv.3 inv.5 inv.6 s.0 in (
+    let m = rows-more (λ (s : Bor (List ℕ)). Some s.now) c.loop-record.record-iterator.rdr c.next.new.self.rdr fields (config_for c.args.delimiter) st.StartRecord (strip_bom c.args.text.now) inv.4 (map fields_of c.loop-record.records.items) inv.3 inv.5 inv.6 s.0 in (
       s.0.3 ∙ inv.0,
       inl s.1,
       s.3,
@@ -59,5 +59,4 @@ returns-in-Err-clause-refused c =
     let inv = c.loop-record.invariant in
     let rows = map fields_of c.loop-record.records.items in
     let s = rw (c.in-Some.is, c.in-Err.is) at ((c.next.ensures.steps inv.2 inv.0).0 inv.1) in
-    let counted : length rows ≡ c.len.result = grind (arith, length-map) in
-    refused (λ (s : Bor (List ℕ)). Some s.now) c.loop-record.record-iterator.rdr c.next.new.self.rdr c.args.delimiter c.args.input.now inv.4 rows c.in-Err.error.kind c.len.result c.refusal_of.result inv.3 inv.5 inv.6 inv.7 counted s c.refusal_of.ensures
+    refused (λ (s : Bor (List ℕ)). Some s.now) c.loop-record.record-iterator.rdr c.next.new.self.rdr c.args.delimiter c.args.text.now inv.4 rows c.in-Err.error.kind c.refusal_of.result c.utf8.text inv.3 inv.5 inv.6 inv.7 s c.refusal_of.ensures

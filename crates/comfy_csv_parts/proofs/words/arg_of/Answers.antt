@@ -1,48 +1,41 @@
 use Rattle.std.proofs.Common.{◌≡◌, ◌≢◌, ◌∙◌, Some, ap, refl, sym}
-use Rattle.std.proofs.lemmas.Result.{IfOk-weaker}
 use Rattle.clap.specs.Words.{Rule, new_rule, rule_of}
 use Rattle.clap.specs.declared.builder.action.ArgAction.TheVariants.{SetTrue}
 use Rattle.comfy_parts.specs.Text.{Text}
 use Rattle.comfy_csv_parts.specs.Program.{bare}
-use Rattle.comfy_csv_parts.specs.Rules.{lettered, of_kind, with_values}
+use Rattle.comfy_csv_parts.specs.Rules.{lettered, of_kind, rule_for, with_values}
 use Rattle.comfy_csv_parts.specs.declared.words.Kind.{Kind}
 use Rattle.comfy_csv_parts.specs.declared.words.Kind.TheVariants as kind
 use Rattle.comfy_csv_parts.proofs.words.arg_of.Goals as goal
 
-valued : (k : Kind) (name : Text) (rule : Rule) → k ≢ kind.File → k ≢ kind.Flag → k ≢ kind.Markdown
-    → with_values k (bare (record rule { long = Some name; value_names = 1 })) ≡ bare (of_kind k name rule)
-valued kind.File name rule no_file no_flag no_markdown = absurd (no_file refl)
-valued kind.Flag name rule no_file no_flag no_markdown = absurd (no_flag refl)
-valued kind.Markdown name rule no_file no_flag no_markdown = absurd (no_markdown refl)
-valued kind.Text name rule no_file no_flag no_markdown = refl
-valued kind.Width name rule no_file no_flag no_markdown = refl
-valued kind.Count name rule no_file no_flag no_markdown = refl
-valued kind.Style name rule no_file no_flag no_markdown = refl
-valued kind.Color name rule no_file no_flag no_markdown = refl
+valued : (k : Kind) (name : Text) (rule : Rule) → k ≢ kind.File → k ≢ kind.Flag
+    → bare (record rule { long = Some name; value_names = 1 }) ≡ bare (of_kind k name rule)
+valued kind.File name rule no_file no_flag = absurd (no_file refl)
+valued kind.Flag name rule no_file no_flag = absurd (no_flag refl)
+valued kind.Text name rule no_file no_flag = refl
+valued kind.Width name rule no_file no_flag = refl
+valued kind.Count name rule no_file no_flag = refl
+valued kind.Style name rule no_file no_flag = refl
+valued kind.When name rule no_file no_flag = refl
 
 pub returns-in-File : goal.returns-in-File
+unfolding rule_for
 returns-in-File c =
     let word = c.args.word.now in
     let begun = c.with_letter-arg.ensures ∙ ap (λ a. lettered word.letter (rule_of a)) c.help.ensures ∙ ap (lettered word.letter) c.new.ensures.rule in
     ap (λ a. bare (rule_of a)) c.value_name.ensures ∙ ap (λ (rule : Rule). bare (record rule { value_names = 1 })) begun
-    ∙ ap (λ k. bare (of_kind k word.name.now (lettered word.letter (new_rule word.name.now)))) (sym c.in-File.is)
+    ∙ ap (λ k. with_values k (bare (of_kind k word.name.now (lettered word.letter (new_rule word.name.now))))) (sym c.in-File.is)
 
 pub returns-in-Flag : goal.returns-in-Flag
+unfolding rule_for
 returns-in-Flag c =
     let word = c.args.word.now in
     let begun = c.with_letter-arg.ensures ∙ ap (λ a. lettered word.letter (rule_of a)) c.help.ensures ∙ ap (lettered word.letter) c.new.ensures.rule in
     ap bare c.flag.ensures ∙ ap (λ (rule : Rule). bare (record rule { long = Some word.name.now; action = Some SetTrue })) begun
-    ∙ ap (λ k. bare (of_kind k word.name.now (lettered word.letter (new_rule word.name.now)))) (sym c.in-Flag.is)
-
-pub returns-in-Markdown : goal.returns-in-Markdown
-returns-in-Markdown c =
-    let word = c.args.word.now in
-    let begun = c.with_letter-arg.ensures ∙ ap (λ a. lettered word.letter (rule_of a)) c.help.ensures ∙ ap (lettered word.letter) c.new.ensures.rule in
-    let flag = ap bare c.flag-in-Markdown.ensures ∙ ap (λ (rule : Rule). bare (record rule { long = Some word.name.now; action = Some SetTrue })) begun
-    ∙ ap (λ k. bare (of_kind k word.name.now (lettered word.letter (new_rule word.name.now)))) (sym c.in-Markdown.is) in
-    IfOk-weaker c.conflicts_with.result _ _ (λ arg added. ap (λ a. bare (rule_of a)) added.0 ∙ flag) c.conflicts_with.ensures
+    ∙ ap (λ k. with_values k (bare (of_kind k word.name.now (lettered word.letter (new_rule word.name.now))))) (sym c.in-Flag.is)
 
 pub returns-in_default : goal.returns-in_default
+unfolding rule_for
 returns-in_default c =
     let word = c.args.word.now in
     let begun = c.with_letter-arg.ensures ∙ ap (λ a. lettered word.letter (rule_of a)) c.help.ensures ∙ ap (lettered word.letter) c.new.ensures.rule in
@@ -50,4 +43,4 @@ returns-in_default c =
     ∙ ap (λ a. with_values word.kind (bare (rule_of a))) (c.value_name-in_default.ensures)
     ∙ ap (λ a. with_values word.kind (bare (record (rule_of a) { value_names = 1 }))) c.long.ensures
     ∙ ap (λ (rule : Rule). with_values word.kind (bare (record rule { long = Some word.name.now; value_names = 1 }))) begun
-    ∙ valued word.kind word.name.now (lettered word.letter (new_rule word.name.now)) c.in_default.not-File c.in_default.not-Flag c.in_default.not-Markdown
+    ∙ ap (with_values word.kind) (valued word.kind word.name.now (lettered word.letter (new_rule word.name.now)) c.in_default.not-File c.in_default.not-Flag)

@@ -17,5 +17,5 @@ then_some P Q (Err e) o is gives own = subst (λ o. IfSome o Q) (sym is) tt
 pub returns : goal.returns
 returns c =
     let asked = c.in_ok-asked.asked in
-    let is = of_ok _ c.asked_of.result asked c.in_ok-asked.ensures.value c.asked_of.ensures in
+    let is = of_ok _ c.asked_of.result asked c.in_ok-asked.ensures.value c.asked_of.ensures.ok in
     then_some _ _ c.output_for.result c.ok-2.result c.ok-2.ensures.value (λ sink made. c.outputs_hold_no_controls.ensures.asked _ c.args.surroundings asked c.args.input.now _ is c.if-asked.false made) c.output_for.ensures

@@ -1,0 +1,49 @@
+-- The styles that words name.
+use Rattle.std.specs.Prelude.{Bool, true, ◌||◌, List, [], ◌∷◌, ◌++◌, Option, Some, None, codes, find, map, option_map, unwrap_or, if◌then◌else◌}
+use Rattle.std.specs.Option.{option_or}
+use Rattle.std.specs.Str.{str_eq_ignore_ascii_case}
+use Rattle.comfy_parts.specs.Presets.{ascii_full, ascii_markdown, named_presets, nothing, utf8_full}
+use Rattle.comfy_parts.specs.StyleModifiers.{with_rounded_corners}
+use Rattle.comfy_parts.specs.Text.{Text}
+use Rattle.comfy_parts.specs.declared.style.table_style.TableStyle.{TableStyle}
+
+-- a word is this name, in any case of letters
+abbrev pub is_named : Text → Text → Bool
+is_named name word = str_eq_ignore_ascii_case name word
+
+-- the style without a name
+abbrev pub compact_style : TableStyle
+compact_style = with_rounded_corners utf8_full
+
+-- the program's own names, and their styles
+abbrev pub own_styles : List (Text × TableStyle)
+own_styles =
+    (codes "rounded", compact_style)
+    ∷ (codes "box", utf8_full)
+    ∷ (codes "grid", compact_style)
+    ∷ (codes "ascii", ascii_full)
+    ∷ (codes "plain", nothing)
+    ∷ (codes "markdown", ascii_markdown)
+    ∷ []
+
+-- the names that a style may have
+abbrev pub style_names : List Text
+style_names = map (λ entry. entry.0) own_styles ++ map (λ entry. entry.0) named_presets
+
+-- the style of the first of these names that a word is
+abbrev pub style_within : List (Text × TableStyle) → Text → Option TableStyle
+style_within styles word = option_map (λ entry. entry.1) (find (λ entry. is_named entry.0 word) styles)
+
+-- the style of a name
+abbrev pub named_style : Text → TableStyle
+named_style word = unwrap_or (option_or (style_within own_styles word) (style_within named_presets word)) utf8_full
+
+-- the style that is asked for: that of Markdown, or of a name, `rounded` without one
+abbrev pub style_for : Option Text → Bool → TableStyle
+style_for None is_markdown = if is_markdown then ascii_markdown else compact_style
+style_for (Some word) is_markdown = if is_markdown then ascii_markdown else named_style word
+
+-- the name of a style that has lines between rows only where a row has more than one line
+abbrev pub is_compact : Option Text → Bool
+is_compact None = true
+is_compact (Some word) = is_named (codes "rounded") word || is_named (codes "box") word
