@@ -95,6 +95,7 @@ build csvtable -w 60 data/ledger.csv
 refuse csvtable "$crates/csvtable/data/ledger.csv" 'csvtable: out of memory'
 refuse csvtable "$crates/csvtable/data/ledger.csv" 'csvtable: out of memory' -w 40 -c 2,1 --right 1 --limit 1 --rows
 refuse csvtable "$crates/csvtable/data/ledger.csv" 'csvtable: out of memory' -c 2,1 --right 1 --limit 1 --markdown
+refuse csvtable "$crates/csvtable/data/ledger.csv" 'csvtable: out of memory' -x -w 30 --limit 1
 build test_cases
 awk '/^case\theight-(0-is-1-line|with-an-indicator-of-three-dots)$/, /^end$/' "$crates/test_cases/stdin" > "$work/two.cases"
 refuse test_cases "$work/two.cases" 'Error: out of memory'

@@ -157,6 +157,11 @@ def endings():
 def texts():
     status, out, _ = run("-n", text="%s\n" % ("x" * 300))
     see("a text of 300 letters", status == 0 and widest(out) == 80, out)
+    text = ",".join(f"column {n}" for n in range(30)) + "\n" + ",".join(f"text {n}" for n in range(30)) + "\n"
+    status, out, _ = run(text=text)
+    see("a file of 30 columns", status == 0 and out.startswith("record 1 of 1") and widest(out) == 23, out)
+    status, out, _ = run("--expanded", "never", text=text)
+    see("30 columns in rows", status == 0 and "record" not in out and widest(out) == 121, out)
     status, out, _ = run("--markdown", text="a,b\n" + "x,%s\n" % ("y" * 100) * 3, COLUMNS="20")
     see("Markdown where COLUMNS is 20", status == 0 and out.count("\n") == 5, out)
     for words in ([], ["--ansi"]):

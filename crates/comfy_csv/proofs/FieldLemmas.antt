@@ -1,7 +1,8 @@
 -- Fields of printable ASCII are drawn as printable ASCII.
-use Rattle.std.proofs.Common.{◌≡◌, ℕ, ◌==◌, ◌&&◌, Bool, true, false, List, [], ◌∷◌, Option, Some, None, slice_get, All, arith, encode_utf8_all, refl, sym, ap, ap₂, ◌∙◌, subst, tests}
+use Rattle.std.proofs.Common.{◌≡◌, ℕ, zero, suc, ◌+◌, ◌≤◌, ◌/◌, ◌%◌, ◌==◌, ◌&&◌, decimal, length, Bool, true, false, List, [], ◌∷◌, Option, Some, None, slice_get, All, arith, encode_utf8_all, refl, sym, ap, ap₂, ◌∙◌, subst, tests}
 use Rattle.std.specs.Int.{is_in_range}
-use Rattle.std.specs.List.{list_any}
+use Rattle.std.specs.Fmt.{digit_glyph, digits, digits_onto}
+use Rattle.std.specs.List.{list_all, list_any}
 use Rattle.std.specs.Prelude.{if◌then◌else◌}
 use Rattle.std.proofs.lemmas.Bool.{and_parts}
 use Rattle.std.proofs.lemmas.List.Elements.{All-cons, All-nil}
@@ -11,6 +12,8 @@ use Rattle.std.proofs.lemmas.Str.{chars-IsAscii, encodes-IsAscii}
 use Rattle.comfy_parts.proofs.CallerLemmas.{All-none, IsUtf8-printable, ascii-printable}
 use Rattle.comfy_parts.specs.CellValue.{plain_cell}
 use Rattle.comfy_parts.specs.Text.{Text, is_printable_ascii}
+use Rattle.comfy_parts.specs.VisibleText.{is_parameter}
+use Rattle.comfy_table.proofs.StyledLemmas.{decimal-parameters}
 use Rattle.comfy_csv_parts.proofs.CleaningLemmas.{drawn_so, none_replaced}
 use Rattle.comfy_csv_parts.specs.Cells.{field_text, kept_by, kept_for_markdown, marked}
 use Rattle.comfy_csv_parts.specs.Cleaning.{cleaned}
@@ -57,6 +60,37 @@ one_line text printable =
     let whole : (plain_cell text).text_lines ≡ text ∷ [] = slice_split_none (λ b. b == 0x0A) text (All-none (λ b. b == 0x0A) text (none_pass (λ b. b == 0x0A) no_break text printable)) in
     subst (All (λ (line : Text). is_printable_ascii line ≡ true)) (sym whole) (All-cons (λ (line : Text). is_printable_ascii line ≡ true) text [] printable (All-nil (λ (line : Text). is_printable_ascii line ≡ true)))
 
+-- ---- numbers
+
+-- a number is printable
+parameter_is_printable : (c : ℕ) → is_parameter c ≡ true → is_printable c ≡ true
+parameter_is_printable c is = grind (arith, tests)
+
+parameters_are_printable : (code : Text) → list_all is_parameter code ≡ true → is_printable_ascii code ≡ true
+parameters_are_printable [] all = refl
+parameters_are_printable (c ∷ cs) all =
+    let both = and_parts (is_parameter c) (list_all is_parameter cs) all in
+    ap₂ (λ a b. a && b) (parameter_is_printable c both.0) (parameters_are_printable cs both.1)
+
+pub number_is_printable : (n : ℕ) → is_printable_ascii (decimal n) ≡ true
+number_is_printable n = parameters_are_printable (decimal n) (decimal-parameters n)
+
+-- it has at most 64 digits
+digits_are_few : (k n : ℕ) (acc : Text) → length (digits_onto k 10 false n acc) ≤ k + length acc
+digits_are_few zero n acc = omega arith
+digits_are_few (suc k) n acc = by_test (n / 10 == 0) (digits_are_few k (n / 10) (digit_glyph false (n % 10) ∷ acc))
+  where
+    by_test : (b : Bool) → length (digits_onto k 10 false (n / 10) (digit_glyph false (n % 10) ∷ acc)) ≤ k + length (digit_glyph false (n % 10) ∷ acc)
+        → length (if b then digit_glyph false (n % 10) ∷ acc else digits_onto k 10 false (n / 10) (digit_glyph false (n % 10) ∷ acc)) ≤ suc k + length acc
+    by_test true rest = omega arith
+    by_test false rest = omega (arith, rest)
+
+pub number_is_short : (n : ℕ) → length (decimal n) ≤ 64
+unfolding digits
+number_is_short n = let few = digits_are_few 64 n [] in omega (arith, few)
+
+-- ---- fields
+
 pub fields_stay : (look : Look) (field : Text) → PrintableFieldsStay look field
 fields_stay look field printable = one_line (field_text look field) (by_flags look.is_markdown look.is_raw)
   where
@@ -67,3 +101,24 @@ fields_stay look field printable = one_line (field_text look field) (by_flags lo
     by_flags true is_raw = marked_stays (cleaned (kept_for_markdown look) field) (clean (kept_for_markdown look))
     by_flags false true = printable
     by_flags false false = clean (kept_by look)
+
+-- a number is drawn as it is, where it isn't for Markdown
+pub number_lines : (look : Look) → look.is_markdown ≡ false → (n : ℕ) → All (λ text. (is_printable_ascii text ≡ true) × (length text ≤ 64)) (plain_cell (field_text look (decimal n))).text_lines
+number_lines look none n =
+    subst (λ (text : Text). All Is (plain_cell text).text_lines) (sym same) (subst (All Is) (sym whole) (All-cons Is (decimal n) [] (printable, number_is_short n) (All-nil Is)))
+  where
+    Is : Text → Type 0
+    Is text = (is_printable_ascii text ≡ true) × (length text ≤ 64)
+
+    printable : is_printable_ascii (decimal n) ≡ true
+    printable = number_is_printable n
+
+    whole : (plain_cell (decimal n)).text_lines ≡ decimal n ∷ []
+    whole = slice_split_none (λ b. b == 0x0A) (decimal n) (All-none (λ b. b == 0x0A) (decimal n) (none_pass (λ b. b == 0x0A) no_break (decimal n) printable))
+
+    by_raw : (is_raw : Bool) → (if is_raw then decimal n else cleaned (kept_by look) (decimal n)) ≡ decimal n
+    by_raw true = refl
+    by_raw false = sym (drawn_so (kept_by look) (decimal n) (IsUtf8-printable (decimal n) printable) (none_replaced (kept_by look) (decimal n) printable))
+
+    same : field_text look (decimal n) ≡ decimal n
+    same = rw none (by_raw look.is_raw)

@@ -1,10 +1,16 @@
 pub mod BuiltLemmas
 pub mod FieldLemmas
 pub mod LineLemmas
+pub mod MarkdownDrawingLemmas
+pub mod MarkdownLineLemmas
+pub mod MarkdownPartLemmas
+pub mod MarkdownRowLemmas
+pub mod MarkdownWidthLemmas
 pub mod OutputControlLemmas
+pub mod OutputLemmas
 pub mod PrintableTableLemmas
 pub mod RowLemmas
 pub mod RunLemmas
 pub mod SeparatorLemmas
 pub mod StraightLemmas
-pub mod TableLemmas
+pub mod TextTableLemmas

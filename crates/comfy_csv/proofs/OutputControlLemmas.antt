@@ -1,44 +1,47 @@
 -- Nothing harmful is visible of an output: its fields, its style, its indicator and its last line hold no control character.
-use Rattle.std.proofs.Common.{◌≡◌, ◌<◌, ℕ, Bool, true, false, List, [], ◌∷◌, ◌++◌, Option, Some, None, Ok, arith, codes, decimal, length, nat_lt, refl, unwrap_or, sym, ap, ◌∙◌, subst, tests, append_assoc, append-nil}
+use Rattle.std.proofs.Common.{◌≡◌, ◌<◌, ◌==◌, ◌&&◌, ℕ, zero, suc, ◌+◌, Bool, true, false, List, [], ◌∷◌, ◌++◌, Contains, Option, Some, None, arith, codes, decimal, flat_map, length, nat_lt, refl, unwrap_or, sym, ap, ap₂, ◌∙◌, subst, tests, append_assoc, append-nil, zip}
 use Rattle.std.proofs.lemmas.Bool.{and_parts, or_parts}
-use Rattle.std.proofs.lemmas.List.Folds.{list_any_none}
-use Rattle.std.proofs.lemmas.List.Elements.{All-cons, All-head, All-map, All-nil, All-tail, All-weaker}
+use Rattle.std.proofs.lemmas.List.Folds.{list_all-append, list_any_none}
+use Rattle.std.proofs.lemmas.List.Elements.{All-cons, All-contains, All-head, All-map, All-nil, All-tail, All-weaker}
 use Rattle.std.proofs.lemmas.Str.{NoCharPasses-append, NoCharPasses-nil, encode_ascii}
 use Rattle.std.specs.Char.{is_control}
-use Rattle.std.specs.List.{All, list_all, list_any}
+use Rattle.std.specs.Int.{is_in_range}
+use Rattle.std.specs.List.{All, list_any, range_with_len, repeat}
 use Rattle.std.specs.Prelude.{if◌then◌else◌}
 use Rattle.std.specs.Str.{IsUtf8, NonePass}
 use lib.Utf8.{encode}
-use Rattle.comfy_parts.proofs.CallerLemmas.{Shows-byte, Shows-visible, none_by_characters}
+use Rattle.comfy_parts.proofs.CallerLemmas.{IsUtf8-printable, Shows-byte, Shows-visible, none_by_characters}
 use Rattle.comfy_parts.specs.CellValue.{CellValue, RowValue}
 use Rattle.comfy_parts.specs.Columns.{style_characters}
-use Rattle.comfy_parts.specs.Text.{Text}
+use Rattle.comfy_parts.specs.Text.{Text, is_printable_ascii}
 use Rattle.comfy_parts.specs.declared.style.table_style.TableStyle.{TableStyle}
-use Rattle.comfy_parts.specs.VisibleText.{is_parameter, visible_text}
+use Rattle.comfy_parts.specs.VisibleText.{visible_text}
 use Rattle.comfy_table.proofs.BuiltTableLemmas.{measured_known}
 use Rattle.comfy_table.proofs.MeasuredLemmas.{IsRowOf, row_measured}
-use Rattle.comfy_table.proofs.StyledLemmas.{decimal-parameters}
 use Rattle.comfy_table.specs.Drawing.{terminated_text_of}
 use Rattle.comfy_table.specs.Laws.{HasNoControl, IsFreeOfControls}
-use Rattle.comfy_table.specs.TableValue.{TableValue, ellipsis, visible_cell}
+use Rattle.comfy_table.specs.TableValue.{TableValue, ellipsis, max_content_widths, visible_cell}
 use Rattle.clap.specs.Words.{first_value}
 use Rattle.csv.specs.Records.{AllText}
-use Rattle.comfy_csv_parts.proofs.FieldControlLemmas.{field-harmless, visible-harmless}
+use Rattle.comfy_csv_parts.proofs.FieldControlLemmas.{field-harmless}
 use Rattle.comfy_csv_parts.proofs.StyleLemmas.{styles_without_controls}
 use Rattle.comfy_csv_parts.proofs.TextLineLemmas.{lines_without_controls}
-use Rattle.comfy_csv_parts.specs.Cells.{cells_for, field_text, header_for, row_for}
+use Rattle.comfy_csv_parts.specs.Cells.{field_text}
 use Rattle.comfy_csv_parts.specs.Cleaning.{visible_of}
 use Rattle.comfy_csv_parts.specs.Controls.{HasNoStrayControl, IsStyleWithoutControls, is_stray_control}
+use Rattle.comfy_csv_parts.specs.Markdown.{is_right, rule_line, rule_part}
 use Rattle.comfy_csv_parts.specs.declared.arguments.Asked.{Asked}
 use Rattle.comfy_csv_parts.specs.declared.arguments.Surroundings.{Surroundings}
 use Rattle.comfy_csv_parts.specs.declared.options.DrawnColumn.{DrawnColumn}
 use Rattle.comfy_csv_parts.specs.declared.options.Look.{Look}
 use Rattle.comfy_csv_parts.specs.declared.options.Options.{Options}
-use Rattle.comfy_csv.proofs.BuiltLemmas.{Built, MakesRow, built}
+use Rattle.comfy_csv.proofs.BuiltLemmas.{Built, EachOf, each_content}
+use Rattle.comfy_csv.proofs.FieldLemmas.{number_is_printable}
+use Rattle.comfy_csv.proofs.LineLemmas.{drawn, with_lines}
 use Rattle.comfy_csv.proofs.SeparatorLemmas.{condensed-all}
-use Rattle.comfy_csv.proofs.LineLemmas.{EachLine, cells_each}
-use Rattle.comfy_csv.specs.Drawn.{condensed_style, empty_table, note_for, row_count, separated, table_for}
-use Rattle.comfy_csv.specs.Laws.{AskedOutputHoldsNoControls, InputIsDrawnWithoutControls, IsLookWithoutControls, OutputHoldsNoControls}
+use Rattle.comfy_csv.proofs.TextTableLemmas.{EachLine, MakesRows, cells_each, pair_each, rows_of_texts, table_of_texts}
+use Rattle.comfy_csv.specs.Drawn.{ContentValue, IsMarkdownText, IsOutputOf, IsTableText, IsText, below_first, condensed_style, empty_table, markdown_content, markdown_look, markdown_table, note_for, output_table, record_line, rows_table, separated}
+use Rattle.comfy_csv.specs.Laws.{AskedOutputHoldsNoControls, HasLines, InputIsDrawnWithoutControls, IsLookWithoutControls, IsOutputWith, OutputHoldsNoControls}
 
 -- ---- rows
 
@@ -50,7 +53,7 @@ IsClearLine keeps line = HasNoControl (visible_of keeps line)
 abbrev IsClearRow : Bool → RowValue → Type 0
 IsClearRow keeps row = All (λ (cell : CellValue). All (IsClearLine keeps) cell.text_lines) row.cells
 
-text_fields : (fields : List Text) → AllText fields → All IsUtf8 fields
+pub text_fields : (fields : List Text) → AllText fields → All IsUtf8 fields
 unfolding AllText
 text_fields [] text = All-nil IsUtf8
 text_fields (field ∷ fields) text = All-cons IsUtf8 field fields text.0 (text_fields fields text.1)
@@ -59,19 +62,20 @@ empty_line : (keeps : Bool) → IsClearLine keeps []
 empty_line true = NoCharPasses-nil is_control
 empty_line false = NoCharPasses-nil is_control
 
-clear_rows : (look : Look) (columns : List DrawnColumn) (fields : List Text) → look.is_raw ≡ false → AllText fields
-    → IsClearRow look.has_sequences (header_for look columns fields) × IsClearRow look.has_sequences (row_for look columns fields)
-clear_rows look columns fields tidy text = (cells look.has_bold_header, cells false)
-  where
-    keeps : Bool
-    keeps = look.has_sequences
+clear_rows : (look : Look) → MakesRows (IsClearLine look.has_sequences) (empty_line look.has_sequences) look (IsClearRow look.has_sequences)
+clear_rows look =
+    let keeps = look.has_sequences in
+    record {
+      header = λ columns fields each. cells_each (IsClearLine keeps) (empty_line keeps) look look.has_bold_header columns fields each;
+      row = λ columns fields each. cells_each (IsClearLine keeps) (empty_line keeps) look false columns fields each;
+      pair = λ name field own other. pair_each (IsClearLine keeps) (empty_line keeps) look name field own other;
+    }
 
-    each : All (EachLine (IsClearLine keeps) look) fields
-    each =
-        All-weaker IsUtf8 (EachLine (IsClearLine keeps) look) (λ field utf8. lines_without_controls keeps (field_text look field) (field-harmless look field tidy utf8)) fields (text_fields fields text)
+clear_field : (look : Look) → look.is_raw ≡ false → (field : Text) → IsUtf8 field → EachLine (IsClearLine look.has_sequences) look field
+clear_field look tidy field utf8 = lines_without_controls look.has_sequences (field_text look field) (field-harmless look field tidy utf8)
 
-    cells : (is_bold : Bool) → IsClearRow keeps (cells_for look is_bold columns fields)
-    cells is_bold = cells_each (IsClearLine keeps) (empty_line keeps) look is_bold columns fields each
+clear_fields : (look : Look) → look.is_raw ≡ false → (fields : List Text) → AllText fields → All (EachLine (IsClearLine look.has_sequences) look) fields
+clear_fields look tidy fields text = All-weaker IsUtf8 (EachLine (IsClearLine look.has_sequences) look) (clear_field look tidy) fields (text_fields fields text)
 
 -- such a row holds none as it is measured
 clear_measured : (keeps : Bool) (row : RowValue) → IsClearRow keeps row → IsRowOf HasNoControl (row_measured keeps row)
@@ -97,22 +101,34 @@ ellipsis_is_plain : HasNoControl ellipsis
 unfolding encode
 ellipsis_is_plain = (0x2026 ∷ [], refl, (refl, tt))
 
-free_of_controls : (options : Options) (records : List (List Text)) (table : TableValue) → IsLookWithoutControls options.look → All AllText records → table_for options records ≡ Ok table → IsFreeOfControls table
-free_of_controls options records table look text is =
-    record {
-      text_lines = measured_known base Q table known (IsRowOf HasNoControl) (clear_measured options.look.has_sequences);
-      indicator = subst HasNoControl (sym (ap (λ (t : TableValue). t.indicator) known.is)) ellipsis_is_plain;
-      characters = subst IsStyleWithoutControls (sym (ap (λ (t : TableValue). t.style) known.is)) look.style;
-    }
-  where
-    base : TableValue
-    base = empty_table options.look
+separated_without : (has : Bool) (look : Look) → IsLookWithoutControls look → IsLookWithoutControls (separated has look)
+separated_without true look is = is
+separated_without false look is = record { cleaned = is.cleaned; style = condensed_without look.style is.style }
 
-    Q : RowValue → Type 0
-    Q = IsClearRow options.look.has_sequences
+module _ (look : Look) (is : IsLookWithoutControls look) (content : ContentValue) (text : EachOf AllText content) where
+  free_of_controls : (table : TableValue) → Built look (IsClearRow look.has_sequences) content table → IsFreeOfControls table
+  free_of_controls table known =
+      record {
+        text_lines = measured_known (empty_table look) (IsClearRow look.has_sequences) table known (IsRowOf HasNoControl) (clear_measured look.has_sequences);
+        indicator = subst HasNoControl (sym (ap (λ (t : TableValue). t.indicator) known.is)) ellipsis_is_plain;
+        characters = subst IsStyleWithoutControls (sym (ap (λ (t : TableValue). t.style) known.is)) is.style;
+      }
 
-    known : Built options Q table
-    known = built options Q records table (λ columns. All-weaker AllText (MakesRow options Q columns) (λ fields own. clear_rows options.look columns fields look.cleaned own) records text) is
+  each : EachOf (All (EachLine (IsClearLine look.has_sequences) look)) content
+  each =
+      record {
+        names = λ names at. clear_fields look is.cleaned names (text.names names at);
+        rows = All-weaker AllText (All (EachLine (IsClearLine look.has_sequences) look)) (clear_fields look is.cleaned) content.rows text.rows;
+      }
+
+  free_rows : IsFreeOfControls (rows_table look content)
+  free_rows = free_of_controls (rows_table look content) (rows_of_texts (IsClearLine look.has_sequences) (empty_line look.has_sequences) look (IsClearRow look.has_sequences) (clear_rows look) content each)
+
+  free_output : (is_expanded : Bool) → IsFreeOfControls (output_table is_expanded look content)
+  free_output is_expanded =
+      free_of_controls (output_table is_expanded look content)
+      (table_of_texts (IsClearLine look.has_sequences) (empty_line look.has_sequences) look (IsClearRow look.has_sequences) (clear_rows look) content each
+      (λ at. clear_field look is.cleaned (decimal (at + 1)) (IsUtf8-printable (decimal (at + 1)) (number_is_printable (at + 1)))) is_expanded)
 
 -- ---- lines and the last line
 
@@ -141,52 +157,152 @@ after_lines (line ∷ lines) rest none more =
     (after_line line (terminated_text_of lines ++ rest) (All-head (λ (l : Text). HasNoControl (visible_text l)) line lines none)
     (after_lines lines rest (All-tail (λ (l : Text). HasNoControl (visible_text l)) line lines none) more))
 
--- what is ASCII and no control character
-parameter_is_plain : (c : ℕ) → is_parameter c ≡ true → (c < 128) × (is_stray_control c ≡ false)
-parameter_is_plain c is = (grind (arith, tests), grind (arith, tests))
+-- ---- lines of our own
 
-parameters_are_harmless : (code : Text) → list_all is_parameter code ≡ true → HasNoStrayControl code
-parameters_are_harmless [] all = NoCharPasses-nil is_stray_control
-parameters_are_harmless (c ∷ cs) all =
-    let both = and_parts (is_parameter c) (list_all is_parameter cs) all in
-    let own = parameter_is_plain c both.0 in
-    NoCharPasses-append is_stray_control (c ∷ []) cs (c ∷ [], append-nil _ ∙ encode_ascii c own.0, (own.1, tt)) (parameters_are_harmless cs both.1)
+-- a printable character is ASCII and no control character
+printable_is_plain : (c : ℕ) → is_in_range 0x20 0x7E c ≡ true → (c < 128) × (is_control c ≡ false) × ((c == 0x1B) ≡ false)
+printable_is_plain c is = (grind (arith, tests), grind (arith, tests), grind (arith, tests))
 
-number_is_harmless : (n : ℕ) → HasNoStrayControl (decimal n)
-number_is_harmless n = parameters_are_harmless (decimal n) (decimal-parameters n)
+printable_is_clear : (text : Text) → is_printable_ascii text ≡ true → HasNoControl text
+printable_is_clear [] all = NoCharPasses-nil is_control
+printable_is_clear (c ∷ cs) all =
+    let both = and_parts (is_in_range 0x20 0x7E c) (is_printable_ascii cs) all in
+    let own = printable_is_plain c both.0 in
+    NoCharPasses-append is_control (c ∷ []) cs (c ∷ [], append-nil _ ∙ encode_ascii c own.0, (own.1, tt)) (printable_is_clear cs both.1)
 
-of_is_harmless : HasNoStrayControl (codes " of ")
-unfolding encode
-of_is_harmless = (codes " of ", refl, (refl, (refl, (refl, (refl, tt)))))
+-- it is seen as it is
+shown_before : (text rest : Text) → is_printable_ascii text ≡ true → visible_text (text ++ rest) ≡ text ++ visible_text rest
+shown_before [] rest all = refl
+shown_before (c ∷ cs) rest all =
+    let both = and_parts (is_in_range 0x20 0x7E c) (is_printable_ascii cs) all in
+    (Shows-byte c (printable_is_plain c both.0).2).shows (cs ++ rest) ∙ ap (λ (t : Text). c ∷ t) (shown_before cs rest both.1)
 
-records_is_harmless : HasNoStrayControl (codes " records\n")
-unfolding encode
-records_is_harmless = (codes " records\n", refl, (refl, (refl, (refl, (refl, (refl, (refl, (refl, (refl, (refl, tt))))))))))
+printable_is_seen : (text : Text) → is_printable_ascii text ≡ true → visible_text text ≡ text
+printable_is_seen text all = ap visible_text (sym (append-nil text)) ∙ shown_before text [] all ∙ append-nil text
 
-note_is_harmless : (limit : Option ℕ) (count : ℕ) → HasNoStrayControl (note_for limit count)
-note_is_harmless None count = NoCharPasses-nil is_stray_control
-note_is_harmless (Some limit) count = by_test (nat_lt limit count)
+-- a printable line, a line feed, and what follows
+after_printable : (line rest : Text) → is_printable_ascii line ≡ true → HasNoStrayControl (visible_text rest) → HasNoStrayControl (visible_text (line ++ 0x0A ∷ rest))
+after_printable line rest all more = after_line line rest (subst HasNoControl (sym (printable_is_seen line all)) (printable_is_clear line all)) more
+
+both_printable : (xs ys : Text) → is_printable_ascii xs ≡ true → is_printable_ascii ys ≡ true → is_printable_ascii (xs ++ ys) ≡ true
+both_printable xs ys one other = list_all-append (is_in_range 0x20 0x7E) xs ys ∙ ap₂ (λ a b. a && b) one other
+
+-- `n of m`, and what stands around it
+counts_are_printable : (before after : Text) (n m : ℕ) → is_printable_ascii before ≡ true → is_printable_ascii after ≡ true → is_printable_ascii ((((before ++ decimal n) ++ codes " of ") ++ decimal m) ++ after) ≡ true
+counts_are_printable before after n m first last =
+    both_printable (((before ++ decimal n) ++ codes " of ") ++ decimal m) after
+    (both_printable ((before ++ decimal n) ++ codes " of ") (decimal m) (both_printable (before ++ decimal n) (codes " of ") (both_printable before (decimal n) first (number_is_printable n)) refl) (number_is_printable m)) last
+
+after_record_line : (n m : ℕ) (rest : Text) → HasNoStrayControl (visible_text rest) → HasNoStrayControl (visible_text (record_line n m ++ rest))
+after_record_line n m rest more =
+    let line = ((codes "record " ++ decimal n) ++ codes " of ") ++ decimal m in
+    subst (λ (t : Text). HasNoStrayControl (visible_text t)) (sym (append_assoc line (codes "\n") rest))
+    (after_printable line rest (subst (λ (t : Text). is_printable_ascii t ≡ true) (append-nil line) (counts_are_printable (codes "record ") [] n m refl refl)) more)
+
+-- the line on records that aren't drawn
+note_is_seen : (is_markdown : Bool) (limit : Option ℕ) (count : ℕ) → HasNoStrayControl (visible_text (note_for is_markdown limit count))
+note_is_seen is_markdown None count = NoCharPasses-nil is_stray_control
+note_is_seen is_markdown (Some limit) count = by_test (nat_lt limit count)
   where
-    by_test : (more : Bool) → HasNoStrayControl (if more then ((decimal limit ++ codes " of ") ++ decimal count) ++ codes " records\n" else [])
+    note : Text
+    note = ((decimal limit ++ codes " of ") ++ decimal count) ++ codes " records"
+
+    seen : HasNoStrayControl (visible_text (((decimal limit ++ codes " of ") ++ decimal count) ++ codes " records\n"))
+    seen =
+        subst (λ (t : Text). HasNoStrayControl (visible_text t)) (append_assoc ((decimal limit ++ codes " of ") ++ decimal count) (codes " records") (0x0A ∷ []))
+        (after_printable note [] (counts_are_printable [] (codes " records") limit count refl refl) (NoCharPasses-nil is_stray_control))
+
+    by_markdown : (b : Bool) → HasNoStrayControl (visible_text ((if b then codes "\n" else []) ++ (((decimal limit ++ codes " of ") ++ decimal count) ++ codes " records\n")))
+    by_markdown true = after_printable [] (((decimal limit ++ codes " of ") ++ decimal count) ++ codes " records\n") refl seen
+    by_markdown false = seen
+
+    by_test : (b : Bool) → HasNoStrayControl (visible_text (if b then (if is_markdown then codes "\n" else []) ++ (((decimal limit ++ codes " of ") ++ decimal count) ++ codes " records\n") else []))
+    by_test true = by_markdown is_markdown
     by_test false = NoCharPasses-nil is_stray_control
-    by_test true =
-        NoCharPasses-append is_stray_control ((decimal limit ++ codes " of ") ++ decimal count) (codes " records\n")
-        (NoCharPasses-append is_stray_control (decimal limit ++ codes " of ") (decimal count) (NoCharPasses-append is_stray_control (decimal limit) (codes " of ") (number_is_harmless limit) of_is_harmless) (number_is_harmless count)) records_is_harmless
 
 -- ---- outputs
 
-pub output_without_controls : (options : Options) (records : List (List Text)) (output : Text) → OutputHoldsNoControls options records output
-output_without_controls options records output look text made =
-    let lines = made.is_drawing.0 in
-    let note = note_for options.limit (row_count options.has_header (length records)) in
-    let whole : output ≡ terminated_text_of lines ++ note = made.joined ∙ ap (λ (t : Text). t ++ note) made.is_drawing.2 in
-    subst (λ (t : Text). HasNoStrayControl (visible_text t)) (sym whole)
-    (after_lines lines note (made.is_drawing.1.without_controls (by_separators made.has_separators made.is_table))
-    (visible-harmless true note (note_is_harmless options.limit (row_count options.has_header (length records)))))
+abbrev IsClear : Text → Type 0
+IsClear line = HasNoControl (visible_text line)
+
+-- a text of such lines, and what follows
+after_text : (is_expanded : Bool) (content : ContentValue) (lines : List Text) (text rest : Text) → HasLines is_expanded content lines text → All IsClear lines → HasNoStrayControl (visible_text rest) → HasNoStrayControl (visible_text (text ++ rest))
+after_text false content lines text rest is none more = subst (λ (t : Text). HasNoStrayControl (visible_text (t ++ rest))) (sym is) (after_lines lines rest none more)
+after_text true content lines text rest (parts, within, is) none more =
+    subst (λ (t : Text). HasNoStrayControl (visible_text (t ++ rest))) (sym is) (records (range_with_len 0 (length content.rows)))
   where
-    by_separators : (has : Bool) → table_for (separated has options) records ≡ Ok made.table → IsFreeOfControls made.table
-    by_separators true is = free_of_controls options records made.table look text is
-    by_separators false is = free_of_controls (separated false options) records made.table (record { cleaned = look.cleaned; style = condensed_without options.look.style look.style }) text is
+    one : ℕ → Text
+    one at = record_line (at + 1) content.count ++ terminated_text_of (parts at)
+
+    records : (places : List ℕ) → HasNoStrayControl (visible_text (flat_map one places ++ rest))
+    records [] = more
+    records (at ∷ places) =
+        let line = record_line (at + 1) content.count in
+        let part = terminated_text_of (parts at) in
+        subst (λ (t : Text). HasNoStrayControl (visible_text t)) (sym (append_assoc (one at) (flat_map one places) rest ∙ append_assoc line part (flat_map one places ++ rest)))
+        (after_record_line (at + 1) content.count (part ++ (flat_map one places ++ rest))
+        (after_lines (parts at) (flat_map one places ++ rest) (All-weaker (Contains lines) IsClear (λ l in_lines. All-contains IsClear lines l none in_lines) (parts at) (within at)) (records places)))
+
+-- an output of such lines
+output_of_clear : (options : Options) (records : List (List Text)) (output : Text) (lines : List Text) → IsOutputWith options records output lines → All IsClear lines → HasNoStrayControl (visible_text output)
+output_of_clear options records output lines made none =
+    subst (λ (t : Text). HasNoStrayControl (visible_text t)) (sym made.joined)
+    (after_text made.is_expanded made.content lines made.text _ made.has_lines none (note_is_seen options.look.is_markdown options.limit made.content.count))
+
+-- the line below a header for Markdown is clear
+part_is_printable : (column : DrawnColumn) (width : ℕ) → is_printable_ascii (rule_part (column, width)) ≡ true
+part_is_printable column width = both_printable (repeat (width + 1) (codes "-")) _ (dashes (width + 1)) (by_side (is_right column.alignment))
+  where
+    dashes : (n : ℕ) → is_printable_ascii (repeat n (codes "-")) ≡ true
+    dashes zero = refl
+    dashes (suc n) = dashes n
+
+    by_side : (b : Bool) → is_printable_ascii (if b then codes ":|" else codes "-|") ≡ true
+    by_side true = refl
+    by_side false = refl
+
+pub rule_is_printable : (columns : List DrawnColumn) (widths : List ℕ) → is_printable_ascii (rule_line columns widths) ≡ true
+rule_is_printable columns widths = parts columns widths
+  where
+    parts : (columns : List DrawnColumn) (widths : List ℕ) → is_printable_ascii (flat_map rule_part (zip columns widths)) ≡ true
+    parts [] widths = refl
+    parts (column ∷ columns) [] = refl
+    parts (column ∷ columns) (width ∷ widths) = both_printable (rule_part (column, width)) (flat_map rule_part (zip columns widths)) (part_is_printable column width) (parts columns widths)
+
+each_below_first : (P : Text → Type 0) (line : Text) (lines : List Text) → P line → All P lines → All P (below_first line lines)
+each_below_first P line [] own each = each
+each_below_first P line (first ∷ rest) own each = All-cons P first (line ∷ rest) (All-head P first rest each) (All-cons P line rest own (All-tail P first rest each))
+
+markdown_is_clear : (options : Options) (records : List (List Text)) (output : Text) → IsLookWithoutControls options.look → All AllText records → (made : IsOutputOf options records output) → IsMarkdownText options.look made.content made.text → HasNoStrayControl (visible_text output)
+unfolding AllText
+markdown_is_clear options records output look text made drawn =
+    let rule = rule_line made.content.columns (max_content_widths (markdown_table options.look made.content)) in
+    let seen = printable_is_seen rule (rule_is_printable made.content.columns _) in
+    let own = each_content AllText options records made.content made.is_content text in
+    output_of_clear options records output (below_first rule drawn.lines) (record { content = made.content; is_content = made.is_content; is_expanded = false; text = made.text; has_lines = drawn.is; joined = made.joined })
+    (each_below_first IsClear rule drawn.lines (subst HasNoControl (sym seen) (printable_is_clear rule (rule_is_printable made.content.columns _)))
+    (drawn.drawing.without_controls (free_rows (markdown_look options.look) (record { cleaned = look.cleaned; style = refl }) (markdown_content made.content) (titled made.content own))))
+  where
+    titled : (content : ContentValue) → EachOf AllText content → EachOf AllText (markdown_content content)
+    titled content own = record { names = λ names is. by_names content.names own.names names is; rows = own.rows }
+      where
+        by_names : (known : Option (List Text)) → ((n : List Text) → known ≡ Some n → AllText n) → (names : List Text) → Some (unwrap_or known []) ≡ Some names → AllText names
+        by_names None own names is = let same : [] ≡ names = cc is in subst AllText same tt
+        by_names (Some n) own names is = let same : n ≡ names = cc is in subst AllText same (own n refl)
+
+table_is_clear : (options : Options) (records : List (List Text)) (output : Text) → IsLookWithoutControls options.look → All AllText records → (made : IsOutputOf options records output) → IsTableText options.look made.content made.text → HasNoStrayControl (visible_text output)
+table_is_clear options records output look text made drawn_text =
+    let has = drawn_text.drawn.has_separators in
+    let own = each_content AllText options records made.content made.is_content text in
+    output_of_clear options records output (drawn options records output made drawn_text) (with_lines options records output made drawn_text)
+    (drawn_text.drawn.is_arranged.headline.without_controls (free_output (separated has options.look) (separated_without has options.look look) made.content own drawn_text.is_expanded))
+
+pub output_without_controls : (options : Options) (records : List (List Text)) (output : Text) → OutputHoldsNoControls options records output
+output_without_controls options records output look text made = by_markdown options.look.is_markdown made.is_text
+  where
+    by_markdown : (b : Bool) → IsText b options.look made.content made.text → HasNoStrayControl (visible_text output)
+    by_markdown true is = markdown_is_clear options records output look text made is
+    by_markdown false is = table_is_clear options records output look text made is
 
 -- records of an input are text
 pub input_without_controls : (options : Options) (input output : Text) → InputIsDrawnWithoutControls options input output

@@ -1,5 +1,5 @@
 -- Fields of printable ASCII make a table of printable ASCII.
-use Rattle.std.proofs.Common.{◌≡◌, ℕ, Bool, true, false, List, Option, Some, None, Ok, refl, ap, sym, subst, ◌∙◌, unwrap_or}
+use Rattle.std.proofs.Common.{◌≡◌, ℕ, ◌+◌, decimal, Bool, true, false, List, Option, Some, None, refl, ap, sym, subst, ◌∙◌, unwrap_or}
 use Rattle.std.specs.Int.{is_in_range}
 use Rattle.std.specs.List.{All, slice_get}
 use Rattle.std.proofs.lemmas.List.Elements.{All-weaker}
@@ -8,20 +8,19 @@ use Rattle.comfy_parts.specs.Text.{Text, is_printable_ascii}
 use Rattle.comfy_table.proofs.BuiltTableLemmas.{IsNewColumn, columns_known, rows_known}
 use Rattle.comfy_parts.proofs.CallerLemmas.{All-at, All-every, All-found}
 use Rattle.comfy_table.specs.Drawing.{infos_of}
-use Rattle.comfy_table.specs.Laws.{AddsOneColumnEachWhereWritten, HasPrintableCells, IsPrintableCell, count}
+use Rattle.comfy_table.specs.Laws.{AddsOneColumnEachWhereWritten, HasPrintableCells, IsPrintableCell, IsPrintableTable, count}
 use Rattle.comfy_table.specs.Lines.{cell_delimiter}
 use Rattle.comfy_table.specs.Pieces.{shown_infos}
 use Rattle.comfy_table.specs.TableValue.{TableValue, column_cells, measured_rows, should_style, shown_columns}
-use Rattle.comfy_csv.proofs.BuiltLemmas.{Built, MakesRow, built}
-use Rattle.comfy_csv.proofs.FieldLemmas.{fields_stay}
-use Rattle.comfy_csv.proofs.LineLemmas.{EachLine, any_built, cells_each}
-use Rattle.comfy_csv.proofs.StraightLemmas.{rows_are_default}
-use Rattle.comfy_csv_parts.specs.Cells.{header_for, row_for}
-use Rattle.comfy_csv.specs.Drawn.{empty_table, separated, table_for}
-use Rattle.comfy_csv.specs.Laws.{EachText, IsUnstyledUncut, PrintableLinesHave, PrintableTextsMakePrintableTable}
+use Rattle.comfy_csv.proofs.BuiltLemmas.{Built, EachOf, each_content, made_of}
+use Rattle.comfy_csv.proofs.FieldLemmas.{fields_stay, number_is_printable}
+use Rattle.comfy_csv.proofs.LineLemmas.{Any, any_built}
+use Rattle.comfy_csv.proofs.StraightLemmas.{IsAny, any_line, default_rows, still_unstyled}
+use Rattle.comfy_csv.proofs.TextTableLemmas.{EachLine, MakesRows, cells_each, pair_each, rows_of_texts, table_of_texts}
+use Rattle.comfy_csv.specs.Drawn.{ContentValue, content_of, empty_table, output_table, rows_table, separated}
+use Rattle.comfy_csv.specs.Laws.{IsDrawnTable, IsUnstyledUncut, PrintableLinesHave, PrintableTextsMakePrintableTable}
 use Rattle.comfy_csv_parts.specs.declared.options.Look.{Look}
 use Rattle.comfy_csv_parts.specs.declared.options.Options.{Options}
-use Rattle.comfy_csv_parts.specs.declared.options.DrawnColumn.{DrawnColumn}
 
 abbrev IsPrintable : Text → Type 0
 IsPrintable text = is_printable_ascii text ≡ true
@@ -32,17 +31,20 @@ record IsBareRow (row : RowValue) : Type 0 where
   printable : All (λ (cell : CellValue). All IsPrintable cell.text_lines) row.cells
   no_delimiter : All (λ (cell : CellValue). cell.delimiter ≡ None) row.cells
 
-bare_row : (look : Look) (columns : List DrawnColumn) (fields : List Text) → IsUnstyledUncut look → All (EachLine IsPrintable look) fields → IsBareRow (header_for look columns fields) × IsBareRow (row_for look columns fields)
-bare_row look columns fields plain each =
-    let cells = λ (is_bold : Bool). cells_each IsPrintable refl look is_bold columns fields each in
-    let same = rows_are_default look columns fields plain in (
-      record { uncut = refl; printable = cells look.has_bold_header; no_delimiter = same.0.no_delimiters },
-      record { uncut = same.1.uncut; printable = cells false; no_delimiter = same.1.no_delimiters },
-    )
+bare_rows : (look : Look) → IsUnstyledUncut look → MakesRows IsPrintable refl look IsBareRow
+bare_rows look plain =
+    let default = default_rows look plain in
+    let any = λ (fields : List Text). All-every (EachLine IsAny look) fields (any_line look) in
+    record {
+      header = λ columns fields each. record { uncut = refl; printable = cells_each IsPrintable refl look look.has_bold_header columns fields each; no_delimiter = (default.header columns fields (any fields)).no_delimiters };
+      row = λ columns fields each. record { uncut = (default.row columns fields (any fields)).uncut; printable = cells_each IsPrintable refl look false columns fields each; no_delimiter = (default.row columns fields (any fields)).no_delimiters };
+      pair = λ name field own other.
+          record { uncut = (default.pair name field (any_line look name) (any_line look field)).uncut; printable = pair_each IsPrintable refl look name field own other; no_delimiter = (default.pair name field (any_line look name) (any_line look field)).no_delimiters };
+    }
 
-module _ (options : Options) (plain : IsUnstyledUncut options.look) (table : TableValue) (known : Built options IsBareRow table) where
+module _ (look : Look) (plain : IsUnstyledUncut look) (content : ContentValue) (table : TableValue) (known : Built look IsBareRow content table) where
   abbrev base : TableValue
-  base = empty_table options.look
+  base = empty_table look
 
   rows : All IsBareRow (measured_rows table)
   rows = rows_known base IsBareRow table known plain.no_sequences
@@ -67,24 +69,45 @@ module _ (options : Options) (plain : IsUnstyledUncut options.look) (table : Tab
       All-weaker IsBareRow (λ (row : RowValue). All (AddsOneColumnEachWhereWritten table row) (shown_infos (infos_of table widths)))
       (λ row is. All-every (AddsOneColumnEachWhereWritten table row) (shown_infos (infos_of table widths)) (λ p cell h found limited. absurd (cc (is.uncut, limited)))) (measured_rows table) rows
 
+module _ (look : Look) (plain : IsUnstyledUncut look) (content : ContentValue) (each : EachOf (All (EachLine IsPrintable look)) content) where
+  of_built : (table : TableValue) (widths : List ℕ) → Built look IsBareRow content table → IsPrintableTable table widths
+  of_built table widths known = record { printable_cells = printable_cells look plain content table known; indicator_adds_one_column_each = uncut look plain content table known widths }
+
+  printable_rows : (widths : List ℕ) → IsPrintableTable (rows_table look content) widths
+  printable_rows widths = of_built (rows_table look content) widths (rows_of_texts IsPrintable refl look IsBareRow (bare_rows look plain) content each)
+
+  printable_output : (is_expanded : Bool) (widths : List ℕ) → IsPrintableTable (output_table is_expanded look content) widths
+  printable_output is_expanded widths =
+      of_built (output_table is_expanded look content) widths (table_of_texts IsPrintable refl look IsBareRow (bare_rows look plain) content each (λ at. fields_stay look (decimal (at + 1)) (number_is_printable (at + 1))) is_expanded)
+
 pub printable_table : (options : Options) (records : List (List Text)) (table : TableValue) (widths : List ℕ) → PrintableTextsMakePrintableTable options records table widths
 printable_table options records table widths plain each is =
-    let known = built options IsBareRow records table (λ columns. All-weaker (All (EachLine IsPrintable options.look)) (MakesRow options IsBareRow columns) (λ fields own. bare_row options.look columns fields plain own) records each) is in
-    record { printable_cells = printable_cells options plain table known; indicator_adds_one_column_each = uncut options plain table known widths }
+    let made = made_of (rows_table options.look) (content_of options records) table is in
+    subst (λ t. IsPrintableTable t widths) made.2 (printable_rows options.look plain made.0 (each_content (All (EachLine IsPrintable options.look)) options records made.0 made.1 each) widths)
 
 -- the lines of an output of such records are counted
 pub lines_have : (P : TableValue → ℕ → Type 0) (options : Options) (records : List (List Text)) (output : Text) → PrintableLinesHave P options records output
-lines_have P options records output has plain each = by_separators has.has_separators has.is_table
+lines_have P options records output has plain each = by_table has.is_table
   where
-    texts : EachText IsPrintable options.look records
-    texts = All-weaker (All IsPrintable) (All (EachLine IsPrintable options.look)) (λ fields own. All-weaker IsPrintable (EachLine IsPrintable options.look) (fields_stay options.look) fields own) records each
+    look : Look
+    look = options.look
 
-    counted : (options : Options) → table_for options records ≡ Ok has.table → IsUnstyledUncut options.look → EachText IsPrintable options.look records → All (λ line. P has.table (count line)) has.lines
-    counted options is plain texts =
-        let known = any_built options records has.table is in
-        let same = has.drawing.unstyled_lines (ap should_style known.is ∙ rw plain.no_bold refl) (ap (λ (t : TableValue). t.custom_styling) known.is ∙ plain.no_sequences) in
-        subst (All (λ line. P has.table (count line))) (sym same) (has.counts.printable_lines (printable_table options records has.table has.drawing.widths plain texts is))
+    content : ContentValue
+    content = has.is_output.content
 
-    by_separators : (separators : Bool) → table_for (separated separators options) records ≡ Ok has.table → All (λ line. P has.table (count line)) has.lines
-    by_separators true is = counted options is plain texts
-    by_separators false is = counted (separated false options) is (record { no_bold = plain.no_bold; no_sequences = plain.no_sequences; uncut = plain.uncut }) texts
+    texts : EachOf (All (EachLine IsPrintable look)) content
+    texts =
+        each_content (All (EachLine IsPrintable look)) options records content has.is_output.is_content
+        (All-weaker (All IsPrintable) (All (EachLine IsPrintable look)) (λ fields own. All-weaker IsPrintable (EachLine IsPrintable look) (fields_stay look) fields own) records each)
+
+    separated_texts : (separators : Bool) → EachOf (All (EachLine IsPrintable (separated separators look))) content
+    separated_texts true = texts
+    separated_texts false = texts
+
+    by_table : IsDrawnTable look content has.table → All (λ line. P has.table (count line)) has.lines
+    by_table (is_expanded, separators, is) =
+        let drawn = separated separators look in
+        let own = still_unstyled separators look plain in
+        let known : Built drawn Any content has.table = subst (Built drawn Any content) (sym is) (any_built is_expanded drawn content) in
+        let same = has.drawing.unstyled_lines (ap should_style known.is ∙ rw own.no_bold refl) (ap (λ (t : TableValue). t.custom_styling) known.is ∙ own.no_sequences) in
+        subst (All (λ line. P has.table (count line))) (sym same) (has.counts.printable_lines (subst (λ t. IsPrintableTable t has.drawing.widths) (sym is) (printable_output drawn own content (separated_texts separators) is_expanded has.drawing.widths)))

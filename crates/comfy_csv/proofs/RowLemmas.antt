@@ -1,18 +1,20 @@
 -- The rows of the table of some records.
-use Rattle.std.proofs.Common.{◌≡◌, ℕ, zero, suc, Bool, true, false, List, [], ◌∷◌, ◌++◌, Option, Some, None, Result, Ok, Err, length, map, refl, ap, sym, ◌∙◌, append_assoc, append-nil}
+use Rattle.std.specs.Prelude.{unwrap_or}
+use Rattle.std.proofs.Common.{◌≡◌, ℕ, List, [], ◌∷◌, ◌++◌, Option, Some, None, Result, Ok, Err, length, map, refl, ap, sym, ◌∙◌, append_assoc, append-nil}
 use Rattle.std.proofs.lemmas.List.{length-map}
 use Rattle.comfy_parts.specs.CellValue.{RowValue}
 use Rattle.comfy_parts.specs.Text.{Text}
-use Rattle.comfy_table.specs.TableValue.{TableValue, with_header, with_row, with_rows}
-use Rattle.comfy_csv.proofs.BuiltLemmas.{built_of}
-use Rattle.comfy_csv_parts.specs.Cells.{header_for, row_for}
-use Rattle.comfy_csv_parts.specs.Columns.{ColumnFault, at_two_sides, columns_for, columns_with, drawn_columns, placed_columns}
-use Rattle.comfy_csv.specs.Drawn.{empty_table, limited, ok_map}
-use Rattle.comfy_csv.specs.Laws.{KeepsRows, TableKeepsRows, drawn_records, names_in}
+use Rattle.comfy_table.specs.TableValue.{TableValue, with_row, with_rows}
+use Rattle.comfy_csv.proofs.BuiltLemmas.{made_of}
+use Rattle.comfy_csv_parts.specs.Cells.{row_for}
+use Rattle.comfy_csv_parts.specs.Columns.{ColumnFault, at_two_sides, columns_for, columns_with, drawn_columns, placed_columns, seen}
+use Rattle.comfy_csv.specs.Drawn.{ContentValue, content_of, content_with, drawn_rows, headed_table, names_of, rows_table}
+use Rattle.comfy_csv.specs.Laws.{TableKeepsRows}
+use Rattle.comfy_csv_parts.specs.declared.options.Look.{Look}
 use Rattle.comfy_csv_parts.specs.declared.options.Options.{Options}
 use Rattle.comfy_csv_parts.specs.declared.options.DrawnColumn.{DrawnColumn}
 
-with_rows-rows : (rows : List RowValue) (t : TableValue) → (with_rows rows t).rows ≡ t.rows ++ rows
+pub with_rows-rows : (rows : List RowValue) (t : TableValue) → (with_rows rows t).rows ≡ t.rows ++ rows
 with_rows-rows [] t = sym (append-nil t.rows)
 with_rows-rows (row ∷ rows) t = with_rows-rows rows (with_row row t) ∙ append_assoc t.rows (row ∷ []) rows
 
@@ -35,46 +37,19 @@ chosen names rows (Ok ps) (Ok right) (Err fault) columns is = absurd (cc is)
 chosen names rows (Ok ps) (Err fault) left columns is = absurd (cc is)
 chosen names rows (Err fault) right left columns is = absurd (cc is)
 
--- a table that was made of columns has the rows that were appended
-rows_built : (row_of : List DrawnColumn → List RowValue) (base : List DrawnColumn → TableValue) → ((columns : List DrawnColumn) → (base columns).rows ≡ []) → (found : Result (List DrawnColumn) ColumnFault) (table : TableValue)
-    → ok_map (λ (columns : List DrawnColumn). with_rows (row_of columns) (base columns)) found ≡ Ok table → (columns : List DrawnColumn) × (found ≡ Ok columns) × (table.rows ≡ row_of columns)
-rows_built row_of base none found table is =
-    let made = built_of (λ (columns : List DrawnColumn). with_rows (row_of columns) (base columns)) found table is in (
-      made.0,
-      made.1,
-      ap (λ (t : TableValue). t.rows) (sym made.2) ∙ with_rows-rows (row_of made.0) (base made.0) ∙ ap (λ (t : List RowValue). t ++ row_of made.0) (none made.0),
-    )
+-- a header changes no row
+headed-rows : (look : Look) (columns : List DrawnColumn) (names : Option (List Text)) → (headed_table look columns names).rows ≡ []
+headed-rows look columns None = refl
+headed-rows look columns (Some names) = refl
 
-module _ (options : Options) (table : TableValue) where
-  kept : (records : List (List Text)) (names : List Text) (rows : List (List Text)) (base : List DrawnColumn → TableValue) → ((columns : List DrawnColumn) → (base columns).rows ≡ [])
-      → names_in options.has_header records ≡ names → drawn_records options records ≡ rows
-      → ok_map (λ (columns : List DrawnColumn). with_rows (map (row_for options.look columns) rows) (base columns)) (columns_for options names rows) ≡ Ok table → KeepsRows options records table
-  kept records names rows base none names_are rows_are is =
-      let found = rows_built (λ columns. map (row_for options.look columns) rows) base none (columns_for options names rows) table is in
-      let same : table.rows ≡ map (row_for options.look found.0) (drawn_records options records) = found.2 ∙ ap (map (row_for options.look found.0)) (sym rows_are) in
-      record {
-        columns = found.0;
-        rows = same;
-        as_many = ap length same ∙ length-map (drawn_records options records) (row_for options.look found.0);
-        chosen = rw (names_are, rows_are) (chosen names rows _ _ _ found.0 found.1);
-      }
-
-  headed : (records : List (List Text)) → options.has_header ≡ true → TableKeepsRows options records table
-  headed [] some is = kept [] [] [] (λ columns. empty_table options.look) (λ columns. refl) (rw some refl) (rw some (none_limited options.limit)) (rw some at is)
-    where
-      none_limited : (limit : Option ℕ) → limited {A = List Text} limit [] ≡ []
-      none_limited None = refl
-      none_limited (Some n) = none_taken n
-        where
-          none_taken : (n : ℕ) → limited {A = List Text} (Some n) [] ≡ []
-          none_taken zero = refl
-          none_taken (suc n) = refl
-  headed (names ∷ rows) some is =
-      kept (names ∷ rows) names (limited options.limit rows) (λ columns. with_header (header_for options.look columns names) (empty_table options.look)) (λ columns. refl) (rw some refl) (rw some refl) (rw some at is)
-
-  pub keeps_rows : (records : List (List Text)) → TableKeepsRows options records table
-  keeps_rows records = by_header options.has_header refl
-    where
-      by_header : (b : Bool) → options.has_header ≡ b → TableKeepsRows options records table
-      by_header true some = headed records some
-      by_header false none = λ is. kept records [] (limited options.limit records) (λ columns. empty_table options.look) (λ columns. refl) (rw none refl) (rw none refl) (rw none at is)
+pub keeps_rows : (options : Options) (records : List (List Text)) (table : TableValue) → TableKeepsRows options records table
+keeps_rows options records table is =
+    let look = options.look in
+    let made = made_of (rows_table look) (content_of options records) table is in
+    let names = unwrap_or (names_of options.has_header records) [] in
+    let rows = drawn_rows options records in
+    let found = made_of (content_with options records) (columns_for options names rows) made.0 made.1 in
+    let same : table.rows ≡ map (row_for look found.0) rows =
+    ap (λ (t : TableValue). t.rows) (sym made.2) ∙ ap (λ (c : ContentValue). (rows_table look c).rows) (sym found.2) ∙ with_rows-rows (map (row_for look found.0) rows) (headed_table look found.0 (names_of options.has_header records))
+    ∙ ap (λ (t : List RowValue). t ++ map (row_for look found.0) rows) (headed-rows look found.0 (names_of options.has_header records)) in
+    record { columns = found.0; rows = same; as_many = ap length same ∙ length-map rows (row_for look found.0); chosen = chosen names (map (seen look.has_sequences) rows) _ _ _ found.0 found.1 }

@@ -1,5 +1,5 @@
 -- Tables with the lines between their rows, and without them.
-use Rattle.std.proofs.Common.{◌≡◌, ℕ, Bool, true, false, List, [], ◌∷◌, Option, None, Ok, map, drop, take, refl, sym, ap, ◌∙◌}
+use Rattle.std.proofs.Common.{◌≡◌, ℕ, Bool, true, false, List, [], ◌∷◌, Option, Some, None, flat_map, map, drop, take, refl, sym, ap, unwrap_or, ◌∙◌}
 use Rattle.std.specs.List.{All}
 use Rattle.std.proofs.lemmas.List.Elements.{All-append, All-cons, All-drop, All-take}
 use Rattle.comfy_parts.proofs.CallerLemmas.{frame_adds}
@@ -7,13 +7,11 @@ use Rattle.comfy_parts.specs.CellValue.{RowValue}
 use Rattle.comfy_parts.specs.Columns.{IsOneColumn, IsOneColumnStyle, style_characters}
 use Rattle.comfy_parts.specs.Text.{Text}
 use Rattle.comfy_parts.specs.declared.style.table_style.TableStyle.{TableStyle}
-use Rattle.comfy_table.specs.TableValue.{TableValue, with_header, with_row, with_rows}
-use Rattle.comfy_csv.proofs.BuiltLemmas.{built_of}
-use Rattle.comfy_csv_parts.specs.Cells.{header_for, row_for}
-use Rattle.comfy_csv_parts.specs.Columns.{columns_for}
+use Rattle.comfy_table.specs.TableValue.{TableValue, with_row, with_rows}
+use Rattle.comfy_csv_parts.specs.Cells.{row_for}
 use Rattle.comfy_csv_parts.specs.declared.options.DrawnColumn.{DrawnColumn}
-use Rattle.comfy_csv_parts.specs.declared.options.Options.{Options}
-use Rattle.comfy_csv.specs.Drawn.{condensed_style, empty_table, limited, separated, table_for, titled_table, untitled_table}
+use Rattle.comfy_csv_parts.specs.declared.options.Look.{Look}
+use Rattle.comfy_csv.specs.Drawn.{ContentValue, condensed_style, empty_table, headed_table, output_table, pairs_of, separated}
 use Rattle.comfy_csv.specs.Separators.{separated_table}
 
 -- ---- styles
@@ -28,8 +26,10 @@ condensed-all P none style all =
     (All-cons P None (None ∷ drop 18 cs) none
     (All-cons P None (drop 18 cs) none (All-drop P 18 cs all)))))
 
-pub condensed_is_one_column : (style : TableStyle) → IsOneColumnStyle style → IsOneColumnStyle (condensed_style style)
-condensed_is_one_column style all = condensed-all IsOneColumn (frame_adds 0x20 refl) style all
+-- its characters are as wide
+pub separated_is_one_column : (has : Bool) (look : Look) → IsOneColumnStyle look.style → IsOneColumnStyle (separated has look).style
+separated_is_one_column true look all = all
+separated_is_one_column false look all = condensed-all IsOneColumn (frame_adds 0x20 refl) look.style all
 
 -- ---- tables
 
@@ -38,29 +38,15 @@ condensed-rows : (rows : List RowValue) (table : TableValue) → separated_table
 condensed-rows [] table = refl
 condensed-rows (row ∷ rows) table = condensed-rows rows (with_row row table)
 
-module _ (options : Options) where
-  untitled : (rows : List (List Text)) (table : TableValue) → untitled_table options rows ≡ Ok table → untitled_table (separated false options) rows ≡ Ok (separated_table false table)
-  untitled rows table is =
-      let found = built_of (λ (columns : List DrawnColumn). with_rows (map (row_for options.look columns) rows) (empty_table options.look)) (columns_for options [] rows) table is in
-      rw found.1 (ap Ok (sym (condensed-rows (map (row_for options.look found.0) rows) (empty_table options.look)) ∙ ap (separated_table false) found.2))
+module _ (look : Look) (content : ContentValue) where
+  condensed-headed : (columns : List DrawnColumn) (names : Option (List Text)) → separated_table false (headed_table look columns names) ≡ headed_table (separated false look) columns names
+  condensed-headed columns None = refl
+  condensed-headed columns (Some names) = refl
 
-  titled : (names : List Text) (rows : List (List Text)) (table : TableValue) → titled_table options names rows ≡ Ok table → titled_table (separated false options) names rows ≡ Ok (separated_table false table)
-  titled names rows table is =
-      let found = built_of (λ (columns : List DrawnColumn). with_rows (map (row_for options.look columns) rows) (with_header (header_for options.look columns names) (empty_table options.look))) (columns_for options names rows) table is in
-      rw found.1 (ap Ok (sym (condensed-rows (map (row_for options.look found.0) rows) (with_header (header_for options.look found.0 names) (empty_table options.look))) ∙ ap (separated_table false) found.2))
-
-  headed : (records : List (List Text)) (table : TableValue) → options.has_header ≡ true → table_for options records ≡ Ok table → table_for (separated false options) records ≡ Ok (separated_table false table)
-  headed [] table some is = rw some (untitled [] table (rw some at is))
-  headed (names ∷ rows) table some is = rw some (titled names (limited options.limit rows) table (rw some at is))
-
-  condensed : (records : List (List Text)) (table : TableValue) → table_for options records ≡ Ok table → table_for (separated false options) records ≡ Ok (separated_table false table)
-  condensed records table = by_header options.has_header refl
-    where
-      by_header : (b : Bool) → options.has_header ≡ b → table_for options records ≡ Ok table → table_for (separated false options) records ≡ Ok (separated_table false table)
-      by_header true some = headed records table some
-      by_header false none = λ is. rw none (untitled (limited options.limit records) table (rw none at is))
-
-  -- the table of some records, with the lines or without them, is that of the options for it
-  pub restyled : (has : Bool) (records : List (List Text)) (table : TableValue) → table_for options records ≡ Ok table → table_for (separated has options) records ≡ Ok (separated_table has table)
-  restyled true records table is = is
-  restyled false records table is = condensed records table is
+  -- the table of some records, with the lines or without them, is that of the look for it
+  pub restyled : (is_expanded has : Bool) → output_table is_expanded (separated has look) content ≡ separated_table has (output_table is_expanded look content)
+  restyled is_expanded true = refl
+  restyled true false = sym (condensed-rows (flat_map (pairs_of look content.columns (unwrap_or content.names [])) content.rows) (empty_table look))
+  restyled false false =
+      let rows = map (row_for look content.columns) content.rows in
+      sym (condensed-rows rows (headed_table look content.columns content.names) ∙ ap (with_rows rows) (condensed-headed content.columns content.names))

@@ -1,5 +1,6 @@
 -- What is so of every output.
-use Rattle.std.specs.Prelude.{◌≡◌, ℕ, ◌<◌, ◌≤◌, Bool, true, false, List, [], ◌++◌, Some, None, Ok, All, drop, length, map, max, slice_get, unwrap_or, if◌then◌else◌}
+use Rattle.std.specs.Prelude.{◌≡◌, ℕ, ◌+◌, ◌<◌, ◌≤◌, Bool, true, false, List, [], ◌++◌, Some, None, Ok, All, Contains, flat_map, length, map, max, unwrap_or}
+use Rattle.std.specs.List.{range_with_len}
 use Rattle.comfy_parts.specs.CellValue.{plain_cell}
 use Rattle.comfy_parts.specs.Columns.{IsOneColumnStyle}
 use Rattle.comfy_parts.specs.Text.{Text, is_printable_ascii, measure}
@@ -19,7 +20,7 @@ use Rattle.comfy_csv_parts.specs.Controls.{HasNoStrayControl, IsStyleWithoutCont
 use Rattle.comfy_csv_parts.specs.Words.{IsAsked}
 use Rattle.comfy_csv_parts.specs.declared.arguments.Asked.{Asked}
 use Rattle.comfy_csv_parts.specs.declared.arguments.Surroundings.{Surroundings}
-use Rattle.comfy_csv.specs.Drawn.{IsOutputFor, IsOutputOf, limited, note_for, row_count, separated, table_for}
+use Rattle.comfy_csv.specs.Drawn.{ContentValue, IsOutputFor, IsOutputOf, content_of, drawn_rows, names_of, note_for, output_table, record_line, separated, table_for}
 use Rattle.csv.specs.Records.{AllText}
 use Rattle.comfy_csv_parts.specs.declared.options.Look.{Look}
 use Rattle.comfy_csv_parts.specs.declared.options.Options.{Options}
@@ -27,35 +28,48 @@ use Rattle.comfy_csv_parts.specs.declared.options.DrawnColumn.{DrawnColumn}
 
 -- ---- rows
 
--- the names of the columns: the fields of the header, where there is one
-abbrev pub names_in : Bool → List (List Text) → List Text
-names_in has_header records = if has_header then unwrap_or (slice_get records 0) [] else []
-
--- the records that are rows
-abbrev pub drawn_records : Options → List (List Text) → List (List Text)
-drawn_records options records = limited options.limit (if options.has_header then drop 1 records else records)
-
 -- a row for each record that is drawn, in order, with the fields of the same columns, and these are the chosen ones
 pub record KeepsRows (options : Options) (records : List (List Text)) (table : TableValue) : Type 0 where
   pub columns : List DrawnColumn
-  pub rows : table.rows ≡ map (row_for options.look columns) (drawn_records options records)
-  pub as_many : length table.rows ≡ length (drawn_records options records)
-  pub chosen : chosen_columns (names_in options.has_header records) (count_of (names_in options.has_header records) (drawn_records options records)) options.columns.items ≡ Ok (map (λ (column : DrawnColumn). column.position) columns)
+  pub rows : table.rows ≡ map (row_for options.look columns) (drawn_rows options records)
+  pub as_many : length table.rows ≡ length (drawn_rows options records)
+  pub chosen : chosen_columns (unwrap_or (names_of options.has_header records) []) (count_of (unwrap_or (names_of options.has_header records) []) (drawn_rows options records)) options.columns.items ≡ Ok (map (λ (column : DrawnColumn). column.position) columns)
 
 abbrev pub TableKeepsRows : Options → List (List Text) → TableValue → Type 0
 TableKeepsRows options records table = table_for options records ≡ Ok table → KeepsRows options records table
 
+-- ---- lines
+
+-- lines are those of a text: each is followed by a line feed; or, expanded, such lines alone stand below each record's own line
+abbrev pub HasLines : Bool → ContentValue → List Text → Text → Type 0
+HasLines false content lines text = text ≡ terminated_text_of lines
+HasLines true content lines text =
+    (parts : ℕ → List Text) × ((at : ℕ) → All (Contains lines) (parts at))
+    × (text ≡ flat_map (λ at. record_line (at + 1) content.count ++ terminated_text_of (parts at)) (range_with_len 0 (length content.rows)))
+
+-- an output has these lines, before the line on records that aren't drawn
+pub record IsOutputWith (options : Options) (records : List (List Text)) (output : Text) (lines : List Text) : Type 0 where
+  pub content : ContentValue
+  pub is_content : content_of options records ≡ Ok content
+  pub is_expanded : Bool
+  pub text : Text
+  pub has_lines : HasLines is_expanded content lines text
+  pub joined : output ≡ text ++ note_for options.look.is_markdown options.limit content.count
+
+-- a table of some records: of their rows or of their fields, with lines between rows or without
+abbrev pub IsDrawnTable : Look → ContentValue → TableValue → Type 0
+IsDrawnTable look content table = (is_expanded has_separators : Bool) × (table ≡ output_table is_expanded (separated has_separators look) content)
+
 -- ---- widths of lines
 
--- an output is the lines of a drawing, each followed by a line feed, before the line on records that aren't drawn; P holds of their counts
+-- an output has the lines of a drawing, and P holds of their counts
 pub record EachLineHas (P : TableValue → ℕ → Type 0) (options : Options) (records : List (List Text)) (output : Text) : Type 0 where
-  pub has_separators : Bool
-  pub table : TableValue
-  pub is_table : table_for (separated has_separators options) records ≡ Ok table
   pub lines : List Text
+  pub is_output : IsOutputWith options records output lines
+  pub table : TableValue
+  pub is_table : IsDrawnTable options.look is_output.content table
   pub drawing : IsTableDrawing table lines
   pub counts : EachLineCounts (P table) table drawing.widths
-  pub joined : output ≡ terminated_text_of lines ++ note_for options.limit (row_count options.has_header (length records))
 
 -- a count keeps to a width, or to borders, paddings and one for each column
 abbrev pub IsWithin : ℕ → TableValue → ℕ → Type 0
@@ -68,13 +82,13 @@ IsFilling w table n = 0 < shown_count table → n ≡ max w (least_total table)
 -- with a width, a frame line keeps to it
 abbrev pub OutputKeepsToWidth : ℕ → Options → List (List Text) → Text → Type 0
 OutputKeepsToWidth w options records output =
-    options.look.width ≡ Some w → options.look.fills_width ≡ false → options.look.has_sequences ≡ false → IsOutputOf options records output
+    options.look.is_markdown ≡ false → options.look.width ≡ Some w → options.look.fills_width ≡ false → options.look.has_sequences ≡ false → IsOutputOf options records output
     → EachLineHas (IsWithin w) options records output
 
 -- where the width is filled, it fills it
 abbrev pub OutputFillsWidth : ℕ → Options → List (List Text) → Text → Type 0
 OutputFillsWidth w options records output =
-    options.look.width ≡ Some w → options.look.fills_width ≡ true → options.look.has_sequences ≡ false → IsOutputOf options records output
+    options.look.is_markdown ≡ false → options.look.width ≡ Some w → options.look.fills_width ≡ true → options.look.has_sequences ≡ false → IsOutputOf options records output
     → EachLineHas (IsFilling w) options records output
 
 -- nothing is in bold, no sequence counts nothing, and no row is cut
@@ -95,10 +109,9 @@ PrintableLinesHave P options records output =
 abbrev pub EachText : (Text → Type 0) → Look → List (List Text) → Type 0
 EachText P look records = All (λ (fields : List Text). All (λ (field : Text). All P (plain_cell (field_text look field)).text_lines) fields) records
 
--- an output is lines of the same width, each followed by a line feed, before the line on records that aren't drawn
+-- an output has lines of the same width
 abbrev pub IsStraightOutput : Options → List (List Text) → Text → Type 0
-IsStraightOutput options records output =
-    (lines : List Text) × (output ≡ terminated_text_of lines ++ note_for options.limit (row_count options.has_header (length records))) × AreEquallyWide lines
+IsStraightOutput options records output = (lines : List Text) × IsOutputWith options records output lines × AreEquallyWide lines
 
 -- so it is where no width is kept to, for texts of every script
 abbrev pub WholeOutputIsStraight : Options → List (List Text) → Text → Type 0
@@ -106,11 +119,16 @@ WholeOutputIsStraight options records output =
     IsOneColumnStyle options.look.style → IsUnstyledUncut options.look → options.look.width ≡ None → EachText (λ text. measure text ≤ 65535) options.look records
     → IsOutputOf options records output → IsStraightOutput options records output
 
+-- for Markdown whatever the look asks for besides
+abbrev pub MarkdownOutputIsStraight : Options → List (List Text) → Text → Type 0
+MarkdownOutputIsStraight options records output =
+    options.look.is_markdown ≡ true → EachText (λ text. measure text ≤ 65535) options.look records → IsOutputOf options records output → IsStraightOutput options records output
+
 -- and under every width, where each character of each text fits its column
 abbrev pub FittingOutputIsStraight : Options → List (List Text) → Text → Type 0
 FittingOutputIsStraight options records output =
-    IsOneColumnStyle options.look.style → IsUnstyledUncut options.look
-    → ((has_separators : Bool) (table : TableValue) (widths : List ℕ) → table_for (separated has_separators options) records ≡ Ok table → IsArranged table widths → EachCell CharactersFitColumn table widths)
+    options.look.is_markdown ≡ false → IsOneColumnStyle options.look.style → IsUnstyledUncut options.look
+    → ((content : ContentValue) (table : TableValue) (widths : List ℕ) → content_of options records ≡ Ok content → IsDrawnTable options.look content table → IsArranged table widths → EachCell CharactersFitColumn table widths)
     → IsOutputOf options records output → IsStraightOutput options records output
 
 -- a field of printable ASCII is drawn as such text

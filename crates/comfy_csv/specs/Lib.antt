@@ -1,5 +1,6 @@
 pub mod Drawn
 pub mod Ending
 pub mod Laws
+pub mod MarkdownLines
 pub mod Run
 pub mod Separators

@@ -2,7 +2,8 @@
 
 ghost use Rattle.std.specs.Prelude.{List, ℕ};
 ghost use Rattle.comfy_parts.specs.Text.{Text};
-ghost use Rattle.comfy_csv.specs.Laws.{AskedOutputHoldsNoControls, FittingOutputIsStraight, InputIsDrawnWithoutControls, IsFilling, IsWithin, OutputFillsWidth, OutputHoldsNoControls, OutputKeepsToWidth, PrintableFieldsStay, PrintableLinesHave, PrintableTextsMakePrintableTable, TableKeepsRows, WholeOutputIsStraight};
+ghost use Rattle.comfy_csv.specs.Laws.{AskedOutputHoldsNoControls, FittingOutputIsStraight, InputIsDrawnWithoutControls, IsFilling, IsWithin, MarkdownOutputIsStraight, OutputFillsWidth, OutputHoldsNoControls, OutputKeepsToWidth, PrintableFieldsStay, PrintableLinesHave, PrintableTextsMakePrintableTable, TableKeepsRows, WholeOutputIsStraight};
+ghost use Rattle.comfy_csv.specs.MarkdownLines.{MarkdownGivesRecordsBack};
 ghost use Rattle.comfy_csv_parts.specs.declared.arguments.Asked.{Asked};
 ghost use Rattle.comfy_csv_parts.specs.declared.arguments.Surroundings.{Surroundings};
 ghost use Rattle.comfy_csv_parts.specs.declared.options.Look.{Look};
@@ -20,9 +21,10 @@ pub fn tables_keep_their_rows()
     ensures { (options : Options) (records : List (List Text)) (table : TableValue) → TableKeepsRows options records table }
 {}
 
-/// With a width, a frame line of an output has at most as many characters, or as many as borders, paddings and one
-/// character for each column. Where the width is filled, it has exactly so many, where there is a column. So has each line
-/// where all fields are printable ASCII, nothing is in bold, no sequence counts nothing, and no row is cut.
+/// With a width, a frame line of an output that isn't for Markdown has at most as many characters, or as many as borders,
+/// paddings and one character for each column. Where the width is filled, it has exactly so many, where there is a column.
+/// So has each line where all fields are printable ASCII, nothing is in bold, no sequence counts nothing, and no row is cut.
+/// Where records are expanded, the lines that number them and the one on further records aren't among these lines.
 pub fn outputs_keep_to_a_width()
     ensures dynamic { (w : ℕ) (options : Options) (records : List (List Text)) (output : Text) → OutputKeepsToWidth w options records output }
     ensures full { (w : ℕ) (options : Options) (records : List (List Text)) (output : Text) → OutputFillsWidth w options records output }
@@ -40,9 +42,11 @@ pub fn printable_texts_make_printable_tables()
 /// Where no width is kept to and each character of the style adds one terminal column, all lines of an output are equally
 /// many terminal columns wide, for texts of every script up to 65535 columns. So they are under every width where each
 /// character of each text fits its column and U+FE01 stands nowhere directly beside U+FE0E or U+FE0F. Nothing is in bold, no
-/// sequence counts nothing, and no row is cut.
+/// sequence counts nothing, and no row is cut. The tables of expanded records are as wide as each other. An output for
+/// Markdown is straight whatever its look asks for besides, and the line below the header is as wide as the others.
 pub fn outputs_are_straight()
     ensures whole { (options : Options) (records : List (List Text)) (output : Text) → WholeOutputIsStraight options records output }
+    ensures markdown { (options : Options) (records : List (List Text)) (output : Text) → MarkdownOutputIsStraight options records output }
     ensures characters_fit { (options : Options) (records : List (List Text)) (output : Text) → FittingOutputIsStraight options records output }
 {}
 
@@ -53,4 +57,12 @@ pub fn outputs_hold_no_controls()
     ensures records { (options : Options) (records : List (List Text)) (output : Text) → OutputHoldsNoControls options records output }
     ensures input { (options : Options) (input output : Text) → InputIsDrawnWithoutControls options input output }
     ensures asked { (words : List Text) (surroundings : Surroundings) (asked : Asked) (input output : Text) → AskedOutputHoldsNoControls words surroundings asked input output }
+{}
+
+/// An output for Markdown has one line for the names, the rule below it, and one for each record that is drawn; none holds a
+/// line feed. Cut at its bars, but not at those after a backslash, and with what was escaped read back, such a line gives the
+/// record's fields as they were cleaned, less the spaces around them. A column is drawn, and no field is wider than 65535
+/// terminal columns.
+pub fn markdown_lines_give_back_their_fields()
+    ensures { (options : Options) (records : List (List Text)) (output : Text) → MarkdownGivesRecordsBack options records output }
 {}

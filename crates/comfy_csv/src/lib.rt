@@ -1,16 +1,19 @@
 //! From records of fields between delimiters to a drawn table.
 #![tactic(auto)]
 
+mod content;
 mod ending;
+mod expanded;
 pub mod laws;
+mod output;
 mod process;
 mod separators;
 mod table;
 mod transfer;
 
 pub use comfy_csv_parts::{
-    Asked, CsvError, DrawnColumn, Kept, Look, Options, RowSeparators, Surroundings, asked_of,
-    cleaned, escaped, is_number, records_of, shown_text, text_of,
+    Asked, CsvError, DrawnColumn, Expansion, Kept, Look, Options, RowSeparators, Surroundings,
+    asked_of, cleaned, escaped, is_number, records_of, shown_text, text_of,
 };
 pub use process::run_with_arguments;
 pub use table::table_of;

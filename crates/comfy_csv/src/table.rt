@@ -1,14 +1,15 @@
-//! The table of some records.
+//! The tables of some records.
 
-ghost use Rattle.std.specs.Prelude.{◌≡◌, IfOk, IfErr, OnOk, Ok, map};
+ghost use Rattle.std.specs.Prelude.{◌≡◌, IfErr, IfOk, Ok, OnOk, map, option_map, unwrap_or};
 ghost use Rattle.csv.specs.Records.{fields_of};
-ghost use Rattle.comfy_csv_parts.specs.Cells.{row_for};
 ghost use Rattle.comfy_csv_parts.specs.Columns.{IsColumnRefusal};
-ghost use Rattle.comfy_csv.specs.Drawn.{arrangement_for, empty_table, limited, table_for, titled_table, untitled_table};
+ghost use Rattle.comfy_csv.specs.Drawn.{arrangement_for, content_of, empty_table, headed_table, markdown_look, markdown_style, markdown_table, pairs_of, pairs_table, rows_table, table_for};
 ghost use Rattle.comfy_table.specs.TableValue.{with_rows};
 
-use comfy_csv_parts::{CsvError, DrawnColumn, Look, Options, columns_of, header_of, row_of};
-use comfy_table::{ContentArrangement, Table};
+use crate::content::Content;
+use comfy_csv_parts::{CsvError, Look, Options, header_of, name_at, pair_of, row_of};
+use comfy_table::presets::ASCII_MARKDOWN;
+use comfy_table::{ContentArrangement, LineStyle, Result, Table, TableStyle};
 use csv::StringRecord;
 use std::alloc::Global;
 
@@ -19,57 +20,92 @@ pub fn table_of(
     alloc: Global,
     records: &[StringRecord],
     options: &Options,
-) -> Result<Table, CsvError>
+) -> std::result::Result<Table, CsvError>
     ensures ok { IfOk result (λ table. table_for options.now (map fields_of records.now) ≡ Ok table) }
-    ensures refused { IfErr result (λ e. IsColumnRefusal e (table_for options.now (map fields_of records.now))) }
+    ensures refused { IfErr result (λ e. IsColumnRefusal e (content_of options.now (map fields_of records.now))) }
 {
-    if !options.has_header {
-        return untitled_table(alloc, limited(records, options.limit), options);
+    let content = Content::new(alloc, records, options)?;
+    Ok(content.rows_table(&options.look)?)
+}
+
+impl<'a> Content<'a> {
+    /// The table of records, a row for each, with all lines of the style.
+    pub fn rows_table(&self, look: &Look) -> Result<Table>
+        ensures { IfOk result (λ table. table ≡ rows_table look.now self.now) }
+    {
+        self.rows_table_under(self.names, look)
     }
-    match records.split_first() {
-        Some((names, rows)) => titled_table(alloc, names, limited(rows, options.limit), options),
-        None => untitled_table(alloc, records, options),
+
+    /// The table of expanded records: for each field a row, with the name of its column.
+    pub fn pairs_table(&self, look: &Look) -> Result<Table>
+        ensures { IfOk result (λ table. table ≡ pairs_table look.now self.now) }
+    {
+        let blank = StringRecord::new(self.alloc);
+        let names = names_or(self.names, &blank);
+        let mut table = empty_table(self.alloc, look);
+        for row in self.rows {
+            self.add_pairs(&mut table, names, row, look)?;
+        }
+        Ok(table)
+    }
+
+    /// The table for Markdown, without the line below its header.
+    pub fn markdown_table(&self, look: &Look) -> Result<Table>
+        ensures { IfOk result (λ table. table ≡ markdown_table look.now self.now) }
+    {
+        let blank = StringRecord::new(self.alloc);
+        let names = names_or(self.names, &blank);
+        self.rows_table_under(Some(names), &markdown_look(*look))
+    }
+
+    fn rows_table_under(&self, names: Option<&StringRecord>, look: &Look) -> Result<Table>
+        ensures { IfOk result (λ table. table ≡ rows_table look.now (record self.now { names = option_map (λ n. fields_of n.now) names.entry })) }
+    {
+        let mut table = self.headed_table(names, look)?;
+        for row in self.rows {
+            table.try_add_row(row_of(self.alloc, row, self.columns.as_slice(), look)?)?;
+        }
+        Ok(table)
+    }
+
+    // A table with a header of these names, where there are any.
+    fn headed_table(&self, names: Option<&StringRecord>, look: &Look) -> Result<Table>
+        ensures { IfOk result (λ table. table ≡ headed_table look.now self.now.columns (option_map (λ n. fields_of n.now) names.entry)) }
+    {
+        let mut table = empty_table(self.alloc, look);
+        if let Some(names) = names {
+            table.try_set_header(header_of(self.alloc, names, self.columns.as_slice(), look)?)?;
+        }
+        Ok(table)
+    }
+
+    // Appends the fields of one record, each with the name of its column.
+    fn add_pairs(
+        &self,
+        table: &mut Table,
+        names: &StringRecord,
+        row: &StringRecord,
+        look: &Look,
+    ) -> Result<()>
+        ensures { OnOk result (table.new ≡ with_rows (pairs_of look.now self.now.columns (fields_of names.now) (fields_of row.now)) table.old) }
+    {
+        for column in &self.columns {
+            let name = name_at(self.alloc, names, column.position)?;
+            let field = row.get(column.position).unwrap_or("");
+            table.try_add_row(pair_of(self.alloc, name.as_str(), field, look)?)?;
+        }
+        Ok(())
     }
 }
 
-// The first rows, as many as are drawn.
-fn limited(rows: &[StringRecord], limit: Option<usize>) -> &[StringRecord]
-    ensures { result.now ≡ limited limit rows.now }
+// These names, or others where there are none.
+fn names_or<'r>(names: Option<&'r StringRecord>, others: &'r StringRecord) -> &'r StringRecord
+    ensures { fields_of result.now ≡ unwrap_or (option_map (λ n. fields_of n.now) names.entry) (fields_of others.now) }
 {
-    match limit {
-        Some(count) if count < rows.len() => &rows[..count],
-        _ => rows,
+    match names {
+        Some(names) => names,
+        None => others,
     }
-}
-
-fn titled_table(
-    alloc: Global,
-    names: &StringRecord,
-    rows: &[StringRecord],
-    options: &Options,
-) -> Result<Table, CsvError>
-    ensures ok { IfOk result (λ table. titled_table options.now (fields_of names.now) (map fields_of rows.now) ≡ Ok table) }
-    ensures refused { IfErr result (λ e. IsColumnRefusal e (titled_table options.now (fields_of names.now) (map fields_of rows.now))) }
-{
-    let columns = columns_of(alloc, names, rows, options)?;
-    let mut table = empty_table(alloc, &options.look);
-    table.try_set_header(header_of(alloc, names, columns.as_slice(), &options.look)?)?;
-    add_rows(&mut table, alloc, rows, columns.as_slice(), &options.look)?;
-    Ok(table)
-}
-
-fn untitled_table(
-    alloc: Global,
-    rows: &[StringRecord],
-    options: &Options,
-) -> Result<Table, CsvError>
-    ensures ok { IfOk result (λ table. untitled_table options.now (map fields_of rows.now) ≡ Ok table) }
-    ensures refused { IfErr result (λ e. IsColumnRefusal e (untitled_table options.now (map fields_of rows.now))) }
-{
-    let columns = columns_of(alloc, &StringRecord::new(alloc), rows, options)?;
-    let mut table = empty_table(alloc, &options.look);
-    add_rows(&mut table, alloc, rows, columns.as_slice(), &options.look)?;
-    Ok(table)
 }
 
 // A table without rows that looks as is wanted.
@@ -103,18 +139,25 @@ fn arrangement_of(look: &Look) -> ContentArrangement
     }
 }
 
-// Appends the rows of some records.
-fn add_rows(
-    table: &mut Table,
-    alloc: Global,
-    rows: &[StringRecord],
-    columns: &[DrawnColumn],
-    look: &Look,
-) -> comfy_table::Result<()>
-    ensures { OnOk result (table.new ≡ with_rows (map (row_for look.now columns.now) (map fields_of rows.now)) table.old) }
+// How a table for Markdown looks, whatever else is wanted.
+fn markdown_look(look: Look) -> Look
+    ensures { result ≡ markdown_look look }
 {
-    for row in rows {
-        table.try_add_row(row_of(alloc, row, columns, look)?)?;
+    Look {
+        style: markdown_style(),
+        width: None,
+        fills_width: false,
+        max_height: None,
+        has_bold_header: false,
+        has_sequences: false,
+        is_markdown: true,
+        ..look
     }
-    Ok(())
+}
+
+// The style of such a table, without the line below the header.
+fn markdown_style() -> TableStyle
+    ensures { result ≡ markdown_style }
+{
+    ASCII_MARKDOWN.header_separator(LineStyle::none())
 }

@@ -1,19 +1,14 @@
 //! Reads an input, draws the table of its records, and writes the drawing.
 
-ghost use Rattle.std.specs.Prelude.{◌≡◌, ◌++◌, List, ℕ, true, false, Some, OnOk, IfOk, IfErr, IsUtf8, map, string_bytes};
-ghost use Rattle.csv.specs.Records.{fields_of};
-ghost use Rattle.comfy_csv_parts.specs.Columns.{IsColumnRefusal};
-ghost use Rattle.comfy_csv.specs.Drawn.{IsOutputFor, IsOutputOf, note_for, row_count, table_for};
+ghost use Rattle.std.specs.Prelude.{◌≡◌, List, ℕ, true, false, Some, OnOk, IfOk, IfErr, IsUtf8, string_bytes};
+ghost use Rattle.comfy_csv.specs.Drawn.{IsOutputFor};
 ghost use Rattle.comfy_csv.specs.Run.{IsAfter, IsReadFailure, IsRefusal, is_read_fault, is_write_fault};
 ghost use Rattle.comfy_run.specs.Run.{Between};
 
-use crate::separators::separate_rows;
-use crate::table::table_of;
+use crate::output::output_of;
 use comfy_csv_parts::{CsvError, Options, records_of, text_of};
 use comfy_run::run::{DeviceFault, ReadError, Sink, Source, read_all, write_all};
-use csv::StringRecord;
-use std::alloc::{AllocError, Global};
-use std::fmt::Write;
+use std::alloc::Global;
 
 /// Reads the whole source, and writes the drawing of the table of its records to the sink, each line followed by a line
 /// feed. Where not all records are drawn, a line says how many there are.
@@ -77,42 +72,5 @@ fn input_of<R: Source>(alloc: Global, source: &mut R) -> Result<Vec<u8>, CsvErro
         Ok(input) => Ok(input),
         Err(ReadError::Source) => Err(CsvError::Read),
         Err(ReadError::OutOfMemory) => Err(CsvError::OutOfMemory),
-    }
-}
-
-// The output for these records.
-fn output_of(alloc: Global, records: &[StringRecord], options: &Options) -> Result<String, CsvError>
-    ensures output { IfOk result (λ output. IsOutputOf options.now (map fields_of records.now) (string_bytes output)) }
-    ensures refused { IfErr result (λ e. IsColumnRefusal e (table_for options.now (map fields_of records.now))) }
-{
-    let mut table = table_of(alloc, records, options)?;
-    separate_rows(&mut table, options.look.separators)?;
-    let mut output = table.to_terminated_text()?;
-    push_note(
-        &mut output,
-        options.limit,
-        row_count(options.has_header, records.len()),
-    )?;
-    Ok(output)
-}
-
-// How many records stand below the header.
-fn row_count(has_header: bool, count: usize) -> usize
-    ensures { result ≡ row_count has_header count }
-{
-    if has_header {
-        count.saturating_sub(1)
-    } else {
-        count
-    }
-}
-
-// Appends the line on records that aren't drawn.
-fn push_note(output: &mut String, limit: Option<usize>, count: usize) -> Result<(), AllocError>
-    ensures { OnOk result (string_bytes output.new ≡ string_bytes output.old ++ note_for limit count) }
-{
-    match limit {
-        Some(limit) if limit < count => write!(output, "{limit} of {count} records\n"),
-        _ => Ok(()),
     }
 }

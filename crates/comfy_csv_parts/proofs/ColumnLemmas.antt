@@ -1,10 +1,15 @@
 -- Choices of columns, one after another.
-use Rattle.std.proofs.Common.{◌≡◌, ◌<◌, ◌+◌, ◌||◌, ℕ, Bool, true, false, zero, suc, List, [], ◌∷◌, Some, Result, Ok, Err, String, bytes_eq, drop, get_or, length, map, string_bytes, take, refl, sym, ap}
+use Rattle.std.proofs.Common.{◌≡◌, ◌<◌, ◌+◌, ◌&&◌, ◌||◌, not, ℕ, Bool, true, false, zero, suc, List, [], ◌∷◌, Some, Result, Ok, Err, String, bytes_eq, drop, get_or, length, map, string_bytes, take, refl, sym, ap, ◌∙◌, arith}
 use Rattle.std.proofs.lemmas.List.Folds.{fold_stuck}
 use Rattle.std.specs.List.{list_any, position_from}
+use Rattle.std.specs.Str.{chars}
 use Rattle.comfy_parts.specs.Text.{Text}
-use Rattle.csv.specs.Records.{field_at}
-use Rattle.comfy_csv_parts.specs.Columns.{ColumnFault, IsColumnRefusal, is_text, joined, missing, positions_of, positions_of_word, two_sided}
+use Rattle.csv.specs.Records.{Row, field_at, fields_of}
+use Rattle.comfy_csv_parts.specs.Cells.{field_or_blank}
+use Rattle.comfy_csv_parts.specs.Cleaning.{visible_of}
+use Rattle.comfy_csv_parts.specs.Columns.{ColumnFault, IsColumnRefusal, is_number_column, is_number_kind, is_other_kind, is_text, joined, kind_at, kind_of, missing, positions_of, positions_of_word, seen, two_sided}
+use Rattle.comfy_csv_parts.specs.declared.columns.FieldKind.{FieldKind}
+use Rattle.comfy_csv_parts.specs.declared.columns.FieldKind.TheVariants.{Number, Neutral, Other}
 use Rattle.comfy_csv_parts.specs.declared.error.CsvError.{CsvError}
 use Rattle.comfy_csv_parts.specs.declared.error.CsvError.TheVariants.{Read, Write, NotUtf8, SplitCharacter, NoColumn, OutOfMemory, TwoSides}
 
@@ -43,7 +48,51 @@ module _ (name : Text) (n : ℕ) where
   not_at (f ∷ fs) zero is = rw is refl
   not_at (f ∷ fs) (suc i) is = not_at fs i is
 
--- one of some values passes a test where one of those that they come from does
-pub any-map : {X Y : Type 0} (p : X → Bool) (f : Y → X) (ys : List Y) → list_any p (map f ys) ≡ list_any (λ y. p (f y)) ys
-any-map p f [] = refl
-any-map p f (y ∷ ys) = ap (λ b. p (f y) || b) (any-map p f ys)
+-- an empty field is no number
+pub kind-empty : (field : Text) → length field ≡ 0 → Neutral ≡ kind_of field
+unfolding chars
+kind-empty [] none = refl
+kind-empty (b ∷ bs) none = absurd (omega (arith, none))
+
+-- what is seen of the field at a position
+seen_at : (keeps : Bool) (fields : List Text) (position : ℕ) → field_or_blank (seen keeps fields) position ≡ visible_of keeps (field_or_blank fields position)
+unfolding field_at
+seen_at false [] position = refl
+seen_at true [] position = refl
+seen_at keeps (f ∷ fs) zero = refl
+seen_at keeps (f ∷ fs) (suc n) = seen_at keeps fs n
+
+-- and what it says
+pub kind-seen : (keeps : Bool) (fields : List Text) (position : ℕ) (shown : Text) → shown ≡ visible_of keeps (field_or_blank fields position) → kind_of shown ≡ kind_at position (seen keeps fields)
+kind-seen keeps fields position shown is = ap kind_of (is ∙ sym (seen_at keeps fields position))
+
+-- whether the rows that are left make a column of numbers, where a number was seen before them or not
+module _ (keeps : Bool) (position : ℕ) where
+  abbrev pub row_kind : Row → FieldKind
+  row_kind row = kind_at position (seen keeps (fields_of row))
+
+  abbrev pub numbers_left : Bool → List Row → Bool
+  numbers_left has_number rows =
+      not (list_any (λ (row : Row). is_other_kind (row_kind row)) rows) && (has_number || list_any (λ (row : Row). is_number_kind (row_kind row)) rows)
+
+  any-seen : (p : FieldKind → Bool) (rows : List Row) → list_any (λ fields. p (kind_at position fields)) (map (seen keeps) (map fields_of rows)) ≡ list_any (λ (row : Row). p (row_kind row)) rows
+  any-seen p [] = refl
+  any-seen p (row ∷ rows) = ap (λ b. p (row_kind row) || b) (any-seen p rows)
+
+  pub numbers-all : (rows : List Row) → numbers_left false rows ≡ is_number_column (map (seen keeps) (map fields_of rows)) position
+  numbers-all rows = rw (any-seen is_other_kind rows, any-seen is_number_kind rows) refl
+
+  -- one row less
+  pub number-more : (has_number : Bool) (row : Row) (rows : List Row) → row_kind row ≡ Number → numbers_left has_number (row ∷ rows) ≡ numbers_left true rows
+  number-more false row rows is = rw is refl
+  number-more true row rows is = rw is refl
+
+  pub neutral-more : (has_number : Bool) (row : Row) (rows : List Row) → row_kind row ≡ Neutral → numbers_left has_number (row ∷ rows) ≡ numbers_left has_number rows
+  neutral-more has_number row rows is = rw is refl
+
+  pub other-stops : (has_number : Bool) (row : Row) (rows : List Row) → row_kind row ≡ Other → numbers_left has_number (row ∷ rows) ≡ false
+  other-stops has_number row rows is = rw is refl
+
+  pub none-left : (has_number : Bool) → numbers_left has_number [] ≡ has_number
+  none-left true = refl
+  none-left false = refl

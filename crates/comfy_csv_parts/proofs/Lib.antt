@@ -5,6 +5,7 @@ pub mod FieldControlLemmas
 pub mod MarkdownLemmas
 pub mod MarkedLemmas
 pub mod NamedStyleLemmas
+pub mod NumberLemmas
 pub mod PieceLemmas
 pub mod ProgramLemmas
 pub mod RecordLemmas

@@ -21,6 +21,7 @@ lettered_simple (Some letter) name = refl
 stays_simple : (k : Kind) (name : Text) (rule : Rule) → rule.is_simple ≡ true → (with_values k (bare (of_kind k name rule))).0.is_simple ≡ true
 stays_simple kind.File name rule h = h
 stays_simple kind.Flag name rule h = h
+stays_simple kind.Letter name rule h = h
 stays_simple kind.Text name rule h = h
 stays_simple kind.Width name rule h = h
 stays_simple kind.Count name rule h = h

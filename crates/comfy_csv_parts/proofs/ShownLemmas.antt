@@ -1,5 +1,5 @@
 -- Texts for messages hold no control characters but line feeds.
-use Rattle.std.proofs.Common.{◌≡◌, ◌==◌, ◌&&◌, ◌||◌, ℕ, Bool, true, false, not, List, [], ◌∷◌, chars, map, refl, ap, ap₂, ◌∙◌}
+use Rattle.std.proofs.Common.{◌≡◌, ◌==◌, ◌&&◌, ◌||◌, ℕ, Bool, true, false, List, [], ◌∷◌, chars, map, refl, ap, ap₂, ◌∙◌}
 use Rattle.std.proofs.lemmas.Bool.{and_parts}
 use Rattle.std.proofs.Math.Utf8.{scalar as scalar_of}
 use Rattle.std.proofs.lemmas.Str.{chars-encodes, scalars-chars}
@@ -11,11 +11,12 @@ use Rattle.comfy_csv_parts.specs.Cleaning.{is_harmful, is_replaced, nothing_kept
 use Rattle.comfy_csv_parts.specs.Shown.{shown_in, shown_text}
 
 scalar : (keeps : Bool) (c : ℕ) → scalar_of c ≡ true → scalar_of (shown_in keeps c) ≡ true
-scalar keeps c is = by_test (is_replaced nothing_kept c && not (keeps && (c == 0x0A)))
+scalar keeps c is = by_tests (keeps && (c == 0x0A)) (is_replaced nothing_kept c)
   where
-    by_test : (b : Bool) → scalar_of (if b then 0xFFFD else c) ≡ true
-    by_test true = refl
-    by_test false = is
+    by_tests : (stays replaced : Bool) → scalar_of (if stays then c else if replaced then 0xFFFD else c) ≡ true
+    by_tests true replaced = is
+    by_tests false true = refl
+    by_tests false false = is
 
 scalars : (keeps : Bool) (cs : List ℕ) → all_scalars cs ≡ true → all_scalars (map (shown_in keeps) cs) ≡ true
 scalars keeps [] all = refl
@@ -24,14 +25,15 @@ scalars keeps (c ∷ cs) all =
     ap₂ (λ a b. a && b) (scalar keeps c both.0) (scalars keeps cs both.1)
 
 none : (keeps : Bool) (c : ℕ) → is_harmful nothing_kept (shown_in keeps c) ≡ false
-none keeps c = by_tests (is_replaced nothing_kept c) (c == 0x0A) keeps refl refl
+none keeps c = by_tests keeps (c == 0x0A) (is_replaced nothing_kept c) refl refl
   where
-    by_tests : (replaced feed keeps : Bool) → is_replaced nothing_kept c ≡ replaced → (c == 0x0A) ≡ feed → is_harmful nothing_kept (if replaced && not (keeps && feed) then 0xFFFD else c) ≡ false
-    by_tests false feed keeps own is = rw own refl
-    by_tests true true true own is = rw (own, is) refl
-    by_tests true true false own is = refl
-    by_tests true false true own is = refl
-    by_tests true false false own is = refl
+    by_tests : (keeps feed replaced : Bool) → (c == 0x0A) ≡ feed → is_replaced nothing_kept c ≡ replaced → is_harmful nothing_kept (if keeps && feed then c else if replaced then 0xFFFD else c) ≡ false
+    by_tests true true false is own = rw own refl
+    by_tests true true true is own = rw (own, is) refl
+    by_tests true false false is own = rw own refl
+    by_tests true false true is own = refl
+    by_tests false feed false is own = rw own refl
+    by_tests false feed true is own = refl
 
 none_of : (keeps : Bool) (cs : List ℕ) → list_any (is_harmful nothing_kept) (map (shown_in keeps) cs) ≡ false
 none_of keeps [] = refl

@@ -1,5 +1,5 @@
 -- The cells and rows of records.
-use Rattle.std.specs.Prelude.{ℕ, Bool, false, List, [], ◌∷◌, ◌++◌, Option, chars, map, option_map, unwrap_or, max, if◌then◌else◌}
+use Rattle.std.specs.Prelude.{ℕ, Bool, false, List, [], ◌∷◌, ◌++◌, Option, None, chars, map, option_map, unwrap_or, max, if◌then◌else◌}
 use Rattle.std.specs.Str.{encode_utf8_all}
 use Rattle.comfy_parts.specs.CellValue.{CellValue, RowValue, plain_cell, plain_row}
 use Rattle.comfy_parts.specs.Text.{Text}
@@ -54,3 +54,8 @@ header_for look columns fields = cells_for look look.has_bold_header columns fie
 -- a record's row, cut at the greatest height
 abbrev pub row_for : Look → List DrawnColumn → List Text → RowValue
 row_for look columns fields = record (cells_for look false columns fields) { max_height = option_map (max 1) look.max_height }
+
+-- the row of one field of an expanded record: the name of its column, as bold as a header, and the field
+abbrev pub pair_for : Look → Text → Text → RowValue
+pair_for look name field =
+    record (plain_row (with_weight look.has_bold_header (cell_for look None name) ∷ cell_for look None field ∷ [])) { max_height = option_map (max 1) look.max_height }

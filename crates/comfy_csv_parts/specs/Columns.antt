@@ -1,13 +1,16 @@
 -- Which columns are drawn, and how their cells are aligned.
-use Rattle.std.specs.Prelude.{ℕ, Bool, true, false, ◌≡◌, ◌+◌, ◌-◌, ◌==◌, ◌&&◌, ◌||◌, nat_le, nat_lt, List, [], ◌++◌, Option, Some, None, Result, Ok, Err, String, bytes_eq, decimal, drop, find, fold, length, map, max, ok_or, option_and_then, option_map, string_bytes, take, unwrap_or, if◌then◌else◌}
-use Rattle.std.specs.List.{list_all, list_any, position, position_from, range_with_len}
+use Rattle.std.specs.Prelude.{ℕ, Bool, true, false, ◌≡◌, ◌+◌, ◌-◌, ◌==◌, ◌&&◌, nat_le, nat_lt, not, List, [], ◌++◌, Option, Some, None, Result, Ok, Err, String, bytes_eq, decimal, drop, find, fold, length, map, max, ok_or, option_and_then, option_map, string_bytes, take, unwrap_or, if◌then◌else◌}
+use Rattle.std.specs.List.{list_any, position, position_from, range_with_len}
 use Rattle.comfy_parts.specs.Text.{Text}
 use Rattle.comfy_parts.specs.declared.style.cell.CellAlignment.{CellAlignment}
 use Rattle.comfy_parts.specs.declared.style.cell.CellAlignment.TheVariants.{Left, Right}
 use Rattle.csv.specs.Records.{field_at}
 use Rattle.comfy_csv_parts.specs.Cells.{field_or_blank}
-use Rattle.comfy_csv_parts.specs.Number.{is_number}
+use Rattle.comfy_csv_parts.specs.Cleaning.{visible_of}
+use Rattle.comfy_csv_parts.specs.Number.{is_neutral, is_number}
 use Rattle.comfy_csv_parts.specs.Numerals.{number_for}
+use Rattle.comfy_csv_parts.specs.declared.columns.FieldKind.{FieldKind}
+use Rattle.comfy_csv_parts.specs.declared.columns.FieldKind.TheVariants.{Number, Neutral, Other}
 use Rattle.comfy_csv_parts.specs.declared.error.CsvError.{CsvError}
 use Rattle.comfy_csv_parts.specs.declared.error.CsvError.TheVariants.{Read, Write, NotUtf8, SplitCharacter, NoColumn, OutOfMemory, TwoSides}
 use Rattle.comfy_csv_parts.specs.declared.options.Options.{Options}
@@ -92,20 +95,32 @@ positions_of {A} names count words = fold (λ (found : Result (List ℕ) ColumnF
 abbrev pub chosen_columns : {A : Type 0} → List Text → ℕ → List (String A) → Result (List ℕ) ColumnFault
 chosen_columns names count words = if length words == 0 then Ok (range_with_len 0 count) else positions_of names count words
 
-abbrev pub is_number_or_empty : Text → Bool
-is_number_or_empty field = (length field == 0) || is_number field
+-- what is seen of a record's fields: where sequences are kept, they aren't
+abbrev pub seen : Bool → List Text → List Text
+seen keeps_sequences fields = map (visible_of keeps_sequences) fields
 
--- so is the field of a record at a position
-abbrev pub is_number_at : ℕ → List Text → Bool
-is_number_at position fields = is_number_or_empty (field_or_blank fields position)
+-- what a field says of its column; a number says more than being neutral
+abbrev pub kind_of : Text → FieldKind
+kind_of field = if is_number field then Number else if is_neutral field then Neutral else Other
 
--- a field that is there and isn't empty
-abbrev pub is_filled_at : ℕ → List Text → Bool
-is_filled_at position fields = nat_lt 0 (length (field_or_blank fields position))
+-- so of the field of a record at a position
+abbrev pub kind_at : ℕ → List Text → FieldKind
+kind_at position fields = kind_of (field_or_blank fields position)
 
--- each field of a column is a number or empty, and not all are empty
+abbrev pub is_number_kind : FieldKind → Bool
+is_number_kind Number = true
+is_number_kind Neutral = false
+is_number_kind Other = false
+
+abbrev pub is_other_kind : FieldKind → Bool
+is_other_kind Number = false
+is_other_kind Neutral = false
+is_other_kind Other = true
+
+-- each field of a column is a number or neutral, and some field is a number
 abbrev pub is_number_column : List (List Text) → ℕ → Bool
-is_number_column rows position = list_all (is_number_at position) rows && list_any (is_filled_at position) rows
+is_number_column rows position =
+    not (list_any (λ fields. is_other_kind (kind_at position fields)) rows) && list_any (λ fields. is_number_kind (kind_at position fields)) rows
 
 -- the alignment of a column: that which was chosen for it, else at the right where its fields are numbers
 abbrev pub alignment_for : List ℕ → List ℕ → List (List Text) → ℕ → Option CellAlignment
@@ -127,7 +142,7 @@ name_at names position = unwrap_or (field_at names position) (decimal (position 
 abbrev pub at_two_sides : List ℕ → List ℕ → Option ℕ
 at_two_sides right left = find (λ p. list_any (λ q. q == p) left) right
 
--- the columns, unless one is to stand at two sides
+-- the columns, unless one is to stand at two sides; the rows are as they are seen
 abbrev pub placed_columns : List Text → List (List Text) → List ℕ → List ℕ → List ℕ → Option ℕ → Result (List DrawnColumn) ColumnFault
 placed_columns names rows positions right left (Some position) = Err (two_sided (name_at names position))
 placed_columns names rows positions right left None = Ok (drawn_columns right left rows positions)
@@ -141,7 +156,7 @@ columns_with names rows (Err fault) right left = Err fault
 
 abbrev pub columns_for : Options → List Text → List (List Text) → Result (List DrawnColumn) ColumnFault
 columns_for options names rows =
-    columns_with names rows (chosen_columns names (count_of names rows) options.columns.items) (positions_of names (count_of names rows) options.right.items) (positions_of names (count_of names rows) options.left.items)
+    columns_with names (map (seen options.look.has_sequences) rows) (chosen_columns names (count_of names rows) options.columns.items) (positions_of names (count_of names rows) options.right.items) (positions_of names (count_of names rows) options.left.items)
 
 -- why there are no columns: a fault of the lists, or there is no memory
 abbrev pub IsColumnRefusal : {A : Type 0} → CsvError → Result A ColumnFault → Type 0

@@ -1,8 +1,12 @@
--- Texts in cells of Markdown tables, as characters.
-use Rattle.std.specs.Prelude.{ℕ, Bool, false, not, ◌≡◌, ◌==◌, ◌&&◌, ◌||◌, List, [], ◌∷◌, ◌++◌, Option, Some, None, codes, slice_get, if◌then◌else◌}
+-- What makes a table one for Markdown: texts of cells, as characters, and the line below the header.
+use Rattle.std.specs.Prelude.{ℕ, Bool, true, false, not, ◌≡◌, ◌+◌, ◌==◌, ◌&&◌, ◌||◌, List, [], ◌∷◌, ◌++◌, Option, Some, None, codes, flat_map, slice_get, zip, if◌then◌else◌}
 use Rattle.std.specs.Char.Unicode.Alphabetic.{is_alphabetic}
 use Rattle.std.specs.Char.Unicode.Numeric.{is_numeric}
-use Rattle.std.specs.List.{list_any}
+use Rattle.std.specs.List.{list_any, repeat}
+use Rattle.comfy_parts.specs.Text.{Text}
+use Rattle.comfy_parts.specs.declared.style.cell.CellAlignment.{CellAlignment}
+use Rattle.comfy_parts.specs.declared.style.cell.CellAlignment.TheVariants.{Right}
+use Rattle.comfy_csv_parts.specs.declared.options.DrawnColumn.{DrawnColumn}
 
 -- a character that could begin or end markup wherever it stands
 abbrev pub is_mark : ℕ → Bool
@@ -28,6 +32,22 @@ escaped_after before (c ∷ rest) = escaped_character before c (slice_get rest 0
 
 abbrev pub escaped : List ℕ → List ℕ
 escaped text = escaped_after None text
+
+-- ---- the line below the header
+
+abbrev pub is_right : Option CellAlignment → Bool
+is_right (Some Right) = true
+is_right _ = false
+
+-- a column of this width: a dash for each terminal column, of which the last one is a colon at the right, and a bar
+abbrev pub rule_part : DrawnColumn × ℕ → Text
+rule_part p = repeat (p.1 + 1) (codes "-") ++ (if is_right p.0.alignment then codes ":|" else codes "-|")
+
+-- the line below the header, for columns of these widths without their two paddings
+abbrev pub rule_line : List DrawnColumn → List ℕ → Text
+rule_line columns widths = codes "|" ++ flat_map rule_part (zip columns widths)
+
+-- ---- what is read
 
 -- the characters that are meant: what follows a backslash, and a line feed for `<` and the three characters after it
 abbrev pub unescaped : List ℕ → List ℕ

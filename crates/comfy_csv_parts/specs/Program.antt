@@ -43,6 +43,8 @@ csvtable_rules =
     ∷ nameless (option (codes "left") None)
     ∷ nameless (number (codes "width") (Some 0x77) (vp.Signed (pos 0) (pos 65535)))
     ∷ nameless (flag (codes "full") None)
+    ∷ nameless (record (new_rule (codes "all-expanded")) { short = Some 0x78; action = Some SetTrue })
+    ∷ (choice (codes "expanded") None, whens)
     ∷ (record (choice (codes "style") (Some 0x73)) { ignore_case = true }, style_names)
     ∷ nameless (flag (codes "rows") None)
     ∷ nameless (flag (codes "no-rows") None)
@@ -60,13 +62,13 @@ unnamed (Some (vp.Names names)) = Some vp.String
 unnamed parser = parser
 
 -- the names that a value may be, where it is one of some names
-abbrev pub names_in : Option ValueParser → List Text
-names_in (Some (vp.Names names)) = map (λ name. name.now) names.now
-names_in parser = []
+abbrev pub value_names : Option ValueParser → List Text
+value_names (Some (vp.Names names)) = map (λ name. name.now) names.now
+value_names parser = []
 
 -- a rule without its names, and these
 abbrev pub bare : Rule → Rule × List Text
-bare rule = (record rule { parser = unnamed rule.parser }, names_in rule.parser)
+bare rule = (record rule { parser = unnamed rule.parser }, value_names rule.parser)
 
 -- a command's own rules
 abbrev pub with_rules : App → List Rule → App

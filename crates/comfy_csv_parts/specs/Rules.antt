@@ -26,6 +26,7 @@ with_values _ known = known
 abbrev pub of_kind : Kind → Text → Rule → Rule
 of_kind kind.File name rule = record rule { value_names = 1 }
 of_kind kind.Flag name rule = record rule { long = Some name; action = Some SetTrue }
+of_kind kind.Letter name rule = record rule { action = Some SetTrue }
 of_kind kind name rule = record rule { long = Some name; value_names = 1 }
 
 unfoldable pub rule_for : Word → Rule × List Text

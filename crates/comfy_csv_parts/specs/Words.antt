@@ -5,7 +5,7 @@ use Rattle.std.specs.Option.{option_map_or}
 use Rattle.std.specs.Str.Parse.{without_leading_plus}
 use Rattle.clap.specs.Words.{App, first_value, kind_of, matches_of, one_text, rows_of, takes}
 use Rattle.clap.specs.declared.error.Error.{Error}
-use Rattle.clap.specs.declared.error.kind.ErrorKind.TheVariants.{OutOfMemory}
+use Rattle.clap.specs.declared.error.kind.ErrorKind.TheVariants.{InvalidValue, OutOfMemory}
 use Rattle.clap.specs.declared.parser.matches.Found.{Found}
 use Rattle.comfy_parts.specs.Text.{Text}
 use Rattle.comfy_csv_parts.specs.Numerals.{number_for}
@@ -13,6 +13,8 @@ use Rattle.comfy_csv_parts.specs.Program.{IsCsvtable}
 use Rattle.comfy_csv_parts.specs.Styles.{is_compact, is_named, style_for}
 use Rattle.comfy_csv_parts.specs.declared.arguments.Asked.{Asked}
 use Rattle.comfy_csv_parts.specs.declared.arguments.Surroundings.{Surroundings}
+use Rattle.comfy_csv_parts.specs.declared.options.Expansion.{Expansion}
+use Rattle.comfy_csv_parts.specs.declared.options.Expansion.TheVariants.{Always, Auto, Never as NeverExpanded}
 use Rattle.comfy_csv_parts.specs.declared.options.Look.{Look}
 use Rattle.comfy_csv_parts.specs.declared.options.Options.{Options}
 use Rattle.comfy_csv_parts.specs.declared.options.RowSeparators.{RowSeparators}
@@ -84,11 +86,11 @@ are_both_given found pair = is_given found pair.0 && is_given found pair.1
 
 -- the options that exclude each other
 abbrev pub exclusive_options : List (Text × Text)
-exclusive_options = (codes "markdown", codes "style") ∷ (codes "rows", codes "no-rows") ∷ []
+exclusive_options = (codes "markdown", codes "style") ∷ (codes "rows", codes "no-rows") ∷ (codes "all-expanded", codes "expanded") ∷ []
 
 -- those that a table for Markdown excludes
 abbrev pub not_beside_markdown : List Text
-not_beside_markdown = codes "width" ∷ codes "full" ∷ codes "max-height" ∷ codes "ansi" ∷ codes "raw" ∷ []
+not_beside_markdown = codes "width" ∷ codes "full" ∷ codes "all-expanded" ∷ codes "expanded" ∷ codes "max-height" ∷ codes "ansi" ∷ codes "raw" ∷ []
 
 -- the options that were found exclude each other
 abbrev pub are_exclusive : Found → Bool
@@ -98,6 +100,12 @@ are_exclusive found =
 -- where lines between rows are drawn: by the words for them, else by the style
 abbrev pub separators_for : Bool → Bool → Option Text → RowSeparators
 separators_for has_rows has_none style = if has_rows then Styled else if has_none then Never else if is_compact style then Needed else Styled
+
+-- when a record is drawn as a table of its own: always, or as a word says, else where columns would be too narrow
+abbrev pub expansion_for : Bool → Option Text → Expansion
+expansion_for true word = Always
+expansion_for false None = Auto
+expansion_for false (Some word) = if bytes_eq word (codes "always") then Always else if bytes_eq word (codes "never") then NeverExpanded else Auto
 
 -- the file to read: none without a word, and none for a hyphen
 abbrev pub file_for : Option Text → Option Text
@@ -113,6 +121,7 @@ words_in (Some list) = slice_split (λ b. b == 0x2C) list
 pub record LookIsAsked (surroundings : Surroundings) (found : Found) (look : Look) : Type 0 where
   pub style : look.style ≡ style_for (first_value found (codes "style")) look.is_markdown
   pub separators : look.separators ≡ separators_for (is_given found (codes "rows")) (is_given found (codes "no-rows")) (first_value found (codes "style"))
+  pub expansion : look.expansion ≡ expansion_for (is_given found (codes "all-expanded")) (first_value found (codes "expanded"))
   pub width : look.width ≡ width_for look.is_markdown (number_found 16 found (codes "width")) surroundings
   pub full : look.fills_width ≡ is_given found (codes "full")
   pub height : look.max_height ≡ number_found 64 found (codes "max-height")
@@ -158,6 +167,6 @@ pub record AreFoundInVain (words : List Text) : Type 0 where
   pub are_found : AreFound words found
   pub in_vain : (are_exclusive found ≡ true) ⊎ (delimiter_for (first_value found (codes "delimiter")) ≡ None)
 
--- why nothing is asked for: the words are refused, or there is no memory
+-- why nothing is asked for: the words aren't taken, or were found in vain, which is told as an invalid value, or there is no memory
 abbrev pub IsWordRefusal : List Text → Error → Type 0
-IsWordRefusal words e = (kind_of e ≢ OutOfMemory) → AreNotTaken words ⊎ AreFoundInVain words
+IsWordRefusal words e = (kind_of e ≢ OutOfMemory) → AreNotTaken words ⊎ AreFoundInVain words × (kind_of e ≡ InvalidValue)

@@ -1,14 +1,14 @@
 //! The words after the program's name, and what they ask for.
 
-ghost use Rattle.std.specs.Prelude.{◌≡◌, ◌==◌, ◌&&◌, IfOk, IfErr, Some, codes, map, option_map, string_bytes};
+ghost use Rattle.std.specs.Prelude.{◌≡◌, ◌≢◌, ◌==◌, ◌&&◌, IfOk, IfErr, Some, codes, map, option_map, string_bytes};
 ghost use Rattle.std.specs.List.{list_any, slice_split};
 ghost use Rattle.clap.specs.Words.{app_of, first_value, found_of, kind_of};
-ghost use Rattle.clap.specs.declared.error.kind.ErrorKind.TheVariants.{InvalidValue};
+ghost use Rattle.clap.specs.declared.error.kind.ErrorKind.TheVariants.{InvalidValue, OutOfMemory};
 ghost use Rattle.comfy_csv_parts.specs.Program.{IsCsvtable};
-ghost use Rattle.comfy_csv_parts.specs.Words.{IsAsked, IsWordRefusal, LookIsAsked, OptionsAreAsked, are_exclusive, delimiter_for, file_for, is_bold_for, is_bold_there, is_given, is_markdown_in, separators_for, some_columns, some_width, terminal_width, wants_color, width_for, words_in};
+ghost use Rattle.comfy_csv_parts.specs.Words.{IsAsked, IsWordRefusal, LookIsAsked, OptionsAreAsked, are_exclusive, delimiter_for, expansion_for, file_for, is_bold_for, is_bold_there, is_given, is_markdown_in, separators_for, some_columns, some_width, terminal_width, wants_color, width_for, words_in};
 
 use crate::numerals::number_of;
-use crate::options::{Look, Options, RowSeparators};
+use crate::options::{Expansion, Look, Options, RowSeparators};
 use crate::styles::{is_compact, is_named, style_names, style_of};
 use crate::words::command;
 use clap::error::ErrorKind;
@@ -20,10 +20,22 @@ use std::alloc::{AllocError, Global};
 const TERMINAL_WIDTH: u16 = 80;
 
 // Options that exclude each other.
-static EXCLUSIVE_OPTIONS: [(&str, &str); 2] = [("markdown", "style"), ("rows", "no-rows")];
+static EXCLUSIVE_OPTIONS: [(&str, &str); 3] = [
+    ("markdown", "style"),
+    ("rows", "no-rows"),
+    ("all-expanded", "expanded"),
+];
 
 // Options that a table for Markdown excludes.
-static NOT_BESIDE_MARKDOWN: [&str; 5] = ["width", "full", "max-height", "ansi", "raw"];
+static NOT_BESIDE_MARKDOWN: [&str; 7] = [
+    "width",
+    "full",
+    "all-expanded",
+    "expanded",
+    "max-height",
+    "ansi",
+    "raw",
+];
 
 /// What the words ask for.
 #[derive(Debug, Drop)]
@@ -75,8 +87,8 @@ fn asked_by<'a>(
     if are_exclusive(&matches) {
         return Err(refusal(
             command,
-            "`--markdown` and `--style`, and `--rows` and `--no-rows`, exclude each other; a table for Markdown has no \
-             `--width`, `--full`, `--max-height`, `--ansi` or `--raw`",
+            "`--markdown` and `--style`, `--rows` and `--no-rows`, and `-x` and `--expanded` exclude each other; a table for \
+             Markdown has no `--width`, `--full`, `-x`, `--expanded`, `--max-height`, `--ansi` or `--raw`",
         ));
     }
     match delimiter_of(matches.get_str("delimiter")) {
@@ -106,7 +118,9 @@ fn asked_with<'a>(
 }
 
 // The words are refused for this reason.
-fn refusal<'a>(command: &mut Command<'a>, reason: &str) -> Error {
+fn refusal<'a>(command: &mut Command<'a>, reason: &str) -> Error
+    ensures { (kind_of result ≢ OutOfMemory) → kind_of result ≡ InvalidValue }
+{
     let said = command.error(ErrorKind::InvalidValue, reason);
     said.unwrap_or_else(Error::from)
 }
@@ -212,6 +226,10 @@ fn look_of<'a>(matches: &ArgMatches<'a>, surroundings: Surroundings<'_>) -> Look
             is_given(matches, "no-rows"),
             style,
         ),
+        expansion: expansion_of(
+            is_given(matches, "all-expanded"),
+            matches.get_str("expanded"),
+        ),
         width: width_of(is_markdown, matches.get_one::<u16>("width"), surroundings),
         fills_width: is_given(matches, "full"),
         max_height: matches.get_one::<usize>("max-height"),
@@ -235,6 +253,18 @@ fn separators_of(has_rows: bool, has_none: bool, style: Option<&str>) -> RowSepa
         RowSeparators::Needed
     } else {
         RowSeparators::Styled
+    }
+}
+
+// When a record is drawn as a table of its own.
+fn expansion_of(is_always: bool, word: Option<&str>) -> Expansion
+    ensures { result ≡ expansion_for is_always (option_map (λ w. w.now) word.entry) }
+{
+    match word {
+        _ if is_always => Expansion::Always,
+        Some("always") => Expansion::Always,
+        Some("never") => Expansion::Never,
+        _ => Expansion::Auto,
     }
 }
 

@@ -1,8 +1,9 @@
 //! The cells and rows of records.
 
-ghost use Rattle.std.specs.Prelude.{◌≡◌, IfOk, string_bytes};
+ghost use Rattle.std.specs.Prelude.{◌≡◌, IfOk, max, option_map, string_bytes};
+ghost use Rattle.std.specs.Option.{option_or};
 ghost use Rattle.csv.specs.Records.{fields_of};
-ghost use Rattle.comfy_csv_parts.specs.Cells.{cell_for, cells_for, field_text, header_for, kept_by, kept_for_markdown, row_for, with_weight};
+ghost use Rattle.comfy_csv_parts.specs.Cells.{cell_for, cells_for, field_text, header_for, kept_by, kept_for_markdown, pair_for, row_for, with_weight};
 
 use crate::cleaning::{Kept, cleaned};
 use crate::markdown::escaped;
@@ -21,11 +22,7 @@ pub fn row_of(
 ) -> Result<Row>
     ensures { IfOk result (λ row. row ≡ row_for look.now columns.now (fields_of fields.now)) }
 {
-    let mut row = cells_of(alloc, fields, columns, look, false)?;
-    if let Some(lines) = look.max_height {
-        row.max_height(lines);
-    }
-    Ok(row)
+    Ok(cut(cells_of(alloc, fields, columns, look, false)?, look))
 }
 
 /// The row of the header.
@@ -38,6 +35,26 @@ pub fn header_of(
     ensures { IfOk result (λ row. row ≡ header_for look.now columns.now (fields_of fields.now)) }
 {
     cells_of(alloc, fields, columns, look, look.has_bold_header)
+}
+
+/// The row of one field of a record that is drawn as a table of its own: the name of the field's column, and the field.
+pub fn pair_of(alloc: Global, name: &str, field: &str, look: &Look) -> Result<Row>
+    ensures { IfOk result (λ row. row ≡ pair_for look.now name.now field.now) }
+{
+    let mut row = Cells(Vec::with_capacity(alloc, 2)?).into_row(alloc)?;
+    row.try_add_cell(cell_of(alloc, name, None, look, look.has_bold_header)?)?;
+    row.try_add_cell(cell_of(alloc, field, None, look, false)?)?;
+    Ok(cut(row, look))
+}
+
+// A row with the greatest height that is wanted.
+fn cut(mut row: Row, look: &Look) -> Row
+    ensures { result ≡ record row { max_height = option_or (option_map (max 1) look.now.max_height) row.max_height } }
+{
+    if let Some(lines) = look.max_height {
+        row.max_height(lines);
+    }
+    row
 }
 
 // The row of a record, with bold cells or without.
@@ -69,10 +86,11 @@ fn cell_of(
     ensures { IfOk result (λ cell. cell ≡ with_weight is_bold (cell_for look.now alignment field.now)) }
 {
     let cell = Cell::new_owned(alloc, field_text(alloc, field, look)?)?;
-    match alignment {
-        Some(alignment) => with_weight(cell.set_alignment(alignment), is_bold),
-        None => with_weight(cell, is_bold),
-    }
+    let cell = match alignment {
+        Some(alignment) => cell.set_alignment(alignment),
+        None => cell,
+    };
+    with_weight(cell, is_bold)
 }
 
 // A cell in bold, or as it is.

@@ -68,7 +68,7 @@ fn is_printable(bytes: &[u8]) -> bool
 }
 
 /// Whether a character is drawn as another one.
-pub(crate) fn is_replaced(c: char, kept: Kept) -> bool
+fn is_replaced(c: char, kept: Kept) -> bool
     ensures { result ≡ is_replaced kept c }
 {
     c.is_control() || !kept.directions && turns_direction(c)
@@ -226,7 +226,7 @@ fn blanks_after(seen: &str) -> &'static str
 }
 
 // A character as it is drawn.
-fn shown(c: char, kept: Kept) -> char
+pub(crate) fn shown(c: char, kept: Kept) -> char
     ensures { result ≡ shown kept c }
 {
     if is_replaced(c, kept) { '\u{fffd}' } else { c }

@@ -1,14 +1,16 @@
 //! Which columns are drawn, and how their cells are aligned.
 
 ghost use Rattle.std.specs.Prelude.{◌≡◌, ◌<◌, ◌≤◌, ◌-◌, ◌^◌, IfOk, IfErr, IfSome, Ok, map, string_bytes};
-ghost use Rattle.std.specs.List.{list_all, list_any, range_with_len};
-ghost use Rattle.csv.specs.Records.{Row as CsvRow, field_at, fields_of};
-ghost use Rattle.comfy_csv_parts.specs.Columns.{IsColumnRefusal, alignment_for, at_two_sides, chosen_columns, columns_chosen, columns_for, count_of, drawn_columns, is_filled_at, is_number_at, is_number_column, is_number_or_empty, is_text, name_at, named_or_between, numbered, numbers_around_hyphen, position_named, positions_of, positions_of_word};
+ghost use Rattle.std.specs.List.{range_with_len};
+ghost use Rattle.comfy_parts.specs.VisibleText.{visible_text};
+ghost use Rattle.csv.specs.Records.{field_at, fields_of};
+ghost use Rattle.comfy_csv_parts.specs.Columns.{IsColumnRefusal, alignment_for, at_two_sides, chosen_columns, columns_chosen, columns_for, count_of, drawn_columns, is_number_column, is_text, kind_at, kind_of, name_at, named_or_between, numbered, numbers_around_hyphen, position_named, positions_of, positions_of_word, seen};
 
 use crate::error::CsvError;
-use crate::number::is_number;
+use crate::number::{is_neutral, is_number};
 use crate::numerals::number_of;
 use crate::options::{DrawnColumn, Options};
+use comfy_parts::content_split::visible_text;
 use comfy_parts::style::CellAlignment;
 use csv::StringRecord;
 use std::alloc::{AllocError, Global};
@@ -36,6 +38,7 @@ pub fn columns_of(
         right.as_slice(),
         left.as_slice(),
         rows,
+        options.look.has_sequences,
     )?;
     Ok(columns)
 }
@@ -52,8 +55,8 @@ fn at_two_sides(right: &[usize], left: &[usize]) -> Option<usize>
     None
 }
 
-// The name of the column at a position, or its number where there is no header.
-fn name_at(alloc: Global, names: &StringRecord, position: usize) -> Result<String, AllocError>
+/// The name of the column at a position, or its number where there is no header.
+pub fn name_at(alloc: Global, names: &StringRecord, position: usize) -> Result<String, AllocError>
     ensures { IfOk result (λ name. string_bytes name ≡ name_at (fields_of names.now) position) }
 {
     match names.get(position) {
@@ -209,12 +212,13 @@ fn drawn_columns(
     right: &[usize],
     left: &[usize],
     rows: &[StringRecord],
+    has_sequences: bool,
 ) -> Result<Vec<DrawnColumn>, AllocError>
-    ensures { IfOk result (λ columns. columns.items ≡ drawn_columns right.now left.now (map fields_of rows.now) positions.now) }
+    ensures { IfOk result (λ columns. columns.items ≡ drawn_columns right.now left.now (map (seen has_sequences) (map fields_of rows.now)) positions.now) }
 {
     let mut columns = Vec::with_capacity(alloc, positions.len())?;
     for position in positions {
-        let alignment = alignment_of(*position, right, left, rows);
+        let alignment = alignment_of(alloc, *position, right, left, rows, has_sequences)?;
         columns.push(DrawnColumn {
             position: *position,
             alignment,
@@ -225,59 +229,95 @@ fn drawn_columns(
 
 // The alignment of a column: that which was chosen for it, or that of numbers.
 fn alignment_of(
+    alloc: Global,
     position: usize,
     right: &[usize],
     left: &[usize],
     rows: &[StringRecord],
-) -> Option<CellAlignment>
-    ensures { result ≡ alignment_for right.now left.now (map fields_of rows.now) position }
+    has_sequences: bool,
+) -> Result<Option<CellAlignment>, AllocError>
+    ensures { IfOk result (λ alignment. alignment ≡ alignment_for right.now left.now (map (seen has_sequences) (map fields_of rows.now)) position) }
 {
     if right.contains(&position) {
-        return Some(CellAlignment::Right);
+        return Ok(Some(CellAlignment::Right));
     }
     if left.contains(&position) {
-        return Some(CellAlignment::Left);
+        return Ok(Some(CellAlignment::Left));
     }
-    if is_number_column(position, rows) {
-        Some(CellAlignment::Right)
+    if is_number_column(alloc, position, rows, has_sequences)? {
+        Ok(Some(CellAlignment::Right))
     } else {
-        None
+        Ok(None)
     }
 }
 
-// Whether each field of a column is a number or empty, and not all are empty.
-fn is_number_column(position: usize, rows: &[StringRecord]) -> bool
-    ensures { result ≡ is_number_column (map fields_of rows.now) position }
+// Whether each field of a column is a number or neutral, and some field is a number.
+fn is_number_column(
+    alloc: Global,
+    position: usize,
+    rows: &[StringRecord],
+    has_sequences: bool,
+) -> Result<bool, AllocError>
+    ensures { IfOk result (λ yes. yes ≡ is_number_column (map (seen has_sequences) (map fields_of rows.now)) position) }
 {
-    are_numbers_at(position, rows) && is_any_filled_at(position, rows)
+    let mut has_number = false;
+    for row in rows {
+        match kind_at(alloc, position, row, has_sequences)? {
+            FieldKind::Number => has_number = true,
+            FieldKind::Neutral => {}
+            FieldKind::Other => return Ok(false),
+        }
+    }
+    Ok(has_number)
 }
 
-fn are_numbers_at(position: usize, rows: &[StringRecord]) -> bool
-    ensures { result ≡ list_all (λ (row : CsvRow). is_number_at position (fields_of row)) rows.now }
-{
-    rows.iter().all(|row| is_number_at(position, row))
+// What a field says of its column.
+#[derive(Clone, Copy)]
+enum FieldKind {
+    Number,
+    // nothing, or a word for a missing value
+    Neutral,
+    Other,
 }
 
-fn is_any_filled_at(position: usize, rows: &[StringRecord]) -> bool
-    ensures { result ≡ list_any (λ (row : CsvRow). is_filled_at position (fields_of row)) rows.now }
+// What the field at a position says, as it is seen.
+fn kind_at(
+    alloc: Global,
+    position: usize,
+    row: &StringRecord,
+    has_sequences: bool,
+) -> Result<FieldKind, AllocError>
+    ensures { IfOk result (λ kind. kind ≡ kind_at position (seen has_sequences (fields_of row.now))) }
 {
-    rows.iter().any(|row| is_filled_at(position, row))
+    let field = row.get(position).unwrap_or("");
+    if has_sequences {
+        let seen = seen_text(alloc, field)?;
+        Ok(kind_of(seen.as_str()))
+    } else {
+        Ok(kind_of(field))
+    }
 }
 
-fn is_filled_at(position: usize, row: &StringRecord) -> bool
-    ensures { result ≡ is_filled_at position (fields_of row.now) }
+fn seen_text(alloc: Global, field: &str) -> Result<String, AllocError>
+    ensures { IfOk result (λ text. string_bytes text ≡ visible_text field.now) }
 {
-    !row.get(position).unwrap_or("").is_empty()
+    match visible_text(alloc, field) {
+        Ok(text) => Ok(text),
+        Err(_) => Err(AllocError),
+    }
 }
 
-fn is_number_at(position: usize, row: &StringRecord) -> bool
-    ensures { result ≡ is_number_at position (fields_of row.now) }
+fn kind_of(field: &str) -> FieldKind
+    ensures { result ≡ kind_of field.now }
 {
-    is_number_or_empty(row.get(position).unwrap_or(""))
-}
-
-fn is_number_or_empty(field: &str) -> bool
-    ensures { result ≡ is_number_or_empty field.now }
-{
-    field.is_empty() || is_number(field)
+    // Many fields are empty, and are seen to be neutral faster so.
+    if field.is_empty() {
+        FieldKind::Neutral
+    } else if is_number(field) {
+        FieldKind::Number
+    } else if is_neutral(field) {
+        FieldKind::Neutral
+    } else {
+        FieldKind::Other
+    }
 }

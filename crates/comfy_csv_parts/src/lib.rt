@@ -19,13 +19,13 @@ mod text;
 mod words;
 
 pub use arguments::{Asked, Surroundings, asked_of};
-pub use cells::{header_of, row_of};
+pub use cells::{header_of, pair_of, row_of};
 pub use cleaning::{Kept, cleaned};
-pub use columns::columns_of;
+pub use columns::{columns_of, name_at};
 pub use error::CsvError;
-pub use markdown::escaped;
+pub use markdown::{escaped, push_rule};
 pub use number::is_number;
-pub use options::{DrawnColumn, Look, Options, RowSeparators};
+pub use options::{DrawnColumn, Expansion, Look, Options, RowSeparators};
 pub use records::records_of;
 pub use shown::shown_text;
 pub use text::text_of;

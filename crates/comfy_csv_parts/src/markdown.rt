@@ -1,9 +1,11 @@
-//! Texts for the cells of Markdown tables.
+//! What makes a table one for Markdown: the texts of its cells, and the line below its header.
 
-ghost use Rattle.std.specs.Prelude.{◌≡◌, ◌<◌, ◌++◌, [], IfNone, IfOk, IfSome, OnOk, chars, encode_utf8, length, slice_get, string_bytes};
+ghost use Rattle.std.specs.Prelude.{◌≡◌, ◌<◌, ◌++◌, [], ◌∷◌, IfNone, IfOk, IfSome, OnOk, chars, encode_utf8, length, slice_get, string_bytes};
 ghost use Rattle.std.specs.Str.{encode_utf8_all};
-ghost use Rattle.comfy_csv_parts.specs.Markdown.{escaped, escaped_character, is_in_word, is_mark, is_special};
+ghost use Rattle.comfy_csv_parts.specs.Markdown.{escaped, escaped_character, is_in_word, is_mark, is_right, is_special, rule_line, rule_part};
 
+use crate::options::DrawnColumn;
+use comfy_parts::style::CellAlignment;
 use std::alloc::{AllocError, Global};
 
 /// A text as a cell of a Markdown table, to be read as its characters. A backslash stands before what could begin or end
@@ -21,6 +23,42 @@ pub fn escaped(alloc: Global, text: &str) -> Result<String, AllocError>
         rest = behind;
     }
     Ok(cell)
+}
+
+/// Appends the line below the header, and a line feed: dashes between bars, the last of a column at the right a colon.
+/// The widths are those of the columns without their paddings, in terminal columns.
+pub fn push_rule(
+    text: &mut String,
+    columns: &[DrawnColumn],
+    widths: &[u16],
+) -> Result<(), AllocError>
+    ensures { OnOk result (string_bytes text.new ≡ string_bytes text.old ++ (rule_line columns.now widths.now ++ 0x0A ∷ [])) }
+{
+    text.push('|')?;
+    for (column, width) in columns.iter().zip(widths) {
+        push_part(text, column, *width)?;
+    }
+    text.push('\n')
+}
+
+// What a column of this width adds to the line.
+fn push_part(text: &mut String, column: &DrawnColumn, width: u16) -> Result<(), AllocError>
+    ensures { OnOk result (string_bytes text.new ≡ string_bytes text.old ++ rule_part (column.now, width)) }
+{
+    for _ in 0..usize::from(width) + 1 {
+        text.push('-')?;
+    }
+    text.push_str(if is_right(column.alignment) {
+        ":|"
+    } else {
+        "-|"
+    })
+}
+
+fn is_right(alignment: Option<CellAlignment>) -> bool
+    ensures { result ≡ is_right alignment }
+{
+    matches!(alignment, Some(CellAlignment::Right))
 }
 
 // The first character, and what follows it.

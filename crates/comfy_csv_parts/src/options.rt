@@ -29,6 +29,8 @@ pub struct Look {
     pub style: TableStyle,
     /// Where `draw` has the style's line between two rows.
     pub separators: RowSeparators,
+    /// Whether a record is drawn as a table of its own, of names and fields.
+    pub expansion: Expansion,
     /// The width to keep to, in terminal columns; none where none is kept.
     pub width: Option<u16>,
     /// Whether the width is filled too.
@@ -43,7 +45,8 @@ pub struct Look {
     pub keeps_bidi: bool,
     /// Whether control characters, and those that turn the direction of text, are left as they are.
     pub is_raw: bool,
-    /// Whether fields are written for Markdown. They are cleaned then, and no sequence stays.
+    /// Whether the table is one for Markdown. Each record is one line then: the frame is Markdown's, no width is kept,
+    /// nothing is cut, bold or expanded, and fields are cleaned, so that no sequence stays.
     pub is_markdown: bool,
 }
 
@@ -55,6 +58,17 @@ pub enum RowSeparators {
     /// Where the style has them and a drawn row has more than one line.
     Needed,
     /// Nowhere.
+    Never,
+}
+
+/// When a record is drawn as a table of its own.
+#[derive(Clone, Copy, Debug, PartialEq, Eq)]
+pub enum Expansion {
+    /// Where a width is kept that leaves some columns fewer than four terminal columns and than their contents.
+    Auto,
+    /// Always.
+    Always,
+    /// Never.
     Never,
 }
 

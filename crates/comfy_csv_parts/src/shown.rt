@@ -5,7 +5,7 @@ ghost use Rattle.std.specs.List.{list_any};
 ghost use Rattle.comfy_csv_parts.specs.Cleaning.{is_harmful, nothing_kept};
 ghost use Rattle.comfy_csv_parts.specs.Shown.{shown_in, shown_text};
 
-use crate::cleaning::{Kept, is_replaced};
+use crate::cleaning::{Kept, shown};
 use std::alloc::{AllocError, Global};
 
 const NOTHING_KEPT: Kept = Kept {
@@ -29,9 +29,9 @@ pub fn shown_text(alloc: Global, text: &str, keeps_breaks: bool) -> Result<Strin
 fn shown_in(keeps_breaks: bool, c: char) -> char
     ensures { result ≡ shown_in keeps_breaks c }
 {
-    if is_replaced(c, NOTHING_KEPT) && !(keeps_breaks && c == '\n') {
-        '\u{fffd}'
-    } else {
+    if keeps_breaks && c == '\n' {
         c
+    } else {
+        shown(c, NOTHING_KEPT)
     }
 }

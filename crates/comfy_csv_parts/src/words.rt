@@ -1,8 +1,7 @@
 //! The words of the program, as a table for clap.
 
-ghost use Rattle.std.specs.Prelude.{◌≡◌, IfOk, Some, map};
+ghost use Rattle.std.specs.Prelude.{◌≡◌, IfOk, map};
 ghost use Rattle.clap.specs.Words.{app_of, rule_of};
-ghost use Rattle.clap.specs.declared.builder.action.ArgAction.TheVariants.{SetTrue};
 ghost use Rattle.comfy_csv_parts.specs.Program.{IsCsvtable, bare};
 ghost use Rattle.comfy_csv_parts.specs.Rules.{lettered, rule_for, with_values};
 ghost use Rattle.comfy_csv_parts.specs.Styles.{style_names};
@@ -27,6 +26,8 @@ enum Kind {
     File,
     // a name without a value
     Flag,
+    // a letter without a name and without a value
+    Letter,
     Text,
     Width,
     Count,
@@ -34,7 +35,7 @@ enum Kind {
     When,
 }
 
-static WORDS: [Word; 18] = [
+static WORDS: [Word; 20] = [
     Word {
         name: "file",
         letter: None,
@@ -97,6 +98,20 @@ static WORDS: [Word; 18] = [
         kind: Kind::Flag,
         value: "",
         help: "Fill the width",
+    },
+    Word {
+        name: "all-expanded",
+        letter: Some('x'),
+        kind: Kind::Letter,
+        value: "",
+        help: "As `--expanded always`",
+    },
+    Word {
+        name: "expanded",
+        letter: None,
+        kind: Kind::When,
+        value: "WHEN",
+        help: "A record as names and fields; `auto` is where columns would be too narrow [default: auto]",
     },
     Word {
         name: "style",
@@ -163,6 +178,10 @@ static WORDS: [Word; 18] = [
     },
 ];
 
+// Interactive shells keep `COLUMNS` to themselves.
+static AFTER_HELP: &str =
+    "For the width of your terminal: alias csvtable='COLUMNS=$COLUMNS csvtable'";
+
 static WHENS: [&str; 3] = ["auto", "always", "never"];
 
 // The words of `csvtable`, for clap, with these names of styles.
@@ -173,6 +192,7 @@ pub(crate) fn command<'a>(alloc: Global, styles: &'a [&'a str]) -> Result<Comman
     let mut command = Command::new(alloc, "csvtable")
         .version("2.0.0")
         .about("Draws the records of a CSV file as a table")
+        .after_help(AFTER_HELP)
         .args_override_self(true);
     for word in &WORDS {
         command = command.arg(arg_of(alloc, word, styles)?)?;
@@ -188,7 +208,8 @@ fn arg_of<'a>(alloc: Global, word: &Word, styles: &'a [&'a str]) -> Result<Arg<'
     let arg = with_letter(Arg::new(alloc, word.name).help(word.help), word.letter);
     match word.kind {
         Kind::File => Ok(arg.value_name(word.value)),
-        Kind::Flag => Ok(flag(arg, word.name)),
+        Kind::Flag => Ok(arg.long(word.name).action(ArgAction::SetTrue)),
+        Kind::Letter => Ok(arg.action(ArgAction::SetTrue)),
         kind => Ok(with_value(arg.long(word.name).value_name(word.value), kind, styles)),
     }
 }
@@ -200,13 +221,6 @@ fn with_letter<'a>(arg: Arg<'a>, letter: Option<char>) -> Arg<'a>
         Some(letter) => arg.short(letter),
         None => arg,
     }
-}
-
-// A word without a value.
-fn flag<'a>(arg: Arg<'a>, name: &'a str) -> Arg<'a>
-    ensures { rule_of result ≡ record (rule_of arg.entry) { long = Some name.entry.now; action = Some SetTrue } }
-{
-    arg.long(name).action(ArgAction::SetTrue)
 }
 
 // A word with a value of its kind.

@@ -1,14 +1,18 @@
 //! Calls as a program writes them, each with a claim that their contracts and the laws carry.
 
-ghost use Rattle.std.specs.Prelude.{◌≡◌, IfOk, IfSome, chars, false, string_bytes};
+ghost use Rattle.std.specs.Prelude.{◌≡◌, IfOk, IfSome, chars, false, string_bytes, true};
 ghost use Rattle.std.specs.List.{list_any};
 ghost use Rattle.comfy_parts.specs.VisibleText.{visible_text};
 ghost use Rattle.comfy_csv_parts.specs.Cleaning.{is_harmful, nothing_kept};
 ghost use Rattle.comfy_csv_parts.specs.Controls.{HasNoStrayControl};
 ghost use Rattle.comfy_csv.specs.Drawn.{IsOutputFor};
 ghost use Rattle.comfy_csv.specs.Laws.{IsLookWithoutControls};
+ghost use Rattle.test_csv_cases.specs.Uses.{GivesInputBack};
 
-use comfy_csv::laws::{cleaned_fields_hold_no_controls, outputs_hold_no_controls};
+use comfy_csv::laws::{
+    cleaned_fields_hold_no_controls, markdown_lines_give_back_their_fields,
+    outputs_hold_no_controls,
+};
 use comfy_csv::{CsvError, Kept, Options, Surroundings, asked_of, cleaned, draw};
 use comfy_run::run::{MemorySink, MemorySource};
 use std::alloc::{AllocError, Global};
@@ -45,6 +49,20 @@ pub fn output_for_terminal(
     ensures { IfOk result (λ sink. IsLookWithoutControls options.now.look → HasNoStrayControl (visible_text sink.bytes)) }
 {
     outputs_hold_no_controls();
+    output_for(alloc, input, room, options)
+}
+
+/// The same for Markdown. Where a column is drawn and no field is wider than 65535 terminal columns, each record that is
+/// drawn is one line, from which its fields can be read back.
+pub fn output_for_markdown(
+    alloc: Global,
+    input: &[u8],
+    room: usize,
+    options: &Options,
+) -> Result<MemorySink, CsvError>
+    ensures { IfOk result (λ sink. options.now.look.is_markdown ≡ true → GivesInputBack options.now input.now sink.bytes) }
+{
+    markdown_lines_give_back_their_fields();
     output_for(alloc, input, room, options)
 }
 

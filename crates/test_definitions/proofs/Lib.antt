@@ -5,6 +5,7 @@ mod ControlTrials
 mod DrawingTrials
 mod HiddenColumnTrials
 mod InputTrials
+mod MarkdownLineTrials
 mod OutcomeTrials
 mod OutputControlTrials
 mod PartTrials

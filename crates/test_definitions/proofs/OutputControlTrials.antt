@@ -16,6 +16,7 @@ use Rattle.csv.specs.Records.{field_at}
 use Rattle.comfy_csv_parts.specs.Cells.{field_text, header_for, row_for}
 use Rattle.comfy_csv_parts.specs.Controls.{HasNoStrayControl, IsStyleWithoutControls, is_stray_control}
 use Rattle.comfy_csv_parts.specs.Styles.{style_for}
+use Rattle.comfy_csv_parts.specs.declared.options.Expansion.TheVariants.{Auto}
 use Rattle.comfy_csv_parts.specs.declared.options.RowSeparators.TheVariants.{Styled}
 use Rattle.comfy_csv_parts.specs.declared.options.DrawnColumn.{DrawnColumn}
 use Rattle.comfy_csv_parts.specs.declared.options.Look.{Look}
@@ -64,7 +65,7 @@ clearing_is_harmful = harmful (codes "\u{1b}[2J") refl
 
 -- sequences are kept, and the header is in bold
 abbrev look : Look
-look = record { style = ascii_full; separators = Styled; width = None; fills_width = false; max_height = None; has_bold_header = true; has_sequences = true; keeps_bidi = false; is_raw = false; is_markdown = false }
+look = record { style = ascii_full; separators = Styled; expansion = Auto; width = None; fills_width = false; max_height = None; has_bold_header = true; has_sequences = true; keeps_bidi = false; is_raw = false; is_markdown = false }
 
 look_is_without : IsLookWithoutControls look
 look_is_without = record { cleaned = refl; style = refl }

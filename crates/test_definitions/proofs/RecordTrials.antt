@@ -4,14 +4,23 @@ use Prim.Native.String.{String}
 use Rattle.comfy_parts.proofs.Computing.{wrapping}
 use Rattle.comfy_parts.specs.Text.{Text}
 use Rattle.comfy_parts.specs.declared.style.cell.CellAlignment.TheVariants.{Left, Right}
+use Rattle.std.specs.Fmt.{digits}
+use Rattle.std.specs.List.{list_all, list_any}
+use Rattle.std.specs.Str.{chars}
+use Rattle.ucd_category.proofs.Computing.{ucd_category}
 use Rattle.csv.specs.Records.{field_at}
 use Rattle.comfy_csv_parts.specs.Cleaning.{after_piece, pieces, start}
 use Rattle.comfy_csv_parts.specs.Input.{line_breaks as line_breaks_of, line_of}
 use Rattle.comfy_csv_parts.specs.declared.cleaning.Kept.{Kept}
-use Rattle.comfy_csv_parts.specs.Columns.{alignment_for, columns_with, missing, position_named, positions_of_word, two_sided}
-use Rattle.comfy_csv.specs.Drawn.{condensed_style, limited, note_for}
+use Rattle.comfy_csv_parts.specs.Columns.{alignment_for, columns_with, missing, position_named, positions_of_word, seen, two_sided}
+use Rattle.comfy_csv.specs.Drawn.{condensed_style, is_expanded_in, least_width, limited, note_for, record_line}
+use Rattle.comfy_csv_parts.specs.Markdown.{rule_line}
+use Rattle.comfy_csv_parts.specs.declared.options.Expansion.TheVariants.{Always, Auto, Never}
+use Rattle.comfy_parts.specs.CellValue.{plain_cell, plain_row}
+use Rattle.comfy_parts.specs.Presets.{ascii_full}
+use Rattle.comfy_table.specs.TableValue.{TableValue, new_table, with_rows}
 use Rattle.comfy_csv_parts.specs.Markdown.{escaped, unescaped}
-use Rattle.comfy_csv_parts.specs.Number.{is_number}
+use Rattle.comfy_csv_parts.specs.Number.{is_neutral, is_number}
 use Rattle.clap.proofs.OnLiterals.{clap_on_literals}
 use Rattle.clap.specs.Words.{first_of, matches_of}
 use Rattle.comfy_csv_parts.specs.Program.{csvtable_rules, with_rules, wordless}
@@ -29,15 +38,41 @@ texts words = map (λ (word : String). codes word) words
 
 -- ---- numbers
 
-numbers : map is_number (texts ("0" ∷ "-12" ∷ "+12.50" ∷ "1_000" ∷ "-1,234.5" ∷ ".5" ∷ "8.1e4" ∷ "2E-3" ∷ "7%" ∷ "-$12" ∷ "$3e2%" ∷ [])) ≡ true ∷ true ∷ true ∷ true ∷ true ∷ true ∷ true ∷ true ∷ true ∷ true ∷ true ∷ []
+numbers : list_all is_number (texts ("0" ∷ "-12" ∷ "+12.50" ∷ ".5" ∷ "5." ∷ "8.1e4" ∷ "2E-3" ∷ "7%" ∷ "12 %" ∷ "-$12" ∷ "$-12" ∷ "$ 12" ∷ "5$" ∷ "(12)" ∷ "($12.50)" ∷ [])) ≡ true
+unfolding chars lib.Utf8.encode ucd_category
 numbers = refl
 
--- a pound, a yen and a euro in UTF-8
-other_currencies : map is_number ((0xC2 ∷ 0xA3 ∷ 0x35 ∷ []) ∷ (0xC2 ∷ 0xA5 ∷ 0x35 ∷ []) ∷ (0x2D ∷ 0xE2 ∷ 0x82 ∷ 0xAC ∷ 0x35 ∷ []) ∷ (0xC2 ∷ 0x35 ∷ []) ∷ []) ≡ true ∷ true ∷ true ∷ false ∷ []
-other_currencies = refl
+-- with groups; one mark with three digits behind it is a decimal mark or parts groups, and a number either way
+grouped_numbers : list_all is_number (texts ("1,234" ∷ "1234,567" ∷ "1_000" ∷ "1'234.5" ∷ "1 234,5" ∷ "-1,234.5" ∷ "1.234,56" ∷ "12.345.678" ∷ "1.234.567.890" ∷ "1.000.000.000,5" ∷ "1,234e5" ∷ [])) ≡ true
+unfolding chars lib.Utf8.encode ucd_category
+grouped_numbers = refl
 
-no_numbers : map is_number (texts ("" ∷ "-" ∷ "." ∷ "$" ∷ "%" ∷ "e5" ∷ "1e" ∷ "1e+" ∷ "1e2.5" ∷ "1-2" ∷ "--1" ∷ "1 2" ∷ " 1" ∷ "12a" ∷ "5$" ∷ "%5" ∷ [])) ≡ false ∷ false ∷ false ∷ false ∷ false ∷ false ∷ false ∷ false ∷ false ∷ false ∷ false ∷ false ∷ false ∷ false ∷ false ∷ false ∷ []
+-- U+2212, a pound, a euro behind a space at which no line breaks, and a narrow such space between groups
+numbers_beyond_ascii : list_all is_number (map encode_utf8_all ((0x2212 ∷ 0x33 ∷ []) ∷ (0x2D ∷ 0xA3 ∷ 0x35 ∷ []) ∷ (0x31 ∷ 0x32 ∷ 0xA0 ∷ 0x20AC ∷ []) ∷ (0x31 ∷ 0x202F ∷ 0x32 ∷ 0x33 ∷ 0x34 ∷ []) ∷ [])) ≡ true
+unfolding chars lib.Utf8.encode ucd_category
+numbers_beyond_ascii = refl
+
+no_numbers : list_any is_number (texts ("" ∷ "-" ∷ "." ∷ "$" ∷ "%" ∷ "()" ∷ "e5" ∷ "1e" ∷ "1e+" ∷ "1e2.5" ∷ "1 e5" ∷ "1-2" ∷ "--1" ∷ "-$-1" ∷ "$12%" ∷ "%5" ∷ "(-5)" ∷ "-(5)" ∷ " 1" ∷ "12a" ∷ [])) ≡ false
+unfolding chars lib.Utf8.encode ucd_category
 no_numbers = refl
+
+-- groups of another length, and of two marks
+ungrouped_digits : list_any is_number (texts ("1 2" ∷ "1,2,3" ∷ "1_00" ∷ "12,34,567" ∷ "1234,567,890" ∷ "1,234.567,890" ∷ "1.234,567.8" ∷ [])) ≡ false
+unfolding chars lib.Utf8.encode ucd_category
+ungrouped_digits = refl
+
+-- names, dates, times, versions and addresses
+other_digits : list_any is_number (texts ("0042" ∷ "2026-05-02" ∷ "02.05.2026" ∷ "12:30" ∷ "1.2.3" ∷ "192.168.1.10" ∷ "192.168.100.200" ∷ "1.000.000.000" ∷ [])) ≡ false
+unfolding chars lib.Utf8.encode ucd_category
+other_digits = refl
+
+neutral_fields : list_all is_neutral (texts ("" ∷ "-" ∷ "n/a" ∷ "N/A" ∷ "na" ∷ "Null" ∷ "NaN" ∷ "-inf" ∷ "+INF" ∷ [])) ≡ true
+unfolding chars lib.Utf8.encode
+neutral_fields = refl
+
+telling_fields : list_any is_neutral (texts ("0" ∷ "--" ∷ "+" ∷ "none" ∷ "n / a" ∷ "infinity" ∷ " " ∷ [])) ≡ false
+unfolding chars lib.Utf8.encode
+telling_fields = refl
 
 -- ---- fields as they are drawn
 
@@ -174,22 +209,60 @@ unfolding field_at
 at_two_sides_numbered = refl
 
 abbrev rows : List (List Text)
-rows = texts ("x" ∷ "1" ∷ "2" ∷ []) ∷ texts ("3" ∷ "" ∷ []) ∷ []
+rows = texts ("x" ∷ "1" ∷ "2" ∷ "-" ∷ "0042" ∷ []) ∷ texts ("3" ∷ "n/a" ∷ []) ∷ texts ("3" ∷ "" ∷ "2" ∷ "" ∷ "42" ∷ []) ∷ []
 
--- a column with a word, one with an empty field, one with a missing field, and one that has none
-alignments : map (alignment_for [] [] rows) (0 ∷ 1 ∷ 2 ∷ 3 ∷ []) ≡ None ∷ Some Right ∷ Some Right ∷ None ∷ []
-unfolding field_at
+-- a column with a word, one with neutral fields, one with a missing field, one of neutral fields alone, one with a name, and one that has no field
+alignments : map (alignment_for [] [] rows) (0 ∷ 1 ∷ 2 ∷ 3 ∷ 4 ∷ 5 ∷ []) ≡ None ∷ Some Right ∷ Some Right ∷ None ∷ None ∷ None ∷ []
+unfolding field_at chars lib.Utf8.encode ucd_category
 alignments = refl
+
+-- where sequences are kept, a number in colour is one
+abbrev in_red : Text
+in_red = 0x1B ∷ codes "[31m12" ++ 0x1B ∷ codes "[0m"
+
+coloured_alignments : map (λ keeps. alignment_for [] [] (map (seen keeps) ((in_red ∷ []) ∷ [])) 0) (true ∷ false ∷ []) ≡ Some Right ∷ None ∷ []
+unfolding field_at chars lib.Utf8.encode ucd_category
+coloured_alignments = refl
 
 -- the right wins over the left, and both over numbers
 chosen_alignments : map (alignment_for (0 ∷ []) (0 ∷ 1 ∷ []) rows) (0 ∷ 1 ∷ []) ≡ Some Right ∷ Some Left ∷ []
-unfolding field_at
+unfolding field_at chars lib.Utf8.encode ucd_category
 chosen_alignments = refl
 
 -- ---- the line on records that aren't drawn
 
-notes : map (note_for (Some 2)) (1 ∷ 2 ∷ 3 ∷ []) ≡ [] ∷ [] ∷ (((decimal 2 ++ codes " of ") ++ decimal 3) ++ codes " records\n") ∷ []
+notes : map (note_for false (Some 2)) (1 ∷ 2 ∷ 3 ∷ []) ≡ [] ∷ [] ∷ codes "2 of 3 records\n" ∷ []
+unfolding digits
 notes = refl
+
+-- in Markdown below an empty line
+note_in_markdown : note_for true (Some 2) 3 ≡ codes "\n2 of 3 records\n"
+unfolding digits
+note_in_markdown = refl
+
+-- the line below a header for Markdown: the second column stands at the right
+rule : rule_line (record { position = 0; alignment = None } ∷ record { position = 1; alignment = Some Right } ∷ []) (3 ∷ 1 ∷ []) ≡ codes "|-----|--:|"
+rule = refl
+
+-- the line above a record
+third_record : record_line 3 12 ≡ codes "record 3 of 12\n"
+unfolding digits
+third_record = refl
+
+-- a column with a header and a field of seven letters, drawn with a border at each side: its least width is 8
+abbrev seven : TableValue
+seven = with_rows (plain_row (plain_cell (codes "letters") ∷ []) ∷ []) (new_table ascii_full)
+
+least : least_width seven ≡ 8
+unfolding wrapping
+least = refl
+
+narrow : map (λ width. is_expanded_in Auto width seven) (Some 7 ∷ Some 8 ∷ None ∷ []) ≡ true ∷ false ∷ false ∷ []
+unfolding wrapping
+narrow = refl
+
+by_word : map (λ expansion. is_expanded_in expansion (Some 8) seven) (Always ∷ Never ∷ []) ≡ true ∷ false ∷ []
+by_word = refl
 
 first_rows : limited {A = ℕ} (Some 2) (1 ∷ 2 ∷ 3 ∷ []) ≡ 1 ∷ 2 ∷ []
 first_rows = refl

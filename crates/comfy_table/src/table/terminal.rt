@@ -9,7 +9,8 @@ use crate::table::Table;
 /// are written where the output is a terminal, and nowhere else, and a table without a width of its own takes the
 /// terminal's.
 ///
-/// A program finds them so, where the shell passes on the width in `COLUMNS`:
+/// A program finds them so, where the shell passes on the width in `COLUMNS`. Interactive shells keep it to themselves: a
+/// line like `alias program='COLUMNS=$COLUMNS program'` in the shell's start file passes it on.
 ///
 /// ```
 /// use std::env;

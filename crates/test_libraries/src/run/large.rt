@@ -2,7 +2,7 @@
 //! rules, since each is one piece many times over.
 
 use crate::support::{assert_bytes, sink_of};
-use comfy_csv::{Look, Options, RowSeparators, draw};
+use comfy_csv::{Expansion, Look, Options, RowSeparators, draw};
 use comfy_run::run::{FromReader, MemorySource, Settings, ToWriter, run};
 use comfy_table::ContentArrangement;
 use comfy_table::presets::ASCII_FULL;
@@ -237,6 +237,7 @@ fn options(alloc: Global, width: Option<u16>, has_sequences: bool) -> Options {
         look: Look {
             style: ASCII_FULL,
             separators: RowSeparators::Styled,
+            expansion: Expansion::Never,
             width,
             fills_width: false,
             max_height: None,
@@ -282,6 +283,47 @@ fn large_records_are_drawn(rt: HostRuntime) {
         assert_records(&rt, &FIELD, width, false);
         assert_records(&rt, &SEQUENCES, width, true);
     }
+}
+
+// 20,000 records of two fields, the second a number: what is drawn of them for Markdown, and of the first one expanded.
+const MARKED: Pieces = &[("| a |  b |\n|---|---:|\n", 1), ("| x | 12 |\n", 20_000)];
+
+const EXPANDED: Pieces = &[
+    ("record 1 of 20000\n", 1),
+    (
+        "+---+----+\n| a | x  |\n|---+----|\n| b | 12 |\n+---+----+\n",
+        1,
+    ),
+];
+
+#[test]
+fn large_records_are_drawn_for_markdown_and_expanded(rt: HostRuntime) {
+    assert_formed(&rt, Expansion::Never, true, MARKED);
+    assert_formed(&rt, Expansion::Always, false, EXPANDED);
+}
+
+// What `draw` draws of these records so; expanded, of the first one alone.
+fn assert_formed(
+    rt: &(impl Abort + Alloc<A = Global>),
+    expansion: Expansion,
+    is_markdown: bool,
+    pieces: Pieces,
+) {
+    let input = text_of(rt.alloc(), &[("a,b\n", 1), ("x,12\n", 20_000)]).expect(rt, "memory");
+    let wanted = text_of(rt.alloc(), pieces).expect(rt, "memory");
+    let mut bytes = Vec::new(rt.alloc());
+    let mut source = FromReader::new(input.as_bytes());
+    let mut sink = ToWriter::new(&mut bytes);
+    let mut options = options(rt.alloc(), None, false);
+    options.look.expansion = expansion;
+    options.look.is_markdown = is_markdown;
+    assert!(rt; draw(rt.alloc(), &mut source, &mut sink, &options).is_ok());
+    assert_bytes(
+        rt,
+        &bytes.as_slice()[..wanted.len().min(bytes.len())],
+        wanted.as_str(),
+    );
+    assert!(rt; is_markdown == (bytes.len() == wanted.len()));
 }
 
 // 1,000 lines of one cell of 2,000 characters, 2 MB: the drawing has 2,001 lines of 2,005 bytes.

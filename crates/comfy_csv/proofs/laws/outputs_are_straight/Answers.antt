@@ -1,9 +1,12 @@
-use Rattle.comfy_csv.proofs.LineLemmas.{whole_is_straight}
+use Rattle.comfy_csv.proofs.MarkdownWidthLemmas.{markdown_is_straight, whole_is_straight}
 use Rattle.comfy_csv.proofs.StraightLemmas.{fitting_is_straight}
 use Rattle.comfy_csv.proofs.laws.outputs_are_straight.Goals as goal
 
 pub returns-clause-whole : goal.returns-clause-whole
 returns-clause-whole c = whole_is_straight
+
+pub returns-clause-markdown : goal.returns-clause-markdown
+returns-clause-markdown c = markdown_is_straight
 
 pub returns-clause-characters_fit : goal.returns-clause-characters_fit
 returns-clause-characters_fit c = fitting_is_straight

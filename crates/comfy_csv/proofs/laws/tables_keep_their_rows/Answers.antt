@@ -2,4 +2,4 @@ use Rattle.comfy_csv.proofs.RowLemmas.{keeps_rows}
 use Rattle.comfy_csv.proofs.laws.tables_keep_their_rows.Goals as goal
 
 pub returns : goal.returns
-returns c = λ options records table. keeps_rows options table records
+returns c = keeps_rows

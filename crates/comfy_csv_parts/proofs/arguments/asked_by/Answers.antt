@@ -12,19 +12,25 @@ returns-in_err-matches-clause-refused c =
 
 pub returns-then-are_exclusive-clause-refused : goal.returns-then-are_exclusive-clause-refused
 returns-then-are_exclusive-clause-refused c no_memory =
-    inr (record {
-      found = found_of c.in_ok-matches.matches;
-      are_found = record { app = app_of c.args.command.now; is_csvtable = c.requires; is_found = (c.in_ok-matches.ensures.ok.2 (csvtable_is_simple _ c.requires)).0 };
-      in_vain = inl (sym c.are_exclusive.ensures ∙ c.if-are_exclusive.true);
-    })
+    inr (
+      record {
+        found = found_of c.in_ok-matches.matches;
+        are_found = record { app = app_of c.args.command.now; is_csvtable = c.requires; is_found = (c.in_ok-matches.ensures.ok.2 (csvtable_is_simple _ c.requires)).0 };
+        in_vain = inl (sym c.are_exclusive.ensures ∙ c.if-are_exclusive.true);
+      },
+      c.refusal.ensures no_memory,
+    )
 
 pub returns-clause-refused : goal.returns-clause-refused
 returns-clause-refused c no_memory =
-    inr (record {
-      found = found_of c.in_ok-matches.matches;
-      are_found = record { app = app_of c.args.command.now; is_csvtable = c.requires; is_found = (c.in_ok-matches.ensures.ok.2 (csvtable_is_simple _ c.requires)).0 };
-      in_vain = inr (sym (ap delimiter_for c.get_str.ensures) ∙ sym c.delimiter_of.ensures ∙ c.in-None.is);
-    })
+    inr (
+      record {
+        found = found_of c.in_ok-matches.matches;
+        are_found = record { app = app_of c.args.command.now; is_csvtable = c.requires; is_found = (c.in_ok-matches.ensures.ok.2 (csvtable_is_simple _ c.requires)).0 };
+        in_vain = inr (sym (ap delimiter_for c.get_str.ensures) ∙ sym c.delimiter_of.ensures ∙ c.in-None.is);
+      },
+      c.refusal-in-None.ensures no_memory,
+    )
 
 pub returns-in-Some-clause-ok : goal.returns-in-Some-clause-ok
 returns-in-Some-clause-ok c =

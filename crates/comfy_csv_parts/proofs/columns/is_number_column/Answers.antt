@@ -1,19 +1,38 @@
-use Rattle.std.proofs.Common.{◌≡◌, true, false, map, sym, ◌∙◌}
-use Rattle.std.proofs.lemmas.List.Folds.{list_all-map}
-use Rattle.std.specs.List.{list_all}
-use Rattle.csv.specs.Records.{fields_of}
-use Rattle.comfy_csv_parts.proofs.ColumnLemmas.{any-map}
-use Rattle.comfy_csv_parts.specs.Columns.{is_filled_at, is_number_at}
+use Rattle.std.proofs.Common.{◌≡◌, ◌+◌, ◌∷◌, ◌∙◌, [], ap, sym, arith, drop}
+use Rattle.std.proofs.lemmas.Grind.{common_steps}
+use Rattle.comfy_csv_parts.proofs.ColumnLemmas.{neutral-more, none-left, number-more, numbers-all, numbers_left, other-stops}
 use Rattle.comfy_csv_parts.proofs.columns.is_number_column.Goals as goal
+use Rattle.comfy_csv_parts.proofs.columns.is_number_column.Goals.{in-Number, in-Neutral}
 
-pub returns-then-are_numbers_at : goal.returns-then-are_numbers_at
-returns-then-are_numbers_at c =
-    let all : list_all (is_number_at c.args.position) (map fields_of c.args.rows.now) ≡ true =
-    list_all-map (is_number_at c.args.position) fields_of c.args.rows.now ∙ sym c.are_numbers_at.ensures ∙ c.if-are_numbers_at.true in
-    rw all (c.is_any_filled_at.ensures ∙ sym (any-map (is_filled_at c.args.position) fields_of c.args.rows.now))
+pub returns-in-Other : goal.returns-in-Other
+returns-in-Other c =
+    let keeps = c.args.has_sequences in
+    let position = c.args.position in
+    let rows = c.args.rows.now in
+    let i = c.loop-row.row-index in
+    let next : drop i rows ≡ c.row-item.result ∷ drop (i + 1) rows = grind (arith, common_steps) in
+    sym (other-stops keeps position c.loop-row.has_number c.row-item.result (drop (i + 1) rows) (sym c.in_ok-kind_at.ensures ∙ c.in-Other.is))
+    ∙ ap (numbers_left keeps position c.loop-row.has_number) (sym next) ∙ c.loop-row.invariant ∙ numbers-all keeps position rows
 
-pub returns-else-are_numbers_at : goal.returns-else-are_numbers_at
-returns-else-are_numbers_at c =
-    let some : list_all (is_number_at c.args.position) (map fields_of c.args.rows.now) ≡ false =
-    list_all-map (is_number_at c.args.position) fields_of c.args.rows.now ∙ sym c.are_numbers_at.ensures ∙ c.if-are_numbers_at.false in
-    rw some c.if-are_numbers_at.false
+pub loop-row-preserved : goal.loop-row-preserved
+loop-row-preserved c =
+    let keeps = c.args.has_sequences in
+    let position = c.args.position in
+    let rows = c.args.rows.now in
+    let i = c.loop-row.row-index in
+    let had = c.loop-row.has_number in
+    let next : drop i rows ≡ c.row-item.result ∷ drop (i + 1) rows = grind (arith, common_steps) in
+    let before = ap (numbers_left keeps position had) (sym next) ∙ c.loop-row.invariant in
+    elim c.match-branch-2.branch [
+      | in-Number w ↦ rw w.has_number-is (sym (number-more keeps position had c.row-item.result (drop (i + 1) rows) (sym c.in_ok-kind_at.ensures ∙ w.in-Number.is)) ∙ before)
+      | in-Neutral w ↦ rw w.has_number-is (sym (neutral-more keeps position had c.row-item.result (drop (i + 1) rows) (sym c.in_ok-kind_at.ensures ∙ w.in-Neutral.is)) ∙ before)
+    ]
+
+pub returns : goal.returns
+returns c =
+    let keeps = c.args.has_sequences in
+    let position = c.args.position in
+    let rows = c.args.rows.now in
+    let ended : drop c.loop-row.row-index rows ≡ [] = grind (arith, common_steps) in
+    sym (ap (numbers_left keeps position c.loop-row.has_number) ended ∙ none-left keeps position c.loop-row.has_number)
+    ∙ c.loop-row.invariant ∙ numbers-all keeps position rows

@@ -1,0 +1,63 @@
+//! Records that are expanded: each is drawn as a table of its own, of names and fields.
+
+ghost use Rattle.std.specs.Prelude.{◌≡◌, ◌++◌, ◌-◌, ◌^◌, IfOk, OnOk, min, string_bytes, true};
+ghost use Rattle.comfy_csv.specs.Drawn.{is_expanded_in, least_width, record_text, table_text};
+
+use crate::content::Content;
+use comfy_csv_parts::{Expansion, Look};
+use comfy_table::utils::arrangement::helper::count_border_columns;
+use comfy_table::{ArrangedTable, Result, Table, TableError};
+use std::fmt::Write;
+
+// How many terminal columns of its content a column has at least where records aren't expanded.
+const LEAST_CONTENT: u16 = 4;
+
+/// Whether records are expanded, this being the table of their rows.
+pub(crate) fn is_expanded(table: &Table, look: &Look) -> Result<bool>
+    ensures { IfOk result (λ is. is ≡ is_expanded_in look.now.expansion look.now.width table.now) }
+{
+    match (look.expansion, look.width) {
+        (Expansion::Always, _) => Ok(true),
+        (Expansion::Auto, Some(width)) => Ok(usize::from(width) < least_width(table)?),
+        _ => Ok(false),
+    }
+}
+
+// Borders, paddings, and for each column its content or four terminal columns.
+fn least_width(table: &Table) -> Result<usize>
+    ensures { IfOk result (λ width. width ≡ min (2 ^ 64 - 1) (least_width table.now)) }
+{
+    let contents = table.column_max_content_widths()?;
+    let mut width = count_border_columns(table, contents.len());
+    for content in &contents {
+        let least = usize::from((*content).min(LEAST_CONTENT));
+        width = width.saturating_add(2 + least);
+    }
+    Ok(width)
+}
+
+/// The expanded records of an arranged table, each below a line that numbers it.
+pub(crate) fn records_text(content: &Content<'_>, arranged: &ArrangedTable<'_>) -> Result<String>
+    ensures { IfOk result (λ text. string_bytes text ≡ table_text true content.now arranged.now) }
+{
+    let mut text = String::new(content.alloc);
+    for at in 0..content.rows.len() {
+        push_record(&mut text, content, arranged, at)?;
+    }
+    Ok(text)
+}
+
+fn push_record(
+    text: &mut String,
+    content: &Content<'_>,
+    arranged: &ArrangedTable<'_>,
+    at: usize,
+) -> Result<()>
+    ensures { OnOk result (string_bytes text.new ≡ string_bytes text.old ++ record_text content.now arranged.now at) }
+{
+    let fields = content.columns.len();
+    // as many rows are in memory, so a `usize` holds this
+    let first = at.checked_mul(fields).ok_or(TableError::OutOfMemory)?;
+    write!(text, "record {} of {}\n", at as u128 + 1, content.count)?;
+    arranged.push_rows(text, first, fields)
+}

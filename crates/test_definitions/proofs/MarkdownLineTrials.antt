@@ -1,0 +1,69 @@
+-- What is read back from lines for Markdown, computed.
+use Rattle.std.proofs.Common.{◌≡◌, ◌==◌, ℕ, ap, false, true, List, [], ◌∷◌, None, map, refl}
+use Rattle.std.specs.Prelude.{codes, slice_index, slice_index_or}
+use Rattle.std.specs.Str.{chars}
+use Rattle.std.proofs.lemmas.Bool.{true≢false}
+use Rattle.comfy_parts.proofs.Computing.{wrapping}
+use Rattle.comfy_parts.specs.Presets.{ascii_full}
+use Rattle.csv.specs.Records.{field_at}
+use Rattle.comfy_csv_parts.specs.declared.options.DrawnColumn.{DrawnColumn}
+use Rattle.comfy_csv_parts.specs.declared.options.Expansion.TheVariants.{Never}
+use Rattle.comfy_csv_parts.specs.declared.options.Look.{Look}
+use Rattle.comfy_csv_parts.specs.declared.options.RowSeparators.TheVariants.{Styled}
+use Rattle.comfy_csv.specs.MarkdownLines.{GivesBack, parts_between_bars, read_part, without_outer_spaces}
+
+-- a line as its parts are read
+abbrev read : List ℕ → List (List ℕ)
+read line = map read_part (parts_between_bars line)
+
+-- a bar after a backslash ends no part, but one after two backslashes does
+bars_end_parts : parts_between_bars (codes "|a|b|") ≡ [] ∷ codes "a" ∷ codes "b" ∷ [] ∷ []
+bars_end_parts = refl
+
+escaped_bars_end_none : parts_between_bars (codes "|a\\|b|") ≡ [] ∷ codes "a\\|b" ∷ [] ∷ []
+escaped_bars_end_none = refl
+
+backslashes_are_escaped_too : parts_between_bars (codes "|a\\\\|b|") ≡ [] ∷ codes "a\\\\" ∷ codes "b" ∷ [] ∷ []
+backslashes_are_escaped_too = refl
+
+no_bar_is_one_part : parts_between_bars [] ≡ [] ∷ []
+no_bar_is_one_part = refl
+
+-- spaces around a text are no part of it, those within are
+outer_spaces_are_none : without_outer_spaces (codes "  a  b ") ≡ codes "a  b"
+outer_spaces_are_none = refl
+
+spaces_alone_are_none : without_outer_spaces (codes "   ") ≡ []
+spaces_alone_are_none = refl
+
+-- lines as they are drawn
+names_are_read : read (codes "| item | price |") ≡ [] ∷ codes "item" ∷ codes "price" ∷ [] ∷ []
+names_are_read = refl
+
+fields_are_read : read (codes "| a\\|b<br>c |    12 |") ≡ [] ∷ codes "a|b\nc" ∷ codes "12" ∷ [] ∷ []
+fields_are_read = refl
+
+blank_fields_are_read : read (codes "|      | \\* |") ≡ [] ∷ [] ∷ codes "*" ∷ [] ∷ []
+blank_fields_are_read = refl
+
+-- ---- records
+
+-- a look without anything kept, and two columns in another order
+abbrev look : Look
+look = record { style = ascii_full; separators = Styled; expansion = Never; width = None; fills_width = false; max_height = None; has_bold_header = false; has_sequences = false; keeps_bidi = false; is_raw = false; is_markdown = true }
+
+abbrev columns : List DrawnColumn
+columns = record { position = 1; alignment = None } ∷ record { position = 0; alignment = None } ∷ []
+
+-- a record is given back by its line, a missing field as an empty one, and not by another
+record_is_given_back : GivesBack look columns (codes " a\n" ∷ codes "b|c" ∷ []) (codes "| b\\|c | a<br> |")
+unfolding wrapping lib.Utf8.encode chars field_at
+record_is_given_back = refl
+
+missing_field_is_given_back : GivesBack look columns (codes "a" ∷ []) (codes "|  | a |")
+unfolding wrapping lib.Utf8.encode chars field_at
+missing_field_is_given_back = refl
+
+other_order_is_not : ¬ (GivesBack look columns (codes "a" ∷ codes "b" ∷ []) (codes "| a | b |"))
+unfolding wrapping lib.Utf8.encode chars field_at
+other_order_is_not is = true≢false (ap (λ (parts : List (List ℕ)). slice_index (slice_index_or parts 1 []) 0 == 0x61) is)
