@@ -6,7 +6,7 @@ use Rattle.comfy_run.specs.Outcome.{IsBeginningOnly, NoDeviceFailed, RunFacts}
 use Rattle.comfy_csv.specs.Drawn.{IsOutputFor}
 use Rattle.comfy_csv.specs.Run.{IsAfter, IsReadFailure, IsRefusal}
 use Rattle.comfy_csv_parts.specs.declared.error.CsvError.{CsvError}
-use Rattle.comfy_csv_parts.specs.declared.error.CsvError.TheVariants.{Read, Write, NotUtf8, SplitCharacter, NoColumn, OutOfMemory, TwoSides}
+use Rattle.comfy_csv_parts.specs.declared.error.CsvError.TheVariants.{Read, Write, NotUtf8, NotUtf16, SplitCharacter, NoColumn, OutOfMemory, TwoSides}
 use Rattle.comfy_csv_parts.specs.declared.options.Options.{Options}
 
 none_failed : (facts : RunFacts) → facts.read_failed ≡ false → facts.write_failed ≡ false → NoDeviceFailed facts
@@ -18,6 +18,7 @@ pub after_refusal : (T : Type 0) (options : Options) (e : CsvError) (input : Tex
 after_refusal T options Read input ended failed write_failed sound why = record { failed = why.0; no_write_failed = sound; nothing_written = refl; text = why.1 }
 after_refusal T options Write input ended failed write_failed sound why = absurd why
 after_refusal T options (NotUtf8 line) input ended failed write_failed sound why = record { no_device_failed = none_failed _ why.0 sound; whole = why.1; first = why.2; nothing_written = refl }
+after_refusal T options (NotUtf16 line) input ended failed write_failed sound why = absurd why
 after_refusal T options SplitCharacter input ended failed write_failed sound why = record { no_device_failed = none_failed _ why.0 sound; has_text = record { whole = why.1; is_text = why.2 }; splits = why.3; nothing_written = refl }
 after_refusal T options (NoColumn name) input ended failed write_failed sound why = record { no_device_failed = none_failed _ why.0 sound; has_text = record { whole = why.1; is_text = why.2 }; has_fault = why.3; nothing_written = refl }
 after_refusal T options (TwoSides name) input ended failed write_failed sound why = record { no_device_failed = none_failed _ why.0 sound; has_text = record { whole = why.1; is_text = why.2 }; has_fault = why.3; nothing_written = refl }
@@ -47,6 +48,7 @@ module _ (options : Options) (input : Text) (ended failed : Bool) where
   of_read OutOfMemory why = why
   of_read Write why = absurd why
   of_read (NotUtf8 line) why = absurd why
+  of_read (NotUtf16 line) why = absurd why
   of_read SplitCharacter why = absurd why
   of_read (NoColumn name) why = absurd why
   of_read (TwoSides name) why = absurd why

@@ -23,6 +23,7 @@ abbrev pub message_for : CsvError → Text
 message_for err.Read = codes "csvtable: the input can't be read\n"
 message_for err.Write = codes "csvtable: the output can't be written\n"
 message_for (err.NotUtf8 number) = (codes "csvtable: line " ++ decimal number) ++ codes " isn't UTF-8\n"
+message_for (err.NotUtf16 number) = (codes "csvtable: line " ++ decimal number) ++ codes " isn't UTF-16\n"
 message_for err.SplitCharacter = codes "csvtable: the delimiter splits a character\n"
 message_for (err.NoColumn name) = (codes "csvtable: there is no column " ++ shown_name (string_bytes name)) ++ codes "\n"
 message_for (err.TwoSides name) = (codes "csvtable: column " ++ shown_name (string_bytes name)) ++ codes " can't stand at the right and at the left\n"

@@ -6,7 +6,7 @@ use Rattle.comfy_csv.specs.Drawn.{HasColumnFault, IsOutputFor}
 use Rattle.comfy_csv_parts.specs.Columns.{ColumnFault, missing, two_sided}
 use Rattle.comfy_csv_parts.specs.Input.{IsFirstUnread, SplitsCharacter}
 use Rattle.comfy_csv_parts.specs.declared.error.CsvError.{CsvError}
-use Rattle.comfy_csv_parts.specs.declared.error.CsvError.TheVariants.{Read, Write, NotUtf8, SplitCharacter, NoColumn, OutOfMemory, TwoSides}
+use Rattle.comfy_csv_parts.specs.declared.error.CsvError.TheVariants.{Read, Write, NotUtf8, NotUtf16, SplitCharacter, NoColumn, OutOfMemory, TwoSides}
 use Rattle.comfy_csv_parts.specs.declared.options.Options.{Options}
 
 -- the result says that the source failed
@@ -25,6 +25,7 @@ IsReadFailure Read input ended failed = (failed ≡ true) × (ended ≡ true →
 IsReadFailure OutOfMemory input ended failed = (failed ≡ false) × (ended ≡ true → IsUtf8 input)
 IsReadFailure Write input ended failed = ⊥
 IsReadFailure (NotUtf8 line) input ended failed = ⊥
+IsReadFailure (NotUtf16 line) input ended failed = ⊥
 IsReadFailure SplitCharacter input ended failed = ⊥
 IsReadFailure (NoColumn name) input ended failed = ⊥
 IsReadFailure (TwoSides name) input ended failed = ⊥
@@ -34,6 +35,7 @@ abbrev pub IsRefusal : Options → CsvError → Text → Bool → Bool → Type 
 IsRefusal options Read input ended failed = (failed ≡ true) × (ended ≡ true → IsUtf8 input)
 IsRefusal options Write input ended failed = ⊥
 IsRefusal options (NotUtf8 line) input ended failed = (failed ≡ false) × (ended ≡ true) × IsFirstUnread input line
+IsRefusal options (NotUtf16 line) input ended failed = ⊥
 IsRefusal options SplitCharacter input ended failed = (failed ≡ false) × (ended ≡ true) × IsUtf8 input × SplitsCharacter options.delimiter input
 IsRefusal options (NoColumn name) input ended failed = (failed ≡ false) × (ended ≡ true) × IsUtf8 input × HasColumnFault options input (missing (string_bytes name))
 IsRefusal options (TwoSides name) input ended failed = (failed ≡ false) × (ended ≡ true) × IsUtf8 input × HasColumnFault options input (two_sided (string_bytes name))
@@ -104,6 +106,7 @@ IsAfter options (Ok _) facts = IsAfterOk options facts
 IsAfter options (Err Read) facts = IsAfterRead options facts
 IsAfter options (Err Write) facts = IsAfterWrite options facts
 IsAfter options (Err (NotUtf8 line)) facts = IsAfterNotUtf8 options facts line
+IsAfter options (Err (NotUtf16 line)) facts = ⊥
 IsAfter options (Err SplitCharacter) facts = IsAfterSplitCharacter options facts
 IsAfter options (Err (NoColumn name)) facts = IsAfterColumnFault options facts (missing (string_bytes name))
 IsAfter options (Err (TwoSides name)) facts = IsAfterColumnFault options facts (two_sided (string_bytes name))

@@ -129,6 +129,7 @@ fn message_of(alloc: Global, error: &CsvError) -> Result<String, AllocError>
         CsvError::Read => String::from_str(alloc, "csvtable: the input can't be read\n"),
         CsvError::Write => String::from_str(alloc, "csvtable: the output can't be written\n"),
         CsvError::NotUtf8(line) => format!(in alloc; "csvtable: line {line} isn't UTF-8\n"),
+        CsvError::NotUtf16(line) => format!(in alloc; "csvtable: line {line} isn't UTF-16\n"),
         CsvError::SplitCharacter => {
             String::from_str(alloc, "csvtable: the delimiter splits a character\n")
         }

@@ -12,8 +12,8 @@ mod table;
 mod transfer;
 
 pub use comfy_csv_parts::{
-    Asked, CsvError, DrawnColumn, Expansion, Kept, Look, Options, RowSeparators, Surroundings,
-    asked_of, cleaned, escaped, is_number, records_of, shown_text, text_of,
+    Asked, CsvError, DrawnColumn, Encoding, Expansion, Kept, Look, Options, RowSeparators,
+    Surroundings, asked_of, cleaned, decoded, escaped, is_number, records_of, shown_text, text_of,
 };
 pub use process::run_with_arguments;
 pub use table::table_of;

@@ -11,7 +11,7 @@ use Rattle.comfy_csv_parts.specs.Columns.{ColumnFault, IsColumnRefusal, is_numbe
 use Rattle.comfy_csv_parts.specs.declared.columns.FieldKind.{FieldKind}
 use Rattle.comfy_csv_parts.specs.declared.columns.FieldKind.TheVariants.{Number, Neutral, Other}
 use Rattle.comfy_csv_parts.specs.declared.error.CsvError.{CsvError}
-use Rattle.comfy_csv_parts.specs.declared.error.CsvError.TheVariants.{Read, Write, NotUtf8, SplitCharacter, NoColumn, OutOfMemory, TwoSides}
+use Rattle.comfy_csv_parts.specs.declared.error.CsvError.TheVariants.{Read, Write, NotUtf8, NotUtf16, SplitCharacter, NoColumn, OutOfMemory, TwoSides}
 
 then_fault : (found more : Result (List ℕ) ColumnFault) (xs : List ℕ) (fault : ColumnFault) → found ≡ Ok xs → more ≡ Err fault → joined found more ≡ Err fault
 then_fault found more xs fault before at_fault = rw (before, at_fault) refl
@@ -31,6 +31,7 @@ module _ {A : Type 0} (names : List Text) (count : ℕ) (words : List (String A)
   refused_word Read within before at_fault = absurd at_fault
   refused_word Write within before at_fault = absurd at_fault
   refused_word (NotUtf8 number) within before at_fault = absurd at_fault
+  refused_word (NotUtf16 number) within before at_fault = absurd at_fault
   refused_word SplitCharacter within before at_fault = absurd at_fault
 
 module _ (name : Text) (n : ℕ) where

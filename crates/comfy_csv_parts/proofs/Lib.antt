@@ -1,6 +1,8 @@
 pub mod CleaningLemmas
 pub mod ColumnLemmas
 pub mod ControlLemmas
+pub mod EncodingLawLemmas
+pub mod EncodingLemmas
 pub mod FieldControlLemmas
 pub mod MarkdownLemmas
 pub mod MarkedLemmas

@@ -12,7 +12,7 @@ use Rattle.comfy_csv_parts.specs.Numerals.{number_for}
 use Rattle.comfy_csv_parts.specs.declared.columns.FieldKind.{FieldKind}
 use Rattle.comfy_csv_parts.specs.declared.columns.FieldKind.TheVariants.{Number, Neutral, Other}
 use Rattle.comfy_csv_parts.specs.declared.error.CsvError.{CsvError}
-use Rattle.comfy_csv_parts.specs.declared.error.CsvError.TheVariants.{Read, Write, NotUtf8, SplitCharacter, NoColumn, OutOfMemory, TwoSides}
+use Rattle.comfy_csv_parts.specs.declared.error.CsvError.TheVariants.{Read, Write, NotUtf8, NotUtf16, SplitCharacter, NoColumn, OutOfMemory, TwoSides}
 use Rattle.comfy_csv_parts.specs.declared.options.Options.{Options}
 use Rattle.comfy_csv_parts.specs.declared.options.DrawnColumn.{DrawnColumn}
 
@@ -166,4 +166,5 @@ IsColumnRefusal OutOfMemory columns = Unit {0}
 IsColumnRefusal Read columns = ⊥
 IsColumnRefusal Write columns = ⊥
 IsColumnRefusal (NotUtf8 line) columns = ⊥
+IsColumnRefusal (NotUtf16 line) columns = ⊥
 IsColumnRefusal SplitCharacter columns = ⊥

@@ -11,7 +11,7 @@ use Rattle.csv.specs.declared.parser.Config.{Config}
 use Rattle.csv.specs.declared.parser.State.{State}
 use Rattle.csv.specs.declared.parser.State.TheVariants as st
 use Rattle.comfy_csv_parts.specs.declared.error.CsvError.{CsvError}
-use Rattle.comfy_csv_parts.specs.declared.error.CsvError.TheVariants.{Read, Write, NotUtf8, SplitCharacter, NoColumn, OutOfMemory, TwoSides}
+use Rattle.comfy_csv_parts.specs.declared.error.CsvError.TheVariants.{Read, Write, NotUtf8, NotUtf16, SplitCharacter, NoColumn, OutOfMemory, TwoSides}
 
 -- ---- text
 
@@ -39,6 +39,7 @@ pub record IsFirstUnread (input : Text) (line : ℕ) : Type 0 where
 -- why an input is no text
 abbrev pub IsTextRefusal : Text → CsvError → Type 0
 IsTextRefusal input (NotUtf8 line) = IsFirstUnread input line
+IsTextRefusal input (NotUtf16 line) = ⊥
 IsTextRefusal input Read = ⊥
 IsTextRefusal input Write = ⊥
 IsTextRefusal input SplitCharacter = ⊥
@@ -90,5 +91,6 @@ IsReadingRefusal delimiter input OutOfMemory = Unit {0}
 IsReadingRefusal delimiter input Read = ⊥
 IsReadingRefusal delimiter input Write = ⊥
 IsReadingRefusal delimiter input (NotUtf8 line) = ⊥
+IsReadingRefusal delimiter input (NotUtf16 line) = ⊥
 IsReadingRefusal delimiter input (NoColumn name) = ⊥
 IsReadingRefusal delimiter input (TwoSides name) = ⊥

@@ -2,6 +2,7 @@ pub mod Cells
 pub mod Cleaning
 pub mod Columns
 pub mod Controls
+pub mod Encoding
 pub mod Input
 pub mod Markdown
 pub mod Number

@@ -20,6 +20,10 @@ pub enum CsvError {
     /// ends at a line feed, a carriage return, or a carriage return with a line feed, also between quotes.
     #[error("line {0} isn't UTF-8")]
     NotUtf8(u64),
+    /// The input isn't UTF-16: in this line stands the first surrogate without a partner, or an odd byte at the end. Lines
+    /// are counted as for `NotUtf8`.
+    #[error("line {0} isn't UTF-16")]
+    NotUtf16(u64),
     /// The delimiter isn't ASCII, and stands inside a character of a record.
     #[error("the delimiter splits a character")]
     SplitCharacter,

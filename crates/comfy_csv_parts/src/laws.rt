@@ -5,10 +5,12 @@ ghost use Rattle.std.specs.Prelude.{Bool, List, Option, ℕ};
 ghost use Rattle.comfy_parts.specs.Text.{Text};
 ghost use Rattle.comfy_csv_parts.specs.Cleaning.{HoldsNoControls, IsCleanedOnce};
 ghost use Rattle.comfy_csv_parts.specs.Controls.{IsStyleWithoutControls};
+ghost use Rattle.comfy_csv_parts.specs.Encoding.{IsItsOwnText, IsReadBack as IsUtf16ReadBack};
 ghost use Rattle.comfy_csv_parts.specs.Input.{RecordsAreText};
 ghost use Rattle.comfy_csv_parts.specs.Markdown.{IsReadBack};
 ghost use Rattle.comfy_csv_parts.specs.Styles.{style_for};
 ghost use Rattle.comfy_csv_parts.specs.declared.cleaning.Kept.{Kept};
+ghost use Rattle.comfy_csv_parts.specs.declared.encoding.ByteOrder.{ByteOrder};
 
 /// What was escaped for Markdown is read back.
 pub fn escaped_texts_are_read_back()
@@ -30,4 +32,15 @@ pub fn styles_for_words_hold_no_controls()
 /// The records of a text are texts, where the delimiter is ASCII.
 pub fn records_of_texts_are_texts()
     ensures { (delimiter : ℕ) (input : List ℕ) (records : List (List (List ℕ))) → RecordsAreText delimiter input records }
+{}
+
+/// ASCII is its own text, in UTF-8 and in Windows-1252.
+pub fn ascii_is_its_own_text()
+    ensures { (input : List ℕ) → IsItsOwnText input }
+{}
+
+/// Characters that are written in UTF-16 behind a byte-order mark, in either order of the bytes, are read back, also
+/// where no encoding was asked for.
+pub fn texts_in_utf16_are_read_back()
+    ensures { (order : ByteOrder) (characters : List ℕ) → IsUtf16ReadBack order characters }
 {}

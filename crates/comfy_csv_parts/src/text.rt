@@ -18,7 +18,7 @@ pub fn text_of(input: &[u8]) -> Result<&str, CsvError>
 }
 
 // The number of the line in which the end of these bytes stands.
-fn line_after(bytes: &[u8]) -> u64
+pub(crate) fn line_after(bytes: &[u8]) -> u64
     ensures { result ≡ line_breaks bytes.now + 1 }
 {
     let mut line = 1;

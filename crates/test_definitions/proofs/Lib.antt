@@ -3,6 +3,7 @@ mod ArgumentTrials
 mod ClosedLineTrials
 mod ControlTrials
 mod DrawingTrials
+mod EncodingTrials
 mod HiddenColumnTrials
 mod InputTrials
 mod MarkdownLineTrials

@@ -1,6 +1,6 @@
-//! The words of `csvtable`'s errors, and delimiters that its words can't ask for.
+//! The words of `csvtable`'s errors, delimiters that its words can't ask for, and encodings.
 
-use comfy_csv::{CsvError, records_of};
+use comfy_csv::{CsvError, Encoding, decoded, records_of};
 use std::alloc::{Alloc, Global};
 use std::process::Abort;
 
@@ -12,6 +12,7 @@ fn assert_words(rt: &(impl Abort + Alloc<A = Global>), error: &CsvError, wanted:
 #[test]
 fn refusals_have_their_words(rt: HostRuntime) {
     assert_words(&rt, &CsvError::NotUtf8(3), "line 3 isn't UTF-8");
+    assert_words(&rt, &CsvError::NotUtf16(3), "line 3 isn't UTF-16");
     assert_words(
         &rt,
         &CsvError::SplitCharacter,
@@ -29,4 +30,34 @@ fn delimiters_that_are_not_ascii(rt: HostRuntime) {
     let whole = records_of(rt.alloc(), "a,b\né,d\n", 255).expect(&rt, "records");
     assert!(rt; whole.len() == 2);
     assert!(rt; whole[1].get(0) == Some("é,d"));
+}
+
+fn assert_decoded<const N: usize>(
+    rt: &(impl Abort + Alloc<A = Global>),
+    bytes: [u8; N],
+    encoding: Option<Encoding>,
+    wanted: &str,
+) {
+    let input = Vec::from_array(rt.alloc(), bytes).expect(rt, "memory");
+    let text = decoded(rt.alloc(), input, encoding).expect(rt, "a text");
+    assert!(rt; text.as_str() == wanted);
+}
+
+// U+1F680 is 0xD83D 0xDE80 in UTF-16.
+#[test]
+fn inputs_are_decoded(rt: HostRuntime) {
+    let rocket = [0xFF, 0xFE, 0x61, 0x00, 0x3D, 0xD8, 0x80, 0xDE];
+    assert_decoded(&rt, rocket, None, "a\u{1f680}");
+    assert_decoded(&rt, [0x00, 0x61], Some(Encoding::Utf16), "\u{6100}");
+    assert_decoded(&rt, [0xFE, 0xFF, 0x00, 0x61], None, "a");
+    assert_decoded(
+        &rt,
+        [0x80, 0x61, 0xE9],
+        Some(Encoding::Cp1252),
+        "\u{20ac}aé",
+    );
+    assert_decoded(&rt, [0xC3, 0xA9], None, "é");
+    let lone = Vec::from_array(rt.alloc(), [0x0A, 0x00, 0x3D, 0xD8]).expect(&rt, "memory");
+    let refused = decoded(rt.alloc(), lone, Some(Encoding::Utf16));
+    assert!(rt; matches!(&refused, Err(CsvError::NotUtf16(2))));
 }

@@ -1,0 +1,87 @@
+-- Which encoding an input has, and its text: worked rows of bytes.
+use Rattle.std.proofs.Common.{◌≡◌, [], ◌∷◌, Some, None, map, refl}
+use Rattle.std.specs.Char.Utf16.{utf16_chars}
+use lib.Utf8.{encode}
+use Rattle.comfy_parts.specs.Text.{Text}
+use Rattle.comfy_csv_parts.specs.Encoding.{IsFirstUnpaired, IsTextIn, cp1252_character, encoding_of, utf16_characters}
+use Rattle.comfy_csv_parts.specs.declared.encoding.Encoding.TheVariants.{Cp1252, Utf16, Utf8}
+
+-- ---- which encoding
+
+-- marks of either order, a mark of UTF-8, half a mark, a mark that isn't at the front, and nothing
+found : map (encoding_of None) ((0xFF ∷ 0xFE ∷ 0x61 ∷ 0x00 ∷ []) ∷ (0xFE ∷ 0xFF ∷ []) ∷ (0xEF ∷ 0xBB ∷ 0xBF ∷ 0x61 ∷ []) ∷ (0xFF ∷ []) ∷ (0x61 ∷ 0xFF ∷ 0xFE ∷ []) ∷ [] ∷ [])
+    ≡ Utf16 ∷ Utf16 ∷ Utf8 ∷ Utf8 ∷ Utf8 ∷ Utf8 ∷ []
+found = refl
+
+-- what is asked for is taken, whatever mark there is
+asked_for : map (λ asked. encoding_of (Some asked) (0xFF ∷ 0xFE ∷ [])) (Utf8 ∷ Cp1252 ∷ Utf16 ∷ []) ≡ Utf8 ∷ Cp1252 ∷ Utf16 ∷ []
+asked_for = refl
+
+-- ---- Windows-1252
+
+-- a letter, the first and the last byte of the table, quotes, and bytes that are characters of the same number
+of_cp1252 : map cp1252_character (0x41 ∷ 0x7F ∷ 0x80 ∷ 0x8E ∷ 0x93 ∷ 0x94 ∷ 0x99 ∷ 0x9F ∷ 0xA0 ∷ 0xE9 ∷ 0xFF ∷ []) ≡ 0x41 ∷ 0x7F ∷ 0x20AC ∷ 0x017D ∷ 0x201C ∷ 0x201D ∷ 0x2122 ∷ 0x0178 ∷ 0xA0 ∷ 0xE9 ∷ 0xFF ∷ []
+of_cp1252 = refl
+
+-- the bytes that have no character
+open_bytes : map cp1252_character (0x81 ∷ 0x8D ∷ 0x8F ∷ 0x90 ∷ 0x9D ∷ []) ≡ 0xFFFD ∷ 0xFFFD ∷ 0xFFFD ∷ 0xFFFD ∷ 0xFFFD ∷ []
+open_bytes = refl
+
+-- `é€` becomes UTF-8
+text_of_cp1252 : IsTextIn Cp1252 (0xE9 ∷ 0x80 ∷ []) (0xC3 ∷ 0xA9 ∷ 0xE2 ∷ 0x82 ∷ 0xAC ∷ [])
+unfolding encode
+text_of_cp1252 = refl
+
+-- ---- UTF-16
+
+-- `a€` with a mark in either order, and without one: the mark is no part of the text
+abbrev euro : Text
+euro = 0x61 ∷ 0xE2 ∷ 0x82 ∷ 0xAC ∷ []
+
+little_endian : IsTextIn Utf16 (0xFF ∷ 0xFE ∷ 0x61 ∷ 0x00 ∷ 0xAC ∷ 0x20 ∷ []) euro
+unfolding utf16_chars encode
+little_endian = record { characters = 0x61 ∷ 0x20AC ∷ []; are_all = refl; spell = refl }
+
+big_endian : IsTextIn Utf16 (0xFE ∷ 0xFF ∷ 0x00 ∷ 0x61 ∷ 0x20 ∷ 0xAC ∷ []) euro
+unfolding utf16_chars encode
+big_endian = record { characters = 0x61 ∷ 0x20AC ∷ []; are_all = refl; spell = refl }
+
+without_mark : IsTextIn Utf16 (0x61 ∷ 0x00 ∷ 0xAC ∷ 0x20 ∷ []) euro
+unfolding utf16_chars encode
+without_mark = record { characters = 0x61 ∷ 0x20AC ∷ []; are_all = refl; spell = refl }
+
+-- a mark alone is an empty text, and so is nothing
+mark_alone : map utf16_characters ((0xFF ∷ 0xFE ∷ []) ∷ (0xFE ∷ 0xFF ∷ []) ∷ [] ∷ []) ≡ [] ∷ [] ∷ [] ∷ []
+unfolding utf16_chars
+mark_alone = refl
+
+-- a second mark is a character
+second_mark : utf16_characters (0xFF ∷ 0xFE ∷ 0xFF ∷ 0xFE ∷ []) ≡ Some 0xFEFF ∷ []
+unfolding utf16_chars
+second_mark = refl
+
+-- two units of a pair are one character, U+1F600
+pair : IsTextIn Utf16 (0x3D ∷ 0xD8 ∷ 0x00 ∷ 0xDE ∷ []) (0xF0 ∷ 0x9F ∷ 0x98 ∷ 0x80 ∷ [])
+unfolding utf16_chars encode
+pair = record { characters = 0x1F600 ∷ []; are_all = refl; spell = refl }
+
+-- the second unit alone, the first one alone at the end, and before another character
+unpaired : map utf16_characters ((0x00 ∷ 0xDE ∷ []) ∷ (0x61 ∷ 0x00 ∷ 0x3D ∷ 0xD8 ∷ []) ∷ (0x3D ∷ 0xD8 ∷ 0x61 ∷ 0x00 ∷ []) ∷ [])
+    ≡ (None ∷ []) ∷ (Some 0x61 ∷ None ∷ []) ∷ (None ∷ Some 0x61 ∷ []) ∷ []
+unfolding utf16_chars
+unpaired = refl
+
+-- an odd byte
+odd : map utf16_characters ((0x61 ∷ []) ∷ (0xFF ∷ 0xFE ∷ 0x61 ∷ []) ∷ (0x61 ∷ 0x00 ∷ 0x62 ∷ []) ∷ []) ≡ (None ∷ []) ∷ (None ∷ []) ∷ (Some 0x61 ∷ None ∷ []) ∷ []
+unfolding utf16_chars
+odd = refl
+
+-- a carriage return with a line feed, and a line feed, are two breaks: what is no character stands in line 3
+third_line : IsFirstUnpaired (utf16_characters (0x0D ∷ 0x00 ∷ 0x0A ∷ 0x00 ∷ 0x0A ∷ 0x00 ∷ 0x00 ∷ 0xDC ∷ 0x0A ∷ 0x00 ∷ [])) 3
+unfolding utf16_chars encode
+third_line = record { before = 0x0D ∷ 0x0A ∷ 0x0A ∷ []; after = Some 0x0A ∷ []; first = refl; numbered = refl }
+
+-- U+0A0D has these bytes in one unit, and breaks no line
+no_break : IsFirstUnpaired (utf16_characters (0x0D ∷ 0x0A ∷ 0x61 ∷ [])) 1
+unfolding utf16_chars encode
+no_break = record { before = 0x0A0D ∷ []; after = []; first = refl; numbered = refl }
