@@ -126,7 +126,7 @@ def copied(crate, room):
     with open(f"{room}/crates.txt", "w", encoding="utf-8") as file:
         file.writelines(f"{it}\n" for it in lines if ":" in it and it.split(":")[0].split()[0] in wanted)
     for name in wanted:
-        left_out = shutil.ignore_patterns("mutations", "must-fail")
+        left_out = shutil.ignore_patterns("mutations", "must-fail", "rt-work-*")
         shutil.copytree(f"{TOP}/crates/{name}", f"{room}/crates/{name}", ignore=left_out)
     if os.path.isfile(f"{TOP}/HANDLES"):
         shutil.copy(f"{TOP}/HANDLES", room)
