@@ -125,6 +125,13 @@ HasSeparators Styled condensed has = has ≡ true
 HasSeparators Never condensed has = has ≡ false
 HasSeparators Needed condensed has = HasTallRow condensed has
 
+-- those that are wanted: between the fields of a record none that only tall rows would need, since names part them
+abbrev pub separators_in : Bool → RowSeparators → RowSeparators
+separators_in false wanted = wanted
+separators_in true Styled = Styled
+separators_in true Needed = Never
+separators_in true Never = Never
+
 -- ---- expanded records
 
 -- borders, paddings, and for each column its content or four terminal columns
@@ -156,7 +163,7 @@ table_text false content arranged = part_text arranged 0 (length arranged.table.
 -- the text of such a table, with lines between rows or without
 pub record IsTextOfTable (is_expanded : Bool) (look : Look) (content : ContentValue) (text : Text) : Type 0 where
   pub has_separators : Bool
-  pub separators : HasSeparators look.separators (output_table is_expanded (separated false look) content) has_separators
+  pub separators : HasSeparators (separators_in is_expanded look.separators) (output_table is_expanded (separated false look) content) has_separators
   pub arranged : ArrangedValue
   pub is_arranged : IsArrangedTable (output_table is_expanded (separated has_separators look) content) arranged
   pub is : text ≡ table_text is_expanded content arranged

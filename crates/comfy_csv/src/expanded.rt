@@ -1,10 +1,10 @@
 //! Records that are expanded: each is drawn as a table of its own, of names and fields.
 
 ghost use Rattle.std.specs.Prelude.{◌≡◌, ◌++◌, ◌-◌, ◌^◌, IfOk, OnOk, min, string_bytes, true};
-ghost use Rattle.comfy_csv.specs.Drawn.{is_expanded_in, least_width, record_text, table_text};
+ghost use Rattle.comfy_csv.specs.Drawn.{is_expanded_in, least_width, record_text, separators_in, table_text};
 
 use crate::content::Content;
-use comfy_csv_parts::{Expansion, Look};
+use comfy_csv_parts::{Expansion, Look, RowSeparators};
 use comfy_table::utils::arrangement::helper::count_border_columns;
 use comfy_table::{ArrangedTable, Result, Table, TableError};
 use std::fmt::Write;
@@ -34,6 +34,16 @@ fn least_width(table: &Table) -> Result<usize>
         width = width.saturating_add(2 + least);
     }
     Ok(width)
+}
+
+/// Where lines between the fields of a record are drawn: none that only tall rows would need, since names part the fields.
+pub(crate) fn between_fields(separators: RowSeparators) -> RowSeparators
+    ensures { result ≡ separators_in true separators }
+{
+    match separators {
+        RowSeparators::Styled => RowSeparators::Styled,
+        RowSeparators::Needed | RowSeparators::Never => RowSeparators::Never,
+    }
 }
 
 /// The expanded records of an arranged table, each below a line that numbers it.

@@ -7,7 +7,7 @@ ghost use Rattle.comfy_csv_parts.specs.Markdown.{rule_line};
 ghost use Rattle.comfy_csv.specs.Drawn.{IsMarkdownText, IsOutputOf, IsTableText, IsText, IsTextOfTable, content_of, note_for, rows_table};
 
 use crate::content::Content;
-use crate::expanded::{is_expanded, records_text};
+use crate::expanded::{between_fields, is_expanded, records_text};
 use crate::separators::separate_rows;
 use comfy_csv_parts::{CsvError, Look, Options, push_rule};
 use comfy_table::{Result, Table};
@@ -74,7 +74,7 @@ fn expanded_text(content: &Content<'_>, look: &Look) -> Result<String>
     ensures { IfOk result (λ text. IsTextOfTable true look.now content.now (string_bytes text)) }
 {
     let mut table = content.pairs_table(look)?;
-    separate_rows(&mut table, look.separators)?;
+    separate_rows(&mut table, between_fields(look.separators))?;
     let arranged = table.arranged()?;
     Ok(records_text(content, &arranged)?)
 }
