@@ -1,5 +1,5 @@
 -- The lines of an output, and how many characters they have.
-use Rattle.std.proofs.Common.{◌≡◌, arith, ℕ, ◌*◌, Bool, true, false, List, [], ◌∷◌, ◌++◌, ◌+◌, Some, append-nil, ap₂, flat_map, length, map, unwrap_or, refl, ap, sym, ◌∙◌, subst}
+use Rattle.std.proofs.Common.{◌≡◌, arith, not, ◌&&◌, ℕ, ◌*◌, Bool, true, false, List, [], ◌∷◌, ◌++◌, ◌+◌, Some, append-nil, ap₂, flat_map, length, map, unwrap_or, refl, ap, sym, ◌∙◌, subst}
 use Rattle.std.specs.List.{All, range_with_len}
 use Rattle.std.proofs.lemmas.Grind.{flat_map-append}
 use Rattle.std.proofs.lemmas.List.Folds.{flat_map-map}
@@ -15,7 +15,7 @@ use Rattle.comfy_table.specs.Parts.{ArrangedValue, part_lines}
 use Rattle.comfy_table.specs.TableValue.{TableValue, table_width}
 use Rattle.comfy_csv.proofs.BuiltLemmas.{Built, built}
 use Rattle.comfy_csv_parts.specs.Cells.{row_for}
-use Rattle.comfy_csv.specs.Drawn.{ContentValue, IsOutputOf, IsTableText, IsText, empty_table, output_table, pairs_of, separated, table_text}
+use Rattle.comfy_csv.specs.Drawn.{ContentValue, IsOutputOf, IsTableText, IsText, empty_table, is_expanded_for, is_expanded_in, output_table, pairs_of, rows_table, separated, table_text}
 use Rattle.comfy_csv.specs.Laws.{EachLineHas, HasLines, IsFilling, IsOutputWith, IsWithin, OutputFillsWidth, OutputKeepsToWidth}
 use Rattle.comfy_csv_parts.specs.declared.options.Look.{Look}
 use Rattle.comfy_csv_parts.specs.declared.options.Options.{Options}
@@ -51,12 +51,20 @@ drawn_lines true content arranged = (
 pub is_table_text : (options : Options) (records : List (List Text)) (output : Text) (made : IsOutputOf options records output) → options.look.is_markdown ≡ false → IsTableText options.look made.content made.text
 is_table_text options records output made none = subst (λ b. IsText b options.look made.content made.text) none made.is_text
 
-module _ (options : Options) (records : List (List Text)) (output : Text) (made : IsOutputOf options records output) (text : IsTableText options.look made.content made.text) where
+-- records for Markdown are never expanded
+pub never_expanded : (look : Look) (content : ContentValue) → look.is_markdown ≡ true → false ≡ is_expanded_for look content
+never_expanded look content is = ap (λ b. not b && is_expanded_in look.expansion look.width (rows_table look content)) (sym is)
+
+module _ (options : Options) (records : List (List Text)) (output : Text) (made : IsOutputOf options records output) (text : IsTableText options.look made.content made.text) (none : options.look.is_markdown ≡ false) where
   abbrev pub drawn_table : TableValue
   drawn_table = output_table text.is_expanded (separated text.drawn.has_separators options.look) made.content
 
   abbrev pub drawn : List Text
   drawn = drawing_of_infos drawn_table text.drawn.arranged.infos
+
+  -- it is expanded where its look asks for it
+  pub expansion : text.is_expanded ≡ is_expanded_for options.look made.content
+  expansion = text.expansion ∙ ap (λ b. not b && is_expanded_in options.look.expansion options.look.width (rows_table options.look made.content)) (sym none)
 
   abbrev pub with_lines : IsOutputWith options records output drawn
   with_lines =
@@ -64,6 +72,7 @@ module _ (options : Options) (records : List (List Text)) (output : Text) (made 
         content = made.content;
         is_content = made.is_content;
         is_expanded = text.is_expanded;
+        expansion = expansion;
         text = made.text;
         has_lines = subst (λ (t : TableValue). HasLines text.is_expanded made.content (drawing_of_infos t text.drawn.arranged.infos) made.text) text.drawn.is_arranged.of_table
             (subst (HasLines text.is_expanded made.content (drawing_of_infos text.drawn.arranged.table text.drawn.arranged.infos)) (sym text.drawn.is) (drawn_lines text.is_expanded made.content text.drawn.arranged));
@@ -72,7 +81,7 @@ module _ (options : Options) (records : List (List Text)) (output : Text) (made 
 
   has_lines : (P : TableValue → ℕ → Type 0) → EachLineCounts (P drawn_table) drawn_table text.drawn.is_arranged.headline.widths → EachLineHas P options records output
   has_lines P counts =
-      record { lines = drawn; is_output = with_lines; table = drawn_table; is_table = (text.is_expanded, text.drawn.has_separators, refl); drawing = text.drawn.is_arranged.headline; counts = counts }
+      record { lines = drawn; is_output = with_lines; table = drawn_table; is_table = (text.drawn.has_separators, ap (λ e. output_table e (separated text.drawn.has_separators options.look) made.content) expansion); drawing = text.drawn.is_arranged.headline; counts = counts }
 
 -- ---- widths
 
@@ -100,12 +109,12 @@ pub keeps_to_width : (w : ℕ) (options : Options) (records : List (List Text)) 
 keeps_to_width w options records output none wide kept plain made =
     let text = is_table_text options records output made none in
     let look = options.look in
-    has_lines options records output made text (IsWithin w)
+    has_lines options records output made text none (IsWithin w)
     (keeps w text.is_expanded (separated text.drawn.has_separators look) made.content _ text.drawn.is_arranged.headline (kept_setting (λ l. l.width) look refl text.drawn.has_separators (Some w) wide) (kept_setting (λ l. l.fills_width) look refl text.drawn.has_separators false kept))
 
 pub fills_width : (w : ℕ) (options : Options) (records : List (List Text)) (output : Text) → OutputFillsWidth w options records output
 fills_width w options records output none wide filled plain made =
     let text = is_table_text options records output made none in
     let look = options.look in
-    has_lines options records output made text (IsFilling w)
+    has_lines options records output made text none (IsFilling w)
     (fills w text.is_expanded (separated text.drawn.has_separators look) made.content _ text.drawn.is_arranged.headline (kept_setting (λ l. l.width) look refl text.drawn.has_separators (Some w) wide) (kept_setting (λ l. l.fills_width) look refl text.drawn.has_separators true filled))

@@ -33,7 +33,7 @@ use Rattle.comfy_csv_parts.specs.declared.options.Look.{Look}
 use Rattle.comfy_csv_parts.specs.declared.options.Options.{Options}
 use Rattle.comfy_csv.proofs.BuiltLemmas.{Built, EachOf, each_content}
 use Rattle.comfy_csv.proofs.OutputControlLemmas.{rule_is_printable}
-use Rattle.comfy_csv.proofs.LineLemmas.{Any, any_built}
+use Rattle.comfy_csv.proofs.LineLemmas.{Any, any_built, never_expanded}
 use Rattle.comfy_csv.proofs.StraightLemmas.{IsShort, empty_is_short, rows_are_straight, short_rows}
 use Rattle.comfy_csv.proofs.TextTableLemmas.{EachLine, rows_of_texts}
 use Rattle.comfy_csv.specs.Laws.{IsStraightOutput, IsUnstyledUncut, MarkdownOutputIsStraight, WholeOutputIsStraight}
@@ -272,7 +272,7 @@ markdown_is_straight options records output is short made =
     let fields : All Short records = All-weaker (All (EachLine IsShort look)) Short (λ fields. All-weaker (EachLine IsShort look) (EachLine IsShort (markdown_look look)) (drawn_for_markdown look is) fields) records short in
     let each = with_names Short (All-nil (EachLine IsShort (markdown_look look))) made.content (each_content Short options records made.content made.is_content fields) in (
       below_first (rule_line made.content.columns (max_content_widths (markdown_table look made.content))) text.lines,
-      record { content = made.content; is_content = made.is_content; is_expanded = false; text = made.text; has_lines = text.is; joined = made.joined },
+      record { content = made.content; is_content = made.is_content; is_expanded = false; expansion = never_expanded look made.content is; text = made.text; has_lines = text.is; joined = made.joined },
       markdown_lines_are_straight look made.content each text.lines text.drawing,
     )
 

@@ -37,7 +37,7 @@ use Rattle.comfy_csv_parts.specs.declared.options.Look.{Look}
 use Rattle.comfy_csv_parts.specs.declared.options.Options.{Options}
 use Rattle.comfy_csv.proofs.BuiltLemmas.{Built, EachOf, each_content}
 use Rattle.comfy_csv.proofs.FieldLemmas.{number_is_printable}
-use Rattle.comfy_csv.proofs.LineLemmas.{drawn, with_lines}
+use Rattle.comfy_csv.proofs.LineLemmas.{drawn, never_expanded, with_lines}
 use Rattle.comfy_csv.proofs.SeparatorLemmas.{condensed-all}
 use Rattle.comfy_csv.proofs.TextTableLemmas.{EachLine, MakesRows, cells_each, pair_each, rows_of_texts, table_of_texts}
 use Rattle.comfy_csv.specs.Drawn.{ContentValue, IsMarkdownText, IsOutputOf, IsTableText, IsText, below_first, condensed_style, empty_table, markdown_content, markdown_look, markdown_table, note_for, output_table, record_line, rows_table, separated}
@@ -273,13 +273,13 @@ each_below_first : (P : Text → Type 0) (line : Text) (lines : List Text) → P
 each_below_first P line [] own each = each
 each_below_first P line (first ∷ rest) own each = All-cons P first (line ∷ rest) (All-head P first rest each) (All-cons P line rest own (All-tail P first rest each))
 
-markdown_is_clear : (options : Options) (records : List (List Text)) (output : Text) → IsLookWithoutControls options.look → All AllText records → (made : IsOutputOf options records output) → IsMarkdownText options.look made.content made.text → HasNoStrayControl (visible_text output)
+markdown_is_clear : (options : Options) (records : List (List Text)) (output : Text) → IsLookWithoutControls options.look → All AllText records → (made : IsOutputOf options records output) → IsMarkdownText options.look made.content made.text → options.look.is_markdown ≡ true → HasNoStrayControl (visible_text output)
 unfolding AllText
-markdown_is_clear options records output look text made drawn =
+markdown_is_clear options records output look text made drawn is =
     let rule = rule_line made.content.columns (max_content_widths (markdown_table options.look made.content)) in
     let seen = printable_is_seen rule (rule_is_printable made.content.columns _) in
     let own = each_content AllText options records made.content made.is_content text in
-    output_of_clear options records output (below_first rule drawn.lines) (record { content = made.content; is_content = made.is_content; is_expanded = false; text = made.text; has_lines = drawn.is; joined = made.joined })
+    output_of_clear options records output (below_first rule drawn.lines) (record { content = made.content; is_content = made.is_content; is_expanded = false; expansion = never_expanded options.look made.content is; text = made.text; has_lines = drawn.is; joined = made.joined })
     (each_below_first IsClear rule drawn.lines (subst HasNoControl (sym seen) (printable_is_clear rule (rule_is_printable made.content.columns _)))
     (drawn.drawing.without_controls (free_rows (markdown_look options.look) (record { cleaned = look.cleaned; style = refl }) (markdown_content made.content) (titled made.content own))))
   where
@@ -290,19 +290,19 @@ markdown_is_clear options records output look text made drawn =
         by_names None own names is = let same : [] ≡ names = cc is in subst AllText same tt
         by_names (Some n) own names is = let same : n ≡ names = cc is in subst AllText same (own n refl)
 
-table_is_clear : (options : Options) (records : List (List Text)) (output : Text) → IsLookWithoutControls options.look → All AllText records → (made : IsOutputOf options records output) → IsTableText options.look made.content made.text → HasNoStrayControl (visible_text output)
-table_is_clear options records output look text made drawn_text =
+table_is_clear : (options : Options) (records : List (List Text)) (output : Text) → IsLookWithoutControls options.look → All AllText records → (made : IsOutputOf options records output) → IsTableText options.look made.content made.text → options.look.is_markdown ≡ false → HasNoStrayControl (visible_text output)
+table_is_clear options records output look text made drawn_text none =
     let has = drawn_text.drawn.has_separators in
     let own = each_content AllText options records made.content made.is_content text in
-    output_of_clear options records output (drawn options records output made drawn_text) (with_lines options records output made drawn_text)
+    output_of_clear options records output (drawn options records output made drawn_text none) (with_lines options records output made drawn_text none)
     (drawn_text.drawn.is_arranged.headline.without_controls (free_output (separated has options.look) (separated_without has options.look look) made.content own drawn_text.is_expanded))
 
 pub output_without_controls : (options : Options) (records : List (List Text)) (output : Text) → OutputHoldsNoControls options records output
-output_without_controls options records output look text made = by_markdown options.look.is_markdown made.is_text
+output_without_controls options records output look text made = by_markdown options.look.is_markdown refl made.is_text
   where
-    by_markdown : (b : Bool) → IsText b options.look made.content made.text → HasNoStrayControl (visible_text output)
-    by_markdown true is = markdown_is_clear options records output look text made is
-    by_markdown false is = table_is_clear options records output look text made is
+    by_markdown : (b : Bool) → options.look.is_markdown ≡ b → IsText b options.look made.content made.text → HasNoStrayControl (visible_text output)
+    by_markdown true is drawn = markdown_is_clear options records output look text made drawn is
+    by_markdown false none drawn = table_is_clear options records output look text made drawn none
 
 -- records of an input are text
 pub input_without_controls : (options : Options) (input output : Text) → InputIsDrawnWithoutControls options input output

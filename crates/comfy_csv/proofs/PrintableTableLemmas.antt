@@ -17,7 +17,7 @@ use Rattle.comfy_csv.proofs.FieldLemmas.{fields_stay, number_is_printable}
 use Rattle.comfy_csv.proofs.LineLemmas.{Any, any_built}
 use Rattle.comfy_csv.proofs.StraightLemmas.{IsAny, any_line, default_rows, still_unstyled}
 use Rattle.comfy_csv.proofs.TextTableLemmas.{EachLine, MakesRows, cells_each, pair_each, rows_of_texts, table_of_texts}
-use Rattle.comfy_csv.specs.Drawn.{ContentValue, content_of, empty_table, output_table, rows_table, separated}
+use Rattle.comfy_csv.specs.Drawn.{ContentValue, content_of, empty_table, is_expanded_for, output_table, rows_table, separated}
 use Rattle.comfy_csv.specs.Laws.{IsDrawnTable, IsUnstyledUncut, PrintableLinesHave, PrintableTextsMakePrintableTable}
 use Rattle.comfy_csv_parts.specs.declared.options.Look.{Look}
 use Rattle.comfy_csv_parts.specs.declared.options.Options.{Options}
@@ -105,7 +105,8 @@ lines_have P options records output has plain each = by_table has.is_table
     separated_texts false = texts
 
     by_table : IsDrawnTable look content has.table → All (λ line. P has.table (count line)) has.lines
-    by_table (is_expanded, separators, is) =
+    by_table (separators, is) =
+        let is_expanded = is_expanded_for look content in
         let drawn = separated separators look in
         let own = still_unstyled separators look plain in
         let known : Built drawn Any content has.table = subst (Built drawn Any content) (sym is) (any_built is_expanded drawn content) in

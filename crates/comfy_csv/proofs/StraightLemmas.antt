@@ -15,7 +15,7 @@ use Rattle.comfy_table.specs.Straight.{EachCell}
 use Rattle.comfy_table.specs.TableValue.{TableValue, should_style, table_width}
 use Rattle.comfy_csv.proofs.BuiltLemmas.{EachOf, each_content}
 use Rattle.comfy_csv.proofs.FieldLemmas.{number_lines}
-use Rattle.comfy_csv.proofs.LineLemmas.{drawn, drawn_table, is_table_text, with_lines}
+use Rattle.comfy_csv.proofs.LineLemmas.{drawn, drawn_table, expansion, is_table_text, with_lines}
 use Rattle.comfy_csv.proofs.SeparatorLemmas.{separated_is_one_column}
 use Rattle.comfy_csv.proofs.TextTableLemmas.{EachLine, MakesRows, cells_each, pair_each, table_of_texts}
 use Rattle.comfy_csv_parts.specs.Cells.{cell_for, field_or_blank, field_text, with_weight}
@@ -124,9 +124,9 @@ rows_are_straight options records output none characters plain no_width short ma
     let look = options.look in
     let text = is_table_text options records output made none in
     let has = text.drawn.has_separators in (
-      drawn options records output made text,
-      with_lines options records output made text,
-      whole (separated has look) (still_unstyled has look plain) (separated_is_one_column has look characters) text.is_expanded made.content (drawn options records output made text) text.drawn.is_arranged.headline
+      drawn options records output made text none,
+      with_lines options records output made text none,
+      whole (separated has look) (still_unstyled has look plain) (separated_is_one_column has look characters) text.is_expanded made.content (drawn options records output made text none) text.drawn.is_arranged.headline
           (no_markdown has look none) (no_width_kept has look no_width) (short_content look has made.content (each_content (All (EachLine IsShort look)) options records made.content made.is_content short)),
     )
 
@@ -136,8 +136,8 @@ fitting_is_straight options records output none characters plain fits made =
     let text = is_table_text options records output made none in
     let has = text.drawn.has_separators in
     let headline = text.drawn.is_arranged.headline in (
-      drawn options records output made text,
-      with_lines options records output made text,
-      fitting (separated has look) (still_unstyled has look plain) (separated_is_one_column has look characters) text.is_expanded made.content (drawn options records output made text) headline
-          (fits made.content (drawn_table options records output made text) headline.widths made.is_content (text.is_expanded, has, refl) headline.arranged),
+      drawn options records output made text none,
+      with_lines options records output made text none,
+      fitting (separated has look) (still_unstyled has look plain) (separated_is_one_column has look characters) text.is_expanded made.content (drawn options records output made text none) headline
+          (fits made.content (drawn_table options records output made text none) headline.widths made.is_content (has, ap (λ e. output_table e (separated has look) made.content) (expansion options records output made text none)) headline.arranged),
     )

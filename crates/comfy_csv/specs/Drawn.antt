@@ -1,5 +1,5 @@
 -- What is drawn of some records, and what is written of it.
-use Rattle.std.specs.Prelude.{ℕ, ◌+◌, ◌*◌, Bool, true, false, ◌≡◌, nat_lt, min, List, [], ◌∷◌, ◌++◌, Option, Some, None, Result, Ok, Err, codes, decimal, drop, flat_map, length, map, slice_get, sum_by, take, unwrap_or, if◌then◌else◌}
+use Rattle.std.specs.Prelude.{ℕ, ◌+◌, ◌*◌, Bool, true, false, not, ◌&&◌, ◌≡◌, nat_lt, min, List, [], ◌∷◌, ◌++◌, Option, Some, None, Result, Ok, Err, codes, decimal, drop, flat_map, length, map, slice_get, sum_by, take, unwrap_or, if◌then◌else◌}
 use Rattle.std.specs.List.{list_any, range_with_len}
 use Rattle.comfy_parts.specs.CellValue.{RowValue}
 use Rattle.comfy_parts.specs.Presets.{ascii_markdown}
@@ -134,16 +134,20 @@ separators_in true Never = Never
 
 -- ---- expanded records
 
--- borders, paddings, and for each column its content or four terminal columns
+-- borders, paddings, and for each column its content, of which four terminal columns count at most
 abbrev pub least_width : TableValue → ℕ
 least_width table = border_count table.style (length table.columns) + sum_by (λ content. 2 + min content 4) (max_content_widths table)
 
--- whether records are expanded: always, never, or where a table of rows would have columns narrower than that
+-- whether records are expanded: always, never, or where the width of a table of rows is less than that
 abbrev pub is_expanded_in : Expansion → Option ℕ → TableValue → Bool
 is_expanded_in Always width table = true
 is_expanded_in NeverExpanded width table = false
 is_expanded_in Auto None table = false
 is_expanded_in Auto (Some width) table = nat_lt width (least_width table)
+
+-- whether an output has expanded records: none for Markdown
+abbrev pub is_expanded_for : Look → ContentValue → Bool
+is_expanded_for look content = not look.is_markdown && is_expanded_in look.expansion look.width (rows_table look content)
 
 -- the line above a record
 abbrev pub record_line : ℕ → ℕ → Text

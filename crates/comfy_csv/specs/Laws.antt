@@ -20,7 +20,7 @@ use Rattle.comfy_csv_parts.specs.Controls.{HasNoStrayControl, IsStyleWithoutCont
 use Rattle.comfy_csv_parts.specs.Words.{IsAsked}
 use Rattle.comfy_csv_parts.specs.declared.arguments.Asked.{Asked}
 use Rattle.comfy_csv_parts.specs.declared.arguments.Surroundings.{Surroundings}
-use Rattle.comfy_csv.specs.Drawn.{ContentValue, IsOutputFor, IsOutputOf, content_of, drawn_rows, names_of, note_for, output_table, record_line, separated, table_for}
+use Rattle.comfy_csv.specs.Drawn.{ContentValue, IsOutputFor, IsOutputOf, content_of, drawn_rows, is_expanded_for, names_of, note_for, output_table, record_line, separated, table_for}
 use Rattle.csv.specs.Records.{AllText}
 use Rattle.comfy_csv_parts.specs.declared.options.Look.{Look}
 use Rattle.comfy_csv_parts.specs.declared.options.Options.{Options}
@@ -52,13 +52,14 @@ pub record IsOutputWith (options : Options) (records : List (List Text)) (output
   pub content : ContentValue
   pub is_content : content_of options records ≡ Ok content
   pub is_expanded : Bool
+  pub expansion : is_expanded ≡ is_expanded_for options.look content
   pub text : Text
   pub has_lines : HasLines is_expanded content lines text
   pub joined : output ≡ text ++ note_for options.look.is_markdown options.limit content.count
 
--- a table of some records: of their rows or of their fields, with lines between rows or without
+-- the table that is drawn of some records: of their rows or of their fields, with lines between rows or without
 abbrev pub IsDrawnTable : Look → ContentValue → TableValue → Type 0
-IsDrawnTable look content table = (is_expanded has_separators : Bool) × (table ≡ output_table is_expanded (separated has_separators look) content)
+IsDrawnTable look content table = (has_separators : Bool) × (table ≡ output_table (is_expanded_for look content) (separated has_separators look) content)
 
 -- ---- widths of lines
 

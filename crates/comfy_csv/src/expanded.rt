@@ -23,7 +23,7 @@ pub(crate) fn is_expanded(table: &Table, look: &Look) -> Result<bool>
     }
 }
 
-// Borders, paddings, and for each column its content or four terminal columns.
+// Borders, paddings, and for each column its content, of which four terminal columns count at most.
 fn least_width(table: &Table) -> Result<usize>
     ensures { IfOk result (λ width. width ≡ min (2 ^ 64 - 1) (least_width table.now)) }
 {

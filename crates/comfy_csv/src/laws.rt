@@ -42,8 +42,8 @@ pub fn printable_texts_make_printable_tables()
 /// Where no width is kept to and each character of the style adds one terminal column, all lines of an output are equally
 /// many terminal columns wide, for texts of every script up to 65535 columns. So they are under every width where each
 /// character of each text fits its column and U+FE01 stands nowhere directly beside U+FE0E or U+FE0F. Nothing is in bold, no
-/// sequence counts nothing, and no row is cut. The tables of expanded records are as wide as each other. An output for
-/// Markdown is straight whatever its look asks for besides, and the line below the header is as wide as the others.
+/// sequence counts nothing, and no row is cut. The tables of expanded records are as wide as each other. So
+/// is an output for Markdown of texts up to 65535 columns, whatever its look asks for besides, and its line below the header.
 pub fn outputs_are_straight()
     ensures whole { (options : Options) (records : List (List Text)) (output : Text) → WholeOutputIsStraight options records output }
     ensures markdown { (options : Options) (records : List (List Text)) (output : Text) → MarkdownOutputIsStraight options records output }

@@ -25,7 +25,7 @@ pub(crate) fn output_of(
     ensures refused { IfErr result (λ e. IsColumnRefusal e (content_of options.now (map fields_of records.now))) }
 {
     let content = Content::new(alloc, records, options)?;
-    let mut output = text_of(&content, &options.look)?;
+    let mut output = drawn_text(&content, &options.look)?;
     push_note(
         &mut output,
         options.look.is_markdown,
@@ -35,7 +35,7 @@ pub(crate) fn output_of(
     Ok(output)
 }
 
-fn text_of(content: &Content<'_>, look: &Look) -> Result<String>
+fn drawn_text(content: &Content<'_>, look: &Look) -> Result<String>
     ensures { IfOk result (λ text. IsText look.now.is_markdown look.now content.now (string_bytes text)) }
 {
     if look.is_markdown {
