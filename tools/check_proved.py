@@ -11,6 +11,7 @@
 - CALLING.md of each library: each clause that it quotes stands in the library's source or in that of a caller.
 - Each mutation changes a function that exists.
 - The crate of documented examples is what the doc comments say.
+- csvtable's man page and completions are what tools/manual.py makes of its table of words.
 """
 import glob
 import os
@@ -18,6 +19,7 @@ import re
 import sys
 
 from doc_examples import wrong_examples
+from manual import wrong_files
 from mutations import must_fail_of, mutations_of
 from what_is_believed import LIBRARIES, TOP, counts, functions_of, text_of
 
@@ -102,6 +104,7 @@ def main():
     for path in glob.glob("crates/*/CALLING.md", root_dir=TOP):
         wrong += wrong_in_calling(path.split("/")[1])
     wrong += wrong_examples()
+    wrong += [f"{path} isn't what tools/manual.py makes" for path in wrong_files()]
     wrong += [f"docs/PROVED.md gives {given} lines for {label}, which stands on {count}" for label, count, given in counts(page) if count != given]
     passed_on = re.search(r"^pub use comfy_parts::laws::\{(.*?)\};", text_of("crates/comfy_table/src/laws.rt"), re.M | re.S)[1]
     laws = re.findall(r"^pub fn (\w+)", text_of("crates/comfy_parts/src/laws.rt"), re.M)

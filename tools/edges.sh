@@ -21,10 +21,14 @@ case $name in
   csvtable)
     misused="csvtable: a word isn't UTF-8"
     unread=
+    unreadable="csvtable: standard input: can't be read"
+    folder='csvtable: standard input: is a directory'
     ;;
   *)
     misused='usage: ctable [WIDTH|- [disabled|dynamic|full [STYLE]]]'
     unread="$name: the output can't be written"
+    unreadable="$name: the input can't be read"
+    folder=$unreadable
     ;;
 esac
 
@@ -75,10 +79,10 @@ compare 'a full disk' $? 1 "$name: the output can't be written"
 compare 'a closed standard output' $? 1 "$name: the output can't be written"
 
 "$program" <&- > "$work/out" 2> "$work/err"
-compare 'a closed standard input' $? 1 "$name: the input can't be read"
+compare 'a closed standard input' $? 1 "$unreadable"
 
 "$program" < "$work" > "$work/out" 2> "$work/err"
-compare 'a folder as input' $? 1 "$name: the input can't be read"
+compare 'a folder as input' $? 1 "$folder"
 
 "$program" < "$work" > "$work/out" 2>&-
 status=$?
@@ -112,13 +116,20 @@ refused() {
   compare "$run" $? 1 "csvtable: $line"
 }
 printf 'a,b\nx,y\n' > "$work/input"
-refused 'a file that is not there' "the input can't be read" "$work/none"
-refused 'a folder as a file' "the input can't be read" "$work"
-refused 'a column that is not there' 'there is no column 09' -c 09
-refused 'a column at two sides' "column b can't stand at the right and at the left" -r b --left 2
+refused 'a file that is not there' "$work/none: no such file" "$work/none"
+refused 'a folder as a file' "$work: is a directory" "$work"
+: > "$work/closed"
+chmod 000 "$work/closed"
+# the superuser reads it all the same
+[ -r "$work/closed" ] || refused 'a file that may not be read' "$work/closed: permission denied" "$work/closed"
+refused 'a column that is not there' 'standard input: no column 09' -c 09
+refused 'a column at two sides' "standard input: column b can't stand at the right and at the left" -r b --left 2
 printf 'a,b\nx,\377\n' > "$work/input"
-refused 'a line that is not UTF-8' "line 2 isn't UTF-8"
-refused 'such a line in a file' "line 2 isn't UTF-8" "$work/input"
+refused 'a line that is not UTF-8' "standard input: line 2 isn't UTF-8; try -e cp1252"
+refused 'such a line in a file' "$work/input: line 2 isn't UTF-8; try -e cp1252" "$work/input"
+refused 'such a line with an encoding' "standard input: line 2 isn't UTF-8" -e utf-8
+printf 'a,b\nx,"\n' > "$work/input"
+refused 'a quote that is never closed' 'standard input: a quote that opens in line 2 is never closed; try --no-quotes'
 
 # Compares two runs that have to write the same, and not nothing.
 same() {

@@ -66,7 +66,7 @@ def differences(number):
     right = [column for column in range(width) if given.randrange(2)]
     file = io.StringIO()
     csv.writer(file, lineterminator="\n", quoting=csv.QUOTE_ALL).writerows(records)
-    words = ["--markdown"]
+    words = ["--markdown", "-d", ","]
     if right:
         words += ["-r", ",".join(str(1 + column) for column in right)]
     left = [str(1 + column) for column in range(width) if column not in right]

@@ -1,8 +1,7 @@
 #!/bin/sh
 # Measures a built csvtable beside other programs on five files: a ledger, a benchmark, a listing, names and messages.
 # For each it prints millions of instructions, seconds of processor time and megabytes. mlr doesn't run under valgrind, and
-# csvlook takes minutes: they are only timed, and csvlook on a tenth of the records. It needs valgrind, GNU time, miller
-# and csvkit.
+# csvlook would take minutes there: they are only timed. It needs valgrind, GNU time, miller and csvkit.
 #
 # usage: tools/measure_csv.sh CSVTABLE [RECORDS]
 set -eu
@@ -35,12 +34,10 @@ measured() {
 
 for kind in ledger benchmark listing names messages; do
   csv_of "$kind" "$records" > "$work/$kind"
-  csv_of "$kind" "$((records / 10))" > "$work/tenth"
   echo "$kind, $records records, $(wc -c < "$work/$kind") bytes"
   measured "$work/$kind" "$csvtable"
-  measured "$work/$kind" column -t -s,
+  measured "$work/$kind" column -t -s, -R 5
   count=
-  timed "$work/$kind" mlr --icsv --opprint --barred cat
-  echo "  and a tenth of them:"
-  timed "$work/tenth" csvlook
+  timed "$work/$kind" mlr --icsv --opprint --barred --right cat
+  timed "$work/$kind" csvlook -I
 done

@@ -14,7 +14,7 @@ use Rattle.comfy_csv_parts.proofs.CleaningLemmas.{Stays-nil, stays_cleaned}
 use Rattle.comfy_csv_parts.specs.Cells.{field_text, field_or_blank, header_for, kept_by, kept_for_markdown, marked, row_for}
 use Rattle.comfy_csv_parts.specs.Cleaning.{cleaned}
 use Rattle.comfy_csv_parts.specs.Columns.{columns_for, name_at}
-use Rattle.comfy_csv.specs.Drawn.{ContentValue, content_of, content_with, drawn_rows, empty_table, headed_table, limited, names_of, ok_map, output_table, pairs_of, pairs_table, records_below, rows_table}
+use Rattle.comfy_csv.specs.Drawn.{ContentValue, content_of, content_with, drawn_rows, empty_table, headed_table, limited, names_of, ok_map, pairs_of, pairs_table, records_below, rows_table}
 use Rattle.comfy_csv_parts.specs.Markdown.{escaped}
 use Rattle.comfy_csv_parts.specs.declared.cleaning.Kept.{Kept}
 use Rattle.comfy_csv_parts.specs.declared.options.Look.{Look}
@@ -92,6 +92,11 @@ each_content P options records content is each =
 
 -- ---- tables
 
+-- the table of expanded records, or of rows
+abbrev pub plain_table : Bool → Look → ContentValue → TableValue
+plain_table true look content = pairs_table look content
+plain_table false look content = rows_table look content
+
 module _ (look : Look) (Q : RowValue → Type 0) (content : ContentValue) where
   abbrev pub Built : TableValue → Type 0
   Built = IsBuilt (empty_table look) Q
@@ -118,6 +123,6 @@ module _ (look : Look) (Q : RowValue → Type 0) (content : ContentValue) where
   pub built_pairs : All MakesPairs content.rows → Built (pairs_table look content)
   built_pairs each = built-rows (empty_table look) Q (flat_map (pairs_of look content.columns (unwrap_or content.names [])) content.rows) (empty_table look) (All-flat_map Q (pairs_of look content.columns (unwrap_or content.names [])) content.rows each) empty
 
-  pub built : (is_expanded : Bool) → ((n : List Text) → content.names ≡ Some n → Q (header_for look content.columns n)) → All MakesRow content.rows → All MakesPairs content.rows → Built (output_table is_expanded look content)
+  pub built : (is_expanded : Bool) → ((n : List Text) → content.names ≡ Some n → Q (header_for look content.columns n)) → All MakesRow content.rows → All MakesPairs content.rows → Built (plain_table is_expanded look content)
   built true head rows pairs = built_pairs pairs
   built false head rows pairs = built_rows head rows

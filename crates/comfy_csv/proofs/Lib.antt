@@ -1,5 +1,6 @@
 pub mod BuiltLemmas
 pub mod FieldLemmas
+pub mod KeptWidthLemmas
 pub mod LineLemmas
 pub mod MarkdownDrawingLemmas
 pub mod MarkdownLineLemmas
@@ -14,3 +15,6 @@ pub mod RunLemmas
 pub mod SeparatorLemmas
 pub mod StraightLemmas
 pub mod TextTableLemmas
+pub mod UnbrokenLemmas
+pub mod WholeColumnLemmas
+pub mod WholeTableLemmas

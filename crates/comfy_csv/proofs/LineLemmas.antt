@@ -1,21 +1,26 @@
 -- The lines of an output, and how many characters they have.
-use Rattle.std.proofs.Common.{◌≡◌, arith, not, ◌&&◌, ℕ, ◌*◌, Bool, true, false, List, [], ◌∷◌, ◌++◌, ◌+◌, Some, append-nil, ap₂, flat_map, length, map, unwrap_or, refl, ap, sym, ◌∙◌, subst}
+use Rattle.std.proofs.Common.{◌≡◌, ◌≤◌, ◌<◌, ◌⊎◌, inl, inr, max, arith, not, ◌&&◌, ℕ, ◌*◌, Bool, true, false, List, [], ◌∷◌, ◌++◌, ◌+◌, Some, append-nil, ap₂, flat_map, length, map, unwrap_or, refl, ap, sym, ◌∙◌, subst}
 use Rattle.std.specs.List.{All, range_with_len}
 use Rattle.std.proofs.lemmas.Grind.{flat_map-append}
 use Rattle.std.proofs.lemmas.List.Folds.{flat_map-map}
+use Rattle.std.proofs.lemmas.List.Elements.{All-weaker}
 use Rattle.std.proofs.lemmas.List.FromFn.{map-range_with_len_more}
 use Rattle.comfy_parts.proofs.CallerLemmas.{All-every}
 use Rattle.comfy_parts.specs.CellValue.{RowValue}
-use Rattle.comfy_parts.specs.Text.{Text}
-use Rattle.comfy_table.proofs.BuiltTableLemmas.{unconstrained}
+use Rattle.comfy_parts.specs.Text.{Text, measure}
+use Rattle.comfy_parts.specs.declared.style.table.ContentArrangement.TheVariants.{Dynamic, DynamicFullWidth}
 use Rattle.comfy_table.proofs.PartLemmas.{all_rows_are_the_table, part_has_lines_of_table}
-use Rattle.comfy_table.specs.Drawing.{drawing_of_infos, terminated_text_of}
+use Rattle.comfy_table.specs.Drawing.{drawing, drawing_of_infos, terminated_text_of}
 use Rattle.comfy_table.specs.Headline.{EachLineCounts, IsTableDrawing}
+use Rattle.comfy_table.specs.Laws.{count, least_total, unstyled}
 use Rattle.comfy_table.specs.Parts.{ArrangedValue, part_lines}
+use Rattle.comfy_table.specs.TableLaws.{shown_contents, wider_total}
 use Rattle.comfy_table.specs.TableValue.{TableValue, table_width}
-use Rattle.comfy_csv.proofs.BuiltLemmas.{Built, built}
+use Rattle.comfy_table.specs.Widths.{shown_count}
+use Rattle.comfy_csv.proofs.BuiltLemmas.{Built, built, plain_table}
+use Rattle.comfy_csv.proofs.WholeTableLemmas.{HasRoom, IsDrawn, drawn-is, drawn_table-is, least-fits, unconstrained-drawn, wider-fits}
 use Rattle.comfy_csv_parts.specs.Cells.{row_for}
-use Rattle.comfy_csv.specs.Drawn.{ContentValue, IsOutputOf, IsTableText, IsText, empty_table, is_expanded_for, is_expanded_in, output_table, pairs_of, rows_table, separated, table_text}
+use Rattle.comfy_csv.specs.Drawn.{ContentValue, IsOutputOf, IsTableText, IsText, empty_table, is_expanded_for, is_expanded_in, output_table, pairs_of, rows_table, separated, separated_table, table_text}
 use Rattle.comfy_csv.specs.Laws.{EachLineHas, HasLines, IsFilling, IsOutputWith, IsWithin, OutputFillsWidth, OutputKeepsToWidth}
 use Rattle.comfy_csv_parts.specs.declared.options.Look.{Look}
 use Rattle.comfy_csv_parts.specs.declared.options.Options.{Options}
@@ -24,7 +29,7 @@ abbrev pub Any : RowValue → Type 0
 Any row = Unit {0}
 
 -- a table of records, whatever its rows
-pub any_built : (is_expanded : Bool) (look : Look) (content : ContentValue) → Built look Any content (output_table is_expanded look content)
+pub any_built : (is_expanded : Bool) (look : Look) (content : ContentValue) → Built look Any content (plain_table is_expanded look content)
 any_built is_expanded look content =
     built look Any content is_expanded (λ n is. tt) (All-every (λ fields. Any (row_for look content.columns fields)) content.rows (λ fields. tt))
     (All-every (λ fields. All Any (pairs_of look content.columns (unwrap_or content.names []) fields)) content.rows (λ fields. All-every Any (pairs_of look content.columns (unwrap_or content.names []) fields) (λ row. tt)))
@@ -57,7 +62,7 @@ never_expanded look content is = ap (λ b. not b && is_expanded_in look.expansio
 
 module _ (options : Options) (records : List (List Text)) (output : Text) (made : IsOutputOf options records output) (text : IsTableText options.look made.content made.text) (none : options.look.is_markdown ≡ false) where
   abbrev pub drawn_table : TableValue
-  drawn_table = output_table text.is_expanded (separated text.drawn.has_separators options.look) made.content
+  drawn_table = separated_table text.drawn.has_separators (output_table text.is_expanded options.look made.content)
 
   abbrev pub drawn : List Text
   drawn = drawing_of_infos drawn_table text.drawn.arranged.infos
@@ -81,24 +86,61 @@ module _ (options : Options) (records : List (List Text)) (output : Text) (made 
 
   has_lines : (P : TableValue → ℕ → Type 0) → EachLineCounts (P drawn_table) drawn_table text.drawn.is_arranged.headline.widths → EachLineHas P options records output
   has_lines P counts =
-      record { lines = drawn; is_output = with_lines; table = drawn_table; is_table = (text.drawn.has_separators, ap (λ e. output_table e (separated text.drawn.has_separators options.look) made.content) expansion); drawing = text.drawn.is_arranged.headline; counts = counts }
+      record { lines = drawn; is_output = with_lines; table = drawn_table; is_table = (text.drawn.has_separators, ap (λ e. separated_table text.drawn.has_separators (output_table e options.look made.content)) expansion); drawing = text.drawn.is_arranged.headline; counts = counts }
 
 -- ---- widths
 
-module _ (w : ℕ) (is_expanded : Bool) (look : Look) (content : ContentValue) (lines : List Text) (drawing : IsTableDrawing (output_table is_expanded look content) lines) (wide : look.width ≡ Some w) where
-  abbrev table : TableValue
-  table = output_table is_expanded look content
+-- what follows for each count
+weaker_counts : (P R : ℕ → Type 0) (table : TableValue) (widths : List ℕ) → ((n : ℕ) → P n → R n) → EachLineCounts P table widths → EachLineCounts R table widths
+weaker_counts P R table widths gives counts =
+    record {
+      frame_lines = λ line. gives _ (counts.frame_lines line);
+      printable_lines = λ is. All-weaker (λ line. P (count line)) (λ line. R (count line)) (λ line. gives (count line)) (drawing (unstyled table) widths) (counts.printable_lines is);
+      straight_lines = λ is. All-weaker (λ line. P (measure line)) (λ line. R (measure line)) (λ line. gives (measure line)) (drawing (unstyled table) widths) (counts.straight_lines is);
+    }
 
-  keeps : look.fills_width ≡ false → EachLineCounts (IsWithin w table) table drawing.widths
-  keeps kept =
-      let known = any_built is_expanded look content in
-      drawing.keeps_to_width w (unconstrained (empty_table look) Any table known) (ap (λ (t : TableValue). t.arrangement) known.is ∙ rw (wide, kept) refl) (ap table_width known.is ∙ rw wide refl)
+module _ (w : ℕ) (look : Look) (content : ContentValue) (table : TableValue) (known : IsDrawn look Any content table) (lines : List Text) (drawn : IsTableDrawing table lines) (wide : look.width ≡ Some w) where
+  looks : table ≡ record (empty_table look) { columns = table.columns; header = table.header; rows = table.rows }
+  looks = drawn-is look Any content table known
 
-  fills : look.fills_width ≡ true → EachLineCounts (IsFilling w table) table drawing.widths
-  fills filled =
-      let known = any_built is_expanded look content in
-      let counts = drawing.fills_width w (unconstrained (empty_table look) Any table known) (ap (λ (t : TableValue). t.arrangement) known.is ∙ rw (wide, filled) refl) (ap table_width known.is ∙ rw wide refl) in
-      record { frame_lines = λ line some. (counts some).frame_lines line; printable_lines = λ is k default below some. (counts some).printable_lines is k default below; straight_lines = λ is k default below some. (counts some).straight_lines is k default below }
+  keeps : look.fills_width ≡ false → EachLineCounts (IsWithin w table) table drawn.widths
+  keeps kept = by_room (known.room w wide)
+    where
+      dynamic : table.arrangement ≡ Dynamic
+      dynamic = ap (λ (t : TableValue). t.arrangement) looks ∙ rw (wide, kept) refl
+
+      width : table_width table ≡ Some w
+      width = ap table_width looks ∙ rw wide refl
+
+      by_room : (known.whole ≡ []) ⊎ HasRoom w table → EachLineCounts (IsWithin w table) table drawn.widths
+      by_room (inl none) = drawn.keeps_to_width w (unconstrained-drawn look Any content table known none) dynamic width
+      by_room (inr room) =
+          let found = drawn.keeps_to_wider_total w dynamic width in
+          let fits = wider-fits w table room false found.0 (shown_contents table drawn.widths) found.1 in
+          weaker_counts (λ n. n ≤ max w (wider_total table found.0)) (IsWithin w table) table drawn.widths (λ n is. omega (arith, is, fits)) found.2
+
+  fills : look.fills_width ≡ true → EachLineCounts (IsFilling w table) table drawn.widths
+  fills filled = record { frame_lines = λ line some. (exact some).frame_lines line; printable_lines = λ is k default below some. (exact some).printable_lines is k default below; straight_lines = λ is k default below some. (exact some).straight_lines is k default below }
+    where
+      full : table.arrangement ≡ DynamicFullWidth
+      full = ap (λ (t : TableValue). t.arrangement) looks ∙ rw (wide, filled) refl
+
+      width : table_width table ≡ Some w
+      width = ap table_width looks ∙ rw wide refl
+
+      by_room : (known.whole ≡ []) ⊎ HasRoom w table → 0 < shown_count table → EachLineCounts (λ n. n ≡ max w (least_total table)) table drawn.widths
+      by_room (inl none) some = drawn.fills_width w (unconstrained-drawn look Any content table known none) full width some
+      by_room (inr room) some =
+          let found = drawn.fills_wider_total w full width some in
+          let fits = wider-fits w table room true found.0 (shown_contents table drawn.widths) found.1 in
+          weaker_counts (λ n. n ≡ max w (wider_total table found.0)) (λ n. n ≡ max w (least_total table)) table drawn.widths (λ n is. omega (arith, is, fits, least-fits w table room)) found.2
+
+      exact : 0 < shown_count table → EachLineCounts (λ n. n ≡ max w (least_total table)) table drawn.widths
+      exact = by_room (known.room w wide)
+
+-- the drawn table is so built
+pub any_drawn : (look : Look) (content : ContentValue) (is_expanded has : Bool) → IsDrawn (separated has look) Any content (separated_table has (output_table is_expanded look content))
+any_drawn look content is_expanded has = drawn_table-is look Any content is_expanded has (any_built is_expanded (separated has look) content)
 
 -- a look with lines between rows or without them keeps its other settings
 pub kept_setting : {A : Type 0} (of : Look → A) (look : Look) → of (separated true look) ≡ of (separated false look) → (has : Bool) (a : A) → of look ≡ a → of (separated has look) ≡ a
@@ -110,11 +152,11 @@ keeps_to_width w options records output none wide kept plain made =
     let text = is_table_text options records output made none in
     let look = options.look in
     has_lines options records output made text none (IsWithin w)
-    (keeps w text.is_expanded (separated text.drawn.has_separators look) made.content _ text.drawn.is_arranged.headline (kept_setting (λ l. l.width) look refl text.drawn.has_separators (Some w) wide) (kept_setting (λ l. l.fills_width) look refl text.drawn.has_separators false kept))
+    (keeps w (separated text.drawn.has_separators look) made.content _ (any_drawn look made.content text.is_expanded text.drawn.has_separators) _ text.drawn.is_arranged.headline (kept_setting (λ l. l.width) look refl text.drawn.has_separators (Some w) wide) (kept_setting (λ l. l.fills_width) look refl text.drawn.has_separators false kept))
 
 pub fills_width : (w : ℕ) (options : Options) (records : List (List Text)) (output : Text) → OutputFillsWidth w options records output
 fills_width w options records output none wide filled plain made =
     let text = is_table_text options records output made none in
     let look = options.look in
     has_lines options records output made text none (IsFilling w)
-    (fills w text.is_expanded (separated text.drawn.has_separators look) made.content _ text.drawn.is_arranged.headline (kept_setting (λ l. l.width) look refl text.drawn.has_separators (Some w) wide) (kept_setting (λ l. l.fills_width) look refl text.drawn.has_separators true filled))
+    (fills w (separated text.drawn.has_separators look) made.content _ (any_drawn look made.content text.is_expanded text.drawn.has_separators) _ text.drawn.is_arranged.headline (kept_setting (λ l. l.width) look refl text.drawn.has_separators (Some w) wide) (kept_setting (λ l. l.fills_width) look refl text.drawn.has_separators true filled))

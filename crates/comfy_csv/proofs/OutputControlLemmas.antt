@@ -16,7 +16,6 @@ use Rattle.comfy_parts.specs.Columns.{style_characters}
 use Rattle.comfy_parts.specs.Text.{Text, is_printable_ascii}
 use Rattle.comfy_parts.specs.declared.style.table_style.TableStyle.{TableStyle}
 use Rattle.comfy_parts.specs.VisibleText.{visible_text}
-use Rattle.comfy_table.proofs.BuiltTableLemmas.{measured_known}
 use Rattle.comfy_table.proofs.MeasuredLemmas.{IsRowOf, row_measured}
 use Rattle.comfy_table.specs.Drawing.{terminated_text_of}
 use Rattle.comfy_table.specs.Laws.{HasNoControl, IsFreeOfControls}
@@ -35,12 +34,13 @@ use Rattle.comfy_csv_parts.specs.declared.arguments.Surroundings.{Surroundings}
 use Rattle.comfy_csv_parts.specs.declared.options.DrawnColumn.{DrawnColumn}
 use Rattle.comfy_csv_parts.specs.declared.options.Look.{Look}
 use Rattle.comfy_csv_parts.specs.declared.options.Options.{Options}
-use Rattle.comfy_csv.proofs.BuiltLemmas.{Built, EachOf, each_content}
+use Rattle.comfy_csv.proofs.BuiltLemmas.{Built, EachOf, each_content, plain_table}
 use Rattle.comfy_csv.proofs.FieldLemmas.{number_is_printable}
 use Rattle.comfy_csv.proofs.LineLemmas.{drawn, never_expanded, with_lines}
 use Rattle.comfy_csv.proofs.SeparatorLemmas.{condensed-all}
 use Rattle.comfy_csv.proofs.TextTableLemmas.{EachLine, MakesRows, cells_each, pair_each, rows_of_texts, table_of_texts}
-use Rattle.comfy_csv.specs.Drawn.{ContentValue, IsMarkdownText, IsOutputOf, IsTableText, IsText, below_first, condensed_style, empty_table, markdown_content, markdown_look, markdown_table, note_for, output_table, record_line, rows_table, separated}
+use Rattle.comfy_csv.proofs.WholeTableLemmas.{IsDrawn, drawn-is, drawn_plain, drawn_table-is, measured-drawn}
+use Rattle.comfy_csv.specs.Drawn.{ContentValue, IsMarkdownText, IsOutputOf, IsOutputOfAny, IsTableText, IsText, below_first, condensed_style, markdown_content, markdown_look, markdown_table, note_for, output_table, record_line, rows_table, separated, separated_table}
 use Rattle.comfy_csv.specs.Laws.{AskedOutputHoldsNoControls, HasLines, InputIsDrawnWithoutControls, IsLookWithoutControls, IsOutputWith, OutputHoldsNoControls}
 
 -- ---- rows
@@ -106,12 +106,12 @@ separated_without true look is = is
 separated_without false look is = record { cleaned = is.cleaned; style = condensed_without look.style is.style }
 
 module _ (look : Look) (is : IsLookWithoutControls look) (content : ContentValue) (text : EachOf AllText content) where
-  free_of_controls : (table : TableValue) → Built look (IsClearRow look.has_sequences) content table → IsFreeOfControls table
+  free_of_controls : (table : TableValue) → IsDrawn look (IsClearRow look.has_sequences) content table → IsFreeOfControls table
   free_of_controls table known =
       record {
-        text_lines = measured_known (empty_table look) (IsClearRow look.has_sequences) table known (IsRowOf HasNoControl) (clear_measured look.has_sequences);
-        indicator = subst HasNoControl (sym (ap (λ (t : TableValue). t.indicator) known.is)) ellipsis_is_plain;
-        characters = subst IsStyleWithoutControls (sym (ap (λ (t : TableValue). t.style) known.is)) is.style;
+        text_lines = measured-drawn look (IsClearRow look.has_sequences) content table known (IsRowOf HasNoControl) (clear_measured look.has_sequences);
+        indicator = subst HasNoControl (sym (ap (λ (t : TableValue). t.indicator) (drawn-is look (IsClearRow look.has_sequences) content table known))) ellipsis_is_plain;
+        characters = subst IsStyleWithoutControls (sym (ap (λ (t : TableValue). t.style) (drawn-is look (IsClearRow look.has_sequences) content table known))) is.style;
       }
 
   each : EachOf (All (EachLine (IsClearLine look.has_sequences) look)) content
@@ -122,13 +122,19 @@ module _ (look : Look) (is : IsLookWithoutControls look) (content : ContentValue
       }
 
   free_rows : IsFreeOfControls (rows_table look content)
-  free_rows = free_of_controls (rows_table look content) (rows_of_texts (IsClearLine look.has_sequences) (empty_line look.has_sequences) look (IsClearRow look.has_sequences) (clear_rows look) content each)
+  free_rows = free_of_controls (rows_table look content) (drawn_plain look (IsClearRow look.has_sequences) content (rows_table look content) (rows_of_texts (IsClearLine look.has_sequences) (empty_line look.has_sequences) look (IsClearRow look.has_sequences) (clear_rows look) content each))
 
-  free_output : (is_expanded : Bool) → IsFreeOfControls (output_table is_expanded look content)
-  free_output is_expanded =
-      free_of_controls (output_table is_expanded look content)
-      (table_of_texts (IsClearLine look.has_sequences) (empty_line look.has_sequences) look (IsClearRow look.has_sequences) (clear_rows look) content each
-      (λ at. clear_field look is.cleaned (decimal (at + 1)) (IsUtf8-printable (decimal (at + 1)) (number_is_printable (at + 1)))) is_expanded)
+  built_output : (is_expanded : Bool) → Built look (IsClearRow look.has_sequences) content (plain_table is_expanded look content)
+  built_output is_expanded =
+      table_of_texts (IsClearLine look.has_sequences) (empty_line look.has_sequences) look (IsClearRow look.has_sequences) (clear_rows look) content each
+      (λ at. clear_field look is.cleaned (decimal (at + 1)) (IsUtf8-printable (decimal (at + 1)) (number_is_printable (at + 1)))) is_expanded
+
+free_output : (look : Look) → IsLookWithoutControls look → (content : ContentValue) → EachOf AllText content → (is_expanded has : Bool) → IsFreeOfControls (separated_table has (output_table is_expanded look content))
+free_output look is content text is_expanded has =
+    let own = separated has look in
+    let clear = separated_without has look is in
+    let known = drawn_table-is look (IsClearRow own.has_sequences) content is_expanded has (built_output own clear content text is_expanded) in
+    free_of_controls own clear content text (separated_table has (output_table is_expanded look content)) known
 
 -- ---- lines and the last line
 
@@ -295,7 +301,7 @@ table_is_clear options records output look text made drawn_text none =
     let has = drawn_text.drawn.has_separators in
     let own = each_content AllText options records made.content made.is_content text in
     output_of_clear options records output (drawn options records output made drawn_text none) (with_lines options records output made drawn_text none)
-    (drawn_text.drawn.is_arranged.headline.without_controls (free_output (separated has options.look) (separated_without has options.look look) made.content own drawn_text.is_expanded))
+    (drawn_text.drawn.is_arranged.headline.without_controls (free_output options.look look made.content own drawn_text.is_expanded has))
 
 pub output_without_controls : (options : Options) (records : List (List Text)) (output : Text) → OutputHoldsNoControls options records output
 output_without_controls options records output look text made = by_markdown options.look.is_markdown refl made.is_text
@@ -306,7 +312,11 @@ output_without_controls options records output look text made = by_markdown opti
 
 -- records of an input are text
 pub input_without_controls : (options : Options) (input output : Text) → InputIsDrawnWithoutControls options input output
-input_without_controls options input output look made = output_without_controls options made.records output look made.are_records.are_text made.is_output
+input_without_controls options input output look made = any made.records made.are_records.are_records.are_records.are_text made.is_output
+  where
+    any : (records : List (List Text)) → All AllText records → IsOutputOfAny options records output → HasNoStrayControl (visible_text output)
+    any [] text is = rw is (NoCharPasses-nil is_stray_control)
+    any (first ∷ rest) text is = output_without_controls options (first ∷ rest) output look text is
 
 -- and words ask for a style without control characters
 pub asked_without_controls : (words : List Text) (surroundings : Surroundings) (asked : Asked) (input output : Text) → AskedOutputHoldsNoControls words surroundings asked input output

@@ -17,8 +17,7 @@ use Rattle.comfy_table.specs.TableValue.{TableValue, max_content_widths}
 use Rattle.comfy_csv_parts.specs.declared.options.Look.{Look}
 use Rattle.comfy_csv_parts.specs.Markdown.{rule_line}
 use Rattle.comfy_csv.proofs.LineLemmas.{any_built}
-use Rattle.comfy_csv.proofs.SeparatorLemmas.{restyled}
-use Rattle.comfy_csv.specs.Drawn.{ContentValue, HasSeparators, IsMarkdownText, IsTextOfTable, below_first, markdown_content, markdown_look, markdown_table, output_table, separators_in, table_text}
+use Rattle.comfy_csv.specs.Drawn.{ContentValue, IsMarkdownText, IsTextOfTable, below_first, markdown_content, markdown_look, markdown_table, output_table, separators_in, table_text}
 use Rattle.comfy_csv.specs.Separators.{AreRowsSeparated}
 
 -- ---- a line below the first one
@@ -106,10 +105,4 @@ module _ (look : Look) (content : ContentValue) (is_expanded : Bool) where
   -- the text of a table after its lines between rows were left out where they aren't wanted
   pub text_of_table : (after : TableValue) (arranged : ArrangedValue) (text : Text) → AreRowsSeparated (separators_in is_expanded look.separators) table after → IsArrangedTable after arranged → text ≡ table_text is_expanded content arranged → IsTextOfTable is_expanded look content text
   text_of_table after arranged text made found is =
-      record {
-        has_separators = made.has_separators;
-        separators = subst (λ t. HasSeparators (separators_in is_expanded look.separators) t made.has_separators) (sym (restyled look content is_expanded false)) made.separators;
-        arranged = arranged;
-        is_arranged = subst (λ t. IsArrangedTable t arranged) (made.table ∙ sym (restyled look content is_expanded made.has_separators)) found;
-        is = is;
-      }
+      record { has_separators = made.has_separators; separators = made.separators; arranged = arranged; is_arranged = subst (λ t. IsArrangedTable t arranged) made.table found; is = is }

@@ -5,19 +5,19 @@ use Rattle.std.specs.List.{All, slice_get}
 use Rattle.std.proofs.lemmas.List.Elements.{All-weaker}
 use Rattle.comfy_parts.specs.CellValue.{CellValue, ColumnValue, RowValue}
 use Rattle.comfy_parts.specs.Text.{Text, is_printable_ascii}
-use Rattle.comfy_table.proofs.BuiltTableLemmas.{IsNewColumn, columns_known, rows_known}
 use Rattle.comfy_parts.proofs.CallerLemmas.{All-at, All-every, All-found}
 use Rattle.comfy_table.specs.Drawing.{infos_of}
 use Rattle.comfy_table.specs.Laws.{AddsOneColumnEachWhereWritten, HasPrintableCells, IsPrintableCell, IsPrintableTable, count}
 use Rattle.comfy_table.specs.Lines.{cell_delimiter}
 use Rattle.comfy_table.specs.Pieces.{shown_infos}
 use Rattle.comfy_table.specs.TableValue.{TableValue, column_cells, measured_rows, should_style, shown_columns}
-use Rattle.comfy_csv.proofs.BuiltLemmas.{Built, EachOf, each_content, made_of}
+use Rattle.comfy_csv.proofs.BuiltLemmas.{Built, EachOf, each_content, made_of, plain_table}
 use Rattle.comfy_csv.proofs.FieldLemmas.{fields_stay, number_is_printable}
-use Rattle.comfy_csv.proofs.LineLemmas.{Any, any_built}
 use Rattle.comfy_csv.proofs.StraightLemmas.{IsAny, any_line, default_rows, still_unstyled}
 use Rattle.comfy_csv.proofs.TextTableLemmas.{EachLine, MakesRows, cells_each, pair_each, rows_of_texts, table_of_texts}
-use Rattle.comfy_csv.specs.Drawn.{ContentValue, content_of, empty_table, is_expanded_for, output_table, rows_table, separated}
+use Rattle.comfy_csv.proofs.WholeColumnLemmas.{IsPaddedColumn}
+use Rattle.comfy_csv.proofs.WholeTableLemmas.{IsDrawn, columns-drawn, drawn-is, drawn_plain, drawn_table-is, rows-drawn}
+use Rattle.comfy_csv.specs.Drawn.{ContentValue, content_of, is_expanded_for, rows_table, separated}
 use Rattle.comfy_csv.specs.Laws.{IsDrawnTable, IsUnstyledUncut, PrintableLinesHave, PrintableTextsMakePrintableTable}
 use Rattle.comfy_csv_parts.specs.declared.options.Look.{Look}
 use Rattle.comfy_csv_parts.specs.declared.options.Options.{Options}
@@ -42,26 +42,23 @@ bare_rows look plain =
           record { uncut = (default.pair name field (any_line look name) (any_line look field)).uncut; printable = pair_each IsPrintable refl look name field own other; no_delimiter = (default.pair name field (any_line look name) (any_line look field)).no_delimiters };
     }
 
-module _ (look : Look) (plain : IsUnstyledUncut look) (content : ContentValue) (table : TableValue) (known : Built look IsBareRow content table) where
-  abbrev base : TableValue
-  base = empty_table look
-
+module _ (look : Look) (plain : IsUnstyledUncut look) (content : ContentValue) (table : TableValue) (known : IsDrawn look IsBareRow content table) where
   rows : All IsBareRow (measured_rows table)
-  rows = rows_known base IsBareRow table known plain.no_sequences
+  rows = rows-drawn look IsBareRow content table known plain.no_sequences
 
   printable_cell-is : (delimiter : Option ℕ) (row : RowValue) (i : ℕ) (cell : CellValue) → delimiter ≡ None → IsBareRow row → slice_get row.cells i ≡ Some cell → IsPrintableCell table delimiter cell
   printable_cell-is delimiter row i cell none is found =
       let own : cell.delimiter ≡ None = All-at (λ (c : CellValue). c.delimiter ≡ None) row.cells i cell is.no_delimiter found in
       let space : cell_delimiter table delimiter cell ≡ 0x20 =
-      ap (λ o. unwrap_or o (unwrap_or delimiter (unwrap_or table.delimiter 0x20))) own ∙ ap (λ o. unwrap_or o (unwrap_or table.delimiter 0x20)) none ∙ ap (λ (t : TableValue). unwrap_or t.delimiter 0x20) known.is in
+      ap (λ o. unwrap_or o (unwrap_or delimiter (unwrap_or table.delimiter 0x20))) own ∙ ap (λ o. unwrap_or o (unwrap_or table.delimiter 0x20)) none ∙ ap (λ (t : TableValue). unwrap_or t.delimiter 0x20) (drawn-is look IsBareRow content table known) in
       (All-at (λ (c : CellValue). All IsPrintable c.text_lines) row.cells i cell is.printable found, ap (is_in_range 0x20 0x7E) space)
 
   printable_cells : HasPrintableCells table
   printable_cells =
-      All-weaker (λ (p : ℕ × ColumnValue). IsNewColumn p.1) (λ (p : ℕ × ColumnValue). All (IsPrintableCell table p.1.delimiter) (column_cells table p.0))
+      All-weaker (λ (p : ℕ × ColumnValue). IsPaddedColumn p.1) (λ (p : ℕ × ColumnValue). All (IsPrintableCell table p.1.delimiter) (column_cells table p.0))
       (λ p new. All-found (IsPrintableCell table p.1.delimiter) (λ (row : RowValue). slice_get row.cells p.0) (measured_rows table)
       (All-weaker IsBareRow (λ (row : RowValue). (cell : CellValue) → slice_get row.cells p.0 ≡ Some cell → IsPrintableCell table p.1.delimiter cell) (λ row is cell found. printable_cell-is p.1.delimiter row p.0 cell new.no_delimiter is found) (measured_rows table) rows))
-      (shown_columns table) (columns_known base IsBareRow table known)
+      (shown_columns table) (columns-drawn look IsBareRow content table known)
 
   -- no indicator is written
   uncut : (widths : List ℕ) → All (λ (row : RowValue). All (AddsOneColumnEachWhereWritten table row) (shown_infos (infos_of table widths))) (measured_rows table)
@@ -70,15 +67,14 @@ module _ (look : Look) (plain : IsUnstyledUncut look) (content : ContentValue) (
       (λ row is. All-every (AddsOneColumnEachWhereWritten table row) (shown_infos (infos_of table widths)) (λ p cell h found limited. absurd (cc (is.uncut, limited)))) (measured_rows table) rows
 
 module _ (look : Look) (plain : IsUnstyledUncut look) (content : ContentValue) (each : EachOf (All (EachLine IsPrintable look)) content) where
-  of_built : (table : TableValue) (widths : List ℕ) → Built look IsBareRow content table → IsPrintableTable table widths
-  of_built table widths known = record { printable_cells = printable_cells look plain content table known; indicator_adds_one_column_each = uncut look plain content table known widths }
+  of_drawn : (table : TableValue) (widths : List ℕ) → IsDrawn look IsBareRow content table → IsPrintableTable table widths
+  of_drawn table widths known = record { printable_cells = printable_cells look plain content table known; indicator_adds_one_column_each = uncut look plain content table known widths }
 
   printable_rows : (widths : List ℕ) → IsPrintableTable (rows_table look content) widths
-  printable_rows widths = of_built (rows_table look content) widths (rows_of_texts IsPrintable refl look IsBareRow (bare_rows look plain) content each)
+  printable_rows widths = of_drawn (rows_table look content) widths (drawn_plain look IsBareRow content (rows_table look content) (rows_of_texts IsPrintable refl look IsBareRow (bare_rows look plain) content each))
 
-  printable_output : (is_expanded : Bool) (widths : List ℕ) → IsPrintableTable (output_table is_expanded look content) widths
-  printable_output is_expanded widths =
-      of_built (output_table is_expanded look content) widths (table_of_texts IsPrintable refl look IsBareRow (bare_rows look plain) content each (λ at. fields_stay look (decimal (at + 1)) (number_is_printable (at + 1))) is_expanded)
+  built_output : (is_expanded : Bool) → Built look IsBareRow content (plain_table is_expanded look content)
+  built_output is_expanded = table_of_texts IsPrintable refl look IsBareRow (bare_rows look plain) content each (λ at. fields_stay look (decimal (at + 1)) (number_is_printable (at + 1))) is_expanded
 
 pub printable_table : (options : Options) (records : List (List Text)) (table : TableValue) (widths : List ℕ) → PrintableTextsMakePrintableTable options records table widths
 printable_table options records table widths plain each is =
@@ -107,8 +103,10 @@ lines_have P options records output has plain each = by_table has.is_table
     by_table : IsDrawnTable look content has.table → All (λ line. P has.table (count line)) has.lines
     by_table (separators, is) =
         let is_expanded = is_expanded_for look content in
-        let drawn = separated separators look in
-        let own = still_unstyled separators look plain in
-        let known : Built drawn Any content has.table = subst (Built drawn Any content) (sym is) (any_built is_expanded drawn content) in
-        let same = has.drawing.unstyled_lines (ap should_style known.is ∙ rw own.no_bold refl) (ap (λ (t : TableValue). t.custom_styling) known.is ∙ own.no_sequences) in
-        subst (All (λ line. P has.table (count line))) (sym same) (has.counts.printable_lines (subst (λ t. IsPrintableTable t has.drawing.widths) (sym is) (printable_output drawn own content (separated_texts separators) is_expanded has.drawing.widths)))
+        let own = separated separators look in
+        let unstyled = still_unstyled separators look plain in
+        let known = drawn_table-is look IsBareRow content is_expanded separators (built_output own unstyled content (separated_texts separators) is_expanded) in
+        let drawn : IsDrawn own IsBareRow content has.table = subst (IsDrawn own IsBareRow content) (sym is) known in
+        let looks = drawn-is own IsBareRow content has.table drawn in
+        let same = has.drawing.unstyled_lines (ap should_style looks ∙ rw unstyled.no_bold refl) (ap (λ (t : TableValue). t.custom_styling) looks ∙ unstyled.no_sequences) in
+        subst (All (λ line. P has.table (count line))) (sym same) (has.counts.printable_lines (of_drawn own unstyled content (separated_texts separators) has.table has.drawing.widths drawn))

@@ -1,12 +1,18 @@
 -- What the parts of a call of `draw` ensure, put together.
-use Rattle.std.proofs.Common.{◌≡◌, Bool, true, false, [], ◌++◌, Option, Some, Ok, Err, refl}
+use Rattle.std.proofs.Common.{◌≡◌, ◌≢◌, ◌==◌, Bool, true, false, length, map, List, [], ◌∷◌, ◌++◌, Option, Some, Ok, Err, Result, refl, sym, ◌∙◌}
 use Rattle.std.specs.Str.{IsUtf8}
 use Rattle.comfy_parts.specs.Text.{Text}
+use Rattle.csv.specs.Records.{Row, fields_of}
 use Rattle.comfy_run.specs.Outcome.{IsBeginningOnly, NoDeviceFailed, RunFacts}
-use Rattle.comfy_csv.specs.Drawn.{IsOutputFor}
-use Rattle.comfy_csv.specs.Run.{IsAfter, IsReadFailure, IsRefusal}
+use Rattle.comfy_csv.specs.Drawn.{AreRecordsFor, ContentValue, IsOutputFor, IsOutputOf, IsOutputOfAny, content_of}
+use Rattle.comfy_csv.specs.Run.{IsAfter, IsInputFault, IsReadFailure, IsRefusal, IsUtf8IfWanted}
+use Rattle.comfy_csv_parts.specs.Columns.{ColumnFault, IsColumnRefusal}
+use Rattle.comfy_csv_parts.specs.Encoding.{IsRefusedIn, IsTextIn, encoding_of}
+use Rattle.comfy_csv_parts.specs.Reading.{IsTextFor, IsTextWithoutRecords}
+use Rattle.comfy_csv_parts.specs.declared.encoding.Encoding.{Encoding}
+use Rattle.comfy_csv_parts.specs.declared.encoding.Encoding.TheVariants.{Cp1252, Utf16, Utf8}
 use Rattle.comfy_csv_parts.specs.declared.error.CsvError.{CsvError}
-use Rattle.comfy_csv_parts.specs.declared.error.CsvError.TheVariants.{Read, Write, NotUtf8, NotUtf16, SplitCharacter, NoColumn, OutOfMemory, TwoSides}
+use Rattle.comfy_csv_parts.specs.declared.error.CsvError.TheVariants.{Read, Write, NotUtf8, NotUtf16, Unclosed, SplitCharacter, NoColumn, OutOfMemory, TwoSides}
 use Rattle.comfy_csv_parts.specs.declared.options.Options.{Options}
 
 none_failed : (facts : RunFacts) → facts.read_failed ≡ false → facts.write_failed ≡ false → NoDeviceFailed facts
@@ -16,39 +22,121 @@ none_failed facts read write = record { no_read_failed = read; no_write_failed =
 pub after_refusal : (T : Type 0) (options : Options) (e : CsvError) (input : Text) (ended failed write_failed : Bool) → write_failed ≡ false → IsRefusal options e input ended failed
     → IsAfter {T = T} options (Err e) (record { input = input; end_was_read = ended; written = []; read_failed = failed; write_failed = write_failed })
 after_refusal T options Read input ended failed write_failed sound why = record { failed = why.0; no_write_failed = sound; nothing_written = refl; text = why.1 }
-after_refusal T options Write input ended failed write_failed sound why = absurd why
-after_refusal T options (NotUtf8 line) input ended failed write_failed sound why = record { no_device_failed = none_failed _ why.0 sound; whole = why.1; first = why.2; nothing_written = refl }
-after_refusal T options (NotUtf16 line) input ended failed write_failed sound why = absurd why
-after_refusal T options SplitCharacter input ended failed write_failed sound why = record { no_device_failed = none_failed _ why.0 sound; has_text = record { whole = why.1; is_text = why.2 }; splits = why.3; nothing_written = refl }
-after_refusal T options (NoColumn name) input ended failed write_failed sound why = record { no_device_failed = none_failed _ why.0 sound; has_text = record { whole = why.1; is_text = why.2 }; has_fault = why.3; nothing_written = refl }
-after_refusal T options (TwoSides name) input ended failed write_failed sound why = record { no_device_failed = none_failed _ why.0 sound; has_text = record { whole = why.1; is_text = why.2 }; has_fault = why.3; nothing_written = refl }
+after_refusal T options Write input ended failed write_failed sound why = absurd why.2
+after_refusal T options (NotUtf8 line) input ended failed write_failed sound why = record { no_device_failed = none_failed _ why.0 sound; whole = why.1; fault = why.2; nothing_written = refl }
+after_refusal T options (NotUtf16 line) input ended failed write_failed sound why = record { no_device_failed = none_failed _ why.0 sound; whole = why.1; fault = why.2; nothing_written = refl }
+after_refusal T options (Unclosed line) input ended failed write_failed sound why = record { no_device_failed = none_failed _ why.0 sound; whole = why.1; fault = why.2; nothing_written = refl }
+after_refusal T options SplitCharacter input ended failed write_failed sound why = record { no_device_failed = none_failed _ why.0 sound; whole = why.1; fault = why.2; nothing_written = refl }
+after_refusal T options (NoColumn name) input ended failed write_failed sound why = record { no_device_failed = none_failed _ why.0 sound; whole = why.1; fault = why.2; nothing_written = refl }
+after_refusal T options (TwoSides name) input ended failed write_failed sound why = record { no_device_failed = none_failed _ why.0 sound; whole = why.1; fault = why.2; nothing_written = refl }
 after_refusal T options OutOfMemory input ended failed write_failed sound why = record { no_device_failed = none_failed _ why.0 sound; nothing_written = refl; text = why.1 }
 
 module _ (T : Type 0) (options : Options) (input had output : Text) (old new : Option Text) (write_failed : Bool) where
   -- the output was written
-  pub after_writing : (x : T) → old ≡ Some had → IsUtf8 input × IsOutputFor options input output → write_failed ≡ false → ((had : Text) → old ≡ Some had → new ≡ Some (had ++ output))
+  pub after_writing : (x : T) → old ≡ Some had → IsOutputFor options input output → write_failed ≡ false → ((had : Text) → old ≡ Some had → new ≡ Some (had ++ output))
       → (written : Text) × (new ≡ Some (had ++ written)) × IsAfter options (Ok x) (record { input = input; end_was_read = true; written = written; read_failed = false; write_failed = write_failed })
-  after_writing x known drawn sound all = (output, all had known, record { no_device_failed = none_failed _ refl sound; has_text = record { whole = refl; is_text = drawn.0 }; output = drawn.1 })
+  after_writing x known drawn sound all = (output, all had known, record { no_device_failed = none_failed _ refl sound; whole = refl; output = drawn })
 
   -- or a beginning of it
-  pub after_failure : old ≡ Some had → IsUtf8 input × IsOutputFor options input output → write_failed ≡ true
+  pub after_failure : old ≡ Some had → IsOutputFor options input output → write_failed ≡ true
       → ((had : Text) → old ≡ Some had → (part : Text) × (new ≡ Some (had ++ part)) × IsBeginningOnly part output)
       → (written : Text) × (new ≡ Some (had ++ written)) × IsAfter {T = T} options (Err Write) (record { input = input; end_was_read = true; written = written; read_failed = false; write_failed = write_failed })
   after_failure known drawn failed part =
       let beginning = part had known in (
         beginning.0,
         beginning.1,
-        record { failed = failed; no_read_failed = refl; has_text = record { whole = refl; is_text = drawn.0 }; output = output; is_output = drawn.1; beginning = beginning.2 },
+        record { failed = failed; no_read_failed = refl; whole = refl; output = output; is_output = drawn; beginning = beginning.2 },
       )
 
 module _ (options : Options) (input : Text) (ended failed : Bool) where
   -- why there is nothing to write where the input wasn't read
   pub of_read : (e : CsvError) → IsReadFailure e input ended failed → IsRefusal options e input ended failed
-  of_read Read why = why
-  of_read OutOfMemory why = why
+  of_read Read why = (why.0, λ whole wanted. why.1 whole)
+  of_read OutOfMemory why = (why.0, λ whole wanted. why.1 whole)
   of_read Write why = absurd why
   of_read (NotUtf8 line) why = absurd why
   of_read (NotUtf16 line) why = absurd why
+  of_read (Unclosed line) why = absurd why
   of_read SplitCharacter why = absurd why
   of_read (NoColumn name) why = absurd why
   of_read (TwoSides name) why = absurd why
+
+-- an input that has a text, and is to be UTF-8, is it
+utf8_if_wanted : (encoding : Encoding) (input text : Text) → IsTextIn encoding input text → encoding ≡ Utf8 → IsUtf8 input
+utf8_if_wanted Utf8 input text is wanted = is.0
+utf8_if_wanted Cp1252 input text is wanted = absurd (cc wanted)
+utf8_if_wanted Utf16 input text is wanted = absurd (cc wanted)
+
+module _ (options : Options) (input : Text) (ended failed : Bool) (whole : ended ≡ true) (sound : failed ≡ false) where
+  -- where it has no text
+  in_encoding : (encoding : Encoding) (e : CsvError) → encoding_of options.encoding input ≡ encoding → IsRefusedIn encoding input e → IsRefusal options e input ended failed
+  in_encoding Utf8 (NotUtf8 line) is why = (sound, whole, (is, why))
+  in_encoding Utf8 (NotUtf16 line) is why = absurd why
+  in_encoding Utf8 (Unclosed line) is why = absurd why
+  in_encoding Utf8 Read is why = absurd why
+  in_encoding Utf8 Write is why = absurd why
+  in_encoding Utf8 SplitCharacter is why = absurd why
+  in_encoding Utf8 (NoColumn name) is why = absurd why
+  in_encoding Utf8 (TwoSides name) is why = absurd why
+  in_encoding Utf8 OutOfMemory is why = absurd why
+  in_encoding Cp1252 (NotUtf8 line) is why = absurd (cc why)
+  in_encoding Cp1252 (NotUtf16 line) is why = absurd (cc why)
+  in_encoding Cp1252 (Unclosed line) is why = absurd (cc why)
+  in_encoding Cp1252 Read is why = absurd (cc why)
+  in_encoding Cp1252 Write is why = absurd (cc why)
+  in_encoding Cp1252 SplitCharacter is why = absurd (cc why)
+  in_encoding Cp1252 (NoColumn name) is why = absurd (cc why)
+  in_encoding Cp1252 (TwoSides name) is why = absurd (cc why)
+  in_encoding Cp1252 OutOfMemory is why = (sound, λ all wanted. absurd (cc (is, wanted)))
+  in_encoding Utf16 (NotUtf8 line) is why = absurd why
+  in_encoding Utf16 (NotUtf16 line) is why = (sound, whole, (is, why))
+  in_encoding Utf16 (Unclosed line) is why = absurd why
+  in_encoding Utf16 Read is why = absurd why
+  in_encoding Utf16 Write is why = absurd why
+  in_encoding Utf16 SplitCharacter is why = absurd why
+  in_encoding Utf16 (NoColumn name) is why = absurd why
+  in_encoding Utf16 (TwoSides name) is why = absurd why
+  in_encoding Utf16 OutOfMemory is why = (sound, λ all wanted. absurd (cc (is, wanted)))
+
+  pub of_decoding : (e : CsvError) → IsRefusedIn (encoding_of options.encoding input) input e → IsRefusal options e input ended failed
+  of_decoding e why = in_encoding _ e refl why
+
+  module _ (text : Text) (is_text : IsTextFor options input text) where
+    -- where that has no records
+    pub of_records : (e : CsvError) → IsTextWithoutRecords options text e → IsRefusal options e input ended failed
+    of_records (Unclosed line) why = (sound, whole, (text, is_text, why))
+    of_records SplitCharacter why = (sound, whole, (text, is_text, why))
+    of_records OutOfMemory why = (sound, λ all. utf8_if_wanted _ input text is_text)
+    of_records Read why = absurd why
+    of_records Write why = absurd why
+    of_records (NotUtf8 line) why = absurd why
+    of_records (NotUtf16 line) why = absurd why
+    of_records (NoColumn name) why = absurd why
+    of_records (TwoSides name) why = absurd why
+
+  module _ (records : List (List Text)) (are_records : AreRecordsFor options input records) where
+    -- where columns can't be chosen so
+    pub of_columns : (e : CsvError) → records ≢ [] → IsColumnRefusal e (content_of options records) → IsRefusal options e input ended failed
+    of_columns (NoColumn name) any why = (sound, whole, record { records = records; are_records = are_records; are_any = any; no_content = why })
+    of_columns (TwoSides name) any why = (sound, whole, record { records = records; are_records = are_records; are_any = any; no_content = why })
+    of_columns OutOfMemory any why = (sound, λ all. utf8_if_wanted _ input are_records.text are_records.is_text)
+    of_columns Read any why = absurd why
+    of_columns Write any why = absurd why
+    of_columns (NotUtf8 line) any why = absurd why
+    of_columns (NotUtf16 line) any why = absurd why
+    of_columns (Unclosed line) any why = absurd why
+    of_columns SplitCharacter any why = absurd why
+
+-- the output of records is that of any
+pub of_any : (options : Options) (records : List (List Text)) (output : Text) → records ≢ [] → IsOutputOf options records output → IsOutputOfAny options records output
+of_any options [] output any is = absurd (any refl)
+of_any options (first ∷ rest) output any is = is
+
+pub of_none : (options : Options) (records : List (List Text)) (output : Text) → records ≡ [] → output ≡ [] → IsOutputOfAny options records output
+of_none options [] output none is = is
+of_none options (first ∷ rest) output none is = absurd (cc none)
+
+-- where records were found, their fields are
+pub some_left : (rows : List Row) → (length rows == 0) ≡ false → map fields_of rows ≢ []
+some_left [] none all = absurd (cc none)
+some_left (row ∷ rows) some all = absurd (cc all)

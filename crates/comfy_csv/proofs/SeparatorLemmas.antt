@@ -11,8 +11,8 @@ use Rattle.comfy_table.specs.TableValue.{TableValue, with_row, with_rows}
 use Rattle.comfy_csv_parts.specs.Cells.{row_for}
 use Rattle.comfy_csv_parts.specs.declared.options.DrawnColumn.{DrawnColumn}
 use Rattle.comfy_csv_parts.specs.declared.options.Look.{Look}
-use Rattle.comfy_csv.specs.Drawn.{ContentValue, condensed_style, empty_table, headed_table, output_table, pairs_of, separated}
-use Rattle.comfy_csv.specs.Separators.{separated_table}
+use Rattle.comfy_csv.proofs.BuiltLemmas.{plain_table}
+use Rattle.comfy_csv.specs.Drawn.{ContentValue, condensed_style, empty_table, headed_table, pairs_of, separated, separated_table}
 
 -- ---- styles
 
@@ -44,7 +44,7 @@ module _ (look : Look) (content : ContentValue) where
   condensed-headed columns (Some names) = refl
 
   -- the table of some records, with the lines or without them, is that of the look for it
-  pub restyled : (is_expanded has : Bool) → output_table is_expanded (separated has look) content ≡ separated_table has (output_table is_expanded look content)
+  pub restyled : (is_expanded has : Bool) → plain_table is_expanded (separated has look) content ≡ separated_table has (plain_table is_expanded look content)
   restyled is_expanded true = refl
   restyled true false = sym (condensed-rows (flat_map (pairs_of look content.columns (unwrap_or content.names [])) content.rows) (empty_table look))
   restyled false false =

@@ -1,25 +1,31 @@
 -- The lines of an output are equally wide.
-use Rattle.std.proofs.Common.{◌≡◌, ℕ, ◌≤◌, ◌+◌, Bool, true, false, List, [], ◌∷◌, None, All, arith, decimal, length, map, ap, refl, ◌∙◌}
+use Rattle.std.proofs.Common.{◌≡◌, ℕ, ◌≤◌, ◌+◌, Bool, true, false, List, [], ◌∷◌, None, All, arith, decimal, inl, inr, length, map, slice_index_or, unwrap_or, ap, refl, subst, sym, ◌∙◌}
 use Rattle.std.proofs.lemmas.List.Elements.{All-cons, All-map, All-nil, All-weaker}
-use Rattle.comfy_parts.proofs.CallerLemmas.{All-every, measure-nil, measure-printable}
-use Rattle.comfy_parts.specs.CellValue.{CellValue, plain_cell}
-use Rattle.comfy_parts.specs.Columns.{IsOneColumnStyle}
+use Rattle.comfy_parts.proofs.CallerLemmas.{All-at, All-every, frame_adds, measure-nil, measure-printable}
+use Rattle.comfy_parts.specs.CellValue.{CellValue, ColumnInfo, ColumnValue, RowValue, plain_cell}
+use Rattle.comfy_parts.specs.Columns.{AddsOneColumn, IsOneColumnStyle}
 use Rattle.comfy_parts.specs.Text.{Text, is_printable_ascii, measure}
-use Rattle.comfy_table.proofs.BuiltTableLemmas.{built_is_equally_wide, built_is_straight}
-use Rattle.comfy_table.proofs.FittingTableLemmas.{IsDefaultRow, built_of_fitting_is_straight}
+use Rattle.comfy_table.proofs.FittingTableLemmas.{IsDefaultRow, fitting_tables_are_straight}
+use Rattle.comfy_table.proofs.InfoLemmas.{infos-known}
 use Rattle.comfy_table.specs.Arrangement.{width_kept}
-use Rattle.comfy_table.specs.FittingTables.{CharactersFitColumn}
+use Rattle.comfy_table.specs.Drawing.{infos_of}
+use Rattle.comfy_table.specs.FittingTables.{CharactersFitColumn, FitsByCharacters}
 use Rattle.comfy_table.specs.Headline.{IsTableDrawing}
+use Rattle.comfy_table.specs.Laws.{line_total}
+use Rattle.comfy_table.specs.Lines.{cell_delimiter}
 use Rattle.comfy_table.specs.NewTables.{AreEquallyWide, IsShortRow}
-use Rattle.comfy_table.specs.Straight.{EachCell}
-use Rattle.comfy_table.specs.TableValue.{TableValue, should_style, table_width}
+use Rattle.comfy_table.specs.Pieces.{shown_infos}
+use Rattle.comfy_table.specs.Straight.{EachCell, IsStraightTable}
+use Rattle.comfy_table.specs.TableValue.{TableValue, measured_rows, should_style, table_width}
 use Rattle.comfy_csv.proofs.BuiltLemmas.{EachOf, each_content}
 use Rattle.comfy_csv.proofs.FieldLemmas.{number_lines}
 use Rattle.comfy_csv.proofs.LineLemmas.{drawn, drawn_table, expansion, is_table_text, with_lines}
 use Rattle.comfy_csv.proofs.SeparatorLemmas.{separated_is_one_column}
 use Rattle.comfy_csv.proofs.TextTableLemmas.{EachLine, MakesRows, cells_each, pair_each, table_of_texts}
+use Rattle.comfy_csv.proofs.WholeColumnLemmas.{IsPaddedColumn}
+use Rattle.comfy_csv.proofs.WholeTableLemmas.{IsDrawn, columns-drawn, drawn-is, drawn_table-is, padded-drawn, rows-drawn, unconstrained-drawn}
 use Rattle.comfy_csv_parts.specs.Cells.{cell_for, field_or_blank, field_text, with_weight}
-use Rattle.comfy_csv.specs.Drawn.{ContentValue, empty_table, output_table, separated}
+use Rattle.comfy_csv.specs.Drawn.{ContentValue, empty_table, output_table, separated, separated_table}
 use Rattle.comfy_csv.specs.Laws.{FittingOutputIsStraight, IsUnstyledUncut, WholeOutputIsStraight}
 use Rattle.comfy_csv_parts.specs.declared.options.Look.{Look}
 use Rattle.comfy_csv_parts.specs.declared.options.Options.{Options}
@@ -82,28 +88,60 @@ default_rows look plain =
         All-cons (λ (cell : CellValue). cell.delimiter ≡ None) (with_weight look.has_bold_header (cell_for look None name)) (cell_for look None field ∷ []) (weighted look.has_bold_header (cell_for look None name) refl)
         (All-cons (λ (cell : CellValue). cell.delimiter ≡ None) (cell_for look None field) [] refl (All-nil (λ (cell : CellValue). cell.delimiter ≡ None)))
 
-module _ (look : Look) (plain : IsUnstyledUncut look) (characters : IsOneColumnStyle look.style) (is_expanded : Bool) (content : ContentValue) (lines : List Text) (drawing : IsTableDrawing (output_table is_expanded look content) lines) where
+module _ (look : Look) (plain : IsUnstyledUncut look) (characters : IsOneColumnStyle look.style) (content : ContentValue) (table : TableValue) (lines : List Text) (drawing : IsTableDrawing table lines) where
   abbrev base : TableValue
   base = empty_table look
 
-  abbrev table : TableValue
-  table = output_table is_expanded look content
+  -- the lines are equally wide where the table is straight
+  equally_wide : (Q : RowValue → Type 0) → IsDrawn look Q content table → IsStraightTable table drawing.widths → AreEquallyWide lines
+  equally_wide Q known is =
+      let looks = drawn-is look Q content table known in (
+        line_total table drawing.widths,
+        subst (All (λ line. measure line ≡ line_total table drawing.widths)) (sym (drawing.unstyled_lines (ap should_style looks ∙ rw plain.no_bold refl) (ap (λ (t : TableValue). t.custom_styling) looks ∙ plain.no_sequences))) (drawing.straight is),
+      )
 
-  unstyled : should_style base ≡ false
-  unstyled = rw plain.no_bold refl
+  -- the characters are those of the look
+  characters_known : (Q : RowValue → Type 0) → IsDrawn look Q content table → IsOneColumnStyle table.style
+  characters_known Q known = subst IsOneColumnStyle (sym (ap (λ (t : TableValue). t.style) (drawn-is look Q content table known))) characters
 
   -- a table that keeps to no width
-  whole : look.is_markdown ≡ false → look.width ≡ None → EachOf (All (EachLine IsShort look)) content → AreEquallyWide lines
-  whole none no_width short =
-      let known = table_of_texts IsShort empty_is_short look IsShortRow (short_rows look plain) content short (λ at. short_number look none (at + 1)) is_expanded in
-      let kept : width_kept table.arrangement (table_width table) ≡ None = ap (λ (t : TableValue). width_kept t.arrangement (table_width t)) known.is ∙ rw no_width refl in
-      built_is_equally_wide base plain.no_sequences unstyled IsShortRow table known lines drawing (built_is_straight base plain.no_sequences table drawing.widths known characters kept)
+  whole : IsDrawn look IsShortRow content table → look.width ≡ None → AreEquallyWide lines
+  whole known no_width =
+      let looks = drawn-is look IsShortRow content table known in
+      let kept : width_kept table.arrangement (table_width table) ≡ None = ap (λ (t : TableValue). width_kept t.arrangement (table_width t)) looks ∙ rw no_width refl in
+      let rows = rows-drawn look IsShortRow content table known plain.no_sequences in
+      equally_wide IsShortRow known
+      (record {
+        characters = characters_known IsShortRow known;
+        apart = inr (inl (padded-drawn look IsShortRow content table known));
+        fits = inr (inr (record {
+          no_width = kept;
+          no_constraints = unconstrained-drawn look IsShortRow content table known (known.no_width no_width);
+          uncut = All-weaker IsShortRow (λ (row : RowValue). row.max_height ≡ None) (λ row own. own.uncut) (measured_rows table) rows;
+          short = All-weaker IsShortRow (λ (row : RowValue). All (λ (cell : CellValue). All (λ line. measure line ≤ 65535) cell.text_lines) row.cells) (λ row own. own.short) (measured_rows table) rows;
+        }));
+      })
 
   -- or one whose characters fit its columns
-  fitting : EachCell CharactersFitColumn table drawing.widths → AreEquallyWide lines
-  fitting fits =
-      let known = table_of_texts IsAny tt look IsDefaultRow (default_rows look plain) content (any_content look content) (λ at. any_line look (decimal (at + 1))) is_expanded in
-      built_is_equally_wide base plain.no_sequences unstyled IsDefaultRow table known lines drawing (built_of_fitting_is_straight base plain.no_sequences refl table known lines drawing characters fits)
+  fitting : IsDrawn look IsDefaultRow content table → EachCell CharactersFitColumn table drawing.widths → AreEquallyWide lines
+  fitting known each = equally_wide IsDefaultRow known (fitting_tables_are_straight table lines drawing (characters_known IsDefaultRow known) (inr (inl (padded-drawn look IsDefaultRow content table known))) fits)
+    where
+      fits : EachCell (FitsByCharacters table) table drawing.widths
+      fits k default under j other below cell found =
+          let row = slice_index_or (measured_rows table) k default in
+          let p = slice_index_or (shown_infos (infos_of table drawing.widths)) j other in
+          let of_row = rows-drawn look IsDefaultRow content table known plain.no_sequences k default under in
+          let of_cell = All-at (λ (c : CellValue). c.delimiter ≡ None) row.cells p.0 cell of_row.no_delimiters found in
+          let of_column : p.1.delimiter ≡ None =
+          infos-known table drawing.widths (λ (q : ℕ × ColumnValue). IsPaddedColumn q.1) (λ (q : ℕ × ColumnInfo). q.1.delimiter ≡ None) drawing.arranged.one_for_each (columns-drawn look IsDefaultRow content table known) (λ i column w own. own.no_delimiter) j other below in
+          let space : cell_delimiter table p.1.delimiter cell ≡ 0x20 =
+          ap (λ o. unwrap_or o (unwrap_or p.1.delimiter (unwrap_or table.delimiter 0x20))) of_cell ∙ ap (λ o. unwrap_or o (unwrap_or table.delimiter 0x20)) of_column
+          ∙ ap (λ (t : TableValue). unwrap_or t.delimiter 0x20) (drawn-is look IsDefaultRow content table known) in
+          record {
+            characters = each k default under j other below cell found;
+            delimiter = subst AddsOneColumn (sym space) (frame_adds 0x20 refl);
+            indicator = inl of_row.uncut;
+          }
 
 -- short fields make short contents, with lines between rows or without
 short_content : (look : Look) (has : Bool) (content : ContentValue) → EachOf (All (EachLine IsShort look)) content → EachOf (All (EachLine IsShort (separated has look))) content
@@ -123,11 +161,15 @@ pub rows_are_straight : (options : Options) (records : List (List Text)) (output
 rows_are_straight options records output none characters plain no_width short made =
     let look = options.look in
     let text = is_table_text options records output made none in
-    let has = text.drawn.has_separators in (
+    let has = text.drawn.has_separators in
+    let own = separated has look in
+    let plain_look = still_unstyled has look plain in
+    let each = short_content look has made.content (each_content (All (EachLine IsShort look)) options records made.content made.is_content short) in
+    let known = table_of_texts IsShort empty_is_short own IsShortRow (short_rows own plain_look) made.content each (λ at. short_number own (no_markdown has look none) (at + 1)) text.is_expanded in (
       drawn options records output made text none,
       with_lines options records output made text none,
-      whole (separated has look) (still_unstyled has look plain) (separated_is_one_column has look characters) text.is_expanded made.content (drawn options records output made text none) text.drawn.is_arranged.headline
-          (no_markdown has look none) (no_width_kept has look no_width) (short_content look has made.content (each_content (All (EachLine IsShort look)) options records made.content made.is_content short)),
+      whole own plain_look (separated_is_one_column has look characters) made.content _ (drawn options records output made text none) text.drawn.is_arranged.headline
+          (drawn_table-is look IsShortRow made.content text.is_expanded has known) (no_width_kept has look no_width),
     )
 
 pub fitting_is_straight : (options : Options) (records : List (List Text)) (output : Text) → FittingOutputIsStraight options records output
@@ -135,9 +177,13 @@ fitting_is_straight options records output none characters plain fits made =
     let look = options.look in
     let text = is_table_text options records output made none in
     let has = text.drawn.has_separators in
-    let headline = text.drawn.is_arranged.headline in (
+    let own = separated has look in
+    let plain_look = still_unstyled has look plain in
+    let headline = text.drawn.is_arranged.headline in
+    let known = table_of_texts IsAny tt own IsDefaultRow (default_rows own plain_look) made.content (any_content own made.content) (λ at. any_line own (decimal (at + 1))) text.is_expanded in (
       drawn options records output made text none,
       with_lines options records output made text none,
-      fitting (separated has look) (still_unstyled has look plain) (separated_is_one_column has look characters) text.is_expanded made.content (drawn options records output made text none) headline
-          (fits made.content (drawn_table options records output made text none) headline.widths made.is_content (has, ap (λ e. output_table e (separated has look) made.content) (expansion options records output made text none)) headline.arranged),
+      fitting own plain_look (separated_is_one_column has look characters) made.content _ (drawn options records output made text none) headline
+          (drawn_table-is look IsDefaultRow made.content text.is_expanded has known)
+          (fits made.content (drawn_table options records output made text none) headline.widths made.is_content (has, ap (λ e. separated_table has (output_table e look made.content)) (expansion options records output made text none)) headline.arranged),
     )

@@ -6,10 +6,10 @@ use Rattle.std.proofs.lemmas.List.Elements.{All-cons, All-map, All-nil, All-weak
 use Rattle.comfy_parts.proofs.CallerLemmas.{All-every}
 use Rattle.comfy_parts.specs.CellValue.{CellValue, RowValue, plain_cell}
 use Rattle.comfy_parts.specs.Text.{Text}
-use Rattle.comfy_csv.proofs.BuiltLemmas.{Built, EachOf, blank_drawn, built, built_rows, each_field, each_name}
+use Rattle.comfy_csv.proofs.BuiltLemmas.{Built, EachOf, blank_drawn, built, built_rows, each_field, each_name, plain_table}
 use Rattle.comfy_csv_parts.specs.Cells.{cell_for, cells_for, field_text, field_or_blank, header_for, pair_for, row_for, with_weight}
 use Rattle.comfy_csv_parts.specs.Columns.{name_at}
-use Rattle.comfy_csv.specs.Drawn.{ContentValue, output_table, pairs_of, rows_table, separated}
+use Rattle.comfy_csv.specs.Drawn.{ContentValue, pairs_of, rows_table, separated}
 use Rattle.comfy_csv_parts.specs.declared.options.Look.{Look}
 use Rattle.comfy_csv_parts.specs.declared.options.DrawnColumn.{DrawnColumn}
 
@@ -69,8 +69,8 @@ module _ (P : Text → Type 0) (empty : P []) (look : Look) where
         (All-every (λ (column : DrawnColumn). Q (pair_for look (name_at names column.position) (field_or_blank fields column.position))) content.columns
         (λ column. makes.pair (name_at names column.position) (field_or_blank fields column.position) (named content.names each.names numbers column.position) (each_field (EachLine P look) blank fields column.position own)))
 
-    -- and of an output's, where P holds of the numbers that stand for missing names
-    pub table_of_texts : ((at : ℕ) → EachLine P look (decimal (at + 1))) → (is_expanded : Bool) → Built look Q content (output_table is_expanded look content)
+    -- and of expanded records, where P holds of the numbers that stand for missing names
+    pub table_of_texts : ((at : ℕ) → EachLine P look (decimal (at + 1))) → (is_expanded : Bool) → Built look Q content (plain_table is_expanded look content)
     table_of_texts numbers is_expanded =
         built look Q content is_expanded (λ n is. makes.header content.columns n (each.names n is)) rows
         (All-weaker (All (EachLine P look)) (λ fields. All Q (pairs_of look content.columns (unwrap_or content.names []) fields)) (pairs numbers) content.rows each.rows)

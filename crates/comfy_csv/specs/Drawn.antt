@@ -1,5 +1,5 @@
 -- What is drawn of some records, and what is written of it.
-use Rattle.std.specs.Prelude.{ℕ, ◌+◌, ◌*◌, Bool, true, false, not, ◌&&◌, ◌≡◌, nat_lt, min, List, [], ◌∷◌, ◌++◌, Option, Some, None, Result, Ok, Err, codes, decimal, drop, flat_map, length, map, slice_get, sum_by, take, unwrap_or, if◌then◌else◌}
+use Rattle.std.specs.Prelude.{ℕ, ◌+◌, ◌*◌, Bool, true, false, not, ◌&&◌, ◌≡◌, ◌≢◌, nat_lt, min, List, [], ◌∷◌, ◌++◌, Option, Some, None, Result, Ok, Err, codes, decimal, drop, flat_map, length, map, slice_get, take, unwrap_or, if◌then◌else◌}
 use Rattle.std.specs.List.{list_any, range_with_len}
 use Rattle.comfy_parts.specs.CellValue.{RowValue}
 use Rattle.comfy_parts.specs.Presets.{ascii_markdown}
@@ -9,14 +9,13 @@ use Rattle.comfy_parts.specs.declared.style.table.ContentArrangement.TheVariants
 use Rattle.comfy_parts.specs.declared.style.table_style.TableStyle.{TableStyle}
 use Rattle.comfy_table.specs.Arrangement.{IsArranged}
 use Rattle.comfy_table.specs.Drawing.{infos_of, terminated_text_of}
-use Rattle.comfy_table.specs.Frame.{border_count}
 use Rattle.comfy_table.specs.Headline.{IsTableDrawing}
 use Rattle.comfy_table.specs.Parts.{ArrangedValue, IsArrangedTable, part_text}
 use Rattle.comfy_table.specs.Pieces.{row_height}
 use Rattle.comfy_table.specs.TableValue.{TableValue, max_content_widths, new_table, with_header, with_rows}
 use Rattle.comfy_csv_parts.specs.Cells.{field_or_blank, header_for, pair_for, row_for}
 use Rattle.comfy_csv_parts.specs.Columns.{ColumnFault, columns_for, name_at}
-use Rattle.comfy_csv_parts.specs.Input.{AreRecordsOf}
+use Rattle.comfy_csv_parts.specs.Reading.{AreRecordsIn, IsTextFor}
 use Rattle.comfy_csv_parts.specs.Markdown.{rule_line}
 use Rattle.comfy_csv_parts.specs.declared.options.Expansion.{Expansion}
 use Rattle.comfy_csv_parts.specs.declared.options.Expansion.TheVariants.{Always, Auto, Never as NeverExpanded}
@@ -25,6 +24,7 @@ use Rattle.comfy_csv_parts.specs.declared.options.Options.{Options}
 use Rattle.comfy_csv_parts.specs.declared.options.RowSeparators.{RowSeparators}
 use Rattle.comfy_csv_parts.specs.declared.options.RowSeparators.TheVariants.{Styled, Needed, Never}
 use Rattle.comfy_csv_parts.specs.declared.options.DrawnColumn.{DrawnColumn}
+use Rattle.comfy_csv.specs.Unbroken.{framed_width, kept_whole, unbroken_columns}
 
 -- ---- records
 
@@ -99,9 +99,10 @@ pairs_of look columns names fields =
 abbrev pub pairs_table : Look → ContentValue → TableValue
 pairs_table look content = with_rows (flat_map (pairs_of look content.columns (unwrap_or content.names [])) content.rows) (empty_table look)
 
+-- the table that is drawn, with all lines of its style: of expanded records, or of rows, whose numbers and dates aren't broken where there is room
 abbrev pub output_table : Bool → Look → ContentValue → TableValue
 output_table true look content = pairs_table look content
-output_table false look content = rows_table look content
+output_table false look content = kept_whole look.width (unbroken_columns look.has_sequences content.columns content.rows) (rows_table look content)
 
 -- ---- lines between rows
 
@@ -109,7 +110,15 @@ output_table false look content = rows_table look content
 abbrev pub condensed_style : TableStyle → TableStyle
 condensed_style style = record style { row_separator = record { left = None; fill = None; junction = None; right = None } }
 
--- a look with lines between rows, as the style has them, or without them
+-- a table with lines between rows, as the style has them, or without them
+abbrev pub with_style : TableStyle → TableValue → TableValue
+with_style style table = record table { style = style }
+
+abbrev pub separated_table : Bool → TableValue → TableValue
+separated_table true table = table
+separated_table false table = with_style (condensed_style table.style) table
+
+-- a look with these lines, or without them
 abbrev pub separated : Bool → Look → Look
 separated true look = look
 separated false look = record look { style = condensed_style look.style }
@@ -136,7 +145,7 @@ separators_in true Never = Never
 
 -- borders, paddings, and for each column its content, of which four terminal columns count at most
 abbrev pub least_width : TableValue → ℕ
-least_width table = border_count table.style (length table.columns) + sum_by (λ content. 2 + min content 4) (max_content_widths table)
+least_width table = framed_width table.style (map (λ content. min content 4) (max_content_widths table))
 
 -- whether records are expanded: always, never, or where the width of a table of rows is less than that
 abbrev pub is_expanded_in : Expansion → Option ℕ → TableValue → Bool
@@ -167,9 +176,9 @@ table_text false content arranged = part_text arranged 0 (length arranged.table.
 -- the text of such a table, with lines between rows or without
 pub record IsTextOfTable (is_expanded : Bool) (look : Look) (content : ContentValue) (text : Text) : Type 0 where
   pub has_separators : Bool
-  pub separators : HasSeparators (separators_in is_expanded look.separators) (output_table is_expanded (separated false look) content) has_separators
+  pub separators : HasSeparators (separators_in is_expanded look.separators) (separated_table false (output_table is_expanded look content)) has_separators
   pub arranged : ArrangedValue
-  pub is_arranged : IsArrangedTable (output_table is_expanded (separated has_separators look) content) arranged
+  pub is_arranged : IsArrangedTable (separated_table has_separators (output_table is_expanded look content)) arranged
   pub is : text ≡ table_text is_expanded content arranged
 
 -- the style of a table for Markdown, without the line below the header
@@ -222,14 +231,26 @@ pub record IsOutputOf (options : Options) (records : List (List Text)) (output :
   pub is_text : IsText options.look.is_markdown options.look content text
   pub joined : output ≡ text ++ note_for options.look.is_markdown options.limit content.count
 
+-- the output for the records of an input: nothing where there are none
+abbrev pub IsOutputOfAny : Options → List (List Text) → Text → Type 0
+IsOutputOfAny options [] output = output ≡ []
+IsOutputOfAny options (first ∷ rest) output = IsOutputOf options (first ∷ rest) output
+
+-- these are the records of an input, in the encoding that is asked for or found
+pub record AreRecordsFor (options : Options) (input : Text) (records : List (List Text)) : Type 0 where
+  pub text : Text
+  pub is_text : IsTextFor options input text
+  pub are_records : AreRecordsIn options text records
+
 -- the output for an input is that for its records
 pub record IsOutputFor (options : Options) (input output : Text) : Type 0 where
   pub records : List (List Text)
-  pub are_records : AreRecordsOf options.delimiter input records
-  pub is_output : IsOutputOf options records output
+  pub are_records : AreRecordsFor options input records
+  pub is_output : IsOutputOfAny options records output
 
--- an input whose records are text, whose columns have this fault
+-- an input has records, and the columns have this fault
 pub record HasColumnFault (options : Options) (input : Text) (fault : ColumnFault) : Type 0 where
   pub records : List (List Text)
-  pub are_records : AreRecordsOf options.delimiter input records
+  pub are_records : AreRecordsFor options input records
+  pub are_any : records ≢ []
   pub no_content : content_of options records ≡ Err fault

@@ -1,5 +1,5 @@
 -- How the program ends: its status, and what it says.
-use Rattle.std.specs.Prelude.{◌≡◌, ℕ, Bool, true, false, ◌++◌, [], Result, Ok, Err, chars, codes, decimal, string_bytes}
+use Rattle.std.specs.Prelude.{◌≡◌, ℕ, Bool, true, false, ◌++◌, [], MatchResult, Option, Some, None, Result, Ok, Err, chars, codes, decimal, option_map, string_bytes}
 use Rattle.std.specs.List.{list_any}
 use Rattle.std.specs.declared.io.ErrorKind.{ErrorKind as IoErrorKind}
 use Rattle.std.specs.declared.io.ErrorKind.TheVariants as io
@@ -8,8 +8,10 @@ use Rattle.clap.specs.declared.error.kind.ErrorKind.TheVariants as kind
 use Rattle.comfy_parts.specs.Text.{Text}
 use Rattle.comfy_csv_parts.specs.Cleaning.{is_harmful, nothing_kept}
 use Rattle.comfy_csv_parts.specs.Shown.{shown_text}
+use Rattle.comfy_csv_parts.specs.declared.encoding.Encoding.{Encoding}
 use Rattle.comfy_csv_parts.specs.declared.error.CsvError.{CsvError}
 use Rattle.comfy_csv_parts.specs.declared.error.CsvError.TheVariants as err
+use Rattle.comfy_csv.specs.declared.ending.Drawing.{Drawing}
 use Rattle.comfy_csv.specs.declared.ending.Ending.{Ending}
 use Rattle.comfy_csv.specs.declared.ending.Said.{Said}
 use Rattle.comfy_csv.specs.declared.ending.Said.TheVariants as said
@@ -18,21 +20,58 @@ use Rattle.comfy_csv.specs.declared.ending.Said.TheVariants as said
 abbrev pub shown_name : Text → Text
 shown_name name = shown_text false name
 
+-- the input in a message
+abbrev pub input_name : Option Text → Text
+input_name None = codes "standard input"
+input_name (Some path) = shown_name path
+
+-- why it can't be opened or read, by the kind of the error
+abbrev pub reading_reason : Option IoErrorKind → Text
+reading_reason (Some io.NotFound) = codes "no such file"
+reading_reason (Some io.IsADirectory) = codes "is a directory"
+reading_reason (Some io.PermissionDenied) = codes "permission denied"
+reading_reason _ = codes "can't be read"
+
+-- what helps where no encoding was asked for
+abbrev pub encoding_hint : Option Encoding → Text
+encoding_hint None = codes "; try -e cp1252"
+encoding_hint (Some encoding) = []
+
+-- why there is no drawing
+abbrev pub reason_for : Option Encoding → Option IoErrorKind → CsvError → Text
+reason_for encoding fault err.Read = reading_reason fault
+reason_for encoding fault err.Write = codes "the output can't be written"
+reason_for encoding fault (err.NotUtf8 number) = ((codes "line " ++ decimal number) ++ codes " isn't UTF-8") ++ encoding_hint encoding
+reason_for encoding fault (err.NotUtf16 number) = (codes "line " ++ decimal number) ++ codes " isn't UTF-16"
+reason_for encoding fault (err.Unclosed number) = (codes "a quote that opens in line " ++ decimal number) ++ codes " is never closed; try --no-quotes"
+reason_for encoding fault err.SplitCharacter = codes "the delimiter splits a character"
+reason_for encoding fault (err.NoColumn name) = codes "no column " ++ shown_name (string_bytes name)
+reason_for encoding fault (err.TwoSides name) = (codes "column " ++ shown_name (string_bytes name)) ++ codes " can't stand at the right and at the left"
+reason_for encoding fault err.OutOfMemory = codes "out of memory"
+
+-- an error is of the input, so that its message names it
+abbrev pub is_of_input : CsvError → Bool
+is_of_input err.Write = false
+is_of_input err.OutOfMemory = false
+is_of_input _ = true
+
+-- what a message begins with
+abbrev pub about : Bool → Option Text → Text
+about true file = (codes "csvtable: " ++ input_name file) ++ codes ": "
+about false file = codes "csvtable: "
+
 -- the line on an error
-abbrev pub message_for : CsvError → Text
-message_for err.Read = codes "csvtable: the input can't be read\n"
-message_for err.Write = codes "csvtable: the output can't be written\n"
-message_for (err.NotUtf8 number) = (codes "csvtable: line " ++ decimal number) ++ codes " isn't UTF-8\n"
-message_for (err.NotUtf16 number) = (codes "csvtable: line " ++ decimal number) ++ codes " isn't UTF-16\n"
-message_for err.SplitCharacter = codes "csvtable: the delimiter splits a character\n"
-message_for (err.NoColumn name) = (codes "csvtable: there is no column " ++ shown_name (string_bytes name)) ++ codes "\n"
-message_for (err.TwoSides name) = (codes "csvtable: column " ++ shown_name (string_bytes name)) ++ codes " can't stand at the right and at the left\n"
-message_for err.OutOfMemory = codes "csvtable: out of memory\n"
+abbrev pub message_for : Drawing → CsvError → Text
+message_for drawing e =
+    (about (is_of_input e) (option_map string_bytes drawing.asked.now.file) ++ reason_for drawing.asked.now.options.encoding drawing.fault e) ++ codes "\n"
+
+abbrev pub no_memory : Text
+no_memory = codes "csvtable: out of memory\n"
 
 -- what is said
 abbrev pub text_of : Said → Text
 text_of said.Nothing = []
-text_of said.OutOfMemory = codes "csvtable: out of memory\n"
+text_of said.OutOfMemory = no_memory
 text_of (said.Text text) = string_bytes text
 
 -- P holds of the text that is said, or there is no memory for it
@@ -52,16 +91,14 @@ pub record IsMessage (n : ℕ) (P : Text → Type 0) (ending : Ending) : Type 0 
   pub is_message : ending.is_message ≡ true
   pub said : Says P ending.said
 
--- the end where the output can't be written: nothing is said where nobody reads it
-abbrev pub IsEndOfWriting : Bool → Ending → Type 0
-IsEndOfWriting true ending = IsSilent 1 ending
-IsEndOfWriting false ending = IsMessage 1 (λ text. text ≡ message_for err.Write) ending
+-- the end after an error, by whether the reader of the output has ended: then nothing is said
+abbrev pub IsEndOfError : Drawing → CsvError → Bool → Ending → Type 0
+IsEndOfError drawing err.Write true ending = IsSilent 1 ending
+IsEndOfError drawing e is_unread ending = IsMessage 1 (λ text. text ≡ message_for drawing e) ending
 
--- the end of a drawing, by its result and whether the reader of the output has ended
-abbrev pub IsEndOfDrawing : {T : Type 0} → Result T CsvError → Bool → Ending → Type 0
-IsEndOfDrawing (Ok _) is_unread ending = IsSilent 0 ending
-IsEndOfDrawing (Err err.Write) is_unread ending = IsEndOfWriting is_unread ending
-IsEndOfDrawing (Err e) is_unread ending = IsMessage 1 (λ text. text ≡ message_for e) ending
+-- the end of a drawing, by its result
+abbrev pub IsEndOfDrawing : Drawing → Ending → Type 0
+IsEndOfDrawing drawing ending = MatchResult drawing.result (λ _. IsSilent 0 ending) (λ e. IsEndOfError drawing e drawing.is_unread ending)
 
 -- no control character but line feeds, and none that turns the direction of text
 abbrev pub IsHarmless : Text → Type 0
@@ -75,7 +112,7 @@ pub record IsHelp (ending : Ending) : Type 0 where
 
 -- the end where clap has something to say, by its kind
 abbrev pub IsEndOfWords : ErrorKind → Ending → Type 0
-IsEndOfWords kind.OutOfMemory ending = IsMessage 1 (λ text. text ≡ message_for err.OutOfMemory) ending
+IsEndOfWords kind.OutOfMemory ending = IsMessage 1 (λ text. text ≡ no_memory) ending
 IsEndOfWords kind.DisplayHelp ending = IsHelp ending
 IsEndOfWords kind.DisplayVersion ending = IsHelp ending
 IsEndOfWords _ ending = IsMessage 2 IsHarmless ending
@@ -83,4 +120,4 @@ IsEndOfWords _ ending = IsMessage 2 IsHarmless ending
 -- the end where words couldn't be read, by the kind of fault: one isn't UTF-8, or there is no memory
 abbrev pub IsEndWithoutWords : IoErrorKind → Ending → Type 0
 IsEndWithoutWords io.InvalidData ending = IsMessage 2 (λ text. text ≡ codes "csvtable: a word isn't UTF-8\n") ending
-IsEndWithoutWords _ ending = IsMessage 1 (λ text. text ≡ message_for err.OutOfMemory) ending
+IsEndWithoutWords _ ending = IsMessage 1 (λ text. text ≡ no_memory) ending

@@ -1,5 +1,5 @@
 -- What is so of every output.
-use Rattle.std.specs.Prelude.{◌≡◌, ℕ, ◌+◌, ◌<◌, ◌≤◌, Bool, true, false, List, [], ◌++◌, Some, None, Ok, All, Contains, flat_map, length, map, max, unwrap_or}
+use Rattle.std.specs.Prelude.{◌≡◌, ℕ, ◌+◌, ◌<◌, ◌≤◌, Bool, true, false, List, [], ◌++◌, Some, None, Ok, All, Contains, flat_map, length, map, max, slice_get, slice_index, unwrap_or}
 use Rattle.std.specs.List.{range_with_len}
 use Rattle.comfy_parts.specs.CellValue.{plain_cell}
 use Rattle.comfy_parts.specs.Columns.{IsOneColumnStyle}
@@ -12,15 +12,16 @@ use Rattle.comfy_table.specs.Headline.{EachLineCounts, IsTableDrawing}
 use Rattle.comfy_table.specs.Laws.{IsPrintableTable, count, least_total}
 use Rattle.comfy_table.specs.NewTables.{AreEquallyWide}
 use Rattle.comfy_table.specs.Straight.{EachCell}
-use Rattle.comfy_table.specs.TableValue.{TableValue}
+use Rattle.comfy_table.specs.TableValue.{TableValue, column_content_width, max_content_widths}
 use Rattle.comfy_table.specs.Widths.{shown_count}
 use Rattle.comfy_csv_parts.specs.Cells.{field_text, row_for}
-use Rattle.comfy_csv_parts.specs.Columns.{chosen_columns, count_of}
+use Rattle.comfy_csv_parts.specs.Columns.{count_of, kept_columns}
 use Rattle.comfy_csv_parts.specs.Controls.{HasNoStrayControl, IsStyleWithoutControls}
 use Rattle.comfy_csv_parts.specs.Words.{IsAsked}
 use Rattle.comfy_csv_parts.specs.declared.arguments.Asked.{Asked}
 use Rattle.comfy_csv_parts.specs.declared.arguments.Surroundings.{Surroundings}
-use Rattle.comfy_csv.specs.Drawn.{ContentValue, IsOutputFor, IsOutputOf, content_of, drawn_rows, is_expanded_for, names_of, note_for, output_table, record_line, separated, table_for}
+use Rattle.comfy_csv.specs.Drawn.{ContentValue, IsOutputFor, IsOutputOf, content_of, drawn_rows, is_expanded_for, names_of, note_for, output_table, record_line, rows_table, separated_table, table_for}
+use Rattle.comfy_csv.specs.Unbroken.{framed_width, needed_contents, unbroken_columns}
 use Rattle.csv.specs.Records.{AllText}
 use Rattle.comfy_csv_parts.specs.declared.options.Look.{Look}
 use Rattle.comfy_csv_parts.specs.declared.options.Options.{Options}
@@ -28,12 +29,12 @@ use Rattle.comfy_csv_parts.specs.declared.options.DrawnColumn.{DrawnColumn}
 
 -- ---- rows
 
--- a row for each record that is drawn, in order, with the fields of the same columns, and these are the chosen ones
+-- a row for each record that is drawn, in order, with the fields of the same columns, and these are the chosen ones, less those that are left out
 pub record KeepsRows (options : Options) (records : List (List Text)) (table : TableValue) : Type 0 where
   pub columns : List DrawnColumn
   pub rows : table.rows ≡ map (row_for options.look columns) (drawn_rows options records)
   pub as_many : length table.rows ≡ length (drawn_rows options records)
-  pub chosen : chosen_columns (unwrap_or (names_of options.has_header records) []) (count_of (unwrap_or (names_of options.has_header records) []) (drawn_rows options records)) options.columns.items ≡ Ok (map (λ (column : DrawnColumn). column.position) columns)
+  pub chosen : kept_columns (unwrap_or (names_of options.has_header records) []) (count_of (unwrap_or (names_of options.has_header records) []) (drawn_rows options records)) options.columns.items options.dropped.items ≡ Ok (map (λ (column : DrawnColumn). column.position) columns)
 
 abbrev pub TableKeepsRows : Options → List (List Text) → TableValue → Type 0
 TableKeepsRows options records table = table_for options records ≡ Ok table → KeepsRows options records table
@@ -59,7 +60,7 @@ pub record IsOutputWith (options : Options) (records : List (List Text)) (output
 
 -- the table that is drawn of some records: of their rows or of their fields, with lines between rows or without
 abbrev pub IsDrawnTable : Look → ContentValue → TableValue → Type 0
-IsDrawnTable look content table = (has_separators : Bool) × (table ≡ output_table (is_expanded_for look content) (separated has_separators look) content)
+IsDrawnTable look content table = (has_separators : Bool) × (table ≡ separated_table has_separators (output_table (is_expanded_for look content) look content))
 
 -- ---- widths of lines
 
@@ -103,6 +104,17 @@ abbrev pub PrintableLinesHave : (TableValue → ℕ → Type 0) → Options → 
 PrintableLinesHave P options records output =
     (has : EachLineHas P options records output) → IsUnstyledUncut options.look → All (λ (fields : List Text). All (λ (field : Text). is_printable_ascii field ≡ true) fields) records
     → All (λ line. P has.table (count line)) has.lines
+
+-- ---- numbers and dates
+
+-- where a width has room for the columns that aren't broken, none of them is drawn narrower than its content
+abbrev pub UnbrokenColumnIsWhole : ℕ → Look → ContentValue → Bool → List ℕ → ℕ → Type 0
+UnbrokenColumnIsWhole w look content has_separators widths i =
+    look.width ≡ Some w
+    → framed_width (rows_table look content).style (needed_contents (unbroken_columns look.has_sequences content.columns content.rows) (max_content_widths (rows_table look content))) ≤ w
+    → slice_get (unbroken_columns look.has_sequences content.columns content.rows) i ≡ Some true → i < length (rows_table look content).columns
+    → IsArranged (separated_table has_separators (output_table false look content)) widths
+    → column_content_width (rows_table look content) i ≤ slice_index widths i
 
 -- ---- straight edges
 

@@ -4,3 +4,5 @@ pub mod Laws
 pub mod MarkdownLines
 pub mod Run
 pub mod Separators
+pub mod Unbroken
+pub mod WholeAt

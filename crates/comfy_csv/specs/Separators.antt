@@ -1,16 +1,8 @@
 -- Private: a table, with the lines between its rows or without them.
-use Rattle.std.specs.Prelude.{◌≡◌, Bool, true, false}
-use Rattle.comfy_parts.specs.declared.style.table_style.TableStyle.{TableStyle}
+use Rattle.std.specs.Prelude.{◌≡◌, Bool, false}
 use Rattle.comfy_table.specs.TableValue.{TableValue}
-use Rattle.comfy_csv.specs.Drawn.{HasSeparators, HasTallRow, condensed_style}
+use Rattle.comfy_csv.specs.Drawn.{HasSeparators, HasTallRow, separated_table}
 use Rattle.comfy_csv_parts.specs.declared.options.RowSeparators.{RowSeparators}
-
-abbrev pub with_style : TableStyle → TableValue → TableValue
-with_style style table = record table { style = style }
-
-abbrev pub separated_table : Bool → TableValue → TableValue
-separated_table true table = table
-separated_table false table = with_style (condensed_style table.style) table
 
 pub record AreRowsSeparated (wanted : RowSeparators) (before after : TableValue) : Type 0 where
   pub has_separators : Bool

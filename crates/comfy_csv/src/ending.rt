@@ -1,12 +1,12 @@
 //! How the program ends: its status, and what it says. `process` does what stands here.
 
-ghost use Rattle.std.specs.Prelude.{◌≡◌, IfErr, IfOk, string_bytes, true};
+ghost use Rattle.std.specs.Prelude.{◌≡◌, IfErr, IfOk, option_map, string_bytes, true};
 ghost use Rattle.clap.specs.Words.{kind_of};
 ghost use Rattle.comfy_csv.specs.declared.ending.Said.TheVariants.{OutOfMemory, Text};
-ghost use Rattle.comfy_csv.specs.Ending.{IsEndOfDrawing, IsEndOfWords, IsEndWithoutWords, IsHarmless, IsSilent, message_for, text_of};
+ghost use Rattle.comfy_csv.specs.Ending.{IsEndOfDrawing, IsEndOfWords, IsEndWithoutWords, IsHarmless, IsSilent, about, encoding_hint, is_of_input, message_for, reading_reason, reason_for, text_of};
 
 use clap::error::{Error, ErrorKind};
-use comfy_csv_parts::{CsvError, shown_text};
+use comfy_csv_parts::{Asked, CsvError, Encoding, shown_text};
 use std::alloc::{AllocError, Global};
 use std::io;
 
@@ -47,18 +47,27 @@ impl Said {
     }
 }
 
+/// What came of a drawing.
+#[derive(Drop)]
+pub(crate) struct Drawing<'a> {
+    /// What words asked for.
+    pub asked: &'a Asked,
+    /// Whether it was written.
+    pub result: Result<(), CsvError>,
+    /// With which error the input couldn't be opened or read.
+    pub fault: Option<io::ErrorKind>,
+    /// Whether the reader of the output has ended.
+    pub is_unread: bool,
+}
+
 /// How the program ends after a drawing. Where the reader of the output has ended, nothing is said.
-pub(crate) fn ending_of_drawing(
-    alloc: Global,
-    drawn: &Result<(), CsvError>,
-    is_unread: bool,
-) -> Ending
-    ensures { IsEndOfDrawing drawn.now is_unread result }
+pub(crate) fn ending_of_drawing(alloc: Global, drawing: &Drawing<'_>) -> Ending
+    ensures { IsEndOfDrawing drawing.now result }
 {
-    match drawn {
+    match &drawing.result {
         Ok(()) => silent(0),
-        Err(CsvError::Write) if is_unread => silent(FAILED),
-        Err(error) => message(FAILED, said_of(message_of(alloc, error))),
+        Err(CsvError::Write) if drawing.is_unread => silent(FAILED),
+        Err(error) => message(FAILED, said_of(message_of(alloc, drawing, error))),
     }
 }
 
@@ -122,26 +131,90 @@ fn said_of(text: Result<String, AllocError>) -> Said
 }
 
 // The line on an error.
-fn message_of(alloc: Global, error: &CsvError) -> Result<String, AllocError>
-    ensures { IfOk result (λ text. string_bytes text ≡ message_for error.now) }
+fn message_of(alloc: Global, drawing: &Drawing<'_>, error: &CsvError) -> Result<String, AllocError>
+    ensures { IfOk result (λ text. string_bytes text ≡ message_for drawing.now error.now) }
+{
+    let mut text = about(alloc, is_of_input(error), &drawing.asked.file)?;
+    let reason = reason_of(alloc, drawing.asked.options.encoding, drawing.fault, error)?;
+    text.push_str(reason.as_str())?;
+    text.push('\n')?;
+    Ok(text)
+}
+
+// Whether an error is of the input, so that its message names it.
+fn is_of_input(error: &CsvError) -> bool
+    ensures { result ≡ is_of_input error.now }
+{
+    !matches!(error, CsvError::Write | CsvError::OutOfMemory)
+}
+
+// What a message begins with.
+fn about(alloc: Global, is_of_input: bool, file: &Option<String>) -> Result<String, AllocError>
+    ensures { IfOk result (λ text. string_bytes text ≡ about is_of_input (option_map string_bytes file.now)) }
+{
+    match file {
+        _ if !is_of_input => String::from_str(alloc, "csvtable: "),
+        None => String::from_str(alloc, "csvtable: standard input: "),
+        Some(path) => {
+            let name = shown_text(alloc, path.as_str(), false)?;
+            format!(in alloc; "csvtable: {name}: ")
+        }
+    }
+}
+
+// Why there is no drawing.
+fn reason_of(
+    alloc: Global,
+    encoding: Option<Encoding>,
+    fault: Option<io::ErrorKind>,
+    error: &CsvError,
+) -> Result<String, AllocError>
+    ensures { IfOk result (λ text. string_bytes text ≡ reason_for encoding fault error.now) }
 {
     match error {
-        CsvError::Read => String::from_str(alloc, "csvtable: the input can't be read\n"),
-        CsvError::Write => String::from_str(alloc, "csvtable: the output can't be written\n"),
-        CsvError::NotUtf8(line) => format!(in alloc; "csvtable: line {line} isn't UTF-8\n"),
-        CsvError::NotUtf16(line) => format!(in alloc; "csvtable: line {line} isn't UTF-16\n"),
-        CsvError::SplitCharacter => {
-            String::from_str(alloc, "csvtable: the delimiter splits a character\n")
+        CsvError::Read => String::from_str(alloc, reading_reason(fault)),
+        CsvError::Write => String::from_str(alloc, "the output can't be written"),
+        CsvError::NotUtf8(line) => {
+            let mut text = format!(in alloc; "line {line} isn't UTF-8")?;
+            text.push_str(encoding_hint(encoding))?;
+            Ok(text)
         }
+        CsvError::NotUtf16(line) => format!(in alloc; "line {line} isn't UTF-16"),
+        CsvError::Unclosed(line) => {
+            format!(in alloc; "a quote that opens in line {line} is never closed; try --no-quotes")
+        }
+        CsvError::SplitCharacter => String::from_str(alloc, "the delimiter splits a character"),
         CsvError::NoColumn(name) => {
             let name = shown_text(alloc, name.as_str(), false)?;
-            format!(in alloc; "csvtable: there is no column {name}\n")
+            format!(in alloc; "no column {name}")
         }
         CsvError::TwoSides(name) => {
             let name = shown_text(alloc, name.as_str(), false)?;
-            format!(in alloc; "csvtable: column {name} can't stand at the right and at the left\n")
+            format!(in alloc; "column {name} can't stand at the right and at the left")
         }
-        CsvError::OutOfMemory => String::from_str(alloc, "csvtable: out of memory\n"),
+        CsvError::OutOfMemory => String::from_str(alloc, "out of memory"),
+    }
+}
+
+// Why the input can't be opened or read.
+fn reading_reason(fault: Option<io::ErrorKind>) -> &'static str
+    ensures { result.now ≡ reading_reason fault }
+{
+    match fault {
+        Some(io::ErrorKind::NotFound) => "no such file",
+        Some(io::ErrorKind::IsADirectory) => "is a directory",
+        Some(io::ErrorKind::PermissionDenied) => "permission denied",
+        _ => "can't be read",
+    }
+}
+
+// What helps where no encoding was asked for.
+fn encoding_hint(encoding: Option<Encoding>) -> &'static str
+    ensures { result.now ≡ encoding_hint encoding }
+{
+    match encoding {
+        None => "; try -e cp1252",
+        Some(_) => "",
     }
 }
 

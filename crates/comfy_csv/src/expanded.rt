@@ -1,12 +1,13 @@
 //! Records that are expanded: each is drawn as a table of its own, of names and fields.
 
-ghost use Rattle.std.specs.Prelude.{◌≡◌, ◌++◌, ◌-◌, ◌^◌, IfOk, OnOk, min, string_bytes, true};
+ghost use Rattle.std.specs.Prelude.{◌≡◌, ◌++◌, ◌-◌, ◌^◌, IfOk, OnOk, map, min, string_bytes, true};
 ghost use Rattle.comfy_csv.specs.Drawn.{is_expanded_in, least_width, record_text, separators_in, table_text};
 
 use crate::content::Content;
+use crate::unbroken::framed_width;
 use comfy_csv_parts::{Expansion, Look, RowSeparators};
-use comfy_table::utils::arrangement::helper::count_border_columns;
 use comfy_table::{ArrangedTable, Result, Table, TableError};
+use std::alloc::{AllocError, Global};
 use std::fmt::Write;
 
 // How many terminal columns of its content a column has at least where records aren't expanded.
@@ -28,12 +29,19 @@ fn least_width(table: &Table) -> Result<usize>
     ensures { IfOk result (λ width. width ≡ min (2 ^ 64 - 1) (least_width table.now)) }
 {
     let contents = table.column_max_content_widths()?;
-    let mut width = count_border_columns(table, contents.len());
-    for content in &contents {
-        let least = usize::from((*content).min(LEAST_CONTENT));
-        width = width.saturating_add(2 + least);
+    let least = least_contents(*contents.allocator(), contents.as_slice())?;
+    Ok(framed_width(table, least.as_slice()))
+}
+
+// Of these contents, what each column has at least.
+fn least_contents(alloc: Global, contents: &[u16]) -> std::result::Result<Vec<u16>, AllocError>
+    ensures { IfOk result (λ least. least.items ≡ map (λ content. min content 4) contents.now) }
+{
+    let mut least = Vec::with_capacity(alloc, contents.len())?;
+    for content in contents {
+        least.push((*content).min(LEAST_CONTENT))?;
     }
-    Ok(width)
+    Ok(least)
 }
 
 /// Where lines between the fields of a record are drawn: none that only tall rows would need, since names part the fields.

@@ -1,8 +1,9 @@
 //! What is so of every drawing. Each function does nothing: its clauses are the law, so that a proof of yours can cite it.
 
-ghost use Rattle.std.specs.Prelude.{List, ℕ};
+ghost use Rattle.std.specs.Prelude.{Bool, List, ℕ};
 ghost use Rattle.comfy_parts.specs.Text.{Text};
-ghost use Rattle.comfy_csv.specs.Laws.{AskedOutputHoldsNoControls, FittingOutputIsStraight, InputIsDrawnWithoutControls, IsFilling, IsWithin, MarkdownOutputIsStraight, OutputFillsWidth, OutputHoldsNoControls, OutputKeepsToWidth, PrintableFieldsStay, PrintableLinesHave, PrintableTextsMakePrintableTable, TableKeepsRows, WholeOutputIsStraight};
+ghost use Rattle.comfy_csv.specs.Drawn.{ContentValue};
+ghost use Rattle.comfy_csv.specs.Laws.{AskedOutputHoldsNoControls, FittingOutputIsStraight, InputIsDrawnWithoutControls, IsFilling, IsWithin, MarkdownOutputIsStraight, OutputFillsWidth, OutputHoldsNoControls, OutputKeepsToWidth, PrintableFieldsStay, PrintableLinesHave, PrintableTextsMakePrintableTable, TableKeepsRows, UnbrokenColumnIsWhole, WholeOutputIsStraight};
 ghost use Rattle.comfy_csv.specs.MarkdownLines.{MarkdownGivesRecordsBack};
 ghost use Rattle.comfy_csv_parts.specs.declared.arguments.Asked.{Asked};
 ghost use Rattle.comfy_csv_parts.specs.declared.arguments.Surroundings.{Surroundings};
@@ -16,7 +17,7 @@ pub use comfy_csv_parts::laws::{
 };
 
 /// Picking columns loses no row. The table has a row for each record that is drawn, in order, with the fields of the same
-/// columns, and these are the chosen ones.
+/// columns, and these are the chosen ones, less those that are left out.
 pub fn tables_keep_their_rows()
     ensures { (options : Options) (records : List (List Text)) (table : TableValue) → TableKeepsRows options records table }
 {}
@@ -30,6 +31,12 @@ pub fn outputs_keep_to_a_width()
     ensures full { (w : ℕ) (options : Options) (records : List (List Text)) (output : Text) → OutputFillsWidth w options records output }
     ensures each_line { (w : ℕ) (options : Options) (records : List (List Text)) (output : Text) → PrintableLinesHave (IsWithin w) options records output }
     ensures each_full_line { (w : ℕ) (options : Options) (records : List (List Text)) (output : Text) → PrintableLinesHave (IsFilling w) options records output }
+{}
+
+/// Where a width has room for the columns of numbers and dates, and for what the others need, none of them is drawn narrower
+/// than its content, with lines between rows or without.
+pub fn numbers_and_dates_are_whole()
+    ensures { (w : ℕ) (look : Look) (content : ContentValue) (has_separators : Bool) (widths : List ℕ) (i : ℕ) → UnbrokenColumnIsWhole w look content has_separators widths i }
 {}
 
 /// Fields of printable ASCII are drawn as such texts. These make a table of printable ASCII, where nothing is in bold, no

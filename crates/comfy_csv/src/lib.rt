@@ -10,10 +10,12 @@ mod process;
 mod separators;
 mod table;
 mod transfer;
+mod unbroken;
 
 pub use comfy_csv_parts::{
-    Asked, CsvError, DrawnColumn, Encoding, Expansion, Kept, Look, Options, RowSeparators,
-    Surroundings, asked_of, cleaned, decoded, escaped, is_number, records_of, shown_text, text_of,
+    Asked, CsvError, Delimiter, DrawnColumn, Encoding, Expansion, Kept, Look, Options,
+    RowSeparators, Surroundings, asked_of, cleaned, decoded, escaped, is_number, read_records,
+    records_of, shown_text, text_of,
 };
 pub use process::run_with_arguments;
 pub use table::table_of;

@@ -9,6 +9,7 @@ ghost use Rattle.comfy_csv.specs.Drawn.{IsMarkdownText, IsOutputOf, IsTableText,
 use crate::content::Content;
 use crate::expanded::{between_fields, is_expanded, records_text};
 use crate::separators::separate_rows;
+use crate::unbroken::keep_whole;
 use comfy_csv_parts::{CsvError, Look, Options, push_rule};
 use comfy_table::{Result, Table};
 use csv::StringRecord;
@@ -62,6 +63,7 @@ fn rows_text(content: &Content<'_>, mut table: Table, look: &Look) -> Result<Str
     requires { table ≡ rows_table look.now content.now }
     ensures { IfOk result (λ text. IsTextOfTable false look.now content.now (string_bytes text)) }
 {
+    keep_whole(&mut table, content, look)?;
     separate_rows(&mut table, look.separators)?;
     let mut text = String::new(content.alloc);
     let arranged = table.arranged()?;

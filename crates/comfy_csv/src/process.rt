@@ -1,14 +1,14 @@
 //! What only asks the system: the words, the streams, the environment and the file. What is made of it stands in `ending`
 //! and in `asked_of`.
 
-use crate::ending::{Ending, ending_of_drawing, ending_of_words, ending_without_words};
+use crate::ending::{Drawing, Ending, ending_of_drawing, ending_of_words, ending_without_words};
 use crate::transfer::draw;
 use comfy_csv_parts::{Asked, CsvError, Surroundings, asked_of};
 use comfy_run::run::{FromReader, ToWriter, words_of_process, write_all};
 use std::alloc::AllocError;
 use std::env::VarError;
 use std::fs::File;
-use std::io::IsTerminal;
+use std::io::{IsTerminal, Read};
 use std::process::ExitCode;
 use std::{env, io};
 
@@ -77,17 +77,39 @@ fn variable(rt: &HostRuntime, name: &str) -> Result<Option<String>, AllocError> 
 // Draws the file, or standard input.
 fn run(rt: &HostRuntime, asked: &Asked) -> Ending {
     let mut sink = ToWriter::new(rt.stdout());
-    let drawn = drawn(rt, &mut sink, asked);
-    ending_of_drawing(rt.alloc(), &drawn, sink.is_unread())
+    let (result, fault) = drawn(rt, &mut sink, asked);
+    let is_unread = sink.is_unread();
+    ending_of_drawing(
+        rt.alloc(),
+        &Drawing {
+            asked,
+            result,
+            fault,
+            is_unread,
+        },
+    )
 }
 
-fn drawn(rt: &HostRuntime, sink: &mut ToWriter<io::Stdout>, asked: &Asked) -> Result<(), CsvError> {
+// What came of it, and with which error the input couldn't be opened or read.
+type Drawn = (Result<(), CsvError>, Option<io::ErrorKind>);
+
+fn drawn(rt: &HostRuntime, sink: &mut ToWriter<io::Stdout>, asked: &Asked) -> Drawn {
     let Some(path) = &asked.file else {
-        let mut source = FromReader::new(rt.stdin());
-        return draw(rt.alloc(), &mut source, sink, &asked.options);
+        return drawn_from(rt, rt.stdin(), sink, asked);
     };
-    let Ok(file) = File::open(rt, path.as_str()) else {
-        return Err(CsvError::Read);
-    };
-    draw(rt.alloc(), &mut FromReader::new(file), sink, &asked.options)
+    match File::open(rt, path.as_str()) {
+        Ok(file) => drawn_from(rt, file, sink, asked),
+        Err(error) => (Err(CsvError::Read), Some(error.kind())),
+    }
+}
+
+fn drawn_from<R: Read + Drop>(
+    rt: &HostRuntime,
+    reader: R,
+    sink: &mut ToWriter<io::Stdout>,
+    asked: &Asked,
+) -> Drawn {
+    let mut source = FromReader::new(reader);
+    let result = draw(rt.alloc(), &mut source, sink, &asked.options);
+    (result, source.fault())
 }

@@ -2,8 +2,8 @@
 
 ghost use Rattle.std.specs.Prelude.{◌≡◌, IfOk, OnOk, false, nat_lt};
 ghost use Rattle.std.specs.List.{list_any};
-ghost use Rattle.comfy_csv.specs.Drawn.{HasTallRow, condensed_style};
-ghost use Rattle.comfy_csv.specs.Separators.{AreRowsSeparated, AreTallRowsSeparated, separated_table};
+ghost use Rattle.comfy_csv.specs.Drawn.{HasTallRow, condensed_style, separated_table};
+ghost use Rattle.comfy_csv.specs.Separators.{AreRowsSeparated, AreTallRowsSeparated};
 
 use comfy_csv_parts::RowSeparators;
 use comfy_table::{LineStyle, Result, Table, TableStyle};

@@ -1,20 +1,22 @@
 //! Reads an input, draws the table of its records, and writes the drawing.
 
-ghost use Rattle.std.specs.Prelude.{◌≡◌, List, ℕ, true, false, Some, OnOk, IfOk, IfErr, IsUtf8, string_bytes};
+ghost use Rattle.std.specs.Prelude.{◌≡◌, List, ℕ, true, false, Some, OnOk, IfOk, IfErr, string_bytes};
 ghost use Rattle.comfy_csv.specs.Drawn.{IsOutputFor};
 ghost use Rattle.comfy_csv.specs.Run.{IsAfter, IsReadFailure, IsRefusal, is_read_fault, is_write_fault};
 ghost use Rattle.comfy_run.specs.Run.{Between};
 
 use crate::output::output_of;
-use comfy_csv_parts::{CsvError, Options, records_of, text_of};
+use comfy_csv_parts::{CsvError, Options, decoded, read_records};
 use comfy_run::run::{DeviceFault, ReadError, Sink, Source, read_all, write_all};
 use std::alloc::Global;
 
 /// Reads the whole source, and writes the drawing of the table of its records to the sink, each line followed by a line
 /// feed. Where not all records are drawn, a line says how many there are.
 ///
-/// All memory is asked for before the first write. Where the input can't be read or isn't UTF-8, columns can't be chosen
-/// so, or memory runs out, nothing is written. Where the output can't be written, a beginning of it was.
+/// An input without records has an empty output.
+///
+/// All memory is asked for before the first write. Where the input can't be read, isn't in its encoding or has a quote that
+/// is never closed, columns can't be chosen so, or memory runs out, nothing is written. Where the output can't be written, a beginning of it was.
 ///
 /// ```
 /// let mut source = FromReader::new(rt.stdin());
@@ -51,12 +53,15 @@ fn output_for<R: Source>(
     ensures ended { OnOk result (R.end_was_read source.new ≡ true) }
     ensures fault { R.has_failed source.new ≡ is_read_fault result }
     ensures no_write { is_write_fault result ≡ false }
-    ensures output { IfOk result (λ output. (input : List ℕ) → R.remaining source.old ≡ Some input → IsUtf8 input × IsOutputFor options.now input (string_bytes output)) }
+    ensures output { IfOk result (λ output. (input : List ℕ) → R.remaining source.old ≡ Some input → IsOutputFor options.now input (string_bytes output)) }
     ensures refused { IfErr result (λ e. (input : List ℕ) → R.remaining source.old ≡ Some input → IsRefusal options.now e input (R.end_was_read source.new) (R.has_failed source.new)) }
 {
     let input = input_of(alloc, source)?;
-    let text = text_of(input.as_slice())?;
-    let records = records_of(alloc, text, options.delimiter)?;
+    let text = decoded(alloc, input, options.encoding)?;
+    let records = read_records(alloc, text.as_str(), options)?;
+    if records.is_empty() {
+        return Ok(String::new(alloc));
+    }
     output_of(alloc, records.as_slice(), options)
 }
 

@@ -1,17 +1,18 @@
 -- Choices of columns, one after another.
-use Rattle.std.proofs.Common.{◌≡◌, ◌<◌, ◌+◌, ◌&&◌, ◌||◌, not, ℕ, Bool, true, false, zero, suc, List, [], ◌∷◌, Some, Result, Ok, Err, String, bytes_eq, drop, get_or, length, map, string_bytes, take, refl, sym, ap, ◌∙◌, arith}
+use Rattle.std.proofs.Common.{◌≡◌, ◌<◌, ◌+◌, ◌-◌, ◌&&◌, ◌||◌, not, ℕ, Bool, true, false, zero, suc, List, [], ◌∷◌, Option, Some, Result, Ok, Err, String, bytes_eq, drop, get_or, length, map, string_bytes, take, refl, sym, ap, ◌∙◌, arith}
 use Rattle.std.proofs.lemmas.List.Folds.{fold_stuck}
-use Rattle.std.specs.List.{list_any, position_from}
+use Rattle.std.specs.List.{list_any, position_from, range_with_len}
+use Rattle.std.specs.Option.{option_or}
 use Rattle.std.specs.Str.{chars}
 use Rattle.comfy_parts.specs.Text.{Text}
 use Rattle.csv.specs.Records.{Row, field_at, fields_of}
 use Rattle.comfy_csv_parts.specs.Cells.{field_or_blank}
 use Rattle.comfy_csv_parts.specs.Cleaning.{visible_of}
-use Rattle.comfy_csv_parts.specs.Columns.{ColumnFault, IsColumnRefusal, is_number_column, is_number_kind, is_other_kind, is_text, joined, kind_at, kind_of, missing, positions_of, positions_of_word, seen, two_sided}
+use Rattle.comfy_csv_parts.specs.Columns.{ColumnFault, IsColumnRefusal, first_answer, is_number_column, is_number_kind, is_other_kind, is_text, joined, kind_at, kind_of, missing, positions_of, positions_of_word, seen, two_sided}
 use Rattle.comfy_csv_parts.specs.declared.columns.FieldKind.{FieldKind}
 use Rattle.comfy_csv_parts.specs.declared.columns.FieldKind.TheVariants.{Number, Neutral, Other}
 use Rattle.comfy_csv_parts.specs.declared.error.CsvError.{CsvError}
-use Rattle.comfy_csv_parts.specs.declared.error.CsvError.TheVariants.{Read, Write, NotUtf8, NotUtf16, SplitCharacter, NoColumn, OutOfMemory, TwoSides}
+use Rattle.comfy_csv_parts.specs.declared.error.CsvError.TheVariants.{Read, Write, NotUtf8, NotUtf16, Unclosed, SplitCharacter, NoColumn, OutOfMemory, TwoSides}
 
 then_fault : (found more : Result (List ℕ) ColumnFault) (xs : List ℕ) (fault : ColumnFault) → found ≡ Ok xs → more ≡ Err fault → joined found more ≡ Err fault
 then_fault found more xs fault before at_fault = rw (before, at_fault) refl
@@ -32,6 +33,7 @@ module _ {A : Type 0} (names : List Text) (count : ℕ) (words : List (String A)
   refused_word Write within before at_fault = absurd at_fault
   refused_word (NotUtf8 number) within before at_fault = absurd at_fault
   refused_word (NotUtf16 number) within before at_fault = absurd at_fault
+  refused_word (Unclosed number) within before at_fault = absurd at_fault
   refused_word SplitCharacter within before at_fault = absurd at_fault
 
 module _ (name : Text) (n : ℕ) where
@@ -56,7 +58,7 @@ kind-empty [] none = refl
 kind-empty (b ∷ bs) none = absurd (omega (arith, none))
 
 -- what is seen of the field at a position
-seen_at : (keeps : Bool) (fields : List Text) (position : ℕ) → field_or_blank (seen keeps fields) position ≡ visible_of keeps (field_or_blank fields position)
+pub seen_at : (keeps : Bool) (fields : List Text) (position : ℕ) → field_or_blank (seen keeps fields) position ≡ visible_of keeps (field_or_blank fields position)
 unfolding field_at
 seen_at false [] position = refl
 seen_at true [] position = refl
@@ -97,3 +99,7 @@ module _ (keeps : Bool) (position : ℕ) where
   pub none-left : (has_number : Bool) → numbers_left has_number [] ≡ has_number
   none-left true = refl
   none-left false = refl
+
+-- the first answer to the numbers that are left, by the next of them
+pub next_answer : {A : Type 0} (f : ℕ → Option A) (i n : ℕ) → i < n → first_answer f (range_with_len i (n - i)) ≡ option_or (f i) (first_answer f (range_with_len (i + 1) (n - (i + 1))))
+next_answer f i n below = let one : n - i ≡ suc (n - (i + 1)) = omega arith in rw one refl

@@ -27,6 +27,7 @@ stays_simple kind.Width name rule h = h
 stays_simple kind.Count name rule h = h
 stays_simple kind.Style name rule h = h
 stays_simple kind.When name rule h = h
+stays_simple kind.Encoding name rule h = h
 
 not_global : (arg : Arg) → is_simple_arg arg ≡ true → arg.global ≡ false
 not_global arg h = search (rules, tests)

@@ -1,6 +1,7 @@
 -- Which columns are drawn, and how their cells are aligned.
-use Rattle.std.specs.Prelude.{ℕ, Bool, true, false, ◌≡◌, ◌+◌, ◌-◌, ◌==◌, ◌&&◌, nat_le, nat_lt, not, List, [], ◌++◌, Option, Some, None, Result, Ok, Err, String, bytes_eq, decimal, drop, find, fold, length, map, max, ok_or, option_and_then, option_map, string_bytes, take, unwrap_or, if◌then◌else◌}
-use Rattle.std.specs.List.{list_any, position, position_from, range_with_len}
+use Rattle.std.specs.Prelude.{ℕ, Bool, true, false, ◌≡◌, ◌+◌, ◌-◌, ◌==◌, ◌&&◌, nat_le, nat_lt, not, List, [], ◌∷◌, ◌++◌, Option, Some, None, Result, Ok, Err, String, bytes_eq, decimal, drop, find, fold, get_or, length, map, max, ok_or, option_map, string_bytes, take, unwrap_or, if◌then◌else◌}
+use Rattle.std.specs.Option.{option_or}
+use Rattle.std.specs.List.{filter, list_any, position_from, range_with_len}
 use Rattle.comfy_parts.specs.Text.{Text}
 use Rattle.comfy_parts.specs.declared.style.cell.CellAlignment.{CellAlignment}
 use Rattle.comfy_parts.specs.declared.style.cell.CellAlignment.TheVariants.{Left, Right}
@@ -12,7 +13,7 @@ use Rattle.comfy_csv_parts.specs.Numerals.{number_for}
 use Rattle.comfy_csv_parts.specs.declared.columns.FieldKind.{FieldKind}
 use Rattle.comfy_csv_parts.specs.declared.columns.FieldKind.TheVariants.{Number, Neutral, Other}
 use Rattle.comfy_csv_parts.specs.declared.error.CsvError.{CsvError}
-use Rattle.comfy_csv_parts.specs.declared.error.CsvError.TheVariants.{Read, Write, NotUtf8, NotUtf16, SplitCharacter, NoColumn, OutOfMemory, TwoSides}
+use Rattle.comfy_csv_parts.specs.declared.error.CsvError.TheVariants.{Read, Write, NotUtf8, NotUtf16, Unclosed, SplitCharacter, NoColumn, OutOfMemory, TwoSides}
 use Rattle.comfy_csv_parts.specs.declared.options.Options.{Options}
 use Rattle.comfy_csv_parts.specs.declared.options.DrawnColumn.{DrawnColumn}
 
@@ -40,38 +41,50 @@ missing name = record { is_missing = true; name = name }
 abbrev pub two_sided : Text → ColumnFault
 two_sided name = record { is_missing = false; name = name }
 
--- two numbers, where both are known
-abbrev pub both : Option ℕ → Option ℕ → Option (ℕ × ℕ)
-both (Some first) (Some last) = Some (first, last)
-both (Some first) None = None
-both None last = None
+-- the column of a number, counted from 1, where it is there
+abbrev pub numbered : ℕ → ℕ → Option ℕ
+numbered count number = if nat_lt 0 number && nat_le number count then Some (number - 1) else None
 
--- the numbers before and after a position
-abbrev pub numbers_around : Text → Option ℕ → Option (ℕ × ℕ)
-numbers_around word None = None
-numbers_around word (Some at) = both (number_for 64 (take at word)) (number_for 64 (drop (at + 1) word))
+-- the position of a column: that of its number, else the first of its name
+abbrev pub column_by : List Text → ℕ → Text → Option ℕ → Option ℕ
+column_by names count word (Some number) = numbered count number
+column_by names count word None = position_named word names
 
--- the numbers around a word's first hyphen
-abbrev pub numbers_around_hyphen : Text → Option (ℕ × ℕ)
-numbers_around_hyphen word = numbers_around word (position (λ b. b == 0x2D) word)
+abbrev pub column_of : List Text → ℕ → Text → Option ℕ
+column_of names count word = column_by names count word (number_for 64 word)
 
--- the columns from one number to another, where they are there, as the position of the first and the one after the last
-abbrev pub numbered : ℕ → ℕ × ℕ → Option (ℕ × ℕ)
-numbered count numbers =
-    if (nat_lt 0 numbers.0 && nat_le numbers.0 numbers.1) && nat_le numbers.1 count then Some (numbers.0 - 1, numbers.1) else None
+-- the position after the last column of a range, by what stands behind its hyphen: with nothing there, it goes on to the last of all
+abbrev pub end_of : List Text → ℕ → Text → Option ℕ
+end_of names count word = if length word == 0 then Some count else option_map (λ (position : ℕ). position + 1) (column_of names count word)
 
--- the column at a position, else those from one number to another
-abbrev pub named_or_between : ℕ → Text → Option ℕ → Option (ℕ × ℕ)
-named_or_between count word (Some position) = Some (position, position + 1)
-named_or_between count word None = option_and_then (numbered count) (numbers_around_hyphen word)
+-- from one position on, before another, where both are known and in order
+abbrev pub rising : Option ℕ → Option ℕ → Option (ℕ × ℕ)
+rising (Some start) (Some end) = if nat_lt start end then Some (start, end) else None
+rising (Some start) None = None
+rising None end = None
 
--- the columns that a word chooses: that of its number, else that of its name, else those between two numbers around a hyphen
-abbrev pub columns_by : List Text → ℕ → Text → Option ℕ → Option (ℕ × ℕ)
-columns_by names count word (Some number) = numbered count (number, number)
-columns_by names count word None = named_or_between count word (position_named word names)
+-- the columns around a hyphen that stands at a place of a word, where both ends are there, in order
+abbrev pub range_at : List Text → ℕ → Text → ℕ → Option (ℕ × ℕ)
+range_at names count word at =
+    if get_or word at 0 == 0x2D then rising (column_of names count (take at word)) (end_of names count (drop (at + 1) word)) else None
 
+-- the first answer to some numbers
+abbrev pub first_answer : {A : Type 0} → (ℕ → Option A) → List ℕ → Option A
+first_answer f [] = None
+first_answer f (n ∷ ns) = option_or (f n) (first_answer f ns)
+
+-- the columns around the first such hyphen
+abbrev pub range_of : List Text → ℕ → Text → Option (ℕ × ℕ)
+range_of names count word = first_answer (range_at names count word) (range_with_len 0 (length word))
+
+-- a single column, else those of a range, as the position of the first and the one after the last
+abbrev pub single_or : Option ℕ → Option (ℕ × ℕ) → Option (ℕ × ℕ)
+single_or (Some position) range = Some (position, position + 1)
+single_or None range = range
+
+-- the columns that a word chooses
 abbrev pub columns_chosen : List Text → ℕ → Text → Option (ℕ × ℕ)
-columns_chosen names count word = columns_by names count word (number_for 64 word)
+columns_chosen names count word = single_or (column_of names count word) (range_of names count word)
 
 -- the positions from one on, before another
 abbrev pub positions_between : ℕ × ℕ → List ℕ
@@ -91,9 +104,23 @@ joined (Err fault) ys = Err fault
 abbrev pub positions_of : {A : Type 0} → List Text → ℕ → List (String A) → Result (List ℕ) ColumnFault
 positions_of {A} names count words = fold (λ (found : Result (List ℕ) ColumnFault) (word : String A). joined found (positions_of_word names count (string_bytes word))) (Ok []) words
 
--- those of the columns that are drawn: all where none is chosen
+-- the chosen columns: all where none is chosen
 abbrev pub chosen_columns : {A : Type 0} → List Text → ℕ → List (String A) → Result (List ℕ) ColumnFault
 chosen_columns names count words = if length words == 0 then Ok (range_with_len 0 count) else positions_of names count words
+
+-- the positions of one list that aren't in another
+abbrev pub without : List ℕ → List ℕ → List ℕ
+without positions dropped = filter (λ position. not (list_any (λ other. other == position) dropped)) positions
+
+-- these, or the first fault
+abbrev pub less : Result (List ℕ) ColumnFault → Result (List ℕ) ColumnFault → Result (List ℕ) ColumnFault
+less (Ok positions) (Ok dropped) = Ok (without positions dropped)
+less (Ok positions) (Err fault) = Err fault
+less (Err fault) dropped = Err fault
+
+-- those of the columns that are drawn: the chosen ones, less those that are left out
+abbrev pub kept_columns : {A : Type 0} → List Text → ℕ → List (String A) → List (String A) → Result (List ℕ) ColumnFault
+kept_columns names count words dropped = less (chosen_columns names count words) (positions_of names count dropped)
 
 -- what is seen of a record's fields: where sequences are kept, they aren't
 abbrev pub seen : Bool → List Text → List Text
@@ -147,7 +174,7 @@ abbrev pub placed_columns : List Text → List (List Text) → List ℕ → List
 placed_columns names rows positions right left (Some position) = Err (two_sided (name_at names position))
 placed_columns names rows positions right left None = Ok (drawn_columns right left rows positions)
 
--- the columns that are drawn, or the first fault: in the list of columns, then in that of the right, then in that of the left, then between these two
+-- the columns that are drawn, or the first fault: in the lists that choose and leave out columns, then in that of the right, then in that of the left, then between these two
 abbrev pub columns_with : List Text → List (List Text) → Result (List ℕ) ColumnFault → Result (List ℕ) ColumnFault → Result (List ℕ) ColumnFault → Result (List DrawnColumn) ColumnFault
 columns_with names rows (Ok positions) (Ok right) (Ok left) = placed_columns names rows positions right left (at_two_sides right left)
 columns_with names rows (Ok positions) (Ok right) (Err fault) = Err fault
@@ -156,7 +183,7 @@ columns_with names rows (Err fault) right left = Err fault
 
 abbrev pub columns_for : Options → List Text → List (List Text) → Result (List DrawnColumn) ColumnFault
 columns_for options names rows =
-    columns_with names (map (seen options.look.has_sequences) rows) (chosen_columns names (count_of names rows) options.columns.items) (positions_of names (count_of names rows) options.right.items) (positions_of names (count_of names rows) options.left.items)
+    columns_with names (map (seen options.look.has_sequences) rows) (kept_columns names (count_of names rows) options.columns.items options.dropped.items) (positions_of names (count_of names rows) options.right.items) (positions_of names (count_of names rows) options.left.items)
 
 -- why there are no columns: a fault of the lists, or there is no memory
 abbrev pub IsColumnRefusal : {A : Type 0} → CsvError → Result A ColumnFault → Type 0
@@ -167,4 +194,5 @@ IsColumnRefusal Read columns = ⊥
 IsColumnRefusal Write columns = ⊥
 IsColumnRefusal (NotUtf8 line) columns = ⊥
 IsColumnRefusal (NotUtf16 line) columns = ⊥
+IsColumnRefusal (Unclosed line) columns = ⊥
 IsColumnRefusal SplitCharacter columns = ⊥

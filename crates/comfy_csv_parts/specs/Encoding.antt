@@ -13,7 +13,7 @@ use Rattle.comfy_csv_parts.specs.declared.encoding.ByteOrder.TheVariants.{BigEnd
 use Rattle.comfy_csv_parts.specs.declared.encoding.Encoding.{Encoding}
 use Rattle.comfy_csv_parts.specs.declared.encoding.Encoding.TheVariants.{Cp1252, Utf16, Utf8}
 use Rattle.comfy_csv_parts.specs.declared.error.CsvError.{CsvError}
-use Rattle.comfy_csv_parts.specs.declared.error.CsvError.TheVariants.{Read, Write, NotUtf8, NotUtf16, SplitCharacter, NoColumn, OutOfMemory, TwoSides}
+use Rattle.comfy_csv_parts.specs.declared.error.CsvError.TheVariants.{Read, Write, NotUtf8, NotUtf16, Unclosed, SplitCharacter, NoColumn, OutOfMemory, TwoSides}
 
 -- ---- which encoding
 
@@ -99,6 +99,7 @@ module _ (read : List (Option ℕ)) where
   IsUtf16Refusal (NotUtf16 line) = IsFirstUnpaired line
   IsUtf16Refusal OutOfMemory = Unit {0}
   IsUtf16Refusal (NotUtf8 line) = ⊥
+  IsUtf16Refusal (Unclosed line) = ⊥
   IsUtf16Refusal Read = ⊥
   IsUtf16Refusal Write = ⊥
   IsUtf16Refusal SplitCharacter = ⊥

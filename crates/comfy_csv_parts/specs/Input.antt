@@ -11,7 +11,7 @@ use Rattle.csv.specs.declared.parser.Config.{Config}
 use Rattle.csv.specs.declared.parser.State.{State}
 use Rattle.csv.specs.declared.parser.State.TheVariants as st
 use Rattle.comfy_csv_parts.specs.declared.error.CsvError.{CsvError}
-use Rattle.comfy_csv_parts.specs.declared.error.CsvError.TheVariants.{Read, Write, NotUtf8, NotUtf16, SplitCharacter, NoColumn, OutOfMemory, TwoSides}
+use Rattle.comfy_csv_parts.specs.declared.error.CsvError.TheVariants.{Read, Write, NotUtf8, NotUtf16, Unclosed, SplitCharacter, NoColumn, OutOfMemory, TwoSides}
 
 -- ---- text
 
@@ -40,6 +40,7 @@ pub record IsFirstUnread (input : Text) (line : ℕ) : Type 0 where
 abbrev pub IsTextRefusal : Text → CsvError → Type 0
 IsTextRefusal input (NotUtf8 line) = IsFirstUnread input line
 IsTextRefusal input (NotUtf16 line) = ⊥
+IsTextRefusal input (Unclosed line) = ⊥
 IsTextRefusal input Read = ⊥
 IsTextRefusal input Write = ⊥
 IsTextRefusal input SplitCharacter = ⊥
@@ -49,19 +50,19 @@ IsTextRefusal input OutOfMemory = ⊥
 
 -- ---- records
 
--- how records are read: as csv does without settings, with this delimiter
-abbrev pub config_for : ℕ → Config
-config_for delimiter = record default_config { delimiter = delimiter }
+-- how records are read: as csv does without settings, but with this delimiter, and without quotes a quote is a character
+abbrev pub config_for : ℕ → Bool → Config
+config_for delimiter has_quotes = record default_config { delimiter = delimiter; quoting = has_quotes }
 
 -- these are the records of an input, and each is UTF-8
-pub record AreRecordsOf (delimiter : ℕ) (input : Text) (records : List (List Text)) : Type 0 where
-  pub all : AreRecords (config_for delimiter) st.StartRecord (strip_bom input) records
+pub record AreRecordsOf (delimiter : ℕ) (has_quotes : Bool) (input : Text) (records : List (List Text)) : Type 0 where
+  pub all : AreRecords (config_for delimiter has_quotes) st.StartRecord (strip_bom input) records
   pub are_text : All AllText records
 
 -- the records of UTF-8 are UTF-8, where the delimiter is ASCII
-abbrev pub RecordsAreText : ℕ → Text → List (List Text) → Type 0
-RecordsAreText delimiter input records =
-    delimiter < 128 → IsUtf8 input → AreRecords (config_for delimiter) st.StartRecord (strip_bom input) records → All AllText records
+abbrev pub RecordsAreText : ℕ → Bool → Text → List (List Text) → Type 0
+RecordsAreText delimiter has_quotes input records =
+    delimiter < 128 → IsUtf8 input → AreRecords (config_for delimiter has_quotes) st.StartRecord (strip_bom input) records → All AllText records
 
 -- what is returned for a fault of csv's reader
 abbrev pub IsRecordRefusal : ErrorKind → CsvError → Type 0
@@ -73,24 +74,25 @@ IsRecordRefusal (kind.Deserialize pos err) e = e ≡ OutOfMemory
 IsRecordRefusal kind.OutOfMemory e = e ≡ OutOfMemory
 
 -- the delimiter isn't ASCII, and after records of UTF-8 comes one that isn't UTF-8
-pub record SplitsCharacter (delimiter : ℕ) (input : Text) : Type 0 where
+pub record SplitsCharacter (delimiter : ℕ) (has_quotes : Bool) (input : Text) : Type 0 where
   pub no_ascii : 128 ≤ delimiter
   pub before : List (List Text)
   pub state : State
   pub rest : Text
-  pub reached : Reached (config_for delimiter) st.StartRecord (strip_bom input) before state rest
+  pub reached : Reached (config_for delimiter has_quotes) st.StartRecord (strip_bom input) before state rest
   pub are_text : All AllText before
   pub next : FoundRecord
-  pub is_next : next_record (config_for delimiter) state [] [] rest ≡ Some next
+  pub is_next : next_record (config_for delimiter has_quotes) state [] [] rest ≡ Some next
   pub is_no_text : ¬ (AllText next.0)
 
 -- why a text has no records: the delimiter splits a character, or there is no memory
-abbrev pub IsReadingRefusal : ℕ → Text → CsvError → Type 0
-IsReadingRefusal delimiter input SplitCharacter = SplitsCharacter delimiter input
-IsReadingRefusal delimiter input OutOfMemory = Unit {0}
-IsReadingRefusal delimiter input Read = ⊥
-IsReadingRefusal delimiter input Write = ⊥
-IsReadingRefusal delimiter input (NotUtf8 line) = ⊥
-IsReadingRefusal delimiter input (NotUtf16 line) = ⊥
-IsReadingRefusal delimiter input (NoColumn name) = ⊥
-IsReadingRefusal delimiter input (TwoSides name) = ⊥
+abbrev pub IsReadingRefusal : ℕ → Bool → Text → CsvError → Type 0
+IsReadingRefusal delimiter has_quotes input SplitCharacter = SplitsCharacter delimiter has_quotes input
+IsReadingRefusal delimiter has_quotes input OutOfMemory = Unit {0}
+IsReadingRefusal delimiter has_quotes input Read = ⊥
+IsReadingRefusal delimiter has_quotes input Write = ⊥
+IsReadingRefusal delimiter has_quotes input (NotUtf8 line) = ⊥
+IsReadingRefusal delimiter has_quotes input (NotUtf16 line) = ⊥
+IsReadingRefusal delimiter has_quotes input (Unclosed line) = ⊥
+IsReadingRefusal delimiter has_quotes input (NoColumn name) = ⊥
+IsReadingRefusal delimiter has_quotes input (TwoSides name) = ⊥

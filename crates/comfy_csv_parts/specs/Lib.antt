@@ -2,6 +2,7 @@ pub mod Cells
 pub mod Cleaning
 pub mod Columns
 pub mod Controls
+pub mod Delimiter
 pub mod Encoding
 pub mod Input
 pub mod Markdown
@@ -9,7 +10,11 @@ pub mod Number
 pub mod Numerals
 pub mod Pieces
 pub mod Program
+pub mod QuoteWalk
+pub mod Quotes
+pub mod Reading
 pub mod Rules
 pub mod Shown
 pub mod Styles
+pub mod Unbroken
 pub mod Words

@@ -15,6 +15,10 @@ option name letter = record (new_rule name) { long = Some name; short = letter; 
 abbrev pub flag : Text → Option ℕ → Rule
 flag name letter = record (new_rule name) { long = Some name; short = letter; action = Some SetTrue }
 
+-- one without a value that has a letter alone
+abbrev pub letter : Text → ℕ → Rule
+letter name short = record (new_rule name) { short = Some short; action = Some SetTrue }
+
 -- one whose value is a number
 abbrev pub number : Text → Option ℕ → ValueParser → Rule
 number name letter parser = record (option name letter) { parser = Some parser }
@@ -31,19 +35,28 @@ nameless rule = (rule, [])
 abbrev pub whens : List Text
 whens = codes "auto" ∷ codes "always" ∷ codes "never" ∷ []
 
+-- how an input may be written
+abbrev pub encodings : List Text
+encodings = codes "utf-8" ∷ codes "cp1252" ∷ codes "latin1" ∷ codes "utf-16" ∷ []
+
 -- the rules, each with the names that its value may be
 abbrev pub csvtable_rules : List (Rule × List Text)
 csvtable_rules =
     nameless (record (new_rule (codes "file")) { value_names = 1 })
     ∷ nameless (option (codes "delimiter") (Some 0x64))
+    ∷ nameless (letter (codes "tabs") 0x74)
+    ∷ (record (choice (codes "encoding") (Some 0x65)) { ignore_case = true }, encodings)
+    ∷ nameless (flag (codes "no-quotes") None)
+    ∷ nameless (number (codes "skip") None (vp.Unsigned 0 (2 ^ 64 - 1)))
     ∷ nameless (flag (codes "no-header") (Some 0x6E))
     ∷ nameless (number (codes "limit") None (vp.Unsigned 0 (2 ^ 64 - 1)))
     ∷ nameless (option (codes "columns") (Some 0x63))
+    ∷ nameless (option (codes "drop") None)
     ∷ nameless (option (codes "right") (Some 0x72))
     ∷ nameless (option (codes "left") None)
     ∷ nameless (number (codes "width") (Some 0x77) (vp.Signed (pos 0) (pos 65535)))
     ∷ nameless (flag (codes "full") None)
-    ∷ nameless (record (new_rule (codes "all-expanded")) { short = Some 0x78; action = Some SetTrue })
+    ∷ nameless (letter (codes "all-expanded") 0x78)
     ∷ (choice (codes "expanded") None, whens)
     ∷ (record (choice (codes "style") (Some 0x73)) { ignore_case = true }, style_names)
     ∷ nameless (flag (codes "rows") None)

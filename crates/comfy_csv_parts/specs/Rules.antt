@@ -4,7 +4,7 @@ use Rattle.clap.specs.Words.{Rule, new_rule}
 use Rattle.clap.specs.declared.builder.action.ArgAction.TheVariants.{SetTrue}
 use Rattle.clap.specs.declared.builder.value_parser.ValueParser.TheVariants as vp
 use Rattle.comfy_parts.specs.Text.{Text}
-use Rattle.comfy_csv_parts.specs.Program.{bare, whens}
+use Rattle.comfy_csv_parts.specs.Program.{bare, encodings, whens}
 use Rattle.comfy_csv_parts.specs.Styles.{style_names}
 use Rattle.comfy_csv_parts.specs.declared.words.Kind.{Kind}
 use Rattle.comfy_csv_parts.specs.declared.words.Kind.TheVariants as kind
@@ -20,6 +20,7 @@ with_values kind.Width known = (record known.0 { parser = Some (vp.Signed (pos 0
 with_values kind.Count known = (record known.0 { parser = Some (vp.Unsigned 0 (2 ^ 64 - 1)) }, [])
 with_values kind.Style known = (record known.0 { parser = Some vp.String; ignore_case = true }, style_names)
 with_values kind.When known = (record known.0 { parser = Some vp.String }, whens)
+with_values kind.Encoding known = (record known.0 { parser = Some vp.String; ignore_case = true }, encodings)
 with_values _ known = known
 
 -- a word with a value or without one

@@ -1,18 +1,24 @@
 -- What words on the command line ask for.
-use Rattle.std.specs.Prelude.{◌≡◌, ◌≢◌, ◌⊎◌, ℕ, Bool, true, false, not, ◌==◌, ◌&&◌, ◌||◌, nat_le, nat_lt, List, [], ◌∷◌, Option, Some, None, bytes_eq, codes, length, map, option_and_then, option_map, string_bytes, unwrap_or, if◌then◌else◌}
+use Rattle.std.specs.Prelude.{◌≡◌, ◌≢◌, ◌⊎◌, ◌-◌, ℕ, Bool, true, false, not, ◌==◌, ◌&&◌, ◌||◌, nat_le, nat_lt, List, [], ◌∷◌, Option, Some, None, bytes_eq, codes, drop, length, map, option_and_then, option_map, string_bytes, unwrap_or, if◌then◌else◌}
 use Rattle.std.specs.List.{list_any, slice_split}
 use Rattle.std.specs.Option.{option_map_or}
+use Rattle.std.specs.Str.{str_eq_ignore_ascii_case}
 use Rattle.std.specs.Str.Parse.{without_leading_plus}
 use Rattle.clap.specs.Words.{App, first_value, kind_of, matches_of, one_text, rows_of, takes}
 use Rattle.clap.specs.declared.error.Error.{Error}
 use Rattle.clap.specs.declared.error.kind.ErrorKind.TheVariants.{InvalidValue, OutOfMemory}
 use Rattle.clap.specs.declared.parser.matches.Found.{Found}
 use Rattle.comfy_parts.specs.Text.{Text}
+use Rattle.comfy_csv_parts.specs.Delimiter.{only_ascii}
 use Rattle.comfy_csv_parts.specs.Numerals.{number_for}
 use Rattle.comfy_csv_parts.specs.Program.{IsCsvtable}
 use Rattle.comfy_csv_parts.specs.Styles.{is_compact, is_named, style_for}
 use Rattle.comfy_csv_parts.specs.declared.arguments.Asked.{Asked}
 use Rattle.comfy_csv_parts.specs.declared.arguments.Surroundings.{Surroundings}
+use Rattle.comfy_csv_parts.specs.declared.delimiter.Delimiter.{Delimiter}
+use Rattle.comfy_csv_parts.specs.declared.delimiter.Delimiter.TheVariants.{Auto as AutoDelimiter, NamedOrTab, Byte}
+use Rattle.comfy_csv_parts.specs.declared.encoding.Encoding.{Encoding}
+use Rattle.comfy_csv_parts.specs.declared.encoding.Encoding.TheVariants.{Cp1252, Utf16, Utf8}
 use Rattle.comfy_csv_parts.specs.declared.options.Expansion.{Expansion}
 use Rattle.comfy_csv_parts.specs.declared.options.Expansion.TheVariants.{Always, Auto, Never as NeverExpanded}
 use Rattle.comfy_csv_parts.specs.declared.options.Look.{Look}
@@ -20,16 +26,27 @@ use Rattle.comfy_csv_parts.specs.declared.options.Options.{Options}
 use Rattle.comfy_csv_parts.specs.declared.options.RowSeparators.{RowSeparators}
 use Rattle.comfy_csv_parts.specs.declared.options.RowSeparators.TheVariants.{Styled, Needed, Never}
 
--- a word of one byte, which is neither a quote nor a line end
-abbrev pub only_byte : Text → Option ℕ
-only_byte [] = None
-only_byte (b ∷ []) = if ((b == 0x22) || (b == 0x0A)) || (b == 0x0D) then None else Some b
-only_byte (b ∷ c ∷ rest) = None
+-- a path ends so, in any case of letters
+abbrev pub has_end : Text → Text → Bool
+has_end end path = str_eq_ignore_ascii_case (drop (length path - length end) path) end
 
--- the byte between fields: a comma without a word, TAB for `tab`, else the word's only byte
-abbrev pub delimiter_for : Option Text → Option ℕ
-delimiter_for None = Some 0x2C
-delimiter_for (Some word) = if bytes_eq word (codes "tab") then Some 0x09 else only_byte word
+-- what stands between fields where no word says so: found in the input, or TAB in a file with such a name
+abbrev pub delimiter_by : Option Text → Delimiter
+delimiter_by None = AutoDelimiter
+delimiter_by (Some path) = if has_end (codes ".tsv") path || has_end (codes ".tab") path then NamedOrTab else AutoDelimiter
+
+-- what a word asks for: TAB for `tab` and `\t`, else the word's only character
+abbrev pub delimiter_for : Option Text → Option Text → Option Delimiter
+delimiter_for None file = Some (delimiter_by file)
+delimiter_for (Some word) file =
+    if is_named (codes "auto") word then Some (delimiter_by file)
+    else if is_named (codes "tab") word || is_named (0x5C ∷ codes "t") word then Some (Byte 0x09)
+    else option_map Byte (only_ascii word)
+
+-- the encoding of a name; `latin1` is Windows-1252
+abbrev pub encoding_for : Option Text → Option Encoding
+encoding_for None = None
+encoding_for (Some name) = if is_named (codes "utf-8") name then Some Utf8 else if is_named (codes "utf-16") name then Some Utf16 else Some Cp1252
 
 -- a width, where it isn't 0
 abbrev pub some_width : ℕ → Option ℕ
@@ -76,6 +93,10 @@ number_found bits found id = option_and_then (λ word. number_for bits (without_
 abbrev pub is_given : Found → Text → Bool
 is_given found id = option_map_or (λ value. not (bytes_eq value (codes "false"))) (first_value found id) false
 
+-- what is to stand between fields
+abbrev pub wanted_delimiter : Found → Option Delimiter
+wanted_delimiter found = if is_given found (codes "tabs") then Some (Byte 0x09) else delimiter_for (first_value found (codes "delimiter")) (first_value found (codes "file"))
+
 -- a table for Markdown is asked for, by its own word or as a style
 abbrev pub is_markdown_in : Found → Bool
 is_markdown_in found = is_given found (codes "markdown") || option_map_or (is_named (codes "markdown")) (first_value found (codes "style")) false
@@ -86,7 +107,7 @@ are_both_given found pair = is_given found pair.0 && is_given found pair.1
 
 -- the options that exclude each other
 abbrev pub exclusive_options : List (Text × Text)
-exclusive_options = (codes "markdown", codes "style") ∷ (codes "rows", codes "no-rows") ∷ (codes "all-expanded", codes "expanded") ∷ []
+exclusive_options = (codes "tabs", codes "delimiter") ∷ (codes "markdown", codes "style") ∷ (codes "rows", codes "no-rows") ∷ (codes "all-expanded", codes "expanded") ∷ []
 
 -- those that a table for Markdown excludes
 abbrev pub not_beside_markdown : List Text
@@ -133,10 +154,14 @@ pub record LookIsAsked (surroundings : Surroundings) (found : Found) (look : Loo
 
 -- options that follow from such values
 pub record OptionsAreAsked (surroundings : Surroundings) (found : Found) (options : Options) : Type 0 where
-  pub delimiter : delimiter_for (first_value found (codes "delimiter")) ≡ Some options.delimiter
+  pub encoding : options.encoding ≡ encoding_for (first_value found (codes "encoding"))
+  pub skip : options.skip ≡ unwrap_or (number_found 64 found (codes "skip")) 0
+  pub delimiter : wanted_delimiter found ≡ Some options.delimiter
+  pub quotes : options.has_quotes ≡ not (is_given found (codes "no-quotes"))
   pub header : options.has_header ≡ not (is_given found (codes "no-header"))
   pub limit : options.limit ≡ number_found 64 found (codes "limit")
   pub columns : map string_bytes options.columns.items ≡ words_in (first_value found (codes "columns"))
+  pub dropped : map string_bytes options.dropped.items ≡ words_in (first_value found (codes "drop"))
   pub right : map string_bytes options.right.items ≡ words_in (first_value found (codes "right"))
   pub left : map string_bytes options.left.items ≡ words_in (first_value found (codes "left"))
   pub look : LookIsAsked surroundings found options.look
@@ -165,7 +190,7 @@ pub record AreNotTaken (words : List Text) : Type 0 where
 pub record AreFoundInVain (words : List Text) : Type 0 where
   pub found : Found
   pub are_found : AreFound words found
-  pub in_vain : (are_exclusive found ≡ true) ⊎ (delimiter_for (first_value found (codes "delimiter")) ≡ None)
+  pub in_vain : (are_exclusive found ≡ true) ⊎ (wanted_delimiter found ≡ None)
 
 -- why nothing is asked for: the words aren't taken, or were found in vain, which is told as an invalid value, or there is no memory
 abbrev pub IsWordRefusal : List Text → Error → Type 0

@@ -5,8 +5,10 @@ ghost use Rattle.std.specs.List.{list_any, slice_split};
 ghost use Rattle.clap.specs.Words.{app_of, first_value, found_of, kind_of};
 ghost use Rattle.clap.specs.declared.error.kind.ErrorKind.TheVariants.{InvalidValue, OutOfMemory};
 ghost use Rattle.comfy_csv_parts.specs.Program.{IsCsvtable};
-ghost use Rattle.comfy_csv_parts.specs.Words.{IsAsked, IsWordRefusal, LookIsAsked, OptionsAreAsked, are_exclusive, delimiter_for, expansion_for, file_for, is_bold_for, is_bold_there, is_given, is_markdown_in, separators_for, some_columns, some_width, terminal_width, wants_color, width_for, words_in};
+ghost use Rattle.comfy_csv_parts.specs.Words.{IsAsked, IsWordRefusal, LookIsAsked, OptionsAreAsked, are_exclusive, delimiter_by, delimiter_for, encoding_for, expansion_for, file_for, has_end, is_bold_for, is_bold_there, is_given, is_markdown_in, separators_for, some_columns, some_width, terminal_width, wanted_delimiter, wants_color, width_for, words_in};
 
+use crate::delimiter::{Delimiter, only_ascii};
+use crate::encoding::Encoding;
 use crate::numerals::number_of;
 use crate::options::{Expansion, Look, Options, RowSeparators};
 use crate::styles::{is_compact, is_named, style_names, style_of};
@@ -20,7 +22,8 @@ use std::alloc::{AllocError, Global};
 const TERMINAL_WIDTH: u16 = 80;
 
 // Options that exclude each other.
-static EXCLUSIVE_OPTIONS: [(&str, &str); 3] = [
+static EXCLUSIVE_OPTIONS: [(&str, &str); 4] = [
+    ("tabs", "delimiter"),
     ("markdown", "style"),
     ("rows", "no-rows"),
     ("all-expanded", "expanded"),
@@ -87,15 +90,15 @@ fn asked_by<'a>(
     if are_exclusive(&matches) {
         return Err(refusal(
             command,
-            "`--markdown` and `--style`, `--rows` and `--no-rows`, and `-x` and `--expanded` exclude each other; a table for \
-             Markdown has no `--width`, `--full`, `-x`, `--expanded`, `--max-height`, `--ansi` or `--raw`",
+            "`-t` and `-d`, `--markdown` and `--style`, `--rows` and `--no-rows`, and `-x` and `--expanded` exclude each \
+             other; a table for Markdown has no `--width`, `--full`, `-x`, `--expanded`, `--max-height`, `--ansi` or `--raw`",
         ));
     }
-    match delimiter_of(matches.get_str("delimiter")) {
+    match wanted_delimiter(&matches) {
         Some(delimiter) => Ok(asked_with(alloc, &matches, delimiter, surroundings)?),
         None => Err(refusal(
             command,
-            "the delimiter is one ASCII character, or `tab`; it's no quote and no line end",
+            "the delimiter is one ASCII character, `tab` or `auto`; it's no quote and no line end",
         )),
     }
 }
@@ -104,10 +107,10 @@ fn asked_by<'a>(
 fn asked_with<'a>(
     alloc: Global,
     matches: &ArgMatches<'a>,
-    delimiter: u8,
+    delimiter: Delimiter,
     surroundings: Surroundings<'_>,
 ) -> Result<Asked, AllocError>
-    requires { delimiter_for (first_value (found_of matches.now) (codes "delimiter")) ≡ Some delimiter }
+    requires { wanted_delimiter (found_of matches.now) ≡ Some delimiter }
     ensures options { IfOk result (λ asked. OptionsAreAsked surroundings.entry (found_of matches.now) asked.options) }
     ensures file { IfOk result (λ asked. option_map string_bytes asked.file ≡ file_for (first_value (found_of matches.now) (codes "file"))) }
 {
@@ -178,18 +181,58 @@ fn file_of(alloc: Global, word: Option<&str>) -> Result<Option<String>, AllocErr
     }
 }
 
-// The byte that a word asks for.
-fn delimiter_of(word: Option<&str>) -> Option<u8>
-    ensures { result ≡ delimiter_for (option_map (λ w. w.now) word.entry) }
+// What is to stand between fields.
+fn wanted_delimiter<'a>(matches: &ArgMatches<'a>) -> Option<Delimiter>
+    ensures { result ≡ wanted_delimiter (found_of matches.now) }
+{
+    if is_given(matches, "tabs") {
+        Some(Delimiter::Byte(b'\t'))
+    } else {
+        delimiter_of(matches.get_str("delimiter"), matches.get_str("file"))
+    }
+}
+
+// What a word asks for, of a file with this name.
+fn delimiter_of(word: Option<&str>, file: Option<&str>) -> Option<Delimiter>
+    ensures { result ≡ delimiter_for (option_map (λ w. w.now) word.entry) (option_map (λ f. f.now) file.entry) }
 {
     match word {
-        None => Some(b','),
-        Some("tab") => Some(b'\t'),
-        Some(word) => match word.as_bytes() {
-            [b'"' | b'\n' | b'\r'] => None,
-            [byte] => Some(*byte),
-            _ => None,
-        },
+        None => Some(delimiter_by(file)),
+        Some(word) if is_named("auto", word) => Some(delimiter_by(file)),
+        Some(word) if is_named("tab", word) || is_named("\\t", word) => {
+            Some(Delimiter::Byte(b'\t'))
+        }
+        Some(word) => only_ascii(word.as_bytes()).map(Delimiter::Byte),
+    }
+}
+
+// What is taken for a file of this name where no word says more.
+fn delimiter_by(file: Option<&str>) -> Delimiter
+    ensures { result ≡ delimiter_by (option_map (λ f. f.now) file.entry) }
+{
+    match file {
+        Some(path) if has_end(path, ".tsv") || has_end(path, ".tab") => Delimiter::NamedOrTab,
+        _ => Delimiter::Auto,
+    }
+}
+
+// Whether a path ends so, in any case of letters.
+fn has_end(path: &str, end: &str) -> bool
+    ensures { result ≡ has_end end.now path.now }
+{
+    let bytes = path.as_bytes();
+    bytes[bytes.len().saturating_sub(end.len())..].eq_ignore_ascii_case(end.as_bytes())
+}
+
+// The encoding of this name.
+fn encoding_of(name: Option<&str>) -> Option<Encoding>
+    ensures { result ≡ encoding_for (option_map (λ n. n.now) name.entry) }
+{
+    match name {
+        None => None,
+        Some(name) if is_named("utf-8", name) => Some(Encoding::Utf8),
+        Some(name) if is_named("utf-16", name) => Some(Encoding::Utf16),
+        Some(_) => Some(Encoding::Cp1252),
     }
 }
 
@@ -197,17 +240,21 @@ fn delimiter_of(word: Option<&str>) -> Option<u8>
 fn options_of<'a>(
     alloc: Global,
     matches: &ArgMatches<'a>,
-    delimiter: u8,
+    delimiter: Delimiter,
     surroundings: Surroundings<'_>,
 ) -> Result<Options, AllocError>
-    requires { delimiter_for (first_value (found_of matches.now) (codes "delimiter")) ≡ Some delimiter }
+    requires { wanted_delimiter (found_of matches.now) ≡ Some delimiter }
     ensures { IfOk result (λ options. OptionsAreAsked surroundings.entry (found_of matches.now) options) }
 {
     Ok(Options {
+        encoding: encoding_of(matches.get_str("encoding")),
+        skip: matches.get_one::<usize>("skip").unwrap_or(0),
         delimiter,
+        has_quotes: !is_given(matches, "no-quotes"),
         has_header: !is_given(matches, "no-header"),
         limit: matches.get_one::<usize>("limit"),
         columns: words_of(alloc, matches.get_str("columns"))?,
+        dropped: words_of(alloc, matches.get_str("drop"))?,
         right: words_of(alloc, matches.get_str("right"))?,
         left: words_of(alloc, matches.get_str("left"))?,
         look: look_of(matches, surroundings),

@@ -1,10 +1,10 @@
 //! Which columns are drawn, and how their cells are aligned.
 
-ghost use Rattle.std.specs.Prelude.{◌≡◌, ◌<◌, ◌≤◌, ◌-◌, ◌^◌, IfOk, IfErr, IfSome, Ok, map, string_bytes};
+ghost use Rattle.std.specs.Prelude.{◌≡◌, ◌<◌, ◌≤◌, ◌-◌, ◌^◌, IfOk, IfErr, IfSome, Ok, length, map, string_bytes};
 ghost use Rattle.std.specs.List.{range_with_len};
 ghost use Rattle.comfy_parts.specs.VisibleText.{visible_text};
 ghost use Rattle.csv.specs.Records.{field_at, fields_of};
-ghost use Rattle.comfy_csv_parts.specs.Columns.{IsColumnRefusal, alignment_for, at_two_sides, chosen_columns, columns_chosen, columns_for, count_of, drawn_columns, is_number_column, is_text, kind_at, kind_of, name_at, named_or_between, numbered, numbers_around_hyphen, position_named, positions_of, positions_of_word, seen};
+ghost use Rattle.comfy_csv_parts.specs.Columns.{IsColumnRefusal, alignment_for, at_two_sides, chosen_columns, column_of, columns_chosen, columns_for, count_of, drawn_columns, end_of, is_number_column, is_text, kept_columns, kind_at, kind_of, name_at, numbered, position_named, positions_of, positions_of_word, range_at, range_of, seen, without};
 
 use crate::error::CsvError;
 use crate::number::{is_neutral, is_number};
@@ -26,7 +26,7 @@ pub fn columns_of(
     ensures refused { IfErr result (λ e. IsColumnRefusal e (columns_for options.now (fields_of names.now) (map fields_of rows.now))) }
 {
     let count = count_of(names, rows);
-    let positions = chosen_columns(alloc, options.columns.as_slice(), names, count)?;
+    let positions = kept_columns(alloc, options, names, count)?;
     let right = positions_of(alloc, options.right.as_slice(), names, count)?;
     let left = positions_of(alloc, options.left.as_slice(), names, count)?;
     if let Some(position) = at_two_sides(right.as_slice(), left.as_slice()) {
@@ -74,6 +74,34 @@ fn count_of(names: &StringRecord, rows: &[StringRecord]) -> usize
         count = count.max(row.len());
     }
     count
+}
+
+// The positions of the chosen columns, without those that are left out.
+fn kept_columns(
+    alloc: Global,
+    options: &Options,
+    names: &StringRecord,
+    count: usize,
+) -> Result<Vec<usize>, CsvError>
+    ensures ok { IfOk result (λ positions. kept_columns (fields_of names.now) count options.now.columns.items options.now.dropped.items ≡ Ok positions.items) }
+    ensures refused { IfErr result (λ e. IsColumnRefusal e (kept_columns (fields_of names.now) count options.now.columns.items options.now.dropped.items)) }
+{
+    let chosen = chosen_columns(alloc, options.columns.as_slice(), names, count)?;
+    let dropped = positions_of(alloc, options.dropped.as_slice(), names, count)?;
+    Ok(without(alloc, chosen.as_slice(), dropped.as_slice())?)
+}
+
+// The positions of one list that aren't in another.
+fn without(alloc: Global, positions: &[usize], dropped: &[usize]) -> Result<Vec<usize>, AllocError>
+    ensures { IfOk result (λ kept. kept.items ≡ without positions.now dropped.now) }
+{
+    let mut kept = Vec::with_capacity(alloc, positions.len())?;
+    for position in positions {
+        if !dropped.contains(position) {
+            kept.push(*position)?;
+        }
+    }
+    Ok(kept)
 }
 
 // The positions of the chosen columns; all of them where none is chosen.
@@ -127,47 +155,81 @@ fn positions_of_word(
     }
 }
 
-// The columns that a word chooses, as the position of the first and the one after the last: that of its number, else that
-// of its name, else those between two numbers around a hyphen.
+// The columns that a word chooses, as the position of the first and the one after the last: a single one, else those
+// around a hyphen.
 fn columns_chosen(names: &StringRecord, count: usize, word: &str) -> Option<(usize, usize)>
     ensures value { result ≡ columns_chosen (fields_of names.now) count word.now }
     ensures ordered { IfSome result (λ ends. ends.0 ≤ ends.1) }
 {
-    match number_of(word) {
-        Some(number) => numbered(count, (number, number)),
-        None => named_or_between(count, word, position_named(names, word)),
-    }
-}
-
-fn named_or_between(count: usize, word: &str, named: Option<usize>) -> Option<(usize, usize)>
-    requires { IfSome named (λ position. position < 2 ^ 64 - 1) }
-    ensures value { result ≡ named_or_between count word.now named }
-    ensures ordered { IfSome result (λ ends. ends.0 ≤ ends.1) }
-{
-    match named {
+    match column_of(names, count, word) {
         Some(position) => Some((position, position + 1)),
-        None => numbered(count, numbers_around_hyphen(word)?),
+        None => range_of(names, count, word),
     }
 }
 
-// The columns from one number to another, where they are there.
-fn numbered(count: usize, numbers: (usize, usize)) -> Option<(usize, usize)>
-    ensures value { result ≡ numbered count numbers }
-    ensures ordered { IfSome result (λ ends. ends.0 ≤ ends.1) }
+// The position of a column: that of its number, else the first of its name.
+fn column_of(names: &StringRecord, count: usize, word: &str) -> Option<usize>
+    ensures value { result ≡ column_of (fields_of names.now) count word.now }
+    ensures below { IfSome result (λ position. position < 2 ^ 64 - 1) }
 {
-    let (first, last) = numbers;
-    if 0 < first && first <= last && last <= count {
-        Some((first - 1, last))
+    match number_of(word) {
+        Some(number) => numbered(count, number),
+        None => position_named(names, word),
+    }
+}
+
+// The position of the column with a number, where it is there.
+fn numbered(count: usize, number: usize) -> Option<usize>
+    ensures value { result ≡ numbered count number }
+    ensures below { IfSome result (λ position. position < 2 ^ 64 - 1) }
+{
+    if 0 < number && number <= count {
+        Some(number - 1)
     } else {
         None
     }
 }
 
-fn numbers_around_hyphen(word: &str) -> Option<(usize, usize)>
-    ensures { result ≡ numbers_around_hyphen word.now }
+// The columns around the first hyphen around which both ends are there, in order.
+fn range_of(names: &StringRecord, count: usize, word: &str) -> Option<(usize, usize)>
+    ensures value { result ≡ range_of (fields_of names.now) count word.now }
+    ensures ordered { IfSome result (λ ends. ends.0 ≤ ends.1) }
 {
-    let (first, last) = word.split_once('-')?;
-    Some((number_of(first)?, number_of(last)?))
+    for at in 0..word.len() {
+        if let Some(ends) = range_at(names, count, word, at) {
+            return Some(ends);
+        }
+    }
+    None
+}
+
+// The columns around a hyphen that stands at a place.
+fn range_at(names: &StringRecord, count: usize, word: &str, at: usize) -> Option<(usize, usize)>
+    requires { at < length word.now }
+    ensures value { result ≡ range_at (fields_of names.now) count word.now at }
+    ensures ordered { IfSome result (λ ends. ends.0 ≤ ends.1) }
+{
+    if word.as_bytes()[at] != b'-' {
+        return None;
+    }
+    let start = column_of(names, count, &word[..at])?;
+    let end = end_of(names, count, &word[at + 1..])?;
+    if start < end {
+        Some((start, end))
+    } else {
+        None
+    }
+}
+
+// The position after the last column of a range, by what stands behind its hyphen.
+fn end_of(names: &StringRecord, count: usize, word: &str) -> Option<usize>
+    ensures { result ≡ end_of (fields_of names.now) count word.now }
+{
+    if word.is_empty() {
+        Some(count)
+    } else {
+        Some(column_of(names, count, word)? + 1)
+    }
 }
 
 // The positions from one on, before another.
@@ -298,7 +360,8 @@ fn kind_at(
     }
 }
 
-fn seen_text(alloc: Global, field: &str) -> Result<String, AllocError>
+/// What is seen of a field whose sequences are kept.
+pub(crate) fn seen_text(alloc: Global, field: &str) -> Result<String, AllocError>
     ensures { IfOk result (λ text. string_bytes text ≡ visible_text field.now) }
 {
     match visible_text(alloc, field) {

@@ -24,11 +24,14 @@ pub enum CsvError {
     /// are counted as for `NotUtf8`.
     #[error("line {0} isn't UTF-16")]
     NotUtf16(u64),
+    /// A quote that opens a field in this line is never closed. Lines are counted as for `NotUtf8`.
+    #[error("a quote that opens in line {0} is never closed")]
+    Unclosed(u64),
     /// The delimiter isn't ASCII, and stands inside a character of a record.
     #[error("the delimiter splits a character")]
     SplitCharacter,
     /// A list of columns has this word, and chooses no column that is there.
-    #[error("there is no column {0}")]
+    #[error("no column {0}")]
     NoColumn(String),
     /// The column of this name, or of this number where there is no header, is to stand at the right and at the left.
     #[error("column {0} can't stand at the right and at the left")]

@@ -1,13 +1,15 @@
 //! What is so of every field and record. The functions do nothing: their clauses are the laws, so that a proof of yours
 //! can cite them.
 
-ghost use Rattle.std.specs.Prelude.{Bool, List, Option, ℕ};
+ghost use Rattle.std.specs.Prelude.{◌≡◌, Bool, List, Option, ℕ};
 ghost use Rattle.comfy_parts.specs.Text.{Text};
 ghost use Rattle.comfy_csv_parts.specs.Cleaning.{HoldsNoControls, IsCleanedOnce};
 ghost use Rattle.comfy_csv_parts.specs.Controls.{IsStyleWithoutControls};
+ghost use Rattle.comfy_csv_parts.specs.Delimiter.{LeavesOutLines};
 ghost use Rattle.comfy_csv_parts.specs.Encoding.{IsItsOwnText, IsReadBack as IsUtf16ReadBack};
 ghost use Rattle.comfy_csv_parts.specs.Input.{RecordsAreText};
 ghost use Rattle.comfy_csv_parts.specs.Markdown.{IsReadBack};
+ghost use Rattle.comfy_csv_parts.specs.Quotes.{IsUnclosed};
 ghost use Rattle.comfy_csv_parts.specs.Styles.{style_for};
 ghost use Rattle.comfy_csv_parts.specs.declared.cleaning.Kept.{Kept};
 ghost use Rattle.comfy_csv_parts.specs.declared.encoding.ByteOrder.{ByteOrder};
@@ -31,7 +33,12 @@ pub fn styles_for_words_hold_no_controls()
 
 /// The records of a text are texts, where the delimiter is ASCII.
 pub fn records_of_texts_are_texts()
-    ensures { (delimiter : ℕ) (input : List ℕ) (records : List (List (List ℕ))) → RecordsAreText delimiter input records }
+    ensures { (delimiter : ℕ) (has_quotes : Bool) (input : List ℕ) (records : List (List (List ℕ))) → RecordsAreText delimiter has_quotes input records }
+{}
+
+/// Where something is left below so many lines, as many line breaks stand before it as `NotUtf8` counts.
+pub fn lines_are_left_out_as_they_are_counted()
+    ensures { (count : ℕ) (text : List ℕ) → LeavesOutLines count text }
 {}
 
 /// ASCII is its own text, in UTF-8 and in Windows-1252.
@@ -43,4 +50,9 @@ pub fn ascii_is_its_own_text()
 /// where no encoding was asked for.
 pub fn texts_in_utf16_are_read_back()
     ensures { (order : ByteOrder) (characters : List ℕ) → IsUtf16ReadBack order characters }
+{}
+
+/// At most one quote of a text opens a field that the text's end doesn't close.
+pub fn unclosed_quotes_stand_alone()
+    ensures { (delimiter : ℕ) (text one other : List ℕ) → IsUnclosed delimiter text one → IsUnclosed delimiter text other → one ≡ other }
 {}

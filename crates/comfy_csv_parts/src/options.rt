@@ -1,19 +1,33 @@
 //! What a caller may choose about the drawing of records.
 
+use crate::delimiter::Delimiter;
+use crate::encoding::Encoding;
 use comfy_parts::style::{CellAlignment, TableStyle};
 
 /// Which records and columns are drawn, and how.
 #[derive(Debug, Drop)]
 pub struct Options {
-    /// The byte between fields.
-    pub delimiter: u8,
+    /// How the input is written as bytes. Where that isn't said, an input that begins with a byte-order mark of UTF-16 is
+    /// UTF-16, and any other one UTF-8.
+    pub encoding: Option<Encoding>,
+    /// How many lines at the input's front are left out. A line ends at a line feed, a carriage return, or both, also between
+    /// quotes.
+    pub skip: usize,
+    /// What stands between fields.
+    pub delimiter: Delimiter,
+    /// Whether quotes around a field aren't part of it. A quote that opens one and is never closed is refused then.
+    pub has_quotes: bool,
     /// Whether the first record is the header.
     pub has_header: bool,
     /// How many records below the header are drawn; all where there is no limit.
     pub limit: Option<usize>,
     /// The columns in the order in which they are drawn, by words; an empty list stands for all of them. A word is a
-    /// column's number, counted from 1, else its name, else two numbers around a hyphen.
+    /// column's number, counted from 1, else its name, else a range around a hyphen. Each end of a range is a number,
+    /// else a name; nothing behind the hyphen stands for the last column. Of several hyphens the first one counts around
+    /// which both ends are there, in order.
     pub columns: Vec<String>,
+    /// Columns that aren't drawn, by such words.
+    pub dropped: Vec<String>,
     /// Columns that stand at the right, by such words.
     pub right: Vec<String>,
     /// Columns that stand at the left, by such words; one that is in both lists is refused.

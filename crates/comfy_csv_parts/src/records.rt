@@ -10,15 +10,21 @@ use csv::{Error, ErrorKind, ReaderBuilder, StringRecord};
 use std::alloc::Global;
 
 /// All records of a text, whose fields stand between delimiters. Records may have different numbers of fields. A
-/// byte-order mark at the beginning is dropped.
+/// byte-order mark at the beginning is dropped. Without quotes, a quote is a character of its field.
 ///
 /// `SplitCharacter` comes only of a delimiter that isn't ASCII.
-pub fn records_of(alloc: Global, text: &str, delimiter: u8) -> Result<Vec<StringRecord>, CsvError>
-    ensures all { IfOk result (λ records. AreRecordsOf delimiter text.now (map fields_of records.items)) }
-    ensures refused { IfErr result (λ e. IsReadingRefusal delimiter text.now e) }
+pub fn records_of(
+    alloc: Global,
+    text: &str,
+    delimiter: u8,
+    has_quotes: bool,
+) -> Result<Vec<StringRecord>, CsvError>
+    ensures all { IfOk result (λ records. AreRecordsOf delimiter has_quotes text.now (map fields_of records.items)) }
+    ensures refused { IfErr result (λ e. IsReadingRefusal delimiter has_quotes text.now e) }
 {
     let reader = ReaderBuilder::new()
         .delimiter(delimiter)
+        .quoting(has_quotes)
         .has_headers(false)
         .flexible(true)
         .from_reader(alloc, text.as_bytes());

@@ -1,6 +1,7 @@
 //! The text of an input.
 
 ghost use Rattle.std.specs.Prelude.{◌≡◌, ◌+◌, IfErr, IfOk, IsUtf8};
+ghost use Rattle.csv.specs.Reading.{strip_bom};
 ghost use Rattle.comfy_csv_parts.specs.Input.{IsTextRefusal, line_breaks};
 
 use crate::error::CsvError;
@@ -30,4 +31,11 @@ pub(crate) fn line_after(bytes: &[u8]) -> u64
         after_return = *byte == b'\r';
     }
     line
+}
+
+// The text without a byte-order mark in front.
+pub(crate) fn without_mark(text: &str) -> &str
+    ensures { result.now ≡ strip_bom text.now }
+{
+    text.strip_prefix('\u{FEFF}').unwrap_or(text)
 }

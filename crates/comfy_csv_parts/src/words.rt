@@ -1,7 +1,8 @@
 //! The words of the program, as a table for clap.
 
-ghost use Rattle.std.specs.Prelude.{◌≡◌, IfOk, map};
+ghost use Rattle.std.specs.Prelude.{◌≡◌, IfOk, Some, map};
 ghost use Rattle.clap.specs.Words.{app_of, rule_of};
+ghost use Rattle.clap.specs.declared.builder.value_parser.ValueParser.TheVariants as vp;
 ghost use Rattle.comfy_csv_parts.specs.Program.{IsCsvtable, bare};
 ghost use Rattle.comfy_csv_parts.specs.Rules.{lettered, rule_for, with_values};
 ghost use Rattle.comfy_csv_parts.specs.Styles.{style_names};
@@ -33,22 +34,51 @@ enum Kind {
     Count,
     Style,
     When,
+    Encoding,
 }
 
-static WORDS: [Word; 20] = [
+static WORDS: [Word; 25] = [
     Word {
         name: "file",
         letter: None,
         kind: Kind::File,
         value: "FILE",
-        help: "The file to read; standard input where it is missing or `-`",
+        help: "The file to read; `-` or none for standard input",
     },
     Word {
         name: "delimiter",
         letter: Some('d'),
         kind: Kind::Text,
         value: "CHAR",
-        help: "What stands between fields; a comma without it, `tab` for TAB",
+        help: "What stands between fields: a character, `tab`, or\n`auto`, which finds it [default: auto]",
+    },
+    Word {
+        name: "tabs",
+        letter: Some('t'),
+        kind: Kind::Letter,
+        value: "",
+        help: "As `-d tab`",
+    },
+    Word {
+        name: "encoding",
+        letter: Some('e'),
+        kind: Kind::Encoding,
+        value: "NAME",
+        help: "How the file is written: utf-8, cp1252 or latin1, or\nutf-16 [default: utf-16 behind its mark, else utf-8]",
+    },
+    Word {
+        name: "no-quotes",
+        letter: None,
+        kind: Kind::Flag,
+        value: "",
+        help: "Quotes are characters like others",
+    },
+    Word {
+        name: "skip",
+        letter: None,
+        kind: Kind::Count,
+        value: "N",
+        help: "Leave out the first N lines",
     },
     Word {
         name: "no-header",
@@ -62,21 +92,28 @@ static WORDS: [Word; 20] = [
         letter: None,
         kind: Kind::Count,
         value: "N",
-        help: "Draw the first N records, and say below how many there are",
+        help: "Draw the first N records, and say how many there are",
     },
     Word {
         name: "columns",
         letter: Some('c'),
         kind: Kind::Text,
         value: "LIST",
-        help: "Draw these columns, by name or number and in this order, as `name,3-5`",
+        help: "Draw these columns in this order, by number, name or\nrange, as `name,3-5,7-`",
+    },
+    Word {
+        name: "drop",
+        letter: None,
+        kind: Kind::Text,
+        value: "LIST",
+        help: "Leave these columns out",
     },
     Word {
         name: "right",
         letter: Some('r'),
         kind: Kind::Text,
         value: "LIST",
-        help: "Columns at the right, beside those that hold numbers alone",
+        help: "Columns at the right, beside those of numbers",
     },
     Word {
         name: "left",
@@ -90,7 +127,7 @@ static WORDS: [Word; 20] = [
         letter: Some('w'),
         kind: Kind::Width,
         value: "N",
-        help: "The width to keep to, 0 for none; in a terminal COLUMNS without it, else 80",
+        help: "The width to keep to, 0 for none [default: in a\nterminal COLUMNS or 80, else none]",
     },
     Word {
         name: "full",
@@ -111,14 +148,14 @@ static WORDS: [Word; 20] = [
         letter: None,
         kind: Kind::When,
         value: "WHEN",
-        help: "A record as names and fields; `auto` is where columns would be too narrow [default: auto]",
+        help: "Records as names and fields: always, never, or auto,\nwhere columns would be too narrow [default: auto]",
     },
     Word {
         name: "style",
         letter: Some('s'),
         kind: Kind::Style,
         value: "NAME",
-        help: "How the frame looks [default: rounded]",
+        help: "How the frame looks, see below [default: rounded]",
     },
     Word {
         name: "rows",
@@ -153,7 +190,7 @@ static WORDS: [Word; 20] = [
         letter: None,
         kind: Kind::When,
         value: "WHEN",
-        help: "The header in bold; `auto` is in a terminal, unless NO_COLOR is set [default: auto]",
+        help: "The header in bold: always, never, or auto, in a\nterminal unless NO_COLOR is set [default: auto]",
     },
     Word {
         name: "ansi",
@@ -167,22 +204,33 @@ static WORDS: [Word; 20] = [
         letter: None,
         kind: Kind::Flag,
         value: "",
-        help: "Characters that turn the direction of text stay as they are",
+        help: "Characters that turn the direction of text stay",
     },
     Word {
         name: "raw",
         letter: None,
         kind: Kind::Flag,
         value: "",
-        help: "Leave TABs and control characters in fields as they are",
+        help: "Leave TABs and control characters as they are",
     },
 ];
 
 // Interactive shells keep `COLUMNS` to themselves.
-static AFTER_HELP: &str =
-    "For the width of your terminal: alias csvtable='COLUMNS=$COLUMNS csvtable'";
+static AFTER_HELP: &str = "\
+Styles: rounded, box, grid, ascii, plain, markdown, and NOTHING, ASCII_MARKDOWN,
+ASCII_BORDERS_ONLY_CONDENSED; ASCII_ or UTF8_ before FULL, FULL_CONDENSED,
+NO_BORDERS, BORDERS_ONLY or HORIZONTAL_ONLY; all in any case of letters.
+
+Examples:
+  csvtable -r price list.csv                  one column at the right
+  csvtable -c name,3-5 --limit 20 big.csv     some columns of the first records
+  csvtable -e cp1252 --skip 4 bank.csv        what a bank sends
+
+For the width of your terminal: alias csvtable='COLUMNS=$COLUMNS csvtable'";
 
 static WHENS: [&str; 3] = ["auto", "always", "never"];
+
+static ENCODINGS: [&str; 4] = ["utf-8", "cp1252", "latin1", "utf-16"];
 
 // The words of `csvtable`, for clap, with these names of styles.
 pub(crate) fn command<'a>(alloc: Global, styles: &'a [&'a str]) -> Result<Command<'a>, AllocError>
@@ -231,8 +279,16 @@ fn with_value<'a>(arg: Arg<'a>, kind: Kind, styles: &'a [&'a str]) -> Arg<'a>
     match kind {
         Kind::Width => arg.value_parser(value_parser!(u16)),
         Kind::Count => arg.value_parser(value_parser!(usize)),
-        Kind::Style => arg.value_parser(styles).ignore_case(true),
-        Kind::When => arg.value_parser(WHENS.as_slice()),
+        Kind::Style => with_names(arg, styles).ignore_case(true),
+        Kind::When => with_names(arg, WHENS.as_slice()),
+        Kind::Encoding => with_names(arg, ENCODINGS.as_slice()).ignore_case(true),
         _ => arg,
     }
+}
+
+// A word whose value is one of these names, which its help text tells in fewer words than clap would.
+fn with_names<'a>(arg: Arg<'a>, names: &'a [&'a str]) -> Arg<'a>
+    ensures { bare (rule_of result) ≡ (record (bare (rule_of arg.entry)).0 { parser = Some vp.String }, map (λ name. name.now) names.now) }
+{
+    arg.value_parser(names).hide_possible_values(true)
 }

@@ -1,11 +1,19 @@
 -- What a device over a reader or a writer is.
-use Rattle.std.specs.Prelude.{◌≡◌, Bool, true, false, List, ℕ, [], Option, Some, if◌then◌else◌}
+use Rattle.std.specs.Prelude.{◌≡◌, Bool, true, false, List, ℕ, [], Option, Some, Result, Ok, Err, if◌then◌else◌}
+use Rattle.std.specs.IoError.{error_kind}
+use Rattle.std.specs.declared.io.Error.{Error}
+use Rattle.std.specs.declared.io.ErrorKind.{ErrorKind}
 
--- a reader, whether it has failed, and whether its end was read
+-- a reader, the kind of the error with which it failed, and whether its end was read
 pub record ReaderValue (R : Type 0) : Type 0 where
   pub reader : R
-  pub failed : Bool
+  pub fault : Option ErrorKind
   pub ended : Bool
+
+-- the kind of the last error, after this answer
+abbrev pub fault_after : {T : Type 0} → Result T Error → Option ErrorKind → Option ErrorKind
+fault_after (Ok x) fault = fault
+fault_after (Err error) fault = Some (error_kind error)
 
 -- a writer, whether it has failed, and whether that was since no reader was left
 pub record ToWriterValue (W : Type 0) : Type 0 where

@@ -1,9 +1,9 @@
 //! Devices over readers and writers, which keep whether those have failed.
 
-ghost use Rattle.std.specs.Prelude.{◌≡◌, ◌||◌, ◌↔◌, IfErr, IfOk, Ok, is_err, false, true};
+ghost use Rattle.std.specs.Prelude.{◌≡◌, ◌||◌, ◌↔◌, IfErr, IfOk, None, Ok, Some, is_err, is_some, false, true};
 ghost use Rattle.std.specs.IoError.{error_kind};
 ghost use Rattle.comfy_run.specs.Device.{is_end};
-ghost use Rattle.comfy_run.specs.Stream.{left_before, none_is_left};
+ghost use Rattle.comfy_run.specs.Stream.{fault_after, left_before, none_is_left};
 
 use crate::device::{DeviceFault, Sink, Source};
 use std::io::{self, ErrorKind, Read, Write};
@@ -13,7 +13,8 @@ use std::marker::Model;
 #[derive(Drop)]
 pub struct FromReader<R> {
     reader: R,
-    failed: bool,
+    // the kind of the error with which it failed
+    fault: Option<ErrorKind>,
     ended: bool,
 }
 
@@ -22,49 +23,60 @@ impl<R> Model for FromReader<R> {
 
     ghost Value = { ReaderValue R };
 
-    ghost view = { λ s. record { reader = s.reader; failed = s.failed; ended = s.ended } };
+    ghost view = { λ s. record { reader = s.reader; fault = s.fault; ended = s.ended } };
 }
 
 impl<R: Read> FromReader<R> {
     /// A source of the bytes that the reader gives from here on. It takes no memory.
     pub fn new(reader: R) -> FromReader<R>
-        ensures { result ≡ record { reader = reader; failed = false; ended = false } }
+        ensures { result ≡ record { reader = reader; fault = None; ended = false } }
     {
         FromReader {
             reader,
-            failed: false,
+            fault: None,
             ended: false,
         }
+    }
+
+    /// The kind of the error with which the reader failed; none where it didn't.
+    pub fn fault(&self) -> Option<ErrorKind>
+        ensures { result ≡ self.now.fault }
+    {
+        self.fault
     }
 
     // What the reader said of so much room, as the source keeps and answers it.
     fn kept(&mut self, said: io::Result<usize>, room: usize) -> Result<usize, DeviceFault>
         ensures count { IfOk result (λ count. said ≡ Ok count) }
         ensures fault { is_err result ≡ is_err said }
-        ensures after { self.new ≡ record self.old { failed = self.old.failed || is_err said; ended = self.old.ended || is_end said room } }
+        ensures after { self.new ≡ record self.old { fault = fault_after said self.old.fault; ended = self.old.ended || is_end said room } }
     {
-        let Ok(count) = said else {
-            self.failed = true;
-            return Err(DeviceFault);
-        };
-        if count == 0 && room > 0 {
-            self.ended = true;
+        match said {
+            Ok(count) => {
+                if count == 0 && room > 0 {
+                    self.ended = true;
+                }
+                Ok(count)
+            }
+            Err(error) => {
+                self.fault = Some(error.kind());
+                Err(DeviceFault)
+            }
         }
-        Ok(count)
     }
 }
 
 impl<R: Read> Source for FromReader<R> {
     ghost remaining = { λ s. left_before s.ended (R.remaining s.reader) };
 
-    ghost has_failed = { λ s. s.failed };
+    ghost has_failed = { λ s. is_some s.fault };
 
     ghost end_was_read = { λ s. s.ended };
 
     ghost ended = { λ s. none_is_left s.ended (R.remaining s.reader) };
 
     fn read(&mut self, buffer: &mut [u8]) -> Result<usize, DeviceFault> {
-        if self.failed {
+        if self.fault.is_some() {
             return Err(DeviceFault);
         }
         if self.ended {

@@ -2,11 +2,12 @@
 use Rattle.std.specs.Prelude.{◌≡◌, ◌<◌, ◌≤◌, List, All, length, Ok}
 use Rattle.comfy_parts.specs.Text.{Text, measure}
 use Rattle.comfy_csv_parts.specs.declared.options.Options.{Options}
-use Rattle.comfy_csv.specs.Drawn.{ContentValue, IsOutputFor, content_of}
+use Rattle.comfy_csv.specs.Drawn.{ContentValue, IsOutputFor, IsOutputOf, content_of}
 use Rattle.comfy_csv.specs.Laws.{EachText}
 use Rattle.comfy_csv.specs.MarkdownLines.{GivesRecordsBack}
 
 -- the records of an input are given back by its output, where no field is too wide and a column is drawn
 abbrev pub GivesInputBack : Options → Text → Text → Type 0
 GivesInputBack options input output =
-    (made : IsOutputFor options input output) × (EachText (λ text. measure text ≤ 65535) options.look made.records → 0 < length made.is_output.content.columns → GivesRecordsBack options made.records output)
+    (made : IsOutputFor options input output)
+    × ((drawn : IsOutputOf options made.records output) → EachText (λ text. measure text ≤ 65535) options.look made.records → 0 < length drawn.content.columns → GivesRecordsBack options made.records output)

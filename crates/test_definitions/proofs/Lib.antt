@@ -1,6 +1,7 @@
 mod AddedRowTrials
 mod ArgumentTrials
 mod ClosedLineTrials
+mod ColumnTrials
 mod ControlTrials
 mod DrawingTrials
 mod EncodingTrials
@@ -12,12 +13,15 @@ mod OutputControlTrials
 mod PartTrials
 mod PremiseTrials
 mod PresetTrials
+mod QuoteTrials
+mod ReadingTrials
 mod RecordTrials
 mod StraightTrials
 mod StyleModifierTrials
 mod StylingTrials
 mod ThreePlacesTrials
 mod TrialTables
+mod UnbrokenTrials
 mod ValueTrials
 mod VisibleTextTrials
 mod WidthTrials

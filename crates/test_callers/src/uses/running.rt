@@ -1,6 +1,6 @@
 //! Callers that run the program, and make its devices.
 
-ghost use Rattle.std.specs.Prelude.{◌≡◌, ◌≤◌, ◌++◌, IfOk, List, Some, false, length, take, true, ℕ};
+ghost use Rattle.std.specs.Prelude.{◌≡◌, ◌≤◌, ◌++◌, IfOk, List, None, Some, false, is_some, length, take, true, ℕ};
 ghost use Rattle.comfy_parts.specs.Presets.{ascii_full};
 ghost use Rattle.comfy_parts.specs.Text.{measure};
 ghost use Rattle.comfy_run.specs.Counts.{EachLineHas, IsPrintableInput};
@@ -36,7 +36,7 @@ pub fn asks_for_no_number<R: Source, W: Sink, F: Sink>(
 
 /// The devices over a reader and a writer. Neither has failed, and the reader's end wasn't read yet.
 pub fn devices_over<R: Read, W: Write>(reader: R, writer: W) -> (FromReader<R>, ToWriter<W>)
-    ensures { result ≡ (record { reader = reader; failed = false; ended = false }, record { writer = writer; failed = false; unread = false }) }
+    ensures { result ≡ (record { reader = reader; fault = None; ended = false }, record { writer = writer; failed = false; unread = false }) }
 {
     (FromReader::new(reader), ToWriter::new(writer))
 }
@@ -81,7 +81,7 @@ pub fn drew_all<R: Read, W: Write, E: Write>(
     sink: &mut ToWriter<W>,
     messages: &mut ToWriter<E>,
 ) -> bool
-    ensures read { result ≡ true → (source.new.ended ≡ true) × (source.new.failed ≡ false) }
+    ensures read { result ≡ true → (source.new.ended ≡ true) × (is_some source.new.fault ≡ false) }
     ensures written { result ≡ true → sink.old.failed ≡ false → sink.new.failed ≡ false }
 {
     program(alloc, words, source, sink, messages) == 0

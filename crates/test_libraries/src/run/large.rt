@@ -2,7 +2,7 @@
 //! rules, since each is one piece many times over.
 
 use crate::support::{assert_bytes, sink_of};
-use comfy_csv::{Expansion, Look, Options, RowSeparators, draw};
+use comfy_csv::{Delimiter, Expansion, Look, Options, RowSeparators, draw};
 use comfy_run::run::{FromReader, MemorySource, Settings, ToWriter, run};
 use comfy_table::ContentArrangement;
 use comfy_table::presets::ASCII_FULL;
@@ -228,10 +228,14 @@ fn assert_streamed(
 // How records are drawn in this width.
 fn options(alloc: Global, width: Option<u16>, has_sequences: bool) -> Options {
     Options {
-        delimiter: b',',
+        encoding: None,
+        skip: 0,
+        delimiter: Delimiter::Auto,
+        has_quotes: true,
         has_header: true,
         limit: None,
         columns: Vec::new(alloc),
+        dropped: Vec::new(alloc),
         right: Vec::new(alloc),
         left: Vec::new(alloc),
         look: Look {

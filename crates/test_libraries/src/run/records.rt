@@ -15,6 +15,11 @@ fn refusals_have_their_words(rt: HostRuntime) {
     assert_words(&rt, &CsvError::NotUtf16(3), "line 3 isn't UTF-16");
     assert_words(
         &rt,
+        &CsvError::Unclosed(3),
+        "a quote that opens in line 3 is never closed",
+    );
+    assert_words(
+        &rt,
         &CsvError::SplitCharacter,
         "the delimiter splits a character",
     );
@@ -24,10 +29,10 @@ fn refusals_have_their_words(rt: HostRuntime) {
 #[test]
 fn delimiters_that_are_not_ascii(rt: HostRuntime) {
     for delimiter in [195, 169] {
-        let split = records_of(rt.alloc(), "a,b\né,d\n", delimiter);
+        let split = records_of(rt.alloc(), "a,b\né,d\n", delimiter, true);
         assert!(rt; matches!(&split, Err(CsvError::SplitCharacter)));
     }
-    let whole = records_of(rt.alloc(), "a,b\né,d\n", 255).expect(&rt, "records");
+    let whole = records_of(rt.alloc(), "a,b\né,d\n", 255, true).expect(&rt, "records");
     assert!(rt; whole.len() == 2);
     assert!(rt; whole[1].get(0) == Some("é,d"));
 }

@@ -1,7 +1,6 @@
-use Rattle.std.proofs.Common.{◌≡◌, inl, inr, ◌∙◌, Err, ap, sym, rules}
+use Rattle.std.proofs.Common.{◌≡◌, inl, inr, ◌∙◌, Err, sym, rules}
 use Rattle.clap.specs.Words.{app_of, found_of}
 use Rattle.comfy_csv_parts.proofs.ProgramLemmas.{csvtable_is_simple, not_taken}
-use Rattle.comfy_csv_parts.specs.Words.{delimiter_for}
 use Rattle.comfy_csv_parts.proofs.arguments.asked_by.Goals as goal
 
 pub returns-in_err-matches-clause-refused : goal.returns-in_err-matches-clause-refused
@@ -27,7 +26,7 @@ returns-clause-refused c no_memory =
       record {
         found = found_of c.in_ok-matches.matches;
         are_found = record { app = app_of c.args.command.now; is_csvtable = c.requires; is_found = (c.in_ok-matches.ensures.ok.2 (csvtable_is_simple _ c.requires)).0 };
-        in_vain = inr (sym (ap delimiter_for c.get_str.ensures) ∙ sym c.delimiter_of.ensures ∙ c.in-None.is);
+        in_vain = inr (sym c.wanted_delimiter.ensures ∙ c.in-None.is);
       },
       c.refusal-in-None.ensures no_memory,
     )

@@ -7,7 +7,7 @@ use Rattle.comfy_csv_parts.specs.Input.{config_for}
 use Rattle.comfy_csv_parts.proofs.records.records_of.Given as goal
 
 abbrev pub invariant-loop-record : goal.invariant-loop-record
-invariant-loop-record l = (l.record-iterator.rdr.trim ≡ trim.None) × Ready l.record-iterator.rdr × (0 < l.record-iterator.left) × (l.record-iterator.rdr.config ≡ config_for l.fn.delimiter)
+invariant-loop-record l = (l.record-iterator.rdr.trim ≡ trim.None) × Ready l.record-iterator.rdr × (0 < l.record-iterator.left) × (l.record-iterator.rdr.config ≡ config_for l.fn.delimiter l.fn.has_quotes)
     × (y : List ℕ) × (source_of (λ s. Some s.now) l.record-iterator.rdr ≡ Some y)
-    × Reached (config_for l.fn.delimiter) st.StartRecord (strip_bom l.fn.text) (map fields_of l.records.items) l.record-iterator.rdr.state y
+    × Reached (config_for l.fn.delimiter l.fn.has_quotes) st.StartRecord (strip_bom l.fn.text) (map fields_of l.records.items) l.record-iterator.rdr.state y
     × All AllText (map fields_of l.records.items)

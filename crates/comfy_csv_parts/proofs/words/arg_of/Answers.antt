@@ -18,6 +18,7 @@ valued kind.Width name rule no_file no_flag no_letter = refl
 valued kind.Count name rule no_file no_flag no_letter = refl
 valued kind.Style name rule no_file no_flag no_letter = refl
 valued kind.When name rule no_file no_flag no_letter = refl
+valued kind.Encoding name rule no_file no_flag no_letter = refl
 
 pub returns-in-File : goal.returns-in-File
 unfolding rule_for

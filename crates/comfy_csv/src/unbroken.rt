@@ -1,0 +1,146 @@
+//! Columns of numbers and dates, which aren't broken over lines where there is room.
+
+ghost use Rattle.std.specs.Prelude.{◌≡◌, ◌-◌, ◌^◌, IfOk, OnOk, Some, false, min, nat_le, slice_get, true, unwrap_or};
+ghost use Rattle.std.specs.List.{list_any};
+ghost use Rattle.comfy_csv.specs.Unbroken.{framed_width, kept_whole, needed_content, needed_contents, unbroken_columns, whole_column, with_whole};
+ghost use Rattle.comfy_csv.specs.WholeAt.{whole_at};
+
+use crate::content::Content;
+use comfy_csv_parts::{Look, is_unbroken_column};
+use comfy_table::utils::arrangement::helper::count_border_columns;
+use comfy_table::{Column, ColumnConstraint, Result, Table};
+use std::alloc::{AllocError, Global};
+
+// How many terminal columns of its content another column needs at most.
+const NEEDED_CONTENT: u16 = 8;
+
+/// Lets the columns of numbers and dates be as wide as their contents, where a width is kept that has room for all of them
+/// and for what the other columns need.
+pub(crate) fn keep_whole(table: &mut Table, content: &Content<'_>, look: &Look) -> Result<()>
+    ensures { OnOk result (table.new ≡ kept_whole look.now.width (unbroken_columns look.now.has_sequences content.now.columns content.now.rows) table.old) }
+{
+    let Some(width) = look.width else {
+        return Ok(());
+    };
+    let unbroken = unbroken_columns(content, look.has_sequences)?;
+    keep_columns(table, unbroken.as_slice(), width)
+}
+
+// Lets these columns be so where there is one, and there is room.
+fn keep_columns(table: &mut Table, unbroken: &[bool], width: u16) -> Result<()>
+    ensures { OnOk result (table.new ≡ kept_whole (Some width) unbroken.now table.old) }
+{
+    if !has_unbroken(unbroken) {
+        return Ok(());
+    }
+    let contents = table.column_max_content_widths()?;
+    let needed = needed_contents(*contents.allocator(), unbroken, contents.as_slice())?;
+    if has_room(table, needed.as_slice(), width) {
+        set_whole(table, unbroken);
+    }
+    Ok(())
+}
+
+// Of each drawn column, whether it holds numbers and dates alone.
+fn unbroken_columns(
+    content: &Content<'_>,
+    has_sequences: bool,
+) -> std::result::Result<Vec<bool>, AllocError>
+    ensures { IfOk result (λ unbroken. unbroken.items ≡ unbroken_columns has_sequences content.now.columns content.now.rows) }
+{
+    let mut unbroken = Vec::with_capacity(content.alloc, content.columns.len())?;
+    for column in &content.columns {
+        let is_unbroken = is_unbroken_column(
+            content.alloc,
+            column.position,
+            content.rows,
+            has_sequences,
+        )?;
+        unbroken.push(is_unbroken)?;
+    }
+    Ok(unbroken)
+}
+
+// Whether there is such a column.
+fn has_unbroken(unbroken: &[bool]) -> bool
+    ensures { result ≡ list_any (λ is_unbroken. is_unbroken) unbroken.now }
+{
+    unbroken.iter().any(|is_unbroken| *is_unbroken)
+}
+
+// What the columns need of these contents.
+fn needed_contents(
+    alloc: Global,
+    unbroken: &[bool],
+    contents: &[u16],
+) -> std::result::Result<Vec<u16>, AllocError>
+    ensures { IfOk result (λ needed. needed.items ≡ needed_contents unbroken.now contents.now) }
+{
+    let mut needed = Vec::with_capacity(alloc, contents.len())?;
+    for (at, content) in contents.iter().enumerate() {
+        needed.push(needed_content(is_unbroken_at(unbroken, at), *content))?;
+    }
+    Ok(needed)
+}
+
+fn is_unbroken_at(unbroken: &[bool], at: usize) -> bool
+    ensures { result ≡ unwrap_or (slice_get unbroken.now at) false }
+{
+    match unbroken.get(at) {
+        Some(is_unbroken) => *is_unbroken,
+        None => false,
+    }
+}
+
+fn needed_content(is_unbroken: bool, content: u16) -> u16
+    ensures { result ≡ needed_content is_unbroken content }
+{
+    if is_unbroken {
+        content.max(1)
+    } else {
+        content.min(NEEDED_CONTENT).max(1)
+    }
+}
+
+// Whether a width has room for columns of these contents.
+fn has_room(table: &Table, contents: &[u16], width: u16) -> bool
+    ensures { result ≡ nat_le (framed_width table.now.style contents.now) width }
+{
+    framed_width(table, contents) <= usize::from(width)
+}
+
+/// The width of a line of a table over columns of these contents: borders, contents and paddings.
+pub(crate) fn framed_width(table: &Table, contents: &[u16]) -> usize
+    ensures { result ≡ min (2 ^ 64 - 1) (framed_width table.now.style contents.now) }
+{
+    let mut width = count_border_columns(table, contents.len());
+    for content in contents {
+        width = width.saturating_add(2 + usize::from(*content));
+    }
+    width
+}
+
+// Lets these columns be as wide as their contents.
+fn set_whole(table: &mut Table, unbroken: &[bool])
+    ensures { table.new ≡ with_whole unbroken.now table.old }
+{
+    for (at, is_unbroken) in unbroken.iter().enumerate() {
+        if *is_unbroken {
+            set_whole_at(table, at);
+        }
+    }
+}
+
+fn set_whole_at(table: &mut Table, at: usize)
+    ensures { table.new ≡ record table.old { columns = whole_at at table.old.columns } }
+{
+    if let Some(column) = table.column_mut(at) {
+        set_whole_column(column);
+    }
+}
+
+fn set_whole_column(column: &mut Column)
+    ensures { column.new ≡ whole_column true column.old }
+{
+    column.set_constraint(ColumnConstraint::ContentWidth);
+}

@@ -1,0 +1,78 @@
+//! Which columns hold numbers or dates alone, so that their fields aren't broken over lines.
+
+ghost use Rattle.std.specs.Prelude.{◌≡◌, IfOk, chars, length, map, nat_le};
+ghost use Rattle.std.specs.List.{list_all};
+ghost use Rattle.csv.specs.Records.{fields_of};
+ghost use Rattle.comfy_csv_parts.specs.Cells.{field_or_blank};
+ghost use Rattle.comfy_csv_parts.specs.Columns.{seen};
+ghost use Rattle.comfy_csv_parts.specs.Unbroken.{is_of_dates, is_unbroken, is_unbroken_column};
+
+use crate::columns::seen_text;
+use crate::number::is_number;
+use csv::StringRecord;
+use std::alloc::{AllocError, Global};
+
+// How many characters a field has at most that isn't broken.
+const LONGEST: usize = 25;
+
+/// Whether no field of a column is broken over lines: each is at most 25 characters long, and is empty, a number, or of
+/// digits, `-/:.TZ+` and spaces, as dates and times are.
+pub fn is_unbroken_column(
+    alloc: Global,
+    position: usize,
+    rows: &[StringRecord],
+    has_sequences: bool,
+) -> Result<bool, AllocError>
+    ensures { IfOk result (λ yes. yes ≡ is_unbroken_column (map (seen has_sequences) (map fields_of rows.now)) position) }
+{
+    for row in rows {
+        if !is_unbroken_at(alloc, position, row, has_sequences)? {
+            return Ok(false);
+        }
+    }
+    Ok(true)
+}
+
+// Whether the field at a position is such, as it is seen.
+fn is_unbroken_at(
+    alloc: Global,
+    position: usize,
+    row: &StringRecord,
+    has_sequences: bool,
+) -> Result<bool, AllocError>
+    ensures { IfOk result (λ yes. yes ≡ is_unbroken (field_or_blank (seen has_sequences (fields_of row.now)) position)) }
+{
+    let field = row.get(position).unwrap_or("");
+    if has_sequences {
+        let seen = seen_text(alloc, field)?;
+        Ok(is_unbroken(seen.as_str()))
+    } else {
+        Ok(is_unbroken(field))
+    }
+}
+
+// Whether a field is short, and empty, a number, or of the characters of dates and times.
+fn is_unbroken(field: &str) -> bool
+    ensures { result ≡ is_unbroken field.now }
+{
+    is_short(field) && (are_of_dates(field.as_bytes()) || is_number(field))
+}
+
+fn is_short(field: &str) -> bool
+    ensures { result ≡ nat_le (length (chars field.now)) 25 }
+{
+    field.chars().count() <= LONGEST
+}
+
+fn are_of_dates(bytes: &[u8]) -> bool
+    ensures { result ≡ list_all is_of_dates bytes.now }
+{
+    bytes.iter().all(|byte| is_of_dates(*byte))
+}
+
+// A digit, a mark of dates and times, or a space.
+fn is_of_dates(byte: u8) -> bool
+    ensures { result ≡ is_of_dates byte }
+{
+    byte.is_ascii_digit() || matches!(byte, b'-' | b'/' | b':' | b'.' | b'T' | b'Z' | b'+' | b' ')
+}

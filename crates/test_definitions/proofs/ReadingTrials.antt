@@ -1,0 +1,108 @@
+-- What is read of a text: the lines that are left out, and what stands between fields. And which fields aren't broken.
+use Rattle.std.proofs.Common.{◌≡◌, ℕ, Bool, true, false, List, [], ◌∷◌, ◌++◌, Option, Some, None, codes, encode_utf8_all, map, refl}
+use Prim.Native.String.{String}
+use Rattle.std.specs.Fmt.{digits}
+use Rattle.std.specs.List.{list_all, list_any}
+use Rattle.std.specs.Str.{chars}
+use Rattle.std.specs.declared.io.ErrorKind.TheVariants as io
+use Rattle.csv.specs.Machine.{next_record}
+use Rattle.csv.specs.Reading.{records_from, strip_bom}
+use Rattle.ucd_category.proofs.Computing.{ucd_category}
+use Rattle.comfy_parts.specs.Text.{Text}
+use Rattle.comfy_csv.specs.Ending.{encoding_hint, input_name, reading_reason, reason_for}
+use Rattle.comfy_csv_parts.specs.Delimiter.{below_lines, delimited, delimiter_in}
+use Rattle.comfy_csv_parts.specs.Unbroken.{is_unbroken}
+use Rattle.comfy_csv_parts.specs.Words.{delimiter_for, encoding_for}
+use Rattle.comfy_csv_parts.specs.declared.delimiter.Delimiter.{Delimiter}
+use Rattle.comfy_csv_parts.specs.declared.delimiter.Delimiter.TheVariants.{Auto, Byte, NamedOrTab}
+use Rattle.comfy_csv_parts.specs.declared.encoding.Encoding.TheVariants.{Cp1252, Utf16, Utf8}
+use Rattle.comfy_csv_parts.specs.declared.error.CsvError.TheVariants as err
+
+abbrev texts : List String → List Text
+texts words = map (λ (word : String). codes word) words
+
+-- ---- lines
+
+-- a carriage return with a line feed is one end; two line feeds are two, with an empty line between them
+lines_below : map (λ (count : ℕ). below_lines count (codes "a\r\n\nb\rc")) (0 ∷ 1 ∷ 2 ∷ 3 ∷ 4 ∷ 9 ∷ []) ≡ texts ("a\r\n\nb\rc" ∷ "\nb\rc" ∷ "b\rc" ∷ "c" ∷ "" ∷ "" ∷ [])
+lines_below = refl
+
+-- ---- what stands between fields
+
+-- by the first records: the first in the order TAB, `;`, `,`, `|` that parts evenly, else a comma
+even_ones : map (λ (input : String). (delimited Auto true (codes input)).0) ("a\tb\n1\t2\n" ∷ "a;b\n1;2,5\n" ∷ "a,b\n1,2;3\n" ∷ "a|b,c\n1|2\n" ∷ []) ≡ 0x09 ∷ 0x3B ∷ 0x2C ∷ 0x7C ∷ []
+unfolding strip_bom records_from next_record
+even_ones = refl
+
+ties : map (λ (input : String). (delimited Auto true (codes input)).0) ("a,b;c\n1,2;3\n" ∷ "a\tb;c\n" ∷ "a|b,c\n" ∷ []) ≡ 0x3B ∷ 0x09 ∷ 0x2C ∷ []
+unfolding strip_bom records_from next_record
+ties = refl
+
+no_even_ones : map (λ (input : String). (delimited Auto true (codes input)).0) ("" ∷ "a b\n" ∷ "a;b\n1\n" ∷ "a;b\n1;2;3\n" ∷ []) ≡ 0x2C ∷ 0x2C ∷ 0x2C ∷ 0x2C ∷ []
+unfolding strip_bom records_from next_record
+no_even_ones = refl
+
+-- quotes as csv reads them, and as characters
+with_quotes : map (λ (has_quotes : Bool). (delimited Auto has_quotes (codes "\"a;b\",c\n1,2\n")).0) (true ∷ false ∷ []) ≡ 0x2C ∷ 0x2C ∷ []
+unfolding strip_bom records_from next_record
+with_quotes = refl
+
+without_quotes : map (λ (has_quotes : Bool). (delimited Auto has_quotes (codes "\"a;b\"\n1;2\n")).0) (true ∷ false ∷ []) ≡ 0x2C ∷ 0x3B ∷ []
+unfolding strip_bom records_from next_record
+without_quotes = refl
+
+-- a first line that names it, which is no record; also behind a mark, and before the name of a file counts
+by_line : map (λ (delimiter : Delimiter). delimited delimiter true (codes "sep=;\r\na;b\n")) (Auto ∷ NamedOrTab ∷ Byte 0x2C ∷ []) ≡ (0x3B, codes "a;b\n") ∷ (0x3B, codes "a;b\n") ∷ (0x2C, codes "sep=;\r\na;b\n") ∷ []
+unfolding strip_bom records_from next_record
+by_line = refl
+
+behind_a_mark : delimited Auto true ((0xEF ∷ 0xBB ∷ 0xBF ∷ []) ++ codes "SEP=|") ≡ (0x7C, [])
+unfolding strip_bom records_from next_record
+behind_a_mark = refl
+
+by_name : delimited NamedOrTab true (codes "a,b\n") ≡ (0x09, codes "a,b\n")
+unfolding strip_bom records_from next_record
+by_name = refl
+
+named_in_lines : map delimiter_in (texts ("sep=;" ∷ "Sep=\t" ∷ "sep=" ∷ "sep=ab" ∷ "sep=\"" ∷ "sep ;" ∷ "a;b" ∷ [])) ≡ Some 0x3B ∷ Some 0x09 ∷ None ∷ None ∷ None ∷ None ∷ None ∷ []
+named_in_lines = refl
+
+-- ---- words for it
+
+by_words :
+    map (λ (word : Option Text). delimiter_for word (Some (codes "a.csv"))) (None ∷ map Some (texts (";" ∷ "tab" ∷ "TAB" ∷ "AUTO" ∷ "" ∷ "ab" ∷ "\"" ∷ [])))
+    ≡ Some Auto ∷ Some (Byte 0x3B) ∷ Some (Byte 0x09) ∷ Some (Byte 0x09) ∷ Some Auto ∷ None ∷ None ∷ None ∷ []
+by_words = refl
+
+by_escape : delimiter_for (Some (0x5C ∷ 0x74 ∷ [])) None ≡ Some (Byte 0x09)
+by_escape = refl
+
+by_files : map (λ (file : Option Text). delimiter_for None file) (None ∷ map Some (texts ("a.tsv" ∷ "A.TAB" ∷ "tsv" ∷ ".tab" ∷ "a.tsv.csv" ∷ []))) ≡ Some Auto ∷ Some NamedOrTab ∷ Some NamedOrTab ∷ Some Auto ∷ Some NamedOrTab ∷ Some Auto ∷ []
+by_files = refl
+
+encodings : map encoding_for (None ∷ map Some (texts ("utf-8" ∷ "UTF-16" ∷ "cp1252" ∷ "Latin1" ∷ []))) ≡ None ∷ Some Utf8 ∷ Some Utf16 ∷ Some Cp1252 ∷ Some Cp1252 ∷ []
+encodings = refl
+
+-- ---- fields that aren't broken
+
+unbroken : list_all is_unbroken (texts ("" ∷ "-84,50" ∷ "($3.00)" ∷ "02.05.2026" ∷ "2026-05-01T09:10:00+02:00" ∷ "192.168.0.1" ∷ "10:00 - 11:30" ∷ "0042" ∷ [])) ≡ true
+unfolding chars lib.Utf8.encode ucd_category
+unbroken = refl
+
+-- words, and what is longer than 25 characters
+broken : list_any is_unbroken (texts ("n/a" ∷ "May 2" ∷ "1.2.3b" ∷ "12345678901234567890123456" ∷ [])) ≡ false
+unfolding chars lib.Utf8.encode ucd_category
+broken = refl
+
+-- ---- messages
+
+names_of_inputs : map input_name (None ∷ Some (codes "a.csv") ∷ []) ≡ texts ("standard input" ∷ "a.csv" ∷ [])
+unfolding chars lib.Utf8.encode
+names_of_inputs = refl
+
+reasons : map reading_reason (Some io.NotFound ∷ Some io.IsADirectory ∷ Some io.PermissionDenied ∷ Some io.TimedOut ∷ None ∷ []) ≡ texts ("no such file" ∷ "is a directory" ∷ "permission denied" ∷ "can't be read" ∷ "can't be read" ∷ [])
+reasons = refl
+
+hinted : map (λ encoding. reason_for encoding None (err.NotUtf8 12)) (None ∷ Some Utf8 ∷ []) ≡ texts ("line 12 isn't UTF-8; try -e cp1252" ∷ "line 12 isn't UTF-8" ∷ [])
+unfolding digits
+hinted = refl

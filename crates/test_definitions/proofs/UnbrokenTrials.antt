@@ -1,0 +1,60 @@
+-- Which fields aren't broken over lines, and what room their columns need.
+use Rattle.std.proofs.Common.{◌≡◌, ℕ, true, false, List, [], ◌∷◌, Option, Some, None, codes, map, refl}
+use Prim.Native.String.{String}
+use Rattle.std.specs.List.{list_all, list_any}
+use Rattle.std.specs.Str.{chars}
+use Rattle.csv.specs.Records.{field_at}
+use Rattle.ucd_category.proofs.Computing.{ucd_category}
+use Rattle.comfy_parts.proofs.Computing.{wrapping}
+use Rattle.comfy_parts.specs.CellValue.{ColumnValue, plain_cell, plain_row}
+use Rattle.comfy_parts.specs.Presets.{ascii_full}
+use Rattle.comfy_parts.specs.Text.{Text}
+use Rattle.comfy_parts.specs.declared.style.column.ColumnConstraint.{ColumnConstraint}
+use Rattle.comfy_parts.specs.declared.style.column.ColumnConstraint.TheVariants.{ContentWidth}
+use Rattle.comfy_table.specs.TableValue.{TableValue, new_table, with_rows}
+use Rattle.comfy_csv_parts.specs.Unbroken.{is_unbroken, is_unbroken_column}
+use Rattle.comfy_csv.specs.Unbroken.{framed_width, kept_whole, needed_contents}
+
+abbrev texts : List String → List Text
+texts words = map (λ (word : String). codes word) words
+
+-- numbers, dates and times; the longest has 25 characters
+unbroken : list_all is_unbroken (texts ("" ∷ "2026-05-02" ∷ "02.05.2026" ∷ "5/2/26" ∷ "12:30" ∷ "2026-05-02 12:30" ∷ "2026-05-02T12:30:00Z" ∷ "2026-05-02T12:30:00+01:00" ∷ "-1,234.50" ∷ "12 %" ∷ [])) ≡ true
+unfolding chars lib.Utf8.encode ucd_category
+unbroken = refl
+
+-- words, and digits of 26 characters
+broken : list_any is_unbroken (texts ("n/a" ∷ "2026-W18" ∷ "2 May" ∷ "2026-05-02T12:30:00.5+01:00" ∷ "12345678901234567890123456" ∷ [])) ≡ false
+unfolding chars lib.Utf8.encode ucd_category
+broken = refl
+
+-- of two rows the second has one field
+columns : map (is_unbroken_column (texts ("1" ∷ "a" ∷ []) ∷ texts ("2" ∷ []) ∷ [])) (0 ∷ 1 ∷ 2 ∷ []) ≡ true ∷ false ∷ true ∷ []
+unfolding chars lib.Utf8.encode ucd_category field_at
+columns = refl
+
+-- all of the first content, eight of the second, and columns past the list
+needed : needed_contents (true ∷ false ∷ []) (10 ∷ 14 ∷ 3 ∷ 0 ∷ []) ≡ 10 ∷ 8 ∷ 3 ∷ 1 ∷ []
+needed = refl
+
+-- four borders, and two paddings each
+framed : framed_width ascii_full (10 ∷ 9 ∷ 8 ∷ []) ≡ 37
+framed = refl
+
+-- a column of seven letters has a width of eleven with its frame
+abbrev seven : TableValue
+seven = with_rows (plain_row (plain_cell (codes "letters") ∷ []) ∷ []) (new_table ascii_full)
+
+abbrev constraints : Option ℕ → List (Option ColumnConstraint)
+constraints width = map (λ (column : ColumnValue). column.constraint) (kept_whole width (true ∷ []) seven).columns
+
+room : constraints (Some 11) ≡ Some ContentWidth ∷ []
+unfolding wrapping
+room = refl
+
+no_room : constraints (Some 10) ≡ None ∷ []
+unfolding wrapping
+no_room = refl
+
+no_width : constraints None ≡ None ∷ []
+no_width = refl

@@ -1,0 +1,30 @@
+# Completes the words of csvtable in bash.
+_csvtable() {
+  local word=${COMP_WORDS[COMP_CWORD]}
+  case ${COMP_WORDS[COMP_CWORD - 1]} in
+    -e|--encoding)
+      COMPREPLY=($(compgen -W 'utf-8 cp1252 latin1 utf-16' -- "$word"))
+      return
+      ;;
+    --expanded)
+      COMPREPLY=($(compgen -W 'auto always never' -- "$word"))
+      return
+      ;;
+    -s|--style)
+      COMPREPLY=($(compgen -W 'rounded box grid ascii plain markdown ASCII_FULL ASCII_FULL_CONDENSED ASCII_NO_BORDERS ASCII_BORDERS_ONLY ASCII_BORDERS_ONLY_CONDENSED ASCII_HORIZONTAL_ONLY ASCII_MARKDOWN UTF8_FULL UTF8_FULL_CONDENSED UTF8_NO_BORDERS UTF8_BORDERS_ONLY UTF8_HORIZONTAL_ONLY NOTHING' -- "$word"))
+      return
+      ;;
+    --color)
+      COMPREPLY=($(compgen -W 'auto always never' -- "$word"))
+      return
+      ;;
+    -d|--delimiter|--skip|--limit|-c|--columns|--drop|-r|--right|--left|-w|--width|-m|--max-height)
+      return
+      ;;
+  esac
+  case $word in
+    -*) COMPREPLY=($(compgen -W '-d --delimiter -t -e --encoding --no-quotes --skip -n --no-header --limit -c --columns --drop -r --right --left -w --width --full -x --expanded -s --style --rows --no-rows -m --max-height --markdown --color --ansi --bidi --raw -h --help -V --version' -- "$word")) ;;
+    *) COMPREPLY=($(compgen -f -- "$word")) ;;
+  esac
+}
+complete -o filenames -F _csvtable csvtable
