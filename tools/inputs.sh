@@ -31,6 +31,37 @@ sentences() {
     }'
 }
 
+# A header and 2,000 rows of 6 cells of 10 to 60 letters, in words of 1 to 8. The letters of a word are those of one alphabet.
+# Alphabets are parted by slashes, and each begins with a number: how often it is taken among all.
+texts() {
+  awk -v alphabets="$1" '
+    function drawn(count) { state = state * 16807 % 2147483647; return state % count }
+    BEGIN {
+      state = 1
+      kinds = split(alphabets, alphabet, "/")
+      for (kind = 1; kind <= kinds; kind++) {
+        letters[kind] = split(alphabet[kind], parts, " ") - 1
+        sum += often[kind] = parts[1]
+        for (place = 1; place <= letters[kind]; place++) letter[kind, place] = parts[place + 1]
+      }
+      for (row = 0; row <= 2000; row++) {
+        for (cell = 0; cell < 6; cell++) {
+          if (cell > 0) printf "\t"
+          for (left = 10 + drawn(51); left > 0; left--) {
+            kind = 1
+            for (chosen = drawn(sum); chosen >= often[kind]; kind++) chosen -= often[kind]
+            for (size = 1 + drawn(8); size > 0 && left > 0; size--) {
+              printf letter[kind, 1 + drawn(letters[kind])]
+              left--
+            }
+            if (left > 1) printf " "
+          }
+        }
+        print ""
+      }
+    }'
+}
+
 # A header and 10,000 rows of 6 sentences of six words. In every second cell one word stands between two sequences.
 sentences_with_sequences() {
   awk '

@@ -22,7 +22,7 @@ abbrev pub pieces : List Placed → List Text
 pieces xs = map (λ x. x.1) xs
 
 -- a piece begins where those before it end
-begins_at : (n : ℕ) (done : List Placed) (x : Placed) (rest : List Placed) (ps : List Text) → done ++ x ∷ rest ≡ with_offsets n ps → x.0 ≡ n + length (concat (pieces done))
+pub begins_at : (n : ℕ) (done : List Placed) (x : Placed) (rest : List Placed) (ps : List Text) → done ++ x ∷ rest ≡ with_offsets n ps → x.0 ≡ n + length (concat (pieces done))
 unfolding with_offsets
 begins_at n [] x rest [] e = cc
 begins_at n [] x rest (p ∷ ps) e = let f : x ≡ (n, p) = cc in let g : x.0 ≡ n = ap (λ y. y.0) f in omega arith
@@ -37,7 +37,7 @@ begins_at n (y ∷ done) x rest (p ∷ ps) e =
     omega arith
 
 -- the pieces on both sides of one
-around : (done : List Placed) (x : Placed) (rest : List Placed) (ps : List Text) → done ++ x ∷ rest ≡ with_offsets 0 ps → ps ≡ pieces done ++ x.1 ∷ pieces rest
+pub around : (done : List Placed) (x : Placed) (rest : List Placed) (ps : List Text) → done ++ x ∷ rest ≡ with_offsets 0 ps → ps ≡ pieces done ++ x.1 ∷ pieces rest
 around done x rest ps e = sym (map-with_offsets 0 ps) ∙ sym (ap pieces e) ∙ map-append (λ x. x.1) done (x ∷ rest)
 
 pub boundary : (text : Text) (done : List Placed) (x : Placed) (rest : List Placed) → IsUtf8 text → done ++ x ∷ rest ≡ with_offsets 0 (clusters text) → IsCharBoundary text x.0
@@ -63,19 +63,23 @@ within-front k (q ∷ qs) more fits =
 within-wide : (k : ℕ) (p : Text) (more : List Text) → k < measure p → clusters_within k (p ∷ more) ≡ []
 within-wide k p more wide = cond-false (nat_le (measure p) k) _ _ (grind (arith, nat_tests, wide))
 
--- the text before the first cluster that is too wide is the head
+-- the clusters before the first that is too wide are the head
+pub head-before : (k : ℕ) (text : Text) (qs : List Text) (c : Text) (others : List Text) → IsUtf8 text → clusters text ≡ qs ++ c ∷ others → sum_by measure qs ≤ k → k < sum_by measure qs + measure c
+    → take (length (concat qs)) text ≡ head k text
+head-before k text qs c others u parts fits wide =
+    let all : concat qs ++ concat (c ∷ others) ≡ text = sym (concat-append qs (c ∷ others)) ∙ sym (ap concat parts) ∙ concat-segments (is_grapheme_break true) text u in
+    let front : take (length (concat qs)) text ≡ concat qs = ap (take (length (concat qs))) (sym all) ∙ take-append_seam (concat qs) (concat (c ∷ others)) in
+    let taken : head k text ≡ concat qs ++ [] =
+    ap (clusters_within k) parts ∙ within-front k qs (c ∷ others) fits ∙ ap (λ t. concat qs ++ t) (within-wide (k - sum_by measure qs) c others (omega (arith, fits, wide))) in
+    front ∙ sym (taken ∙ append-nil (concat qs))
+
+-- and end where it begins
 pub head-cut : (k : ℕ) (text : Text) (done : List Placed) (x : Placed) (rest : List Placed) → IsUtf8 text → done ++ x ∷ rest ≡ with_offsets 0 (clusters text)
     → sum_by measure (pieces done) ≤ k → k < sum_by measure (pieces done) + measure x.1 → take x.0 text ≡ head k text
 head-cut k text done x rest u e fits wide =
-    let qs = pieces done in
-    let parts : clusters text ≡ qs ++ x.1 ∷ pieces rest = around done x rest (clusters text) e in
     let at = begins_at 0 done x rest (clusters text) e in
-    let all : concat qs ++ concat (x.1 ∷ pieces rest) ≡ text = sym (concat-append qs (x.1 ∷ pieces rest)) ∙ sym (ap concat parts) ∙ concat-segments (is_grapheme_break true) text u in
-    let at_end : x.0 ≡ length (concat qs) = omega arith in
-    let front : take x.0 text ≡ concat qs = ap (λ n. take n text) at_end ∙ ap (take (length (concat qs))) (sym all) ∙ take-append_seam (concat qs) (concat (x.1 ∷ pieces rest)) in
-    let taken : head k text ≡ concat qs ++ [] =
-    ap (clusters_within k) parts ∙ within-front k qs (x.1 ∷ pieces rest) fits ∙ ap (λ t. concat qs ++ t) (within-wide (k - sum_by measure qs) x.1 (pieces rest) (omega (arith, fits, wide))) in
-    front ∙ sym (taken ∙ append-nil (concat qs))
+    let at_end : x.0 ≡ length (concat (pieces done)) = omega arith in
+    ap (λ n. take n text) at_end ∙ head-before k text (pieces done) x.1 (pieces rest) u (around done x rest (clusters text) e) fits wide
 
 -- a text whose clusters all fit is its own head
 pub head-all : (k : ℕ) (text : Text) (done : List Placed) → IsUtf8 text → done ≡ with_offsets 0 (clusters text) → sum_by measure (pieces done) ≤ k → text ≡ head k text

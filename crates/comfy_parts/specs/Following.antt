@@ -1,7 +1,7 @@
 -- Private: an element at a text's front, and what follows it.
 use Rattle.std.specs.Prelude.{◌≡◌, ◌⊎◌, ℕ, ◌<◌, ◌≤◌, List, [], ◌∷◌, ◌++◌, length, take, drop, false, encode_utf8, IsUtf8}
 use Rattle.std.specs.Str.{IsCharBoundary}
-use Rattle.comfy_parts.specs.Text.{Text, measure, elements, begins_with}
+use Rattle.comfy_parts.specs.Text.{Text, measure, head, elements, begins_with}
 
 -- what follows an element: a delimiter and a text of these elements, or nothing where there are none
 abbrev pub Follow : ℕ → List Text → Text → Type 0
@@ -58,3 +58,8 @@ IsMeasuredBehind d text left first columns =
 -- a text ends with another
 abbrev pub EndsWith : Text → Text → Type 0
 EndsWith text end = (front : Text) × (text ≡ front ++ end)
+
+-- the head of a text for k terminal columns is its first bytes, so many
+pub record EndsHead (k : ℕ) (text : Text) (bytes : ℕ) : Type 0 where
+  pub boundary : IsCharBoundary text bytes
+  pub head_is : take bytes text ≡ head k text

@@ -9,10 +9,10 @@ pub mod Items
 pub mod ItemsGiven
 pub mod Laws
 pub mod Lines
+pub mod OwnWidth
 pub mod Presets
 pub mod RowLoans
 pub mod RowReference
-pub mod Simple
 pub mod StyleModifiers
 pub mod Text
 pub mod TextLines

@@ -9,6 +9,7 @@ mod ends;
 mod fitting;
 mod joining;
 mod lines;
+mod own_width;
 mod prefix;
 mod printable;
 mod sequences;

@@ -1,11 +1,16 @@
 //! The head of a text for some terminal columns.
 
-ghost use Rattle.std.specs.Prelude.{◌≡◌, ◌++◌};
-ghost use Rattle.comfy_parts.specs.Text.{head};
+ghost use Rattle.std.specs.Prelude.{◌≡◌, ◌++◌, IfSome, IsUtf8};
+ghost use Rattle.comfy_parts.specs.Following.{EndsHead};
+ghost use Rattle.comfy_parts.specs.Text.{Text, head};
 
 use crate::content_split::width::is_printable;
 use unicode_segmentation::UnicodeSegmentation;
 use unicode_width::UnicodeWidthStr;
+
+// How many times longer the next front is. Where none of them shows the end of the head, all together have at most a third of
+// the word's bytes.
+const GROWTH: usize = 4;
 
 /// The longest front of whole grapheme clusters whose summed measures are at most `allowed_width` terminal columns, and
 /// the rest of the word. It takes no memory.
@@ -19,14 +24,62 @@ pub fn split_long_word(allowed_width: usize, word: &str) -> (&str, &str)
     if is_printable(&word.as_bytes()[..looked_at]) {
         return word.split_at(allowed_width.min(word.len()));
     }
-    let mut left = allowed_width;
+    if let Some(end) = end_by_front(word, allowed_width) {
+        return word.split_at(end);
+    }
+    word.split_at(end_by_clusters(word, allowed_width))
+}
+
+// Where the head of a word ends, by its clusters up to there.
+fn end_by_clusters(word: &str, columns: usize) -> usize
+    ensures { EndsHead columns word.now result }
+{
+    let mut left = columns;
     // Most clusters of such a word aren't ASCII, so they are measured without a look at their bytes.
     for (at, cluster) in word.grapheme_indices(true) {
         let width = cluster.width();
         if width > left {
-            return word.split_at(at);
+            return at;
         }
         left -= width;
     }
-    (word, "")
+    word.len()
+}
+
+// Where the head of a word ends, where a front of it shows that. A cluster may be long, and isn't read further than it takes
+// to see that it is too wide.
+fn end_by_front(word: &str, columns: usize) -> Option<usize>
+    ensures { IfSome result (λ end. EndsHead columns word.now end) }
+{
+    // A front shows that its cluster is too wide where it measures three columns more. Conjuncts have six bytes for a column.
+    let mut size = columns.saturating_add(3).saturating_mul(6);
+    while size <= word.len() / GROWTH {
+        let (front, _) = word.split_at(word.floor_char_boundary(size));
+        if let Some(end) = shown_end(front, columns) {
+            return Some(end);
+        }
+        size *= GROWTH;
+    }
+    None
+}
+
+// Where the head of each text with this front ends, where the front shows that.
+fn shown_end(front: &str, columns: usize) -> Option<usize>
+    ensures { IfSome result (λ end. (rest : Text) → IsUtf8 rest → EndsHead columns (front.now ++ rest) end) }
+{
+    let mut left = columns;
+    for (at, cluster) in front.grapheme_indices(true) {
+        let width = cluster.width();
+        if width > left {
+            // The last cluster may go on behind the front. It then measures at most two columns less than its front does.
+            let goes_on = cluster.len() == front.len() - at;
+            return if goes_on && width <= left.saturating_add(2) {
+                None
+            } else {
+                Some(at)
+            };
+        }
+        left -= width;
+    }
+    None
 }

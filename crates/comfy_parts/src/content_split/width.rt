@@ -2,9 +2,9 @@
 
 ghost use Rattle.std.specs.Prelude.{◌≡◌, ◌+◌, ◌*◌, ◌≤◌, IfSome, length, nat_lt, encode_utf8};
 ghost use Rattle.comfy_parts.specs.Following.{IsWideFrom};
-ghost use Rattle.comfy_parts.specs.Simple.{simple_width};
 ghost use Rattle.comfy_parts.specs.Text.{is_printable_ascii, measure};
 
+use crate::content_split::own_width::own_width;
 use unicode_width::UnicodeWidthStr;
 
 // How many bytes more or less aren't looked for.
@@ -19,48 +19,22 @@ pub fn measure_text_width(text: &str) -> usize
     if is_printable(text.as_bytes()) {
         return text.len();
     }
-    if let Some(columns) = simple_columns(text) {
+    if let Some(columns) = summed_columns(text) {
         return columns;
     }
     text.width()
 }
 
-// The terminal columns of a text whose characters are all simple, counted in one walk.
-fn simple_columns(text: &str) -> Option<usize>
+// The terminal columns of a text whose characters join no other, which add up: counted in one walk.
+fn summed_columns(text: &str) -> Option<usize>
     ensures value { IfSome result (λ columns. columns ≡ measure text.now) }
     ensures bound { IfSome result (λ columns. columns ≤ 2 * length text.now) }
 {
     let mut columns = 0;
     for character in text.chars() {
-        columns += simple_width(character)?;
+        columns += own_width(character)?;
     }
     Some(columns)
-}
-
-// The terminal columns of a simple character: one of ranges in which no character joins another.
-fn simple_width(character: char) -> Option<usize>
-    ensures { result ≡ simple_width character }
-{
-    // Ideographs are by far the most of them. A test of their own keeps them from being looked for among all ranges.
-    if matches!(character, '\u{4e00}'..='\u{9fff}') {
-        return Some(2);
-    }
-    match character {
-        '\u{3000}'..='\u{3029}'
-        | '\u{3041}'..='\u{3096}'
-        | '\u{309b}'..='\u{30ff}'
-        | '\u{3400}'..='\u{4dbf}'
-        | '\u{ac00}'..='\u{d7a3}'
-        | '\u{ff01}'..='\u{ff60}'
-        | '\u{1f600}'..='\u{1f64f}' => Some(2),
-        ' '..='~'
-        | '\u{c0}'..='\u{2ff}'
-        | '\u{370}'..='\u{482}'
-        | '\u{48a}'..='\u{52f}'
-        | '\u{2010}'..='\u{2027}'
-        | '\u{2500}'..='\u{259f}' => Some(1),
-        _ => None,
-    }
 }
 
 /// Whether these bytes are printable ASCII. Each is then a character of one column.

@@ -1,7 +1,7 @@
 use Rattle.std.proofs.Common.{sym, ap, ◌∙◌, subst, arith}
 use Rattle.std.specs.Str.Iter.{chars_rest}
-use Rattle.comfy_parts.proofs.SimpleLemmas.{IsCounted, counted-all, counted-more, counted-none}
-use Rattle.comfy_parts.proofs.content_split.width.simple_columns.Goals as goal
+use Rattle.comfy_parts.proofs.OwnWidthLemmas.{IsCounted, counted-all, counted-more, counted-none}
+use Rattle.comfy_parts.proofs.content_split.width.summed_columns.Goals as goal
 
 pub loop-character-init : goal.loop-character-init
 loop-character-init c =
@@ -10,12 +10,12 @@ loop-character-init c =
 
 pub overflow_add-columns : goal.overflow_add-columns
 overflow_add-columns c =
-    let more = counted-more _ _ _ _ c.in-Some.character c.in_ok-columns.field-0 c.loop-character.invariant c.in-Some.ensures.steps.0 (sym c.simple_width.ensures ∙ c.in_ok-columns.was) in
+    let more = counted-more _ _ _ _ c.in-Some.character c.in_ok-columns.field-0 c.loop-character.invariant c.in-Some.ensures.steps.0 (sym c.own_width.ensures ∙ c.in_ok-columns.was) in
     omega (arith, more.bound)
 
 pub loop-character-preserved : goal.loop-character-preserved
 loop-character-preserved c =
-    counted-more _ _ _ _ c.in-Some.character c.in_ok-columns.field-0 c.loop-character.invariant c.in-Some.ensures.steps.0 (sym c.simple_width.ensures ∙ c.in_ok-columns.was)
+    counted-more _ _ _ _ c.in-Some.character c.in_ok-columns.field-0 c.loop-character.invariant c.in-Some.ensures.steps.0 (sym c.own_width.ensures ∙ c.in_ok-columns.was)
 
 pub returns-clause-value : goal.returns-clause-value
 returns-clause-value c = counted-all _ _ _ c.loop-character.invariant c.in-None.ensures.steps.0.0

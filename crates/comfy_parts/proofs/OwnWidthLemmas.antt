@@ -1,0 +1,141 @@
+-- Characters that join no other take their own columns in every text.
+use Rattle.std.proofs.Common.{◌≡◌, ◌≢◌, ◌≤◌, ℕ, ◌+◌, ◌*◌, Bool, true, false, not, ◌&&◌, ◌||◌, ◌==◌, ◌++◌, Option, Some, None, length, nat_le, sum_by, refl, sym, ap, ap₂, ◌∙◌, arith}
+use Rattle.std.specs.Int.{is_in_range}
+use Rattle.std.specs.List.{list_all}
+use Rattle.std.specs.Prelude.{if◌then◌else◌, chars, encode_utf8, unwrap_or, IsUtf8}
+use Rattle.std.proofs.StrCases.{chars_of_empty}
+use Rattle.std.proofs.lemmas.List.{length-append}
+use Rattle.std.proofs.lemmas.List.Sums.{sum_by-cons}
+use Rattle.std.proofs.lemmas.Str.{IsUtf8-past_char, chars_past_char}
+use Rattle.unicode_segmentation.proofs.TextLemmas.{encode_utf8_nonempty}
+use Rattle.std.proofs.lemmas.Bool.{eqb-true, or_left}
+use Rattle.std.proofs.lemmas.Bool.Decides.{nat_tests}
+use Rattle.ucd_table.specs.Rows.{in_ranges}
+use Rattle.unicode_width.proofs.Rules.{width_or_zero}
+use Rattle.unicode_width.specs.declared.kind.Kind.{Kind}
+use Rattle.unicode_width.specs.declared.kind.Kind.TheVariants as kinds
+use Rattle.unicode_width.specs.Kind.{kind}
+use Rattle.unicode_width.specs.Width.{alone, char_width, of_kind}
+use Rattle.comfy_parts.specs.Columns.{joining_characters, joins_no_other}
+use Rattle.comfy_parts.specs.OwnWidth.{own_width}
+use Rattle.comfy_parts.specs.Text.{Text, measure}
+use Rattle.comfy_parts.proofs.KindRangeLemmas.{adds_up_kind, others_add_up}
+use Rattle.cluster_width.proofs.Sums.{implied}
+use Rattle.comfy_parts.proofs.OwnWidthTrie.{ideographs, ideographs-wide, kind_number, number_of, own_number}
+use Rattle.comfy_parts.proofs.SumKindLemmas.{summed_add_up}
+
+-- ---- what the number in the table says
+
+-- the columns that a number stands for
+abbrev of_number : ℕ → Option ℕ
+of_number n = if n == 3 then None else Some n
+
+kind-columns : (c : ℕ) (k : Kind) → adds_up_kind k ≡ true → of_number (kind_number k) ≡ Some (of_kind false c k).0
+kind-columns c kinds.Zero is = refl
+kind-columns c kinds.Narrow is = refl
+kind-columns c kinds.Wide is = refl
+kind-columns c kinds.Ambiguous is = refl
+kind-columns c kinds.Emoji is = refl
+kind-columns c kinds.Alef is = absurd (cc is)
+kind-columns c kinds.KhmerLetter is = absurd (cc is)
+kind-columns c kinds.TifinaghConsonant is = absurd (cc is)
+kind-columns c kinds.LisuTone is = absurd (cc is)
+kind-columns c kinds.RegionalIndicator is = absurd (cc is)
+kind-columns c kinds.EmojiModifier is = absurd (cc is)
+kind-columns c kinds.Single is = absurd (cc is)
+
+-- printable ASCII takes one, and the others from U+00A0 on that don't join what their kind does
+sorted : (low high joins few : Bool) (o : Option ℕ) (k : Kind) → (low ≡ true → o ≡ Some 1) → few ≡ not high → (high ≡ true → joins ≡ false → o ≡ of_number (kind_number k))
+    → (if low || (high && not joins) then o else None) ≡ of_number (number_of (low || false, few || joins) k)
+sorted true high joins few o k one apart own = one refl
+sorted false true true true o k one apart own = refl
+sorted false true true false o k one apart own = refl
+sorted false true false true o k one apart own = absurd (cc apart)
+sorted false true false false o k one apart own = own refl refl
+sorted false false joins true o k one apart own = refl
+sorted false false joins false o k one apart own = absurd (cc apart)
+
+own-columns : (c : ℕ) → own_width c ≡ of_number (own_number c)
+unfolding in_ranges char_width alone
+own-columns c =
+    sorted (is_in_range 0x20 0x7E c) (nat_le 0xA0 c) (in_ranges joining_characters c) (nat_le 0 c && nat_le c 0x9F) (char_width false c) (kind c)
+    (λ low. grind (arith, nat_tests, low))
+    (grind (arith, nat_tests))
+    (λ high apart.
+    let kinds = ap (λ b. b || adds_up_kind (kind c)) (sym apart) ∙ others_add_up c in
+    let own : char_width false c ≡ Some (of_kind false c (kind c)).0 = grind (arith, nat_tests, high) in
+    own ∙ sym (kind-columns c (kind c) kinds))
+
+pub number-joins : (c n : ℕ) → n ≡ own_number c → n ≡ 3 → None ≡ own_width c
+number-joins c n number is = ap of_number (sym is ∙ number) ∙ sym (own-columns c)
+
+pub number-columns : (c n : ℕ) → n ≡ own_number c → n ≢ 3 → Some n ≡ own_width c
+number-columns c n number other =
+    let differs : (n == 3) ≡ false = grind (arith, nat_tests, other) in
+    ap (λ b. if b then None else Some n) (sym differs) ∙ ap of_number number ∙ sym (own-columns c)
+
+-- ---- characters that aren't looked up
+
+pub ascii-one : (c : ℕ) → is_in_range 0x20 0x7E c ≡ true → Some 1 ≡ own_width c
+unfolding char_width
+ascii-one c is = grind (arith, nat_tests, is)
+
+pub ideograph-two : (c : ℕ) → is_in_range 0x4E00 0x9FFF c ≡ true → Some 2 ≡ own_width c
+unfolding in_ranges
+ideograph-two c is =
+    let within = or_left (is_in_range 0x4E00 0x9FFF c) false is in
+    let two = eqb-true (own_number c) 2 (implied (in_ranges ideographs c) _ (ideographs-wide c) within) in
+    ap of_number (sym two) ∙ sym (own-columns c)
+
+-- ---- and in a text
+
+-- it joins no other, and takes n columns
+pub record IsOwn (c n : ℕ) : Type 0 where
+  pub apart : joins_no_other c ≡ true
+  pub columns : width_or_zero false c ≡ n
+  pub most : n ≤ 2
+
+own : (c n : ℕ) → own_width c ≡ Some n → IsOwn c n
+own c n is = by_joins (joins_no_other c) refl is
+  where
+    by_joins : (b : Bool) → joins_no_other c ≡ b → (if b then char_width false c else None) ≡ Some n → IsOwn c n
+    by_joins true apart same =
+        let columns : width_or_zero false c ≡ n = ap (λ o. unwrap_or o 0) same in
+        let most = summed_add_up.narrow c apart in
+        record { apart = apart; columns = columns; most = omega (arith, columns, most) }
+    by_joins false apart same = absurd (cc same)
+
+-- a walk over a text has counted so many columns before the rest of it
+pub record IsCounted (text rest : Text) (columns : ℕ) : Type 0 where
+  pub utf8 : IsUtf8 rest
+  pub apart : list_all joins_no_other (chars rest) ≡ true → list_all joins_no_other (chars text) ≡ true
+  pub sum : sum_by (width_or_zero false) (chars text) ≡ columns + sum_by (width_or_zero false) (chars rest)
+  pub bound : columns + 2 * length rest ≤ 2 * length text
+
+pub counted-none : (text : Text) → IsUtf8 text → IsCounted text text 0
+counted-none text utf8 = record { utf8 = utf8; apart = λ each. each; sum = omega arith; bound = omega arith }
+
+-- and then one character more
+pub counted-more : (text rest later : Text) (columns c n : ℕ) → IsCounted text rest columns → rest ≡ encode_utf8 c ++ later → own_width c ≡ Some n → IsCounted text later (columns + n)
+counted-more text rest later columns c n counted splits is =
+    let one = own c n is in
+    let next = chars_past_char rest later c counted.utf8 splits in
+    let cons = ap (sum_by (width_or_zero false)) next ∙ sum_by-cons (width_or_zero false) c (chars later) in
+    let long = ap length splits ∙ length-append (encode_utf8 c) later in
+    let some = encode_utf8_nonempty c in
+    record {
+      utf8 = IsUtf8-past_char rest later c counted.utf8 splits;
+      apart = λ each. counted.apart (ap (list_all joins_no_other) next ∙ ap₂ (λ a b. a && b) one.apart each);
+      sum = omega (arith, counted.sum, cons, one.columns);
+      bound = omega (arith, counted.bound, long, some, one.most);
+    }
+
+-- at the end of the text that is its measure
+pub counted-all : (text rest : Text) (columns : ℕ) → IsCounted text rest columns → length rest ≡ 0 → columns ≡ measure text
+counted-all text rest columns counted none =
+    let nothing = chars_of_empty rest none in
+    let each = counted.apart (ap (list_all joins_no_other) nothing) in
+    let sum = counted.sum in
+    let left = ap (sum_by (width_or_zero false)) nothing in
+    let total : columns ≡ sum_by (width_or_zero false) (chars text) = omega (arith, sum, left) in
+    total ∙ sym (summed_add_up.sums (chars text) each)
