@@ -1,7 +1,7 @@
 #!/bin/sh
-# Counts the instructions of one call of the static library from a program in Rust, and of the original in the same
-# program, on the inputs below. It takes the best time of 20 calls of each, made by turns in one process, where both have
-# to give the same drawing.
+# Counts the instructions of one call of each function of the static library from a program in Rust, and of the original in
+# the same program, on the inputs below. It takes the best time of 20 calls of each, made by turns in one process, where all
+# have to give the same drawing.
 # It needs cargo and valgrind.
 #
 # usage: tools/measure_calls.sh ORIGINAL
@@ -43,8 +43,10 @@ count() {
 measure() {
   by_original=$(count original "$1" "${2-}")
   by_proved=$(count proved "$1" "${2-}")
-  awk -v name="$1${2:+, width $2}" -v proved="$by_proved" -v original="$by_original" 'BEGIN {
-    printf "%s: %.2f million instructions, the original %.2f, ratio %.2f\n", name, proved / 1e6, original / 1e6, proved / original
+  by_csv=$(count csv "$1" "${2-}")
+  awk -v name="$1${2:+, width $2}" -v proved="$by_proved" -v csv="$by_csv" -v original="$by_original" 'BEGIN {
+    printf "%s: %.2f million instructions, from CSV %.2f, the original %.2f, ratios %.2f and %.2f\n",
+      name, proved / 1e6, csv / 1e6, original / 1e6, proved / original, csv / original
   }'
   TIMES=20 "$calls" ${2-} < "$work/$1"
 }

@@ -1,8 +1,8 @@
-//! calls [WIDTH]: draws standard input by the original and by the proved library, in one process, and compares. It prints
-//! the best time of each out of as many calls as TIMES says, one where it isn't set. With ONLY=original or ONLY=proved it
-//! makes one call of that library alone.
+//! calls [WIDTH]: draws standard input by the original and by both functions of the proved library, in one process, and
+//! compares. It prints the best time of each out of as many calls as TIMES says, one where it isn't set. With ONLY=original,
+//! ONLY=proved or ONLY=csv it makes one such call alone. The function for CSV gets the same table as CSV.
 use comfy_table::{Cell, ContentArrangement, Row, Table, presets};
-use comfy_table_proved::{Arrangement, Options, Style, draw};
+use comfy_table_proved::{Arrangement, Options, Style, draw, draw_csv};
 use std::io::{Read, stdin};
 use std::time::Instant;
 
@@ -44,25 +44,49 @@ fn by_proved(text: &str, width: Option<u16>) -> String {
     draw(text, Options { width, arrangement, style: Style::AsciiFull }).expect("memory")
 }
 
+#[unsafe(no_mangle)]
+#[inline(never)]
+fn by_csv(csv: &str, width: Option<u16>) -> String {
+    let width = width.unwrap_or(0).to_string();
+    draw_csv(csv, &["-d", ",", "-s", "ASCII_FULL", "--left", "1-", "--expanded", "never", "-w", &width]).expect("memory")
+}
+
+// The table as CSV.
+fn csv_of(text: &str) -> String {
+    let mut csv = String::new();
+    for line in text.lines() {
+        let cells: Vec<String> = line.split('\t').map(|text| text.replace('\u{b}', "\n").replace('"', "\"\"")).collect();
+        csv += &format!("\"{}\"\n", cells.join("\",\""));
+    }
+    csv
+}
+
 fn main() {
     let width = std::env::args().nth(1).map(|word| word.parse().expect("a width"));
     let times = std::env::var("TIMES").map_or(1, |word| word.parse().expect("a number"));
     let mut text = String::new();
     stdin().read_to_string(&mut text).expect("UTF-8 on standard input");
+    let csv = csv_of(&text);
     if let Ok(library) = std::env::var("ONLY") {
-        let drawing = if library == "original" { by_original(&text, width) } else { by_proved(&text, width) };
+        let drawing = match library.as_str() {
+            "original" => by_original(&text, width),
+            "proved" => by_proved(&text, width),
+            _ => by_csv(&csv, width),
+        };
         println!("{} bytes", drawing.len());
         return;
     }
-    let mut best = [f64::MAX; 2];
+    let mut best = [f64::MAX; 3];
     for _ in 0..times {
-        let begun = Instant::now();
-        let original = by_original(&text, width);
-        best[0] = best[0].min(begun.elapsed().as_secs_f64());
-        let begun = Instant::now();
-        let proved = by_proved(&text, width);
-        best[1] = best[1].min(begun.elapsed().as_secs_f64());
-        assert!(original == proved, "the drawings differ");
+        let calls: [&dyn Fn() -> String; 3] = [&|| by_original(&text, width), &|| by_proved(&text, width), &|| by_csv(&csv, width)];
+        let mut drawings = Vec::new();
+        for (call, best) in calls.iter().zip(&mut best) {
+            let begun = Instant::now();
+            drawings.push(call());
+            *best = best.min(begun.elapsed().as_secs_f64());
+        }
+        assert!(drawings.iter().all(|drawing| *drawing == drawings[0]), "the drawings differ");
     }
-    println!("{:.3} ms by the original, {:.3} ms by the proved library", best[0] * 1e3, best[1] * 1e3);
+    let [original, proved, csv] = best.map(|seconds| seconds * 1e3);
+    println!("{original:.3} ms by the original, {proved:.3} ms by the proved library, {csv:.3} ms from CSV");
 }

@@ -1,10 +1,27 @@
 /*
- * Tables drawn from tab-separated text, by the library comfy_table.
+ * Tables drawn by the library comfy_table, of tab-separated text and of CSV.
  *
- * Proved: each result comes only where the list below says so, but for what it says of malloc; the drawing, *needed and
- * what stays unchanged are as it says.
- * Tested: that COMFY_OUT_OF_MEMORY comes only after malloc or realloc returned null, that a call keeps no memory, that
- * several threads may call, and that null stands for an empty slice.
+ * Proved of both functions:
+ *  - Each result comes only where the function's list says so, but for what it says of malloc. There is no other result.
+ *  - The drawing, the message about an input, *needed and what stays unchanged are as the list says.
+ *  - Words are cut at zero bytes as said, and ask for what csvtable takes them for.
+ *  - A call returns, and reads and writes only memory of its own, and that which its arguments give it.
+ *
+ * Not proved, but tested:
+ *  - COMFY_OUT_OF_MEMORY and COMFY_CSV_OUT_OF_MEMORY come only after malloc or realloc returned null.
+ *  - A call keeps no memory, and several threads may be inside one at once.
+ *  - Null stands for no bytes.
+ *  - What csvtable says of words. Proved is that it has no control character but line feeds.
+ *
+ * Owed by the caller, and checked by nothing:
+ *  - Each pointer points to as many bytes as its length says, and needed to a size_t. A pointer whose length is 0 isn't
+ *    read or written, and may be null; needed may not.
+ *  - These objects don't overlap, and nothing else writes them during the call, nor reads output and *needed.
+ *  - malloc, realloc and free belong to one allocator, and align a block to each power of two up to 16 that divides its
+ *    size, as those of C libraries do.
+ *  - There is no call from a signal handler, nor from the forked child of a process with threads.
+ *
+ * Lengths are in bytes. What is written to output is UTF-8, each line ends with a line feed, and no zero byte follows.
  *
  * Link libcomfy_c.a, and after it liblibc_c.a of the Rattle toolchain, through which it asks for memory.
  */
@@ -18,7 +35,9 @@
 extern "C" {
 #endif
 
-/* What a call returns. */
+/* ---- tab-separated text */
+
+/* What comfy_table_draw returns. */
 enum {
     COMFY_DRAWN,
     COMFY_ROOM_TOO_SMALL,
@@ -56,10 +75,9 @@ enum {
 
 /*
  * Draws the table of a text into the caller's buffer. The text's first line is the header, its other lines are rows.
- * Cells stand between TABs, and U+000B inside a cell is a line break. The drawing is UTF-8, each line ends with a line
- * feed, and no zero byte follows.
+ * Cells stand between TABs, and U+000B inside a cell is a line break.
  *
- * width is the table's width in terminal columns. Lengths are in bytes.
+ * width is the table's width in terminal columns.
  *
  *   COMFY_DRAWN            the drawing is the first *needed bytes of output
  *   COMFY_ROOM_TOO_SMALL   the drawing takes *needed bytes, which is more than output_length
@@ -68,18 +86,44 @@ enum {
  *   COMFY_UNKNOWN_SETTING  arrangement or style is none of those above
  *
  * With COMFY_DRAWN the bytes of output after the drawing are unchanged, with any other result all of them are. With the
- * last three *needed is unchanged. The call keeps no memory, and several threads may be inside it at once.
- *
- * What a caller owes, which nothing checks:
- *  - input and output point to as many bytes as their lengths say, and needed to a size_t. A pointer whose length is 0
- *    isn't read or written, and may be null; needed may not.
- *  - The three objects don't overlap, and nothing else writes them during the call, nor reads output and *needed.
- *  - malloc, realloc and free belong to one allocator, and align a block to each power of two up to 16 that divides its
- *    size, as those of C libraries do.
- *  - There is no call from a signal handler, nor from the forked child of a process with threads.
+ * last three *needed is unchanged.
  */
 uint32_t comfy_table_draw(const uint8_t *input, size_t input_length, uint32_t width, uint32_t arrangement,
                           uint32_t style, uint8_t *output, size_t output_length, size_t *needed);
+
+/* ---- CSV */
+
+/* What comfy_csv_draw returns. */
+enum {
+    COMFY_CSV_DRAWN,
+    COMFY_CSV_ROOM_TOO_SMALL,
+    COMFY_CSV_INPUT_REFUSED,
+    COMFY_CSV_OUT_OF_MEMORY,
+    COMFY_CSV_WORDS_REFUSED
+};
+
+/*
+ * Draws the table of CSV into the caller's buffer, as the program csvtable draws it for these words where its output goes
+ * to no terminal, and neither COLUMNS nor NO_COLOR is set. `csvtable --help` lists the words.
+ *
+ * words is UTF-8, and a zero byte ends each word. It may be missing behind the last one, so the one that ends a string of
+ * C serves: with "-r\0price\0-w\0" "60" and its size, numbers of the column price stand at the right, in 60 terminal
+ * columns. No bytes are no words.
+ *
+ * No file is opened. A word for one names the input in messages, and where it ends with .tsv or .tab, TABs may stand
+ * between fields.
+ *
+ *   COMFY_CSV_DRAWN           the drawing is the first *needed bytes of output
+ *   COMFY_CSV_ROOM_TOO_SMALL  the drawing takes *needed bytes, which is more than output_length
+ *   COMFY_CSV_INPUT_REFUSED   the input can't be drawn as the words ask; what csvtable says is *needed bytes long
+ *   COMFY_CSV_OUT_OF_MEMORY   malloc or realloc returned null
+ *   COMFY_CSV_WORDS_REFUSED   the words ask for no drawing, as --help does; what csvtable says is *needed bytes long
+ *
+ * What csvtable says is put into output as the drawing is, where there is room for all of it. The bytes of output after
+ * what was put there are unchanged, and all of them where nothing was. With COMFY_CSV_OUT_OF_MEMORY *needed is unchanged.
+ */
+uint32_t comfy_csv_draw(const uint8_t *input, size_t input_length, const uint8_t *words, size_t words_length,
+                        uint8_t *output, size_t output_length, size_t *needed);
 
 #ifdef __cplusplus
 }

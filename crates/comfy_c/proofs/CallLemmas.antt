@@ -1,16 +1,58 @@
--- What a drawing is that a call returns.
-use Rattle.std.proofs.Common.{◌≡◌, ◌++◌, ℕ, length, take}
-use Rattle.std.proofs.lemmas.List.{take_at}
+-- What a call returns, and what it makes of the caller's buffer.
+use Rattle.std.proofs.Common.{◌≡◌, ◌∙◌, Bool, true, false, cond, List, ℕ, ◌++◌, ap, ap₂, drop, inl, length, nat_le, refl, subst, sym, take}
+use Rattle.std.proofs.lemmas.List.{drop_at, take_at}
+use Rattle.std.proofs.lemmas.Str.{IsUtf8-string_bytes}
 use Rattle.std.specs.Prelude.{IsUtf8, Option, Some}
 use Rattle.comfy_parts.specs.Text.{Text}
+use Rattle.comfy_csv.specs.Refusals.{IsRefusedFor}
+use Rattle.comfy_csv.specs.declared.drawing.Refusal.{Refusal}
+use Rattle.comfy_csv.specs.declared.drawing.Refusal.TheVariants.{Words, Input, OutOfMemory}
 use Rattle.comfy_run.specs.Input.{IsOutputFor}
 use Rattle.comfy_run.specs.declared.settings.Settings.{Settings}
-use Rattle.comfy_c.specs.Calls.{IsDrawnAs}
+use Rattle.comfy_c.specs.Calls.{IsCommandLine, IsCsvRefusal, IsDrawnAs, IsHanded, with_front}
+
+-- ---- the buffer
+
+module _ (text buffer : Text) where
+  -- a text that fits stands at the front
+  pub front-put : nat_le (length text) (length buffer) ≡ true → with_front text buffer ≡ text ++ drop (length text) buffer
+  front-put fits = ap (λ is. cond is (text ++ drop (length text) buffer) buffer) fits
+
+  -- one that doesn't fit changes nothing
+  pub front-left : nat_le (length text) (length buffer) ≡ false → with_front text buffer ≡ buffer
+  front-left fits = ap (λ is. cond is (text ++ drop (length text) buffer) buffer) fits
+
+  -- what stands at the front is the text
+  pub front-taken : nat_le (length text) (length buffer) ≡ true → take (length text) (with_front text buffer) ≡ text
+  front-taken fits = ap (take (length text)) (front-put fits) ∙ take_at text _ _ refl
+
+  -- what follows it stays
+  pub behind-front : drop (length text) (with_front text buffer) ≡ drop (length text) buffer
+  behind-front = by_test (nat_le (length text) (length buffer)) refl
+    where
+      by_test : (fits : Bool) → nat_le (length text) (length buffer) ≡ fits → drop (length text) (with_front text buffer) ≡ drop (length text) buffer
+      by_test true fits = ap (drop (length text)) (front-put fits) ∙ drop_at text _ _ refl
+      by_test false fits = ap (drop (length text)) (front-left fits)
+
+module _ (P : Text → Type 0) (bytes buffer : Text) {text after : Text} {needed : ℕ} (counted : needed ≡ length bytes) (put : after ≡ with_front bytes buffer) (same : bytes ≡ text) (so : P text) where
+  -- what holds of a text holds of what stands at the front of a buffer that had room for it
+  pub in_front : nat_le (length bytes) (length buffer) ≡ true → P (take needed after)
+  in_front fits = subst P (sym (ap₂ take counted put ∙ front-taken bytes buffer fits ∙ same)) so
+
+  -- and of what was handed to the caller
+  pub handed : IsHanded P buffer after needed
+  handed = record { text = bytes; is_so = subst P (sym same) so; is_counted = counted; is_put = put }
+
+-- ---- tab-separated text
 
 -- the output for a text that is the input's, under the settings that are asked for
 pub drawn_as : {asked : Option Settings} {settings : Settings} {input text drawing : Text} → Some settings ≡ asked → text ≡ input → IsUtf8 input → IsUtf8 drawing → IsOutputFor settings.width settings.arrangement settings.style text drawing → IsDrawnAs asked input drawing
 drawn_as asked same whole whole_drawing output = rw (← asked) (whole, whole_drawing, rw same at output)
 
--- the output that stands at the front of a buffer
-pub drawn_in_front : (asked : Option Settings) (input drawing bytes rest : Text) {n : ℕ} → length bytes ≡ n → bytes ≡ drawing → IsDrawnAs asked input drawing → IsDrawnAs asked input (take n (bytes ++ rest))
-drawn_in_front asked input drawing bytes rest {n = n} count same drawn = rw (take_at bytes rest n count, same) drawn
+-- ---- CSV
+
+-- why there is no drawing for words that a text stands for
+pub refused_for : (text input : Text) (line : List Text) → IsUtf8 text → IsCommandLine text line → (refusal : Refusal) → IsRefusedFor line input refusal → IsCsvRefusal text input refusal
+refused_for text input line is_text are (Words message) is = (IsUtf8-string_bytes message, inl (record { is_text = is_text; words = line; are_words = are; is_so = is }))
+refused_for text input line is_text are (Input message) is = (IsUtf8-string_bytes message, record { is_text = is_text; words = line; are_words = are; is_so = is })
+refused_for text input line is_text are OutOfMemory is = tt

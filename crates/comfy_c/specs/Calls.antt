@@ -1,12 +1,31 @@
--- What the numbers mean that a caller passes, and what the drawing is that it gets.
-use Rattle.std.specs.Prelude.{ℕ, nat_le, List, [], ◌∷◌, Option, Some, None, IsUtf8, slice_get, if◌then◌else◌}
+-- What numbers and words mean that a caller passes, and what is made of its buffer.
+use Rattle.std.specs.Prelude.{◌≡◌, ◌⊎◌, ◌-◌, ℕ, nat_le, ◌==◌, List, [], ◌∷◌, ◌++◌, All, Option, Some, None, IsUtf8, codes, drop, flat_map, length, slice_get, slice_index, string_bytes, if◌then◌else◌}
 use Rattle.comfy_parts.specs.Presets.{preset_at}
-use Rattle.comfy_parts.specs.Text.{Text}
+use Rattle.comfy_parts.specs.Text.{HasNo, Text}
 use Rattle.comfy_parts.specs.declared.style.table.ContentArrangement.{ContentArrangement}
 use Rattle.comfy_parts.specs.declared.style.table.ContentArrangement.TheVariants.{Disabled, Dynamic, DynamicFullWidth}
+use Rattle.comfy_csv.specs.Ending.{word_not_utf8}
+use Rattle.comfy_csv.specs.Refusals.{IsDrawnFor, IsSaidOfInput, IsSaidOfWords}
+use Rattle.comfy_csv.specs.declared.drawing.Refusal.{Refusal}
+use Rattle.comfy_csv.specs.declared.drawing.Refusal.TheVariants.{Words, Input, OutOfMemory}
 use Rattle.comfy_run.specs.Arguments.{settings_with}
 use Rattle.comfy_run.specs.Input.{IsOutputFor}
 use Rattle.comfy_run.specs.declared.settings.Settings.{Settings}
+
+-- ---- the buffer
+
+-- a buffer with a text at its front, where it has room for all of it; else it is as it was
+abbrev pub with_front : Text → Text → Text
+with_front text buffer = if nat_le (length text) (length buffer) then text ++ drop (length text) buffer else buffer
+
+-- a text was handed to the caller of which P holds
+pub record IsHanded (P : Text → Type 0) (buffer : Text) (after : Text) (needed : ℕ) : Type 0 where
+  pub text : Text
+  pub is_so : P text
+  pub is_counted : needed ≡ length text
+  pub is_put : after ≡ with_front text buffer
+
+-- ---- tab-separated text
 
 -- a width up to 65535; any greater number stands for none
 abbrev pub width_of : ℕ → Option ℕ
@@ -24,3 +43,45 @@ settings_for width arrangement style = settings_with (Some (width_of width)) (sl
 abbrev pub IsDrawnAs : Option Settings → Text → Text → Type 0
 IsDrawnAs None input output = ⊥
 IsDrawnAs (Some settings) input output = IsUtf8 input × IsUtf8 output × IsOutputFor settings.width settings.arrangement settings.style input output
+
+-- ---- CSV
+
+-- a word, and the zero byte that ends it
+abbrev pub ended : Text → Text
+ended word = word ++ 0 ∷ []
+
+-- a text with a zero byte at its end, unless it is empty
+abbrev pub closed : Text → Text
+closed text = if slice_index text (length text - 1) == 0 then text else ended text
+
+-- the words of a call of `csvtable` that a text stands for: its name, and words of which none holds a zero byte; each with its end they are the text, at whose end a zero byte may be missing
+pub record IsCommandLine (text : Text) (line : List Text) : Type 0 where
+  pub words : List Text
+  pub behind_name : line ≡ codes "csvtable" ∷ words
+  pub hold_no_end : All (HasNo 0) words
+  pub are_all : flat_map ended words ≡ closed text
+
+-- P holds of the words that a caller's bytes stand for
+pub record IsForWords (P : List Text → Type 0) (bytes : Text) : Type 0 where
+  pub is_text : IsUtf8 bytes
+  pub words : List Text
+  pub are_words : IsCommandLine bytes words
+  pub is_so : P words
+
+-- the drawing for words and an input
+abbrev pub IsCsvDrawing : Text → Text → Text → Type 0
+IsCsvDrawing bytes input drawing = IsUtf8 drawing × IsForWords (λ words. IsDrawnFor words input drawing) bytes
+
+-- the line on an input that can't be drawn as words ask
+abbrev pub IsInputMessage : Text → Text → Text → Type 0
+IsInputMessage bytes input message = IsUtf8 message × IsForWords (λ words. IsSaidOfInput words input message) bytes
+
+-- the text on words that ask for no drawing, or aren't UTF-8
+abbrev pub IsWordsMessage : Text → Text → Type 0
+IsWordsMessage bytes message = IsUtf8 message × (IsForWords (λ words. IsSaidOfWords words message) bytes ⊎ ¬ (IsUtf8 bytes) × (message ≡ word_not_utf8))
+
+-- why there is no drawing
+abbrev pub IsCsvRefusal : Text → Text → Refusal → Type 0
+IsCsvRefusal bytes input (Input message) = IsInputMessage bytes input (string_bytes message)
+IsCsvRefusal bytes input OutOfMemory = Unit {0}
+IsCsvRefusal bytes input (Words message) = IsWordsMessage bytes (string_bytes message)

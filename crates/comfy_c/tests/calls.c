@@ -10,6 +10,7 @@
 #include <string.h>
 
 #define INPUT "name\tdays\noats\t3\n"
+#define CSV "name,days\noats,3\n"
 #define UNTOUCHED 7
 #define KEPT 77
 
@@ -21,6 +22,22 @@ static const char DRAWING[] =
     "| oats | 3    |\n"
     "+------+------+\n";
 
+static const char CSV_DRAWING[] =
+    "+------+------+\n"
+    "| name | days |\n"
+    "+=============+\n"
+    "| oats |    3 |\n"
+    "+------+------+\n";
+
+static const char WITHOUT_DAYS[] =
+    "+------+\n"
+    "| name |\n"
+    "+======+\n"
+    "| oats |\n"
+    "+------+\n";
+
+static const char NOT_UTF8[] = "csvtable: standard input: line 2 isn't UTF-8; try -e cp1252\n";
+
 enum { LENGTH = sizeof DRAWING - 1, THREADS = 4, CALLS = 500 };
 
 static int wrong;
@@ -31,7 +48,24 @@ static void expect(const char *what, int is_so) {
     printf("wrong: %s\n", what);
 }
 
-/* A call on a copy of the input, with a buffer of its own. */
+/* Bytes that a caller passes. */
+struct bytes {
+    const char *at;
+    size_t length;
+};
+
+/* Those of a string of C, without the zero byte at its end. */
+#define TEXT(text) ((struct bytes){text, sizeof(text) - 1})
+
+/* A copy that is as long as it says. */
+static uint8_t *copied(struct bytes bytes) {
+    uint8_t *copy = malloc(bytes.length);
+    if (bytes.length && !copy) exit(2);
+    if (bytes.length) memcpy(copy, bytes.at, bytes.length);
+    return copy;
+}
+
+/* A call on copies of what it reads, with a buffer of its own. */
 struct call {
     uint32_t status;
     size_t needed;
@@ -39,14 +73,27 @@ struct call {
     size_t room;
 };
 
-static struct call made(const char *input, size_t length, uint32_t width, uint32_t arrangement, uint32_t style, size_t room) {
+static struct call with_room(size_t room) {
     struct call call = {0, KEPT, malloc(room), room};
-    uint8_t *copy = malloc(length);
-    if ((room && !call.output) || (length && !copy)) exit(2);
+    if (room && !call.output) exit(2);
     if (room) memset(call.output, UNTOUCHED, room);
-    if (length) memcpy(copy, input, length);
-    call.status = comfy_table_draw(copy, length, width, arrangement, style, call.output, room, &call.needed);
+    return call;
+}
+
+static struct call made(struct bytes input, uint32_t width, uint32_t arrangement, uint32_t style, size_t room) {
+    struct call call = with_room(room);
+    uint8_t *copy = copied(input);
+    call.status = comfy_table_draw(copy, input.length, width, arrangement, style, call.output, room, &call.needed);
     free(copy);
+    return call;
+}
+
+static struct call made_csv(struct bytes input, struct bytes words, size_t room) {
+    struct call call = with_room(room);
+    uint8_t *copy = copied(input), *word = copied(words);
+    call.status = comfy_csv_draw(copy, input.length, word, words.length, call.output, room, &call.needed);
+    free(copy);
+    free(word);
     return call;
 }
 
@@ -57,38 +104,122 @@ static int is_untouched(const struct call *call, size_t from) {
     return 1;
 }
 
+/* Whether a text was put at the front of a call's buffer, and nothing behind it. */
+static int is_put(const struct call *call, struct bytes text) {
+    return call->needed == text.length && text.length <= call->room && !memcmp(call->output, text.at, text.length)
+        && is_untouched(call, text.length);
+}
+
 static void expect_drawn(const char *what, size_t room) {
-    struct call call = made(INPUT, sizeof INPUT - 1, COMFY_NO_WIDTH, COMFY_DISABLED, COMFY_ASCII_FULL, room);
-    expect(what, call.status == COMFY_DRAWN && call.needed == LENGTH && !memcmp(call.output, DRAWING, LENGTH)
-                     && is_untouched(&call, LENGTH));
+    struct call call = made(TEXT(INPUT), COMFY_NO_WIDTH, COMFY_DISABLED, COMFY_ASCII_FULL, room);
+    expect(what, call.status == COMFY_DRAWN && is_put(&call, TEXT(DRAWING)));
     free(call.output);
 }
 
 static void expect_too_small(const char *what, size_t room) {
-    struct call call = made(INPUT, sizeof INPUT - 1, COMFY_NO_WIDTH, COMFY_DISABLED, COMFY_ASCII_FULL, room);
+    struct call call = made(TEXT(INPUT), COMFY_NO_WIDTH, COMFY_DISABLED, COMFY_ASCII_FULL, room);
     expect(what, call.status == COMFY_ROOM_TOO_SMALL && call.needed == LENGTH && is_untouched(&call, 0));
     free(call.output);
 }
 
-static void expect_refused(const char *input, size_t length, uint32_t arrangement, uint32_t style, uint32_t status, const char *what) {
-    struct call call = made(input, length, 40, arrangement, style, 200);
+static void expect_refused(struct bytes input, uint32_t arrangement, uint32_t style, uint32_t status, const char *what) {
+    struct call call = made(input, 40, arrangement, style, 200);
     expect(what, call.status == status && call.needed == KEPT && is_untouched(&call, 0));
     free(call.output);
 }
 
 /* Every preset and arrangement at extreme widths: asked for its length first, the drawing fills that room exactly. */
-static void expect_all_fill(const char *input, size_t length) {
+static void expect_all_fill(struct bytes input) {
     static const uint32_t widths[] = {0, 1, 40, 65535, 65536, COMFY_NO_WIDTH};
     for (uint32_t style = COMFY_ASCII_FULL; style <= COMFY_NOTHING; style++)
         for (uint32_t arrangement = COMFY_DISABLED; arrangement <= COMFY_DYNAMIC_FULL_WIDTH; arrangement++)
             for (size_t i = 0; i < sizeof widths / sizeof *widths; i++) {
-                struct call asked = made(input, length, widths[i], arrangement, style, 0);
-                struct call call = made(input, length, widths[i], arrangement, style, asked.needed);
+                struct call asked = made(input, widths[i], arrangement, style, 0);
+                struct call call = made(input, widths[i], arrangement, style, asked.needed);
                 expect("a drawing fills the room that was asked for", asked.status == COMFY_ROOM_TOO_SMALL
                        && call.status == COMFY_DRAWN && call.needed == asked.needed && call.output[call.needed - 1] == '\n');
                 free(asked.output);
                 free(call.output);
             }
+}
+
+/* A text that csvtable draws or says: into its room and into more, and into none that is smaller. */
+static void expect_csv(const char *what, struct bytes input, struct bytes words, uint32_t status, struct bytes text) {
+    uint32_t without = status == COMFY_CSV_DRAWN ? COMFY_CSV_ROOM_TOO_SMALL : status;
+    struct call full = made_csv(input, words, text.length), more = made_csv(input, words, text.length + 20);
+    struct call less = made_csv(input, words, text.length - 1), none = made_csv(input, words, 0);
+    expect(what, full.status == status && is_put(&full, text));
+    expect(what, more.status == status && is_put(&more, text));
+    expect(what, less.status == without && less.needed == text.length && is_untouched(&less, 0));
+    expect(what, none.status == without && none.needed == text.length);
+    free(full.output);
+    free(more.output);
+    free(less.output);
+    free(none.output);
+}
+
+/* A text on words of which only a part is known. */
+static void expect_said(const char *what, struct bytes words, const char *part) {
+    struct call call = made_csv(TEXT(CSV), words, 8192);
+    int is_text = call.status == COMFY_CSV_WORDS_REFUSED && call.needed && call.needed < call.room && call.output[call.needed - 1] == '\n';
+    expect(what, is_text && is_untouched(&call, call.needed));
+    if (is_text) {
+        call.output[call.needed] = 0;
+        expect(what, strstr((char *)call.output, part) != NULL);
+    }
+    free(call.output);
+}
+
+/* Where words are cut, and what they ask for. */
+static void expect_words_are_read(void) {
+    struct bytes drawing = TEXT(CSV_DRAWING);
+    expect_csv("csv is drawn as words ask", TEXT(CSV), TEXT("-s\0ascii\0"), COMFY_CSV_DRAWN, drawing);
+    expect_csv("the last word may lack its end", TEXT(CSV), TEXT("-s\0ascii"), COMFY_CSV_DRAWN, drawing);
+    expect_csv("a word may be empty", TEXT(CSV), TEXT("-s\0ascii\0\0"), COMFY_CSV_DRAWN, drawing);
+    expect_csv("the last word counts", TEXT(CSV), TEXT("-s\0ascii\0--drop\0days\0"), COMFY_CSV_DRAWN, TEXT(WITHOUT_DAYS));
+    expect_csv("the first word counts", TEXT(CSV), TEXT("--drop=days\0-s\0ascii"), COMFY_CSV_DRAWN, TEXT(WITHOUT_DAYS));
+    expect_csv("a name may tell the delimiter", TEXT("name\tdays\noats\t3\n"), TEXT("-sascii\0no/such.tsv"), COMFY_CSV_DRAWN, drawing);
+}
+
+static void expect_refusals_are_said(void) {
+    struct bytes bad = TEXT("name,days\noats,\xff\n");
+    expect_csv("0xFF is no UTF-8 in csv", bad, TEXT(""), COMFY_CSV_INPUT_REFUSED, TEXT(NOT_UTF8));
+    expect_csv("a message names the file", bad, TEXT("no/such.csv\0"), COMFY_CSV_INPUT_REFUSED,
+               TEXT("csvtable: no/such.csv: line 2 isn't UTF-8; try -e cp1252\n"));
+    expect_csv("a column isn't there", TEXT(CSV), TEXT("-c\0zz\0"), COMFY_CSV_INPUT_REFUSED, TEXT("csvtable: standard input: no column zz\n"));
+    expect_csv("a quote isn't closed", TEXT("a\n\"b"), TEXT(""), COMFY_CSV_INPUT_REFUSED,
+               TEXT("csvtable: standard input: a quote that opens in line 2 is never closed; try --no-quotes\n"));
+    expect_csv("0xFF is no UTF-8 in words", TEXT(CSV), TEXT("-s\0\xff\0"), COMFY_CSV_WORDS_REFUSED, TEXT("csvtable: a word isn't UTF-8\n"));
+    expect_csv("half a character isn't either", TEXT(CSV), TEXT("\xe9\x9b\0"), COMFY_CSV_WORDS_REFUSED, TEXT("csvtable: a word isn't UTF-8\n"));
+    expect_said("the version is said", TEXT("--version"), "csvtable ");
+    expect_said("help is said", TEXT("-h\0"), "Usage: csvtable [OPTIONS] [FILE]\n");
+    expect_said("an unknown word is said", TEXT("--nope\0"), "'--nope'");
+    expect_said("two files are too many", TEXT("a\0b\0"), "'b'");
+    expect_said("a width is a number", TEXT("-w\0wide\0"), "'wide'");
+    expect_said("ESC in a word isn't said", TEXT("--\x1b[31m"), "error: ");
+}
+
+/* Whether a call made its drawing fill the room that another one asked for. Some words exclude each other. */
+static int is_filled(const struct call *asked, const struct call *call) {
+    if (call->status == COMFY_CSV_WORDS_REFUSED) return asked->status == call->status && asked->needed == call->needed;
+    return asked->status == (asked->needed ? COMFY_CSV_ROOM_TOO_SMALL : COMFY_CSV_DRAWN) && call->status == COMFY_CSV_DRAWN
+        && call->needed == asked->needed && (!call->needed || call->output[call->needed - 1] == '\n');
+}
+
+/* Every style beside words with extreme values, as above. */
+static void expect_csv_fills(struct bytes input) {
+    static const char *styles[] = {"rounded", "box", "grid", "ascii", "plain", "markdown", "UTF8_BORDERS_ONLY", "NOTHING"};
+    static const char *others[] = {"-w0", "-w1", "-w65535", "-x", "-m1", "--color=always", "--limit=1", "--raw", "-ecp1252"};
+    for (size_t style = 0; style < sizeof styles / sizeof *styles; style++)
+        for (size_t other = 0; other < sizeof others / sizeof *others; other++) {
+            char words[80];
+            int count = snprintf(words, sizeof words, "-s%s%c%s", styles[style], 0, others[other]);
+            struct bytes line = {words, (size_t)count};
+            struct call asked = made_csv(input, line, 0), call = made_csv(input, line, asked.needed);
+            expect("a drawing of csv fills the room that was asked for", is_filled(&asked, &call));
+            free(asked.output);
+            free(call.output);
+        }
 }
 
 /* Without bytes there is nothing to point to. NOTHING draws no line of an empty table, ASCII_FULL draws two of one. */
@@ -99,13 +230,19 @@ static void expect_null_is_read_nowhere(void) {
     needed = KEPT;
     status = comfy_table_draw(NULL, 0, 40, COMFY_DYNAMIC, COMFY_ASCII_FULL, NULL, 0, &needed);
     expect("frame lines take room", status == COMFY_ROOM_TOO_SMALL && needed == strlen("++\n++\n"));
+    needed = KEPT;
+    status = comfy_csv_draw(NULL, 0, NULL, 0, NULL, 0, &needed);
+    expect("no csv has an empty drawing", status == COMFY_CSV_DRAWN && needed == 0);
 }
 
 static void *draw_often(void *bad) {
     for (int i = 0; i < CALLS; i++) {
-        struct call call = made(INPUT, sizeof INPUT - 1, COMFY_NO_WIDTH, COMFY_DISABLED, COMFY_ASCII_FULL, LENGTH);
-        if (call.status != COMFY_DRAWN || memcmp(call.output, DRAWING, LENGTH)) *(int *)bad = 1;
+        struct call call = made(TEXT(INPUT), COMFY_NO_WIDTH, COMFY_DISABLED, COMFY_ASCII_FULL, LENGTH);
+        struct call csv = made_csv(TEXT(CSV), TEXT("-sascii"), LENGTH);
+        if (call.status != COMFY_DRAWN || !is_put(&call, TEXT(DRAWING))) *(int *)bad = 1;
+        if (csv.status != COMFY_CSV_DRAWN || !is_put(&csv, TEXT(CSV_DRAWING))) *(int *)bad = 1;
         free(call.output);
+        free(csv.output);
     }
     return NULL;
 }
@@ -122,21 +259,26 @@ static void expect_threads_agree(void) {
 }
 
 int main(void) {
-    static const char mixed[] = "Day\tWeather\r\n\xe9\x9b\xa8\train until noon, then sun\ntwo\vlines\t\t\n\n";
+    struct bytes mixed = TEXT("Day\tWeather\r\n\xe9\x9b\xa8\train until noon, then sun\ntwo\vlines\t\t\n\n");
     expect_drawn("a drawing fills its room", LENGTH);
     expect_drawn("room after the drawing stays", LENGTH + 20);
     expect_too_small("a room one byte short is left alone", LENGTH - 1);
     expect_too_small("a room of no bytes is too small", 0);
-    expect_refused("\xff", 1, COMFY_DYNAMIC, COMFY_UTF8_FULL, COMFY_NOT_UTF8, "0xFF is no UTF-8");
-    expect_refused("a\xe9\x9b", 3, COMFY_DYNAMIC, COMFY_UTF8_FULL, COMFY_NOT_UTF8, "half a character is no UTF-8");
-    expect_refused(INPUT, 5, 3, COMFY_UTF8_FULL, COMFY_UNKNOWN_SETTING, "there is no arrangement 3");
-    expect_refused(INPUT, 5, UINT32_MAX, COMFY_UTF8_FULL, COMFY_UNKNOWN_SETTING, "there is no greatest arrangement");
-    expect_refused(INPUT, 5, COMFY_DYNAMIC, 13, COMFY_UNKNOWN_SETTING, "there is no style 13");
-    expect_refused(INPUT, 5, COMFY_DYNAMIC, UINT32_MAX, COMFY_UNKNOWN_SETTING, "there is no greatest style");
+    expect_refused(TEXT("\xff"), COMFY_DYNAMIC, COMFY_UTF8_FULL, COMFY_NOT_UTF8, "0xFF is no UTF-8");
+    expect_refused(TEXT("a\xe9\x9b"), COMFY_DYNAMIC, COMFY_UTF8_FULL, COMFY_NOT_UTF8, "half a character is no UTF-8");
+    expect_refused(TEXT(INPUT), 3, COMFY_UTF8_FULL, COMFY_UNKNOWN_SETTING, "there is no arrangement 3");
+    expect_refused(TEXT(INPUT), UINT32_MAX, COMFY_UTF8_FULL, COMFY_UNKNOWN_SETTING, "there is no greatest arrangement");
+    expect_refused(TEXT(INPUT), COMFY_DYNAMIC, 13, COMFY_UNKNOWN_SETTING, "there is no style 13");
+    expect_refused(TEXT(INPUT), COMFY_DYNAMIC, UINT32_MAX, COMFY_UNKNOWN_SETTING, "there is no greatest style");
+    expect_words_are_read();
+    expect_refusals_are_said();
     expect_null_is_read_nowhere();
-    expect_all_fill(mixed, sizeof mixed - 1);
-    expect_all_fill("\n", 1);
-    expect_all_fill("\0", 1);
+    expect_all_fill(mixed);
+    expect_all_fill(TEXT("\n"));
+    expect_all_fill(TEXT("\0"));
+    expect_csv_fills(mixed);
+    expect_csv_fills(TEXT("\n"));
+    expect_csv_fills(TEXT("\0"));
     expect_threads_agree();
     if (!wrong) printf("calls: all as comfy_table.h says\n");
     return wrong ? 1 : 0;

@@ -6,6 +6,7 @@
 
 #include <stdio.h>
 #include <stdlib.h>
+#include <string.h>
 
 void *__real_malloc(size_t size);
 void *__real_realloc(void *block, size_t size);
@@ -34,20 +35,81 @@ void __wrap_free(void *block) {
     __real_free(block);
 }
 
-int main(void) {
+static uint8_t output[8192];
+
+/* Calls that end with one result where memory is there. */
+
+static uint32_t table_is_drawn(size_t *needed) {
     static const uint8_t input[] = "name\tdays\noats and \xe9\x9b\xa8 more\t3\na\vb\t\t\n";
-    static uint8_t output[4096];
-    long wrong = 0;
-    uint32_t status = COMFY_OUT_OF_MEMORY;
-    for (refused_one = 1; status == COMFY_OUT_OF_MEMORY; refused_one++) {
+    return comfy_table_draw(input, sizeof input - 1, 12, COMFY_DYNAMIC, COMFY_ASCII_FULL, output, sizeof output, needed);
+}
+
+static uint32_t csv_with(const char *words, size_t length, size_t *needed) {
+    static const uint8_t input[] = "name,days\noats and \xe9\x9b\xa8 more,3\n\"a\nb\",,\n";
+    return comfy_csv_draw(input, sizeof input - 1, (const uint8_t *)words, length, output, sizeof output, needed);
+}
+
+static uint32_t csv_is_drawn(size_t *needed) {
+    static const char words[] = "-c\0name,days\0-w\0" "20\0-s\0ascii";
+    return csv_with(words, sizeof words, needed);
+}
+
+static uint32_t records_are_drawn(size_t *needed) {
+    static const char words[] = "-x\0--color=always\0--limit=1";
+    return csv_with(words, sizeof words, needed);
+}
+
+static uint32_t markdown_is_drawn(size_t *needed) {
+    static const char words[] = "--markdown\0-e\0latin1";
+    return csv_with(words, sizeof words, needed);
+}
+
+static uint32_t column_is_refused(size_t *needed) {
+    static const char words[] = "-r\0zz\0file";
+    return csv_with(words, sizeof words, needed);
+}
+
+static uint32_t word_is_refused(size_t *needed) {
+    static const char words[] = "--wdith\0" "20";
+    return csv_with(words, sizeof words, needed);
+}
+
+static int is_untouched(void) {
+    for (size_t i = 0; i < sizeof output; i++)
+        if (output[i] != 9) return 0;
+    return 1;
+}
+
+/*
+ * Refuses each request of a call in turn, until none is left. A drawing needs them all. What is said of words may do without
+ * some, and is as long then.
+ */
+static long wrong_in(const char *what, uint32_t (*call)(size_t *), uint32_t wanted) {
+    long wrong = 0, spared = 0;
+    size_t whole = 7;
+    refused_one = 0;
+    if (call(&whole) != wanted) wrong++;
+    do {
         size_t needed = 7;
-        output[0] = 9;
+        memset(output, 9, sizeof output);
+        refused_one++;
         requests = held = 0;
-        status = comfy_table_draw(input, sizeof input - 1, 12, COMFY_DYNAMIC, COMFY_ASCII_FULL, output, sizeof output, &needed);
+        uint32_t status = call(&needed);
         if (held != 0) wrong++;
-        if (status == COMFY_OUT_OF_MEMORY && (needed != 7 || output[0] != 9)) wrong++;
-    }
-    if (status != COMFY_DRAWN) wrong++;
-    printf("refused: %ld requests in turn, %ld wrong\n", refused_one - 2, wrong);
-    return wrong || refused_one == 2 ? 1 : 0;
+        if (status == COMFY_OUT_OF_MEMORY ? needed != 7 || !is_untouched() : status != wanted || needed != whole) wrong++;
+        if (status == wanted && refused_one <= requests) spared++;
+    } while (refused_one <= requests);
+    if (refused_one == 1 || (spared && wanted != COMFY_CSV_WORDS_REFUSED)) wrong++;
+    printf("%s: %ld requests refused in turn, %ld of them spared, %ld wrong\n", what, refused_one - 1, spared, wrong);
+    return wrong;
+}
+
+int main(void) {
+    long wrong = wrong_in("a table", table_is_drawn, COMFY_DRAWN);
+    wrong += wrong_in("csv", csv_is_drawn, COMFY_CSV_DRAWN);
+    wrong += wrong_in("expanded records", records_are_drawn, COMFY_CSV_DRAWN);
+    wrong += wrong_in("markdown", markdown_is_drawn, COMFY_CSV_DRAWN);
+    wrong += wrong_in("a column that isn't there", column_is_refused, COMFY_CSV_INPUT_REFUSED);
+    wrong += wrong_in("an unknown word", word_is_refused, COMFY_CSV_WORDS_REFUSED);
+    return wrong ? 1 : 0;
 }

@@ -10,6 +10,7 @@ pub mod MarkdownWidthLemmas
 pub mod OutputControlLemmas
 pub mod OutputLemmas
 pub mod PrintableTableLemmas
+pub mod RefusalLemmas
 pub mod RowLemmas
 pub mod RunLemmas
 pub mod SeparatorLemmas

@@ -321,4 +321,4 @@ input_without_controls options input output look made = any made.records made.ar
 -- and words ask for a style without control characters
 pub asked_without_controls : (words : List Text) (surroundings : Surroundings) (asked : Asked) (input output : Text) → AskedOutputHoldsNoControls words surroundings asked input output
 asked_without_controls words surroundings asked input output is tidy made =
-    input_without_controls asked.options input output (record { cleaned = tidy; style = subst IsStyleWithoutControls (sym is.options.look.style) (styles_without_controls (first_value is.found (codes "style")) asked.options.look.is_markdown) }) made
+    input_without_controls asked.options input output (record { cleaned = tidy; style = subst IsStyleWithoutControls (sym is.options.look.style) (styles_without_controls (first_value is.found (codes "style"))) }) made

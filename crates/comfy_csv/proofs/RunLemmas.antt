@@ -1,12 +1,12 @@
 -- What the parts of a call of `draw` ensure, put together.
-use Rattle.std.proofs.Common.{◌≡◌, ◌≢◌, ◌==◌, Bool, true, false, length, map, List, [], ◌∷◌, ◌++◌, Option, Some, Ok, Err, Result, refl, sym, ◌∙◌}
+use Rattle.std.proofs.Common.{◌≡◌, ◌≢◌, ◌==◌, Bool, true, false, length, map, List, [], ◌∷◌, ◌++◌, Option, Some, Ok, Err, refl}
 use Rattle.std.specs.Str.{IsUtf8}
 use Rattle.comfy_parts.specs.Text.{Text}
 use Rattle.csv.specs.Records.{Row, fields_of}
 use Rattle.comfy_run.specs.Outcome.{IsBeginningOnly, NoDeviceFailed, RunFacts}
-use Rattle.comfy_csv.specs.Drawn.{AreRecordsFor, ContentValue, IsOutputFor, IsOutputOf, IsOutputOfAny, content_of}
-use Rattle.comfy_csv.specs.Run.{IsAfter, IsInputFault, IsReadFailure, IsRefusal, IsUtf8IfWanted}
-use Rattle.comfy_csv_parts.specs.Columns.{ColumnFault, IsColumnRefusal}
+use Rattle.comfy_csv.specs.Drawn.{AreRecordsFor, IsOutputFor, IsOutputOf, IsOutputOfAny, content_of}
+use Rattle.comfy_csv.specs.Run.{IsAfter, IsInputRefusal, IsReadFailure, IsRefusal}
+use Rattle.comfy_csv_parts.specs.Columns.{IsColumnRefusal}
 use Rattle.comfy_csv_parts.specs.Encoding.{IsRefusedIn, IsTextIn, encoding_of}
 use Rattle.comfy_csv_parts.specs.Reading.{IsTextFor, IsTextWithoutRecords}
 use Rattle.comfy_csv_parts.specs.declared.encoding.Encoding.{Encoding}
@@ -61,16 +61,29 @@ module _ (options : Options) (input : Text) (ended failed : Bool) where
   of_read (NoColumn name) why = absurd why
   of_read (TwoSides name) why = absurd why
 
+module _ (options : Options) (input : Text) (ended failed : Bool) (whole : ended ≡ true) (sound : failed ≡ false) where
+  -- or where it was
+  pub of_input : (e : CsvError) → IsInputRefusal options input e → IsRefusal options e input ended failed
+  of_input (NotUtf8 line) why = (sound, whole, why)
+  of_input (NotUtf16 line) why = (sound, whole, why)
+  of_input (Unclosed line) why = (sound, whole, why)
+  of_input SplitCharacter why = (sound, whole, why)
+  of_input (NoColumn name) why = (sound, whole, why)
+  of_input (TwoSides name) why = (sound, whole, why)
+  of_input OutOfMemory why = (sound, λ all. why)
+  of_input Read why = absurd why
+  of_input Write why = absurd why
+
 -- an input that has a text, and is to be UTF-8, is it
 utf8_if_wanted : (encoding : Encoding) (input text : Text) → IsTextIn encoding input text → encoding ≡ Utf8 → IsUtf8 input
 utf8_if_wanted Utf8 input text is wanted = is.0
 utf8_if_wanted Cp1252 input text is wanted = absurd (cc wanted)
 utf8_if_wanted Utf16 input text is wanted = absurd (cc wanted)
 
-module _ (options : Options) (input : Text) (ended failed : Bool) (whole : ended ≡ true) (sound : failed ≡ false) where
+module _ (options : Options) (input : Text) where
   -- where it has no text
-  in_encoding : (encoding : Encoding) (e : CsvError) → encoding_of options.encoding input ≡ encoding → IsRefusedIn encoding input e → IsRefusal options e input ended failed
-  in_encoding Utf8 (NotUtf8 line) is why = (sound, whole, (is, why))
+  in_encoding : (encoding : Encoding) (e : CsvError) → encoding_of options.encoding input ≡ encoding → IsRefusedIn encoding input e → IsInputRefusal options input e
+  in_encoding Utf8 (NotUtf8 line) is why = (is, why)
   in_encoding Utf8 (NotUtf16 line) is why = absurd why
   in_encoding Utf8 (Unclosed line) is why = absurd why
   in_encoding Utf8 Read is why = absurd why
@@ -87,26 +100,26 @@ module _ (options : Options) (input : Text) (ended failed : Bool) (whole : ended
   in_encoding Cp1252 SplitCharacter is why = absurd (cc why)
   in_encoding Cp1252 (NoColumn name) is why = absurd (cc why)
   in_encoding Cp1252 (TwoSides name) is why = absurd (cc why)
-  in_encoding Cp1252 OutOfMemory is why = (sound, λ all wanted. absurd (cc (is, wanted)))
+  in_encoding Cp1252 OutOfMemory is why = λ wanted. absurd (cc (is, wanted))
   in_encoding Utf16 (NotUtf8 line) is why = absurd why
-  in_encoding Utf16 (NotUtf16 line) is why = (sound, whole, (is, why))
+  in_encoding Utf16 (NotUtf16 line) is why = (is, why)
   in_encoding Utf16 (Unclosed line) is why = absurd why
   in_encoding Utf16 Read is why = absurd why
   in_encoding Utf16 Write is why = absurd why
   in_encoding Utf16 SplitCharacter is why = absurd why
   in_encoding Utf16 (NoColumn name) is why = absurd why
   in_encoding Utf16 (TwoSides name) is why = absurd why
-  in_encoding Utf16 OutOfMemory is why = (sound, λ all wanted. absurd (cc (is, wanted)))
+  in_encoding Utf16 OutOfMemory is why = λ wanted. absurd (cc (is, wanted))
 
-  pub of_decoding : (e : CsvError) → IsRefusedIn (encoding_of options.encoding input) input e → IsRefusal options e input ended failed
+  pub of_decoding : (e : CsvError) → IsRefusedIn (encoding_of options.encoding input) input e → IsInputRefusal options input e
   of_decoding e why = in_encoding _ e refl why
 
   module _ (text : Text) (is_text : IsTextFor options input text) where
     -- where that has no records
-    pub of_records : (e : CsvError) → IsTextWithoutRecords options text e → IsRefusal options e input ended failed
-    of_records (Unclosed line) why = (sound, whole, (text, is_text, why))
-    of_records SplitCharacter why = (sound, whole, (text, is_text, why))
-    of_records OutOfMemory why = (sound, λ all. utf8_if_wanted _ input text is_text)
+    pub of_records : (e : CsvError) → IsTextWithoutRecords options text e → IsInputRefusal options input e
+    of_records (Unclosed line) why = (text, is_text, why)
+    of_records SplitCharacter why = (text, is_text, why)
+    of_records OutOfMemory why = utf8_if_wanted _ input text is_text
     of_records Read why = absurd why
     of_records Write why = absurd why
     of_records (NotUtf8 line) why = absurd why
@@ -116,10 +129,10 @@ module _ (options : Options) (input : Text) (ended failed : Bool) (whole : ended
 
   module _ (records : List (List Text)) (are_records : AreRecordsFor options input records) where
     -- where columns can't be chosen so
-    pub of_columns : (e : CsvError) → records ≢ [] → IsColumnRefusal e (content_of options records) → IsRefusal options e input ended failed
-    of_columns (NoColumn name) any why = (sound, whole, record { records = records; are_records = are_records; are_any = any; no_content = why })
-    of_columns (TwoSides name) any why = (sound, whole, record { records = records; are_records = are_records; are_any = any; no_content = why })
-    of_columns OutOfMemory any why = (sound, λ all. utf8_if_wanted _ input are_records.text are_records.is_text)
+    pub of_columns : (e : CsvError) → records ≢ [] → IsColumnRefusal e (content_of options records) → IsInputRefusal options input e
+    of_columns (NoColumn name) any why = record { records = records; are_records = are_records; are_any = any; no_content = why }
+    of_columns (TwoSides name) any why = record { records = records; are_records = are_records; are_any = any; no_content = why }
+    of_columns OutOfMemory any why = utf8_if_wanted _ input are_records.text are_records.is_text
     of_columns Read any why = absurd why
     of_columns Write any why = absurd why
     of_columns (NotUtf8 line) any why = absurd why

@@ -1,5 +1,5 @@
 -- How the program ends: its status, and what it says.
-use Rattle.std.specs.Prelude.{◌≡◌, ℕ, Bool, true, false, ◌++◌, [], MatchResult, Option, Some, None, Result, Ok, Err, chars, codes, decimal, option_map, string_bytes}
+use Rattle.std.specs.Prelude.{◌≡◌, ℕ, Bool, true, false, ◌++◌, [], MatchResult, Option, Some, None, chars, codes, decimal, option_map, string_bytes}
 use Rattle.std.specs.List.{list_any}
 use Rattle.std.specs.declared.io.ErrorKind.{ErrorKind as IoErrorKind}
 use Rattle.std.specs.declared.io.ErrorKind.TheVariants as io
@@ -8,6 +8,7 @@ use Rattle.clap.specs.declared.error.kind.ErrorKind.TheVariants as kind
 use Rattle.comfy_parts.specs.Text.{Text}
 use Rattle.comfy_csv_parts.specs.Cleaning.{is_harmful, nothing_kept}
 use Rattle.comfy_csv_parts.specs.Shown.{shown_text}
+use Rattle.comfy_csv_parts.specs.declared.arguments.Asked.{Asked}
 use Rattle.comfy_csv_parts.specs.declared.encoding.Encoding.{Encoding}
 use Rattle.comfy_csv_parts.specs.declared.error.CsvError.{CsvError}
 use Rattle.comfy_csv_parts.specs.declared.error.CsvError.TheVariants as err
@@ -61,9 +62,13 @@ about true file = (codes "csvtable: " ++ input_name file) ++ codes ": "
 about false file = codes "csvtable: "
 
 -- the line on an error
-abbrev pub message_for : Drawing → CsvError → Text
-message_for drawing e =
-    (about (is_of_input e) (option_map string_bytes drawing.asked.now.file) ++ reason_for drawing.asked.now.options.encoding drawing.fault e) ++ codes "\n"
+abbrev pub message_for : Asked → Option IoErrorKind → CsvError → Text
+message_for asked fault e =
+    (about (is_of_input e) (option_map string_bytes asked.file) ++ reason_for asked.options.encoding fault e) ++ codes "\n"
+
+-- the line where a word isn't UTF-8
+abbrev pub word_not_utf8 : Text
+word_not_utf8 = codes "csvtable: a word isn't UTF-8\n"
 
 abbrev pub no_memory : Text
 no_memory = codes "csvtable: out of memory\n"
@@ -94,7 +99,7 @@ pub record IsMessage (n : ℕ) (P : Text → Type 0) (ending : Ending) : Type 0 
 -- the end after an error, by whether the reader of the output has ended: then nothing is said
 abbrev pub IsEndOfError : Drawing → CsvError → Bool → Ending → Type 0
 IsEndOfError drawing err.Write true ending = IsSilent 1 ending
-IsEndOfError drawing e is_unread ending = IsMessage 1 (λ text. text ≡ message_for drawing e) ending
+IsEndOfError drawing e is_unread ending = IsMessage 1 (λ text. text ≡ message_for drawing.asked.now drawing.fault e) ending
 
 -- the end of a drawing, by its result
 abbrev pub IsEndOfDrawing : Drawing → Ending → Type 0
@@ -119,5 +124,5 @@ IsEndOfWords _ ending = IsMessage 2 IsHarmless ending
 
 -- the end where words couldn't be read, by the kind of fault: one isn't UTF-8, or there is no memory
 abbrev pub IsEndWithoutWords : IoErrorKind → Ending → Type 0
-IsEndWithoutWords io.InvalidData ending = IsMessage 2 (λ text. text ≡ codes "csvtable: a word isn't UTF-8\n") ending
+IsEndWithoutWords io.InvalidData ending = IsMessage 2 (λ text. text ≡ word_not_utf8) ending
 IsEndWithoutWords _ ending = IsMessage 1 (λ text. text ≡ no_memory) ending

@@ -38,6 +38,11 @@ IsInputFault options input OutOfMemory = ⊥
 abbrev pub IsUtf8IfWanted : Options → Text → Type 0
 IsUtf8IfWanted options input = encoding_of options.encoding input ≡ Utf8 → IsUtf8 input
 
+-- why an input that was read whole has no output: it can't be drawn, or there is no memory
+abbrev pub IsInputRefusal : Options → Text → CsvError → Type 0
+IsInputRefusal options input OutOfMemory = IsUtf8IfWanted options input
+IsInputRefusal options input e = IsInputFault options input e
+
 -- why not all was read, by what the source tells after the call: it failed, or there is no memory
 abbrev pub IsReadFailure : CsvError → Text → Bool → Bool → Type 0
 IsReadFailure Read input ended failed = (failed ≡ true) × (ended ≡ true → IsUtf8 input)

@@ -15,6 +15,9 @@ const FAILED: u8 = 1;
 
 const MISUSED: u8 = 2;
 
+/// The line where a word isn't UTF-8.
+pub const WORD_NOT_UTF8: &str = "csvtable: a word isn't UTF-8\n";
+
 /// How the program ends.
 #[derive(Drop)]
 pub(crate) struct Ending {
@@ -67,7 +70,10 @@ pub(crate) fn ending_of_drawing(alloc: Global, drawing: &Drawing<'_>) -> Ending
     match &drawing.result {
         Ok(()) => silent(0),
         Err(CsvError::Write) if drawing.is_unread => silent(FAILED),
-        Err(error) => message(FAILED, said_of(message_of(alloc, drawing, error))),
+        Err(error) => {
+            let text = message_of(alloc, drawing.asked, drawing.fault, error);
+            message(FAILED, said_of(text))
+        }
     }
 }
 
@@ -93,7 +99,7 @@ pub(crate) fn ending_without_words(alloc: Global, kind: io::ErrorKind) -> Ending
     match kind {
         io::ErrorKind::InvalidData => message(
             MISUSED,
-            said_of(String::from_str(alloc, "csvtable: a word isn't UTF-8\n")),
+            said_of(String::from_str(alloc, WORD_NOT_UTF8)),
         ),
         _ => message(FAILED, Said::OutOfMemory),
     }
@@ -130,12 +136,17 @@ fn said_of(text: Result<String, AllocError>) -> Said
     }
 }
 
-// The line on an error.
-fn message_of(alloc: Global, drawing: &Drawing<'_>, error: &CsvError) -> Result<String, AllocError>
-    ensures { IfOk result (λ text. string_bytes text ≡ message_for drawing.now error.now) }
+/// The line on an error. The fault is that of the input where it can't be opened or read.
+pub(crate) fn message_of(
+    alloc: Global,
+    asked: &Asked,
+    fault: Option<io::ErrorKind>,
+    error: &CsvError,
+) -> Result<String, AllocError>
+    ensures { IfOk result (λ text. string_bytes text ≡ message_for asked.now fault error.now) }
 {
-    let mut text = about(alloc, is_of_input(error), &drawing.asked.file)?;
-    let reason = reason_of(alloc, drawing.asked.options.encoding, drawing.fault, error)?;
+    let mut text = about(alloc, is_of_input(error), &asked.file)?;
+    let reason = reason_of(alloc, asked.options.encoding, fault, error)?;
     text.push_str(reason.as_str())?;
     text.push('\n')?;
     Ok(text)
@@ -218,8 +229,8 @@ fn encoding_hint(encoding: Option<Encoding>) -> &'static str
     }
 }
 
-// What clap says, with nothing in it that speaks to the terminal: its text holds words as they were typed.
-fn text_of_clap(alloc: Global, error: &Error) -> Result<String, AllocError>
+/// What clap says, with nothing in it that speaks to the terminal: its text holds words as they were typed.
+pub(crate) fn text_of_clap(alloc: Global, error: &Error) -> Result<String, AllocError>
     ensures { IfOk result (λ text. IsHarmless (string_bytes text)) }
 {
     let text = format!(in alloc; "{error}")?;

@@ -2,6 +2,7 @@
 #![tactic(auto)]
 
 mod content;
+mod drawing;
 mod ending;
 mod expanded;
 pub mod laws;
@@ -15,8 +16,10 @@ mod unbroken;
 pub use comfy_csv_parts::{
     Asked, CsvError, Delimiter, DrawnColumn, Encoding, Expansion, Kept, Look, Options,
     RowSeparators, Surroundings, asked_of, cleaned, decoded, escaped, is_number, read_records,
-    records_of, shown_text, text_of,
+    shown_text,
 };
+pub use drawing::{Refusal, drawing_of};
+pub use ending::WORD_NOT_UTF8;
 pub use process::run_with_arguments;
 pub use table::table_of;
 pub use transfer::draw;

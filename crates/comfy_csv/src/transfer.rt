@@ -2,7 +2,7 @@
 
 ghost use Rattle.std.specs.Prelude.{◌≡◌, List, ℕ, true, false, Some, OnOk, IfOk, IfErr, string_bytes};
 ghost use Rattle.comfy_csv.specs.Drawn.{IsOutputFor};
-ghost use Rattle.comfy_csv.specs.Run.{IsAfter, IsReadFailure, IsRefusal, is_read_fault, is_write_fault};
+ghost use Rattle.comfy_csv.specs.Run.{IsAfter, IsInputRefusal, IsReadFailure, IsRefusal, is_read_fault, is_write_fault};
 ghost use Rattle.comfy_run.specs.Run.{Between};
 
 use crate::output::output_of;
@@ -57,6 +57,18 @@ fn output_for<R: Source>(
     ensures refused { IfErr result (λ e. (input : List ℕ) → R.remaining source.old ≡ Some input → IsRefusal options.now e input (R.end_was_read source.new) (R.has_failed source.new)) }
 {
     let input = input_of(alloc, source)?;
+    output_of_input(alloc, input, options)
+}
+
+/// The output for an input that was read whole.
+pub(crate) fn output_of_input(
+    alloc: Global,
+    input: Vec<u8>,
+    options: &Options,
+) -> Result<String, CsvError>
+    ensures output { IfOk result (λ output. IsOutputFor options.now input.items (string_bytes output)) }
+    ensures refused { IfErr result (λ e. IsInputRefusal options.now input.items e) }
+{
     let text = decoded(alloc, input, options.encoding)?;
     let records = read_records(alloc, text.as_str(), options)?;
     if records.is_empty() {

@@ -1,4 +1,4 @@
-//! Draws standard input as a table, with a width of 40.
+//! Draws tab-separated text of standard input as a table, with a width of 40.
 use comfy_table_proved::{Arrangement, Options, Style, draw};
 use std::io::{Read, stdin};
 

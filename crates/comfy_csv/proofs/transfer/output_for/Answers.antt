@@ -1,10 +1,8 @@
-use Rattle.std.proofs.Common.{◌≡◌, ◌∙◌, Err, ap, map, rules, string_bytes, subst}
-use Rattle.std.proofs.lemmas.Result.{IfErr-weaker, IfOk-weaker}
-use Rattle.csv.specs.Records.{fields_of}
+use Rattle.std.proofs.Common.{◌≡◌, Err, rules, subst}
+use Rattle.std.proofs.lemmas.Result.{IfErr-weaker}
 use Rattle.comfy_parts.specs.Text.{Text}
-use Rattle.comfy_csv.proofs.RunLemmas.{of_any, of_columns, of_decoding, of_read, of_records, some_left}
-use Rattle.comfy_csv_parts.specs.Encoding.{IsRefusedIn, encoding_of}
-use Rattle.comfy_csv_parts.specs.Reading.{AreRecordsIn, IsTextFor}
+use Rattle.comfy_csv.proofs.RunLemmas.{of_input, of_read}
+use Rattle.comfy_csv.specs.Run.{IsInputRefusal}
 use Rattle.comfy_csv.proofs.transfer.output_for.Goals as goal
 
 pub returns-in_err-input-clause-refused : goal.returns-in_err-input-clause-refused
@@ -12,10 +10,8 @@ returns-in_err-input-clause-refused g c =
     let same : c.from_residual.result ≡ Err c.in_err-input.field-0.0 = search rules in
     rw same (λ input known. of_read c.args.options.now input _ _ c.in_err-input.field-0.0 (c.in_err-input.ensures.refused input known))
 
-pub returns-in_err-text-clause-refused : goal.returns-in_err-text-clause-refused
-returns-in_err-text-clause-refused g c =
-    let e = c.in_err-text.field-0.0 in
-    let same : c.from_residual-in_err-text.result ≡ Err e = search rules in
-    rw same
-    (λ input known. of_decoding c.args.options.now input _ _ c.in_ok-input.ensures.ended c.in_ok-input.ensures.fault e
-    (subst (λ (bytes : Text). IsRefusedIn (encoding_of c.args.options.now.encoding bytes) bytes e) (c.in_ok-input.ensures.input input known) c.in_err-text.ensures.refused))
+pub returns-clause-refused : goal.returns-clause-refused
+returns-clause-refused g c =
+    IfErr-weaker c.output_of_input.result _ _
+    (λ e why input known. of_input c.args.options.now input _ _ c.in_ok-input.ensures.ended c.in_ok-input.ensures.fault e
+    (subst (λ (bytes : Text). IsInputRefusal c.args.options.now bytes e) (c.in_ok-input.ensures.input input known) why)) c.output_of_input.ensures.refused

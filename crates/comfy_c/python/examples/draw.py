@@ -1,8 +1,8 @@
-"""Draws standard input as a table, with a width of 40."""
+"""Draws tab-separated text of standard input as a table, with a width of 40."""
 
 import sys
 
-from comfy_table_proved import Style, draw
+from comfy_table_proved.tabs import Style, draw
 
 if __name__ == "__main__":
     text = sys.stdin.buffer.read().decode()

@@ -1,0 +1,19 @@
+//! Draws CSV of standard input as a table, by the words of csvtable: csv [WORD]..
+use comfy_table_proved::draw_csv;
+use std::io::{Read, stdin};
+use std::process::ExitCode;
+
+fn main() -> ExitCode {
+    let words: Vec<String> = std::env::args().skip(1).collect();
+    let words: Vec<&str> = words.iter().map(String::as_str).collect();
+    let mut input = Vec::new();
+    stdin().read_to_end(&mut input).expect("standard input");
+    match draw_csv(&input, &words) {
+        Ok(drawing) => print!("{drawing}"),
+        Err(error) => {
+            eprintln!("{error}");
+            return ExitCode::FAILURE;
+        }
+    }
+    ExitCode::SUCCESS
+}

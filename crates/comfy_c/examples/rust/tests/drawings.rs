@@ -1,0 +1,183 @@
+//! Expected drawings are typed by hand. CSVTABLE, where it is set, is the program csvtable: random rows, written here as CSV
+//! with few quotes, have to be drawn as it draws them.
+use comfy_table_proved::{Arrangement, Error, Expanded, Options, Rows, Style, draw, draw_csv};
+use std::io::Write;
+use std::process::{Command, Stdio};
+
+#[test]
+fn rows_below_a_header() {
+    let rows = Rows::new(["name", "price"]).row(["oats", "3"]).row(["rye", "-12.5"]).row(["new\nline"]);
+    let wanted = "\
+╭──────┬───────╮
+│ name ┆ price │
+╞══════╪═══════╡
+│ oats ┆     3 │
+├╌╌╌╌╌╌┼╌╌╌╌╌╌╌┤
+│ rye  ┆ -12.5 │
+├╌╌╌╌╌╌┼╌╌╌╌╌╌╌┤
+│ new  ┆       │
+│ line ┆       │
+╰──────┴───────╯
+";
+    assert_eq!(rows.to_string(), wanted);
+}
+
+#[test]
+fn columns_are_chosen_and_aligned() {
+    let rows = Rows::new(["a", "b", "c"]).row(["x", "long", "1"]);
+    let wanted = "\
+┌───┬───┬──────┐
+│ c ┆ a ┆    b │
+╞═══╪═══╪══════╡
+│ 1 ┆ x ┆ long │
+└───┴───┴──────┘
+";
+    assert_eq!(rows.columns([2, 0, 1]).left(["c"]).right([1]).style("box").to_string(), wanted);
+}
+
+#[test]
+fn width_height_and_limit() {
+    let rows = Rows::without_header().row(["oats"]).row(["rye"]);
+    assert_eq!(rows.width(12).full().limit(1).style("box").to_string(), "\
+┌──────────┐
+│ oats     │
+└──────────┘
+1 of 2 records
+");
+    let cut = Rows::without_header().row(["a\nb\nlong text"]).row(["c"]).max_height(2).row_lines(false);
+    assert_eq!(cut.to_string(), "\
+╭───────────╮
+│ a         │
+│ b…        │
+│ c         │
+╰───────────╯
+");
+    assert_eq!(Rows::new(["a"]).row(["b"]).row(["c"]).row_lines(true).to_string(), "\
+╭───╮
+│ a │
+╞═══╡
+│ b │
+├╌╌╌┤
+│ c │
+╰───╯
+");
+}
+
+#[test]
+fn markdown_records_and_bold() {
+    let rows = Rows::new(["x", "y"]).row(["a|b", "1"]);
+    assert_eq!(rows.clone().markdown().to_string(), "| x    | y |\n|------|--:|\n| a\\|b | 1 |\n");
+    assert_eq!(rows.clone().expanded(Expanded::Always).style("box").to_string(), "\
+record 1 of 1
+┌───┬─────┐
+│ x ┆ a|b │
+│ y ┆ 1   │
+└───┴─────┘
+");
+    assert!(rows.bold_header().to_string().contains("\x1b[1m"));
+}
+
+#[test]
+fn no_text_is_taken_for_the_form_of_a_file() {
+    let rows = Rows::without_header()
+        .row(["\u{feff}id", "sep=;"])
+        .row(["sep=;", "\""])
+        .row([""; 0])
+        .row(["a\tb", "x\",\"y"])
+        .row(["\x1b[31m\0", "\u{202e}"]);
+    assert_eq!(rows.to_string(), "\
+╭────────┬───────╮
+│ \u{feff}id     ┆ sep=; │
+│ sep=;  ┆ \"     │
+│        ┆       │
+│ a   b  ┆ x\",\"y │
+│ \u{fffd}[31m\u{fffd} ┆ \u{fffd}     │
+╰────────┴───────╯
+");
+    assert_eq!(Rows::without_header().draw(), Ok(String::new()));
+}
+
+#[test]
+fn errors() {
+    let rows = Rows::new(["a", "b", "a"]).row([1, 2, 3]);
+    assert_eq!(rows.clone().right(["c"]).draw(), Err(Error::NoColumn("c".into())));
+    assert_eq!(rows.clone().right([3]).draw(), Err(Error::NoColumn("3".into())));
+    assert_eq!(rows.clone().left(["a"]).draw(), Err(Error::TwoColumns("a".into())));
+    assert!(matches!(rows.clone().left(["b"]).right([1]).draw(), Err(Error::Input(_))));
+    assert!(matches!(rows.clone().style("box\0--raw").draw(), Err(Error::Words(_))));
+    assert!(matches!(rows.style("odd").draw(), Err(Error::Words(_))));
+    let said = "csvtable: list.csv: a quote that opens in line 1 is never closed; try --no-quotes";
+    assert_eq!(draw_csv("a,\"b\n", &["list.csv"]).unwrap_err().to_string(), said);
+    assert_eq!(draw_csv([0xff], &["-e", "cp1252", "-n", "-s", "ascii"]).unwrap(), "+---+\n| ÿ |\n+---+\n");
+}
+
+#[test]
+fn a_drawing_that_is_much_longer_than_its_text() {
+    let drawing = Rows::without_header().row(["x"; 10]).width(60_000).full().to_string();
+    let widths: Vec<usize> = drawing.lines().map(|line| line.chars().count()).collect();
+    assert_eq!(widths, [60_000; 3]);
+}
+
+#[test]
+fn tab_separated_text() {
+    let options = Options { width: None, arrangement: Arrangement::Disabled, style: Style::AsciiFull };
+    assert_eq!(draw("name\tdays\noats\t3\n", options).unwrap(), "\
++------+------+
+| name | days |
++=============+
+| oats | 3    |
++------+------+
+");
+}
+
+const PIECES: [&str; 32] = [
+    "word", "two words", "Ångström", "Ελένη", "Анна", "רות", "กมล", "王小明", "김철수", "👨‍👩‍👧", "🇩🇪", "e\u{301}", ",", ";", "|", "\"", "'",
+    "\t", "\n", "\r", "\r\n", "\x1b[31m", "\0", "\u{9b}", "\u{feff}", "\u{202e}", "sep=;", "-", "=", "12", "-3.5", "1,150.00",
+];
+
+// Numbers from a seed.
+struct Chance(u64);
+
+impl Chance {
+    fn below(&mut self, count: usize) -> usize {
+        self.0 = self.0.wrapping_mul(6364136223846793005).wrapping_add(1442695040888963407);
+        (self.0 >> 33) as usize % count
+    }
+
+    fn text(&mut self) -> String {
+        (0..self.below(4)).map(|_| PIECES[self.below(PIECES.len())]).collect()
+    }
+}
+
+// A field as other writers of CSV have it, with quotes where it needs them. A first byte-order mark is dropped without quotes.
+fn field(text: &str) -> String {
+    let needs_quotes = text.is_empty() || text.starts_with('\u{feff}') || text.contains([',', '"', '\n', '\r']);
+    if needs_quotes { format!("\"{}\"", text.replace('"', "\"\"")) } else { text.into() }
+}
+
+fn by_csvtable(program: &str, text: &str, words: &[&str]) -> String {
+    let mut command = Command::new(program);
+    command.args(words).env_remove("COLUMNS").env_remove("NO_COLOR").stdin(Stdio::piped()).stdout(Stdio::piped());
+    let mut child = command.spawn().unwrap();
+    child.stdin.take().unwrap().write_all(text.as_bytes()).unwrap();
+    String::from_utf8(child.wait_with_output().unwrap().stdout).unwrap()
+}
+
+#[test]
+fn random_rows_are_drawn_as_csvtable_draws_their_csv() {
+    let Ok(program) = std::env::var("CSVTABLE") else {
+        return;
+    };
+    for seed in 0..300 {
+        let mut chance = Chance(seed);
+        let (mut rows, mut text) = (Rows::without_header().width(50), String::new());
+        for _ in 0..1 + chance.below(6) {
+            let cells: Vec<String> = (0..1 + chance.below(4)).map(|_| chance.text()).collect();
+            let fields: Vec<String> = cells.iter().map(|cell| field(cell)).collect();
+            text += &(fields.join(",") + "\r\n");
+            rows = rows.row(cells);
+        }
+        let wanted = by_csvtable(&program, &text, &["-d", ",", "-n", "-w", "50", "--expanded", "never"]);
+        assert_eq!(rows.to_string(), wanted, "seed {seed}");
+    }
+}

@@ -1,0 +1,64 @@
+"""Writes the package's wheel, with no other package and no network: a build backend of PEP 517 that stands beside it.
+
+setuptools would tag a wheel with a shared library for one version of Python. This library is called by ctypes, so that it
+serves each of them.
+"""
+
+import base64
+import hashlib
+import sys
+import tomllib
+import zipfile
+from pathlib import Path
+
+_TAG = "py3-none-linux_x86_64"
+_HERE = Path(__file__).parent
+
+
+def build_wheel(wheel_directory, config_settings=None, metadata_directory=None):
+    """Writes the wheel to a folder, and returns its name. tools/package.sh puts the shared library and the licence there first."""
+    project = tomllib.loads((_HERE / "pyproject.toml").read_text())["project"]
+    name = f"{project['name']}-{project['version']}"
+    files = _package(project["name"])
+    files[f"{name}.dist-info/LICENSE"] = (_HERE / "LICENSE").read_bytes()
+    files[f"{name}.dist-info/METADATA"] = _metadata(project).encode()
+    files[f"{name}.dist-info/WHEEL"] = _lines({"Wheel-Version": "1.0", "Generator": "build_wheel", "Root-Is-Purelib": "false", "Tag": _TAG}).encode()
+    record = f"{name}.dist-info/RECORD"
+    files[record] = ("".join(f"{path},{_digest(data)},{len(data)}\n" for path, data in files.items()) + f"{record},,\n").encode()
+    with zipfile.ZipFile(Path(wheel_directory) / f"{name}-{_TAG}.whl", "w", zipfile.ZIP_DEFLATED) as wheel:
+        for path, data in files.items():
+            # The time is the same in each wheel, so that equal files give equal wheels.
+            wheel.writestr(zipfile.ZipInfo(path, (1980, 1, 1, 0, 0, 0)), data, zipfile.ZIP_DEFLATED)
+    return f"{name}-{_TAG}.whl"
+
+
+def _package(name):
+    """The files of the package by their paths in the wheel."""
+    source = _HERE / "src"
+    paths = [path for path in sorted((source / name).rglob("*")) if path.is_file() and path.suffix in {".py", ".so", ".typed"}]
+    if not any(path.suffix == ".so" for path in paths):
+        sys.exit("the shared library isn't there; tools/package.sh puts it into the package's folder")
+    return {path.relative_to(source).as_posix(): path.read_bytes() for path in paths}
+
+
+def _metadata(project):
+    return _lines({
+        "Metadata-Version": "2.1",
+        "Name": project["name"],
+        "Version": project["version"],
+        "Summary": project["description"],
+        "License": project["license"]["text"],
+        "Requires-Python": project["requires-python"],
+    })
+
+
+def _lines(headers):
+    return "".join(f"{name}: {value}\n" for name, value in headers.items())
+
+
+def _digest(data):
+    return "sha256=" + base64.urlsafe_b64encode(hashlib.sha256(data).digest()).rstrip(b"=").decode()
+
+
+if __name__ == "__main__":
+    print(build_wheel(sys.argv[1]))

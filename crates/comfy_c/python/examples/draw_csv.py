@@ -1,0 +1,11 @@
+"""Draws CSV of standard input as a table, by the words of csvtable: draw_csv.py [WORD].."""
+
+import sys
+
+from comfy_table_proved import draw_csv
+
+if __name__ == "__main__":
+    try:
+        sys.stdout.buffer.write(draw_csv(sys.stdin.buffer.read(), sys.argv[1:]).encode())
+    except ValueError as error:
+        sys.exit(str(error))

@@ -1,0 +1,92 @@
+//! Tables of CSV, as the words of `csvtable` ask for them.
+
+ghost use Rattle.std.specs.Prelude.{◌≡◌, ◌≢◌, ◌≤◌, ◌<◌, IfErr, IfOk, IsUtf8, List, ℕ, drop, length, string_bytes, take};
+ghost use Rattle.comfy_c.specs.Calls.{IsHanded, IsCsvDrawing, IsCsvRefusal, IsInputMessage, IsWordsMessage};
+
+use crate::room::put;
+use crate::words::command_line;
+use comfy_csv::{Refusal, WORD_NOT_UTF8, drawing_of};
+use std::alloc::Global;
+
+// What a call returns.
+
+const DRAWN: u32 = 0;
+
+const ROOM_TOO_SMALL: u32 = 1;
+
+const INPUT_REFUSED: u32 = 2;
+
+const OUT_OF_MEMORY: u32 = 3;
+
+const WORDS_REFUSED: u32 = 4;
+
+/// Draws the table of CSV into the caller's buffer, as `csvtable` does for these words and a file of these bytes where
+/// standard output is no terminal, and neither `COLUMNS` nor `NO_COLOR` is set.
+///
+/// A zero byte ends each word; that of the last one may be missing. No file is opened: a word for one names the input in
+/// messages, and its end may tell what stands between fields.
+///
+/// | Returned | Meaning | At the front of the buffer | `needed` |
+/// |---|---|---|---|
+/// | 0 | the input is drawn | the drawing | its length in bytes |
+/// | 1 | the buffer is too small | nothing | the bytes that the drawing takes |
+/// | 2 | the input can't be drawn as the words ask | the line that `csvtable` says | its length in bytes |
+/// | 3 | memory ran out | nothing | unchanged |
+/// | 4 | the words ask for no drawing | what `csvtable` says, help and version too | its length in bytes |
+///
+/// A buffer that is too small for what is said with 2 or 4 is unchanged, as it is with 1 and 3; else it is unchanged
+/// behind what was written.
+///
+/// ```
+/// let status = comfy_csv_draw(rt.alloc(), b"a,b\n", b"-w\x0040", &mut output, &mut needed);
+/// ```
+#[unsafe(no_mangle)]
+pub extern "C" fn comfy_csv_draw(
+    alloc: Global,
+    input: &[u8],
+    words: &[u8],
+    output: &mut [u8],
+    needed: &mut usize,
+) -> u32
+    ensures drawn { result ≡ 0 → (needed.new ≤ length output.old) × IsCsvDrawing words.now input.now (take needed.new output.new) }
+    ensures room_too_small { result ≡ 1 → (length output.old < needed.new) × (drawing : List ℕ) × (needed.new ≡ length drawing) × IsCsvDrawing words.now input.now drawing }
+    ensures input_refused { result ≡ 2 → IsHanded (IsInputMessage words.now input.now) output.old output.new needed.new }
+    ensures out_of_memory { result ≡ 3 → IsUtf8 words.now }
+    ensures words_refused { result ≡ 4 → IsHanded (IsWordsMessage words.now) output.old output.new needed.new }
+    ensures no_other { result ≤ 4 }
+    ensures rest { drop needed.new output.new ≡ drop needed.new output.old }
+    ensures untouched { result ≢ 0 → result ≢ 2 → result ≢ 4 → output.new ≡ output.old }
+    ensures needed_kept { result ≡ 3 → needed.new ≡ needed.old }
+{
+    let Ok(text) = simdutf8::compat::from_utf8(words) else {
+        put(WORD_NOT_UTF8.as_bytes(), output, needed);
+        return WORDS_REFUSED;
+    };
+    match drawing_for(alloc, text, input) {
+        Ok(drawing) => {
+            if put(drawing.as_bytes(), output, needed) {
+                DRAWN
+            } else {
+                ROOM_TOO_SMALL
+            }
+        }
+        Err(Refusal::Input(line)) => {
+            put(line.as_bytes(), output, needed);
+            INPUT_REFUSED
+        }
+        Err(Refusal::OutOfMemory) => OUT_OF_MEMORY,
+        Err(Refusal::Words(message)) => {
+            put(message.as_bytes(), output, needed);
+            WORDS_REFUSED
+        }
+    }
+}
+
+// The drawing for the words of a text, or why there is none.
+fn drawing_for(alloc: Global, text: &str, input: &[u8]) -> Result<String, Refusal>
+    ensures drawn { IfOk result (λ drawing. IsCsvDrawing text.now input.now (string_bytes drawing)) }
+    ensures refused { IfErr result (λ refusal. IsCsvRefusal text.now input.now refusal) }
+{
+    let words = command_line(alloc, text)?;
+    drawing_of(alloc, words.as_slice(), input)
+}

@@ -1,0 +1,26 @@
+# For the scripts that read this file at the top of the project: what is built, and where it is put.
+
+# Builds what a crate's out/ hasn't yet, by a command in the crate's folder.
+build() {
+  crate=$1 made=$2
+  shift 2
+  [ -e "crates/$crate/out/$made" ] || (cd "crates/$crate" && "$@" > /dev/null < /dev/null)
+}
+
+# Copies a file with a mode into a folder below $prefix, and prints where it is.
+put() {
+  mode=$1 file=$2 folder=$prefix/$3
+  mkdir -p "$folder"
+  cp "$file" "$folder"
+  chmod "$mode" "$folder/$(basename "$file")"
+  echo "$folder/$(basename "$file")"
+}
+
+# The library for C, with what it needs of the toolchain.
+put_library() {
+  build comfy_c libcomfy_c.a rt lib
+  put 644 crates/comfy_c/c/comfy_table.h include
+  put 644 crates/comfy_c/out/libcomfy_c.a lib
+  put 644 "$(dirname "$(rt doc)")/c/liblibc_c.a" lib
+  put 644 crates/comfy_c/c/comfy_table.pc lib/pkgconfig
+}
