@@ -12,6 +12,7 @@
 - Each mutation changes a function that exists.
 - The crate of documented examples is what the doc comments say.
 - csvtable's man page and completions are what tools/manual.py makes of its table of words.
+- The pictures are what tools/pictures.py makes of stored outputs, and each link of a page leads to a file or a heading.
 """
 import glob
 import os
@@ -21,6 +22,7 @@ import sys
 from doc_examples import wrong_examples
 from manual import wrong_files
 from mutations import must_fail_of, mutations_of
+from pictures import drawing_of_case, wrong_pictures
 from what_is_believed import LIBRARIES, TOP, counts, functions_of, text_of
 
 LAWS_ALONE = ["cluster_width"]  # libraries without code
@@ -31,7 +33,7 @@ OVER_OTHERS = set(
     "should_draw_left_border should_draw_right_border should_draw_vertical_lines".split()
 )
 CALLERS = ["test_callers", "test_csv_cases"]
-STORED = ["example_ledger/stdout", "example_ledger/src/main.rt", "ctable/stdout", "csvtable/stdout"]
+STORED = ["csvtable/stdout"]
 
 
 def sources_of(crate):
@@ -82,6 +84,27 @@ def wrong_in_calling(crate):
     return wrong
 
 
+def anchor_of(heading):
+    """What a link names a heading by."""
+    return re.sub(r"[^\w\- ]", "", heading.lower()).replace(" ", "-")
+
+
+def wrong_links():
+    """The links of the pages that lead to no file of the repository, or to no heading of it."""
+    wrong = []
+    for page in ["README.md", "CONTRIBUTING.md", *glob.glob("docs/*.md", root_dir=TOP), *glob.glob("crates/*/CALLING.md", root_dir=TOP)]:
+        for link in re.findall(r"\]\(([^)\s]+)\)", text_of(page)):
+            if link.startswith("https://"):
+                continue
+            path, _, anchor = link.partition("#")
+            target = os.path.normpath(os.path.join(os.path.dirname(page), path)) if path else page
+            if not os.path.exists(f"{TOP}/{target}"):
+                wrong.append(f"{page} links to {link}, which isn't there")
+            elif anchor and anchor not in map(anchor_of, re.findall(r"^#+ (.*)$", text_of(target), re.M)):
+                wrong.append(f"{page} links to {link}, which isn't a heading")
+    return wrong
+
+
 def lines_to_believe():
     """Lines of the definitions in which public contracts are written: of the files that don't say that they are private."""
     paths = [it for crate in LIBRARIES for it in glob.glob(f"crates/{crate}/specs/**/*.antt", root_dir=TOP, recursive=True)]
@@ -101,14 +124,22 @@ def main():
     for group in re.findall(r"\[(P\d+(?:, P\d+)*)\]", readme):
         wrong += [f"README.md cites {it}, which isn't a heading" for it in group.split(", ") if it not in labels]
     wrong += [f"README.md doesn't print crates/{path}" for path in STORED if text_of(f"crates/{path}") not in readme]
+    if drawing_of_case("a-wide-file") not in readme:
+        wrong.append("README.md doesn't print the case a-wide-file")
+    for language, path in (("rust", "example_ledger/src/main.rt"), ("python", "comfy_c/python/examples/boats.py")):
+        code = re.search(rf"^```{language}\n(.*?)^```", readme, re.M | re.S)[1]
+        wrong += [f"crates/{path} hasn't the line of README.md: {line}" for line in code.splitlines() if line not in text_of(f"crates/{path}")]
     for path in glob.glob("crates/*/CALLING.md", root_dir=TOP):
         wrong += wrong_in_calling(path.split("/")[1])
     wrong += wrong_examples()
     wrong += [f"{path} isn't what tools/manual.py makes" for path in wrong_files()]
+    wrong += [f"{path} isn't what tools/pictures.py makes" for path in wrong_pictures()]
+    wrong += wrong_links()
     wrong += [f"docs/PROVED.md gives {given} lines for {label}, which stands on {count}" for label, count, given in counts(page) if count != given]
-    passed_on = re.search(r"^pub use comfy_parts::laws::\{(.*?)\};", text_of("crates/comfy_table/src/laws.rt"), re.M | re.S)[1]
-    laws = re.findall(r"^pub fn (\w+)", text_of("crates/comfy_parts/src/laws.rt"), re.M)
-    wrong += [f"comfy_table::laws doesn't pass on {it}" for it in set(laws) ^ set(re.findall(r"\w+", passed_on))]
+    for parts, crate in (("comfy_parts", "comfy_table"), ("comfy_csv_parts", "comfy_csv")):
+        passed_on = re.search(r"^pub use " + parts + r"::laws::\{(.*?)\};", text_of(f"crates/{crate}/src/laws.rt"), re.M | re.S)[1]
+        laws = re.findall(r"^pub fn (\w+)", text_of(f"crates/{parts}/src/laws.rt"), re.M)
+        wrong += [f"{crate}::laws doesn't pass on {it}" for it in set(laws) ^ set(re.findall(r"\w+", passed_on))]
     believed = lines_to_believe()
     if f"the {believed} lines" not in page:
         wrong.append(f"docs/PROVED.md doesn't name the {believed} lines of definitions to believe")

@@ -1,5 +1,5 @@
 #!/usr/bin/env python3
-"""Makes 17 files as people have them, and tries csvtable on them.
+"""Makes 18 files as people have them, and tries csvtable on them.
 
     tools/real_files.py PROGRAM             runs PROGRAM on each file: its status, what it writes and what it says
     tools/real_files.py --compare PROGRAM   prints a table for docs/CSVTABLE.md: what PROGRAM, csvlook, mlr and column do

@@ -78,12 +78,12 @@ fn needed_contents(
 {
     let mut needed = Vec::with_capacity(alloc, contents.len())?;
     for (at, content) in contents.iter().enumerate() {
-        needed.push(needed_content(is_unbroken_at(unbroken, at), *content))?;
+        needed.push(needed_content(may_not_break(unbroken, at), *content))?;
     }
     Ok(needed)
 }
 
-fn is_unbroken_at(unbroken: &[bool], at: usize) -> bool
+fn may_not_break(unbroken: &[bool], at: usize) -> bool
     ensures { result ≡ unwrap_or (slice_get unbroken.now at) false }
 {
     match unbroken.get(at) {

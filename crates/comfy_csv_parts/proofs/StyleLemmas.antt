@@ -1,5 +1,5 @@
 -- No style that words can ask for has a control character.
-use Rattle.std.proofs.Common.{◌≡◌, ℕ, Bool, true, false, List, [], ◌∷◌, Option, Some, None, option_map, unwrap_or, refl}
+use Rattle.std.proofs.Common.{◌≡◌, ℕ, Bool, false, List, [], ◌∷◌, Option, Some, None, option_map, unwrap_or, refl}
 use Rattle.std.proofs.lemmas.Bool.{cond_both, or_parts}
 use Rattle.std.specs.Char.{is_control}
 use Rattle.std.specs.List.{find, list_any}
@@ -29,8 +29,6 @@ first_without : (first second : Option TableStyle) → HasNone first → HasNone
 first_without (Some style) second one other = one
 first_without None second one other = other
 
-pub styles_without_controls : (name : Option Text) (is_markdown : Bool) → IsStyleWithoutControls (style_for name is_markdown)
-styles_without_controls None true = refl
-styles_without_controls None false = refl
-styles_without_controls (Some word) true = refl
-styles_without_controls (Some word) false = first_without (style_within own_styles word) (style_within named_presets word) (found_without own_styles word refl) (found_without named_presets word refl)
+pub styles_without_controls : (name : Option Text) → IsStyleWithoutControls (style_for name)
+styles_without_controls None = refl
+styles_without_controls (Some word) = first_without (style_within own_styles word) (style_within named_presets word) (found_without own_styles word refl) (found_without named_presets word refl)

@@ -1,5 +1,5 @@
 -- The styles that words name.
-use Rattle.std.specs.Prelude.{Bool, true, ◌||◌, List, [], ◌∷◌, ◌++◌, Option, Some, None, codes, find, map, option_map, unwrap_or, if◌then◌else◌}
+use Rattle.std.specs.Prelude.{Bool, true, ◌||◌, List, [], ◌∷◌, ◌++◌, Option, Some, None, codes, find, map, option_map, unwrap_or}
 use Rattle.std.specs.Option.{option_or}
 use Rattle.std.specs.Str.{str_eq_ignore_ascii_case}
 use Rattle.comfy_parts.specs.Presets.{ascii_full, ascii_markdown, named_presets, nothing, utf8_full}
@@ -38,10 +38,10 @@ style_within styles word = option_map (λ entry. entry.1) (find (λ entry. is_na
 abbrev pub named_style : Text → TableStyle
 named_style word = unwrap_or (option_or (style_within own_styles word) (style_within named_presets word)) utf8_full
 
--- the style that is asked for: that of Markdown, or of a name, `rounded` without one
-abbrev pub style_for : Option Text → Bool → TableStyle
-style_for None is_markdown = if is_markdown then ascii_markdown else compact_style
-style_for (Some word) is_markdown = if is_markdown then ascii_markdown else named_style word
+-- the style that is asked for: that of a name, `rounded` without one
+abbrev pub style_for : Option Text → TableStyle
+style_for None = compact_style
+style_for (Some word) = named_style word
 
 -- the name of a style that has lines between rows only where a row has more than one line
 abbrev pub is_compact : Option Text → Bool

@@ -61,11 +61,10 @@ abbrev pub terminal_width : Option Text → ℕ
 terminal_width None = 80
 terminal_width (Some columns) = unwrap_or (option_and_then some_columns (number_for 64 columns)) 80
 
--- the width that is kept: the one that was asked for, else the terminal's; 0 is none, and so it is for Markdown
-abbrev pub width_for : Bool → Option ℕ → Surroundings → Option ℕ
-width_for true asked surroundings = None
-width_for false (Some width) surroundings = some_width width
-width_for false None surroundings = if surroundings.is_terminal then Some (terminal_width (option_map (λ c. c.now) surroundings.columns)) else None
+-- the width that is kept: the one that was asked for, else the terminal's; 0 is none
+abbrev pub width_for : Option ℕ → Surroundings → Option ℕ
+width_for (Some width) surroundings = some_width width
+width_for None surroundings = if surroundings.is_terminal then Some (terminal_width (option_map (λ c. c.now) surroundings.columns)) else None
 
 -- colours are wanted: `NO_COLOR` is missing or empty
 abbrev pub wants_color : Option Text → Bool
@@ -76,11 +75,10 @@ wants_color (Some text) = length text == 0
 abbrev pub is_bold_there : Surroundings → Bool
 is_bold_there surroundings = surroundings.is_terminal && wants_color (option_map (λ c. c.now) surroundings.no_color)
 
--- whether the header is in bold: never for Markdown; always, never, or else by where the output goes
-abbrev pub is_bold_for : Bool → Option Text → Surroundings → Bool
-is_bold_for true word surroundings = false
-is_bold_for false None surroundings = is_bold_there surroundings
-is_bold_for false (Some word) surroundings =
+-- whether the header is in bold: always, never, or else by where the output goes
+abbrev pub is_bold_for : Option Text → Surroundings → Bool
+is_bold_for None surroundings = is_bold_there surroundings
+is_bold_for (Some word) surroundings =
     if bytes_eq word (codes "always") then true
     else if bytes_eq word (codes "never") then false
     else is_bold_there surroundings
@@ -140,13 +138,13 @@ words_in (Some list) = slice_split (λ b. b == 0x2C) list
 
 -- a look that follows from the values that were found for options, and from where the output goes
 pub record LookIsAsked (surroundings : Surroundings) (found : Found) (look : Look) : Type 0 where
-  pub style : look.style ≡ style_for (first_value found (codes "style")) look.is_markdown
+  pub style : look.style ≡ style_for (first_value found (codes "style"))
   pub separators : look.separators ≡ separators_for (is_given found (codes "rows")) (is_given found (codes "no-rows")) (first_value found (codes "style"))
   pub expansion : look.expansion ≡ expansion_for (is_given found (codes "all-expanded")) (first_value found (codes "expanded"))
-  pub width : look.width ≡ width_for look.is_markdown (number_found 16 found (codes "width")) surroundings
+  pub width : look.width ≡ width_for (number_found 16 found (codes "width")) surroundings
   pub full : look.fills_width ≡ is_given found (codes "full")
   pub height : look.max_height ≡ number_found 64 found (codes "max-height")
-  pub bold : look.has_bold_header ≡ is_bold_for look.is_markdown (first_value found (codes "color")) surroundings
+  pub bold : look.has_bold_header ≡ is_bold_for (first_value found (codes "color")) surroundings
   pub sequences : look.has_sequences ≡ is_given found (codes "ansi")
   pub bidi : look.keeps_bidi ≡ is_given found (codes "bidi")
   pub raw : look.is_raw ≡ is_given found (codes "raw")

@@ -90,8 +90,9 @@ fn asked_by<'a>(
     if are_exclusive(&matches) {
         return Err(refusal(
             command,
-            "`-t` and `-d`, `--markdown` and `--style`, `--rows` and `--no-rows`, and `-x` and `--expanded` exclude each \
-             other; a table for Markdown has no `--width`, `--full`, `-x`, `--expanded`, `--max-height`, `--ansi` or `--raw`",
+            "options that exclude each other:
+  -t and -d, --markdown and --style, --rows and --no-rows, -x and --expanded,
+  and Markdown beside -w, --full, -x, --expanded, -m, --ansi and --raw",
         ));
     }
     match wanted_delimiter(&matches) {
@@ -264,10 +265,9 @@ fn options_of<'a>(
 fn look_of<'a>(matches: &ArgMatches<'a>, surroundings: Surroundings<'_>) -> Look
     ensures { LookIsAsked surroundings.entry (found_of matches.now) result }
 {
-    let is_markdown = is_markdown(matches);
     let style = matches.get_str("style");
     Look {
-        style: style_of(style, is_markdown),
+        style: style_of(style),
         separators: separators_of(
             is_given(matches, "rows"),
             is_given(matches, "no-rows"),
@@ -277,14 +277,14 @@ fn look_of<'a>(matches: &ArgMatches<'a>, surroundings: Surroundings<'_>) -> Look
             is_given(matches, "all-expanded"),
             matches.get_str("expanded"),
         ),
-        width: width_of(is_markdown, matches.get_one::<u16>("width"), surroundings),
+        width: width_of(matches.get_one::<u16>("width"), surroundings),
         fills_width: is_given(matches, "full"),
         max_height: matches.get_one::<usize>("max-height"),
-        has_bold_header: is_bold(is_markdown, matches.get_str("color"), surroundings),
+        has_bold_header: is_bold(matches.get_str("color"), surroundings),
         has_sequences: is_given(matches, "ansi"),
         keeps_bidi: is_given(matches, "bidi"),
         is_raw: is_given(matches, "raw"),
-        is_markdown,
+        is_markdown: is_markdown(matches),
     }
 }
 
@@ -315,12 +315,11 @@ fn expansion_of(is_always: bool, word: Option<&str>) -> Expansion
     }
 }
 
-// The width that was asked for, else that of the terminal; 0 is none, and a table for Markdown keeps to none.
-fn width_of(is_markdown: bool, asked: Option<u16>, surroundings: Surroundings<'_>) -> Option<u16>
-    ensures { result ≡ width_for is_markdown asked surroundings.entry }
+// The width that was asked for, else that of the terminal; 0 is none.
+fn width_of(asked: Option<u16>, surroundings: Surroundings<'_>) -> Option<u16>
+    ensures { result ≡ width_for asked surroundings.entry }
 {
     match asked {
-        _ if is_markdown => None,
         Some(width) => some_width(width),
         None if surroundings.is_terminal => Some(terminal_width(surroundings.columns)),
         None => None,
@@ -356,11 +355,10 @@ fn some_columns(columns: usize) -> Option<u16>
     }
 }
 
-fn is_bold(is_markdown: bool, word: Option<&str>, surroundings: Surroundings<'_>) -> bool
-    ensures { result ≡ is_bold_for is_markdown (option_map (λ w. w.now) word.entry) surroundings.entry }
+fn is_bold(word: Option<&str>, surroundings: Surroundings<'_>) -> bool
+    ensures { result ≡ is_bold_for (option_map (λ w. w.now) word.entry) surroundings.entry }
 {
     match word {
-        _ if is_markdown => false,
         Some("always") => true,
         Some("never") => false,
         _ => is_bold_there(surroundings),

@@ -27,7 +27,7 @@ pub enum Delimiter {
 ///
 /// `Auto` takes the first of TAB, `;`, `,` and `|` that gives each of the first ten records one same number of fields,
 /// above 1.
-pub fn delimited<'a>(
+pub(crate) fn delimited<'a>(
     alloc: Global,
     text: &'a str,
     delimiter: Delimiter,
@@ -53,7 +53,7 @@ pub fn delimited<'a>(
 
 /// The text below its first `count` lines, empty where there aren't more. A line ends at a line feed, a carriage return,
 /// or a carriage return with a line feed, also between quotes.
-pub fn below_lines(text: &str, count: usize) -> &str
+pub(crate) fn below_lines(text: &str, count: usize) -> &str
     ensures below { result.now ≡ below_lines count text.now }
     ensures end { EndsIn text.now result.now }
 {

@@ -28,7 +28,7 @@ pub fn cleaned_fields_hold_no_controls()
 
 /// No style that words can ask for has a control character.
 pub fn styles_for_words_hold_no_controls()
-    ensures { (name : Option Text) (is_markdown : Bool) → IsStyleWithoutControls (style_for name is_markdown) }
+    ensures { (name : Option Text) → IsStyleWithoutControls (style_for name) }
 {}
 
 /// The records of a text are texts, where the delimiter is ASCII.

@@ -13,7 +13,7 @@ const QUOTE: u8 = b'"';
 
 /// The place, in bytes from the text's start, of the quote that opens a field which the text's end doesn't close. Where
 /// there is none, csv's reader doesn't end within quotes. As csv does, it passes over a byte-order mark.
-pub fn unclosed_quote(text: &str, delimiter: u8) -> Option<usize>
+pub(crate) fn unclosed_quote(text: &str, delimiter: u8) -> Option<usize>
     ensures some { IfSome result (λ at. IsUnclosed delimiter (strip_bom text.now) (drop at text.now)) }
     ensures none { IfNone result (state_after delimiter (strip_bom text.now) ≢ InQuoted) }
 {

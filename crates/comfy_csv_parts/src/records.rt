@@ -13,7 +13,7 @@ use std::alloc::Global;
 /// byte-order mark at the beginning is dropped. Without quotes, a quote is a character of its field.
 ///
 /// `SplitCharacter` comes only of a delimiter that isn't ASCII.
-pub fn records_of(
+pub(crate) fn records_of(
     alloc: Global,
     text: &str,
     delimiter: u8,

@@ -16,12 +16,11 @@ pub(crate) fn style_names(alloc: Global) -> Result<Vec<&'static str>, AllocError
     Ok(names)
 }
 
-/// The style of this name in any case of letters, `rounded` without one; that of Markdown where it is wanted.
-pub(crate) fn style_of(name: Option<&str>, is_markdown: bool) -> TableStyle
-    ensures { result ≡ style_for (option_map (λ n. n.now) name.entry) is_markdown }
+/// The style of this name in any case of letters, `rounded` without one.
+pub(crate) fn style_of(name: Option<&str>) -> TableStyle
+    ensures { result ≡ style_for (option_map (λ n. n.now) name.entry) }
 {
     match name {
-        _ if is_markdown => ASCII_MARKDOWN,
         Some(name) => named_style(name),
         None => rounded(),
     }

@@ -136,7 +136,7 @@ raw_output_is_harmful none =
 
 -- ---- styles
 
-styles_for_words : IsStyleWithoutControls (style_for (Some (codes "UTF8_FULL")) false)
+styles_for_words : IsStyleWithoutControls (style_for (Some (codes "UTF8_FULL")))
 styles_for_words = refl
 
 a_style_with_tabs : ¬ (IsStyleWithoutControls with_tabs)

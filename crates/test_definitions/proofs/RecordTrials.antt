@@ -297,30 +297,24 @@ terminal_widths :
     ≡ 80 ∷ 40 ∷ 80 ∷ 1 ∷ 65535 ∷ 80 ∷ 80 ∷ 80 ∷ 80 ∷ []
 terminal_widths = refl
 
--- in a terminal: nothing asked for, 0, a width; for Markdown none
+-- in a terminal: nothing asked for, 0, a width
 abbrev terminal : Surroundings
 terminal = record { is_terminal = true; columns = None; no_color = None }
 
-widths_kept : map (λ (asked : Option ℕ). width_for false asked terminal) (None ∷ Some 0 ∷ Some 7 ∷ []) ≡ Some 80 ∷ None ∷ Some 7 ∷ []
+widths_kept : map (λ (asked : Option ℕ). width_for asked terminal) (None ∷ Some 0 ∷ Some 7 ∷ []) ≡ Some 80 ∷ None ∷ Some 7 ∷ []
 widths_kept = refl
 
-widths_in_markdown : map (λ (asked : Option ℕ). width_for true asked terminal) (None ∷ Some 7 ∷ []) ≡ None ∷ None ∷ []
-widths_in_markdown = refl
-
-widths_elsewhere : map (λ (asked : Option ℕ). width_for false asked (record terminal { is_terminal = false })) (None ∷ Some 0 ∷ Some 7 ∷ []) ≡ None ∷ None ∷ Some 7 ∷ []
+widths_elsewhere : map (λ (asked : Option ℕ). width_for asked (record terminal { is_terminal = false })) (None ∷ Some 0 ∷ Some 7 ∷ []) ≡ None ∷ None ∷ Some 7 ∷ []
 widths_elsewhere = refl
 
 colors : map wants_color (None ∷ Some [] ∷ Some (codes "1") ∷ []) ≡ true ∷ true ∷ false ∷ []
 colors = refl
 
-bold : map (λ (word : Option Text). is_bold_for false word terminal) (None ∷ Some (codes "auto") ∷ Some (codes "never") ∷ Some (codes "always") ∷ []) ≡ true ∷ true ∷ false ∷ true ∷ []
+bold : map (λ (word : Option Text). is_bold_for word terminal) (None ∷ Some (codes "auto") ∷ Some (codes "never") ∷ Some (codes "always") ∷ []) ≡ true ∷ true ∷ false ∷ true ∷ []
 bold = refl
 
-no_bold_markdown : is_bold_for true (Some (codes "always")) terminal ≡ false
-no_bold_markdown = refl
-
 -- names in any case of letters, and no name
-styles : map (λ (name : Option Text). style_for name false) (None ∷ map Some (texts ("Rounded" ∷ "BOX" ∷ "grid" ∷ "plain" ∷ "utf8_full" ∷ []))) ≡ with_rounded_corners utf8_full ∷ with_rounded_corners utf8_full ∷ utf8_full ∷ with_rounded_corners utf8_full ∷ nothing ∷ utf8_full ∷ []
+styles : map (λ (name : Option Text). style_for name) (None ∷ map Some (texts ("Rounded" ∷ "BOX" ∷ "grid" ∷ "plain" ∷ "utf8_full" ∷ []))) ≡ with_rounded_corners utf8_full ∷ with_rounded_corners utf8_full ∷ utf8_full ∷ with_rounded_corners utf8_full ∷ nothing ∷ utf8_full ∷ []
 styles = refl
 
 separators :

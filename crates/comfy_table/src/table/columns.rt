@@ -11,7 +11,8 @@ use std::mem;
 
 impl Table {
     /// Sets the constraints of the columns: the first item is that of the first column, and so on. Items past the last
-    /// column are ignored, and columns past the last item keep what they have.
+    /// column are ignored, so the columns have to be there: add the header and the rows before. Columns past the last item
+    /// keep what they have.
     pub fn set_constraints<I>(&mut self, constraints: I) -> &mut Self
     where
         I: Items<Item = ColumnConstraint>,

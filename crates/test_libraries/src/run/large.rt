@@ -226,7 +226,7 @@ fn assert_streamed(
 }
 
 // How records are drawn in this width.
-fn options(alloc: Global, width: Option<u16>, has_sequences: bool) -> Options {
+pub(super) fn options(alloc: Global, width: Option<u16>, has_sequences: bool) -> Options {
     Options {
         encoding: None,
         skip: 0,

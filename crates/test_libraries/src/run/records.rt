@@ -1,6 +1,7 @@
 //! The words of `csvtable`'s errors, delimiters that its words can't ask for, and encodings.
 
-use comfy_csv::{CsvError, Encoding, decoded, records_of};
+use super::large::options;
+use comfy_csv::{CsvError, Delimiter, Encoding, Options, decoded, read_records};
 use std::alloc::{Alloc, Global};
 use std::process::Abort;
 
@@ -25,14 +26,23 @@ fn refusals_have_their_words(rt: HostRuntime) {
     );
 }
 
+// What reads records between this byte.
+fn between(alloc: Global, delimiter: u8) -> Options {
+    Options {
+        delimiter: Delimiter::Byte(delimiter),
+        ..options(alloc, None, false)
+    }
+}
+
 // The bytes of é are 195 and 169, and no byte of a text is 255.
 #[test]
 fn delimiters_that_are_not_ascii(rt: HostRuntime) {
     for delimiter in [195, 169] {
-        let split = records_of(rt.alloc(), "a,b\né,d\n", delimiter, true);
+        let split = read_records(rt.alloc(), "a,b\né,d\n", &between(rt.alloc(), delimiter));
         assert!(rt; matches!(&split, Err(CsvError::SplitCharacter)));
     }
-    let whole = records_of(rt.alloc(), "a,b\né,d\n", 255, true).expect(&rt, "records");
+    let whole = read_records(rt.alloc(), "a,b\né,d\n", &between(rt.alloc(), 255));
+    let whole = whole.expect(&rt, "records");
     assert!(rt; whole.len() == 2);
     assert!(rt; whole[1].get(0) == Some("é,d"));
 }
