@@ -1,8 +1,8 @@
 -- What the callers claim.
-use Rattle.std.specs.Prelude.{◌≡◌, ◌<◌, ◌≤◌, List, All, length, Ok}
+use Rattle.std.specs.Prelude.{◌<◌, ◌≤◌, length}
 use Rattle.comfy_parts.specs.Text.{Text, measure}
 use Rattle.comfy_csv_parts.specs.declared.options.Options.{Options}
-use Rattle.comfy_csv.specs.Drawn.{ContentValue, IsOutputFor, IsOutputOf, content_of}
+use Rattle.comfy_csv.specs.Drawn.{IsOutputFor, IsOutputOf}
 use Rattle.comfy_csv.specs.Laws.{EachText}
 use Rattle.comfy_csv.specs.MarkdownLines.{GivesRecordsBack}
 

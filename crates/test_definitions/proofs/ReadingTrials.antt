@@ -1,5 +1,5 @@
 -- What is read of a text: the lines that are left out, and what stands between fields. And which fields aren't broken.
-use Rattle.std.proofs.Common.{◌≡◌, ℕ, Bool, true, false, List, [], ◌∷◌, ◌++◌, Option, Some, None, codes, encode_utf8_all, map, refl}
+use Rattle.std.proofs.Common.{◌≡◌, ℕ, Bool, true, false, List, [], ◌∷◌, ◌++◌, Option, Some, None, codes, map, refl}
 use Prim.Native.String.{String}
 use Rattle.std.specs.Fmt.{digits}
 use Rattle.std.specs.List.{list_all, list_any}
@@ -9,7 +9,7 @@ use Rattle.csv.specs.Machine.{next_record}
 use Rattle.csv.specs.Reading.{records_from, strip_bom}
 use Rattle.ucd_category.proofs.Computing.{ucd_category}
 use Rattle.comfy_parts.specs.Text.{Text}
-use Rattle.comfy_csv.specs.Ending.{encoding_hint, input_name, reading_reason, reason_for}
+use Rattle.comfy_csv.specs.Ending.{input_name, reading_reason, reason_for}
 use Rattle.comfy_csv_parts.specs.Delimiter.{below_lines, delimited, delimiter_in}
 use Rattle.comfy_csv_parts.specs.Unbroken.{is_unbroken}
 use Rattle.comfy_csv_parts.specs.Words.{delimiter_for, encoding_for}
