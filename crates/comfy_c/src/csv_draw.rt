@@ -3,20 +3,14 @@
 ghost use Rattle.std.specs.Prelude.{◌≡◌, ◌≢◌, ◌≤◌, ◌<◌, IfErr, IfOk, IsUtf8, List, ℕ, drop, length, string_bytes, take};
 ghost use Rattle.comfy_c.specs.Calls.{IsHanded, IsCsvDrawing, IsCsvRefusal, IsInputMessage, IsWordsMessage};
 
-use crate::room::put;
+use crate::room::{DRAWN, OUT_OF_MEMORY, ROOM_TOO_SMALL, put};
 use crate::words::command_line;
 use comfy_csv::{Refusal, WORD_NOT_UTF8, drawing_of};
 use std::alloc::Global;
 
-// What a call returns.
-
-const DRAWN: u32 = 0;
-
-const ROOM_TOO_SMALL: u32 = 1;
+// What a call returns besides.
 
 const INPUT_REFUSED: u32 = 2;
-
-const OUT_OF_MEMORY: u32 = 3;
 
 const WORDS_REFUSED: u32 = 4;
 

@@ -3,6 +3,14 @@
 ghost use Rattle.std.specs.Prelude.{◌≡◌, length, nat_le};
 ghost use Rattle.comfy_c.specs.Calls.{with_front};
 
+// What each function returns.
+
+pub(crate) const DRAWN: u32 = 0;
+
+pub(crate) const ROOM_TOO_SMALL: u32 = 1;
+
+pub(crate) const OUT_OF_MEMORY: u32 = 3;
+
 /// Copies bytes to the front of the caller's buffer, where it has room for all of them, and tells how many they are.
 /// Returns whether it had.
 pub(crate) fn put(bytes: &[u8], output: &mut [u8], needed: &mut usize) -> bool

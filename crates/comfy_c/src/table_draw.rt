@@ -3,21 +3,15 @@
 ghost use Rattle.std.specs.Prelude.{◌≡◌, ◌≢◌, ◌≤◌, ◌<◌, None, IsUtf8, List, ℕ, drop, length, slice_get, take};
 ghost use Rattle.comfy_c.specs.Calls.{IsDrawnAs, arrangements, settings_for};
 
-use crate::room::put;
+use crate::room::{DRAWN, OUT_OF_MEMORY, ROOM_TOO_SMALL, put};
 use comfy_run::run::{Settings, drawing_of};
 use comfy_table::ContentArrangement;
 use comfy_table::presets::by_position;
 use std::alloc::Global;
 
-// What a call returns.
-
-const DRAWN: u32 = 0;
-
-const ROOM_TOO_SMALL: u32 = 1;
+// What a call returns besides.
 
 const NOT_UTF8: u32 = 2;
-
-const OUT_OF_MEMORY: u32 = 3;
 
 const UNKNOWN_SETTING: u32 = 4;
 
