@@ -2,7 +2,7 @@
 """Makes 18 files as people have them, and tries csvtable on them.
 
     tools/real_files.py PROGRAM             runs PROGRAM on each file: its status, what it writes and what it says
-    tools/real_files.py --compare PROGRAM   prints a table for docs/CSVTABLE.md: what PROGRAM, csvlook, mlr and column do
+    tools/real_files.py --compare PROGRAM   prints a table of what PROGRAM, csvlook, mlr and column do, file by file
 
 What is wanted stands beside each file, and comes from the rules in docs/CSVTABLE.md. The first form prints a line for each
 run, and ends with status 1 where one is otherwise.

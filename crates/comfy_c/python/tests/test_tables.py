@@ -116,6 +116,7 @@ class Drawings(unittest.TestCase):
 |------|-----:|
 | a\\|b | 1.50 |
 """))
+        self.assertEqual(tabulate([["a"]], style="Markdown"), tabulate([["a"]], markdown=True))
         self.assertEqual(
             tabulate([["oats", 3]], headers=["name", "price"], expanded=True, style="box"),
             drawn("""

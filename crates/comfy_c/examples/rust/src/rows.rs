@@ -129,7 +129,8 @@ impl Rows {
         self
     }
 
-    /// The frame: `rounded`, which holds without it, `box`, `grid`, `ascii`, `plain` or a preset, as `UTF8_FULL`.
+    /// The frame: `rounded`, which holds without it, `box`, `grid`, `ascii`, `plain` or a preset, as `UTF8_FULL`; `markdown` is
+    /// as [`Rows::markdown`].
     pub fn style(mut self, name: &str) -> Rows {
         self.style = Some(name.into());
         self
@@ -178,9 +179,13 @@ impl Rows {
 
     // The words of csvtable that ask for this table.
     fn words(&self) -> Result<Vec<String>, Error> {
+        let (style, is_markdown) = match &self.style {
+            Some(name) if name.eq_ignore_ascii_case("markdown") => (None, true),
+            style => (style.as_ref(), self.is_markdown),
+        };
         let is_expanded = match self.expanded {
             // A table for Markdown may not be asked for it, not even for never.
-            Expanded::Never if self.is_markdown => None,
+            Expanded::Never if is_markdown => None,
             Expanded::Never => Some("never"),
             Expanded::Auto => Some("auto"),
             Expanded::Always => Some("always"),
@@ -196,11 +201,11 @@ impl Rows {
             flag("full", self.is_full),
             option("max-height", self.max_height),
             option("limit", self.limit),
-            option("style", self.style.as_ref()),
+            option("style", style),
             flag("rows", self.has_row_lines == Some(true)),
             flag("no-rows", self.has_row_lines == Some(false)),
             option("expanded", is_expanded),
-            flag("markdown", self.is_markdown),
+            flag("markdown", is_markdown),
             option("color", self.has_bold_header.then_some("always")),
         ];
         Ok(words.into_iter().flatten().collect())

@@ -66,7 +66,9 @@ fn width_height_and_limit() {
 #[test]
 fn markdown_records_and_bold() {
     let rows = Rows::new(["x", "y"]).row(["a|b", "1"]);
-    assert_eq!(rows.clone().markdown().to_string(), "| x    | y |\n|------|--:|\n| a\\|b | 1 |\n");
+    let drawing = "| x    | y |\n|------|--:|\n| a\\|b | 1 |\n";
+    assert_eq!(rows.clone().markdown().to_string(), drawing);
+    assert_eq!(rows.clone().style("Markdown").to_string(), drawing);
     assert_eq!(rows.clone().expanded(Expanded::Always).style("box").to_string(), "\
 record 1 of 1
 ┌───┬─────┐

@@ -59,7 +59,7 @@ def tabulate(rows: Iterable[object], headers: Headers = None, **settings: Unpack
         `full=True` fills it.
     max_height: how many lines a row below the header has at most.
     limit: how many rows are drawn; where there are more, a line below says so.
-    style: "rounded" (without it), "box", "grid", "ascii", "plain" or a preset, as "UTF8_FULL". For Markdown there is `markdown`.
+    style: "rounded" (without it), "box", "grid", "ascii", "plain" or a preset, as "UTF8_FULL"; "markdown" is as `markdown=True`.
     row_lines: True has lines between rows in each style that has them, False in none.
     expanded: True draws each row as a table of its own, of names and values; "auto" does so where the width is too small.
     markdown: True draws a table for Markdown, which keeps to no width.
@@ -195,7 +195,9 @@ def _words(settings: Settings, columns: _Columns) -> list[str]:
     right, left = columns.positions_of(settings.get("right")), columns.positions_of(settings.get("left"))
     for position in set(right) & set(left):
         raise ValueError(f"the column at position {position} can't stand at the right and at the left")
-    row_lines, is_markdown = settings.get("row_lines"), bool(settings.get("markdown"))
+    row_lines, style, is_markdown = settings.get("row_lines"), settings.get("style"), bool(settings.get("markdown"))
+    if style is not None and style.lower() == "markdown":
+        style, is_markdown = None, True
     options: dict[str, object] = {
         # Without this csvtable would look for what stands between fields.
         "delimiter": ",",
@@ -207,7 +209,7 @@ def _words(settings: Settings, columns: _Columns) -> list[str]:
         "full": bool(settings.get("full")),
         "max-height": settings.get("max_height"),
         "limit": settings.get("limit"),
-        "style": settings.get("style"),
+        "style": style,
         "rows": row_lines is True,
         "no-rows": row_lines is False,
         "expanded": _expansion(settings.get("expanded", False), is_markdown),
