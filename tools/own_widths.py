@@ -4,8 +4,8 @@
 usage: tools/own_widths.py UNICODE_WIDTH
 
 UNICODE_WIDTH is the folder of the crate unicode_width with its sources, from whose table of kinds the columns come. The
-characters that join others are those of content_split/joining.rt. The check refuses a table with a wrong value, so this is
-called where it does: after another version of Unicode, or another character that joins.
+characters that join others are the `joining_characters` of specs/Columns.antt. The check refuses a table with a wrong value,
+so this is called where it does: after another version of Unicode, or another character that joins.
 """
 import re
 import sys
@@ -80,7 +80,7 @@ def main():
         sys.exit(__doc__)
     source = (Path(sys.argv[1]) / "src/tables/kind.rt").read_text()
     folder = Path(__file__).resolve().parent.parent / "crates/comfy_parts/src/content_split"
-    joining = re.findall(r"\('\\u\{(\w+)\}', '\\u\{(\w+)\}'\)", (folder / "joining.rt").read_text())
+    joining = re.findall(r"\(0x(\w+), 0x(\w+)\)", (folder / "../../specs/Columns.antt").read_text())
     index, words, tail = packed(list(own_widths(kinds(source), joining)))
     parts = [
         "//! The columns of each character that joins no other, and 3 of each that joins others. tools/own_widths.py writes this.\n",

@@ -1,7 +1,7 @@
 -- Kinds of characters whose widths add up: those that join nothing, and emoji that stand by themselves.
 use Rattle.std.proofs.Common.{◌≡◌, ◌≢◌, ◌<◌, ◌≤◌, ◌⊎◌, inl, inr, ℕ, ◌+◌, true, false, not, ◌&&◌, ◌||◌, List, [], ◌∷◌, nat_lt, nat_le, ◌==◌, Bool, zero, suc, slice_index_or, refl, sym, ap, ◌∙◌, subst, arith, sum_by, ⊎_elim}
 use Rattle.std.specs.Int.{is_in_range}
-use Rattle.std.specs.List.{list_all, list_any}
+use Rattle.std.specs.List.{list_all}
 use Rattle.std.proofs.lemmas.Bool.{and_parts, cases_Bool, eqb-true, not-true, or_cases}
 use Rattle.std.proofs.lemmas.Bool.Decides.{nat_tests}
 use Rattle.std.proofs.lemmas.List.Sums.{sum_by-cons}
@@ -25,12 +25,6 @@ pub record AddUp (kind : ℕ → Bool) : Type 0 where
   pub narrow : (c : ℕ) → kind c ≡ true → width_or_zero false c ≤ 2
 
 -- ---- kinds
-
--- ranges hold a number that one of them holds
-pub in_ranges-any : (rs : List Range) (c : ℕ) → list_any (λ (r : Range). nat_le r.0 c && nat_le c r.1) rs ≡ in_ranges rs c
-unfolding in_ranges
-in_ranges-any [] c = refl
-in_ranges-any (r ∷ rs) c = ap (λ b. (nat_le r.0 c && nat_le c r.1) || b) (in_ranges-any rs c)
 
 pub ascii-one : (c : ℕ) → is_in_range 0x20 0x7E c ≡ true → width_or_zero false c ≡ 1
 unfolding char_width

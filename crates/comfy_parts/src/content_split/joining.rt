@@ -1,36 +1,9 @@
 //! Which characters add one terminal column wherever they stand, and which join no other.
 
-ghost use Rattle.std.specs.Prelude.{◌≡◌, ◌&&◌, nat_le, true};
-ghost use Rattle.std.specs.List.{list_any};
-ghost use Rattle.ucd_table.specs.Rows.{Range};
+ghost use Rattle.std.specs.Prelude.{◌≡◌, true};
 ghost use Rattle.comfy_parts.specs.Columns.{AddsOneColumn, adds_up, is_frame_character, joins_no_other};
 
-// The characters that join others, as ranges. They are, in order: the struck solidus, Hebrew lamed, Arabic alefs, Khmer
-// letters, Buginese ya, the joiner of emoji, Tifinagh letters, two Lisu tones and lamed with a dot. Then come variation
-// selectors, an Old Turkic and two Kirat Rai letters, the letters of flags, and skin tones.
-const JOINING: [(char, char); 21] = [
-    ('\u{338}', '\u{338}'),
-    ('\u{5dc}', '\u{5dc}'),
-    ('\u{622}', '\u{623}'),
-    ('\u{625}', '\u{625}'),
-    ('\u{627}', '\u{627}'),
-    ('\u{671}', '\u{673}'),
-    ('\u{675}', '\u{675}'),
-    ('\u{773}', '\u{774}'),
-    ('\u{870}', '\u{882}'),
-    ('\u{1780}', '\u{17af}'),
-    ('\u{17d8}', '\u{17d8}'),
-    ('\u{1a10}', '\u{1a10}'),
-    ('\u{200d}', '\u{200d}'),
-    ('\u{2d31}', '\u{2d6f}'),
-    ('\u{a4fc}', '\u{a4fd}'),
-    ('\u{fb3c}', '\u{fb3c}'),
-    ('\u{fe00}', '\u{fe0f}'),
-    ('\u{10c03}', '\u{10c03}'),
-    ('\u{16d67}', '\u{16d68}'),
-    ('\u{1f1e6}', '\u{1f1ff}'),
-    ('\u{1f3fb}', '\u{1f3ff}'),
-];
+use crate::content_split::own_width::own_width;
 
 /// Whether the character adds one terminal column between any two texts, of every script. So do box and block characters,
 /// `…`, and printable ASCII but for `#`, `*` and the digits, which a variation selector after them makes wide. Of every other
@@ -77,17 +50,5 @@ pub fn adds_up(text: &str) -> bool
 fn joins_no_other(character: char) -> bool
     ensures { result ≡ joins_no_other character }
 {
-    if character < '\u{a0}' {
-        return (' '..='~').contains(&character);
-    }
-    !is_within(&JOINING, character)
-}
-
-// Whether the character lies in one of these ranges, their ends included.
-fn is_within(ranges: &[(char, char)], character: char) -> bool
-    ensures { result ≡ list_any (λ (r : Range). nat_le r.0 character && nat_le character r.1) ranges.now }
-{
-    ranges
-        .iter()
-        .any(|(first, last)| *first <= character && character <= *last)
+    own_width(character).is_some()
 }
