@@ -3,15 +3,17 @@ use Rattle.std.proofs.Common.{◌≡◌, ℕ, ◌+◌, ◌-◌, ◌≤◌, ◌<�
 use Rattle.std.proofs.Math.Seq.{take-append_seam, get_or-append_seam}
 use Rattle.std.specs.Borrow.{Bor}
 use Rattle.std.specs.List.{All, concat}
-use Rattle.std.specs.Str.{IsUtf8, IsCharBoundary}
+use Rattle.std.specs.Str.{IsUtf8}
 use Rattle.std.proofs.lemmas.Bool.{cond-false, cond_both}
 use Rattle.std.proofs.lemmas.Bool.Decides.{nat_tests}
 use Rattle.std.proofs.lemmas.List.{append_assoc, map-append}
 use Rattle.std.proofs.lemmas.List.Folds.{concat-append}
 use Rattle.std.proofs.lemmas.List.Sums.{sum_by-cons}
+use Rattle.std.proofs.lemmas.Str.{IsUtf8-between}
 use Rattle.unicode_segmentation.specs.Segments.{with_offsets}
 use Rattle.unicode_segmentation.specs.Grapheme.{is_grapheme_break}
 use Rattle.unicode_segmentation.proofs.SegmentsLemmas.{map-with_offsets, concat-segments, All-IsPieceOf, IsPieceOf}
+use Rattle.comfy_parts.specs.Following.{EndsHead, IsFirstWide}
 use Rattle.comfy_parts.specs.Text.{Text, measure, clusters, clusters_within, head}
 
 -- a piece with the place where it begins
@@ -40,12 +42,6 @@ begins_at n (y ∷ done) x rest (p ∷ ps) e =
 pub around : (done : List Placed) (x : Placed) (rest : List Placed) (ps : List Text) → done ++ x ∷ rest ≡ with_offsets 0 ps → ps ≡ pieces done ++ x.1 ∷ pieces rest
 around done x rest ps e = sym (map-with_offsets 0 ps) ∙ sym (ap pieces e) ∙ map-append (λ x. x.1) done (x ∷ rest)
 
-pub boundary : (text : Text) (done : List Placed) (x : Placed) (rest : List Placed) → IsUtf8 text → done ++ x ∷ rest ≡ with_offsets 0 (clusters text) → IsCharBoundary text x.0
-boundary text done x rest u e =
-    let all = All-IsPieceOf (is_grapheme_break true) text u in
-    let here = subst (All (IsPieceOf text)) (sym e) all (length done) x (omega (arith, length-append done (x ∷ rest))) in
-    (subst (IsPieceOf text) (get_or-append_seam done x rest x) here).start
-
 -- clusters that fit are taken, and the head goes on after them with the columns that they leave
 within-front : (k : ℕ) (qs more : List Text) → sum_by measure qs ≤ k → clusters_within k (qs ++ more) ≡ concat qs ++ clusters_within (k - sum_by measure qs) more
 within-front k [] more fits =
@@ -73,13 +69,33 @@ head-before k text qs c others u parts fits wide =
     ap (clusters_within k) parts ∙ within-front k qs (c ∷ others) fits ∙ ap (λ t. concat qs ++ t) (within-wide (k - sum_by measure qs) c others (omega (arith, fits, wide))) in
     front ∙ sym (taken ∙ append-nil (concat qs))
 
--- and end where it begins
-pub head-cut : (k : ℕ) (text : Text) (done : List Placed) (x : Placed) (rest : List Placed) → IsUtf8 text → done ++ x ∷ rest ≡ with_offsets 0 (clusters text)
-    → sum_by measure (pieces done) ≤ k → k < sum_by measure (pieces done) + measure x.1 → take x.0 text ≡ head k text
-head-cut k text done x rest u e fits wide =
-    let at = begins_at 0 done x rest (clusters text) e in
-    let at_end : x.0 ≡ length (concat (pieces done)) = omega arith in
-    ap (λ n. take n text) at_end ∙ head-before k text (pieces done) x.1 (pieces rest) u (around done x rest (clusters text) e) fits wide
+-- what is known of the first cluster that is too wide, by its place
+pub first-wide : (k : ℕ) (text : Text) (done : List Placed) (x : Placed) (rest : List Placed) (beyond : ℕ) → IsUtf8 text → done ++ x ∷ rest ≡ with_offsets 0 (clusters text)
+    → sum_by measure (pieces done) ≤ k → sum_by measure (pieces done) + measure x.1 ≡ k + beyond → 0 < beyond → IsFirstWide k text x.0 (length x.1) beyond
+first-wide k text done x rest beyond u place fits all wide =
+    let every = All-IsPieceOf (is_grapheme_break true) text u in
+    let here = subst (All (IsPieceOf text)) (sym place) every (length done) x (omega (arith, length-append done (x ∷ rest))) in
+    let piece = subst (IsPieceOf text) (get_or-append_seam done x rest x) here in
+    let begins = begins_at 0 done x rest (clusters text) place in
+    record {
+      before = pieces done;
+      cluster = x.1;
+      others = pieces rest;
+      clusters_are = around done x rest (clusters text) place;
+      at_is = omega arith;
+      boundary = piece.start;
+      bytes_are = refl;
+      whole = subst IsUtf8 (sym piece.bytes) (IsUtf8-between text x.0 (x.0 + length x.1) u (omega arith) piece.start piece.end);
+      room_before = fits;
+      beyond_is = all;
+      too_wide = wide;
+    }
+
+-- it begins where the head ends
+pub ends-head : (k : ℕ) (text : Text) (at bytes beyond : ℕ) → IsUtf8 text → IsFirstWide k text at bytes beyond → EndsHead k text at
+ends-head k text at bytes beyond u is =
+    let wide : k < sum_by measure is.before + measure is.cluster = (let all = is.beyond_is in let some = is.too_wide in omega arith) in
+    record { boundary = is.boundary; head_is = ap (λ n. take n text) (sym is.at_is) ∙ head-before k text is.before is.cluster is.others u is.clusters_are is.room_before wide }
 
 -- a text whose clusters all fit is its own head
 pub head-all : (k : ℕ) (text : Text) (done : List Placed) → IsUtf8 text → done ≡ with_offsets 0 (clusters text) → sum_by measure (pieces done) ≤ k → text ≡ head k text

@@ -1,19 +1,19 @@
 -- The clusters of a text's front are clusters of the text, but for the last one, which begins a cluster. So a front can show where the head ends.
-use Rattle.std.proofs.Common.{◌≡◌, ◌≤◌, ◌<◌, ℕ, ◌+◌, Bool, true, false, List, [], ◌∷◌, ◌++◌, length, map, take, sum_by, refl, sym, ap, ◌∙◌, subst, arith, length-append, append-nil}
+use Rattle.std.proofs.Common.{◌≡◌, ◌≤◌, ◌<◌, ℕ, ◌+◌, ◌-◌, Bool, true, false, List, [], ◌∷◌, ◌++◌, length, map, take, sum_by, refl, sym, ap, ◌∙◌, subst, arith, length-append, append-nil}
 use Rattle.std.proofs.Math.Seq.{get_or-append_seam}
 use Rattle.std.specs.List.{All, concat}
 use Rattle.std.specs.Prelude.{chars, encode_utf8_all}
 use Rattle.std.specs.Str.{IsUtf8}
 use Rattle.std.proofs.lemmas.List.Folds.{concat-append}
-use Rattle.std.proofs.lemmas.Str.{IsCharBoundary-from_take, IsUtf8-append, IsUtf8-between, chars-append, encodes-append}
+use Rattle.std.proofs.lemmas.Str.{IsCharBoundary-from_take, IsUtf8-append, chars-append, encodes-append}
 use Rattle.unicode_segmentation.specs.Grapheme.{is_grapheme_break}
-use Rattle.unicode_segmentation.specs.Segments.{cut, prepend, segments, with_offsets}
-use Rattle.unicode_segmentation.proofs.SegmentsLemmas.{All-IsPieceOf, IsPieceOf, concat-segments}
+use Rattle.unicode_segmentation.specs.Segments.{cut, prepend, segments}
+use Rattle.unicode_segmentation.proofs.SegmentsLemmas.{concat-segments}
 use Rattle.cluster_width.proofs.ClusterFronts.{fronts_of_clusters}
 use Rattle.cluster_width.proofs.Fronts.{put}
-use Rattle.comfy_parts.specs.Following.{EndsHead}
+use Rattle.comfy_parts.specs.Following.{EndsHead, IsFirstWide}
 use Rattle.comfy_parts.specs.Text.{Text, clusters, head, measure}
-use Rattle.comfy_parts.proofs.ClusterLemmas.{Placed, around, begins_at, head-before, pieces}
+use Rattle.comfy_parts.proofs.ClusterLemmas.{head-before}
 use Rattle.comfy_parts.proofs.PlaceLemmas.{head-utf8}
 
 -- ---- the pieces of a front
@@ -70,66 +70,57 @@ begin-at (q ∷ []) c others ws (tail, same, rest) =
 begin-at (q ∷ (s ∷ qs)) c others ws (tail, same, rest) =
     let r = begin-at (s ∷ qs) c others tail rest in (r.0, r.1, same ∙ ap (λ t. q ∷ t) r.2, r.3)
 
--- a cluster of a front, with its place
-module _ (front : Text) (done : List Placed) (x : Placed) (after : List Placed) (utf8 : IsUtf8 front) (place : done ++ x ∷ after ≡ with_offsets 0 (clusters front)) where
-  piece : IsPieceOf front x
-  piece =
-      let all = All-IsPieceOf (is_grapheme_break true) front utf8 in
-      let here = subst (All (IsPieceOf front)) (sym place) all (length done) x (omega (arith, length-append done (x ∷ after))) in
-      subst (IsPieceOf front) (get_or-append_seam done x after x) here
+-- where the first cluster of a front that is too wide is so in each text with this front, the head ends before it
+module _ (k : ℕ) (front : Text) (at bytes beyond : ℕ) (utf8 : IsUtf8 front) (first : IsFirstWide k front at bytes beyond) where
+  all : concat first.before ++ (first.cluster ++ concat first.others) ≡ front
+  all = sym (concat-append first.before (first.cluster ∷ first.others)) ∙ sym (ap concat first.clusters_are) ∙ concat-segments (is_grapheme_break true) front utf8
 
-  piece_utf8 : IsUtf8 x.1
-  piece_utf8 = subst IsUtf8 (sym piece.bytes) (IsUtf8-between front x.0 (x.0 + length x.1) utf8 (omega arith) piece.start piece.end)
-
-  -- the last piece ends where the front does
-  at-end : pieces after ≡ [] → x.0 + length x.1 ≡ length front
+  -- the last cluster ends where the front does
+  at-end : first.others ≡ [] → bytes ≡ length front - at
   at-end none =
-      let parts : clusters front ≡ pieces done ++ x.1 ∷ pieces after = around done x after (clusters front) place in
-      let all : concat (pieces done) ++ concat (x.1 ∷ pieces after) ≡ front = sym (concat-append (pieces done) (x.1 ∷ pieces after)) ∙ sym (ap concat parts) ∙ concat-segments (is_grapheme_break true) front utf8 in
-      let long = sym (ap length all) ∙ length-append (concat (pieces done)) (concat (x.1 ∷ pieces after)) in
-      let own = length-append x.1 (concat (pieces after)) in
+      let long = sym (ap length all) ∙ length-append (concat first.before) (first.cluster ++ concat first.others) in
+      let own = length-append first.cluster (concat first.others) in
       let rest = ap (λ (ps : List Text). length (concat ps)) none in
-      let at = begins_at 0 done x after (clusters front) place in
-      omega (arith, long, own, rest, at)
+      let start = first.at_is in
+      let size = first.bytes_are in
+      omega (arith, long, own, rest, start, size)
 
-  pub within : x.0 + length x.1 ≤ length front
-  within = piece.end.0
-
-  -- where it is too wide in each text with this front, the head ends before it
-  pub shown-end : (k : ℕ) (rest : Text) → IsUtf8 rest → sum_by measure (pieces done) ≤ k → k < sum_by measure (pieces done) + measure x.1
-      → (x.0 + length x.1 ≡ length front → k + 2 < sum_by measure (pieces done) + measure x.1) → EndsHead k (front ++ rest) x.0
-  shown-end k rest utf8' fits wide last =
-      let qs = pieces done in
+  pub shown-end : (rest : Text) → IsUtf8 rest → (bytes ≡ length front - at → 2 < beyond) → EndsHead k (front ++ rest) at
+  shown-end rest utf8' last =
       let whole = IsUtf8-append front rest utf8 utf8' in
-      let parts : clusters front ≡ qs ++ x.1 ∷ pieces after = around done x after (clusters front) place in
-      let begun = begin-at qs x.1 (pieces after) (clusters (front ++ rest)) (subst (λ cs. Begin cs (clusters (front ++ rest))) parts (begin-clusters front rest utf8)) in
-      let all = head-before k (front ++ rest) qs (x.1 ++ begun.0) begun.1 whole begun.2 fits (is_wide begun.0 begun.1 whole begun.2 begun.3) in
-      let at = begins_at 0 done x after (clusters front) place in
-      let at_end : length (concat qs) ≡ x.0 = omega arith in
-      let head_is : take x.0 (front ++ rest) ≡ head k (front ++ rest) = ap (λ n. take n (front ++ rest)) (sym at_end) ∙ all in
+      let begun = begin-at first.before first.cluster first.others (clusters (front ++ rest)) (subst (λ cs. Begin cs (clusters (front ++ rest))) first.clusters_are (begin-clusters front rest utf8)) in
+      let before = head-before k (front ++ rest) first.before (first.cluster ++ begun.0) begun.1 whole begun.2 first.room_before (is_wide begun.0 begun.1 whole begun.2 begun.3) in
+      let head_is : take at (front ++ rest) ≡ head k (front ++ rest) = ap (λ n. take n (front ++ rest)) (sym first.at_is) ∙ before in
       let long = length-append front rest in
+      let within = first.boundary.0 in
       record {
-        boundary = IsCharBoundary-from_take (front ++ rest) x.0 whole (omega (arith, within, long)) (subst IsUtf8 (sym head_is) (head-utf8 k (front ++ rest) whole));
+        boundary = IsCharBoundary-from_take (front ++ rest) at whole (omega (arith, within, long)) (subst IsUtf8 (sym head_is) (head-utf8 k (front ++ rest) whole));
         head_is = head_is;
       }
     where
-      is_wide : (more : Text) (others : List Text) → IsUtf8 (front ++ rest) → clusters (front ++ rest) ≡ pieces done ++ (x.1 ++ more) ∷ others → (0 < length (pieces after) → more ≡ [])
-          → k < sum_by measure (pieces done) + measure (x.1 ++ more)
-      is_wide more others whole parts alone = by_after (pieces after) refl
+      is_wide : (more : Text) (others : List Text) → IsUtf8 (front ++ rest) → clusters (front ++ rest) ≡ first.before ++ (first.cluster ++ more) ∷ others → (0 < length first.others → more ≡ [])
+          → k < sum_by measure first.before + measure (first.cluster ++ more)
+      is_wide more others whole parts alone = by_after first.others refl
         where
-          bounded : All (λ (cluster : Text). (f r : Text) → IsUtf8 f → cluster ≡ f ++ r → measure f ≤ measure cluster + 2) (pieces done ++ (x.1 ++ more) ∷ others)
-          bounded = subst (All (λ (cluster : Text). (f r : Text) → IsUtf8 f → cluster ≡ f ++ r → measure f ≤ measure cluster + 2)) parts (fronts_of_clusters (front ++ rest) whole)
+          IsBounded : Text → Type 0
+          IsBounded cluster = (f r : Text) → IsUtf8 f → cluster ≡ f ++ r → measure f ≤ measure cluster + 2
 
-          here : (f r : Text) → IsUtf8 f → (x.1 ++ more) ≡ f ++ r → measure f ≤ measure (x.1 ++ more) + 2
-          here = subst (λ (cluster : Text). (f r : Text) → IsUtf8 f → cluster ≡ f ++ r → measure f ≤ measure cluster + 2) (get_or-append_seam (pieces done) (x.1 ++ more) others x.1)
-              (bounded (length (pieces done)) x.1 (omega (arith, length-append (pieces done) ((x.1 ++ more) ∷ others))))
+          bounded : All IsBounded (first.before ++ (first.cluster ++ more) ∷ others)
+          bounded = subst (All IsBounded) parts (fronts_of_clusters (front ++ rest) whole)
 
-          by_after : (ps : List Text) → pieces after ≡ ps → k < sum_by measure (pieces done) + measure (x.1 ++ more)
+          here : IsBounded (first.cluster ++ more)
+          here = subst IsBounded (get_or-append_seam first.before (first.cluster ++ more) others first.cluster)
+              (bounded (length first.before) first.cluster (omega (arith, length-append first.before ((first.cluster ++ more) ∷ others))))
+
+          by_after : (ps : List Text) → first.others ≡ ps → k < sum_by measure first.before + measure (first.cluster ++ more)
           by_after [] none =
-              let most = here x.1 more piece_utf8 refl in
-              let beyond = last (at-end none) in
-              omega (arith, most, beyond)
+              let most = here first.cluster more first.whole refl in
+              let far = last (at-end none) in
+              let sum = first.beyond_is in
+              omega (arith, most, far, sum)
           by_after (p ∷ ps) some =
-              let nothing : x.1 ++ more ≡ x.1 = ap (λ t. x.1 ++ t) (alone (let long = ap length some in omega (arith, long))) ∙ append-nil x.1 in
+              let nothing : first.cluster ++ more ≡ first.cluster = ap (λ t. first.cluster ++ t) (alone (let long = ap length some in omega (arith, long))) ∙ append-nil first.cluster in
               let same = ap measure nothing in
-              omega (arith, same, wide)
+              let sum = first.beyond_is in
+              let wide = first.too_wide in
+              omega (arith, same, sum, wide)

@@ -1,7 +1,8 @@
 -- Private: an element at a text's front, and what follows it.
-use Rattle.std.specs.Prelude.{◌≡◌, ◌⊎◌, ℕ, ◌<◌, ◌≤◌, List, [], ◌∷◌, ◌++◌, length, take, drop, false, encode_utf8, IsUtf8}
+use Rattle.std.specs.Prelude.{◌≡◌, ◌⊎◌, ℕ, ◌+◌, ◌<◌, ◌≤◌, List, [], ◌∷◌, ◌++◌, length, take, drop, sum_by, false, encode_utf8, IsUtf8}
+use Rattle.std.specs.List.{concat}
 use Rattle.std.specs.Str.{IsCharBoundary}
-use Rattle.comfy_parts.specs.Text.{Text, measure, head, elements, begins_with}
+use Rattle.comfy_parts.specs.Text.{Text, measure, clusters, head, elements, begins_with}
 
 -- what follows an element: a delimiter and a text of these elements, or nothing where there are none
 abbrev pub Follow : ℕ → List Text → Text → Type 0
@@ -63,3 +64,17 @@ EndsWith text end = (front : Text) × (text ≡ front ++ end)
 pub record EndsHead (k : ℕ) (text : Text) (bytes : ℕ) : Type 0 where
   pub boundary : IsCharBoundary text bytes
   pub head_is : take bytes text ≡ head k text
+
+-- the first cluster of a text that has no room in k terminal columns after those before it: where it begins, its bytes, and by how many columns it is too wide
+pub record IsFirstWide (k : ℕ) (text : Text) (at bytes beyond : ℕ) : Type 0 where
+  pub before : List Text
+  pub cluster : Text
+  pub others : List Text
+  pub clusters_are : clusters text ≡ before ++ cluster ∷ others
+  pub at_is : length (concat before) ≡ at
+  pub boundary : IsCharBoundary text at
+  pub bytes_are : length cluster ≡ bytes
+  pub whole : IsUtf8 cluster
+  pub room_before : sum_by measure before ≤ k
+  pub beyond_is : sum_by measure before + measure cluster ≡ k + beyond
+  pub too_wide : 0 < beyond

@@ -1,7 +1,7 @@
 //! The head of a text for some terminal columns.
 
-ghost use Rattle.std.specs.Prelude.{◌≡◌, ◌++◌, IfSome, IsUtf8};
-ghost use Rattle.comfy_parts.specs.Following.{EndsHead};
+ghost use Rattle.std.specs.Prelude.{◌≡◌, ◌++◌, IfSome, IsUtf8, None, length};
+ghost use Rattle.comfy_parts.specs.Following.{EndsHead, IsFirstWide};
 ghost use Rattle.comfy_parts.specs.Text.{Text, head};
 
 use crate::content_split::width::is_printable;
@@ -34,16 +34,10 @@ pub fn split_long_word(allowed_width: usize, word: &str) -> (&str, &str)
 fn end_by_clusters(word: &str, columns: usize) -> usize
     ensures { EndsHead columns word.now result }
 {
-    let mut left = columns;
-    // Most clusters of such a word aren't ASCII, so they are measured without a look at their bytes.
-    for (at, cluster) in word.grapheme_indices(true) {
-        let width = cluster.width();
-        if width > left {
-            return at;
-        }
-        left -= width;
+    match first_wide_cluster(word, columns) {
+        Some(wide) => wide.at,
+        None => word.len(),
     }
-    word.len()
 }
 
 // Where the head of a word ends, where a front of it shows that. A cluster may be long, and isn't read further than it takes
@@ -67,17 +61,39 @@ fn end_by_front(word: &str, columns: usize) -> Option<usize>
 fn shown_end(front: &str, columns: usize) -> Option<usize>
     ensures { IfSome result (λ end. (rest : Text) → IsUtf8 rest → EndsHead columns (front.now ++ rest) end) }
 {
+    let wide = first_wide_cluster(front, columns)?;
+    // The last cluster may go on behind the front. It then measures at most two columns less than its front does.
+    let goes_on = wide.len == front.len() - wide.at;
+    if goes_on && wide.beyond <= 2 {
+        None
+    } else {
+        Some(wide.at)
+    }
+}
+
+// A cluster that is wider than the columns that are left for it.
+#[derive(Clone, Copy)]
+struct WideCluster {
+    // where it begins
+    at: usize,
+    // its bytes
+    len: usize,
+    // how many columns it is too wide by
+    beyond: usize,
+}
+
+// The first cluster of a text that has no room in these columns, after those before it.
+fn first_wide_cluster(text: &str, columns: usize) -> Option<WideCluster>
+    ensures some { IfSome result (λ wide. IsFirstWide columns text.now wide.at wide.len wide.beyond) }
+    ensures none { result ≡ None → EndsHead columns text.now (length text.now) }
+{
     let mut left = columns;
-    for (at, cluster) in front.grapheme_indices(true) {
+    // Most clusters of such a text aren't ASCII, so they are measured without a look at their bytes.
+    for (at, cluster) in text.grapheme_indices(true) {
         let width = cluster.width();
         if width > left {
-            // The last cluster may go on behind the front. It then measures at most two columns less than its front does.
-            let goes_on = cluster.len() == front.len() - at;
-            return if goes_on && width <= left.saturating_add(2) {
-                None
-            } else {
-                Some(at)
-            };
+            let (len, beyond) = (cluster.len(), width - left);
+            return Some(WideCluster { at, len, beyond });
         }
         left -= width;
     }
