@@ -11,6 +11,7 @@ use Rattle.std.proofs.lemmas.List.Elements.{All-cons, All-nil, All-head, All-tai
 use Rattle.std.proofs.lemmas.Str.{chars-encodes, encodes-append, encodes-chars, scalars-chars, IsUtf8-append, IsUtf8-nil}
 use Rattle.unicode_segmentation.proofs.TextLemmas.{encode_utf8_nonempty, IsUtf8-after}
 use Rattle.comfy_parts.proofs.ElementLemmas.{elements-none, elements-first}
+use Rattle.comfy_parts.proofs.FilledLemmas.{one_column}
 use Rattle.comfy_parts.proofs.FollowingLemmas.{first-rest, line_end-narrow, line_end-wide}
 use Rattle.comfy_parts.proofs.PlaceLemmas.{scalars-parts}
 use Rattle.comfy_parts.proofs.EndLemmas.{same_front}
@@ -19,7 +20,7 @@ use Rattle.comfy_parts.proofs.WrappingLemmas.{whole-past_gap}
 use Rattle.comfy_parts.specs.Following.{Follow, IsFirstElement}
 use Rattle.comfy_parts.specs.Text.{Text, measure, head, elements}
 use Rattle.comfy_parts.specs.Wrapping.{IsWrapped, bytes_taken, head_or_first, line_end}
-use Rattle.cluster_width.proofs.SpaceMeasureLemmas.{measure-nil, one_character}
+use Rattle.cluster_width.proofs.SpaceMeasureLemmas.{one_character}
 use Rattle.comfy_parts.specs.Columns.{AddsOneColumn}
 
 -- a line is whole characters, and measures at most w
@@ -95,11 +96,6 @@ module _ (w d : ℕ) (Word : Text → Type 0) (breaks : BreaksWell w Word) (scal
   words-behind (e ∷ es) behind (more, splits, parts) words =
       subst Words (sym splits)
       (subst (All Word) (sym (elements-first d [] more scalar IsUtf8-nil ([], refl, tt) ∙ ap (λ xs. [] ∷ xs) parts)) (All-cons Word [] (e ∷ es) breaks.empty words))
-
-  one : measure (encode_utf8 d) ≡ 1
-  one =
-      let none = measure-nil in
-      ap measure (sym (append-nil (encode_utf8 d))) ∙ adds [] [] IsUtf8-nil ∙ omega (arith, none)
 
   -- what a line takes after its first elements, which measure `filled`
   record IsTaken (filled n : ℕ) (behind : Text) : Type 0 where
@@ -183,7 +179,7 @@ module _ (w d : ℕ) (Word : Text → Type 0) (breaks : BreaksWell w Word) (scal
           → IsTaken filled (length (encode_utf8 d) + length next + bytes_taken w d filled' others) behind
       whole_next test rest =
           let room' : filled + 1 + measure next ≤ w = grind (arith, nat_tests, test) in
-          let place = one in
+          let place = one_column d adds in
           let further = rest (omega (arith, room', place)) in
           record {
             taken = encode_utf8 d ++ (next ++ further.taken);

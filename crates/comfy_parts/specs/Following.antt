@@ -56,6 +56,10 @@ abbrev pub IsMeasuredBehind : ℕ → Text → ℕ → ℕ → ℕ → Type 0
 IsMeasuredBehind d text left first columns =
     (whole : Text) × (before : Text) × (whole ≡ before ++ text) × IsMeasured d whole left first columns
 
+-- behind every text this one adds the terminal columns from the first number to the second
+abbrev pub FillsTo : ℕ → ℕ → Text → Type 0
+FillsTo from to text = (front : Text) → IsUtf8 front → measure (front ++ text) + from ≡ measure front + to
+
 -- a text ends with another
 abbrev pub EndsWith : Text → Text → Type 0
 EndsWith text end = (front : Text) × (text ≡ front ++ end)

@@ -3,10 +3,12 @@
 ghost use Rattle.std.specs.Prelude.{◌≡◌, IfSome, ℕ, ◌+◌, ◌*◌, ◌==◌, ◌≤◌, List, length, take, drop, true, false};
 ghost use Rattle.std.specs.List.{list_any};
 ghost use Rattle.std.specs.Str.{IsCharBoundary};
-ghost use Rattle.comfy_parts.specs.Following.{AreColumnsUpTo, EndsElement, EndsWith, Follow, IsFirstElement, IsMeasured};
+ghost use Rattle.comfy_parts.specs.Columns.{AddsOneColumn};
+ghost use Rattle.comfy_parts.specs.Following.{AreColumnsUpTo, EndsElement, EndsWith, FillsTo, Follow, IsFirstElement, IsMeasured};
 ghost use Rattle.comfy_parts.specs.Text.{Text, begins_with, is_printable_ascii, measure};
 ghost use Rattle.comfy_parts.specs.Wrapping.{bytes_taken, head_or_first, line_end, part_taken, wrapped};
 
+use crate::content_split::joining::adds_one_column;
 use crate::content_split::prefix::split_long_word;
 use crate::content_split::width::{char_width, measure_text_width};
 
@@ -88,29 +90,53 @@ pub struct Measured {
     pub columns: usize,
 }
 
-/// The end of the line that begins at the text's front. The text's first element has `first` bytes and takes `columns`
-/// terminal columns; where it is wider than a line, any number above the line's width is passed for `columns`. Beside the end
-/// stands the measure of the element that had no room, where one was measured.
+/// What a line takes of a text. The columns are known where the line ends between two elements.
+#[derive(Clone, Copy, Drop)]
+pub struct Taken {
+    // its bytes
+    pub bytes: usize,
+    // the terminal columns of the line up to there, where they are known
+    pub columns: Option<usize>,
+    // the measure of the element that had no room, where one was measured
+    pub measured: Option<Measured>,
+}
+
+/// What the line takes that begins at the text's front. The text's first element has `first` bytes and takes `columns`
+/// terminal columns; where it is wider than a line, any number above the line's width is passed for `columns`.
 pub(crate) fn line_end(
     text: &str,
     first: usize,
     columns: usize,
     width: usize,
     delimiter: char,
-) -> (usize, Option<Measured>)
+) -> Taken
     requires boundary { IsCharBoundary text.now first }
     requires element { IsFirstElement delimiter text.now (take first text.now) (drop first text.now) }
     requires columns { AreColumnsUpTo width columns (take first text.now) }
     requires narrow { width ≤ 65535 }
-    ensures end { result.0 ≡ line_end width delimiter text.now }
-    ensures measured { IfSome result.1 (λ m. IsMeasured delimiter text.now m.left m.first m.columns) }
+    ensures end { result.bytes ≡ line_end width delimiter text.now }
+    ensures columns { IfSome result.columns (λ n. n ≡ measure (take result.bytes text.now)) }
+    ensures measured { IfSome result.measured (λ m. IsMeasured delimiter text.now m.left m.first m.columns) }
 {
     let (word, behind) = text.split_at(first);
     if columns > width {
-        return (end_within(word, width), None);
+        return Taken {
+            bytes: end_within(word, width),
+            columns: None,
+            measured: None,
+        };
     }
-    let (taken, measured) = taken_behind(columns, behind, width, delimiter);
-    (first + taken, measured)
+    let taken = taken_behind(columns, behind, width, delimiter);
+    let columns = if adds_one_column(delimiter) {
+        taken.columns
+    } else {
+        None
+    };
+    Taken {
+        bytes: first + taken.bytes,
+        columns,
+        measured: taken.measured,
+    }
 }
 
 // The bytes of a word that is wider than a line which the line takes: its head, or at least its first character.
@@ -127,18 +153,14 @@ fn end_within(word: &str, width: usize) -> usize
     }
 }
 
-// The bytes that a line takes after its first element, which fills so many terminal columns, and the measure of the element
-// that had no room.
-fn taken_behind(
-    first: usize,
-    behind: &str,
-    width: usize,
-    delimiter: char,
-) -> (usize, Option<Measured>)
+// What a line takes after its first element, which fills so many terminal columns. The line's columns are counted as those
+// of a delimiter that adds one between any texts.
+fn taken_behind(first: usize, behind: &str, width: usize, delimiter: char) -> Taken
     requires narrow { width ≤ 65535 }
-    ensures value { (es : List Text) → Follow delimiter es behind.now → result.0 ≡ bytes_taken width delimiter first es }
-    ensures bound { result.0 ≤ length behind.now + 4 }
-    ensures measured { IfSome result.1 (λ m. IsMeasured delimiter behind.now m.left m.first m.columns) }
+    ensures value { (es : List Text) → Follow delimiter es behind.now → result.bytes ≡ bytes_taken width delimiter first es }
+    ensures bound { result.bytes ≤ length behind.now + 4 }
+    ensures columns { IfSome result.columns (λ n. AddsOneColumn delimiter → FillsTo first n (take result.bytes behind.now)) }
+    ensures measured { IfSome result.measured (λ m. IsMeasured delimiter behind.now m.left m.first m.columns) }
 {
     let mut filled = first;
     let mut rest = behind;
@@ -154,12 +176,20 @@ fn taken_behind(
                 first: next.len(),
                 columns,
             };
-            return (behind.len() - rest.len() + part, Some(measured));
+            return Taken {
+                bytes: behind.len() - rest.len() + part,
+                columns: (part == 0).then_some(filled),
+                measured: Some(measured),
+            };
         }
         filled += columns + char_width(delimiter);
         rest = following;
     }
-    (behind.len() - rest.len(), None)
+    Taken {
+        bytes: behind.len() - rest.len(),
+        columns: Some(filled),
+        measured: None,
+    }
 }
 
 // The bytes that a line takes of the next element, which takes so many terminal columns and has no room as a whole, and

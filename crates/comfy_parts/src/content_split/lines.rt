@@ -147,43 +147,76 @@ fn lines_from<'a>(rest: &'a str, next: Next, width: usize, delimiter: char) -> W
     }
 }
 
-// The line at the front of a text that begins with this element, and those after it.
+// The line at the front of a text that begins with this element, its terminal columns where they are known, and the lines
+// after it.
 fn split_at_element<'a>(
     rest: &'a str,
     element: Element,
     width: usize,
     delimiter: char,
-) -> (&'a str, WrappedLines<'a>)
+) -> (&'a str, Option<usize>, WrappedLines<'a>)
     requires at { IsAtLine width delimiter rest.now element.len element.columns element.wide }
     requires some { 0 < length rest.now }
-    ensures { wrapped width delimiter rest.now ≡ result.0.now ∷ result.1 }
+    ensures lines { wrapped width delimiter rest.now ≡ result.0.now ∷ result.2 }
+    ensures columns { IfSome result.1 (λ columns. columns ≡ measure result.0.now) }
 {
-    let (end, measured) = line_end(rest, element.len, element.columns, width, delimiter);
-    let (line, behind) = rest.split_at(end);
-    if end >= element.len {
-        return (line, lines_behind(behind, width, delimiter, measured));
+    let taken = line_end(rest, element.len, element.columns, width, delimiter);
+    let (line, behind) = rest.split_at(taken.bytes);
+    if taken.bytes >= element.len {
+        let lines = lines_behind(behind, width, delimiter, taken.measured);
+        return (line, taken.columns, lines);
     }
     // The line ends inside a long element, and its rest comes next.
-    let (len, wide) = (element.len - end, element.wide);
+    let (len, wide) = (element.len - taken.bytes, element.wide);
     let columns = columns_up_to(behind.split_at(len).0, wide, width);
     let next = Next::Element(Element { len, columns, wide });
-    (line, lines_from(behind, next, width, delimiter))
+    let lines = lines_from(behind, next, width, delimiter);
+    (line, taken.columns, lines)
 }
 
 impl<'a> WrappedLines<'a> {
-    /// The next line, and the terminal columns that it takes. Printable ASCII isn't measured again.
+    /// The next line, and the terminal columns that it takes. Neither printable ASCII is measured again nor a line of whole
+    /// words, if its delimiter adds one column wherever it stands.
     pub fn next_measured(&mut self) -> Option<(&'a str, usize)>
         ensures ended { result ≡ None → self.old ≡ [] }
         ensures line { IfSome result (λ line. self.old ≡ line.0.now ∷ self.new) }
         ensures columns { IfSome result (λ line. line.1 ≡ measure line.0.now) }
     {
-        if matches!(self.next, Next::Printable) && !self.rest.is_empty() {
-            let (line, rest) = split_printable_line(self.rest, self.width, self.delimiter);
-            self.rest = rest;
-            return Some((line, line.len()));
+        let (line, columns) = self.next_line()?;
+        let columns = match columns {
+            Some(columns) => columns,
+            None => measure_text_width(line),
+        };
+        Some((line, columns))
+    }
+
+    // The next line, and its terminal columns where they are known without measuring it.
+    #[inline(always)]
+    fn next_line(&mut self) -> Option<(&'a str, Option<usize>)>
+        ensures ended { result ≡ None → (self.old ≡ []) × (self.new ≡ []) }
+        ensures line { IfSome result (λ line. self.old ≡ line.0.now ∷ self.new) }
+        ensures columns { IfSome result (λ line. IfSome line.1 (λ columns. columns ≡ measure line.0.now)) }
+    {
+        if self.rest.is_empty() {
+            return None;
         }
-        let line = self.next()?;
-        Some((line, measure_text_width(line)))
+        match self.next {
+            Next::Printable => {
+                let (line, rest) = split_printable_line(self.rest, self.width, self.delimiter);
+                self.rest = rest;
+                Some((line, Some(line.len())))
+            }
+            Next::Element(element) => {
+                let (line, columns, lines) = split_at_element(
+                    self.rest,
+                    element,
+                    self.width,
+                    self.delimiter,
+                );
+                *self = lines;
+                Some((line, columns))
+            }
+        }
     }
 
     /// The terminal columns of the longest line that is still to come.
@@ -210,26 +243,8 @@ impl<'a> Iterator for WrappedLines<'a> {
     ghost remaining = { item_count (λ lines. lines) };
 
     fn next(&mut self) -> Option<&'a str> {
-        if self.rest.is_empty() {
-            return None;
-        }
-        match self.next {
-            Next::Printable => {
-                let (line, rest) = split_printable_line(self.rest, self.width, self.delimiter);
-                self.rest = rest;
-                Some(line)
-            }
-            Next::Element(element) => {
-                let (line, lines) = split_at_element(
-                    self.rest,
-                    element,
-                    self.width,
-                    self.delimiter,
-                );
-                *self = lines;
-                Some(line)
-            }
-        }
+        let (line, _) = self.next_line()?;
+        Some(line)
     }
 }
 

@@ -3,9 +3,11 @@ use Rattle.std.proofs.lemmas.Bool.Decides.{nat_tests}
 use Rattle.std.proofs.lemmas.List.{take-append-drop}
 use Rattle.comfy_parts.specs.Text.{Text, measure}
 use Rattle.comfy_parts.specs.Wrapping.{bytes_taken, head_or_first}
+use Rattle.comfy_parts.proofs.FilledLemmas.{line-columns}
 use Rattle.comfy_parts.proofs.FollowingLemmas.{line_end-wide, line_end-narrow}
 use Rattle.comfy_parts.proofs.MeasuredLineLemmas.{measured-past}
 use Rattle.comfy_parts.proofs.content_split.ends.line_end.Goals as goal
+use Rattle.comfy_parts.proofs.content_split.ends.line_end.Goals.{then-adds_one_column, else-adds_one_column}
 
 pub returns-then-columns-width : goal.returns-then-columns-width
 returns-then-columns-width c =
@@ -14,6 +16,7 @@ returns-then-columns-width c =
     record {
       end = c.end_within.ensures ∙ ap (λ t. length (head_or_first c.args.width t)) c.split_at.ensures.front
           ∙ sym (line_end-wide c.args.width c.args.delimiter c.args.text.now word (drop c.args.first c.args.text.now) c.requires.element wide);
+      columns = tt;
       measured = tt;
     }
 
@@ -27,5 +30,9 @@ returns c =
     record {
       end = ap₂ (λ a b. a + b) (sym long) (taken ∙ ap (λ n. bytes_taken c.args.width c.args.delimiter n c.requires.element.others) columns)
           ∙ sym (line_end-narrow c.args.width c.args.delimiter c.args.text.now word (drop c.args.first c.args.text.now) c.requires.element narrow);
-      measured = measured-past c.args.delimiter c.args.text.now c.split_at.result.0.now c.split_at.result.1.now c.taken_behind-taken.result.1 (sym (ap₂ (λ (a b : Text). a ++ b) c.split_at.ensures.front c.split_at.ensures.back ∙ take-append-drop c.args.first c.args.text.now)) c.taken_behind-taken.ensures.measured;
+      columns = elim c.if-adds_one_column.branch [
+        | then-adds_one_column w ↦ rw w.columns-is (line-columns c.args.delimiter c.args.text.now c.split_at.result.1.now c.args.first c.args.columns c.taken_behind-taken.result.bytes (c.adds_one_column.ensures.adds w.if-adds_one_column.true) c.requires.element.whole_first columns c.split_at.ensures.back _ c.taken_behind-taken.ensures.columns)
+        | else-adds_one_column w ↦ rw w.columns-is tt
+      ];
+      measured = measured-past c.args.delimiter c.args.text.now c.split_at.result.0.now c.split_at.result.1.now c.taken_behind-taken.result.measured (sym (ap₂ (λ (a b : Text). a ++ b) c.split_at.ensures.front c.split_at.ensures.back ∙ take-append-drop c.args.first c.args.text.now)) c.taken_behind-taken.ensures.measured;
     }

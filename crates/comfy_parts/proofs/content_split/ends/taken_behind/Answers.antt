@@ -1,7 +1,9 @@
-use Rattle.std.proofs.Common.{◌≡◌, ◌+◌, ◌++◌, ◌∙◌, [], length, ap, refl, sym, arith, append_assoc, length-append}
+use Rattle.std.proofs.Common.{◌≡◌, ◌+◌, ◌++◌, ◌∙◌, ◌==◌, true, length, ap, sym, arith, append_assoc, length-append}
+use Rattle.std.proofs.lemmas.Bool.Decides.{nat_tests}
 use Rattle.std.specs.Prelude.{encode_utf8}
 use Rattle.comfy_parts.specs.Wrapping.{bytes_taken}
 use Rattle.comfy_parts.specs.Text.{Text, measure}
+use Rattle.comfy_parts.proofs.FilledLemmas.{if-then_some, passed-bytes, passed-none, passed-next}
 use Rattle.comfy_parts.proofs.FollowingLemmas.{follow-next, stripped, taken-more, taken-part}
 use Rattle.comfy_parts.proofs.MeasuredLineLemmas.{measured-at}
 use Rattle.comfy_parts.proofs.content_split.ends.taken_behind.Goals as goal
@@ -23,10 +25,11 @@ returns-then-columns-saturating_sub c =
           let sum = before.2 in
           omega (arith, part, sum, c.part_of_next-part.ensures.value);
       bound = omega (arith, bytes, more, joined);
+      columns = rw c.then_some.ensures (if-then_some _ _ _ (λ (none : (c.part_of_next-part.result == 0) ≡ true). passed-bytes d c.args.first c.loop-filled.filled c.args.behind.now rest c.loop-filled.invariant.passed _ (grind (arith, nat_tests, none))));
       measured =
-          let (front, ended) = c.loop-filled.invariant.ends in
-          measured-at d c.args.behind.now (front ++ encode_utf8 d) c.in-Some.others.now next c.measured_element-columns.result.1.now c.measured_element-columns.result.2
-          (ended ∙ ap (λ (t : Text). front ++ t) splits ∙ sym (append_assoc front (encode_utf8 d) c.in-Some.others.now)) c.measured_element-columns.ensures.element c.measured_element-columns.ensures.columns;
+          let before = c.loop-filled.invariant.passed in
+          measured-at d c.args.behind.now (before.passed ++ encode_utf8 d) c.in-Some.others.now next c.measured_element-columns.result.1.now c.measured_element-columns.result.2
+          (before.splits ∙ ap (λ (t : Text). before.passed ++ t) splits ∙ sym (append_assoc before.passed (encode_utf8 d) c.in-Some.others.now)) c.measured_element-columns.ensures.element c.measured_element-columns.ensures.columns;
     }
 
 pub loop-filled-preserved : goal.loop-filled-preserved
@@ -41,11 +44,7 @@ loop-filled-preserved c =
     record {
       utf8 = c.measured_element-columns.ensures.element.whole_behind;
       bound = omega (arith, bytes, more, joined);
-      ends =
-          let (front, ended) = c.loop-filled.invariant.ends in
-          let following = c.measured_element-columns.result.1.now in
-          let passed : rest ≡ (encode_utf8 d ++ next) ++ following = splits ∙ ap (λ (t : Text). encode_utf8 d ++ t) (sym c.measured_element-columns.ensures.element.joined) ∙ sym (append_assoc (encode_utf8 d) next following) in
-          (front ++ (encode_utf8 d ++ next), ended ∙ ap (λ (t : Text). front ++ t) passed ∙ sym (append_assoc front (encode_utf8 d ++ next) following));
+      passed = passed-next d _ _ _ rest _ _ _ c.ranges.delimiter.0 c.loop-filled.invariant.passed splits c.measured_element-columns.ensures.element _ (omega (arith, c.measured_element-columns.ensures.columns, c.char_width.ensures.value));
       taken = λ es follow.
           let before = c.loop-filled.invariant.taken es follow in
           let step = follow-next d before.0 rest c.in-Some.others.now next c.measured_element-columns.result.1.now before.1 splits c.measured_element-columns.ensures.element in
@@ -57,4 +56,7 @@ loop-filled-preserved c =
     }
 
 pub loop-filled-init : goal.loop-filled-init
-loop-filled-init c = record { utf8 = c.utf8.behind; bound = omega arith; ends = ([], refl); taken = λ es follow. (es, follow, omega arith) }
+loop-filled-init c = record { utf8 = c.utf8.behind; bound = omega arith; passed = passed-none _ _ _; taken = λ es follow. (es, follow, omega arith) }
+
+pub returns-clause-columns : goal.returns-clause-columns
+returns-clause-columns c = passed-bytes c.args.delimiter c.args.first c.loop-filled.filled c.args.behind.now c.loop-filled.rest.now c.loop-filled.invariant.passed _ (omega arith)

@@ -1,9 +1,10 @@
 use Rattle.std.proofs.Common.{◌≡◌, ◌+◌, ◌≤◌, List, length}
 use denote.Text.{Utf8}
 use denote.Shadow.{shadow}
-use Rattle.comfy_parts.specs.Following.{EndsWith, Follow}
+use Rattle.comfy_parts.specs.Following.{Follow}
 use Rattle.comfy_parts.specs.Wrapping.{bytes_taken}
 use Rattle.comfy_parts.specs.Text.{Text}
+use Rattle.comfy_parts.proofs.FilledLemmas.{HasPassed}
 use Rattle.comfy_parts.proofs.content_split.ends.taken_behind.Given as goal
 
 abbrev pub invariant-loop-filled : goal.invariant-loop-filled
@@ -11,7 +12,7 @@ invariant-loop-filled l =
     record {
       utf8 : shadow (Utf8 l.rest);
       bound : length l.rest ≤ length l.behind;
-      ends : EndsWith l.behind l.rest;
+      passed : HasPassed l.delimiter l.first l.filled l.behind l.rest;
       taken : (es : List Text) → Follow l.delimiter es l.behind
           → (others : List Text) × Follow l.delimiter others l.rest × (bytes_taken l.width l.delimiter l.first es + length l.rest ≡ length l.behind + bytes_taken l.width l.delimiter l.filled others);
     }
