@@ -1,86 +1,108 @@
 //! What is drawn of some records.
 
-ghost use Rattle.std.specs.Prelude.{◌≡◌, IfOk, IfErr, Ok, map, option_map};
-ghost use Rattle.csv.specs.Records.{fields_of};
+ghost use Rattle.std.specs.Prelude.{◌≡◌, IfOk, IfErr, Ok, [], unwrap_or};
 ghost use Rattle.comfy_csv_parts.specs.Columns.{IsColumnRefusal};
 ghost use Rattle.comfy_csv.specs.Drawn.{content_of, limited, names_of, records_below};
 
-use comfy_csv_parts::{CsvError, DrawnColumn, Options, columns_of};
-use csv::StringRecord;
+use comfy_csv_parts::{CsvError, DrawnColumn, Options, Record, Records, Rows, columns_of};
 use std::alloc::Global;
 use std::marker::Model;
 
-/// The names, the rows and the columns that are drawn of some records.
+/// The names, the rows and the columns that are drawn of some records, with these records.
 #[derive(Drop)]
-pub struct Content<'a> {
+pub struct Content {
     pub(crate) alloc: Global,
-    // the header, where there is one
-    pub(crate) names: Option<&'a StringRecord>,
-    pub(crate) rows: &'a [StringRecord],
+    records: Records,
+    has_header: bool,
+    // how many rows are drawn
+    limit: Option<usize>,
     pub(crate) columns: Vec<DrawnColumn>,
-    // how many records there are, drawn or not
-    pub(crate) count: usize,
 }
 
-impl<'a> Model for Content<'a> {
-    ghost use Rattle.std.specs.Prelude.{map, option_map};
-    ghost use Rattle.csv.specs.Records.{fields_of};
-    ghost use Rattle.comfy_csv.specs.Drawn.{ContentValue};
+impl Model for Content {
+    ghost use Rattle.std.specs.Prelude.{length};
+    ghost use Rattle.comfy_csv.specs.Drawn.{ContentValue, limited, names_of, records_below};
 
     ghost Value = { ContentValue };
 
-    ghost view = { λ c. record { names = option_map (λ n. fields_of n.now) c.names; rows = map fields_of c.rows.now; columns = c.columns.items; count = c.count } };
+    ghost view = { λ c. record { names = names_of c.has_header c.records; rows = limited c.limit (records_below c.has_header c.records); columns = c.columns.items; count = length (records_below c.has_header c.records) } };
 }
 
-impl<'a> Content<'a> {
+impl Content {
     /// What is drawn of these records.
-    pub fn new(
-        alloc: Global,
-        records: &'a [StringRecord],
-        options: &Options,
-    ) -> Result<Content<'a>, CsvError>
-        ensures ok { IfOk result (λ content. content_of options.now (map fields_of records.now) ≡ Ok content) }
-        ensures refused { IfErr result (λ e. IsColumnRefusal e (content_of options.now (map fields_of records.now))) }
+    pub fn new(alloc: Global, records: Records, options: &Options) -> Result<Content, CsvError>
+        ensures ok { IfOk result (λ content. content_of options.now records ≡ Ok content) }
+        ensures refused { IfErr result (λ e. IsColumnRefusal e (content_of options.now records)) }
     {
-        let names = names_of(records, options.has_header);
-        let below = records_below(records, options.has_header);
-        let rows = limited(below, options.limit);
-        let blank = StringRecord::new(alloc);
-        let columns = columns_of(alloc, names.unwrap_or(&blank), rows, options)?;
+        let has_header = options.has_header;
+        let limit = options.limit;
+        let all = records.rows();
+        let names = names_of(&all, has_header).unwrap_or(all.blank());
+        let rows = limited(&records_below(&all, has_header), limit);
+        let columns = columns_of(alloc, &names, &rows, options)?;
         Ok(Content {
             alloc,
-            names,
-            rows,
+            records,
+            has_header,
+            limit,
             columns,
-            count: below.len(),
         })
+    }
+
+    /// The header, where there is one.
+    pub(crate) fn names(&self) -> Option<Record<'_>>
+        ensures { result ≡ self.now.names }
+    {
+        names_of(&self.records.rows(), self.has_header)
+    }
+
+    /// The header, or a record without fields.
+    pub(crate) fn names_or_blank(&self) -> Record<'_>
+        ensures { result ≡ unwrap_or self.now.names [] }
+    {
+        self.names().unwrap_or(self.records.rows().blank())
+    }
+
+    /// The rows that are drawn.
+    pub(crate) fn rows(&self) -> Rows<'_>
+        ensures { result ≡ self.now.rows }
+    {
+        let below = records_below(&self.records.rows(), self.has_header);
+        limited(&below, self.limit)
+    }
+
+    /// How many records there are below the header, drawn or not.
+    pub(crate) fn count(&self) -> usize
+        ensures { result ≡ self.now.count }
+    {
+        records_below(&self.records.rows(), self.has_header).len()
     }
 }
 
 // The header, where there is one.
-fn names_of(records: &[StringRecord], has_header: bool) -> Option<&StringRecord>
-    ensures { option_map (λ n. fields_of n.now) result ≡ names_of has_header (map fields_of records.now) }
+fn names_of<'a>(records: &Rows<'a>, has_header: bool) -> Option<Record<'a>>
+    ensures { result ≡ names_of has_header records.now }
 {
     if has_header { records.first() } else { None }
 }
 
 // The records below the header.
-fn records_below(records: &[StringRecord], has_header: bool) -> &[StringRecord]
-    ensures { map fields_of result.now ≡ records_below has_header (map fields_of records.now) }
+fn records_below<'a>(records: &Rows<'a>, has_header: bool) -> Rows<'a>
+    ensures { result ≡ records_below has_header records.now }
 {
-    if has_header && !records.is_empty() {
-        &records[1..]
+    if has_header {
+        records.rows_behind(1)
     } else {
-        records
+        records.iter()
     }
 }
 
 // The first rows, as many as are drawn.
-fn limited(rows: &[StringRecord], limit: Option<usize>) -> &[StringRecord]
-    ensures { map fields_of result.now ≡ limited limit (map fields_of rows.now) }
+fn limited<'a>(rows: &Rows<'a>, limit: Option<usize>) -> Rows<'a>
+    ensures { result ≡ limited limit rows.now }
 {
     match limit {
-        Some(count) if count < rows.len() => &rows[..count],
-        _ => rows,
+        Some(count) => rows.first_rows(count),
+        None => rows.iter(),
     }
 }

@@ -55,11 +55,11 @@ pub(crate) fn between_fields(separators: RowSeparators) -> RowSeparators
 }
 
 /// The expanded records of an arranged table, each below a line that numbers it.
-pub(crate) fn records_text(content: &Content<'_>, arranged: &ArrangedTable<'_>) -> Result<String>
+pub(crate) fn records_text(content: &Content, arranged: &ArrangedTable<'_>) -> Result<String>
     ensures { IfOk result (λ text. string_bytes text ≡ table_text true content.now arranged.now) }
 {
     let mut text = String::new(content.alloc);
-    for at in 0..content.rows.len() {
+    for at in 0..content.rows().len() {
         push_record(&mut text, content, arranged, at)?;
     }
     Ok(text)
@@ -67,7 +67,7 @@ pub(crate) fn records_text(content: &Content<'_>, arranged: &ArrangedTable<'_>) 
 
 fn push_record(
     text: &mut String,
-    content: &Content<'_>,
+    content: &Content,
     arranged: &ArrangedTable<'_>,
     at: usize,
 ) -> Result<()>
@@ -76,6 +76,6 @@ fn push_record(
     let fields = content.columns.len();
     // as many rows are in memory, so a `usize` holds this
     let first = at.checked_mul(fields).ok_or(TableError::OutOfMemory)?;
-    write!(text, "record {} of {}\n", at as u128 + 1, content.count)?;
+    write!(text, "record {} of {}\n", at as u128 + 1, content.count())?;
     arranged.push_rows(text, first, fields)
 }

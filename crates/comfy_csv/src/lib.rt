@@ -14,9 +14,9 @@ mod transfer;
 mod unbroken;
 
 pub use comfy_csv_parts::{
-    Asked, CsvError, Delimiter, DrawnColumn, Encoding, Expansion, Kept, Look, Options,
-    RowSeparators, Surroundings, asked_of, cleaned, decoded, escaped, is_number, read_records,
-    shown_text,
+    Asked, CsvError, Delimiter, DrawnColumn, Encoding, Expansion, Kept, Look, Options, Record,
+    Records, RowSeparators, Rows, Surroundings, asked_of, cleaned, decoded, escaped, is_number,
+    read_records, shown_text,
 };
 pub use drawing::{Refusal, drawing_of};
 pub use ending::WORD_NOT_UTF8;

@@ -1,16 +1,16 @@
 //! The tables of some records.
 
 ghost use Rattle.std.specs.Prelude.{◌≡◌, IfErr, IfOk, Ok, OnOk, map, option_map, unwrap_or};
-ghost use Rattle.csv.specs.Records.{fields_of};
 ghost use Rattle.comfy_csv_parts.specs.Columns.{IsColumnRefusal};
 ghost use Rattle.comfy_csv.specs.Drawn.{arrangement_for, content_of, empty_table, headed_table, markdown_look, markdown_style, markdown_table, pairs_of, pairs_table, rows_table, table_for};
 ghost use Rattle.comfy_table.specs.TableValue.{with_rows};
 
 use crate::content::Content;
-use comfy_csv_parts::{CsvError, Look, Options, header_of, name_at, pair_of, row_of};
+use comfy_csv_parts::{
+    CsvError, Look, Options, Record, Records, header_of, name_at, pair_of, row_of,
+};
 use comfy_table::presets::ASCII_MARKDOWN;
 use comfy_table::{ContentArrangement, LineStyle, Result, Table, TableStyle};
-use csv::StringRecord;
 use std::alloc::Global;
 
 /// The table of these records, with the columns, rows and looks that are wanted, and all lines of the style. `NoColumn`
@@ -19,33 +19,32 @@ use std::alloc::Global;
 /// for Markdown; `draw` draws such a table.
 pub fn table_of(
     alloc: Global,
-    records: &[StringRecord],
+    records: Records,
     options: &Options,
 ) -> std::result::Result<Table, CsvError>
-    ensures ok { IfOk result (λ table. table_for options.now (map fields_of records.now) ≡ Ok table) }
-    ensures refused { IfErr result (λ e. IsColumnRefusal e (content_of options.now (map fields_of records.now))) }
+    ensures ok { IfOk result (λ table. table_for options.now records ≡ Ok table) }
+    ensures refused { IfErr result (λ e. IsColumnRefusal e (content_of options.now records)) }
 {
     let content = Content::new(alloc, records, options)?;
     Ok(content.rows_table(&options.look)?)
 }
 
-impl<'a> Content<'a> {
+impl Content {
     /// The table of records, a row for each, with all lines of the style.
     pub fn rows_table(&self, look: &Look) -> Result<Table>
         ensures { IfOk result (λ table. table ≡ rows_table look.now self.now) }
     {
-        self.rows_table_under(self.names, look)
+        self.rows_table_under(self.names(), look)
     }
 
     /// The table of expanded records: for each field a row, with the name of its column.
     pub fn pairs_table(&self, look: &Look) -> Result<Table>
         ensures { IfOk result (λ table. table ≡ pairs_table look.now self.now) }
     {
-        let blank = StringRecord::new(self.alloc);
-        let names = names_or(self.names, &blank);
+        let names = self.names_or_blank();
         let mut table = empty_table(self.alloc, look);
-        for row in self.rows {
-            self.add_pairs(&mut table, names, row, look)?;
+        for row in self.rows() {
+            self.add_pairs(&mut table, &names, &row, look)?;
         }
         Ok(table)
     }
@@ -54,27 +53,26 @@ impl<'a> Content<'a> {
     pub fn markdown_table(&self, look: &Look) -> Result<Table>
         ensures { IfOk result (λ table. table ≡ markdown_table look.now self.now) }
     {
-        let blank = StringRecord::new(self.alloc);
-        let names = names_or(self.names, &blank);
+        let names = self.names_or_blank();
         self.rows_table_under(Some(names), &markdown_look(*look))
     }
 
-    fn rows_table_under(&self, names: Option<&StringRecord>, look: &Look) -> Result<Table>
-        ensures { IfOk result (λ table. table ≡ rows_table look.now (record self.now { names = option_map (λ n. fields_of n.now) names.entry })) }
+    fn rows_table_under(&self, names: Option<Record<'_>>, look: &Look) -> Result<Table>
+        ensures { IfOk result (λ table. table ≡ rows_table look.now (record self.now { names = names.entry })) }
     {
         let mut table = self.headed_table(names, look)?;
-        for row in self.rows {
-            table.try_add_row(row_of(self.alloc, row, self.columns.as_slice(), look)?)?;
+        for row in self.rows() {
+            table.try_add_row(row_of(self.alloc, &row, self.columns.as_slice(), look)?)?;
         }
         Ok(table)
     }
 
     // A table with a header of these names, where there are any.
-    fn headed_table(&self, names: Option<&StringRecord>, look: &Look) -> Result<Table>
-        ensures { IfOk result (λ table. table ≡ headed_table look.now self.now.columns (option_map (λ n. fields_of n.now) names.entry)) }
+    fn headed_table(&self, names: Option<Record<'_>>, look: &Look) -> Result<Table>
+        ensures { IfOk result (λ table. table ≡ headed_table look.now self.now.columns names.entry) }
     {
         let mut table = empty_table(self.alloc, look);
-        if let Some(names) = names {
+        if let Some(names) = &names {
             table.try_set_header(header_of(self.alloc, names, self.columns.as_slice(), look)?)?;
         }
         Ok(table)
@@ -84,11 +82,11 @@ impl<'a> Content<'a> {
     fn add_pairs(
         &self,
         table: &mut Table,
-        names: &StringRecord,
-        row: &StringRecord,
+        names: &Record<'_>,
+        row: &Record<'_>,
         look: &Look,
     ) -> Result<()>
-        ensures { OnOk result (table.new ≡ with_rows (pairs_of look.now self.now.columns (fields_of names.now) (fields_of row.now)) table.old) }
+        ensures { OnOk result (table.new ≡ with_rows (pairs_of look.now self.now.columns names.now row.now) table.old) }
     {
         for column in &self.columns {
             let name = name_at(self.alloc, names, column.position)?;
@@ -96,16 +94,6 @@ impl<'a> Content<'a> {
             table.try_add_row(pair_of(self.alloc, name.as_str(), field, look)?)?;
         }
         Ok(())
-    }
-}
-
-// These names, or others where there are none.
-fn names_or<'r>(names: Option<&'r StringRecord>, others: &'r StringRecord) -> &'r StringRecord
-    ensures { fields_of result.now ≡ unwrap_or (option_map (λ n. fields_of n.now) names.entry) (fields_of others.now) }
-{
-    match names {
-        Some(names) => names,
-        None => others,
     }
 }
 

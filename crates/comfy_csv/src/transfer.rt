@@ -71,10 +71,10 @@ pub(crate) fn output_of_input(
 {
     let text = decoded(alloc, input, options.encoding)?;
     let records = read_records(alloc, text.as_str(), options)?;
-    if records.is_empty() {
+    if records.rows().is_empty() {
         return Ok(String::new(alloc));
     }
-    output_of(alloc, records.as_slice(), options)
+    output_of(alloc, records, options)
 }
 
 // All that the source has left.

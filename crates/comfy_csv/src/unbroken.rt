@@ -16,7 +16,7 @@ const NEEDED_CONTENT: u16 = 8;
 
 /// Lets the columns of numbers and dates be as wide as their contents, where a width is kept that has room for all of them
 /// and for what the other columns need.
-pub(crate) fn keep_whole(table: &mut Table, content: &Content<'_>, look: &Look) -> Result<()>
+pub(crate) fn keep_whole(table: &mut Table, content: &Content, look: &Look) -> Result<()>
     ensures { OnOk result (table.new ≡ kept_whole look.now.width (unbroken_columns look.now.has_sequences content.now.columns content.now.rows) table.old) }
 {
     let Some(width) = look.width else {
@@ -43,7 +43,7 @@ fn keep_columns(table: &mut Table, unbroken: &[bool], width: u16) -> Result<()>
 
 // Of each drawn column, whether it holds numbers and dates alone.
 fn unbroken_columns(
-    content: &Content<'_>,
+    content: &Content,
     has_sequences: bool,
 ) -> std::result::Result<Vec<bool>, AllocError>
     ensures { IfOk result (λ unbroken. unbroken.items ≡ unbroken_columns has_sequences content.now.columns content.now.rows) }
@@ -53,7 +53,7 @@ fn unbroken_columns(
         let is_unbroken = is_unbroken_column(
             content.alloc,
             column.position,
-            content.rows,
+            &content.rows(),
             has_sequences,
         )?;
         unbroken.push(is_unbroken)?;

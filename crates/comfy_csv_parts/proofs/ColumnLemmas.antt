@@ -5,7 +5,7 @@ use Rattle.std.specs.List.{list_any, position_from, range_with_len}
 use Rattle.std.specs.Option.{option_or}
 use Rattle.std.specs.Str.{chars}
 use Rattle.comfy_parts.specs.Text.{Text}
-use Rattle.csv.specs.Records.{Row, field_at, fields_of}
+use Rattle.csv.specs.Records.{field_at}
 use Rattle.comfy_csv_parts.specs.Cells.{field_or_blank}
 use Rattle.comfy_csv_parts.specs.Cleaning.{visible_of}
 use Rattle.comfy_csv_parts.specs.Columns.{ColumnFault, IsColumnRefusal, first_answer, is_number_column, is_number_kind, is_other_kind, is_text, joined, kind_at, kind_of, missing, positions_of, positions_of_word, seen, two_sided}
@@ -71,29 +71,29 @@ kind-seen keeps fields position shown is = ap kind_of (is ∙ sym (seen_at keeps
 
 -- whether the rows that are left make a column of numbers, where a number was seen before them or not
 module _ (keeps : Bool) (position : ℕ) where
-  abbrev pub row_kind : Row → FieldKind
-  row_kind row = kind_at position (seen keeps (fields_of row))
+  abbrev pub row_kind : List Text → FieldKind
+  row_kind row = kind_at position (seen keeps row)
 
-  abbrev pub numbers_left : Bool → List Row → Bool
+  abbrev pub numbers_left : Bool → List (List Text) → Bool
   numbers_left has_number rows =
-      not (list_any (λ (row : Row). is_other_kind (row_kind row)) rows) && (has_number || list_any (λ (row : Row). is_number_kind (row_kind row)) rows)
+      not (list_any (λ (row : List Text). is_other_kind (row_kind row)) rows) && (has_number || list_any (λ (row : List Text). is_number_kind (row_kind row)) rows)
 
-  any-seen : (p : FieldKind → Bool) (rows : List Row) → list_any (λ fields. p (kind_at position fields)) (map (seen keeps) (map fields_of rows)) ≡ list_any (λ (row : Row). p (row_kind row)) rows
+  any-seen : (p : FieldKind → Bool) (rows : List (List Text)) → list_any (λ fields. p (kind_at position fields)) (map (seen keeps) rows) ≡ list_any (λ (row : List Text). p (row_kind row)) rows
   any-seen p [] = refl
   any-seen p (row ∷ rows) = ap (λ b. p (row_kind row) || b) (any-seen p rows)
 
-  pub numbers-all : (rows : List Row) → numbers_left false rows ≡ is_number_column (map (seen keeps) (map fields_of rows)) position
+  pub numbers-all : (rows : List (List Text)) → numbers_left false rows ≡ is_number_column (map (seen keeps) rows) position
   numbers-all rows = rw (any-seen is_other_kind rows, any-seen is_number_kind rows) refl
 
   -- one row less
-  pub number-more : (has_number : Bool) (row : Row) (rows : List Row) → row_kind row ≡ Number → numbers_left has_number (row ∷ rows) ≡ numbers_left true rows
+  pub number-more : (has_number : Bool) (row : List Text) (rows : List (List Text)) → row_kind row ≡ Number → numbers_left has_number (row ∷ rows) ≡ numbers_left true rows
   number-more false row rows is = rw is refl
   number-more true row rows is = rw is refl
 
-  pub neutral-more : (has_number : Bool) (row : Row) (rows : List Row) → row_kind row ≡ Neutral → numbers_left has_number (row ∷ rows) ≡ numbers_left has_number rows
+  pub neutral-more : (has_number : Bool) (row : List Text) (rows : List (List Text)) → row_kind row ≡ Neutral → numbers_left has_number (row ∷ rows) ≡ numbers_left has_number rows
   neutral-more has_number row rows is = rw is refl
 
-  pub other-stops : (has_number : Bool) (row : Row) (rows : List Row) → row_kind row ≡ Other → numbers_left has_number (row ∷ rows) ≡ false
+  pub other-stops : (has_number : Bool) (row : List Text) (rows : List (List Text)) → row_kind row ≡ Other → numbers_left has_number (row ∷ rows) ≡ false
   other-stops has_number row rows is = rw is refl
 
   pub none-left : (has_number : Bool) → numbers_left has_number [] ≡ has_number

@@ -12,6 +12,7 @@ pub mod MarkedLemmas
 pub mod NamedStyleLemmas
 pub mod NumberLemmas
 pub mod PieceLemmas
+pub mod PlaceLemmas
 pub mod ProgramLemmas
 pub mod QuoteLemmas
 pub mod RecordLemmas

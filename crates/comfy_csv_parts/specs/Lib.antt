@@ -9,6 +9,7 @@ pub mod Markdown
 pub mod Number
 pub mod Numerals
 pub mod Pieces
+pub mod Places
 pub mod Program
 pub mod QuoteWalk
 pub mod Quotes

@@ -2,25 +2,24 @@
 
 ghost use Rattle.std.specs.Prelude.{◌≡◌, IfOk, max, option_map, string_bytes};
 ghost use Rattle.std.specs.Option.{option_or};
-ghost use Rattle.csv.specs.Records.{fields_of};
 ghost use Rattle.comfy_csv_parts.specs.Cells.{cell_for, cells_for, field_text, header_for, kept_by, kept_for_markdown, pair_for, row_for, with_weight};
 
 use crate::cleaning::{Kept, cleaned};
 use crate::markdown::escaped;
 use crate::options::{DrawnColumn, Look};
+use crate::records::Record;
 use comfy_parts::style::{Attribute, CellAlignment};
 use comfy_parts::{Cell, Cells, IntoRow, Result, Row};
-use csv::StringRecord;
 use std::alloc::Global;
 
 /// The row of a record: a cell for each column, blank where the record has no such field.
 pub fn row_of(
     alloc: Global,
-    fields: &StringRecord,
+    fields: &Record<'_>,
     columns: &[DrawnColumn],
     look: &Look,
 ) -> Result<Row>
-    ensures { IfOk result (λ row. row ≡ row_for look.now columns.now (fields_of fields.now)) }
+    ensures { IfOk result (λ row. row ≡ row_for look.now columns.now fields.now) }
 {
     Ok(cut(cells_of(alloc, fields, columns, look, false)?, look))
 }
@@ -28,11 +27,11 @@ pub fn row_of(
 /// The row of the header.
 pub fn header_of(
     alloc: Global,
-    fields: &StringRecord,
+    fields: &Record<'_>,
     columns: &[DrawnColumn],
     look: &Look,
 ) -> Result<Row>
-    ensures { IfOk result (λ row. row ≡ header_for look.now columns.now (fields_of fields.now)) }
+    ensures { IfOk result (λ row. row ≡ header_for look.now columns.now fields.now) }
 {
     cells_of(alloc, fields, columns, look, look.has_bold_header)
 }
@@ -60,12 +59,12 @@ fn cut(mut row: Row, look: &Look) -> Row
 // The row of a record, with bold cells or without.
 fn cells_of(
     alloc: Global,
-    fields: &StringRecord,
+    fields: &Record<'_>,
     columns: &[DrawnColumn],
     look: &Look,
     is_bold: bool,
 ) -> Result<Row>
-    ensures { IfOk result (λ row. row ≡ cells_for look.now is_bold columns.now (fields_of fields.now)) }
+    ensures { IfOk result (λ row. row ≡ cells_for look.now is_bold columns.now fields.now) }
 {
     let mut row = Cells(Vec::with_capacity(alloc, columns.len())?).into_row(alloc)?;
     for column in columns {

@@ -3,27 +3,27 @@
 ghost use Rattle.std.specs.Prelude.{◌≡◌, ◌<◌, ◌≤◌, ◌-◌, ◌^◌, IfOk, IfErr, IfSome, Ok, length, map, string_bytes};
 ghost use Rattle.std.specs.List.{range_with_len};
 ghost use Rattle.comfy_parts.specs.VisibleText.{visible_text};
-ghost use Rattle.csv.specs.Records.{field_at, fields_of};
+ghost use Rattle.csv.specs.Records.{field_at};
 ghost use Rattle.comfy_csv_parts.specs.Columns.{IsColumnRefusal, alignment_for, at_two_sides, chosen_columns, column_of, columns_chosen, columns_for, count_of, drawn_columns, end_of, is_number_column, is_text, kept_columns, kind_at, kind_of, name_at, numbered, position_named, positions_of, positions_of_word, range_at, range_of, seen, without};
 
 use crate::error::CsvError;
 use crate::number::{is_neutral, is_number};
 use crate::numerals::number_of;
 use crate::options::{DrawnColumn, Options};
+use crate::records::{Record, Rows};
 use comfy_parts::content_split::visible_text;
 use comfy_parts::style::CellAlignment;
-use csv::StringRecord;
 use std::alloc::{AllocError, Global};
 
 /// The columns that are drawn of these rows under these names.
 pub fn columns_of(
     alloc: Global,
-    names: &StringRecord,
-    rows: &[StringRecord],
+    names: &Record<'_>,
+    rows: &Rows<'_>,
     options: &Options,
 ) -> Result<Vec<DrawnColumn>, CsvError>
-    ensures ok { IfOk result (λ columns. columns_for options.now (fields_of names.now) (map fields_of rows.now) ≡ Ok columns.items) }
-    ensures refused { IfErr result (λ e. IsColumnRefusal e (columns_for options.now (fields_of names.now) (map fields_of rows.now))) }
+    ensures ok { IfOk result (λ columns. columns_for options.now names.now rows.now ≡ Ok columns.items) }
+    ensures refused { IfErr result (λ e. IsColumnRefusal e (columns_for options.now names.now rows.now)) }
 {
     let count = count_of(names, rows);
     let positions = kept_columns(alloc, options, names, count)?;
@@ -56,8 +56,8 @@ fn at_two_sides(right: &[usize], left: &[usize]) -> Option<usize>
 }
 
 /// The name of the column at a position, or its number where there is no header.
-pub fn name_at(alloc: Global, names: &StringRecord, position: usize) -> Result<String, AllocError>
-    ensures { IfOk result (λ name. string_bytes name ≡ name_at (fields_of names.now) position) }
+pub fn name_at(alloc: Global, names: &Record<'_>, position: usize) -> Result<String, AllocError>
+    ensures { IfOk result (λ name. string_bytes name ≡ name_at names.now position) }
 {
     match names.get(position) {
         Some(name) => String::from_str(alloc, name),
@@ -66,11 +66,11 @@ pub fn name_at(alloc: Global, names: &StringRecord, position: usize) -> Result<S
 }
 
 // The greatest number of fields.
-fn count_of(names: &StringRecord, rows: &[StringRecord]) -> usize
-    ensures { result ≡ count_of (fields_of names.now) (map fields_of rows.now) }
+fn count_of(names: &Record<'_>, rows: &Rows<'_>) -> usize
+    ensures { result ≡ count_of names.now rows.now }
 {
     let mut count = names.len();
-    for row in rows {
+    for row in rows.iter() {
         count = count.max(row.len());
     }
     count
@@ -80,11 +80,11 @@ fn count_of(names: &StringRecord, rows: &[StringRecord]) -> usize
 fn kept_columns(
     alloc: Global,
     options: &Options,
-    names: &StringRecord,
+    names: &Record<'_>,
     count: usize,
 ) -> Result<Vec<usize>, CsvError>
-    ensures ok { IfOk result (λ positions. kept_columns (fields_of names.now) count options.now.columns.items options.now.dropped.items ≡ Ok positions.items) }
-    ensures refused { IfErr result (λ e. IsColumnRefusal e (kept_columns (fields_of names.now) count options.now.columns.items options.now.dropped.items)) }
+    ensures ok { IfOk result (λ positions. kept_columns names.now count options.now.columns.items options.now.dropped.items ≡ Ok positions.items) }
+    ensures refused { IfErr result (λ e. IsColumnRefusal e (kept_columns names.now count options.now.columns.items options.now.dropped.items)) }
 {
     let chosen = chosen_columns(alloc, options.columns.as_slice(), names, count)?;
     let dropped = positions_of(alloc, options.dropped.as_slice(), names, count)?;
@@ -108,11 +108,11 @@ fn without(alloc: Global, positions: &[usize], dropped: &[usize]) -> Result<Vec<
 fn chosen_columns(
     alloc: Global,
     words: &[String],
-    names: &StringRecord,
+    names: &Record<'_>,
     count: usize,
 ) -> Result<Vec<usize>, CsvError>
-    ensures ok { IfOk result (λ positions. chosen_columns (fields_of names.now) count words.now ≡ Ok positions.items) }
-    ensures refused { IfErr result (λ e. IsColumnRefusal e (chosen_columns (fields_of names.now) count words.now)) }
+    ensures ok { IfOk result (λ positions. chosen_columns names.now count words.now ≡ Ok positions.items) }
+    ensures refused { IfErr result (λ e. IsColumnRefusal e (chosen_columns names.now count words.now)) }
 {
     if words.is_empty() {
         Ok(positions_between(alloc, 0, count)?)
@@ -125,11 +125,11 @@ fn chosen_columns(
 fn positions_of(
     alloc: Global,
     words: &[String],
-    names: &StringRecord,
+    names: &Record<'_>,
     count: usize,
 ) -> Result<Vec<usize>, CsvError>
-    ensures ok { IfOk result (λ positions. positions_of (fields_of names.now) count words.now ≡ Ok positions.items) }
-    ensures refused { IfErr result (λ e. IsColumnRefusal e (positions_of (fields_of names.now) count words.now)) }
+    ensures ok { IfOk result (λ positions. positions_of names.now count words.now ≡ Ok positions.items) }
+    ensures refused { IfErr result (λ e. IsColumnRefusal e (positions_of names.now count words.now)) }
 {
     let mut positions = Vec::new(alloc);
     for word in words {
@@ -143,11 +143,11 @@ fn positions_of(
 fn positions_of_word(
     alloc: Global,
     word: &str,
-    names: &StringRecord,
+    names: &Record<'_>,
     count: usize,
 ) -> Result<Vec<usize>, CsvError>
-    ensures ok { IfOk result (λ positions. positions_of_word (fields_of names.now) count word.now ≡ Ok positions.items) }
-    ensures refused { IfErr result (λ e. IsColumnRefusal e (positions_of_word (fields_of names.now) count word.now)) }
+    ensures ok { IfOk result (λ positions. positions_of_word names.now count word.now ≡ Ok positions.items) }
+    ensures refused { IfErr result (λ e. IsColumnRefusal e (positions_of_word names.now count word.now)) }
 {
     match columns_chosen(names, count, word) {
         Some((start, end)) => Ok(positions_between(alloc, start, end)?),
@@ -157,8 +157,8 @@ fn positions_of_word(
 
 // The columns that a word chooses, as the position of the first and the one after the last: a single one, else those
 // around a hyphen.
-fn columns_chosen(names: &StringRecord, count: usize, word: &str) -> Option<(usize, usize)>
-    ensures value { result ≡ columns_chosen (fields_of names.now) count word.now }
+fn columns_chosen(names: &Record<'_>, count: usize, word: &str) -> Option<(usize, usize)>
+    ensures value { result ≡ columns_chosen names.now count word.now }
     ensures ordered { IfSome result (λ ends. ends.0 ≤ ends.1) }
 {
     match column_of(names, count, word) {
@@ -168,8 +168,8 @@ fn columns_chosen(names: &StringRecord, count: usize, word: &str) -> Option<(usi
 }
 
 // The position of a column: that of its number, else the first of its name.
-fn column_of(names: &StringRecord, count: usize, word: &str) -> Option<usize>
-    ensures value { result ≡ column_of (fields_of names.now) count word.now }
+fn column_of(names: &Record<'_>, count: usize, word: &str) -> Option<usize>
+    ensures value { result ≡ column_of names.now count word.now }
     ensures below { IfSome result (λ position. position < 2 ^ 64 - 1) }
 {
     match number_of(word) {
@@ -191,8 +191,8 @@ fn numbered(count: usize, number: usize) -> Option<usize>
 }
 
 // The columns around the first hyphen around which both ends are there, in order.
-fn range_of(names: &StringRecord, count: usize, word: &str) -> Option<(usize, usize)>
-    ensures value { result ≡ range_of (fields_of names.now) count word.now }
+fn range_of(names: &Record<'_>, count: usize, word: &str) -> Option<(usize, usize)>
+    ensures value { result ≡ range_of names.now count word.now }
     ensures ordered { IfSome result (λ ends. ends.0 ≤ ends.1) }
 {
     for at in 0..word.len() {
@@ -204,9 +204,9 @@ fn range_of(names: &StringRecord, count: usize, word: &str) -> Option<(usize, us
 }
 
 // The columns around a hyphen that stands at a place.
-fn range_at(names: &StringRecord, count: usize, word: &str, at: usize) -> Option<(usize, usize)>
+fn range_at(names: &Record<'_>, count: usize, word: &str, at: usize) -> Option<(usize, usize)>
     requires { at < length word.now }
-    ensures value { result ≡ range_at (fields_of names.now) count word.now at }
+    ensures value { result ≡ range_at names.now count word.now at }
     ensures ordered { IfSome result (λ ends. ends.0 ≤ ends.1) }
 {
     if word.as_bytes()[at] != b'-' {
@@ -222,8 +222,8 @@ fn range_at(names: &StringRecord, count: usize, word: &str, at: usize) -> Option
 }
 
 // The position after the last column of a range, by what stands behind its hyphen.
-fn end_of(names: &StringRecord, count: usize, word: &str) -> Option<usize>
-    ensures { result ≡ end_of (fields_of names.now) count word.now }
+fn end_of(names: &Record<'_>, count: usize, word: &str) -> Option<usize>
+    ensures { result ≡ end_of names.now count word.now }
 {
     if word.is_empty() {
         Some(count)
@@ -245,8 +245,8 @@ fn positions_between(alloc: Global, start: usize, end: usize) -> Result<Vec<usiz
 }
 
 // The position of the first field that is this text.
-fn position_named(names: &StringRecord, name: &str) -> Option<usize>
-    ensures value { result ≡ position_named name.now (fields_of names.now) }
+fn position_named(names: &Record<'_>, name: &str) -> Option<usize>
+    ensures value { result ≡ position_named name.now names.now }
     ensures below { IfSome result (λ position. position < 2 ^ 64 - 1) }
 {
     for position in 0..names.len() {
@@ -258,8 +258,8 @@ fn position_named(names: &StringRecord, name: &str) -> Option<usize>
 }
 
 // Whether the field at a position is this text.
-fn is_named_at(names: &StringRecord, position: usize, name: &str) -> bool
-    ensures { result ≡ is_text name.now (field_at (fields_of names.now) position) }
+fn is_named_at(names: &Record<'_>, position: usize, name: &str) -> bool
+    ensures { result ≡ is_text name.now (field_at names.now position) }
 {
     match names.get(position) {
         Some(field) => field == name,
@@ -273,10 +273,10 @@ fn drawn_columns(
     positions: &[usize],
     right: &[usize],
     left: &[usize],
-    rows: &[StringRecord],
+    rows: &Rows<'_>,
     has_sequences: bool,
 ) -> Result<Vec<DrawnColumn>, AllocError>
-    ensures { IfOk result (λ columns. columns.items ≡ drawn_columns right.now left.now (map (seen has_sequences) (map fields_of rows.now)) positions.now) }
+    ensures { IfOk result (λ columns. columns.items ≡ drawn_columns right.now left.now (map (seen has_sequences) rows.now) positions.now) }
 {
     let mut columns = Vec::with_capacity(alloc, positions.len())?;
     for position in positions {
@@ -295,10 +295,10 @@ fn alignment_of(
     position: usize,
     right: &[usize],
     left: &[usize],
-    rows: &[StringRecord],
+    rows: &Rows<'_>,
     has_sequences: bool,
 ) -> Result<Option<CellAlignment>, AllocError>
-    ensures { IfOk result (λ alignment. alignment ≡ alignment_for right.now left.now (map (seen has_sequences) (map fields_of rows.now)) position) }
+    ensures { IfOk result (λ alignment. alignment ≡ alignment_for right.now left.now (map (seen has_sequences) rows.now) position) }
 {
     if right.contains(&position) {
         return Ok(Some(CellAlignment::Right));
@@ -317,14 +317,14 @@ fn alignment_of(
 fn is_number_column(
     alloc: Global,
     position: usize,
-    rows: &[StringRecord],
+    rows: &Rows<'_>,
     has_sequences: bool,
 ) -> Result<bool, AllocError>
-    ensures { IfOk result (λ yes. yes ≡ is_number_column (map (seen has_sequences) (map fields_of rows.now)) position) }
+    ensures { IfOk result (λ yes. yes ≡ is_number_column (map (seen has_sequences) rows.now) position) }
 {
     let mut has_number = false;
-    for row in rows {
-        match kind_at(alloc, position, row, has_sequences)? {
+    for row in rows.iter() {
+        match kind_at(alloc, position, &row, has_sequences)? {
             FieldKind::Number => has_number = true,
             FieldKind::Neutral => {}
             FieldKind::Other => return Ok(false),
@@ -346,10 +346,10 @@ enum FieldKind {
 fn kind_at(
     alloc: Global,
     position: usize,
-    row: &StringRecord,
+    row: &Record<'_>,
     has_sequences: bool,
 ) -> Result<FieldKind, AllocError>
-    ensures { IfOk result (λ kind. kind ≡ kind_at position (seen has_sequences (fields_of row.now))) }
+    ensures { IfOk result (λ kind. kind ≡ kind_at position (seen has_sequences row.now)) }
 {
     let field = row.get(position).unwrap_or("");
     if has_sequences {

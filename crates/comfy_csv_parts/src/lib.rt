@@ -34,5 +34,6 @@ pub use markdown::{escaped, push_rule};
 pub use number::is_number;
 pub use options::{DrawnColumn, Expansion, Look, Options, RowSeparators};
 pub use reading::read_records;
+pub use records::{Record, Records, Rows};
 pub use shown::shown_text;
 pub use unbroken::is_unbroken_column;

@@ -1,7 +1,6 @@
 //! The records of a text, by what is asked for.
 
-ghost use Rattle.std.specs.Prelude.{◌≡◌, ◌+◌, ◌-◌, IfErr, IfOk, length, map, take};
-ghost use Rattle.csv.specs.Records.{fields_of};
+ghost use Rattle.std.specs.Prelude.{◌≡◌, ◌+◌, ◌-◌, IfErr, IfOk, length, take};
 ghost use Rattle.comfy_csv_parts.specs.Input.{line_breaks};
 ghost use Rattle.comfy_csv_parts.specs.Reading.{AreRecordsIn, IsTextWithoutRecords};
 
@@ -9,21 +8,16 @@ use crate::delimiter::{below_lines, delimited};
 use crate::error::CsvError;
 use crate::options::Options;
 use crate::quotes::unclosed_quote;
-use crate::records::records_of;
+use crate::records::{Records, records_of};
 use crate::text::line_after;
-use csv::StringRecord;
 use std::alloc::Global;
 
 /// The records of a text below the lines that are left out. An empty line is no record; `""` is an empty field.
 ///
 /// `Unclosed` has the number of the line, among all of the text, where the quote opens. `SplitCharacter` comes only of a
 /// delimiter that isn't ASCII.
-pub fn read_records(
-    alloc: Global,
-    text: &str,
-    options: &Options,
-) -> Result<Vec<StringRecord>, CsvError>
-    ensures all { IfOk result (λ records. AreRecordsIn options.now text.now (map fields_of records.items)) }
+pub fn read_records(alloc: Global, text: &str, options: &Options) -> Result<Records, CsvError>
+    ensures all { IfOk result (λ records. AreRecordsIn options.now text.now records) }
     ensures refused { IfErr result (λ e. IsTextWithoutRecords options.now text.now e) }
 {
     let below = below_lines(text, options.skip);

@@ -2,14 +2,13 @@
 
 ghost use Rattle.std.specs.Prelude.{◌≡◌, IfOk, chars, length, map, nat_le};
 ghost use Rattle.std.specs.List.{list_all};
-ghost use Rattle.csv.specs.Records.{fields_of};
 ghost use Rattle.comfy_csv_parts.specs.Cells.{field_or_blank};
 ghost use Rattle.comfy_csv_parts.specs.Columns.{seen};
 ghost use Rattle.comfy_csv_parts.specs.Unbroken.{is_of_dates, is_unbroken, is_unbroken_column};
 
 use crate::columns::seen_text;
 use crate::number::is_number;
-use csv::StringRecord;
+use crate::records::{Record, Rows};
 use std::alloc::{AllocError, Global};
 
 // How many characters a field has at most that isn't broken.
@@ -20,13 +19,13 @@ const LONGEST: usize = 25;
 pub fn is_unbroken_column(
     alloc: Global,
     position: usize,
-    rows: &[StringRecord],
+    rows: &Rows<'_>,
     has_sequences: bool,
 ) -> Result<bool, AllocError>
-    ensures { IfOk result (λ yes. yes ≡ is_unbroken_column (map (seen has_sequences) (map fields_of rows.now)) position) }
+    ensures { IfOk result (λ yes. yes ≡ is_unbroken_column (map (seen has_sequences) rows.now) position) }
 {
-    for row in rows {
-        if !is_unbroken_at(alloc, position, row, has_sequences)? {
+    for row in rows.iter() {
+        if !is_unbroken_at(alloc, position, &row, has_sequences)? {
             return Ok(false);
         }
     }
@@ -37,10 +36,10 @@ pub fn is_unbroken_column(
 fn is_unbroken_at(
     alloc: Global,
     position: usize,
-    row: &StringRecord,
+    row: &Record<'_>,
     has_sequences: bool,
 ) -> Result<bool, AllocError>
-    ensures { IfOk result (λ yes. yes ≡ is_unbroken (field_or_blank (seen has_sequences (fields_of row.now)) position)) }
+    ensures { IfOk result (λ yes. yes ≡ is_unbroken (field_or_blank (seen has_sequences row.now) position)) }
 {
     let field = row.get(position).unwrap_or("");
     if has_sequences {

@@ -43,8 +43,10 @@ fn delimiters_that_are_not_ascii(rt: HostRuntime) {
     }
     let whole = read_records(rt.alloc(), "a,b\né,d\n", &between(rt.alloc(), 255));
     let whole = whole.expect(&rt, "records");
-    assert!(rt; whole.len() == 2);
-    assert!(rt; whole[1].get(0) == Some("é,d"));
+    assert!(rt; whole.rows().len() == 2);
+    let second = whole.rows().rows_behind(1).first().expect(&rt, "a record");
+    assert!(rt; second.len() == 1 && second.get(0) == Some("é,d"));
+    assert!(rt; whole.rows().first_rows(1).len() == 1);
 }
 
 fn assert_decoded<const N: usize>(

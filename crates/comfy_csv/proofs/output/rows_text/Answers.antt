@@ -9,7 +9,7 @@ use Rattle.comfy_csv.proofs.output.rows_text.Goals as goal
 pub returns : goal.returns
 returns c =
     let look = c.args.look.now in
-    let content = c.args.content.now in
+    let content = c.args.content in
     let arranged = c.in_ok-arranged.arranged in
     let found = c.in_ok-arranged.ensures in
     let kept = c.in_ok-keep_whole.ensures ∙ ap (kept_whole look.width (unbroken_columns look.has_sequences content.columns content.rows)) c.requires in

@@ -1,7 +1,6 @@
 use Rattle.std.proofs.Common.{◌≡◌, map, take}
-use Rattle.csv.specs.Records.{fields_of}
 use Rattle.comfy_csv_parts.specs.Columns.{drawn_columns, seen}
 use Rattle.comfy_csv_parts.proofs.columns.drawn_columns.Given as goal
 
 abbrev pub invariant-loop-position : goal.invariant-loop-position
-invariant-loop-position l = l.columns.items ≡ drawn_columns l.right l.left (map (seen l.has_sequences) (map fields_of l.rows)) (take l.position-index l.positions)
+invariant-loop-position l = l.columns.items ≡ drawn_columns l.right l.left (map (seen l.has_sequences) l.rows) (take l.position-index l.positions)

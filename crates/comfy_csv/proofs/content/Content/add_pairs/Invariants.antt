@@ -1,5 +1,4 @@
 use Rattle.std.proofs.Common.{◌≡◌, map, take}
-use Rattle.csv.specs.Records.{fields_of}
 use Rattle.comfy_csv_parts.specs.Cells.{field_or_blank, pair_for}
 use Rattle.comfy_csv_parts.specs.Columns.{name_at}
 use Rattle.comfy_csv_parts.specs.declared.options.DrawnColumn.{DrawnColumn}
@@ -8,4 +7,4 @@ use Rattle.comfy_csv.proofs.content.Content.add_pairs.Given as goal
 
 abbrev pub invariant-loop-column : goal.invariant-loop-column
 invariant-loop-column l =
-    l.table ≡ with_rows (map (λ (column : DrawnColumn). pair_for l.look (name_at (fields_of l.names) column.position) (field_or_blank (fields_of l.row) column.position)) (take l.column-index l.column-items)) l.initial.table
+    l.table ≡ with_rows (map (λ (column : DrawnColumn). pair_for l.look (name_at l.names column.position) (field_or_blank l.row column.position)) (take l.column-index l.column-items)) l.initial.table
