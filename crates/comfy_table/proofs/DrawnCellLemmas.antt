@@ -1,35 +1,54 @@
 -- The lines of a row are made of the cells that its shown columns draw.
-use Rattle.std.proofs.Common.{◌≡◌, ℕ, zero, suc, List, Option, Some, None, length, map, refl, ap, ◌∙◌, sym, slice_index_or, unwrap_or}
+use Rattle.std.proofs.Common.{◌≡◌, ℕ, zero, suc, Bool, true, false, List, Option, Some, None, length, map, refl, ap, ◌∙◌, sym, slice_index_or, unwrap_or}
 use Rattle.std.specs.List.{range_with_len, slice_get}
-use Rattle.std.specs.Prelude.{option_map}
+use Rattle.std.specs.Prelude.{option_map, if◌then◌else◌}
 use Rattle.comfy_parts.proofs.CallerLemmas.{index-map}
 use Rattle.comfy_parts.specs.CellValue.{CellValue, RowValue, ColumnInfo}
-use Rattle.comfy_parts.specs.Text.{greatest}
+use Rattle.comfy_parts.specs.Text.{Text, greatest}
 use Rattle.std.proofs.lemmas.Simd.{map-map}
 use Rattle.comfy_table.specs.CellLines.{line_at}
-use Rattle.comfy_table.specs.DrawnCells.{DrawnCell, drawn_cell, greatest_height, piece_at, pieces_of_content}
+use Rattle.comfy_table.specs.DrawnCells.{DrawnCell, drawn_cell, greatest_height, piece_at, piece_with, pieces_of_content, styles_of}
 use Rattle.comfy_table.specs.DrawnLines.{DrawnLine, drawn_line}
 use Rattle.comfy_table.specs.Gaps.{RowGapsValue, gap_line, row_between}
-use Rattle.comfy_table.specs.Pieces.{blank_piece, pieces_of_optional, row_cell_lines, row_height, row_lines, text_piece, shown_infos}
-use Rattle.comfy_table.specs.TableValue.{TableValue}
+use Rattle.comfy_table.specs.Pieces.{blank_piece, padded, pieces_of_optional, row_cell_lines, row_height, row_lines, text_piece, shown_infos}
+use Rattle.comfy_table.specs.Styling.{styled}
+use Rattle.comfy_table.specs.TableValue.{TableValue, should_style}
+use Rattle.comfy_table.specs.declared.utils.formatting.piece.Styles.{Styles}
+use Rattle.comfy_table.specs.declared.utils.formatting.piece.Styles.TheVariants.{Nowhere, RoundTexts, RoundPieces}
+
+-- the piece of a line, where the table writes styles
+where_written : (table : TableValue) (cell : CellValue) (info : ColumnInfo) (line : DrawnLine) → piece_with (styles_of table) cell info line ≡ text_piece table cell info line.columns line.written
+where_written table cell info line = by_settings (should_style table) table.style_text_only
+  where
+    plain : Text
+    plain = padded cell info line.columns line.written
+
+    alone : Text
+    alone = padded cell info line.columns (styled cell line.written)
+
+    by_settings : (on text_only : Bool) → piece_with (if on then (if text_only then RoundTexts else RoundPieces) else Nowhere) cell info line ≡ (if on then (if text_only then alone else styled cell plain) else plain)
+    by_settings true true = refl
+    by_settings true false = refl
+    by_settings false text_only = refl
 
 -- the pieces of a cell that a row has, with its lines
 pub content_pieces : (table : TableValue) (row : RowValue) (info : ColumnInfo) (o : Option CellValue) (cell : CellValue) (content : Option (CellValue × List DrawnLine)) → o ≡ Some cell → content ≡ Some (cell, map drawn_line (row_cell_lines table row info cell))
-    → pieces_of_content table info content ≡ pieces_of_optional table row info o
+    → pieces_of_content (styles_of table) info content ≡ pieces_of_optional table row info o
 content_pieces table row info o cell content found are =
-    ap (pieces_of_content table info) are
+    ap (pieces_of_content (styles_of table) info) are
+    ∙ (λ i. map (λ line. where_written table cell info line i) (map drawn_line (row_cell_lines table row info cell)))
     ∙ map-map _ drawn_line (row_cell_lines table row info cell)
     ∙ ap (pieces_of_optional table row info) (sym found)
 
 -- the piece in a line, by the line
-pub piece_in : (table : TableValue) (info : ColumnInfo) (content : Option (CellValue × List DrawnLine)) (k : ℕ)
-    → slice_index_or (pieces_of_content table info content) k (blank_piece info) ≡ unwrap_or (option_map (λ (p : CellValue × DrawnLine). text_piece table p.0 info p.1.columns p.1.written) (line_at k content)) (blank_piece info)
-piece_in table info None zero = refl
-piece_in table info None (suc k) = refl
-piece_in table info (Some content) k = index-map _ content.1 k (blank_piece info) ∙ by_line (slice_get content.1 k)
+pub piece_in : (styles : Styles) (info : ColumnInfo) (content : Option (CellValue × List DrawnLine)) (k : ℕ)
+    → slice_index_or (pieces_of_content styles info content) k (blank_piece info) ≡ unwrap_or (option_map (λ (p : CellValue × DrawnLine). piece_with styles p.0 info p.1) (line_at k content)) (blank_piece info)
+piece_in styles info None zero = refl
+piece_in styles info None (suc k) = refl
+piece_in styles info (Some content) k = index-map _ content.1 k (blank_piece info) ∙ by_line (slice_get content.1 k)
   where
-    by_line : (o : Option DrawnLine) → unwrap_or (option_map (λ (line : DrawnLine). text_piece table content.0 info line.columns line.written) o) (blank_piece info)
-        ≡ unwrap_or (option_map (λ (p : CellValue × DrawnLine). text_piece table p.0 info p.1.columns p.1.written) (option_map (λ line. (content.0, line)) o)) (blank_piece info)
+    by_line : (o : Option DrawnLine) → unwrap_or (option_map (piece_with styles content.0 info) o) (blank_piece info)
+        ≡ unwrap_or (option_map (λ (p : CellValue × DrawnLine). piece_with styles p.0 info p.1) (option_map (λ line. (content.0, line)) o)) (blank_piece info)
     by_line None = refl
     by_line (Some line) = refl
 

@@ -1,17 +1,19 @@
 -- Spaces that are written in runs, and the pieces that they make.
-use Rattle.std.proofs.Common.{◌≡◌, Bool, true, false, ℕ, ◌+◌, ◌-◌, ◌<◌, ◌≤◌, [], ◌++◌, None, length, take, ap, refl, sym, ◌∙◌, arith, append-nil, append_assoc, slice_index_or}
+use Rattle.std.proofs.Common.{◌≡◌, ℕ, ◌+◌, ◌-◌, ◌<◌, ◌≤◌, [], ◌++◌, None, length, take, ap, sym, ◌∙◌, arith, append-nil, append_assoc, slice_index_or}
 use Rattle.std.proofs.lemmas.List.{get_or-replicate, length-replicate, replicate-append-replicate, take-replicate}
 use Rattle.std.proofs.lemmas.List.Elements.{All-replicate}
 use Rattle.std.proofs.lemmas.Str.{IsUtf8-from_ascii}
 use Rattle.std.proofs.lemmas.Str.Ascii.{IsAscii-from_all}
-use Rattle.std.specs.Prelude.{Result, Ok, Err, OnOk, IsUtf8, if◌then◌else◌}
+use Rattle.std.specs.Prelude.{Result, Ok, Err, OnOk, IsUtf8}
 use Rattle.comfy_parts.specs.CellValue.{CellValue, ColumnInfo}
 use Rattle.comfy_parts.specs.Text.{Text, spaces}
 use Rattle.comfy_parts.specs.declared.style.cell.CellAlignment.{CellAlignment}
 use Rattle.comfy_parts.specs.declared.style.cell.CellAlignment.TheVariants.{Left, Right, Center}
-use Rattle.comfy_table.specs.Pieces.{cell_alignment, free_before, free_places, padded, text_piece}
+use Rattle.comfy_table.specs.DrawnCells.{piece_with}
+use Rattle.comfy_table.specs.Pieces.{cell_alignment, free_before, free_places, padded}
 use Rattle.comfy_table.specs.Styling.{styled}
-use Rattle.comfy_table.specs.TableValue.{TableValue, should_style}
+use Rattle.comfy_table.specs.declared.utils.formatting.piece.Styles.{Styles}
+use Rattle.comfy_table.specs.declared.utils.formatting.piece.Styles.TheVariants.{Nowhere, RoundTexts, RoundPieces}
 
 -- two runs side by side
 pub spaces-append : (m n : ℕ) → spaces m ++ spaces n ≡ spaces (m + n)
@@ -47,7 +49,7 @@ module _ (cell : CellValue) (info : ColumnInfo) (columns left right : ℕ)
     (is_left : left ≡ info.padding.0 + free_before (cell_alignment cell info) (free_places info columns))
     (is_right : right ≡ free_places info columns - free_before (cell_alignment cell info) (free_places info columns) + info.padding.1) where
   -- a text between the spaces that a line leaves and the paddings
-  padded-is : (text : Text) → spaces left ++ (text ++ spaces right) ≡ padded cell info columns text
+  pub padded-is : (text : Text) → spaces left ++ (text ++ spaces right) ≡ padded cell info columns text
   padded-is text =
       let before = free_before (cell_alignment cell info) (free_places info columns) in
       ap (λ n. spaces n ++ (text ++ spaces right)) is_left
@@ -56,23 +58,17 @@ module _ (cell : CellValue) (info : ColumnInfo) (columns left right : ℕ)
       ∙ append_assoc (spaces info.padding.0) (spaces before) (text ++ spaces (free_places info columns - before + info.padding.1))
       ∙ ap (λ (t : Text). spaces info.padding.0 ++ (spaces before ++ (text ++ t))) (sym (spaces-append (free_places info columns - before) info.padding.1))
 
-  -- the piece of a line without styling, of a cell without styles, with its text styled, and styled as a whole
-  pub unstyled-is : (table : TableValue) (text : Text) → should_style table ≡ false → spaces left ++ (text ++ spaces right) ≡ text_piece table cell info columns text
-  unstyled-is table text off = grind (arith, padded-is)
+  -- the piece of a line of a cell without styles, with its text styled, and styled as a whole
+  pub bare-is : (styles : Styles) (text : Text) → ((t : Text) → styled cell t ≡ t) → spaces left ++ (text ++ spaces right) ≡ piece_with styles cell info (record { columns = columns; written = text })
+  bare-is Nowhere text bare = padded-is text
+  bare-is RoundTexts text bare = padded-is text ∙ sym (ap (padded cell info columns) (bare text))
+  bare-is RoundPieces text bare = padded-is text ∙ sym (bare (padded cell info columns text))
 
-  pub bare-is : (table : TableValue) (text : Text) → ((t : Text) → styled cell t ≡ t) → spaces left ++ (text ++ spaces right) ≡ text_piece table cell info columns text
-  bare-is table text bare = padded-is text ∙ sym (by_settings (should_style table) table.style_text_only)
-    where
-      by_settings : (styles alone : Bool) → (if styles then (if alone then padded cell info columns (styled cell text) else styled cell (padded cell info columns text)) else padded cell info columns text) ≡ padded cell info columns text
-      by_settings true true = ap (padded cell info columns) (bare text)
-      by_settings true false = bare (padded cell info columns text)
-      by_settings false alone = refl
+  pub line-styled : (text : Text) → spaces left ++ (styled cell (text ++ []) ++ spaces right) ≡ padded cell info columns (styled cell text)
+  line-styled text = ap (λ (t : Text). spaces left ++ (styled cell t ++ spaces right)) (append-nil text) ∙ padded-is (styled cell text)
 
-  pub line-styled : (table : TableValue) (text : Text) → should_style table ≡ true → table.style_text_only ≡ true → spaces left ++ (styled cell (text ++ []) ++ spaces right) ≡ text_piece table cell info columns text
-  line-styled table text on alone = ap (λ (t : Text). spaces left ++ (styled cell t ++ spaces right)) (append-nil text) ∙ grind (arith, padded-is)
-
-  pub all-styled : (table : TableValue) (text : Text) → should_style table ≡ true → table.style_text_only ≡ false → styled cell (spaces left ++ (text ++ spaces right)) ++ [] ≡ text_piece table cell info columns text
-  all-styled table text on whole = append-nil (styled cell (spaces left ++ (text ++ spaces right))) ∙ grind (arith, padded-is)
+  pub all-styled : (text : Text) → styled cell (spaces left ++ (text ++ spaces right)) ++ [] ≡ styled cell (padded cell info columns text)
+  all-styled text = append-nil (styled cell (spaces left ++ (text ++ spaces right))) ∙ ap (styled cell) (padded-is text)
 
 -- the last text appended on success
 pub last-pushed : {T E : Type 0} (r : Result T E) (new before c : Text) (wanted : Text) → (new ≡ before ++ c → new ≡ wanted) → OnOk r (new ≡ before ++ c) → OnOk r (new ≡ wanted)

@@ -1,20 +1,33 @@
 -- Private: the cells of a row as its shown columns draw them.
-use Rattle.std.specs.Prelude.{ℕ, List, [], ◌∷◌, Option, Some, None, map, length, slice_index_or}
+use Rattle.std.specs.Prelude.{ℕ, List, [], ◌∷◌, Option, Some, None, map, length, slice_index_or, if◌then◌else◌}
 use Rattle.comfy_parts.specs.CellValue.{CellValue, RowValue, ColumnInfo}
 use Rattle.comfy_parts.specs.Text.{Text, greatest}
 use Rattle.comfy_table.specs.DrawnLines.{DrawnLine}
-use Rattle.comfy_table.specs.Pieces.{blank_piece, pieces_at, text_piece}
-use Rattle.comfy_table.specs.TableValue.{TableValue}
+use Rattle.comfy_table.specs.Pieces.{blank_piece, padded, pieces_at}
+use Rattle.comfy_table.specs.Styling.{styled}
+use Rattle.comfy_table.specs.TableValue.{TableValue, should_style}
+use Rattle.comfy_table.specs.declared.utils.formatting.piece.Styles.{Styles}
+use Rattle.comfy_table.specs.declared.utils.formatting.piece.Styles.TheVariants.{Nowhere, RoundTexts, RoundPieces}
 
 -- a shown column, and its pieces in a row
 pub record DrawnCell : Type 0 where
   pub info : ColumnInfo
   pub pieces : List Text
 
+-- where a table writes the styles of its cells
+abbrev pub styles_of : TableValue → Styles
+styles_of table = if should_style table then (if table.style_text_only then RoundTexts else RoundPieces) else Nowhere
+
+-- the piece of a line, with styles written there
+abbrev pub piece_with : Styles → CellValue → ColumnInfo → DrawnLine → Text
+piece_with Nowhere cell info line = padded cell info line.columns line.written
+piece_with RoundTexts cell info line = padded cell info line.columns (styled cell line.written)
+piece_with RoundPieces cell info line = styled cell (padded cell info line.columns line.written)
+
 -- the pieces of a cell with these lines; a missing cell is one blank_piece
-abbrev pub pieces_of_content : TableValue → ColumnInfo → Option (CellValue × List DrawnLine) → List Text
-pieces_of_content table info None = blank_piece info ∷ []
-pieces_of_content table info (Some content) = map (λ (line : DrawnLine). text_piece table content.0 info line.columns line.written) content.1
+abbrev pub pieces_of_content : Styles → ColumnInfo → Option (CellValue × List DrawnLine) → List Text
+pieces_of_content styles info None = blank_piece info ∷ []
+pieces_of_content styles info (Some content) = map (piece_with styles content.0 info) content.1
 
 -- a shown column with its position in a row
 abbrev pub drawn_cell : TableValue → RowValue → ℕ × ColumnInfo → DrawnCell

@@ -86,6 +86,7 @@ fn printable_lines<'a>(text: &'a str, width: usize, delimiter: char) -> WrappedL
 }
 
 // The line at the front of printable ASCII, and the text from the next line on.
+#[inline(always)]
 fn split_printable_line(text: &str, width: usize, delimiter: char) -> (&str, &str)
     requires printable { IsPrintable width delimiter text.now }
     requires begins { begins_with delimiter text.now ≡ false }
@@ -177,6 +178,7 @@ fn split_at_element<'a>(
 impl<'a> WrappedLines<'a> {
     /// The next line, and the terminal columns that it takes. Neither printable ASCII is measured again nor a line of whole
     /// words, if its delimiter adds one column wherever it stands.
+    #[inline(always)]
     pub fn next_measured(&mut self) -> Option<(&'a str, usize)>
         ensures ended { result ≡ None → self.old ≡ [] }
         ensures line { IfSome result (λ line. self.old ≡ line.0.now ∷ self.new) }

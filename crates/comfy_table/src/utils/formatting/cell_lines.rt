@@ -65,12 +65,14 @@ impl<'a> CellLines<'a> {
     }
 }
 
-/// The lines of a cell in its row. One text line that fits and is written as it is takes no memory.
+/// The lines of a cell in its row. One text line that fits and is written as it is needs no list. Others stand in one of the
+/// spare lists, if there is one.
 pub fn row_cell_lines<'a>(
     table: &Table,
     row: &Row,
     cell: &'a Cell,
     info: &ColumnDisplayInfo,
+    spare: &mut Vec<Vec<Line<'a>>>,
 ) -> Result<CellLines<'a>>
     ensures { IfOk result (λ lines. lines_of lines ≡ Some (cell.now, map drawn_line (row_cell_lines table.now row.now info.now cell.now))) }
 {
@@ -79,7 +81,17 @@ pub fn row_cell_lines<'a>(
     if let Some((columns, text)) = only_line(table, cell, info) {
         return Ok(CellLines::One(cell, columns, text));
     }
-    Ok(CellLines::Several(cell, listed_lines(table, row, cell, info)?))
+    let lines = listed_lines(table, row, cell, info, empty_list(spare))?;
+    Ok(CellLines::Several(cell, lines))
+}
+
+// A list without lines, in the memory of a spare one.
+fn empty_list<'a>(spare: &mut Vec<Vec<Line<'a>>>) -> Vec<Line<'a>>
+    ensures { result.items ≡ [] }
+{
+    let mut list = spare.pop().unwrap_or(Vec::new(*spare.allocator()));
+    list.clear();
+    list
 }
 
 // The columns and the text of a cell's one text line, if it fits and is written as it is.
@@ -109,17 +121,19 @@ fn is_custom_styled(table: &Table, cell: &Cell) -> bool
     table.custom_styling && has_escape(cell)
 }
 
-// The lines of a cell in its row, as a list. Most cells need none.
+// The lines of a cell in its row, in an empty list. Most cells need none.
 #[inline(never)]
 fn listed_lines<'a>(
     table: &Table,
     row: &Row,
     cell: &'a Cell,
     info: &ColumnDisplayInfo,
+    list: Vec<Line<'a>>,
 ) -> Result<Vec<Line<'a>>>
+    requires { list.items ≡ [] }
     ensures { IfOk result (λ lines. lines.items ≡ map drawn_line (row_cell_lines table.now row.now info.now cell.now)) }
 {
-    let measured = cell_lines(table, cell, info)?;
+    let measured = cell_lines(table, cell, info, list)?;
     let height = row.height_limit().unwrap_or(measured.len());
     if measured.len() <= height {
         return whole_lines(table, cell, info, measured);
@@ -132,28 +146,23 @@ fn listed_lines<'a>(
     Ok(lines)
 }
 
-// The lines of a cell in a column as they are measured: each text line as it is where it fits, else wrapped.
-fn cell_lines<'a>(table: &Table, cell: &'a Cell, info: &ColumnDisplayInfo) -> Result<Vec<Line<'a>>>
+// The lines of a cell in a column as they are measured, in an empty list: each text line as it is where it fits, else
+// wrapped.
+fn cell_lines<'a>(
+    table: &Table,
+    cell: &'a Cell,
+    info: &ColumnDisplayInfo,
+    mut lines: Vec<Line<'a>>,
+) -> Result<Vec<Line<'a>>>
+    requires { lines.items ≡ [] }
     ensures { IfOk result (λ lines. lines.items ≡ map drawn_text (cell_lines info.now.content_width (cell_delimiter table.now info.now.delimiter cell.now) (measured_cell table.now cell.now))) }
 {
     let (texts, widths) = table.measured_lines(cell);
     let delimiter = table.delimiter_of(cell, info.delimiter);
-    let alloc = *table.columns.allocator();
-    let mut lines = Vec::with_capacity(alloc, about_lines(widths, info.content_width))?;
     for (position, text) in texts.iter().enumerate() {
         push_lines(&mut lines, text.as_str(), widths[position], info, delimiter)?;
     }
     Ok(lines)
-}
-
-// About how many lines text lines of these widths take: mostly a few more.
-fn about_lines(widths: &[usize], content_width: u16) -> usize {
-    let columns = usize::from(content_width).max(1);
-    let mut lines: usize = 0;
-    for width in widths {
-        lines = lines.saturating_add(width / columns).saturating_add(2);
-    }
-    lines
 }
 
 // Appends the lines of a text line of so many columns.
@@ -193,6 +202,7 @@ fn push_wrapped<'a>(
 }
 
 // Lines of a cell as they are measured, with what is written for each.
+#[inline(always)]
 fn whole_lines<'a>(
     table: &Table,
     cell: &Cell,

@@ -11,7 +11,7 @@ ghost use Rattle.comfy_table.specs.TableValue.{with_other_rows};
 
 use crate::table::Table;
 use crate::utils::formatting::borders::{is_drawn, optional_frame_line, push_frame_line};
-use crate::utils::formatting::drawn_cell::{DrawnCell, greatest_height, set_drawn_cells};
+use crate::utils::formatting::drawn_cell::{DrawnCell, DrawnRow, greatest_height};
 use crate::utils::formatting::output::{Output, OutputForm};
 use crate::utils::formatting::row_gaps::RowGaps;
 use crate::utils::formatting::shown_column::{ShownColumn, shown_infos};
@@ -46,8 +46,8 @@ struct Writer<'a> {
     infos: &'a [ColumnDisplayInfo],
     rows: &'a [Row],
     columns: Vec<ShownColumn<'a>>,
-    // the cells of the row that is drawn now
-    cells: Vec<DrawnCell<'a>>,
+    // the row that is drawn now
+    row: DrawnRow<'a>,
     // the line that is drawn now
     line: String,
     output: Output,
@@ -77,7 +77,7 @@ impl<'a> Writer<'a> {
             infos,
             rows,
             columns: shown_infos(alloc, infos)?,
-            cells: Vec::new(alloc),
+            row: DrawnRow::new(alloc),
             line: String::new(alloc),
             output: Output::new(alloc, OutputForm::Joined),
         })
@@ -176,13 +176,8 @@ impl<'a> Writer<'a> {
         ensures ok { OnOk result (self.new ≡ with_written (row_between gaps.now self.old.table self.old.infos row.now) self.old) }
         ensures err { OnErr result (BeginsWith self.new.output.text self.old.output.text) }
     {
-        set_drawn_cells(&mut self.cells, row, self.columns.as_slice(), self.table)?;
-        push_row(
-            &mut self.output,
-            &mut self.line,
-            gaps,
-            self.cells.as_slice(),
-        )
+        self.row.set(row, self.columns.as_slice(), self.table)?;
+        push_row(&mut self.output, &mut self.line, gaps, self.row.cells())
     }
 }
 

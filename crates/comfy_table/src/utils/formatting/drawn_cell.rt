@@ -1,23 +1,24 @@
 //! The cells of a row as the shown columns draw them.
 
-ghost use Rattle.std.specs.Prelude.{◌≡◌, IfOk, OnOk, length, map};
+ghost use Rattle.std.specs.Prelude.{◌≡◌, [], IfOk, OnOk, length, map};
 ghost use Rattle.comfy_parts.specs.CellValue.{info_width};
-ghost use Rattle.comfy_table.specs.DrawnCells.{drawn_cell, greatest_height, piece_at};
+ghost use Rattle.comfy_table.specs.DrawnCells.{drawn_cell, greatest_height, piece_at, styles_of};
 ghost use Rattle.comfy_table.specs.Pieces.{row_height};
 
 use crate::table::Table;
 use crate::table::column_cells::cell_at;
-use crate::utils::formatting::cell_lines::{CellLines, row_cell_lines};
-use crate::utils::formatting::piece::Piece;
+use crate::utils::formatting::cell_lines::{CellLines, Line, row_cell_lines};
+use crate::utils::formatting::piece::{Piece, Styles};
 use crate::utils::formatting::shown_column::{ShownColumn, shown_infos};
 use comfy_parts::content_split::ColumnDisplayInfo;
 use comfy_parts::{Cell, Result, Row};
+use std::alloc::Global;
 use std::marker::Model;
 
 /// A cell of a row as a shown column draws it.
 #[derive(Drop)]
 pub struct DrawnCell<'a> {
-    table: &'a Table,
+    styles: Styles,
     info: &'a ColumnDisplayInfo,
     lines: CellLines<'a>,
 }
@@ -28,7 +29,7 @@ impl<'a> Model for DrawnCell<'a> {
 
     ghost Value = { DrawnCell };
 
-    ghost view = { λ d. record { info = d.info.now; pieces = pieces_of_content d.table.now d.info.now (lines_of d.lines) } };
+    ghost view = { λ d. record { info = d.info.now; pieces = pieces_of_content d.styles d.info.now (lines_of d.lines) } };
 }
 
 impl<'a> DrawnCell<'a> {
@@ -55,25 +56,70 @@ impl<'a> DrawnCell<'a> {
     {
         match self.lines.get(line) {
             Some((cell, columns, text)) => {
-                Piece::new(self.table, cell, self.info, columns, text)
+                Piece::new(self.styles, cell, self.info, columns, text)
             }
             None => Piece::blank(self.info),
         }
     }
 }
 
-/// Makes these cells those of a row in these columns, each the one at its column's own position.
-pub fn set_drawn_cells<'a>(
-    cells: &mut Vec<DrawnCell<'a>>,
-    row: &'a Row,
-    columns: &[ShownColumn<'a>],
-    table: &'a Table,
-) -> Result<()>
-    ensures { OnOk result (cells.new.items ≡ map (drawn_cell table.now row.now) columns.now) }
+/// The cells of a row as its shown columns draw them. One row after another is drawn by it, in the memory of those before.
+#[derive(Drop)]
+pub struct DrawnRow<'a> {
+    cells: Vec<DrawnCell<'a>>,
+    // lists that the lines of earlier rows stood in
+    spare: Vec<Vec<Line<'a>>>,
+}
+
+impl<'a> Model for DrawnRow<'a> {
+    ghost use Rattle.std.specs.Prelude.{List};
+    ghost use Rattle.comfy_table.specs.DrawnCells.{DrawnCell};
+
+    ghost Value = { List DrawnCell };
+
+    ghost view = { λ r. r.cells.items };
+}
+
+impl<'a> DrawnRow<'a> {
+    /// A row without cells. It takes no memory.
+    pub fn new(alloc: Global) -> DrawnRow<'a>
+        ensures { result ≡ [] }
+    {
+        DrawnRow {
+            cells: Vec::new(alloc),
+            spare: Vec::new(alloc),
+        }
+    }
+
+    /// The cells, from the left.
+    pub fn cells(&self) -> &[DrawnCell<'a>]
+        ensures { result.now ≡ self.now }
+    {
+        self.cells.as_slice()
+    }
+
+    /// Makes the cells those of a row in these columns, each the one at its column's own position.
+    pub fn set(&mut self, row: &'a Row, columns: &[ShownColumn<'a>], table: &Table) -> Result<()>
+        ensures { OnOk result (self.new ≡ map (drawn_cell table.now row.now) columns.now) }
+    {
+        take_lists(&mut self.cells, &mut self.spare)?;
+        let styles = Styles::of(table);
+        for column in columns {
+            let cell = drawn_cell(row, column, table, styles, &mut self.spare)?;
+            self.cells.push(cell)?;
+        }
+        Ok(())
+    }
+}
+
+// Drops these cells, and keeps the lists of their lines.
+fn take_lists<'a>(cells: &mut Vec<DrawnCell<'a>>, spare: &mut Vec<Vec<Line<'a>>>) -> Result<()>
+    ensures { OnOk result (cells.new.items ≡ []) }
 {
-    cells.clear();
-    for column in columns {
-        cells.push(drawn_cell(row, column, table)?)?;
+    while let Some(cell) = cells.pop() {
+        if let CellLines::Several(_, lines) = cell.lines {
+            spare.push(lines)?;
+        }
     }
     Ok(())
 }
@@ -95,28 +141,39 @@ pub fn row_heights(table: &Table, infos: &[ColumnDisplayInfo]) -> Result<Vec<usi
 {
     let alloc = *table.columns.allocator();
     let columns = shown_infos(alloc, infos)?;
-    let mut cells = Vec::new(alloc);
+    let mut drawn = DrawnRow::new(alloc);
     let rows = table.rows.as_slice();
     let mut heights = Vec::with_capacity(alloc, rows.len())?;
     for row in rows {
-        set_drawn_cells(&mut cells, row, columns.as_slice(), table)?;
-        heights.push(greatest_height(cells.as_slice()))?;
+        drawn.set(row, columns.as_slice(), table)?;
+        heights.push(greatest_height(drawn.cells()))?;
     }
     Ok(heights)
 }
 
-// A shown column with the cell that stands at its position in a row.
-fn drawn_cell<'a>(row: &'a Row, column: &ShownColumn<'a>, table: &'a Table) -> Result<DrawnCell<'a>>
+// A shown column with the cell that stands at its position in a row. Its lines may stand in a spare list.
+fn drawn_cell<'a>(
+    row: &'a Row,
+    column: &ShownColumn<'a>,
+    table: &Table,
+    styles: Styles,
+    spare: &mut Vec<Vec<Line<'a>>>,
+) -> Result<DrawnCell<'a>>
+    requires { styles ≡ styles_of table.now }
     ensures { IfOk result (λ cell. cell ≡ drawn_cell table.now row.now column.now) }
 {
     let info = column.info;
     let Some(cell) = cell_at(row, column.position) else {
         return Ok(DrawnCell {
-            table,
+            styles,
             info,
             lines: CellLines::Missing,
         });
     };
-    let lines = row_cell_lines(table, row, cell, info)?;
-    Ok(DrawnCell { table, info, lines })
+    let lines = row_cell_lines(table, row, cell, info, spare)?;
+    Ok(DrawnCell {
+        styles,
+        info,
+        lines,
+    })
 }

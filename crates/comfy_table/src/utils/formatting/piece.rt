@@ -2,8 +2,9 @@
 
 ghost use Rattle.std.specs.Prelude.{◌≡◌, ◌+◌, ◌-◌, ◌≤◌, ◌++◌, [], IfOk, None, OnOk, false, string_bytes};
 ghost use Rattle.comfy_parts.specs.Text.{spaces};
+ghost use Rattle.comfy_table.specs.DrawnCells.{piece_with, styles_of};
 ghost use Rattle.comfy_table.specs.Gaps.{spaced};
-ghost use Rattle.comfy_table.specs.Pieces.{blank_piece, cell_alignment, free_before, text_piece};
+ghost use Rattle.comfy_table.specs.Pieces.{blank_piece, cell_alignment, free_before};
 ghost use Rattle.comfy_table.specs.Styling.{styled};
 
 use crate::table::Table;
@@ -13,6 +14,32 @@ use comfy_parts::content_split::ColumnDisplayInfo;
 use comfy_parts::style::CellAlignment;
 use comfy_parts::{Cell, Result};
 use std::marker::Model;
+
+/// Where a table writes the colours and attributes of its cells.
+#[derive(Clone, Copy)]
+pub enum Styles {
+    Nowhere,
+    /// Round the text of each piece.
+    RoundTexts,
+    /// Round whole pieces, paddings too.
+    RoundPieces,
+}
+
+impl Styles {
+    /// Where this table writes them.
+    pub fn of(table: &Table) -> Styles
+        ensures { result ≡ styles_of table.now }
+    {
+        if !table.should_style() {
+            return Styles::Nowhere;
+        }
+        if table.style_text_only {
+            Styles::RoundTexts
+        } else {
+            Styles::RoundPieces
+        }
+    }
+}
 
 /// A line of a cell as it stands in its column: a text between spaces. Where styles are written, they stand round the whole
 /// piece, or round the text alone.
@@ -38,36 +65,34 @@ impl<'a> Model for Piece<'a> {
 impl<'a> Piece<'a> {
     /// The piece of a line: the text that is written for it, aligned by the line's columns.
     pub fn new(
-        table: &Table,
+        styles: Styles,
         cell: &'a Cell,
         info: &ColumnDisplayInfo,
         columns: usize,
         text: &'a str,
     ) -> Piece<'a>
-        ensures { result ≡ text_piece table.now cell.now info.now columns text.now }
+        ensures { result ≡ piece_with styles cell.now info.now (record { columns = columns; written = text.now }) }
     {
         let (left, right) = spaces_beside(cell, info, columns);
-        if !table.should_style() || !has_styles(cell) {
-            return Piece {
-                left,
-                text,
-                right,
-                styles: None,
-            };
-        }
-        if table.style_text_only {
-            return Piece {
+        match styles {
+            Styles::RoundTexts if has_styles(cell) => Piece {
                 left,
                 text,
                 right,
                 styles: Some((cell, (0, 0))),
-            };
-        }
-        Piece {
-            left: 0,
-            text,
-            right: 0,
-            styles: Some((cell, (left, right))),
+            },
+            Styles::RoundPieces if has_styles(cell) => Piece {
+                left: 0,
+                text,
+                right: 0,
+                styles: Some((cell, (left, right))),
+            },
+            _ => Piece {
+                left,
+                text,
+                right,
+                styles: None,
+            },
         }
     }
 

@@ -3,7 +3,7 @@
 ghost use Rattle.std.specs.Prelude.{◌≡◌, ◌++◌, IfOk, OnOk, map, string_bytes};
 ghost use Rattle.comfy_parts.specs.Text.{spaces};
 ghost use Rattle.comfy_table.specs.DrawnCells.{piece_at};
-ghost use Rattle.comfy_table.specs.Gaps.{gap_before, gap_line, row_gaps};
+ghost use Rattle.comfy_table.specs.Gaps.{gap_line, row_gaps};
 
 use crate::table::Table;
 use crate::utils::formatting::drawn_cell::DrawnCell;
@@ -42,17 +42,6 @@ impl RowGaps {
         })
     }
 
-    /// The gap before the piece at this position.
-    pub fn before(&self, position: usize) -> &Gap
-        ensures { result.now ≡ gap_before position self.now }
-    {
-        if position > 0 {
-            &self.junction
-        } else {
-            &self.left
-        }
-    }
-
     /// Appends what ends a line: so many spaces and the last gap.
     pub fn push_end(&self, text: &mut String, free: usize) -> Result<()>
         ensures { OnOk result (string_bytes text.new ≡ string_bytes text.old ++ (spaces free ++ self.now.right)) }
@@ -69,9 +58,11 @@ impl RowGaps {
             self.left.push(text, 0, 0)?;
             return self.push_end(text, 0);
         }
+        let mut gap = &self.left;
         let mut free = 0;
-        for (position, cell) in cells.iter().enumerate() {
-            free = cell.piece_at(line).push(text, self.before(position), free)?;
+        for cell in cells {
+            free = cell.piece_at(line).push(text, gap, free)?;
+            gap = &self.junction;
         }
         self.push_end(text, free)
     }

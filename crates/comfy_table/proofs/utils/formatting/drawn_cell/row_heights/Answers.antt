@@ -11,6 +11,6 @@ loop-row-preserved c =
     let infos = c.args.infos.now in
     let row = c.row-item.result in
     let height : c.greatest_height.result ≡ row_height table infos row =
-    c.greatest_height.ensures ∙ height_of_cells table infos row c.as_slice-in-loop-row.result.now
-    (c.as_slice-in-loop-row.ensures.value ∙ c.in_ok-set_drawn_cells.ensures ∙ ap (map (drawn_cell table row)) (c.as_slice.ensures.value ∙ c.in_ok-columns.ensures)) in
+    c.greatest_height.ensures ∙ height_of_cells table infos row c.cells.result.now
+    (c.cells.ensures ∙ c.in_ok-set.ensures ∙ ap (map (drawn_cell table row)) (c.as_slice.ensures.value ∙ c.in_ok-columns.ensures)) in
     grind (arith, height, common_steps)

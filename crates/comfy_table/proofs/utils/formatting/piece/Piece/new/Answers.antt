@@ -1,31 +1,37 @@
-use Rattle.std.proofs.Common.{rules, ◌≡◌, true, false, ap, sym, ◌∙◌}
-use Rattle.comfy_table.proofs.SpaceLemmas.{all-styled, bare-is, line-styled, no_styles, unstyled-is}
-use Rattle.comfy_table.specs.TableValue.{TableValue, should_style}
-use Rattle.comfy_table.proofs.utils.formatting.piece.Piece.new.Goals.{then-not-should_style-via-then-not-should_style, then-not-should_style-via-else-not-should_style+then-not-has_styles}
+use Rattle.std.proofs.Common.{ap, ◌∙◌, refl, sym}
+use Rattle.comfy_table.proofs.SpaceLemmas.{all-styled, bare-is, line-styled, no_styles, padded-is}
+use Rattle.comfy_table.specs.DrawnCells.{piece_with}
+use Rattle.comfy_table.specs.DrawnLines.{DrawnLine}
+use Rattle.comfy_table.specs.declared.utils.formatting.piece.Styles.{Styles}
+use Rattle.comfy_table.proofs.utils.formatting.piece.Piece.new.Goals.{in_default-via-in-RoundTexts+else-has_styles, in_default-via-in-RoundPieces+else-has_styles-2, in_default-via-in_default}
 use Rattle.comfy_table.proofs.utils.formatting.piece.Piece.new.Goals as goal
 
-pub returns-then-not-should_style : goal.returns-then-not-should_style
-returns-then-not-should_style c =
-    let table = c.args.table.now in
+pub returns-in-RoundTexts : goal.returns-in-RoundTexts
+returns-in-RoundTexts c =
+    let line : DrawnLine = record { columns = c.args.columns; written = c.args.text.now } in
+    line-styled c.args.cell.now c.args.info.now c.args.columns _ _ c.spaces_beside-left.ensures.left c.spaces_beside-left.ensures.right c.args.text.now
+    ∙ ap (λ (styles : Styles). piece_with styles c.args.cell.now c.args.info.now line) (sym c.in-RoundTexts.is)
+
+pub returns-in-RoundPieces : goal.returns-in-RoundPieces
+returns-in-RoundPieces c =
+    let line : DrawnLine = record { columns = c.args.columns; written = c.args.text.now } in
+    all-styled c.args.cell.now c.args.info.now c.args.columns _ _ c.spaces_beside-left.ensures.left c.spaces_beside-left.ensures.right c.args.text.now
+    ∙ ap (λ (styles : Styles). piece_with styles c.args.cell.now c.args.info.now line) (sym c.in-RoundPieces.is)
+
+pub returns-in_default : goal.returns-in_default
+returns-in_default c =
     let cell = c.args.cell.now in
-    let text = c.args.text.now in
+    let info = c.args.info.now in
+    let line : DrawnLine = record { columns = c.args.columns; written = c.args.text.now } in
     let left = c.spaces_beside-left.ensures.left in
     let right = c.spaces_beside-left.ensures.right in
-    elim c.then-not-should_style.branch [
-      | then-not-should_style-via-then-not-should_style w ↦ unstyled-is cell c.args.info.now c.args.columns _ _ left right table text (sym c.should_style.ensures ∙ w.if-not-should_style.true)
-      | then-not-should_style-via-else-not-should_style+then-not-has_styles w ↦
-          let none = w.if-not-has_styles.true in
-          bare-is cell c.args.info.now c.args.columns _ _ left right table text (λ t. no_styles cell t (w.has_styles.ensures.background none) (w.has_styles.ensures.foreground none) (w.has_styles.ensures.attributes none))
+    let bare = bare-is cell info c.args.columns _ _ left right c.args.styles c.args.text.now in
+    elim c.in_default.branch [
+      | in_default-via-in-RoundTexts+else-has_styles w ↦
+          let none = w.if-has_styles.false in
+          bare (λ t. no_styles cell t (w.has_styles.ensures.background none) (w.has_styles.ensures.foreground none) (w.has_styles.ensures.attributes none))
+      | in_default-via-in-RoundPieces+else-has_styles-2 w ↦
+          bare (λ t. no_styles cell t (w.if-has_styles-2.ensures.background refl) (w.if-has_styles-2.ensures.foreground refl) (w.if-has_styles-2.ensures.attributes refl))
+      | in_default-via-in_default w ↦
+          padded-is cell info c.args.columns _ _ left right c.args.text.now ∙ ap (λ (styles : Styles). piece_with styles cell info line) (sym w.in_default.is)
     ]
-
-pub returns-then-table : goal.returns-then-table
-returns-then-table c =
-    let on : should_style c.args.table.now ≡ true = search rules in
-    let alone : c.args.table.now.style_text_only ≡ true = ap (λ (t : TableValue). t.style_text_only) (sym c.table.view_is) ∙ c.if-table.true in
-    line-styled c.args.cell.now c.args.info.now c.args.columns _ _ c.spaces_beside-left.ensures.left c.spaces_beside-left.ensures.right c.args.table.now c.args.text.now on alone
-
-pub returns : goal.returns
-returns c =
-    let on : should_style c.args.table.now ≡ true = search rules in
-    let whole : c.args.table.now.style_text_only ≡ false = ap (λ (t : TableValue). t.style_text_only) (sym c.table.view_is) ∙ c.if-table.false in
-    all-styled c.args.cell.now c.args.info.now c.args.columns _ _ c.spaces_beside-left.ensures.left c.spaces_beside-left.ensures.right c.args.table.now c.args.text.now on whole
