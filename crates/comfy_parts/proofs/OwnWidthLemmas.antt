@@ -1,5 +1,6 @@
 -- Characters that join no other take their own columns in every text.
-use Rattle.std.proofs.Common.{◌≡◌, ◌≢◌, ◌≤◌, ℕ, ◌+◌, ◌*◌, Bool, true, false, not, ◌&&◌, ◌||◌, ◌==◌, ◌++◌, Option, Some, None, length, nat_le, sum_by, refl, sym, ap, ap₂, ◌∙◌, ⊎_elim, arith}
+use Rattle.std.proofs.Common.{◌≡◌, ◌≢◌, ◌≤◌, ℕ, ◌+◌, ◌*◌, Bool, true, false, not, ◌&&◌, ◌||◌, ◌==◌, ◌++◌, Option, Some, None, append-nil, length, nat_le, sum_by, zero-add, [], refl, sym, ap, ap₂, ◌∙◌, ⊎_elim, arith}
+use Rattle.std.specs.Char.{IsScalar}
 use Rattle.std.specs.Int.{is_in_range}
 use Rattle.std.specs.List.{list_all}
 use Rattle.std.specs.Option.{is_some}
@@ -21,6 +22,7 @@ use Rattle.comfy_parts.specs.Columns.{joining_characters, joins_no_other}
 use Rattle.comfy_parts.specs.OwnWidth.{own_width}
 use Rattle.comfy_parts.specs.Text.{Text, measure}
 use Rattle.comfy_parts.proofs.KindRangeLemmas.{adds_up_kind, others_add_up}
+use Rattle.cluster_width.proofs.SpaceMeasureLemmas.{one_character}
 use Rattle.cluster_width.proofs.Sums.{implied}
 use Rattle.comfy_parts.proofs.OwnWidthTrie.{ideographs, ideographs-wide, kind_number, number_of, own_number}
 use Rattle.comfy_parts.proofs.SumKindLemmas.{summed_add_up}
@@ -160,3 +162,14 @@ counted-all text rest columns counted none =
     let left = ap (sum_by (width_or_zero false)) nothing in
     let total : columns ≡ sum_by (width_or_zero false) (chars text) = omega (arith, sum, left) in
     total ∙ sym (summed_add_up.sums (chars text) each)
+
+-- ---- and as a text of its own
+
+pub of_character : (c n : ℕ) → IsScalar c → own_width c ≡ Some n → n ≡ measure (encode_utf8 c)
+of_character c n scalar is =
+    let text = encode_utf8 c in
+    let counted = counted-more text text [] 0 c n (counted-none text (one_character c scalar).0) (sym (append-nil text)) is in
+    sym (zero-add n) ∙ counted-all text [] (0 + n) counted refl
+
+pub at_most_two : (c n : ℕ) → own_width c ≡ Some n → n ≤ 2
+at_most_two c n is = (own c n is).most

@@ -105,6 +105,9 @@ pub fn char_width(character: char) -> usize
     ensures value { result ≡ measure (encode_utf8 character) }
     ensures bound { result ≤ 8 }
 {
+    if let Some(columns) = own_width(character) {
+        return columns;
+    }
     let mut bytes = [0; 4];
-    measure_text_width(character.encode_utf8(&mut bytes))
+    character.encode_utf8(&mut bytes).width()
 }
