@@ -15,6 +15,9 @@ use comfy_parts::{Cell, Result, Row};
 use std::alloc::Global;
 use std::marker::Model;
 
+// For how many lines a list has room at most that is used again, so that a tall cell's memory comes back before the next row.
+const KEPT_LINES: usize = 256;
+
 /// A cell of a row as a shown column draws it.
 #[derive(Drop)]
 pub struct DrawnCell<'a> {
@@ -67,7 +70,7 @@ impl<'a> DrawnCell<'a> {
 #[derive(Drop)]
 pub struct DrawnRow<'a> {
     cells: Vec<DrawnCell<'a>>,
-    // lists that the lines of earlier rows stood in
+    // lists in which the lines of earlier rows stood
     spare: Vec<Vec<Line<'a>>>,
 }
 
@@ -112,12 +115,14 @@ impl<'a> DrawnRow<'a> {
     }
 }
 
-// Drops these cells, and keeps the lists of their lines.
+// Drops these cells, and keeps the lists of their lines, but for long ones.
 fn take_lists<'a>(cells: &mut Vec<DrawnCell<'a>>, spare: &mut Vec<Vec<Line<'a>>>) -> Result<()>
     ensures { OnOk result (cells.new.items ≡ []) }
 {
     while let Some(cell) = cells.pop() {
-        if let CellLines::Several(_, lines) = cell.lines {
+        if let CellLines::Several(_, lines) = cell.lines
+            && lines.capacity() <= KEPT_LINES
+        {
             spare.push(lines)?;
         }
     }
