@@ -1,5 +1,5 @@
 -- Choices of columns, one after another.
-use Rattle.std.proofs.Common.{◌≡◌, ◌<◌, ◌+◌, ◌-◌, ◌&&◌, ◌||◌, not, ℕ, Bool, true, false, zero, suc, List, [], ◌∷◌, Option, Some, Result, Ok, Err, String, bytes_eq, drop, get_or, length, map, string_bytes, take, refl, sym, ap, ◌∙◌, arith}
+use Rattle.std.proofs.Common.{◌≡◌, ◌<◌, ◌+◌, ◌-◌, ◌&&◌, ◌||◌, not, ℕ, Bool, true, false, zero, suc, List, [], ◌∷◌, Option, Some, Result, Ok, Err, String, bytes_eq, drop, get_or, length, map, string_bytes, take, refl, sym, ap, arith}
 use Rattle.std.proofs.lemmas.List.Folds.{fold_stuck}
 use Rattle.std.specs.List.{list_any, position_from, range_with_len}
 use Rattle.std.specs.Option.{option_or}
@@ -64,10 +64,6 @@ seen_at false [] position = refl
 seen_at true [] position = refl
 seen_at keeps (f ∷ fs) zero = refl
 seen_at keeps (f ∷ fs) (suc n) = seen_at keeps fs n
-
--- and what it says
-pub kind-seen : (keeps : Bool) (fields : List Text) (position : ℕ) (shown : Text) → shown ≡ visible_of keeps (field_or_blank fields position) → kind_of shown ≡ kind_at position (seen keeps fields)
-kind-seen keeps fields position shown is = ap kind_of (is ∙ sym (seen_at keeps fields position))
 
 -- whether the rows that are left make a column of numbers, where a number was seen before them or not
 module _ (keeps : Bool) (position : ℕ) where

@@ -1,4 +1,4 @@
--- Where the fields of a record stand among those of all records.
+-- Private: where the fields of a record stand among those of all records.
 use Rattle.std.specs.Prelude.{◌-◌, ◌^◌, ◌<◌, ◌≤◌, List, drop, length, take}
 use Rattle.comfy_parts.specs.Text.{Text}
 use Rattle.comfy_csv_parts.specs.declared.records.Place.{Place}

@@ -1,9 +1,11 @@
 //! Which columns are drawn, and how their cells are aligned.
 
 ghost use Rattle.std.specs.Prelude.{◌≡◌, ◌<◌, ◌≤◌, ◌-◌, ◌^◌, IfOk, IfErr, IfSome, Ok, length, map, string_bytes};
+ghost use Rattle.std.specs.Cow.{cow_str_bytes};
 ghost use Rattle.std.specs.List.{range_with_len};
 ghost use Rattle.comfy_parts.specs.VisibleText.{visible_text};
 ghost use Rattle.csv.specs.Records.{field_at};
+ghost use Rattle.comfy_csv_parts.specs.Cells.{field_or_blank};
 ghost use Rattle.comfy_csv_parts.specs.Columns.{IsColumnRefusal, alignment_for, at_two_sides, chosen_columns, column_of, columns_chosen, columns_for, count_of, drawn_columns, end_of, is_number_column, is_text, kept_columns, kind_at, kind_of, name_at, numbered, position_named, positions_of, positions_of_word, range_at, range_of, seen, without};
 
 use crate::error::CsvError;
@@ -14,6 +16,7 @@ use crate::records::{Record, Rows};
 use comfy_parts::content_split::visible_text;
 use comfy_parts::style::CellAlignment;
 use std::alloc::{AllocError, Global};
+use std::borrow::CowStr;
 
 /// The columns that are drawn of these rows under these names.
 pub fn columns_of(
@@ -351,17 +354,29 @@ fn kind_at(
 ) -> Result<FieldKind, AllocError>
     ensures { IfOk result (λ kind. kind ≡ kind_at position (seen has_sequences row.now)) }
 {
+    let field = seen_field(alloc, position, row, has_sequences)?;
+    Ok(kind_of(field.as_str()))
+}
+
+/// The field at a position as it is seen, without sequences that are kept. A missing one is blank.
+pub(crate) fn seen_field<'a>(
+    alloc: Global,
+    position: usize,
+    row: &Record<'a>,
+    has_sequences: bool,
+) -> Result<CowStr<'a>, AllocError>
+    ensures { IfOk result (λ field. cow_str_bytes field ≡ field_or_blank (seen has_sequences row.now) position) }
+{
     let field = row.get(position).unwrap_or("");
     if has_sequences {
-        let seen = seen_text(alloc, field)?;
-        Ok(kind_of(seen.as_str()))
+        Ok(CowStr::Owned(seen_text(alloc, field)?))
     } else {
-        Ok(kind_of(field))
+        Ok(CowStr::Borrowed(field))
     }
 }
 
-/// What is seen of a field whose sequences are kept.
-pub(crate) fn seen_text(alloc: Global, field: &str) -> Result<String, AllocError>
+// What is seen of a field whose sequences are kept.
+fn seen_text(alloc: Global, field: &str) -> Result<String, AllocError>
     ensures { IfOk result (λ text. string_bytes text ≡ visible_text field.now) }
 {
     match visible_text(alloc, field) {

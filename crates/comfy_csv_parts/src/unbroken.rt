@@ -2,13 +2,12 @@
 
 ghost use Rattle.std.specs.Prelude.{◌≡◌, IfOk, chars, length, map, nat_le};
 ghost use Rattle.std.specs.List.{list_all};
-ghost use Rattle.comfy_csv_parts.specs.Cells.{field_or_blank};
 ghost use Rattle.comfy_csv_parts.specs.Columns.{seen};
 ghost use Rattle.comfy_csv_parts.specs.Unbroken.{is_of_dates, is_unbroken, is_unbroken_column};
 
-use crate::columns::seen_text;
+use crate::columns::seen_field;
 use crate::number::is_number;
-use crate::records::{Record, Rows};
+use crate::records::Rows;
 use std::alloc::{AllocError, Global};
 
 // How many characters a field has at most that isn't broken.
@@ -25,29 +24,12 @@ pub fn is_unbroken_column(
     ensures { IfOk result (λ yes. yes ≡ is_unbroken_column (map (seen has_sequences) rows.now) position) }
 {
     for row in rows.iter() {
-        if !is_unbroken_at(alloc, position, &row, has_sequences)? {
+        let field = seen_field(alloc, position, &row, has_sequences)?;
+        if !is_unbroken(field.as_str()) {
             return Ok(false);
         }
     }
     Ok(true)
-}
-
-// Whether the field at a position is such, as it is seen.
-fn is_unbroken_at(
-    alloc: Global,
-    position: usize,
-    row: &Record<'_>,
-    has_sequences: bool,
-) -> Result<bool, AllocError>
-    ensures { IfOk result (λ yes. yes ≡ is_unbroken (field_or_blank (seen has_sequences row.now) position)) }
-{
-    let field = row.get(position).unwrap_or("");
-    if has_sequences {
-        let seen = seen_text(alloc, field)?;
-        Ok(is_unbroken(seen.as_str()))
-    } else {
-        Ok(is_unbroken(field))
-    }
 }
 
 // Whether a field is short, and empty, a number, or of the characters of dates and times.
