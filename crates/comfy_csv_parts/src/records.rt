@@ -11,7 +11,14 @@ use csv::{Error, ErrorKind, ReaderBuilder, StringRecord};
 use std::alloc::{AllocError, Global};
 use std::marker::Model;
 
-/// Records. However many they are, they lie in a few large pieces of memory, which all come back when they are dropped.
+/// The records of a text. However many they are, they lie in two large pieces of memory, which come back when they are
+/// dropped.
+///
+/// ```
+/// let records = read_records(alloc, "name,days\noats,3\n", &options)?;
+/// let below = records.rows().rows_behind(1);
+/// // one record, whose field at position 1 is 3
+/// ```
 #[derive(Drop)]
 pub struct Records {
     // the fields of all records, one behind another
@@ -19,7 +26,7 @@ pub struct Records {
     places: Vec<Place>,
 }
 
-// How many fields stand before a record, and how many with its own.
+// Where the fields of a record stand among those of all: from the first position up to the second.
 #[derive(Clone, Copy)]
 struct Place {
     start: usize,
@@ -40,7 +47,7 @@ impl Model for Records {
 }
 
 impl Records {
-    /// All of them.
+    /// All of them, in their order.
     pub fn rows(&self) -> Rows<'_>
         ensures { result ≡ self.now }
     {
@@ -51,7 +58,7 @@ impl Records {
     }
 }
 
-/// Some of these records, in their order. It goes over them itself.
+/// Records that stand one behind another: all of a text, or some. As an iterator it gives each of them.
 #[derive(Drop)]
 pub struct Rows<'a> {
     fields: &'a StringRecord,
@@ -86,7 +93,7 @@ impl<'a> Rows<'a> {
         self.places.is_empty()
     }
 
-    /// The same ones, to go over.
+    /// The same records, to go over them.
     pub fn iter(&self) -> Rows<'a>
         ensures { result ≡ self.now }
     {
@@ -96,7 +103,7 @@ impl<'a> Rows<'a> {
         }
     }
 
-    /// Those behind so many.
+    /// The records behind so many.
     pub fn rows_behind(&self, count: usize) -> Rows<'a>
         ensures { result ≡ drop count self.now }
     {
@@ -105,7 +112,7 @@ impl<'a> Rows<'a> {
         Rows { fields, places }
     }
 
-    /// The first ones, so many.
+    /// The first records, at most so many.
     pub fn first_rows(&self, count: usize) -> Rows<'a>
         ensures { result ≡ take count self.now }
     {
@@ -114,7 +121,7 @@ impl<'a> Rows<'a> {
         Rows { fields, places }
     }
 
-    /// The first one.
+    /// The first record, where there is one.
     pub fn first(&self) -> Option<Record<'a>>
         ensures { result ≡ slice_get self.now 0 }
     {
@@ -125,7 +132,7 @@ impl<'a> Rows<'a> {
         })
     }
 
-    /// A record without fields, beside them.
+    /// A record without fields.
     pub fn blank(&self) -> Record<'a>
         ensures { result ≡ [] }
     {
@@ -152,7 +159,7 @@ impl<'a> Iterator for Rows<'a> {
     }
 }
 
-/// A record: its fields, in their order.
+/// A record. It lends its fields.
 #[derive(Drop)]
 pub struct Record<'a> {
     fields: &'a StringRecord,
@@ -173,14 +180,14 @@ impl<'a> Model for Record<'a> {
 }
 
 impl<'a> Record<'a> {
-    /// How many there are.
+    /// How many fields there are.
     pub fn len(&self) -> usize
         ensures { result ≡ length self.now }
     {
         self.place.end - self.place.start
     }
 
-    /// The field at a position.
+    /// The field at a position, which is counted from 0; none behind the last.
     pub fn get(&self, position: usize) -> Option<&'a str>
         ensures place { IfSome result (λ f. position < 2 ^ 64 - 1) }
         ensures value { option_map (λ s. s.now) result ≡ field_at self.now position }
@@ -215,7 +222,7 @@ pub(crate) fn records_of(
     let mut fields = StringRecord::new(alloc);
     let mut places = Vec::new(alloc);
     let mut record = StringRecord::new(alloc);
-    // No memory holds more records.
+    // No memory holds so many records.
     for _ in 0..u64::MAX {
         match reader.read_record(&mut record) {
             Ok(true) => {
