@@ -1,7 +1,7 @@
 //! The words of `csvtable`'s errors, delimiters that its words can't ask for, and encodings.
 
 use super::large::options;
-use comfy_csv::{CsvError, Delimiter, Encoding, Options, decoded, read_records};
+use comfy_csv::{CsvError, Delimiter, Encoding, Options, decoded, read_records, table_of};
 use std::alloc::{Alloc, Global};
 use std::process::Abort;
 
@@ -47,6 +47,25 @@ fn delimiters_that_are_not_ascii(rt: HostRuntime) {
     let second = whole.rows().rows_behind(1).first().expect(&rt, "a record");
     assert!(rt; second.len() == 1 && second.get(0) == Some("é,d"));
     assert!(rt; whole.rows().first_rows(1).len() == 1);
+}
+
+// A row for each record, and numbers at the right; a column that isn't there is named.
+#[test]
+fn records_become_a_table(rt: HostRuntime) {
+    let text = "name,days\noats,3\nrye,14\n";
+    let mut options = between(rt.alloc(), b',');
+    let records = read_records(rt.alloc(), text, &options).expect(&rt, "records");
+    let table = table_of(rt.alloc(), records, &options).expect(&rt, "a table");
+    assert!(rt; table.row_count() == 2);
+    let drawing = table.to_text().expect(&rt, "memory");
+    let rows =
+        "| name | days |\n+=============+\n| oats |    3 |\n|------+------|\n| rye  |   14 |";
+    assert!(rt; drawing.contains(rows));
+    let word = String::from_str(rt.alloc(), "weeks").expect(&rt, "memory");
+    options.columns.push(word).expect(&rt, "memory");
+    let records = read_records(rt.alloc(), text, &options).expect(&rt, "records");
+    let refused = table_of(rt.alloc(), records, &options);
+    assert!(rt; matches!(&refused, Err(CsvError::NoColumn(name)) if name.as_str() == "weeks"));
 }
 
 fn assert_decoded<const N: usize>(
