@@ -16,6 +16,7 @@ pub mod Quotes
 pub mod Reading
 pub mod Rules
 pub mod Shown
+pub mod Started
 pub mod Styles
 pub mod Unbroken
 pub mod Words

@@ -5,8 +5,9 @@ ghost use Rattle.std.specs.List.{position};
 ghost use Rattle.csv.specs.Reading.{strip_bom};
 ghost use Rattle.comfy_csv_parts.specs.Delimiter.{EndsIn, IsAsciiUnlessAsked, below_line, below_lines, delimited, delimiter_in, end_len, ends_line, first_line, found_delimiter, line_len, named_delimiter, only_ascii, parts_evenly};
 
+use crate::records::reader_of;
 use crate::text::without_mark;
-use csv::{ByteRecord, ReaderBuilder};
+use csv::ByteRecord;
 use std::alloc::{AllocError, Global};
 
 /// What stands between the fields of a record.
@@ -161,12 +162,7 @@ fn parts_evenly(
 ) -> Result<bool, AllocError>
     ensures { IfOk result (λ is_so. is_so ≡ parts_evenly has_quotes text.now delimiter) }
 {
-    let mut reader = ReaderBuilder::new()
-        .delimiter(delimiter)
-        .quoting(has_quotes)
-        .has_headers(false)
-        .flexible(true)
-        .from_reader(alloc, text.as_bytes());
+    let mut reader = reader_of(alloc, text, delimiter, has_quotes);
     let mut record = ByteRecord::new(alloc);
     let mut fields = 0;
     for _ in 0..FIRST_RECORDS {

@@ -5,9 +5,10 @@ ghost use Rattle.std.specs.Iterator.{YieldsFirstBy, item_count};
 ghost use Rattle.csv.specs.Reading.{error_kind};
 ghost use Rattle.csv.specs.Records.{field_at, fields_of};
 ghost use Rattle.comfy_csv_parts.specs.Input.{AreRecordsOf, IsReadingRefusal, IsRecordRefusal};
+ghost use Rattle.comfy_csv_parts.specs.Started.{IsStarted};
 
 use crate::error::CsvError;
-use csv::{Error, ErrorKind, ReaderBuilder, StringRecord};
+use csv::{Error, ErrorKind, Reader, ReaderBuilder, StringRecord};
 use std::alloc::{AllocError, Global};
 use std::marker::Model;
 
@@ -200,8 +201,20 @@ impl<'a> Record<'a> {
     }
 }
 
-/// All records of a text, whose fields stand between delimiters. Records may have different numbers of fields. A
+/// What reads the records of a text, whose fields stand between delimiters. Records may have different numbers of fields. A
 /// byte-order mark at the beginning is dropped. Without quotes, a quote is a character of its field.
+pub(crate) fn reader_of(alloc: Global, text: &str, delimiter: u8, has_quotes: bool) -> Reader<&[u8]>
+    ensures { IsStarted delimiter has_quotes text.now result }
+{
+    ReaderBuilder::new()
+        .delimiter(delimiter)
+        .quoting(has_quotes)
+        .has_headers(false)
+        .flexible(true)
+        .from_reader(alloc, text.as_bytes())
+}
+
+/// All records of a text.
 ///
 /// `SplitCharacter` comes only of a delimiter that isn't ASCII.
 pub(crate) fn records_of(
@@ -213,12 +226,7 @@ pub(crate) fn records_of(
     ensures all { IfOk result (λ records. AreRecordsOf delimiter has_quotes text.now records) }
     ensures refused { IfErr result (λ e. IsReadingRefusal delimiter has_quotes text.now e) }
 {
-    let mut reader = ReaderBuilder::new()
-        .delimiter(delimiter)
-        .quoting(has_quotes)
-        .has_headers(false)
-        .flexible(true)
-        .from_reader(alloc, text.as_bytes());
+    let mut reader = reader_of(alloc, text, delimiter, has_quotes);
     let mut fields = StringRecord::new(alloc);
     let mut places = Vec::new(alloc);
     let mut record = StringRecord::new(alloc);

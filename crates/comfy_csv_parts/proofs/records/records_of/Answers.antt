@@ -1,4 +1,4 @@
-use Rattle.std.proofs.Common.{◌≡◌, ◌<◌, ◌^◌, ◌++◌, ◌∷◌, ◌∙◌, [], Bor, List, Some, arith, length, inl, inr, map, refl, rules, sym, ℕ}
+use Rattle.std.proofs.Common.{◌≡◌, ◌<◌, ◌^◌, ◌++◌, ◌∷◌, ◌∙◌, [], Bor, List, Some, arith, length, inl, map, refl, rules, sym, ℕ}
 use Rattle.csv.specs.Reading.{Reached, strip_bom}
 use Rattle.csv.specs.Records.{fields_of}
 use Rattle.csv.specs.declared.parser.State.TheVariants as st
@@ -12,14 +12,14 @@ use Rattle.comfy_csv_parts.proofs.records.records_of.Goals as goal
 pub loop-init : goal.loop-init
 unfolding Reached
 loop-init c =
-    let fr = c.from_reader-reader.ensures in
+    let started = c.reader_of-reader.ensures in
     rw (c.new-places.ensures.items) (
-      rw (c.flexible.ensures, c.has_headers.ensures, c.quoting.ensures, c.delimiter.ensures) at fr.trim ∙ c.new.ensures.trim,
-      inr (inr (rw (c.flexible.ensures, c.has_headers.ensures) at fr.has_headers, fr.headers)),
-      rw (c.flexible.ensures, c.has_headers.ensures, c.quoting.ensures, c.delimiter.ensures, c.new.ensures.config) at fr.config,
+      started.trim,
+      started.ready,
+      started.config,
       strip_bom c.args.text.now,
-      rw c.as_bytes.ensures.value at fr.source,
-      (sym fr.state, refl),
+      started.source,
+      (sym started.state, refl),
       (λ k d h. absurd (omega arith)),
       λ k d h. absurd (omega arith),
     )
