@@ -9,7 +9,6 @@ use std::alloc::Global;
 use std::marker::Model;
 
 /// The names, the rows and the columns that are drawn of some records, with these records.
-#[derive(Drop)]
 pub struct Content {
     pub(crate) alloc: Global,
     records: Records,
@@ -17,6 +16,18 @@ pub struct Content {
     // how many rows are drawn
     limit: Option<usize>,
     pub(crate) columns: Vec<DrawnColumn>,
+}
+
+impl Drop for Content {
+    fn drop(self) {
+        let Content {
+            alloc: _,
+            records: _,
+            has_header: _,
+            limit: _,
+            columns: _,
+        } = self;
+    }
 }
 
 impl Model for Content {

@@ -41,12 +41,21 @@ static NOT_BESIDE_MARKDOWN: [&str; 7] = [
 ];
 
 /// What the words ask for.
-#[derive(Debug, Drop)]
+#[derive(Debug)]
 pub struct Asked {
     /// How the records are drawn.
     pub options: Options,
     /// The file to read; standard input where there is none.
     pub file: Option<String>,
+}
+
+impl Drop for Asked {
+    fn drop(self) {
+        let Asked {
+            options: _,
+            file: _,
+        } = self;
+    }
 }
 
 /// What is known of where the output goes.

@@ -5,7 +5,7 @@ use crate::encoding::Encoding;
 use comfy_parts::style::{CellAlignment, TableStyle};
 
 /// Which records and columns are drawn, and how.
-#[derive(Debug, Drop)]
+#[derive(Debug)]
 pub struct Options {
     /// How the input is written as bytes. Where that isn't said, an input that begins with a byte-order mark of UTF-16 is
     /// UTF-16, and any other one UTF-8.
@@ -34,6 +34,24 @@ pub struct Options {
     pub left: Vec<String>,
     /// How the table looks.
     pub look: Look,
+}
+
+impl Drop for Options {
+    fn drop(self) {
+        let Options {
+            encoding: _,
+            skip: _,
+            delimiter: _,
+            has_quotes: _,
+            has_header: _,
+            limit: _,
+            columns: _,
+            dropped: _,
+            right: _,
+            left: _,
+            look: _,
+        } = self;
+    }
 }
 
 /// How the table of some records looks.

@@ -20,7 +20,6 @@ use std::marker::Model;
 /// let below = records.rows().rows_behind(1);
 /// // one record, whose field at position 1 is 3
 /// ```
-#[derive(Drop)]
 pub struct Records {
     // the fields of all records, one behind another
     fields: StringRecord,
@@ -32,6 +31,15 @@ pub struct Records {
 struct Place {
     start: usize,
     end: usize,
+}
+
+impl Drop for Records {
+    fn drop(self) {
+        let Records {
+            fields: _,
+            places: _,
+        } = self;
+    }
 }
 
 impl Model for Records {

@@ -23,7 +23,6 @@ use std::marker::Model;
 ///     .fg(Color::Red)
 ///     .set_alignment(CellAlignment::Right);
 /// ```
-#[derive(Drop)]
 pub struct Cell {
     text_lines: TextLines,
     attributes: Vec<Attribute>,
@@ -31,6 +30,21 @@ pub struct Cell {
     alignment: Option<CellAlignment>,
     foreground: Option<Color>,
     background: Option<Color>,
+}
+
+// A derived drop is opened at each `?` behind which a caller owns the value, one by hand is a call there. So types that
+// callers own have one by hand, where it makes their checks shorter.
+impl Drop for Cell {
+    fn drop(self) {
+        let Cell {
+            text_lines: _,
+            attributes: _,
+            delimiter: _,
+            alignment: _,
+            foreground: _,
+            background: _,
+        } = self;
+    }
 }
 
 impl Model for Cell {

@@ -24,10 +24,19 @@ use std::slice;
 ///     .add_cell(Cell::new(alloc, 17)?)?
 ///     .max_height(2);
 /// ```
-#[derive(Debug, Drop)]
+#[derive(Debug)]
 pub struct Row {
     cells: Vec<Cell>,
     max_height: Option<usize>,
+}
+
+impl Drop for Row {
+    fn drop(self) {
+        let Row {
+            cells: _,
+            max_height: _,
+        } = self;
+    }
 }
 
 impl Model for Row {

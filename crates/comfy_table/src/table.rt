@@ -39,7 +39,7 @@ use terminal::Terminal;
 /// // | 17   | dock 3          |
 /// // +------+-----------------+
 /// ```
-#[derive(Debug, Drop)]
+#[derive(Debug)]
 pub struct Table {
     pub(crate) columns: Vec<Column>,
     pub(crate) header: Option<Row>,
@@ -56,6 +56,27 @@ pub struct Table {
     pub(crate) enforce_styling: bool,
     pub(crate) style_text_only: bool,
     pub(crate) custom_styling: bool,
+}
+
+impl Drop for Table {
+    fn drop(self) {
+        let Table {
+            columns: _,
+            header: _,
+            rows: _,
+            style: _,
+            arrangement: _,
+            delimiter: _,
+            indicator: _,
+            set_width: _,
+            terminal: _,
+            no_tty: _,
+            use_stderr: _,
+            enforce_styling: _,
+            style_text_only: _,
+            custom_styling: _,
+        } = self;
+    }
 }
 
 impl Model for Table {

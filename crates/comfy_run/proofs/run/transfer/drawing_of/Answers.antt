@@ -16,5 +16,5 @@ output_of width arrangement style input table output same = subst (λ t. IsTermi
 
 pub returns : goal.returns
 returns c =
-    IfOk-weaker c.to_terminated_text-2.result _ _
-    (λ output. output_of c.args.settings.width c.args.settings.arrangement c.args.settings.style c.args.text.now _ (string_bytes output) (search rules)) c.to_terminated_text-2.ensures
+    IfOk-weaker c.to_terminated_text.result _ _
+    (λ output. output_of c.args.settings.width c.args.settings.arrangement c.args.settings.style c.args.text.now _ (string_bytes output) (search rules)) c.to_terminated_text.ensures
