@@ -110,6 +110,11 @@ HasNoEscape text = HasNo 0x1B text
 abbrev pub HasNoBreak : Text → Type 0
 HasNoBreak text = HasNo 0x0A text
 
+-- these are the lines of a text: each is followed by a line feed, and none holds one
+pub record AreLinesOf (text : Text) (lines : List Text) : Type 0 where
+  pub joined : text ≡ terminated_text_of lines
+  pub unbroken : All HasNoBreak lines
+
 -- the byte b is no character of the style
 abbrev pub IsStyleWithout : ℕ → TableStyle → Type 0
 IsStyleWithout b style = list_any (λ (c : Option ℕ). unwrap_or c 0x20 == b) (style_characters style) ≡ false

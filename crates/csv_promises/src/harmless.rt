@@ -1,0 +1,45 @@
+//! No file speaks to your terminal.
+
+ghost use Rattle.std.specs.Prelude.{IfOk, IfSome};
+ghost use Rattle.comfy_csv.specs.Drawn.{IsOutputFor};
+ghost use Rattle.promises.specs.Shown.{IsHarmless};
+
+use comfy_csv::laws::outputs_hold_no_controls;
+use comfy_csv::{CsvError, Options, Surroundings, asked_of, draw};
+use comfy_run::run::{MemorySink, MemorySource};
+use std::alloc::Global;
+
+/// What the program writes for these words and these bytes of a file: nothing where the words ask for raw fields, or for no
+/// drawing, or where it can't be drawn so. Whatever the words, the terminal and the bytes are, it tells a terminal nothing but
+/// characters, line ends, colours and attributes.
+pub fn harmless_output(
+    alloc: Global,
+    words: &[&str],
+    surroundings: Surroundings<'_>,
+    input: &[u8],
+    room: usize,
+) -> Option<MemorySink>
+    ensures { IfSome result (λ sink. IsHarmless sink.bytes) }
+{
+    outputs_hold_no_controls();
+    let asked = asked_of(alloc, words, surroundings).ok()?;
+    if asked.options.look.is_raw {
+        return None;
+    }
+    output_for(alloc, input, room, &asked.options).ok()
+}
+
+// A sink that holds the output for an input.
+fn output_for(
+    alloc: Global,
+    input: &[u8],
+    room: usize,
+    options: &Options,
+) -> Result<MemorySink, CsvError>
+    ensures { IfOk result (λ sink. IsOutputFor options.now input.now sink.bytes) }
+{
+    let mut source = MemorySource::new(input, 0);
+    let mut sink = MemorySink::new(alloc, room, 0)?;
+    draw(alloc, &mut source, &mut sink, options)?;
+    Ok(sink)
+}

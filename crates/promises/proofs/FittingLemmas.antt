@@ -1,0 +1,177 @@
+-- Tables in callers' words are straight.
+use Rattle.std.proofs.Common.{◌≡◌, ◌≤◌, ◌==◌, ◌&&◌, ◌||◌, inl, inr, ℕ, Bool, true, false, not, List, [], ◌∷◌, Option, Some, None, unwrap_or, refl, sym, ap, ap₂, ◌∙◌, length, subst, arith, slice_index_or, max, nat_le}
+use Rattle.std.specs.List.{All, list_all}
+use Rattle.std.specs.Prelude.{chars, encode_utf8}
+use Rattle.std.proofs.lemmas.Bool.{and_parts}
+use Rattle.std.proofs.lemmas.Bool.Decides.{nat_tests}
+use Rattle.std.proofs.lemmas.List.Elements.{All-filter, All-weaker}
+use Rattle.cluster_width.specs.ClusterSums.{is_presentation, selectors_agree}
+use Rattle.comfy_parts.proofs.CallerLemmas.{All-at}
+use Rattle.comfy_parts.specs.CellValue.{CellValue, ColumnInfo, ColumnValue, RowValue, is_hidden_column}
+use Rattle.comfy_parts.specs.Columns.{AddsOneColumn, IsOneColumn, character_fits, characters_fit}
+use Rattle.comfy_parts.specs.Text.{Text, measure}
+use Rattle.comfy_parts.specs.declared.style.table.ContentArrangement.{ContentArrangement}
+use Rattle.comfy_parts.specs.declared.style.table.ContentArrangement.TheVariants.{Disabled}
+use Rattle.comfy_parts.specs.VisibleText.{visible_text}
+use Rattle.comfy_table.proofs.ControlLemmas.{free_of_escapes}
+use Rattle.comfy_table.proofs.FittingTableLemmas.{fitting_tables_are_straight}
+use Rattle.comfy_table.proofs.InfoLemmas.{infos-known}
+use Rattle.comfy_table.proofs.OneDrawingLemmas.{arranged_is_one}
+use Rattle.comfy_table.specs.Arrangement.{width_kept}
+use Rattle.comfy_table.specs.Drawing.{infos_of}
+use Rattle.comfy_table.specs.FittingTables.{FitsByCharacters}
+use Rattle.comfy_table.specs.Headline.{IsTableDrawing}
+use Rattle.comfy_table.specs.Laws.{NoConstraints, line_total}
+use Rattle.comfy_table.specs.NewTables.{AreEquallyWide}
+use Rattle.comfy_table.specs.Parts.{ArrangedValue, IsArrangedTable}
+use Rattle.comfy_table.specs.Pieces.{shown_infos}
+use Rattle.comfy_table.specs.Straight as straight
+use Rattle.comfy_table.specs.TableValue.{TableValue, header_and_rows, measured_rows, table_width}
+use Rattle.promises.proofs.PlacedLemmas.{placed}
+use Rattle.promises.proofs.ShownLemmas.{free_of_controls, line_shows}
+use Rattle.promises.specs.Shown.{AreShownEquallyWide, HasNoControls}
+use Rattle.promises.specs.Tables.{CharactersFit, EachText, HasCharactersWithin, HasPlainFrame, IsPlain, IsShownWhole, IsUnconstrained}
+
+-- ---- characters
+
+-- what holds of a character of such a text
+abbrev within : ℕ → ℕ → Bool
+within n c = nat_le (measure (encode_utf8 c)) n && not (c == 0xFE01)
+
+more_room : (n w size : ℕ) → n ≤ w → nat_le size n ≡ true → nat_le size w ≡ true
+more_room n w size room fits = grind (arith, nat_tests)
+
+each_fits : (n w : ℕ) → n ≤ w → (cs : List ℕ) → list_all (within n) cs ≡ true → list_all (character_fits w) cs ≡ true
+each_fits n w room [] all = refl
+each_fits n w room (c ∷ cs) all =
+    let both = and_parts (within n c) (list_all (within n) cs) all in
+    let own = and_parts (nat_le (measure (encode_utf8 c)) n) (not (c == 0xFE01)) both.0 in
+    ap (λ b. b && list_all (character_fits w) cs) (more_room n w (measure (encode_utf8 c)) room own.0) ∙ each_fits n w room cs both.1
+
+no_clash : (x y : Bool) (p q : Bool) → not x ≡ true → not y ≡ true → ((x && q) || (p && y)) ≡ false
+no_clash true y p q is are = absurd (cc is)
+no_clash false true p q is are = absurd (cc are)
+no_clash false false true q is are = refl
+no_clash false false false q is are = refl
+
+agree : (n : ℕ) (cs : List ℕ) → list_all (within n) cs ≡ true → selectors_agree cs ≡ true
+agree n [] all = refl
+agree n (c ∷ []) all = refl
+agree n (c ∷ d ∷ cs) all =
+    let both = and_parts (within n c) (list_all (within n) (d ∷ cs)) all in
+    let first = and_parts (nat_le (measure (encode_utf8 c)) n) (not (c == 0xFE01)) both.0 in
+    let next = and_parts (within n d) (list_all (within n) cs) both.1 in
+    let second = and_parts (nat_le (measure (encode_utf8 d)) n) (not (d == 0xFE01)) next.0 in
+    ap (λ b. not b && selectors_agree (d ∷ cs)) (no_clash (c == 0xFE01) (d == 0xFE01) (is_presentation c) (is_presentation d) first.1 second.1) ∙ agree n (d ∷ cs) both.1
+
+-- such a text fits each column that has room
+pub text_fits : (n w : ℕ) → n ≤ w → (text : Text) → HasCharactersWithin n text → characters_fit w text ≡ true
+text_fits n w room text all =
+    ap (λ b. b && selectors_agree (chars text)) (each_fits n w room (chars text) all) ∙ agree n (chars text) all
+
+-- characters have more room in a wider column
+more : (n w : ℕ) → n ≤ w → (text : Text) → HasCharactersWithin n text → HasCharactersWithin w text
+more n w room text all = each_more (chars text) all
+  where
+    each_more : (cs : List ℕ) → list_all (within n) cs ≡ true → list_all (within w) cs ≡ true
+    each_more [] all = refl
+    each_more (c ∷ cs) all =
+        let both = and_parts (within n c) (list_all (within n) cs) all in
+        let own = and_parts (nat_le (measure (encode_utf8 c)) n) (not (c == 0xFE01)) both.0 in
+        ap₂ (λ a b. a && b) (ap₂ (λ a b. a && b) (more_room n w (measure (encode_utf8 c)) room own.0) own.1) (each_more cs both.1)
+
+-- ---- delimiters
+
+-- the first of those that are set, each of which adds one column, adds one
+first_set : (a b c : Option ℕ) → IsOneColumn a → IsOneColumn b → IsOneColumn c → AddsOneColumn (unwrap_or a (unwrap_or b (unwrap_or c 0x20)))
+first_set (Some x) b c one two three = one
+first_set None (Some y) c one two three = two
+first_set None None c one two three = three
+
+-- ---- tables
+
+-- no shown column has a constraint
+pub unconstrained : (table : TableValue) → IsUnconstrained table → NoConstraints table
+unconstrained table free = placed (λ (column : ColumnValue). not (is_hidden_column column)) (λ column. column.constraint ≡ None) 0 table.columns free
+
+module _ (table : TableValue) (same : measured_rows table ≡ header_and_rows table) (frame : HasPlainFrame table) where
+  rows_measured : (Q : RowValue → Type 0) → All Q (header_and_rows table) → All Q (measured_rows table)
+  rows_measured Q each = subst (All Q) (sym same) each
+
+  apart : straight.TextsStandApart table
+  apart = inr (inl (placed (λ (column : ColumnValue). not (is_hidden_column column)) (λ column. 1 ≤ column.padding.0) 0 table.columns frame.paddings))
+
+  delimiters : (widths : List ℕ) → length widths ≡ length table.columns → All (λ (p : ℕ × ColumnInfo). IsOneColumn p.1.delimiter) (shown_infos (infos_of table widths))
+  delimiters widths long =
+      infos-known table widths (λ (p : ℕ × ColumnValue). IsOneColumn p.1.delimiter) (λ (p : ℕ × ColumnInfo). IsOneColumn p.1.delimiter) long
+      (placed (λ (column : ColumnValue). not (is_hidden_column column)) (λ column. IsOneColumn column.delimiter) 0 table.columns
+      (All-filter (λ (column : ColumnValue). not (is_hidden_column column)) (λ (column : ColumnValue). IsOneColumn column.delimiter) table.columns frame.column_delimiters))
+      (λ i column w one. one)
+
+  -- where each text fits each column that is drawn
+  pub fitting : (lines : List Text) (drawn : IsTableDrawing table lines)
+      → All (λ (p : ℕ × ColumnInfo). EachText (HasCharactersWithin p.1.content_width) table) (shown_infos (infos_of table drawn.widths)) → straight.IsStraightTable table drawn.widths
+  fitting lines drawn each = fitting_tables_are_straight table lines drawn frame.style apart fits
+    where
+      fits : straight.EachCell (FitsByCharacters table) table drawn.widths
+      fits k default under j other below cell found =
+          let p = slice_index_or (shown_infos (infos_of table drawn.widths)) j other in
+          let row = slice_index_or (measured_rows table) k default in
+          let texts : All (λ (c : CellValue). All (HasCharactersWithin p.1.content_width) c.text_lines) row.cells =
+          rows_measured (λ (r : RowValue). All (λ (c : CellValue). All (HasCharactersWithin p.1.content_width) c.text_lines) r.cells) (each j other below) k default under in
+          let own = rows_measured (λ (r : RowValue). All (λ (c : CellValue). IsOneColumn c.delimiter) r.cells) frame.cell_delimiters k default under in
+          record {
+            characters = All-weaker (HasCharactersWithin p.1.content_width) (λ (text : Text). characters_fit p.1.content_width text ≡ true)
+                (text_fits p.1.content_width p.1.content_width (omega arith)) cell.text_lines (All-at (λ (c : CellValue). All (HasCharactersWithin p.1.content_width) c.text_lines) row.cells p.0 cell texts found);
+            delimiter = first_set cell.delimiter p.1.delimiter table.delimiter (All-at (λ (c : CellValue). IsOneColumn c.delimiter) row.cells p.0 cell own found) (delimiters drawn.widths drawn.arranged.one_for_each j other below) frame.delimiter;
+            indicator = inr frame.indicator;
+          }
+
+  -- characters of one column fit all columns
+  pub narrow : (lines : List Text) (drawn : IsTableDrawing table lines) → EachText (HasCharactersWithin 1) table → straight.IsStraightTable table drawn.widths
+  narrow lines drawn each =
+      fitting lines drawn
+      (infos-known table drawn.widths (λ (p : ℕ × ColumnValue). Unit {0}) (λ (p : ℕ × ColumnInfo). EachText (HasCharactersWithin p.1.content_width) table) drawn.arranged.one_for_each (λ k default below. tt)
+      (λ i column w known. wider 1 (max 1 w) (omega arith) each))
+    where
+      wider : (n w : ℕ) → n ≤ w → EachText (HasCharactersWithin n) table → EachText (HasCharactersWithin w) table
+      wider n w room texts =
+          All-weaker (λ (row : RowValue). All (λ (c : CellValue). All (HasCharactersWithin n) c.text_lines) row.cells) (λ (row : RowValue). All (λ (c : CellValue). All (HasCharactersWithin w) c.text_lines) row.cells)
+          (λ row. All-weaker (λ (c : CellValue). All (HasCharactersWithin n) c.text_lines) (λ (c : CellValue). All (HasCharactersWithin w) c.text_lines) (λ c. All-weaker (HasCharactersWithin n) (HasCharactersWithin w) (more n w room) c.text_lines) row.cells)
+          (header_and_rows table) texts
+
+  -- and so do those that fit the columns which are returned
+  pub as_returned : (arranged : ArrangedValue) → IsArrangedTable table arranged → (lines : List Text) (drawn : IsTableDrawing table lines) → CharactersFit table arranged.infos → straight.IsStraightTable table drawn.widths
+  as_returned arranged is lines drawn each =
+      let same : is.headline.widths ≡ drawn.widths = arranged_is_one table is.headline.widths drawn.widths is.headline.arranged drawn.arranged in
+      fitting lines drawn
+      (placed (λ (column : ColumnInfo). not column.is_hidden) (λ (column : ColumnInfo). EachText (HasCharactersWithin column.content_width) table) 0 (infos_of table drawn.widths)
+      (subst (CharactersFit table) (is.infos ∙ ap (infos_of table) same) each))
+
+  -- a table as wide as its texts
+  pub whole : (widths : List ℕ) → table.arrangement ≡ Disabled → IsShownWhole table → straight.IsStraightTable table widths
+  whole widths disabled is =
+      record {
+        characters = frame.style;
+        apart = apart;
+        fits = inr (inr (record {
+          no_width = ap (λ (a : ContentArrangement). width_kept a (table_width table)) disabled;
+          no_constraints = unconstrained table is.no_constraint;
+          uncut = rows_measured (λ (row : RowValue). row.max_height ≡ None) is.uncut;
+          short = rows_measured (λ (row : RowValue). All (λ (cell : CellValue). All (λ line. measure line ≤ 65535) cell.text_lines) row.cells) is.short;
+        }));
+      }
+
+-- the lines of a straight table are equally wide
+pub equally_wide : (table : TableValue) (plain : IsPlain table) (lines : List Text) (drawn : IsTableDrawing table lines) → straight.IsStraightTable table drawn.widths → AreEquallyWide lines
+equally_wide table plain lines drawn is =
+    (line_total table drawn.widths, subst (All (λ line. measure line ≡ line_total table drawn.widths)) (sym (drawn.unstyled_lines plain.no_styles plain.no_sequences)) (drawn.straight is))
+
+-- and with styles what they show is
+pub shown_equally_wide : (table : TableValue) (lines : List Text) (drawn : IsTableDrawing table lines) → HasNoControls table → straight.IsStraightTable table drawn.widths → AreShownEquallyWide lines
+shown_equally_wide table lines drawn free is =
+    let clear = free_of_controls table free in (
+      line_total table drawn.widths,
+      λ k line below.
+          (visible_text (slice_index_or lines k line), line_shows (slice_index_or lines k line) (drawn.without_controls clear k line below), drawn.straight_without_sequences (free_of_escapes table clear) is k line below),
+    )

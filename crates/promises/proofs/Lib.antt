@@ -1,0 +1,7 @@
+pub mod AddedLemmas
+pub mod FittingLemmas
+pub mod FrameLemmas
+pub mod KeptLemmas
+pub mod PlacedLemmas
+pub mod ShownLemmas
+mod Trials

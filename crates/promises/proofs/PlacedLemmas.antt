@@ -1,0 +1,63 @@
+-- Columns with their positions, and rows as they are measured.
+use Rattle.std.proofs.Common.{◌≡◌, ℕ, ◌+◌, Bool, true, false, cond, List, [], ◌∷◌, ap, ap₂, ◌∙◌, map, refl}
+use Rattle.std.specs.List.{All, enumerate_from, filter}
+use Rattle.std.proofs.lemmas.List.Elements.{All-cons, All-head, All-nil, All-tail}
+use Rattle.comfy_parts.proofs.CallerLemmas.{Shows-clear, visible_text-is}
+use Rattle.comfy_parts.specs.CellValue.{CellValue, RowValue}
+use Rattle.comfy_parts.specs.Text.{Text}
+use Rattle.comfy_parts.specs.VisibleText.{visible_text}
+use Rattle.comfy_table.proofs.MeasuredLemmas.{measured_rows-is, row_measured}
+use Rattle.comfy_table.specs.Laws.{HasNoEscape}
+use Rattle.comfy_table.specs.TableValue.{TableValue, header_and_rows, measured_rows, visible_cell}
+use Rattle.promises.specs.Tables.{EachText}
+
+-- what holds of each that passes a test holds of these beside their positions
+pub placed : {A : Type 0} (test : A → Bool) (P : A → Type 0) (n : ℕ) (xs : List A) → All P (filter test xs)
+    → All (λ (p : ℕ × A). P p.1) (filter (λ (p : ℕ × A). test p.1) (enumerate_from n xs))
+placed {A} test P n [] each = All-nil (λ (p : ℕ × A). P p.1)
+placed {A} test P n (x ∷ xs) each = by_test (test x) each (λ more. placed test P (n + 1) xs more)
+  where
+    later : List (ℕ × A)
+    later = filter (λ (p : ℕ × A). test p.1) (enumerate_from (n + 1) xs)
+
+    by_test : (b : Bool) → All P (cond b (x ∷ filter test xs) (filter test xs)) → (All P (filter test xs) → All (λ (p : ℕ × A). P p.1) later)
+        → All (λ (p : ℕ × A). P p.1) (cond b ((n, x) ∷ later) later)
+    by_test true each rest = All-cons (λ (p : ℕ × A). P p.1) (n, x) later (All-head P x (filter test xs) each) (rest (All-tail P x (filter test xs) each))
+    by_test false each rest = rest each
+
+-- ---- rows as they are measured
+
+-- a row that is looked at as it is stays
+rows_stay : (rows : List RowValue) → map (row_measured false) rows ≡ rows
+rows_stay [] = refl
+rows_stay (row ∷ rows) = ap (λ (more : List RowValue). row ∷ more) (rows_stay rows)
+
+-- without custom styling rows are measured as they are
+pub measured_plain : (table : TableValue) → table.custom_styling ≡ false → measured_rows table ≡ header_and_rows table
+measured_plain table plain = measured_rows-is table ∙ ap (λ (custom : Bool). map (row_measured custom) (header_and_rows table)) plain ∙ rows_stay (header_and_rows table)
+
+-- texts without ESC are visible as they are
+texts_stay : (texts : List Text) → All HasNoEscape texts → map visible_text texts ≡ texts
+texts_stay [] clear = refl
+texts_stay (text ∷ texts) clear =
+    ap₂ (λ (t : Text) (ts : List Text). t ∷ ts) (visible_text-is text text (Shows-clear text (All-head HasNoEscape text texts clear))) (texts_stay texts (All-tail HasNoEscape text texts clear))
+
+cells_stay : (cells : List CellValue) → All (λ (cell : CellValue). All HasNoEscape cell.text_lines) cells → map visible_cell cells ≡ cells
+cells_stay [] clear = refl
+cells_stay (cell ∷ cells) clear =
+    let own = All-head (λ (c : CellValue). All HasNoEscape c.text_lines) cell cells clear in
+    ap₂ (λ (c : CellValue) (cs : List CellValue). c ∷ cs) (ap (λ (texts : List Text). record cell { text_lines = texts }) (texts_stay cell.text_lines own)) (cells_stay cells (All-tail (λ (c : CellValue). All HasNoEscape c.text_lines) cell cells clear))
+
+visible_rows_stay : (rows : List RowValue) → All (λ (row : RowValue). All (λ (cell : CellValue). All HasNoEscape cell.text_lines) row.cells) rows → map (row_measured true) rows ≡ rows
+visible_rows_stay [] clear = refl
+visible_rows_stay (row ∷ rows) clear =
+    let P : RowValue → Type 0 = λ r. All (λ (c : CellValue). All HasNoEscape c.text_lines) r.cells in
+    ap₂ (λ (r : RowValue) (rs : List RowValue). r ∷ rs) (ap (λ (cells : List CellValue). record row { cells = cells }) (cells_stay row.cells (All-head P row rows clear))) (visible_rows_stay rows (All-tail P row rows clear))
+
+-- so rows of such texts are measured as they are, with custom styling too
+pub measured_clear : (table : TableValue) → EachText HasNoEscape table → measured_rows table ≡ header_and_rows table
+measured_clear table clear = measured_rows-is table ∙ by_custom table.custom_styling
+  where
+    by_custom : (custom : Bool) → map (row_measured custom) (header_and_rows table) ≡ header_and_rows table
+    by_custom true = visible_rows_stay (header_and_rows table) clear
+    by_custom false = rows_stay (header_and_rows table)

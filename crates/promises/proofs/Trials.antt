@@ -1,0 +1,218 @@
+-- Tables for which the premises of the promises hold, and texts that these promises refuse.
+use Rattle.std.proofs.Common.{◌≡◌, ◌==◌, ◌&&◌, ◌≤◌, ℕ, zero, suc, true, false, not, [], ◌∷◌, ◌++◌, ◌∙◌, Contains, Some, None, codes, refl, ap, subst, arith}
+use Rattle.std.specs.List.{All, slice_get}
+use Rattle.std.specs.Char.{is_control}
+use Rattle.std.specs.Prelude.{encode_utf8_all}
+use Rattle.std.specs.Str.{NoCharPasses, chars}
+use Prim.Native.String.{String}
+use lib.Utf8.{encode}
+use Rattle.std.proofs.lemmas.List.Elements.{All-from_recursion}
+use Rattle.std.proofs.lemmas.Str.{NoCharPasses-byte}
+use Rattle.comfy_parts.proofs.CallerLemmas.{frame_adds, frame_apart, one_column_characters}
+use Rattle.comfy_parts.proofs.Computing.{wrapping}
+use Rattle.comfy_parts.specs.CellValue.{ColumnInfo, info_of, new_column, CellValue, ColumnValue, RowValue, plain_cell, plain_row}
+use Rattle.comfy_parts.specs.Columns.{IsApart, IsOneColumn}
+use Rattle.comfy_parts.specs.Presets.{utf8_full}
+use Rattle.comfy_parts.specs.Text.{Text, measure}
+use Rattle.comfy_parts.specs.declared.style.column.ColumnConstraint.TheVariants.{Hidden}
+use Rattle.comfy_table.specs.HiddenColumns.{without_hidden}
+use Rattle.comfy_table.specs.TableValue.{cell_content_width, TableValue, ellipsis, header_and_rows, new_table, with_header, with_row, constrained}
+use Rattle.promises.specs.Added.{HasRoomFor}
+use Rattle.promises.specs.Kept.{AreSameBut, StandIn}
+use Rattle.promises.specs.Shown.{HasNoControls, IsHarmless, Shows}
+use Rattle.promises.specs.Shown.Shows.{nothing, byte, sequence}
+use Rattle.promises.specs.Tables.{CharactersFit, EachText, HasCharactersWithin, HasPlainFrame, IsFree, IsPlain, IsShownWhole, frame_room}
+
+-- ---- a table
+
+abbrev utf8 : String → Text
+utf8 s = encode_utf8_all (codes s)
+
+abbrev row_of : String → String → RowValue
+row_of first second = plain_row (plain_cell (utf8 first) ∷ plain_cell (utf8 second) ∷ [])
+
+-- a header and a row of two cells
+abbrev table_of : String → String → TableValue
+table_of first second = with_row (row_of first second) (with_header (row_of "day" "text") (new_table utf8_full))
+
+-- ---- premises that hold
+
+ellipsis_is_apart : IsApart ellipsis
+unfolding encode
+ellipsis_is_apart = frame_apart 0x2026 [] refl
+
+is_plain : (first second : String) → IsPlain (table_of first second)
+is_plain first second = record { no_styles = refl; no_sequences = refl }
+
+space : IsOneColumn None
+space = frame_adds 0x20 refl
+
+has_plain_frame : (first second : String) → HasPlainFrame (table_of first second)
+unfolding wrapping
+has_plain_frame first second =
+    record {
+      style = one_column_characters utf8_full refl;
+      delimiter = space;
+      column_delimiters = All-from_recursion (λ (column : ColumnValue). IsOneColumn column.delimiter) (table_of first second).columns (space, (space, tt));
+      cell_delimiters = All-from_recursion (λ (row : RowValue). All (λ (cell : CellValue). IsOneColumn cell.delimiter) row.cells) (header_and_rows (table_of first second)) (own "day" "text", (own first second, tt));
+      indicator = ellipsis_is_apart;
+      paddings = All-from_recursion (λ (column : ColumnValue). 1 ≤ column.padding.0) (table_of first second).columns (omega arith, (omega arith, tt));
+    }
+  where
+    own : (one other : String) → All (λ (cell : CellValue). IsOneColumn cell.delimiter) (row_of one other).cells
+    own one other = All-from_recursion (λ (cell : CellValue). IsOneColumn cell.delimiter) (row_of one other).cells (space, (space, tt))
+
+is_free : (first second : String) → IsFree (table_of first second)
+is_free first second = record { some_column = omega arith; no_constraint = All-from_recursion (λ (column : ColumnValue). column.constraint ≡ None) (table_of first second).columns (refl, (refl, tt)) }
+
+-- P holds of each of the four texts
+each_of : (P : Text → Type 0) (first second : String) → P (utf8 "day") → P (utf8 "text") → All P (plain_cell (utf8 first)).text_lines → All P (plain_cell (utf8 second)).text_lines → EachText P (table_of first second)
+unfolding encode
+each_of P first second day text one other =
+    All-from_recursion (λ (row : RowValue). All (λ (cell : CellValue). All P cell.text_lines) row.cells) (header_and_rows (table_of first second)) (
+      All-from_recursion (λ (cell : CellValue). All P cell.text_lines) (row_of "day" "text").cells (All-from_recursion P (utf8 "day" ∷ []) (day, tt), (All-from_recursion P (utf8 "text" ∷ []) (text, tt), tt)),
+      (All-from_recursion (λ (cell : CellValue). All P cell.text_lines) (row_of first second).cells (one, (other, tt)), tt),
+    )
+
+-- Latin with an accent, and Cyrillic
+characters_of_one : EachText (HasCharactersWithin 1) (table_of "3 mai é" "Отчёт")
+unfolding wrapping encode
+characters_of_one =
+    each_of (HasCharactersWithin 1) "3 mai é" "Отчёт" refl refl (All-from_recursion (HasCharactersWithin 1) (utf8 "3 mai é" ∷ []) (refl, tt)) (All-from_recursion (HasCharactersWithin 1) (utf8 "Отчёт" ∷ []) (refl, tt))
+
+-- the frame of two columns takes nine terminal columns
+frame_of_two : frame_room (table_of "3 mai é" "Отчёт") ≡ 9
+frame_of_two = refl
+
+-- Chinese: two terminal columns for a character
+characters_of_two : HasCharactersWithin 2 (utf8 "京都")
+unfolding wrapping encode
+characters_of_two = refl
+
+is_shown_whole : IsShownWhole (table_of "京都" "김철수")
+unfolding wrapping encode
+is_shown_whole =
+    record {
+      no_constraint = (is_free "京都" "김철수").no_constraint;
+      uncut = All-from_recursion (λ (row : RowValue). row.max_height ≡ None) (header_and_rows (table_of "京都" "김철수")) (refl, (refl, tt));
+      short = each_of (λ text. measure text ≤ 65535) "京都" "김철수" (omega arith) (omega arith) (All-from_recursion (λ text. measure text ≤ 65535) (utf8 "京都" ∷ []) (omega arith, tt)) (All-from_recursion (λ text. measure text ≤ 65535) (utf8 "김철수" ∷ []) (omega arith, tt));
+    }
+
+-- columns of four and six terminal columns have room for each of these characters
+characters_fit_columns : CharactersFit (table_of "京都" "김철수") (info_of (new_column 0) 4 ∷ info_of (new_column 1) 6 ∷ [])
+unfolding wrapping encode
+characters_fit_columns =
+    All-from_recursion (λ (column : ColumnInfo). EachText (HasCharactersWithin column.content_width) (table_of "京都" "김철수")) (info_of (new_column 0) 4 ∷ info_of (new_column 1) 6 ∷ []) (
+      each_of (HasCharactersWithin 4) "京都" "김철수" refl refl (All-from_recursion (HasCharactersWithin 4) (utf8 "京都" ∷ []) (refl, tt)) (All-from_recursion (HasCharactersWithin 4) (utf8 "김철수" ∷ []) (refl, tt)),
+      (each_of (HasCharactersWithin 6) "京都" "김철수" refl refl (All-from_recursion (HasCharactersWithin 6) (utf8 "京都" ∷ []) (refl, tt)) (All-from_recursion (HasCharactersWithin 6) (utf8 "김철수" ∷ []) (refl, tt)), tt),
+    )
+
+-- none of these is a control character
+no_controls : HasNoControls (table_of "é" "Отчёт")
+unfolding wrapping encode
+no_controls =
+    record {
+      texts = each_of (NoCharPasses is_control) "é" "Отчёт" (codes "day", refl, (refl, (refl, (refl, tt)))) (codes "text", refl, (refl, (refl, (refl, (refl, tt)))))
+          (All-from_recursion (NoCharPasses is_control) (utf8 "é" ∷ []) ((codes "é", refl, (refl, tt)), tt))
+          (All-from_recursion (NoCharPasses is_control) (utf8 "Отчёт" ∷ []) ((codes "Отчёт", refl, (refl, (refl, (refl, (refl, (refl, tt)))))), tt));
+      indicator = (0x2026 ∷ [], refl, (refl, tt));
+      style = refl;
+    }
+
+-- a hidden column, whatever stands in it
+abbrev hiding : String → TableValue
+hiding secret = let table : TableValue = table_of secret "oats" in record table { columns = constrained (Hidden ∷ []) table.columns }
+
+hidden_is_gone : without_hidden (hiding "secret") ≡ without_hidden (hiding "other")
+hidden_is_gone = refl
+
+-- a row that has room: each cell below one of the header's that is as wide
+has_room : HasRoomFor (table_of "3 mai é" "Отчёт") (row_of "day" "text")
+has_room = record { columns = omega arith; widths = λ i cell found. at i cell found }
+  where
+    header : Contains (header_and_rows (table_of "3 mai é" "Отчёт")) (row_of "day" "text")
+    header = (0, omega arith, refl)
+
+    at : (i : ℕ) (cell : CellValue) → slice_get (row_of "day" "text").cells i ≡ Some cell
+        → (above : RowValue) × (other : CellValue) × Contains (header_and_rows (table_of "3 mai é" "Отчёт")) above × (slice_get above.cells i ≡ Some other) × (cell_content_width cell ≤ cell_content_width other)
+    at zero cell found = (row_of "day" "text", cell, header, found, omega arith)
+    at (suc zero) cell found = (row_of "day" "text", cell, header, found, omega arith)
+    at (suc (suc i)) cell found = absurd (cc found)
+
+-- two texts in a line, from left to right
+texts_in_line : StandIn (codes "a" ∷ codes "b" ∷ []) (codes "| a | b |")
+texts_in_line = (codes "| ", codes " | b |", refl, (codes " | ", codes " |", refl, tt))
+
+-- ---- what is refused
+
+-- a character of two columns where one is allowed
+wide_is_refused : ¬ (HasCharactersWithin 1 (utf8 "京"))
+unfolding wrapping encode
+wide_is_refused is = cc is
+
+-- U+FE01
+widening_is_refused : ¬ (HasCharactersWithin 2 (encode_utf8_all (0xFE01 ∷ [])))
+unfolding wrapping encode
+widening_is_refused is = cc is
+
+-- a text in bold is harmless, and shows the text
+bold_shows : Shows (codes "\u{1b}[1ma\u{1b}[0m") (codes "a")
+bold_shows = sequence (codes "1") (codes "a\u{1b}[0m") (codes "a") refl (byte 0x61 (codes "\u{1b}[0m") [] refl (sequence (codes "0") [] [] refl nothing))
+
+-- ESC alone is no beginning of a harmless text
+lone_escape : {text shown : Text} → Shows text shown → ¬ (text ≡ 0x1B ∷ [])
+lone_escape nothing is = cc is
+lone_escape (byte b text shown clear rest) is = let same : b ≡ 0x1B = cc is in cc (clear, ap (λ c. c == 0x1B) same)
+lone_escape (sequence code text shown all rest) is = cc is
+
+-- nor is one that clears the screen: ESC, `[`, `2`, `J`
+clear_screen : {text shown : Text} → Shows text shown → ¬ (text ≡ 0x1B ∷ 0x5B ∷ 0x32 ∷ 0x4A ∷ [])
+clear_screen nothing is = cc is
+clear_screen (byte b text shown clear rest) is = let same : b ≡ 0x1B = cc is in cc (clear, ap (λ c. c == 0x1B) same)
+clear_screen (sequence code text shown all rest) is = no_end code (cc is)
+  where
+    no_end : (xs : Text) → ¬ (xs ++ (0x6D ∷ text) ≡ 0x32 ∷ 0x4A ∷ [])
+    no_end [] same = let end : ◌≡◌ {A = ℕ} 0x6D 0x32 = cc same in absurd (omega (arith, end))
+    no_end (x ∷ []) same = let end : ◌≡◌ {A = ℕ} 0x6D 0x4A = cc same in absurd (omega (arith, end))
+    no_end (x ∷ y ∷ []) same = cc same
+    no_end (x ∷ y ∷ z ∷ zs) same = cc same
+
+-- a bell shows itself, so it is no harmless text
+bell_shows : {text shown : Text} → Shows text shown → text ≡ 0x07 ∷ [] → shown ≡ 0x07 ∷ []
+bell_shows nothing is = is
+bell_shows (byte b text shown clear rest) is = let end : text ≡ [] = cc is in let own : shown ≡ [] = nothing_left rest end in cc (is, own)
+  where
+    nothing_left : {xs ys : Text} → Shows xs ys → xs ≡ [] → ys ≡ []
+    nothing_left nothing same = same
+    nothing_left (byte c text shown clear rest) same = absurd (cc same)
+    nothing_left (sequence code text shown all rest) same = absurd (cc same)
+bell_shows (sequence code text shown all rest) is = absurd (cc is)
+
+bell_is_harmful : ¬ (IsHarmless (0x07 ∷ []))
+bell_is_harmful (shown, shows, none) =
+    let own : NoCharPasses (λ c. is_control c && not (c == 0x0A)) (0x07 ∷ []) = subst (NoCharPasses (λ c. is_control c && not (c == 0x0A))) (bell_shows shows refl) none in
+    let is : true ≡ false = NoCharPasses-byte (λ c. is_control c && not (c == 0x0A)) (0x07 ∷ []) 0 own (omega arith) (omega arith) in
+    cc is
+
+-- a text that lost a character isn't the same, one that lost a space is
+lost_space : AreSameBut 0x20 (codes "ab") (codes "a b")
+unfolding chars
+lost_space = refl
+
+lost_letter : ¬ (AreSameBut 0x20 (codes "a") (codes "a b"))
+unfolding chars
+lost_letter is = let same : 0x61 ∷ [] ≡ 0x61 ∷ 0x62 ∷ [] = is in absurd (cc same)
+
+-- nothing stands in an empty line
+none_in_nothing : (before part behind : Text) (c : ℕ) → ¬ ([] ≡ before ++ ((c ∷ part) ++ behind))
+none_in_nothing [] part behind c is = cc is
+none_in_nothing (b ∷ before) part behind c is = cc is
+
+-- texts that stand the other way round aren't those of the line
+turned_round : ¬ (StandIn (codes "b" ∷ codes "a" ∷ []) (codes "ab"))
+turned_round (before, behind, is, (between, rest, are, end)) = by_before before is
+  where
+    by_before : (before : Text) → ¬ (codes "ab" ≡ before ++ (0x62 ∷ behind))
+    by_before [] same = let letter : ◌≡◌ {A = ℕ} 0x61 0x62 = cc same in absurd (omega (arith, letter))
+    by_before (x ∷ []) same = let gone : [] ≡ behind = cc same in none_in_nothing between [] rest 0x61 (gone ∙ are)
+    by_before (x ∷ y ∷ more) same = none_in_nothing more [] behind 0x62 (let end : [] ≡ more ++ (0x62 ∷ behind) = cc same in end)

@@ -1,0 +1,4 @@
+pub mod Added
+pub mod Kept
+pub mod Shown
+pub mod Tables

@@ -1,0 +1,30 @@
+-- What a terminal is told by a text.
+use Rattle.std.specs.Prelude.{◌≡◌, ◌==◌, ◌&&◌, ℕ, true, false, not, List, [], ◌∷◌, ◌++◌, Option, All, unwrap_or}
+use Rattle.std.specs.Char.{is_control}
+use Rattle.std.specs.List.{list_all, list_any}
+use Rattle.std.specs.Str.{NoCharPasses}
+use Rattle.comfy_parts.specs.Columns.{style_characters}
+use Rattle.comfy_parts.specs.Text.{Text, measure}
+use Rattle.comfy_parts.specs.VisibleText.{is_parameter}
+use Rattle.comfy_table.specs.TableValue.{TableValue}
+use Rattle.promises.specs.Tables.{EachText}
+
+-- a text, and what it shows: the text without its SGR sequences, which set colours and attributes. ESC stands nowhere but at the front of these
+pub data Shows : Text → Text → Type 0 where
+  nothing : Shows [] []
+  byte : (b : ℕ) (text shown : Text) → (b == 0x1B) ≡ false → Shows text shown → Shows (b ∷ text) (b ∷ shown)
+  sequence : (code text shown : Text) → list_all is_parameter code ≡ true → Shows text shown → Shows (0x1B ∷ 0x5B ∷ (code ++ 0x6D ∷ text)) shown
+
+-- all that a terminal is told are characters, line ends, colours and attributes
+abbrev pub IsHarmless : Text → Type 0
+IsHarmless text = (shown : Text) × Shows text shown × NoCharPasses (λ c. is_control c && not (c == 0x0A)) shown
+
+-- all lines show the same number of terminal columns
+abbrev pub AreShownEquallyWide : List Text → Type 0
+AreShownEquallyWide lines = (n : ℕ) × All (λ line. (shown : Text) × Shows line shown × (measure shown ≡ n)) lines
+
+-- no character of a text, of the indicator and of the style is a control character
+pub record HasNoControls (table : TableValue) : Type 0 where
+  pub texts : EachText (NoCharPasses is_control) table
+  pub indicator : NoCharPasses is_control table.indicator
+  pub style : list_any (λ (c : Option ℕ). is_control (unwrap_or c 0x20)) (style_characters table.style) ≡ false

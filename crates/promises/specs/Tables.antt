@@ -1,0 +1,65 @@
+-- Tables as callers make them, and how wide their lines are shown.
+use Rattle.std.specs.Prelude.{◌≡◌, ◌==◌, ◌&&◌, ℕ, ◌+◌, ◌<◌, ◌≤◌, true, false, not, None, List, All, chars, encode_utf8, filter, length, nat_le, sum_by}
+use Rattle.std.specs.List.{list_all}
+use Rattle.comfy_parts.specs.CellValue.{CellValue, ColumnInfo, ColumnValue, RowValue, is_hidden_column}
+use Rattle.comfy_parts.specs.Columns.{IsApart, IsOneColumn, IsOneColumnStyle}
+use Rattle.comfy_parts.specs.Text.{Text, measure}
+use Rattle.comfy_table.specs.TableValue.{TableValue, header_and_rows, should_style}
+
+-- ---- the parts of a table
+
+-- P holds of each cell, in the header too
+abbrev pub EachCell : (CellValue → Type 0) → TableValue → Type 0
+EachCell P table = All (λ (row : RowValue). All P row.cells) (header_and_rows table)
+
+-- P holds of each text line of each cell
+abbrev pub EachText : (Text → Type 0) → TableValue → Type 0
+EachText P table = EachCell (λ (cell : CellValue). All P cell.text_lines) table
+
+-- the columns that aren't hidden
+abbrev pub shown : TableValue → List ColumnValue
+shown table = filter (λ (column : ColumnValue). not (is_hidden_column column)) table.columns
+
+-- none of these has a constraint
+abbrev pub IsUnconstrained : TableValue → Type 0
+IsUnconstrained table = All (λ (column : ColumnValue). column.constraint ≡ None) (shown table)
+
+-- and there is one of these
+pub record IsFree (table : TableValue) : Type 0 where
+  pub some_column : 0 < length (shown table)
+  pub no_constraint : IsUnconstrained table
+
+-- neither colours nor attributes are written, and texts aren't searched for sequences
+pub record IsPlain (table : TableValue) : Type 0 where
+  pub no_styles : should_style table ≡ false
+  pub no_sequences : table.custom_styling ≡ false
+
+-- ---- terminal columns
+
+-- each character of the text takes at most n terminal columns, and none is U+FE01, which widens the one before it
+abbrev pub HasCharactersWithin : ℕ → Text → Type 0
+HasCharactersWithin n text = list_all (λ c. nat_le (measure (encode_utf8 c)) n && not (c == 0xFE01)) (chars text) ≡ true
+
+-- each character of the style adds one terminal column, wherever it stands; so does each at which texts break; no text joins the indicator; and a space stands before each text
+pub record HasPlainFrame (table : TableValue) : Type 0 where
+  pub style : IsOneColumnStyle table.style
+  pub delimiter : IsOneColumn table.delimiter
+  pub column_delimiters : All (λ (column : ColumnValue). IsOneColumn column.delimiter) table.columns
+  pub cell_delimiters : EachCell (λ (cell : CellValue). IsOneColumn cell.delimiter) table
+  pub indicator : IsApart table.indicator
+  pub paddings : All (λ (column : ColumnValue). 1 ≤ column.padding.0) (shown table)
+
+-- the table is drawn as wide as its texts: no constraint, no row that is cut, no text line of more than 65535 terminal columns
+pub record IsShownWhole (table : TableValue) : Type 0 where
+  pub no_constraint : IsUnconstrained table
+  pub uncut : All (λ (row : RowValue). row.max_height ≡ None) (header_and_rows table)
+  pub short : EachText (λ text. measure text ≤ 65535) table
+
+-- each character of each text fits each column that is drawn
+abbrev pub CharactersFit : TableValue → List ColumnInfo → Type 0
+CharactersFit table columns =
+    All (λ (column : ColumnInfo). EachText (HasCharactersWithin column.content_width) table) (filter (λ (column : ColumnInfo). not column.is_hidden) columns)
+
+-- what the frame takes where each shown column has its paddings, one terminal column for its texts, and a border at each side
+abbrev pub frame_room : TableValue → ℕ
+frame_room table = 1 + sum_by (λ (column : ColumnValue). column.padding.0 + 1 + column.padding.1 + 1) (shown table)
