@@ -10,3 +10,4 @@ pub mod Steps
 pub mod Sums
 pub mod TailLemmas
 pub mod TextPairs
+pub mod WideFrontLemmas

@@ -47,3 +47,11 @@ abbrev pub FrontsOfClustersAreBounded : Text → Type 0
 FrontsOfClustersAreBounded text =
     IsUtf8 text
     → All (λ (cluster : Text). (front rest : Text) → IsUtf8 front → cluster ≡ front ++ rest → measure front ≤ measure cluster + 2) (clusters text)
+
+-- and the front of some cluster does
+pub record SomeFrontTakesTwoMore : Type 0 where
+  pub front : Text
+  pub rest : Text
+  pub whole_characters : IsUtf8 front
+  pub one_cluster : clusters (front ++ rest) ≡ (front ++ rest) ∷ []
+  pub two_more : measure front ≡ measure (front ++ rest) + 2

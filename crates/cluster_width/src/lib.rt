@@ -2,7 +2,7 @@
 #![tactic(auto)]
 
 ghost use Rattle.std.specs.Prelude.{ℕ};
-ghost use Rattle.cluster_width.specs.ClusterSums.{ClustersBoundTheMeasure, FrontsBoundTheMeasure, FrontsOfClustersAreBounded, Text};
+ghost use Rattle.cluster_width.specs.ClusterSums.{ClustersBoundTheMeasure, FrontsBoundTheMeasure, FrontsOfClustersAreBounded, SomeFrontTakesTwoMore, Text};
 
 /// A text measures at most what its grapheme clusters measure together, unless U+FE01 stands directly beside U+FE0E or
 /// U+FE0F in it. So does each front of whole clusters.
@@ -11,7 +11,9 @@ pub fn clusters_bound_the_measure()
     ensures fronts { (text : Text) (n : ℕ) → FrontsBoundTheMeasure text n }
 {}
 
-/// No front of a grapheme cluster, of whole characters, measures more than two columns more than the cluster.
+/// No front of a grapheme cluster, of whole characters, measures more than two columns more than the cluster. That of a
+/// watch, a joiner and a wavy dash before U+FE0F does.
 pub fn fronts_of_clusters_are_bounded()
-    ensures { (text : Text) → FrontsOfClustersAreBounded text }
+    ensures most { (text : Text) → FrontsOfClustersAreBounded text }
+    ensures least { SomeFrontTakesTwoMore }
 {}

@@ -9,6 +9,7 @@ use std::alloc::Global;
 use std::marker::Model;
 
 /// The names, the rows and the columns that are drawn of some records, with these records.
+#[derive(Drop)]
 pub struct Content {
     pub(crate) alloc: Global,
     records: Records,
@@ -16,18 +17,6 @@ pub struct Content {
     // how many rows are drawn
     limit: Option<usize>,
     pub(crate) columns: Vec<DrawnColumn>,
-}
-
-impl Drop for Content {
-    fn drop(self) {
-        let Content {
-            alloc: _,
-            records: _,
-            has_header: _,
-            limit: _,
-            columns: _,
-        } = self;
-    }
 }
 
 impl Model for Content {

@@ -1,5 +1,5 @@
 -- Terminal columns that texts of every script take: which characters add one wherever they stand, and which words and text lines fit.
-use Rattle.std.specs.Prelude.{◌≡◌, ◌⊎◌, ℕ, ◌+◌, ◌≤◌, Bool, true, not, ◌&&◌, ◌||◌, ◌==◌, nat_le, chars, List, [], ◌∷◌, ◌++◌, Option, unwrap_or, encode_utf8, All, IsUtf8, map}
+use Rattle.std.specs.Prelude.{◌≡◌, ◌≢◌, ◌⊎◌, ℕ, ◌+◌, ◌≤◌, Bool, true, not, ◌&&◌, ◌||◌, ◌==◌, nat_le, chars, List, [], ◌∷◌, ◌++◌, Option, unwrap_or, encode_utf8, All, IsUtf8, map}
 use Rattle.std.specs.Char.{IsScalar}
 use Rattle.std.specs.Int.{is_in_range}
 use Rattle.std.specs.List.{list_all}
@@ -29,6 +29,14 @@ is_frame_character c =
 -- each of these does
 abbrev pub FrameCharactersAddOneColumn : ℕ → Type 0
 FrameCharactersAddOneColumn c = is_frame_character c ≡ true → AddsOneColumn c
+
+-- by itself a character takes at most two columns, unless it is U+17D8
+abbrev pub TakesTwoAtMost : ℕ → Type 0
+TakesTwoAtMost c = IsScalar c → c ≢ 0x17D8 → measure (encode_utf8 c) ≤ 2
+
+-- which takes three
+abbrev pub OneCharacterTakesThree : Type 0
+OneCharacterTakesThree = measure (encode_utf8 0x17D8) ≡ 3
 
 -- ---- styles
 

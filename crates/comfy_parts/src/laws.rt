@@ -7,7 +7,7 @@ ghost use Rattle.std.specs.Prelude.{◌≡◌, All, true, ℕ, List, []};
 ghost use Rattle.std.specs.Char.{IsScalar};
 ghost use Rattle.std.specs.Cmp.{IsTotalOrder};
 ghost use Rattle.comfy_parts.specs.CellEquality.{cell_eq, cell_hash};
-ghost use Rattle.comfy_parts.specs.Columns.{AddingUpFits, FittingCharactersFit, FrameCharactersAddOneColumn, FrameTextsAreApart, HeadFits, IsOneColumnPreset, PartsAddUp, SpaceAddsOneColumn, TextLinesFit, presets_all};
+ghost use Rattle.comfy_parts.specs.Columns.{AddingUpFits, FittingCharactersFit, FrameCharactersAddOneColumn, FrameTextsAreApart, HeadFits, IsOneColumnPreset, OneCharacterTakesThree, PartsAddUp, SpaceAddsOneColumn, TakesTwoAtMost, TextLinesFit, presets_all};
 ghost use Rattle.comfy_parts.specs.Comparisons.{ascends, attribute_cmp, attribute_eq, attribute_hash, attributes_in_order, color_cmp, color_eq, color_hash, colors_in_order, EqHashesAlike, EqIsSame, EqualIsSame};
 ghost use Rattle.comfy_parts.specs.Laws.{ActiveIsResumed, ClosedTextsLeaveNone, CutLinesAreFull, HeadIsLongest, IsCutOutsideNarrow, LinesAreFew, LinesAreFewest, LinesAreResumed, LinesAreVisible, LinesFit, LinesKeepTheText, NeighboursFillALine, NoneIsLeftOpen, OtherBytesAreVisible, PrintableClustersAreCharacters, PrintableAddsOneColumnEach, PrintableMeasuresItsLength, SequencesAreTakenOut, SequencesLeaveTheLines, WrappedIsOne, WrappedIsWrapped};
 ghost use Rattle.comfy_parts.specs.Text.{Text};
@@ -61,6 +61,13 @@ pub fn spaces_and_borders_add_one_column()
     ensures space { (front back : Text) → SpaceAddsOneColumn front back }
     ensures border { (c : ℕ) → FrameCharactersAddOneColumn c }
     ensures apart { (c : ℕ) (rest : Text) → FrameTextsAreApart c rest }
+{}
+
+/// By itself U+17D8 takes three terminal columns, and every other character at most two. So `characters_fit(text, 2)` asks
+/// for no more than that U+17D8 stands nowhere and U+FE01 nowhere directly beside U+FE0E or U+FE0F.
+pub fn one_character_takes_three_columns()
+    ensures three { OneCharacterTakesThree }
+    ensures others { (c : ℕ) → TakesTwoAtMost c }
 {}
 
 /// The characters of all presets add one terminal column, with either modifier of a style and with both.

@@ -7,7 +7,7 @@ use Rattle.std.proofs.lemmas.List.Splits.{slice_split_at, slice_split_none}
 use Rattle.comfy_parts.proofs.CallerLemmas.{All-none, HasNo-append, HasNo-visible, breaks_are_visible, every-second, visible-closed, sequence_clear}
 use Rattle.comfy_parts.specs.Text.{Text}
 use Rattle.comfy_parts.specs.VisibleText.{closed}
-use Rattle.comfy_table.proofs.KeptDrawingLemmas.{keeps_drawing}
+use Rattle.comfy_table.proofs.KeptDrawingLemmas.{drawn_of_all, keeps_drawing}
 use Rattle.comfy_table.proofs.MeasuredLemmas.{IsRowOf}
 use Rattle.comfy_table.proofs.StyledLemmas.{KeptByDrawing}
 use Rattle.comfy_table.proofs.TextKindLemmas.{byte_kind, byte_style}
@@ -29,7 +29,7 @@ breaks_kept =
 pub without_breaks : (table : TableValue) (widths : List ℕ) → All (IsRowOf IsUtf8) (measured_rows table) → All (IsRowOf HasNoBreak) (measured_rows table) → HasUnbrokenStyle table → All HasNoBreak (drawing table widths)
 without_breaks table widths whole clear style =
     All-from_recursion HasNoBreak (drawing table widths)
-    (every-second HasNoBreak (drawing (unstyled table) widths) (drawing table widths) (keeps_drawing HasNoBreak (λ shown text. HasNoBreak text) breaks_kept table (infos_of table widths) style.indicator (byte_style 0x0A table.style (omega arith) style.characters) whole clear))
+    (every-second HasNoBreak (drawing (unstyled table) widths) (drawing table widths) (keeps_drawing HasNoBreak (λ shown text. HasNoBreak text) breaks_kept table (infos_of table widths) style.indicator (byte_style 0x0A table.style (omega arith) style.characters) whole (drawn_of_all HasNoBreak (infos_of table widths) (measured_rows table) clear)))
 
 -- ---- texts of lines
 

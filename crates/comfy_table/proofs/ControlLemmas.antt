@@ -1,5 +1,5 @@
 -- What is visible of a drawing holds no control character, where its texts, its style and its indicator hold none.
-use Rattle.std.proofs.Common.{◌≡◌, ℕ, false, ◌==◌, List, Option, refl, unwrap_or, arith}
+use Rattle.std.proofs.Common.{◌≡◌, ℕ, false, ◌==◌, List, Option, length, refl, unwrap_or, arith}
 use Rattle.std.specs.Char.{is_control}
 use Rattle.std.specs.List.{All}
 use Rattle.std.specs.Str.{IsUtf8}
@@ -7,11 +7,11 @@ use Rattle.std.proofs.lemmas.List.Elements.{All-from_recursion, All-weaker}
 use Rattle.std.proofs.lemmas.List.Folds.{list_any_none}
 use Rattle.std.proofs.lemmas.Str.{NoCharPasses-append, NoCharPasses-nil}
 use Rattle.comfy_parts.proofs.CallerLemmas.{All-none, every-first, none_by_characters, unlike}
-use Rattle.comfy_parts.specs.CellValue.{CellValue}
 use Rattle.comfy_parts.specs.Columns.{style_characters}
 use Rattle.comfy_parts.specs.Text.{Text}
 use Rattle.comfy_table.proofs.KeptDrawingLemmas.{keeps_drawing}
 use Rattle.comfy_table.proofs.MeasuredLemmas.{IsRowOf}
+use Rattle.comfy_table.proofs.ShownTextLemmas.{drawn_of_shown, shown_weaker}
 use Rattle.comfy_table.proofs.StyledLemmas.{KeptByDrawing}
 use Rattle.comfy_table.proofs.TextKindLemmas.{character_kind, character_style}
 use Rattle.comfy_table.specs.Drawing.{drawing, infos_of}
@@ -25,9 +25,7 @@ no_escape = none_by_characters is_control 0x1B (omega arith) refl
 pub free_of_escapes : (table : TableValue) → IsFreeOfControls table → IsFreeOfEscapes table
 free_of_escapes table free =
     record {
-      text_lines = All-weaker (IsRowOf HasNoControl) (IsRowOf HasNoEscape)
-          (λ row. All-weaker (λ (cell : CellValue). All HasNoControl cell.text_lines) (λ (cell : CellValue). All HasNoEscape cell.text_lines) (λ cell. All-weaker HasNoControl HasNoEscape no_escape cell.text_lines) row.cells)
-          (measured_rows table) free.text_lines;
+      text_lines = shown_weaker HasNoControl HasNoEscape table no_escape free.text_lines;
       style = record {
         indicator = no_escape table.indicator free.indicator;
         characters = list_any_none (λ (c : Option ℕ). unwrap_or c 0x20 == 0x1B) (style_characters table.style)
@@ -47,8 +45,8 @@ controls_kept =
     }
 
 -- so no line without styling has one
-pub without_controls : (table : TableValue) (widths : List ℕ) → All (IsRowOf IsUtf8) (measured_rows table) → IsFreeOfControls table → All HasNoControl (drawing (unstyled table) widths)
-without_controls table widths whole free =
+pub without_controls : (table : TableValue) (widths : List ℕ) → length widths ≡ length table.columns → All (IsRowOf IsUtf8) (measured_rows table) → IsFreeOfControls table → All HasNoControl (drawing (unstyled table) widths)
+without_controls table widths long whole free =
     All-from_recursion HasNoControl (drawing (unstyled table) widths)
     (every-first HasNoControl (drawing (unstyled table) widths) (drawing table widths)
-    (keeps_drawing HasNoControl (λ shown text. HasNoControl shown) controls_kept table (infos_of table widths) free.indicator (character_style is_control table.style free.characters) whole free.text_lines))
+    (keeps_drawing HasNoControl (λ shown text. HasNoControl shown) controls_kept table (infos_of table widths) free.indicator (character_style is_control table.style free.characters) whole (drawn_of_shown HasNoControl table widths long free.text_lines)))

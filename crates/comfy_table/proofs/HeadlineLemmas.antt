@@ -87,12 +87,13 @@ table_drawing table infos lines utf8 kept (widths, arranged, is) drawn =
     (λ row each. All-weaker (λ (p : ℕ × ColumnInfo). IsDelimiter p.1.delimiter) (λ (p : ℕ × ColumnInfo). (cell : CellValue) → slice_get row.cells p.0 ≡ Some cell → IsWholeCell table row p.1 cell)
     (whole_cell table row kept.delimiter each) (shown_infos (infos_of table widths)) delimiters)
     (measured_rows table) rows in
-    let free_lines = λ (free : IsFreeOfEscapes table). ap (map visible_text) whole ∙ styling_taken_out table widths texts free in
+    let free_lines = λ (free : IsFreeOfEscapes table). ap (map visible_text) whole ∙ styling_taken_out table widths arranged.one_for_each texts free in
     record {
       widths = widths;
       arranged = arranged;
       drawn = whole;
       whole_texts = texts;
+      scalar_delimiters = λ k default under j other below cell found. (cells k default under j other below cell found).1;
       slices = λ k default under j other below. row_slices table (slice_index_or (measured_rows table) k default) (slice_index_or (shown_infos (infos_of table widths)) j other) (cells k default under j other below);
       unstyled_lines = λ off plain. whole ∙ sym (unstyled_drawing table (infos_of table widths) off plain);
       equal_counts = λ plain. equal_counts table widths utf8 plain arranged;
@@ -101,7 +102,7 @@ table_drawing table infos lines utf8 kept (widths, arranged, is) drawn =
       straight_without_sequences = λ free is. All-of_map (λ text. measure text ≡ line_total table widths) visible_text lines
           (subst (All (λ text. measure text ≡ line_total table widths)) (sym (free_lines free)) (straight table widths utf8 cells arranged is));
       without_breaks = λ style. subst (All HasNoBreak) (sym whole) (without_breaks table widths texts (rows_of HasNoBreak (λ texts own. own.no_breaks) (measured_rows table) rows) style);
-      without_controls = λ free. All-of_map HasNoControl visible_text lines (subst (All HasNoControl) (sym (free_lines (free_of_escapes table free))) (without_controls table widths texts free));
+      without_controls = λ free. All-of_map HasNoControl visible_text lines (subst (All HasNoControl) (sym (free_lines (free_of_escapes table free))) (without_controls table widths arranged.one_for_each texts free));
       closed = λ on. All-every (λ (row : RowValue). All (IsClosedInRow table row) (shown_infos (infos_of table widths))) (header_and_rows table)
           (λ row. All-every (IsClosedInRow table row) (shown_infos (infos_of table widths)) (λ p cell is. none_is_open_at_the_end table row p.1 cell on));
       resumed = λ on. All-every (λ (row : RowValue). All (IsResumedInRow table row) (shown_infos (infos_of table widths))) (header_and_rows table)

@@ -1,11 +1,11 @@
 -- What stays true of texts as they are drawn stays true of the lines: of frame lines, rows and the whole drawing.
 use Rattle.std.proofs.lemmas.Bool.{cond_both}
-use Rattle.std.proofs.Common.{◌≡◌, ◌<◌, ℕ, zero, suc, Bool, true, false, List, [], ◌∷◌, ◌++◌, Option, Some, None, length, map, sym, ap, ◌∙◌, subst, arith, slice_index_or}
+use Rattle.std.proofs.Common.{◌≡◌, ◌<◌, ℕ, zero, suc, Bool, true, false, List, [], ◌∷◌, ◌++◌, Option, Some, None, length, map, refl, sym, ap, ap₂, ◌∙◌, subst, arith, slice_index_or}
 use Rattle.std.specs.List.{All, AllZip, flat_map, join_by, repeat, range_with_len, slice_get}
 use Rattle.std.specs.Prelude.{if◌then◌else◌, option_map, option_to_list}
 use Rattle.std.specs.Str.{IsUtf8}
 use Rattle.std.proofs.lemmas.Slice.Zip.{AllZip-long}
-use Rattle.std.proofs.lemmas.List.Elements.{All-head, All-weaker}
+use Rattle.std.proofs.lemmas.List.Elements.{All-head, All-tail, All-weaker}
 use Rattle.comfy_parts.specs.CellValue.{CellValue, RowValue, ColumnInfo, info_width}
 use Rattle.comfy_parts.specs.Columns.{style_characters}
 use Rattle.comfy_parts.specs.Text.{Text, greatest}
@@ -65,9 +65,13 @@ style_clear C style each =
     at : (k : ℕ) → k < 22 → C (character (slice_index_or (style_characters style) k None))
     at k below = each k None below
 
--- the cells of a row are text of the kind
-record IsClearRow (C : Text → Type 0) (row : RowValue) : Type 0 where
-  clear : IsRowOf C row
+-- the cell that a row has in a column is text of the kind, if it has one
+abbrev pub IsClearAt : (Text → Type 0) → RowValue → ℕ × ColumnInfo → Type 0
+IsClearAt C row p = (cell : CellValue) → slice_get row.cells p.0 ≡ Some cell → All C cell.text_lines
+
+-- so are the cells of a row that are drawn, and all of them are whole characters
+record IsClearRow (C : Text → Type 0) (infos : List ColumnInfo) (row : RowValue) : Type 0 where
+  clear : All (IsClearAt C row) (shown_infos infos)
   whole : IsRowOf IsUtf8 row
 
 module _ (C : Text → Type 0) (R : Text → Text → Type 0) (joins : KeptByJoining C R) where
@@ -137,9 +141,9 @@ module _ (C : Text → Type 0) (R : Text → Text → Type 0) (kept : KeptByDraw
           pieces-unstyled table row info (cell_measured table.custom_styling cell) ∙ ap (map (unstyled_piece cell info)) (sym (row-measured table row info cell)) ∙ map-map (unstyled_piece cell info) (λ (line : CellLine). line.measured) lines
 
   -- the pieces in a column
-  pieces_kept : (table : TableValue) (row : RowValue) (p : ℕ × ColumnInfo) → C table.indicator → IsClearRow C (row_measured table.custom_styling row)
+  pieces_kept : (table : TableValue) (row : RowValue) (p : ℕ × ColumnInfo) → C table.indicator → IsRowOf IsUtf8 (row_measured table.custom_styling row) → IsClearAt C (row_measured table.custom_styling row) p
       → AllZip R (pieces_at (unstyled table) (row_measured table.custom_styling row) p) (pieces_at table row p)
-  pieces_kept table row p mark cells =
+  pieces_kept table row p mark whole clear =
       subst (λ (o : Option CellValue). AllZip R (pieces_of_optional (unstyled table) (row_measured table.custom_styling row) p.1 o) (pieces_at table row p)) (sym (get_measured table.custom_styling row.cells p.0))
       (by_option (slice_get row.cells p.0) (get_measured table.custom_styling row.cells p.0))
     where
@@ -148,8 +152,8 @@ module _ (C : Text → Type 0) (R : Text → Text → Type 0) (kept : KeptByDraw
       by_option None none = (keeps_spaces C R kept.joins (info_width p.1), tt)
       by_option (Some cell) found =
           cell_pieces_kept table row p.1 cell mark
-          (All-at (λ (cell : CellValue). All IsUtf8 cell.text_lines) (row_measured table.custom_styling row).cells p.0 (cell_measured table.custom_styling cell) cells.whole found)
-          (All-at (λ (cell : CellValue). All C cell.text_lines) (row_measured table.custom_styling row).cells p.0 (cell_measured table.custom_styling cell) cells.clear found)
+          (All-at (λ (cell : CellValue). All IsUtf8 cell.text_lines) (row_measured table.custom_styling row).cells p.0 (cell_measured table.custom_styling cell) whole found)
+          (clear (cell_measured table.custom_styling cell) found)
 
   module _ (table : TableValue) (infos : List ColumnInfo) (mark : C table.indicator) where
     -- a row as it is measured
@@ -157,14 +161,19 @@ module _ (C : Text → Type 0) (R : Text → Text → Type 0) (kept : KeptByDraw
     measured row = row_measured table.custom_styling row
 
     -- styling changes no height
-    row_height-unstyled : (row : RowValue) → IsClearRow C (measured row) → row_height (unstyled table) infos (measured row) ≡ row_height table infos row
-    row_height-unstyled row cells = λ i. greatest (map (λ (p : ℕ × ColumnInfo). at p i) (shown_infos infos))
+    row_height-unstyled : (row : RowValue) → IsClearRow C infos (measured row) → row_height (unstyled table) infos (measured row) ≡ row_height table infos row
+    row_height-unstyled row cells = ap greatest (heights (shown_infos infos) cells.clear)
       where
-        at : (p : ℕ × ColumnInfo) → length (pieces_at (unstyled table) (measured row) p) ≡ length (pieces_at table row p)
-        at p = sym (AllZip-long R (pieces_at (unstyled table) (measured row) p) (pieces_at table row p) (pieces_kept table row p mark cells))
+        heights : (ps : List (ℕ × ColumnInfo)) → All (IsClearAt C (measured row)) ps
+            → map (λ (p : ℕ × ColumnInfo). length (pieces_at (unstyled table) (measured row) p)) ps ≡ map (λ (p : ℕ × ColumnInfo). length (pieces_at table row p)) ps
+        heights [] each = refl
+        heights (p ∷ ps) each =
+            ap₂ (λ n ns. n ∷ ns)
+            (sym (AllZip-long R (pieces_at (unstyled table) (measured row) p) (pieces_at table row p) (pieces_kept table row p mark cells.whole (All-head (IsClearAt C (measured row)) p ps each))))
+            (heights ps (All-tail (IsClearAt C (measured row)) p ps each))
 
     -- the lines of a row, and the unstyled ones
-    row_kept : (line : ContentLineStyle) (row : RowValue) → IsClearContent C line → IsClearRow C (measured row) → AllZip R (drawn_row (unstyled table) infos line (measured row)) (drawn_row table infos line row)
+    row_kept : (line : ContentLineStyle) (row : RowValue) → IsClearContent C line → IsClearRow C infos (measured row) → AllZip R (drawn_row (unstyled table) infos line (measured row)) (drawn_row table infos line row)
     row_kept line row clear cells =
         subst (λ h. AllZip R (map (content_line table.style line) (map (row_line (unstyled table) infos (measured row)) (range_with_len 0 h))) (drawn_row table infos line row)) (sym (row_height-unstyled row cells))
         (AllZip-map_map R (content_line table.style line) (row_line (unstyled table) infos (measured row)) (row_line table infos row) (range_with_len 0 (row_height table infos row)) at)
@@ -173,13 +182,14 @@ module _ (C : Text → Type 0) (R : Text → Text → Type 0) (kept : KeptByDraw
         at k =
             keeps_joined C R kept.joins table.style line.left line.junction line.right (row_line (unstyled table) infos (measured row) k) (row_line table infos row k) clear.left clear.junction clear.right
             (AllZip-map R (λ (p : ℕ × ColumnInfo). slice_index_or (pieces_at (unstyled table) (measured row) p) k (blank_piece p.1)) (λ (p : ℕ × ColumnInfo). slice_index_or (pieces_at table row p) k (blank_piece p.1)) (shown_infos infos)
-            (All-every (λ (p : ℕ × ColumnInfo). R (slice_index_or (pieces_at (unstyled table) (measured row) p) k (blank_piece p.1)) (slice_index_or (pieces_at table row p) k (blank_piece p.1))) (shown_infos infos)
-            (λ p. At-or-both R (pieces_at (unstyled table) (measured row) p) (pieces_at table row p) k (blank_piece p.1) (blank_piece p.1) (pieces_kept table row p mark cells) (keeps_spaces C R kept.joins (info_width p.1)))))
+            (All-weaker (IsClearAt C (measured row)) (λ (p : ℕ × ColumnInfo). R (slice_index_or (pieces_at (unstyled table) (measured row) p) k (blank_piece p.1)) (slice_index_or (pieces_at table row p) k (blank_piece p.1)))
+            (λ p own. At-or-both R (pieces_at (unstyled table) (measured row) p) (pieces_at table row p) k (blank_piece p.1) (blank_piece p.1) (pieces_kept table row p mark cells.whole own) (keeps_spaces C R kept.joins (info_width p.1)))
+            (shown_infos infos) cells.clear))
 
     -- ---- the drawing
 
     -- all lines, and the unstyled ones
-    drawing_kept : IsClearStyle C table.style → All (λ (row : RowValue). IsClearRow C (measured row)) (header_and_rows table) → AllZip R (drawing_of_infos (unstyled table) infos) (drawing_of_infos table infos)
+    drawing_kept : IsClearStyle C table.style → All (λ (row : RowValue). IsClearRow C infos (measured row)) (header_and_rows table) → AllZip R (drawing_of_infos (unstyled table) infos) (drawing_of_infos table infos)
     drawing_kept style each =
         AllZip-append R (optional_frame_line table.style table.style.top_border (whole_widths infos)) _ (optional_frame_line table.style table.style.top_border (whole_widths infos)) _
         (frame_kept C R kept.joins table.style table.style.top_border (whole_widths infos) style.top_border)
@@ -190,7 +200,7 @@ module _ (C : Text → Type 0) (R : Text → Text → Type 0) (kept : KeptByDraw
         (frame_kept C R kept.joins table.style table.style.bottom_border (whole_widths infos) style.bottom_border)))
       where
         IsClearMeasured : RowValue → Type 0
-        IsClearMeasured row = IsClearRow C (measured row)
+        IsClearMeasured row = IsClearRow C infos (measured row)
 
         header_kept : (header : Option RowValue) → All IsClearMeasured (option_to_list header ++ table.rows) → AllZip R (drawn_header (unstyled table) infos (option_map measured header)) (drawn_header table infos header)
         header_kept None each = tt
@@ -210,12 +220,19 @@ module _ (C : Text → Type 0) (R : Text → Text → Type 0) (kept : KeptByDraw
             (λ row cells. row_kept table.style.content_lines row style.content_lines cells) table.rows each))
 
 -- the rows of a table as it is measured, row by row
-rows_clear : (C : Text → Type 0) (table : TableValue) → All (IsClearRow C) (measured_rows table) → All (λ (row : RowValue). IsClearRow C (row_measured table.custom_styling row)) (header_and_rows table)
-rows_clear C table each = All-of_map (IsClearRow C) (row_measured table.custom_styling) (header_and_rows table) (subst (All (IsClearRow C)) (measured_rows-is table) each)
+rows_clear : (C : Text → Type 0) (infos : List ColumnInfo) (table : TableValue) → All (IsClearRow C infos) (measured_rows table)
+    → All (λ (row : RowValue). IsClearRow C infos (row_measured table.custom_styling row)) (header_and_rows table)
+rows_clear C infos table each = All-of_map (IsClearRow C infos) (row_measured table.custom_styling) (header_and_rows table) (subst (All (IsClearRow C infos)) (measured_rows-is table) each)
+
+-- the drawn cells are of the kind where all are
+pub drawn_of_all : (C : Text → Type 0) (infos : List ColumnInfo) (rows : List RowValue) → All (IsRowOf C) rows → All (λ (row : RowValue). All (IsClearAt C row) (shown_infos infos)) rows
+drawn_of_all C infos rows each =
+    All-weaker (IsRowOf C) (λ (row : RowValue). All (IsClearAt C row) (shown_infos infos))
+    (λ row cells. All-every (IsClearAt C row) (shown_infos infos) (λ p cell found. All-at (λ (c : CellValue). All C c.text_lines) row.cells p.0 cell cells found)) rows each
 
 -- it stays true of all lines, beside the unstyled ones
-pub keeps_drawing : (C : Text → Type 0) (R : Text → Text → Type 0) → KeptByDrawing C R → (table : TableValue) (infos : List ColumnInfo) → C table.indicator → IsStyleOf C table.style → All (IsRowOf IsUtf8) (measured_rows table) → All (IsRowOf C) (measured_rows table)
-    → AllZip R (drawing_of_infos (unstyled table) infos) (drawing_of_infos table infos)
+pub keeps_drawing : (C : Text → Type 0) (R : Text → Text → Type 0) → KeptByDrawing C R → (table : TableValue) (infos : List ColumnInfo) → C table.indicator → IsStyleOf C table.style → All (IsRowOf IsUtf8) (measured_rows table)
+    → All (λ (row : RowValue). All (IsClearAt C row) (shown_infos infos)) (measured_rows table) → AllZip R (drawing_of_infos (unstyled table) infos) (drawing_of_infos table infos)
 keeps_drawing C R kept table infos mark style whole clear =
     drawing_kept C R kept table infos mark (style_clear C table.style style)
-    (rows_clear C table (λ k default below. record { clear = clear k default below; whole = whole k default below }))
+    (rows_clear C infos table (λ k default below. record { clear = clear k default below; whole = whole k default below }))

@@ -32,7 +32,7 @@ pub space-at : (run : Text) (n i d : ℕ) → run ≡ spaces n → i < length ru
 space-at run n i d is below = grind (arith, length-replicate, get_or-replicate)
 
 -- the spaces before a line are among its free places
-free_before-le : (alignment : CellAlignment) (free : ℕ) → free_before alignment free ≤ free
+pub free_before-le : (alignment : CellAlignment) (free : ℕ) → free_before alignment free ≤ free
 free_before-le Left free = omega arith
 free_before-le Right free = omega arith
 free_before-le Center free = omega arith

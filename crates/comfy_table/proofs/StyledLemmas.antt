@@ -110,7 +110,7 @@ module _ (C : Text → Type 0) (R : Text → Text → Type 0) (kept : KeptByDraw
       (λ _. kept.joins.of_both [] [] (sequence (attribute_code a)) _ (kept.of_sequence (attribute_code a) both.0) rest) (λ _. rest)
 
   -- what stands before a styled text
-  keeps_style_begin : (cell : CellValue) → R [] (style_begin cell)
+  pub keeps_style_begin : (cell : CellValue) → R [] (style_begin cell)
   keeps_style_begin cell =
       kept.joins.of_both [] [] (optional_sequence background_code cell.background) (optional_sequence foreground_code cell.foreground ++ attribute_sequences cell.attributes)
       (keeps_optional_sequence background_code cell.background background-parameters)
@@ -118,7 +118,7 @@ module _ (C : Text → Type 0) (R : Text → Text → Type 0) (kept : KeptByDraw
       (keeps_optional_sequence foreground_code cell.foreground foreground-parameters) (keeps_attributes (has_attribute cell.attributes) all_attributes refl))
 
   -- what stands after a styled text
-  keeps_style_end : (cell : CellValue) → R [] (style_end cell)
+  pub keeps_style_end : (cell : CellValue) → R [] (style_end cell)
   keeps_style_end cell =
       cond_both (length cell.attributes == 0) _ _ (R [])
       (λ _. kept.joins.of_both [] [] _ _ (cond_both (is_some cell.background) _ [] (R []) (λ _. kept.of_sequence (codes "49") refl) (λ _. keeps_nothing C R kept.joins))

@@ -1,5 +1,5 @@
 -- The sequences taken out of the styled lines, the unstyled lines are left.
-use Rattle.std.proofs.Common.{◌≡◌, ℕ, List, [], ◌∷◌, map, refl, sym, ap₂, ◌∙◌, subst, arith}
+use Rattle.std.proofs.Common.{◌≡◌, ℕ, List, [], ◌∷◌, length, map, refl, sym, ap₂, ◌∙◌, subst, arith}
 use Rattle.std.specs.List.{All, AllZip}
 use Rattle.std.specs.Str.{IsUtf8}
 use Rattle.comfy_parts.proofs.CallerLemmas.{Shows, Shows-append, Shows-clear, Shows-visible, Shows-sequence, visible-closed, visible_text-is}
@@ -7,6 +7,7 @@ use Rattle.comfy_parts.specs.Text.{Text}
 use Rattle.comfy_parts.specs.VisibleText.{closed, visible_text}
 use Rattle.comfy_table.proofs.KeptDrawingLemmas.{keeps_drawing}
 use Rattle.comfy_table.proofs.MeasuredLemmas.{IsRowOf}
+use Rattle.comfy_table.proofs.ShownTextLemmas.{drawn_of_shown}
 use Rattle.comfy_table.proofs.StyledLemmas.{KeptByDrawing}
 use Rattle.comfy_table.proofs.TextKindLemmas.{byte_kind, byte_style}
 use Rattle.comfy_table.specs.Drawing.{drawing, infos_of}
@@ -34,6 +35,6 @@ visible_texts-are (s ∷ shown) (text ∷ texts) each =
     ap₂ (λ x xs. x ∷ xs) (visible_text-is s text each.0) (visible_texts-are shown texts each.1)
 
 -- the sequences taken out of the drawn lines, the unstyled lines are left; bytes that are no UTF-8 could be cut so that an ESC arises
-pub styling_taken_out : (table : TableValue) (widths : List ℕ) → All (IsRowOf IsUtf8) (measured_rows table) → IsFreeOfEscapes table → map visible_text (drawing table widths) ≡ drawing (unstyled table) widths
-styling_taken_out table widths whole free =
-    visible_texts-are (drawing (unstyled table) widths) (drawing table widths) (keeps_drawing HasNoEscape Shows shows_kept table (infos_of table widths) free.style.indicator (byte_style 0x1B table.style (omega arith) free.style.characters) whole free.text_lines)
+pub styling_taken_out : (table : TableValue) (widths : List ℕ) → length widths ≡ length table.columns → All (IsRowOf IsUtf8) (measured_rows table) → IsFreeOfEscapes table → map visible_text (drawing table widths) ≡ drawing (unstyled table) widths
+styling_taken_out table widths long whole free =
+    visible_texts-are (drawing (unstyled table) widths) (drawing table widths) (keeps_drawing HasNoEscape Shows shows_kept table (infos_of table widths) free.style.indicator (byte_style 0x1B table.style (omega arith) free.style.characters) whole (drawn_of_shown HasNoEscape table widths long free.text_lines))

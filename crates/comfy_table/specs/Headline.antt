@@ -1,5 +1,6 @@
 -- What every drawing of a table promises.
 use Rattle.std.specs.Prelude.{◌≡◌, ◌⊎◌, ℕ, ◌<◌, ◌≤◌, Bool, true, false, List, [], ◌∷◌, Some, map, max, slice_get, All, IsUtf8}
+use Rattle.std.specs.Char.{IsScalar}
 use Rattle.comfy_parts.specs.CellValue.{CellValue, ColumnInfo, RowValue}
 use Rattle.comfy_parts.specs.Wrapping.{IsWrapped, lines_of_text}
 use Rattle.comfy_parts.specs.Text.{Text, measure}
@@ -13,7 +14,7 @@ use Rattle.comfy_table.specs.Frame.{frame_line}
 use Rattle.comfy_table.specs.Laws.{CutLinesAreClosed, HasNoBreak, HasNoControl, HasSequencesInTextsAlone, HasUnbrokenStyle, IsFreeOfControls, IsFreeOfEscapes, IsPrintableTable, LeavesNoneOpen, LinesAreResumedInRow, NoConstraints, NoneIsOpenAtTheEnd, count, least_total, line_total, unstyled}
 use Rattle.comfy_table.specs.Lines.{cell_delimiter}
 use Rattle.comfy_table.specs.Pieces.{shown_infos}
-use Rattle.comfy_table.specs.Straight.{IsStraightTable}
+use Rattle.comfy_table.specs.Straight.{EachCell, IsStraightTable}
 use Rattle.comfy_table.specs.TableLaws.{shown_contents, wider_total}
 use Rattle.comfy_table.specs.TableValue.{TableValue, header_and_rows, measured_rows, should_style, table_width}
 use Rattle.comfy_table.specs.Widths.{shown_count, shown_needs}
@@ -62,6 +63,8 @@ pub record IsTableDrawing (table : TableValue) (lines : List Text) : Type 0 wher
   pub drawn : lines ≡ drawing table widths
   -- the text lines of its cells, as they are measured, are whole characters
   pub whole_texts : All (λ (row : RowValue). All (λ (cell : CellValue). All IsUtf8 cell.text_lines) row.cells) (measured_rows table)
+  -- the delimiters of its visible cells are characters
+  pub scalar_delimiters : EachCell (λ row info cell. IsScalar (cell_delimiter table info.delimiter cell)) table widths
   -- the lines of its visible cells, as they are measured, are texts or slices of them
   pub slices : All (λ (row : RowValue). All (IsCutIntoSlices table row) (shown_infos (infos_of table widths))) (measured_rows table)
   -- without styling and custom styling the lines are the unstyled ones

@@ -124,9 +124,15 @@ pub record HasStyleWithout (b : ℕ) (table : TableValue) : Type 0 where
   pub indicator : HasNo b table.indicator
   pub characters : IsStyleWithout b table.style
 
--- no text line as it is measured, no character of the style and no indicator holds ESC
+-- P holds of each text line, as it is measured, of each cell in a shown column
+abbrev pub EachShownText : (Text → Type 0) → TableValue → Type 0
+EachShownText P table =
+    All (λ (p : ℕ × ColumnValue). All (λ (cell : CellValue). All P cell.text_lines) (column_cells table p.0))
+    (shown_columns table)
+
+-- no shown text line as it is measured, no character of the style and no indicator holds ESC
 pub record IsFreeOfEscapes (table : TableValue) : Type 0 where
-  pub text_lines : All (λ (row : RowValue). All (λ (cell : CellValue). All HasNoEscape cell.text_lines) row.cells) (measured_rows table)
+  pub text_lines : EachShownText HasNoEscape table
   pub style : HasStyleWithout 0x1B table
 
 -- neither a character of the style nor the indicator holds a line feed
@@ -139,9 +145,9 @@ HasUnbrokenStyle table = HasStyleWithout 0x0A table
 abbrev pub HasNoControl : Text → Type 0
 HasNoControl text = NoCharPasses is_control text
 
--- no text line as it is measured, no indicator and no character of the style holds one
+-- no shown text line as it is measured, no indicator and no character of the style holds one
 pub record IsFreeOfControls (table : TableValue) : Type 0 where
-  pub text_lines : All (λ (row : RowValue). All (λ (cell : CellValue). All HasNoControl cell.text_lines) row.cells) (measured_rows table)
+  pub text_lines : EachShownText HasNoControl table
   pub indicator : HasNoControl table.indicator
   pub characters : list_any (λ (c : Option ℕ). is_control (unwrap_or c 0x20)) (style_characters table.style) ≡ false
 

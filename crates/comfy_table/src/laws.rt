@@ -4,7 +4,7 @@
 
 ghost use Rattle.std.specs.Prelude.{ℕ, Bool, List};
 ghost use Rattle.comfy_parts.specs.CellValue.{CellValue, ColumnInfo, ColumnValue, NoFewerColumns, RowValue};
-ghost use Rattle.comfy_parts.specs.Text.{Text};
+ghost use Rattle.comfy_parts.specs.Text.{AddsOneColumnEach, Text};
 ghost use Rattle.comfy_parts.specs.declared.style.table_style.LineStyle.{LineStyle};
 ghost use Rattle.comfy_parts.specs.declared.style.table_style.TableStyle.{TableStyle};
 ghost use Rattle.comfy_table.specs.AddedRows.{DrawingIsOne, RowIsAddedBelow, ShownLinesStay};
@@ -14,15 +14,15 @@ ghost use Rattle.comfy_table.specs.Laws.{CellKeepsItsText, DynamicIsOne, FillsWi
 ghost use Rattle.comfy_table.specs.NewTables.{NewTablesAreStraight, NewTablesLeaveNoneOpen};
 ghost use Rattle.comfy_table.specs.Parts.{AllRowsAreTheTable, PartHasLinesOfTable, PartIsUnstyled};
 ghost use Rattle.comfy_table.specs.TableLaws.{FillsWiderTotal, FrameCounts, FrameFillsWidth, FrameKeepsToWidth, IsAtMostThreeOver, KeepsToWiderTotal, KeepsToWiderTotalInFull, ShrinkingKeepsCells, TableIsFull, TableIsLevelled, TableKeepsContents, TableLevelIsBest};
-ghost use Rattle.comfy_table.specs.TableValue.{TableValue};
+ghost use Rattle.comfy_table.specs.TableValue.{TableValue, ellipsis};
 ghost use Rattle.comfy_table.specs.Widths.{ColumnNeeds};
 
 pub use comfy_parts::laws::{
     active_sequences_are_resumed, attributes_are_ordered, cells_are_equal_by_their_values,
     colors_are_ordered, cut_lines_are_full, head_is_longest, lines_are_few, lines_are_fewest,
     lines_fit, lines_keep_the_text, lines_leave_no_sequence_open, lines_of_every_script_fit,
-    narrow_elements_stay_whole, neighbours_fill_a_line, presets_have_columns_of_one,
-    printable_adds_one_column_each, printable_measures_its_length,
+    narrow_elements_stay_whole, neighbours_fill_a_line, one_character_takes_three_columns,
+    presets_have_columns_of_one, printable_adds_one_column_each, printable_measures_its_length,
     sequences_are_taken_out_in_one_pass, sequences_count_nothing,
     spaces_and_borders_add_one_column, wrapped_lines_are_one_list,
 };
@@ -65,6 +65,11 @@ pub fn tables_without_controls_have_no_escape()
 /// terminal column there, and no texts of two columns touch. Where a row has a greatest height, no text joins the indicator.
 pub fn tables_of_fitting_characters_are_straight()
     ensures { (table : TableValue) (lines : List Text) → FittingTablesAreStraight table lines }
+{}
+
+/// The truncation indicator of a new table adds one terminal column after any printable ASCII text.
+pub fn the_ellipsis_adds_one_column()
+    ensures { AddsOneColumnEach ellipsis }
 {}
 
 /// A new table in a style whose characters add one terminal column each, with a header and rows, has straight edges: all

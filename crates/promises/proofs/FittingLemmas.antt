@@ -4,7 +4,7 @@ use Rattle.std.specs.List.{All, list_all}
 use Rattle.std.specs.Prelude.{chars, encode_utf8}
 use Rattle.std.proofs.lemmas.Bool.{and_parts}
 use Rattle.std.proofs.lemmas.Bool.Decides.{nat_tests}
-use Rattle.std.proofs.lemmas.List.Elements.{All-filter, All-weaker}
+use Rattle.std.proofs.lemmas.List.Elements.{All-filter, All-map, All-weaker}
 use Rattle.cluster_width.specs.ClusterSums.{is_presentation, selectors_agree}
 use Rattle.comfy_parts.proofs.CallerLemmas.{All-at}
 use Rattle.comfy_parts.specs.CellValue.{CellValue, ColumnInfo, ColumnValue, RowValue, is_hidden_column}
@@ -16,21 +16,24 @@ use Rattle.comfy_parts.specs.VisibleText.{visible_text}
 use Rattle.comfy_table.proofs.ControlLemmas.{free_of_escapes}
 use Rattle.comfy_table.proofs.FittingTableLemmas.{fitting_tables_are_straight}
 use Rattle.comfy_table.proofs.InfoLemmas.{infos-known}
+use Rattle.comfy_table.proofs.MeasuredLemmas.{All-measured}
 use Rattle.comfy_table.proofs.OneDrawingLemmas.{arranged_is_one}
+use Rattle.comfy_table.proofs.ShownTextLemmas.{drawn_of_shown, shown_of_all}
 use Rattle.comfy_table.specs.Arrangement.{width_kept}
 use Rattle.comfy_table.specs.Drawing.{infos_of}
 use Rattle.comfy_table.specs.FittingTables.{FitsByCharacters}
 use Rattle.comfy_table.specs.Headline.{IsTableDrawing}
-use Rattle.comfy_table.specs.Laws.{NoConstraints, line_total}
+use Rattle.comfy_table.specs.Laws as laws
+use Rattle.comfy_table.specs.Laws.{HasNoControl, NoConstraints, line_total}
 use Rattle.comfy_table.specs.NewTables.{AreEquallyWide}
 use Rattle.comfy_table.specs.Parts.{ArrangedValue, IsArrangedTable}
 use Rattle.comfy_table.specs.Pieces.{shown_infos}
 use Rattle.comfy_table.specs.Straight as straight
-use Rattle.comfy_table.specs.TableValue.{TableValue, header_and_rows, measured_rows, table_width}
-use Rattle.promises.proofs.PlacedLemmas.{placed}
-use Rattle.promises.proofs.ShownLemmas.{free_of_controls, line_shows}
+use Rattle.comfy_table.specs.TableValue.{TableValue, header_and_rows, measured_rows, table_width, visible_cell}
+use Rattle.promises.proofs.PlacedLemmas.{measured_plain, placed}
+use Rattle.promises.proofs.ShownLemmas.{free_of_controls, line_shows, measured_shown, shown_both, visible_clear}
 use Rattle.promises.specs.Shown.{AreShownEquallyWide, HasNoControls}
-use Rattle.promises.specs.Tables.{CharactersFit, EachText, HasCharactersWithin, HasPlainFrame, IsPlain, IsShownWhole, IsUnconstrained}
+use Rattle.promises.specs.Tables.{CharactersFit, EachShownText, EachText, HasCharactersWithin, HasPlainFrame, IsPlain, IsShownWhole, IsUnconstrained}
 
 -- ---- characters
 
@@ -94,10 +97,20 @@ first_set None None c one two three = three
 pub unconstrained : (table : TableValue) → IsUnconstrained table → NoConstraints table
 unconstrained table free = placed (λ (column : ColumnValue). not (is_hidden_column column)) (λ column. column.constraint ≡ None) 0 table.columns free
 
-module _ (table : TableValue) (same : measured_rows table ≡ header_and_rows table) (frame : HasPlainFrame table) where
-  rows_measured : (Q : RowValue → Type 0) → All Q (header_and_rows table) → All Q (measured_rows table)
-  rows_measured Q each = subst (All Q) (sym same) each
+-- what holds of all texts holds of those in shown columns as they are measured
+abbrev pub TextsStay : TableValue → Type 1
+TextsStay table = (P : Text → Type 0) → EachText P table → laws.EachShownText P table
 
+-- it does where no text is searched for sequences
+pub plain_stay : (table : TableValue) → table.custom_styling ≡ false → TextsStay table
+plain_stay table plain P each = shown_of_all P table (subst (All (λ (row : RowValue). All (λ (cell : CellValue). All P cell.text_lines) row.cells)) (sym (measured_plain table plain)) each)
+
+-- and where no shown one has a control character
+pub free_stay : (table : TableValue) → EachShownText HasNoControl table → TextsStay table
+free_stay table free P each =
+    measured_shown (λ (text : Text). P text × HasNoControl text) P table (λ text own. (own.0, subst P (sym (visible_clear text own.1)) own.0)) (shown_both P HasNoControl table each free)
+
+module _ (table : TableValue) (stay : TextsStay table) (frame : HasPlainFrame table) where
   apart : straight.TextsStandApart table
   apart = inr (inl (placed (λ (column : ColumnValue). not (is_hidden_column column)) (λ column. 1 ≤ column.padding.0) 0 table.columns frame.paddings))
 
@@ -117,12 +130,13 @@ module _ (table : TableValue) (same : measured_rows table ≡ header_and_rows ta
       fits k default under j other below cell found =
           let p = slice_index_or (shown_infos (infos_of table drawn.widths)) j other in
           let row = slice_index_or (measured_rows table) k default in
-          let texts : All (λ (c : CellValue). All (HasCharactersWithin p.1.content_width) c.text_lines) row.cells =
-          rows_measured (λ (r : RowValue). All (λ (c : CellValue). All (HasCharactersWithin p.1.content_width) c.text_lines) r.cells) (each j other below) k default under in
-          let own = rows_measured (λ (r : RowValue). All (λ (c : CellValue). IsOneColumn c.delimiter) r.cells) frame.cell_delimiters k default under in
+          let texts : All (HasCharactersWithin p.1.content_width) cell.text_lines =
+          drawn_of_shown (HasCharactersWithin p.1.content_width) table drawn.widths drawn.arranged.one_for_each (stay (HasCharactersWithin p.1.content_width) (each j other below)) k default under j other below cell found in
+          let own = All-measured table (λ (r : RowValue). All (λ (c : CellValue). IsOneColumn c.delimiter) r.cells)
+          (λ r all. All-map (λ (c : CellValue). IsOneColumn c.delimiter) visible_cell r.cells all) frame.cell_delimiters k default under in
           record {
             characters = All-weaker (HasCharactersWithin p.1.content_width) (λ (text : Text). characters_fit p.1.content_width text ≡ true)
-                (text_fits p.1.content_width p.1.content_width (omega arith)) cell.text_lines (All-at (λ (c : CellValue). All (HasCharactersWithin p.1.content_width) c.text_lines) row.cells p.0 cell texts found);
+                (text_fits p.1.content_width p.1.content_width (omega arith)) cell.text_lines texts;
             delimiter = first_set cell.delimiter p.1.delimiter table.delimiter (All-at (λ (c : CellValue). IsOneColumn c.delimiter) row.cells p.0 cell own found) (delimiters drawn.widths drawn.arranged.one_for_each j other below) frame.delimiter;
             indicator = inr frame.indicator;
           }
@@ -149,16 +163,16 @@ module _ (table : TableValue) (same : measured_rows table ≡ header_and_rows ta
       (subst (CharactersFit table) (is.infos ∙ ap (infos_of table) same) each))
 
   -- a table as wide as its texts
-  pub whole : (widths : List ℕ) → table.arrangement ≡ Disabled → IsShownWhole table → straight.IsStraightTable table widths
-  whole widths disabled is =
+  pub whole : (widths : List ℕ) → measured_rows table ≡ header_and_rows table → table.arrangement ≡ Disabled → IsShownWhole table → straight.IsStraightTable table widths
+  whole widths same disabled is =
       record {
         characters = frame.style;
         apart = apart;
         fits = inr (inr (record {
           no_width = ap (λ (a : ContentArrangement). width_kept a (table_width table)) disabled;
           no_constraints = unconstrained table is.no_constraint;
-          uncut = rows_measured (λ (row : RowValue). row.max_height ≡ None) is.uncut;
-          short = rows_measured (λ (row : RowValue). All (λ (cell : CellValue). All (λ line. measure line ≤ 65535) cell.text_lines) row.cells) is.short;
+          uncut = subst (All (λ (row : RowValue). row.max_height ≡ None)) (sym same) is.uncut;
+          short = subst (All (λ (row : RowValue). All (λ (cell : CellValue). All (λ line. measure line ≤ 65535) cell.text_lines) row.cells)) (sym same) is.short;
         }));
       }
 

@@ -16,8 +16,7 @@ use Rattle.comfy_table.specs.Laws.{least_total}
 use Rattle.comfy_table.specs.Straight as straight
 use Rattle.comfy_table.specs.TableValue.{is_tty, width_or_terminal, TableValue}
 use Rattle.comfy_table.specs.Widths.{shown_count}
-use Rattle.promises.proofs.FittingLemmas.{narrow, unconstrained}
-use Rattle.promises.proofs.PlacedLemmas.{measured_plain}
+use Rattle.promises.proofs.FittingLemmas.{narrow, plain_stay, unconstrained}
 use Rattle.promises.specs.Tables.{EachText, HasCharactersWithin, HasPlainFrame, IsFree, IsPlain, frame_room}
 
 -- borders at both sides, and one between each two columns
@@ -39,7 +38,7 @@ abbrev part : ColumnValue → ℕ
 part column = column.padding.0 + 1 + column.padding.1 + 1
 
 -- what the shown columns from a position on take, and how many they are
-counted : (n : ℕ) (columns : List ColumnValue)
+pub counted : (n : ℕ) (columns : List ColumnValue)
     → (sum_by (λ (p : ℕ × ColumnValue). column_padding p.1) (columns_from n columns) + (length (columns_from n columns) + length (columns_from n columns)) ≡ sum_by part (filter (λ (c : ColumnValue). not (is_hidden_column c)) columns))
     × (length (columns_from n columns) ≡ length (filter (λ (c : ColumnValue). not (is_hidden_column c)) columns))
 counted n [] = (refl, refl)
@@ -81,7 +80,7 @@ module _ (old new : TableValue) (w : ℕ) (lines : List Text) where
       rw set (λ drawn plain frame free each.
       let table : TableValue = record old { set_width = Some w; arrangement = Dynamic } in
       let own = same_free old (Some w) Dynamic free in
-      let straight = narrow table (measured_plain table plain.no_sequences) (same_frame old (Some w) Dynamic frame) lines drawn each in
+      let straight = narrow table (plain_stay table plain.no_sequences) (same_frame old (Some w) Dynamic frame) lines drawn each in
       let known : All (λ line. measure line ≤ max w (least_total table)) lines =
       subst (All (λ line. measure line ≤ max w (least_total table))) (sym (drawn.unstyled_lines plain.no_styles plain.no_sequences)) ((drawn.keeps_to_width w (unconstrained table own.no_constraint) refl refl).straight_lines straight) in
       let enough : least_total table ≤ frame_room table = least table own in
@@ -94,7 +93,7 @@ module _ (old new : TableValue) (w : ℕ) (lines : List Text) where
       rw set (λ drawn plain frame free each room.
       let table : TableValue = record old { set_width = Some w; arrangement = DynamicFullWidth } in
       let own = same_free old (Some w) DynamicFullWidth free in
-      let straight = narrow table (measured_plain table plain.no_sequences) (same_frame old (Some w) DynamicFullWidth frame) lines drawn each in
+      let straight = narrow table (plain_stay table plain.no_sequences) (same_frame old (Some w) DynamicFullWidth frame) lines drawn each in
       let some : 0 < shown_count table = omega (arith, (counted 0 old.columns).1, free.some_column) in
       let known : All (λ line. measure line ≡ max w (least_total table)) lines =
       subst (All (λ line. measure line ≡ max w (least_total table))) (sym (drawn.unstyled_lines plain.no_styles plain.no_sequences)) ((drawn.fills_width w (unconstrained table own.no_constraint) refl refl some).straight_lines straight) in

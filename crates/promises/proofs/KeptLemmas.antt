@@ -96,7 +96,7 @@ module _ {A : Type 0} where
 -- ---- columns as they are drawn
 
 -- with the width at its position
-abbrev drawn_column : List ℕ → ℕ × ColumnValue → ℕ × ColumnInfo
+abbrev pub drawn_column : List ℕ → ℕ × ColumnValue → ℕ × ColumnInfo
 drawn_column widths p = (p.0, info_of p.1 (slice_index widths p.0))
 
 -- the shown columns from a position on
@@ -187,10 +187,7 @@ as_they_are : (lines : List Text) → written_of (map as_measured lines) ≡ map
 as_they_are [] = refl
 as_they_are (line ∷ lines) = ap (λ (more : List Text). line ∷ more) (as_they_are lines)
 
-module _ (table : TableValue) (plain : table.custom_styling ≡ false) (widths : List ℕ) (long : length widths ≡ length table.columns) where
-  columns-drawn : shown_infos (infos_of table widths) ≡ map (drawn_column widths) (shown_columns table)
-  columns-drawn = drawn_from widths [] 0 table.columns widths refl refl long
-
+module _ (table : TableValue) (plain : table.custom_styling ≡ false) where
   -- the lines of a cell that no height cuts, in a column
   uncut_lines : (row : RowValue) (info : ColumnInfo) (cell : CellValue) → row.max_height ≡ None
       → row_cell_lines table row info cell ≡ map as_measured (cell_lines info.content_width (cell_delimiter table info.delimiter cell) cell)
@@ -210,15 +207,19 @@ module _ (table : TableValue) (plain : table.custom_styling ≡ false) (widths :
       ap (λ (texts : List Text). characters_without d (concat texts)) same ∙ cell_keeps_its_text table row info cell uncut scalar (subst (All IsUtf8) (sym measured) whole)
       ∙ ap (λ (texts : List Text). characters_without d (concat texts)) measured
 
+module _ (table : TableValue) (widths : List ℕ) (long : length widths ≡ length table.columns) where
+  pub columns-drawn : shown_infos (infos_of table widths) ≡ map (drawn_column widths) (shown_columns table)
+  columns-drawn = drawn_from widths [] 0 table.columns widths refl refl long
+
   module _ (line : ContentLineStyle) (row : RowValue) where
     abbrev slices_in : ℕ × ColumnValue → List Text
     slices_in p = slices_of table row (info_of p.1 (slice_index widths p.0)) (slice_get row.cells p.0)
 
-    abbrev lines_in : List Text
+    abbrev pub lines_in : List Text
     lines_in = drawn_row table (infos_of table widths) line row
 
     -- as many as the row is high
-    height : length lines_in ≡ greatest (map (λ (p : ℕ × ColumnValue). length (pieces_at table row (drawn_column widths p))) (shown_columns table))
+    pub height : length lines_in ≡ greatest (map (λ (p : ℕ × ColumnValue). length (pieces_at table row (drawn_column widths p))) (shown_columns table))
     height =
         length-map (map (row_line table (infos_of table widths) row) (range_with_len 0 (row_height table (infos_of table widths) row))) (content_line table.style line)
         ∙ length-map-range_with_len (row_line table (infos_of table widths) row) 0 (row_height table (infos_of table widths) row)
@@ -233,11 +234,11 @@ module _ (table : TableValue) (plain : table.custom_styling ≡ false) (widths :
         (All-from_recursion _ (shown_columns table) (every-le-greatest (λ (p : ℕ × ColumnValue). length (pieces_at table row (drawn_column widths p))) (shown_columns table)))
 
     -- the piece of a column in line k
-    abbrev piece_in : ℕ → ℕ × ColumnValue → Text
+    abbrev pub piece_in : ℕ → ℕ × ColumnValue → Text
     piece_in k p = slice_index_or (pieces_at table row (drawn_column widths p)) k (blank_piece (info_of p.1 (slice_index widths p.0)))
 
     -- line k is made of these
-    line_is : (k : ℕ) → k < length lines_in → slice_index_or lines_in k [] ≡ content_line table.style line (map (piece_in k) (shown_columns table))
+    pub line_is : (k : ℕ) → k < length lines_in → slice_index_or lines_in k [] ≡ content_line table.style line (map (piece_in k) (shown_columns table))
     line_is k below =
         let infos = infos_of table widths in
         let h = row_height table infos row in
@@ -259,8 +260,8 @@ module _ (table : TableValue) (plain : table.custom_styling ≡ false) (widths :
         (stand_before pieces (join_by (λ (piece : Text). piece) junction pieces) right
         (subst (StandIn pieces) (sym (join_by-map (λ (piece : Text). piece) (piece_in k) junction (shown_columns table))) (stand_joined (piece_in k) junction (shown_columns table))))
 
-    pub shows_row : All (λ (cell : CellValue). All IsUtf8 cell.text_lines) row.cells → ShowsRow table row lines_in
-    shows_row whole =
+    pub shows_row : table.custom_styling ≡ false → All (λ (cell : CellValue). All IsUtf8 cell.text_lines) row.cells → ShowsRow table row lines_in
+    shows_row plain whole =
         record {
           slices = slices_in;
           enough_lines = enough_lines;
@@ -270,7 +271,7 @@ module _ (table : TableValue) (plain : table.custom_styling ≡ false) (widths :
               (λ p. slice_inside table row (info_of p.1 (slice_index widths p.0)) (slice_get row.cells p.0) k) (pieces_stand k));
           are_texts = λ uncut p cell found scalar.
               subst (λ (o : Option CellValue). AreSameBut (cell_delimiter table p.1.delimiter cell) (concat (slices_of table row (info_of p.1 (slice_index widths p.0)) o)) (concat cell.text_lines)) (sym found)
-              (are_texts row (info_of p.1 (slice_index widths p.0)) cell uncut scalar (All-at (λ (c : CellValue). All IsUtf8 c.text_lines) row.cells p.0 cell whole found));
+              (are_texts table plain row (info_of p.1 (slice_index widths p.0)) cell uncut scalar (All-at (λ (c : CellValue). All IsUtf8 c.text_lines) row.cells p.0 cell whole found));
         }
 
 -- ---- the whole drawing
@@ -320,7 +321,7 @@ all_texts_stand table lines drawn plain =
     let long = drawn.arranged.one_for_each in
     let IsWhole : RowValue → Type 0 = λ row. All (λ (cell : CellValue). All IsUtf8 cell.text_lines) row.cells in
     let whole : All IsWhole (header_and_rows table) = subst (All IsWhole) (measured_plain table plain) drawn.whole_texts in
-    subst (AreShown (ShowsRow table) table) (sym drawn.drawn) (shows_rows table drawn.widths IsWhole (ShowsRow table) (shows_row table plain drawn.widths long) whole)
+    subst (AreShown (ShowsRow table) table) (sym drawn.drawn) (shows_rows table drawn.widths IsWhole (ShowsRow table) (λ line row. shows_row table drawn.widths long line row plain) whole)
 
 -- ---- tables that are as wide as their texts
 
@@ -400,7 +401,7 @@ module _ (table : TableValue) (plain : table.custom_styling ≡ false) (widths :
       let drawn : List Text = drawn_row table (infos_of table widths) line row in
       let slices : ℕ × ColumnValue → List Text = slices_in table plain widths arranged.one_for_each line row in
       let same = slices_are_texts line row fits in
-      let shown = shows_row table plain widths arranged.one_for_each line row whole in
+      let shown = shows_row table widths arranged.one_for_each line row plain whole in
       record {
         enough_lines = λ j other below. subst (λ (texts : List Text). length texts ≤ length drawn) (same j other below) (shown.enough_lines j other below);
         stand = λ k under.

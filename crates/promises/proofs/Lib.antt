@@ -1,6 +1,7 @@
 pub mod AddedLemmas
 pub mod FittingLemmas
 pub mod FrameLemmas
+pub mod HeadlineLemmas
 pub mod KeptLemmas
 pub mod PlacedLemmas
 pub mod ShownLemmas

@@ -1,23 +1,25 @@
 -- What is shown of a text holds no ESC: so its sequences are taken out, and nothing else.
-use Rattle.std.proofs.Common.{◌≡◌, ◌⊎◌, inl, inr, ◌<◌, ◌==◌, ◌&&◌, ℕ, zero, suc, Bool, false, not, List, [], ◌∷◌, ◌++◌, flat_map, length, map, refl, sym, ap, ◌∙◌, subst, arith, append_assoc, length-append}
+use Rattle.std.proofs.Common.{◌≡◌, ◌⊎◌, inl, inr, ◌<◌, ◌==◌, ◌&&◌, ℕ, zero, suc, Bool, true, false, not, List, [], ◌∷◌, ◌++◌, Option, Some, None, flat_map, length, map, refl, sym, ap, ◌∙◌, subst, arith, append_assoc, length-append, slice_index_or}
 use Rattle.std.specs.Char.{is_control}
-use Rattle.std.specs.List.{All}
+use Rattle.std.specs.List.{All, cons_option, filter_map, slice_get}
+use Rattle.std.specs.Prelude.{option_map}
 use Rattle.std.specs.Str.{NoCharPasses, NonePass}
 use Rattle.std.proofs.lemmas.Bool.{or_parts}
-use Rattle.std.proofs.lemmas.List.Elements.{All-head, All-map, All-tail, All-weaker}
+use Rattle.std.proofs.lemmas.List.Elements.{All-cons, All-head, All-map, All-nil, All-tail, All-weaker}
 use Rattle.std.proofs.lemmas.Str.{NoCharPasses-append, NoCharPasses-nil}
 use lib.Utf8.{encode}
-use Rattle.comfy_parts.proofs.CallerLemmas.{BeginsWithSequence, Shows-clear, front_of, none_by_characters, parts-visible, visible_text-is}
+use Rattle.comfy_parts.proofs.CallerLemmas.{All-at, BeginsWithSequence, Shows-clear, front_of, none_by_characters, parts-visible, visible_text-is}
 use Rattle.comfy_parts.proofs.SequenceLemmas.{begins_with_sequence, sequences_are_taken_out}
-use Rattle.comfy_parts.specs.CellValue.{CellValue, RowValue}
+use Rattle.comfy_parts.specs.CellValue.{CellValue, ColumnValue, RowValue}
 use Rattle.comfy_parts.specs.Text.{Text}
 use Rattle.comfy_parts.specs.VisibleText.{visible_bytes, visible_text}
-use Rattle.comfy_table.proofs.MeasuredLemmas.{All-measured}
+use Rattle.comfy_table.proofs.MeasuredLemmas.{cell_measured, get_measured, measured_rows-is, row_measured}
 use Rattle.comfy_table.specs.Drawing.{text_of}
 use Rattle.comfy_table.specs.Headline.{IsTextOf}
+use Rattle.comfy_table.specs.Laws as laws
 use Rattle.comfy_table.specs.Laws.{HasNoControl, HasNoEscape, IsFreeOfControls}
-use Rattle.comfy_table.specs.TableValue.{TableValue, header_and_rows, visible_cell}
-use Rattle.promises.specs.Tables.{EachText}
+use Rattle.comfy_table.specs.TableValue.{TableValue, column_cells, header_and_rows, shown_columns}
+use Rattle.promises.specs.Tables.{EachShownText, EachText}
 use Rattle.promises.specs.Shown.{HasNoControls, IsHarmless, Shows}
 use Rattle.promises.specs.Shown.Shows.{nothing, byte, sequence}
 
@@ -84,27 +86,55 @@ joined (line ∷ next ∷ lines) none =
 -- ---- tables
 
 -- what is visible of a text without control characters is the text
-kept_visible : (text : Text) → HasNoControl text → HasNoControl (visible_text text)
-kept_visible text none = subst HasNoControl (sym (visible_text-is text text (Shows-clear text (none_by_characters is_control 0x1B (omega arith) refl text none)))) none
+pub visible_clear : (text : Text) → HasNoControl text → visible_text text ≡ text
+visible_clear text none = visible_text-is text text (Shows-clear text (none_by_characters is_control 0x1B (omega arith) refl text none))
+
+-- what holds of both of two facts
+pub shown_both : (P Q : Text → Type 0) (table : TableValue) → EachText P table → EachShownText Q table → EachShownText (λ text. P text × Q text) table
+shown_both P Q table each shown =
+    All-weaker (λ (p : ℕ × ColumnValue). All (λ (row : RowValue). (cell : CellValue) → slice_get row.cells p.0 ≡ Some cell → All Q cell.text_lines) (header_and_rows table))
+    (λ (p : ℕ × ColumnValue). All (λ (row : RowValue). (cell : CellValue) → slice_get row.cells p.0 ≡ Some cell → All (λ text. P text × Q text) cell.text_lines) (header_and_rows table))
+    (λ p own k default under cell found j text below.
+    (All-at (λ (c : CellValue). All P c.text_lines) (slice_index_or (header_and_rows table) k default).cells p.0 cell (each k default under) found j text below, own k default under cell found j text below))
+    (shown_columns table) shown
+
+-- what holds of shown texts, and so of what is visible of them, holds of them as they are measured
+module _ (P Q : Text → Type 0) (table : TableValue) (gives : (text : Text) → P text → Q text × Q (visible_text text)) where
+  Has : CellValue → Type 0
+  Has cell = All Q cell.text_lines
+
+  HasAt : ℕ → RowValue → Type 0
+  HasAt i row = (cell : CellValue) → slice_get row.cells i ≡ Some cell → All P cell.text_lines
+
+  cell_has : (custom : Bool) (cell : CellValue) → All P cell.text_lines → Has (cell_measured custom cell)
+  cell_has true cell each = All-map Q visible_text cell.text_lines (All-weaker P (λ (t : Text). Q (visible_text t)) (λ text own. (gives text own).1) cell.text_lines each)
+  cell_has false cell each = All-weaker P Q (λ text own. (gives text own).0) cell.text_lines each
+
+  rows_have : (i : ℕ) (rows : List RowValue) → All (HasAt i) rows → All Has (filter_map (λ (row : RowValue). slice_get row.cells i) (map (row_measured table.custom_styling) rows))
+  rows_have i [] each = All-nil Has
+  rows_have i (row ∷ rows) each =
+      subst (λ (o : Option CellValue). All Has (cons_option o (filter_map (λ (r : RowValue). slice_get r.cells i) (map (row_measured table.custom_styling) rows)))) (sym (get_measured table.custom_styling row.cells i))
+      (by_cell (slice_get row.cells i) (All-head (HasAt i) row rows each) (rows_have i rows (All-tail (HasAt i) row rows each)))
+    where
+      by_cell : (o : Option CellValue) → ((cell : CellValue) → o ≡ Some cell → All P cell.text_lines) → All Has (filter_map (λ (r : RowValue). slice_get r.cells i) (map (row_measured table.custom_styling) rows))
+          → All Has (cons_option (option_map (cell_measured table.custom_styling) o) (filter_map (λ (r : RowValue). slice_get r.cells i) (map (row_measured table.custom_styling) rows)))
+      by_cell None own rest = rest
+      by_cell (Some cell) own rest =
+          All-cons Has (cell_measured table.custom_styling cell) (filter_map (λ (r : RowValue). slice_get r.cells i) (map (row_measured table.custom_styling) rows)) (cell_has table.custom_styling cell (own cell refl)) rest
+
+  pub measured_shown : EachShownText P table → laws.EachShownText Q table
+  measured_shown each =
+      All-weaker (λ (p : ℕ × ColumnValue). All (HasAt p.0) (header_and_rows table)) (λ (p : ℕ × ColumnValue). All Has (column_cells table p.0))
+      (λ p own. subst (λ (rows : List RowValue). All Has (filter_map (λ (row : RowValue). slice_get row.cells p.0) rows)) (sym (measured_rows-is table)) (rows_have p.0 (header_and_rows table) own))
+      (shown_columns table) each
 
 pub free_of_controls : (table : TableValue) → HasNoControls table → IsFreeOfControls table
 free_of_controls table free =
     record {
-      text_lines = All-measured table (λ (row : RowValue). All (λ (cell : CellValue). All HasNoControl cell.text_lines) row.cells)
-          (λ row each. All-map (λ (cell : CellValue). All HasNoControl cell.text_lines) visible_cell row.cells
-          (All-weaker (λ (cell : CellValue). All HasNoControl cell.text_lines) (λ (cell : CellValue). All HasNoControl (map visible_text cell.text_lines))
-          (λ cell own. All-map HasNoControl visible_text cell.text_lines (All-weaker HasNoControl (λ (t : Text). HasNoControl (visible_text t)) kept_visible cell.text_lines own)) row.cells each)) free.texts;
+      text_lines = measured_shown HasNoControl HasNoControl table (λ text none. (none, subst HasNoControl (sym (visible_clear text none)) none)) free.texts;
       indicator = free.indicator;
       characters = free.style;
     }
 
 pub harmless : (table : TableValue) (text : Text) → IsTextOf table text → HasNoControls table → IsHarmless text
 harmless table text (lines, drawn, is) free = subst IsHarmless (sym is) (joined lines (drawn.without_controls (free_of_controls table free)))
-
--- a table without control characters has none of ESC
-pub clear_texts : (table : TableValue) → HasNoControls table → EachText HasNoEscape table
-clear_texts table free =
-    All-weaker (λ (row : RowValue). All (λ (cell : CellValue). All HasNoControl cell.text_lines) row.cells) (λ (row : RowValue). All (λ (cell : CellValue). All HasNoEscape cell.text_lines) row.cells)
-    (λ row. All-weaker (λ (cell : CellValue). All HasNoControl cell.text_lines) (λ (cell : CellValue). All HasNoEscape cell.text_lines)
-    (λ cell. All-weaker HasNoControl HasNoEscape (none_by_characters is_control 0x1B (omega arith) refl) cell.text_lines) row.cells)
-    (header_and_rows table) free.texts

@@ -1,5 +1,5 @@
 -- Tables for which the premises of the promises hold, and texts that these promises refuse.
-use Rattle.std.proofs.Common.{◌≡◌, ◌==◌, ◌&&◌, ◌≤◌, ℕ, zero, suc, true, false, not, [], ◌∷◌, ◌++◌, ◌∙◌, Contains, Some, None, codes, refl, ap, subst, arith}
+use Rattle.std.proofs.Common.{◌≡◌, ◌==◌, ◌&&◌, ◌≤◌, ℕ, zero, suc, true, false, not, [], ◌∷◌, ◌++◌, ◌∙◌, Contains, Some, None, codes, refl, ap, subst, arith, slice_index_or}
 use Rattle.std.specs.List.{All, slice_get}
 use Rattle.std.specs.Char.{is_control}
 use Rattle.std.specs.Prelude.{encode_utf8_all}
@@ -8,7 +8,7 @@ use Prim.Native.String.{String}
 use lib.Utf8.{encode}
 use Rattle.std.proofs.lemmas.List.Elements.{All-from_recursion}
 use Rattle.std.proofs.lemmas.Str.{NoCharPasses-byte}
-use Rattle.comfy_parts.proofs.CallerLemmas.{frame_adds, frame_apart, one_column_characters}
+use Rattle.comfy_parts.proofs.CallerLemmas.{All-at, All-every, frame_adds, frame_apart, one_column_characters}
 use Rattle.comfy_parts.proofs.Computing.{wrapping}
 use Rattle.comfy_parts.specs.CellValue.{ColumnInfo, info_of, new_column, CellValue, ColumnValue, RowValue, plain_cell, plain_row}
 use Rattle.comfy_parts.specs.Columns.{IsApart, IsOneColumn}
@@ -16,12 +16,12 @@ use Rattle.comfy_parts.specs.Presets.{utf8_full}
 use Rattle.comfy_parts.specs.Text.{Text, measure}
 use Rattle.comfy_parts.specs.declared.style.column.ColumnConstraint.TheVariants.{Hidden}
 use Rattle.comfy_table.specs.HiddenColumns.{without_hidden}
-use Rattle.comfy_table.specs.TableValue.{cell_content_width, TableValue, ellipsis, header_and_rows, new_table, with_header, with_row, constrained}
+use Rattle.comfy_table.specs.TableValue.{cell_content_width, TableValue, ellipsis, header_and_rows, new_table, shown_columns, with_header, with_row, constrained}
 use Rattle.promises.specs.Added.{HasRoomFor}
 use Rattle.promises.specs.Kept.{AreSameBut, StandIn}
 use Rattle.promises.specs.Shown.{HasNoControls, IsHarmless, Shows}
 use Rattle.promises.specs.Shown.Shows.{nothing, byte, sequence}
-use Rattle.promises.specs.Tables.{CharactersFit, EachText, HasCharactersWithin, HasPlainFrame, IsFree, IsPlain, IsShownWhole, frame_room}
+use Rattle.promises.specs.Tables.{CharactersFit, EachShownText, EachText, HasCharactersWithin, HasPlainFrame, IsFree, IsPlain, IsShownWhole, frame_room}
 
 -- ---- a table
 
@@ -107,14 +107,20 @@ characters_fit_columns =
       (each_of (HasCharactersWithin 6) "京都" "김철수" refl refl (All-from_recursion (HasCharactersWithin 6) (utf8 "京都" ∷ []) (refl, tt)) (All-from_recursion (HasCharactersWithin 6) (utf8 "김철수" ∷ []) (refl, tt)), tt),
     )
 
+-- what holds of all texts holds of the shown ones
+shown_of_all : (P : Text → Type 0) (table : TableValue) → EachText P table → EachShownText P table
+shown_of_all P table each =
+    All-every (λ (p : ℕ × ColumnValue). All (λ (row : RowValue). (cell : CellValue) → slice_get row.cells p.0 ≡ Some cell → All P cell.text_lines) (header_and_rows table)) (shown_columns table)
+    (λ p k default under cell found. All-at (λ (c : CellValue). All P c.text_lines) (slice_index_or (header_and_rows table) k default).cells p.0 cell (each k default under) found)
+
 -- none of these is a control character
 no_controls : HasNoControls (table_of "é" "Отчёт")
 unfolding wrapping encode
 no_controls =
     record {
-      texts = each_of (NoCharPasses is_control) "é" "Отчёт" (codes "day", refl, (refl, (refl, (refl, tt)))) (codes "text", refl, (refl, (refl, (refl, (refl, tt)))))
+      texts = shown_of_all (NoCharPasses is_control) (table_of "é" "Отчёт") (each_of (NoCharPasses is_control) "é" "Отчёт" (codes "day", refl, (refl, (refl, (refl, tt)))) (codes "text", refl, (refl, (refl, (refl, (refl, tt)))))
           (All-from_recursion (NoCharPasses is_control) (utf8 "é" ∷ []) ((codes "é", refl, (refl, tt)), tt))
-          (All-from_recursion (NoCharPasses is_control) (utf8 "Отчёт" ∷ []) ((codes "Отчёт", refl, (refl, (refl, (refl, (refl, (refl, tt)))))), tt));
+          (All-from_recursion (NoCharPasses is_control) (utf8 "Отчёт" ∷ []) ((codes "Отчёт", refl, (refl, (refl, (refl, (refl, (refl, tt)))))), tt)));
       indicator = (0x2026 ∷ [], refl, (refl, tt));
       style = refl;
     }

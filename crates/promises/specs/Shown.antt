@@ -7,7 +7,7 @@ use Rattle.comfy_parts.specs.Columns.{style_characters}
 use Rattle.comfy_parts.specs.Text.{Text, measure}
 use Rattle.comfy_parts.specs.VisibleText.{is_parameter}
 use Rattle.comfy_table.specs.TableValue.{TableValue}
-use Rattle.promises.specs.Tables.{EachText}
+use Rattle.promises.specs.Tables.{EachShownText}
 
 -- a text, and what it shows: the text without its SGR sequences, which set colours and attributes. ESC stands nowhere but at the front of these
 pub data Shows : Text → Text → Type 0 where
@@ -23,8 +23,8 @@ IsHarmless text = (shown : Text) × Shows text shown × NoCharPasses (λ c. is_c
 abbrev pub AreShownEquallyWide : List Text → Type 0
 AreShownEquallyWide lines = (n : ℕ) × All (λ line. (shown : Text) × Shows line shown × (measure shown ≡ n)) lines
 
--- no character of a text, of the indicator and of the style is a control character
+-- no character of a shown text, of the indicator and of the style is a control character
 pub record HasNoControls (table : TableValue) : Type 0 where
-  pub texts : EachText (NoCharPasses is_control) table
+  pub texts : EachShownText (NoCharPasses is_control) table
   pub indicator : NoCharPasses is_control table.indicator
   pub style : list_any (λ (c : Option ℕ). is_control (unwrap_or c 0x20)) (style_characters table.style) ≡ false

@@ -1,10 +1,10 @@
 -- Tables as callers make them, and how wide their lines are shown.
-use Rattle.std.specs.Prelude.{◌≡◌, ◌==◌, ◌&&◌, ℕ, ◌+◌, ◌<◌, ◌≤◌, true, false, not, None, List, All, chars, encode_utf8, filter, length, nat_le, sum_by}
+use Rattle.std.specs.Prelude.{◌≡◌, ◌==◌, ◌&&◌, ℕ, ◌+◌, ◌<◌, ◌≤◌, true, false, not, None, Some, List, All, chars, encode_utf8, filter, length, nat_le, slice_get, sum_by}
 use Rattle.std.specs.List.{list_all}
 use Rattle.comfy_parts.specs.CellValue.{CellValue, ColumnInfo, ColumnValue, RowValue, is_hidden_column}
 use Rattle.comfy_parts.specs.Columns.{IsApart, IsOneColumn, IsOneColumnStyle}
 use Rattle.comfy_parts.specs.Text.{Text, measure}
-use Rattle.comfy_table.specs.TableValue.{TableValue, header_and_rows, should_style}
+use Rattle.comfy_table.specs.TableValue.{TableValue, header_and_rows, should_style, shown_columns}
 
 -- ---- the parts of a table
 
@@ -15,6 +15,12 @@ EachCell P table = All (λ (row : RowValue). All P row.cells) (header_and_rows t
 -- P holds of each text line of each cell
 abbrev pub EachText : (Text → Type 0) → TableValue → Type 0
 EachText P table = EachCell (λ (cell : CellValue). All P cell.text_lines) table
+
+-- P holds of each text line of each cell in a shown column
+abbrev pub EachShownText : (Text → Type 0) → TableValue → Type 0
+EachShownText P table =
+    All (λ (p : ℕ × ColumnValue). All (λ (row : RowValue). (cell : CellValue)
+    → slice_get row.cells p.0 ≡ Some cell → All P cell.text_lines) (header_and_rows table)) (shown_columns table)
 
 -- the columns that aren't hidden
 abbrev pub shown : TableValue → List ColumnValue

@@ -4,6 +4,7 @@
 #![tactic(auto)]
 
 pub mod harmless;
+pub mod headline;
 pub mod kept;
 pub mod others;
 pub mod straight;
