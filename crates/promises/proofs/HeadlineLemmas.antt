@@ -87,7 +87,7 @@ module _ {A : Type 0} (cut : A → A) where
       short : (n : ℕ) (xs : List A) → n < length xs → length (take n xs ++ map cut (take 1 (drop n xs))) ≡ n + 1
       short n [] below = absurd (omega (arith, below))
       short zero (x ∷ xs) below = refl
-      short (suc n) (x ∷ xs) below = ap suc (short n xs (omega (arith, below)))
+      short (suc n) (x ∷ xs) below = let rest = short n xs (omega (arith, below)) in omega (arith, rest)
 
       by_test : (b : Bool) → nat_le (length lines) h ≡ b → length (if b then lines else take (h - 1) lines ++ map cut (take 1 (drop (h - 1) lines))) ≡ min (length lines) (max 1 h)
       by_test true fits = grind (arith, nat_tests, fits)
@@ -186,36 +186,36 @@ piece_of column w line whole before after left right joined shows_left shows_rig
     record { before = before; after = after; joined = joined; left = left; right = right; shows_left = shows_left; shows_right = shows_right; padded = (l, r); wide = wide }
 
 module _ (table : TableValue) (column : ColumnValue) (w : ℕ) (cell : CellValue) (line : CellLine) where
-  abbrev info : ColumnInfo
-  info = info_of column w
+  abbrev drawn_info : ColumnInfo
+  drawn_info = info_of column w
 
   abbrev m : ℕ
   m = measure line.measured
 
   abbrev front : ℕ
-  front = free_before (cell_alignment cell info) (free_places info m)
+  front = free_before (cell_alignment cell drawn_info) (free_places drawn_info m)
 
   abbrev left : ℕ
   left = column.padding.0 + front
 
   abbrev right : ℕ
-  right = free_places info m - front + column.padding.1
+  right = free_places drawn_info m - front + column.padding.1
 
   wide : left + m + right ≡ whole_width column (max (max 1 w) m)
-  wide = let among = free_before-le (cell_alignment cell info) (free_places info m) in omega (arith, among)
+  wide = let among = free_before-le (cell_alignment cell drawn_info) (free_places drawn_info m) in omega (arith, among)
 
-  padded_is : (text : Text) → spaces left ++ (text ++ spaces right) ≡ padded cell info m text
-  padded_is text = padded-is cell info m left right refl refl text
+  padded_is : (text : Text) → spaces left ++ (text ++ spaces right) ≡ padded cell drawn_info m text
+  padded_is text = padded-is cell drawn_info m left right refl refl text
 
   -- spaces before a sequence, and after one
   front_shows : Shows (spaces left ++ style_begin cell) (spaces left)
   front_shows = subst (Shows (spaces left ++ style_begin cell)) (append-nil (spaces left)) (shows_both (style_begin cell) [] (spaces_show left) (begin_shows cell))
 
-  pub piece_is : IsPiece column (max 1 w) line (piece table cell info line)
+  pub piece_is : IsPiece column (max 1 w) line (piece table cell drawn_info line)
   piece_is = by_tests (should_style table) table.style_text_only
     where
       by_tests : (styles text_only : Bool)
-          → IsPiece column (max 1 w) line (if styles then (if text_only then padded cell info m (styled cell line.written) else styled cell (padded cell info m line.written)) else padded cell info m line.written)
+          → IsPiece column (max 1 w) line (if styles then (if text_only then padded cell drawn_info m (styled cell line.written) else styled cell (padded cell drawn_info m line.written)) else padded cell drawn_info m line.written)
       by_tests true true =
           piece_of column (max 1 w) line _ (spaces left ++ style_begin cell) (style_end cell ++ spaces right) left right
           (sym (padded_is (styled cell line.written))
@@ -242,7 +242,7 @@ blank_is column w =
 
 -- the lines of the cell that a row has in a column, if it has one
 abbrev cell_lines_of : TableValue → RowValue → ColumnInfo → Option CellValue → List CellLine
-cell_lines_of table row info None = no_line ∷ []
+cell_lines_of table row _ None = no_line ∷ []
 cell_lines_of table row info (Some cell) = row_cell_lines table row info cell
 
 -- the piece of line k

@@ -381,7 +381,7 @@ module _ (table : TableValue) (plain : table.custom_styling ≡ false) (widths :
       }
 
   -- so its slices are its texts
-  slices_are_texts : (line : ContentLineStyle) (row : RowValue) → Fits row → All (λ (p : ℕ × ColumnValue). slices_in table plain widths arranged.one_for_each line row p ≡ text_lines_at row p.0) (shown_columns table)
+  slices_are_texts : (line : ContentLineStyle) (row : RowValue) → Fits row → All (λ (p : ℕ × ColumnValue). slices_in table widths arranged.one_for_each line row p ≡ text_lines_at row p.0) (shown_columns table)
   slices_are_texts line row fits j other below =
       let q = slice_index_or (shown_columns table) j other in
       by_cell q (slice_get row.cells q.0) (λ cell found. fits.texts j other below cell found)
@@ -391,7 +391,7 @@ module _ (table : TableValue) (plain : table.custom_styling ≡ false) (widths :
       by_cell p None texts = refl
       by_cell p (Some cell) texts =
           let info = info_of p.1 (slice_index widths p.0) in
-          ap written_of (uncut_lines table plain widths arranged.one_for_each row info cell fits.uncut) ∙ written_as_they_are (cell_lines info.content_width (cell_delimiter table info.delimiter cell) cell)
+          ap written_of (uncut_lines table plain row info cell fits.uncut) ∙ written_as_they_are (cell_lines info.content_width (cell_delimiter table info.delimiter cell) cell)
           ∙ own_lines info.content_width (cell_delimiter table info.delimiter cell) cell.text_lines (texts cell refl) ∙ sym (append-nil cell.text_lines)
 
   -- and it is shown whole
@@ -399,7 +399,7 @@ module _ (table : TableValue) (plain : table.custom_styling ≡ false) (widths :
   unfolding shows_row
   shows_whole line row (fits, whole) =
       let drawn : List Text = drawn_row table (infos_of table widths) line row in
-      let slices : ℕ × ColumnValue → List Text = slices_in table plain widths arranged.one_for_each line row in
+      let slices : ℕ × ColumnValue → List Text = slices_in table widths arranged.one_for_each line row in
       let same = slices_are_texts line row fits in
       let shown = shows_row table widths arranged.one_for_each line row plain whole in
       record {

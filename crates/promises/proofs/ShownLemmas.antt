@@ -100,10 +100,10 @@ shown_both P Q table each shown =
 
 -- what holds of shown texts, and so of what is visible of them, holds of them as they are measured
 module _ (P Q : Text → Type 0) (table : TableValue) (gives : (text : Text) → P text → Q text × Q (visible_text text)) where
-  Has : CellValue → Type 0
+  abbrev Has : CellValue → Type 0
   Has cell = All Q cell.text_lines
 
-  HasAt : ℕ → RowValue → Type 0
+  abbrev HasAt : ℕ → RowValue → Type 0
   HasAt i row = (cell : CellValue) → slice_get row.cells i ≡ Some cell → All P cell.text_lines
 
   cell_has : (custom : Bool) (cell : CellValue) → All P cell.text_lines → Has (cell_measured custom cell)
