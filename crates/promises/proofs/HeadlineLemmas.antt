@@ -21,7 +21,6 @@ use Rattle.comfy_parts.specs.declared.style.cell.CellAlignment.{CellAlignment}
 use Rattle.comfy_parts.specs.declared.style.table_style.ContentLineStyle.{ContentLineStyle}
 use Rattle.comfy_parts.specs.declared.style.table_style.LineStyle.{LineStyle}
 use Rattle.comfy_table.proofs.CutLemmas.{measured_of, whole-measured}
-use Rattle.comfy_table.proofs.MeasuredLemmas.{cell_measured, get_measured, measured_rows-is, row_measured}
 use Rattle.comfy_table.proofs.SpaceLemmas.{free_before-le, padded-is, spaces-append}
 use Rattle.comfy_table.proofs.StyledLemmas.{KeptByDrawing, keeps_spaces, keeps_style_begin, keeps_style_end}
 use Rattle.comfy_table.proofs.TextKindLemmas.{byte_kind}
@@ -36,8 +35,9 @@ use Rattle.comfy_table.specs.Styling.{style_begin, style_end, styled}
 use Rattle.comfy_table.specs.TableValue.{TableValue, column_cells, header_and_rows, measured_cell, measured_rows, should_style, shown_columns}
 use Rattle.comfy_table.specs.Widths.{shown_count}
 use Rattle.promises.proofs.FittingLemmas.{unconstrained}
-use Rattle.promises.proofs.FrameLemmas.{counted}
-use Rattle.promises.proofs.KeptLemmas.{columns-drawn, drawn_column, height, line_is, piece_in}
+use Rattle.promises.proofs.FrameLemmas.{shown_columns-count}
+use Rattle.promises.proofs.DrawnColumnLemmas.{IsWholeAt, columns-drawn, drawn_column, whole_at}
+use Rattle.promises.proofs.KeptLemmas.{height, line_is, piece_in}
 use Rattle.promises.proofs.ShownLemmas.{shows_both, shows_visible}
 use Rattle.promises.specs.Headline.{AreLinesOfCell, AreLinesOfHeader, AreLinesOfRow, AreSlicesOf, IsHeadline, IsPiece, IsWritten, drawn_count, flattened, framed, no_line, whole_count, whole_width, widths_shown}
 use Rattle.promises.specs.Kept.{AreSameBut, StandIn}
@@ -267,10 +267,6 @@ module _ (table : TableValue) (widths : List ℕ) (long : length widths ≡ leng
   abbrev pub content_at : ℕ → ℕ
   content_at i = max 1 (slice_index widths i)
 
-  -- what stands in a column of a row is whole characters, and so is the delimiter
-  abbrev pub IsWholeAt : RowValue → ℕ × ColumnValue → Type 0
-  IsWholeAt row p = (cell : CellValue) → slice_get row.cells p.0 ≡ Some cell → IsScalar (cell_delimiter table p.1.delimiter cell) × All IsUtf8 (measured_cell table cell).text_lines
-
   module _ (border : ContentLineStyle) (row : RowValue) where
     abbrev cells_in : ℕ × ColumnValue → List CellLine
     cells_in p = cell_lines_of table row (info_of p.1 (slice_index widths p.0)) (slice_get row.cells p.0)
@@ -278,7 +274,7 @@ module _ (table : TableValue) (widths : List ℕ) (long : length widths ≡ leng
     abbrev lines_drawn : List Text
     lines_drawn = drawn_row table (infos_of table widths) border row
 
-    cell_lines_are : (p : ℕ × ColumnValue) → IsWholeAt row p → MatchOption (slice_get row.cells p.0) (cells_in p ≡ no_line ∷ []) (λ cell. AreLinesOfCell table row p.1 cell (cells_in p))
+    cell_lines_are : (p : ℕ × ColumnValue) → IsWholeAt table row p → MatchOption (slice_get row.cells p.0) (cells_in p ≡ no_line ∷ []) (λ cell. AreLinesOfCell table row p.1 cell (cells_in p))
     cell_lines_are p whole = by_cell (slice_get row.cells p.0) (λ cell found. whole cell found)
       where
         by_cell : (o : Option CellValue) → ((cell : CellValue) → o ≡ Some cell → IsScalar (cell_delimiter table p.1.delimiter cell) × All IsUtf8 (measured_cell table cell).text_lines)
@@ -297,11 +293,11 @@ module _ (table : TableValue) (widths : List ℕ) (long : length widths ≡ leng
     pieces_are k [] = tt
     pieces_are k (p ∷ ps) = (piece_at table row p.1 (slice_index widths p.0) (slice_get row.cells p.0) k, pieces_are k ps)
 
-    pub row_is : All (IsWholeAt row) (shown_columns table) → AreLinesOfRow table border content_at row lines_drawn
+    pub row_is : All (IsWholeAt table row) (shown_columns table) → AreLinesOfRow table border content_at row lines_drawn
     row_is whole =
         record {
           cells = cells_in;
-          are_lines = All-weaker (IsWholeAt row) (λ (p : ℕ × ColumnValue). MatchOption (slice_get row.cells p.0) (cells_in p ≡ no_line ∷ []) (λ cell. AreLinesOfCell table row p.1 cell (cells_in p)))
+          are_lines = All-weaker (IsWholeAt table row) (λ (p : ℕ × ColumnValue). MatchOption (slice_get row.cells p.0) (cells_in p ≡ no_line ∷ []) (λ cell. AreLinesOfCell table row p.1 cell (cells_in p)))
               cell_lines_are (shown_columns table) whole;
           as_high = as_high;
           pieces = λ k. map (piece_in table widths long border row k) (shown_columns table);
@@ -320,19 +316,19 @@ module _ (table : TableValue) (widths : List ℕ) (long : length widths ≡ leng
       ∙ map-map (λ (p : ℕ × ColumnInfo). info_width p.1) (drawn_column widths) (shown_columns table)
 
   -- rows, each as its lines
-  rows_are : (rows : List RowValue) → All (λ (row : RowValue). All (IsWholeAt row) (shown_columns table)) rows
+  rows_are : (rows : List RowValue) → All (λ (row : RowValue). All (IsWholeAt table row) (shown_columns table)) rows
       → AllZip (AreLinesOfRow table table.style.content_lines content_at) rows (map (drawn_row table infos table.style.content_lines) rows)
   rows_are [] each = tt
   rows_are (row ∷ rows) each = (
-    row_is table.style.content_lines row (All-head (λ (r : RowValue). All (IsWholeAt r) (shown_columns table)) row rows each),
-    rows_are rows (All-tail (λ (r : RowValue). All (IsWholeAt r) (shown_columns table)) row rows each),
+    row_is table.style.content_lines row (All-head (λ (r : RowValue). All (IsWholeAt table r) (shown_columns table)) row rows each),
+    rows_are rows (All-tail (λ (r : RowValue). All (IsWholeAt table r) (shown_columns table)) row rows each),
   )
 
-  header_is : (header : Option RowValue) → All (λ (row : RowValue). All (IsWholeAt row) (shown_columns table)) (option_to_list header ++ table.rows) → AreLinesOfHeader table content_at header (drawn_header table infos header)
+  header_is : (header : Option RowValue) → All (λ (row : RowValue). All (IsWholeAt table row) (shown_columns table)) (option_to_list header ++ table.rows) → AreLinesOfHeader table content_at header (drawn_header table infos header)
   header_is None each = refl
   header_is (Some header) each = (
     drawn_row table infos table.style.header_lines header,
-    row_is table.style.header_lines header (All-head (λ (r : RowValue). All (IsWholeAt r) (shown_columns table)) header table.rows each),
+    row_is table.style.header_lines header (All-head (λ (r : RowValue). All (IsWholeAt table r) (shown_columns table)) header table.rows each),
     ap (λ ws. drawn_row table infos table.style.header_lines header ++ optional_frame_line table.style table.style.header_separator ws) widths_are,
   )
 
@@ -384,36 +380,6 @@ printable_free table printable style =
       style = style;
     }
 
--- delimiters and texts in shown columns are whole characters
-whole_at : (table : TableValue) (lines : List Text) (drawn : IsTableDrawing table lines) → All (λ (row : RowValue). All (IsWholeAt table drawn.widths drawn.arranged.one_for_each row) (shown_columns table)) (header_and_rows table)
-whole_at table lines drawn k default under =
-    All-weaker (λ (p : ℕ × ColumnValue). HasScalar (row_measured custom row) (drawn_column drawn.widths p)) (IsWholeAt table drawn.widths drawn.arranged.one_for_each row)
-    (λ p own cell found.
-    let measured : slice_get (row_measured custom row).cells p.0 ≡ Some (cell_measured custom cell) = get_measured custom row.cells p.0 ∙ ap (option_map (cell_measured custom)) found in
-    (own (cell_measured custom cell) measured, All-at (λ (c : CellValue). All IsUtf8 c.text_lines) (row_measured custom row).cells p.0 (cell_measured custom cell) (texts k default under) measured))
-    (shown_columns table)
-    (All-of_map (HasScalar (row_measured custom row)) (drawn_column drawn.widths) (shown_columns table)
-    (subst (All (HasScalar (row_measured custom row))) (columns-drawn table drawn.widths drawn.arranged.one_for_each) (scalars k default under)))
-  where
-    custom : Bool
-    custom = table.custom_styling
-
-    row : RowValue
-    row = slice_index_or (header_and_rows table) k default
-
-    HasScalar : RowValue → ℕ × ColumnInfo → Type 0
-    HasScalar r p = (cell : CellValue) → slice_get r.cells p.0 ≡ Some cell → IsScalar (cell_delimiter table p.1.delimiter cell)
-
-    scalars : All (λ (r : RowValue). All (HasScalar (row_measured custom r)) (shown_infos (infos_of table drawn.widths))) (header_and_rows table)
-    scalars =
-        All-of_map (λ (r : RowValue). All (HasScalar r) (shown_infos (infos_of table drawn.widths))) (row_measured custom) (header_and_rows table)
-        (subst (All (λ (r : RowValue). All (HasScalar r) (shown_infos (infos_of table drawn.widths)))) (measured_rows-is table) drawn.scalar_delimiters)
-
-    texts : All (λ (r : RowValue). All (λ (c : CellValue). All IsUtf8 c.text_lines) (row_measured custom r).cells) (header_and_rows table)
-    texts =
-        All-of_map (λ (r : RowValue). All (λ (c : CellValue). All IsUtf8 c.text_lines) r.cells) (row_measured custom) (header_and_rows table)
-        (subst (All (λ (r : RowValue). All (λ (c : CellValue). All IsUtf8 c.text_lines) r.cells)) (measured_rows-is table) drawn.whole_texts)
-
 pub headline : (table : TableValue) (lines : List Text) → IsTableDrawing table lines → IsHeadline table lines
 headline table lines drawn =
     record {
@@ -421,7 +387,7 @@ headline table lines drawn =
       header = drawn_header table (infos_of table drawn.widths) table.header;
       rows = map (drawn_row table (infos_of table drawn.widths) table.style.content_lines) table.rows;
       is_header = header_is table drawn.widths long table.header (whole_at table lines drawn);
-      are_rows = rows_are table drawn.widths long table.rows (All-others (λ (row : RowValue). All (IsWholeAt table drawn.widths long row) (shown_columns table)) table.header table.rows (whole_at table lines drawn));
+      are_rows = rows_are table drawn.widths long table.rows (All-others (λ (row : RowValue). All (IsWholeAt table row) (shown_columns table)) table.header table.rows (whole_at table lines drawn));
       drawn = drawn.drawn ∙ drawing_is table drawn.widths long;
       total = line_total table drawn.widths;
       frame_total = λ line. ap (λ ws. count (frame_line table.style line ws)) (sym (widths_are table drawn.widths long)) ∙ drawn.frame_counts line;
@@ -433,7 +399,7 @@ headline table lines drawn =
       keeps_to_width = λ w known free dynamic.
           subst (λ n. n ≤ max w (least_total table)) (drawn.frame_counts table.style.top_border) ((drawn.keeps_to_width w (unconstrained table free) dynamic known).frame_lines table.style.top_border);
       fills_width = λ w known free full some.
-          let one : 0 < shown_count table = omega (arith, (counted 0 table.columns).1, some) in
+          let one : 0 < shown_count table = omega (arith, shown_columns-count table, some) in
           subst (λ n. n ≡ max w (least_total table)) (drawn.frame_counts table.style.top_border) ((drawn.fills_width w (unconstrained table free) full known one).frame_lines table.style.top_border);
     }
   where

@@ -4,7 +4,6 @@ use Rattle.std.specs.Char.{IsScalar}
 use Rattle.std.specs.List.{All, AllZip, concat, join_by, range_with_len, slice_get}
 use Rattle.std.specs.Prelude.{if◌then◌else◌, option_map, option_to_list, slice_index, MatchOption}
 use Rattle.std.specs.Str.{IsUtf8}
-use Rattle.std.proofs.Math.Seq.{get_or-append_seam}
 use Rattle.std.proofs.lemmas.List.{length-map}
 use Rattle.std.proofs.lemmas.List.Elements.{All-from_recursion, All-head, All-tail, All-weaker}
 use Rattle.std.proofs.lemmas.List.FromFn.{get_or-map-range_with_len, length-map-range_with_len}
@@ -23,7 +22,6 @@ use Rattle.std.proofs.lemmas.Bool.Decides.{nat_tests}
 use Rattle.comfy_parts.specs.VisibleLines.{CellLine}
 use Rattle.comfy_parts.specs.declared.style.table_style.ContentLineStyle.{ContentLineStyle}
 use Rattle.comfy_parts.specs.declared.style.table_style.LineStyle.{LineStyle}
-use Rattle.comfy_table.proofs.InfoLemmas.{columns_from, infos_from}
 use Rattle.comfy_table.proofs.KeptLemmas.{cell_keeps_its_text}
 use Rattle.comfy_table.proofs.ThreePlacesLemmas.{every-le-greatest}
 use Rattle.comfy_table.specs.Arrangement.{IsArranged, is_full_width, room_beside_borders, width_kept, widths_at}
@@ -35,8 +33,9 @@ use Rattle.comfy_table.specs.Lines.{as_measured, cell_delimiter, cell_lines, cut
 use Rattle.comfy_table.specs.Pieces.{blank_piece, padded, piece, pieces_at, pieces_of_optional, row_cell_lines, row_height, row_line, shown_infos, spaces_after, spaces_before}
 use Rattle.comfy_table.specs.Styling.{style_begin, style_end, styled}
 use Rattle.comfy_table.specs.TableValue.{TableValue, header_and_rows, measured_cell, should_style, shown_columns, cell_content_width, column_cells, column_content_width, measured_rows, table_width}
+use Rattle.promises.proofs.DrawnColumnLemmas.{IsWholeAt, columns-drawn, drawn_column, whole_at}
 use Rattle.promises.proofs.PlacedLemmas.{measured_plain, placed}
-use Rattle.promises.specs.Kept.{AreSameBut, AreShown, ShowsRow, ShowsWholeRow, StandIn, text_lines_at}
+use Rattle.promises.specs.Kept.{AreSameBut, AreShown, ShowsRow, ShowsWholeRow, StandIn, StandInLines, text_lines_at}
 use Rattle.promises.specs.Tables.{IsShownWhole}
 
 -- ---- parts of lists
@@ -92,33 +91,6 @@ module _ {A : Type 0} where
             ∙ sym (append_assoc before own_part.0 (part x ++ (own_part.1 ++ behind))),
         stand_later (map part xs) own_part.1 behind (stand_inside part whole_part xs behind inside rest),
       )
-
--- ---- columns as they are drawn
-
--- with the width at its position
-abbrev pub drawn_column : List ℕ → ℕ × ColumnValue → ℕ × ColumnInfo
-drawn_column widths p = (p.0, info_of p.1 (slice_index widths p.0))
-
--- the shown columns from a position on
-drawn_from : (all front : List ℕ) (n : ℕ) (columns : List ColumnValue) (widths : List ℕ) → all ≡ front ++ widths → length front ≡ n → length widths ≡ length columns
-    → infos_from n columns widths ≡ map (drawn_column all) (columns_from n columns)
-drawn_from all front n [] widths splits at long = nothing_drawn widths
-  where
-    nothing_drawn : (ws : List ℕ) → infos_from n [] ws ≡ []
-    nothing_drawn [] = refl
-    nothing_drawn (w ∷ ws) = refl
-drawn_from all front n (column ∷ columns) [] splits at long = absurd (omega (arith, long))
-drawn_from all front n (column ∷ columns) (w ∷ widths) splits at long =
-    by_test (is_hidden_column column) (drawn_from all (front ++ w ∷ []) (n + 1) columns widths (splits ∙ sym (append_assoc front (w ∷ []) widths)) (omega (arith, length-append front (w ∷ []), at)) (omega (arith, long)))
-  where
-    here : w ≡ slice_index all n
-    here = sym (ap (λ xs. slice_index xs n) splits ∙ ap (slice_index (front ++ w ∷ widths)) (sym at) ∙ get_or-append_seam front w widths _)
-
-    by_test : (b : Bool) → infos_from (n + 1) columns widths ≡ map (drawn_column all) (columns_from (n + 1) columns)
-        → cond (not b) ((n, info_of column w) ∷ infos_from (n + 1) columns widths) (infos_from (n + 1) columns widths)
-        ≡ map (drawn_column all) (cond (not b) ((n, column) ∷ columns_from (n + 1) columns) (columns_from (n + 1) columns))
-    by_test true rest = rest
-    by_test false rest = ap₂ (λ (v : ℕ) (more : List (ℕ × ColumnInfo)). (n, info_of column v) ∷ more) here rest
 
 -- ---- pieces
 
@@ -196,7 +168,7 @@ module _ (table : TableValue) (plain : table.custom_styling ≡ false) where
       ap (λ (limit : Option ℕ). cut_to_limit (cut_line table.custom_styling info.content_width table.indicator) limit (whole_lines table.custom_styling info.content_width d cell)) uncut
       ∙ ap (λ (custom : Bool). whole_lines custom info.content_width d cell) plain
 
-  are_texts : (row : RowValue) (info : ColumnInfo) (cell : CellValue) → row.max_height ≡ None → IsScalar (cell_delimiter table info.delimiter cell) → All IsUtf8 cell.text_lines
+  are_texts : (row : RowValue) (info : ColumnInfo) (cell : CellValue) → row.max_height ≡ None → IsScalar (cell_delimiter table info.delimiter cell) → All IsUtf8 (measured_cell table cell).text_lines
       → AreSameBut (cell_delimiter table info.delimiter cell) (concat (written_of (row_cell_lines table row info cell))) (concat cell.text_lines)
   are_texts row info cell uncut scalar whole =
       let d = cell_delimiter table info.delimiter cell in
@@ -204,13 +176,10 @@ module _ (table : TableValue) (plain : table.custom_styling ≡ false) where
       let same : written_of (row_cell_lines table row info cell) ≡ map (λ (line : CellLine). line.measured) (row_cell_lines table row info cell) =
       ap written_of made ∙ as_they_are (cell_lines info.content_width d cell) ∙ sym (ap (map (λ (line : CellLine). line.measured)) made) in
       let measured : (measured_cell table cell).text_lines ≡ cell.text_lines = ap (λ (custom : Bool). if custom then map visible_text cell.text_lines else cell.text_lines) plain in
-      ap (λ (texts : List Text). characters_without d (concat texts)) same ∙ cell_keeps_its_text table row info cell uncut scalar (subst (All IsUtf8) (sym measured) whole)
+      ap (λ (texts : List Text). characters_without d (concat texts)) same ∙ cell_keeps_its_text table row info cell uncut scalar whole
       ∙ ap (λ (texts : List Text). characters_without d (concat texts)) measured
 
 module _ (table : TableValue) (widths : List ℕ) (long : length widths ≡ length table.columns) where
-  pub columns-drawn : shown_infos (infos_of table widths) ≡ map (drawn_column widths) (shown_columns table)
-  columns-drawn = drawn_from widths [] 0 table.columns widths refl refl long
-
   module _ (line : ContentLineStyle) (row : RowValue) where
     abbrev slices_in : ℕ × ColumnValue → List Text
     slices_in p = slices_of table row (info_of p.1 (slice_index widths p.0)) (slice_get row.cells p.0)
@@ -223,7 +192,7 @@ module _ (table : TableValue) (widths : List ℕ) (long : length widths ≡ leng
     height =
         length-map (map (row_line table (infos_of table widths) row) (range_with_len 0 (row_height table (infos_of table widths) row))) (content_line table.style line)
         ∙ length-map-range_with_len (row_line table (infos_of table widths) row) 0 (row_height table (infos_of table widths) row)
-        ∙ ap (λ (qs : List (ℕ × ColumnInfo)). greatest (map (λ (q : ℕ × ColumnInfo). length (pieces_at table row q)) qs)) columns-drawn
+        ∙ ap (λ (qs : List (ℕ × ColumnInfo)). greatest (map (λ (q : ℕ × ColumnInfo). length (pieces_at table row q)) qs)) (columns-drawn table widths long)
         ∙ ap greatest (map-map (λ (q : ℕ × ColumnInfo). length (pieces_at table row q)) (drawn_column widths) (shown_columns table))
 
     enough_lines : All (λ (p : ℕ × ColumnValue). length (slices_in p) ≤ length lines_in) (shown_columns table)
@@ -246,7 +215,7 @@ module _ (table : TableValue) (widths : List ℕ) (long : length widths ≡ leng
         ap (λ (ls : List Text). slice_index_or ls k []) (map-map (content_line table.style line) (row_line table infos row) (range_with_len 0 h))
         ∙ get_or-map-range_with_len (λ j. content_line table.style line (row_line table infos row j)) 0 h k k [] within (omega arith)
         ∙ ap (content_line table.style line)
-        (ap (map (λ (q : ℕ × ColumnInfo). slice_index_or (pieces_at table row q) k (blank_piece q.1))) columns-drawn
+        (ap (map (λ (q : ℕ × ColumnInfo). slice_index_or (pieces_at table row q) k (blank_piece q.1))) (columns-drawn table widths long)
         ∙ map-map (λ (q : ℕ × ColumnInfo). slice_index_or (pieces_at table row q) k (blank_piece q.1)) (drawn_column widths) (shown_columns table))
 
     -- and they stand in it
@@ -260,18 +229,27 @@ module _ (table : TableValue) (widths : List ℕ) (long : length widths ≡ leng
         (stand_before pieces (join_by (λ (piece : Text). piece) junction pieces) right
         (subst (StandIn pieces) (sym (join_by-map (λ (piece : Text). piece) (piece_in k) junction (shown_columns table))) (stand_joined (piece_in k) junction (shown_columns table))))
 
-    pub shows_row : table.custom_styling ≡ false → All (λ (cell : CellValue). All IsUtf8 cell.text_lines) row.cells → ShowsRow table row lines_in
-    shows_row plain whole =
+    pub stands : StandInLines table slices_in lines_in
+    stands =
         record {
-          slices = slices_in;
           enough_lines = enough_lines;
           stand = λ k below.
               subst (StandIn (map (λ (p : ℕ × ColumnValue). slice_index_or (slices_in p) k []) (shown_columns table))) (sym (line_is k below))
               (stand_inside (λ (p : ℕ × ColumnValue). slice_index_or (slices_in p) k []) (piece_in k) (shown_columns table) (content_line table.style line (map (piece_in k) (shown_columns table)))
               (λ p. slice_inside table row (info_of p.1 (slice_index widths p.0)) (slice_get row.cells p.0) k) (pieces_stand k));
-          are_texts = λ uncut p cell found scalar.
+        }
+
+    pub shows_row : table.custom_styling ≡ false → All (IsWholeAt table row) (shown_columns table) → ShowsRow table row lines_in
+    shows_row plain whole =
+        record {
+          slices = slices_in;
+          stand = stands;
+          are_texts = λ uncut. All-weaker (IsWholeAt table row)
+              (λ (p : ℕ × ColumnValue). (cell : CellValue) → slice_get row.cells p.0 ≡ Some cell → AreSameBut (cell_delimiter table p.1.delimiter cell) (concat (slices_in p)) (concat cell.text_lines))
+              (λ p own cell found.
+              let is = own cell found in
               subst (λ (o : Option CellValue). AreSameBut (cell_delimiter table p.1.delimiter cell) (concat (slices_of table row (info_of p.1 (slice_index widths p.0)) o)) (concat cell.text_lines)) (sym found)
-              (are_texts table plain row (info_of p.1 (slice_index widths p.0)) cell uncut scalar (All-at (λ (c : CellValue). All IsUtf8 c.text_lines) row.cells p.0 cell whole found));
+              (are_texts table plain row (info_of p.1 (slice_index widths p.0)) cell uncut is.0 is.1)) (shown_columns table) whole;
         }
 
 -- ---- the whole drawing
@@ -318,10 +296,9 @@ module _ (table : TableValue) (widths : List ℕ) (Is : RowValue → Type 0) (Sh
 -- so of every drawing
 pub all_texts_stand : (table : TableValue) (lines : List Text) → IsTableDrawing table lines → table.custom_styling ≡ false → AreShown (ShowsRow table) table lines
 all_texts_stand table lines drawn plain =
-    let long = drawn.arranged.one_for_each in
-    let IsWhole : RowValue → Type 0 = λ row. All (λ (cell : CellValue). All IsUtf8 cell.text_lines) row.cells in
-    let whole : All IsWhole (header_and_rows table) = subst (All IsWhole) (measured_plain table plain) drawn.whole_texts in
-    subst (AreShown (ShowsRow table) table) (sym drawn.drawn) (shows_rows table drawn.widths IsWhole (ShowsRow table) (λ line row. shows_row table drawn.widths long line row plain) whole)
+    subst (AreShown (ShowsRow table) table) (sym drawn.drawn)
+    (shows_rows table drawn.widths (λ (row : RowValue). All (IsWholeAt table row) (shown_columns table)) (ShowsRow table)
+    (λ line row. shows_row table drawn.widths drawn.arranged.one_for_each line row plain) (whole_at table lines drawn))
 
 -- ---- tables that are as wide as their texts
 
@@ -395,13 +372,12 @@ module _ (table : TableValue) (plain : table.custom_styling ≡ false) (widths :
           ∙ own_lines info.content_width (cell_delimiter table info.delimiter cell) cell.text_lines (texts cell refl) ∙ sym (append-nil cell.text_lines)
 
   -- and it is shown whole
-  shows_whole : (line : ContentLineStyle) (row : RowValue) → Fits row × All (λ (cell : CellValue). All IsUtf8 cell.text_lines) row.cells → ShowsWholeRow table row (drawn_row table (infos_of table widths) line row)
-  unfolding shows_row
-  shows_whole line row (fits, whole) =
+  shows_whole : (line : ContentLineStyle) (row : RowValue) → Fits row → ShowsWholeRow table row (drawn_row table (infos_of table widths) line row)
+  shows_whole line row fits =
       let drawn : List Text = drawn_row table (infos_of table widths) line row in
       let slices : ℕ × ColumnValue → List Text = slices_in table widths arranged.one_for_each line row in
       let same = slices_are_texts line row fits in
-      let shown = shows_row table widths arranged.one_for_each line row plain whole in
+      let shown = stands table widths arranged.one_for_each line row in
       record {
         enough_lines = λ j other below. subst (λ (texts : List Text). length texts ≤ length drawn) (same j other below) (shown.enough_lines j other below);
         stand = λ k under.
@@ -414,8 +390,6 @@ module _ (table : TableValue) (plain : table.custom_styling ≡ false) (widths :
 -- so of every drawing of a table that is as wide as its texts
 pub whole_texts_stand : (table : TableValue) (lines : List Text) → IsTableDrawing table lines → table.custom_styling ≡ false → table.arrangement ≡ Disabled → IsShownWhole table → AreShown (ShowsWholeRow table) table lines
 whole_texts_stand table lines drawn plain disabled is =
-    let IsWhole : RowValue → Type 0 = λ row. All (λ (cell : CellValue). All IsUtf8 cell.text_lines) row.cells in
-    let whole : All IsWhole (header_and_rows table) = subst (All IsWhole) (measured_plain table plain) drawn.whole_texts in
     subst (AreShown (ShowsWholeRow table) table) (sym drawn.drawn)
-    (shows_rows table drawn.widths (λ row. Fits table plain drawn.widths drawn.arranged disabled is row × IsWhole row) (ShowsWholeRow table) (shows_whole table plain drawn.widths drawn.arranged disabled is)
-    (λ k default under. (rows_fit table plain drawn.widths drawn.arranged disabled is k default under, whole k default under)))
+    (shows_rows table drawn.widths (Fits table plain drawn.widths drawn.arranged disabled is) (ShowsWholeRow table) (shows_whole table plain drawn.widths drawn.arranged disabled is)
+    (rows_fit table plain drawn.widths drawn.arranged disabled is))

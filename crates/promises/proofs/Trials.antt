@@ -16,12 +16,13 @@ use Rattle.comfy_parts.specs.Presets.{utf8_full}
 use Rattle.comfy_parts.specs.Text.{Text, measure}
 use Rattle.comfy_parts.specs.declared.style.column.ColumnConstraint.TheVariants.{Hidden}
 use Rattle.comfy_table.specs.HiddenColumns.{without_hidden}
+use Rattle.comfy_table.specs.Laws.{least_total}
 use Rattle.comfy_table.specs.TableValue.{cell_content_width, TableValue, ellipsis, header_and_rows, new_table, shown_columns, with_header, with_row, constrained}
 use Rattle.promises.specs.Added.{HasRoomFor}
 use Rattle.promises.specs.Kept.{AreSameBut, StandIn}
 use Rattle.promises.specs.Shown.{HasNoControls, IsHarmless, Shows}
 use Rattle.promises.specs.Shown.Shows.{nothing, byte, sequence}
-use Rattle.promises.specs.Tables.{CharactersFit, EachShownText, EachText, HasCharactersWithin, HasPlainFrame, IsFree, IsPlain, IsShownWhole, frame_room}
+use Rattle.promises.specs.Tables.{CharactersFit, EachShownText, EachText, HasCharactersWithin, HasPlainFrame, IsFree, IsPlain, IsShownWhole}
 
 -- ---- a table
 
@@ -80,8 +81,8 @@ unfolding wrapping encode
 characters_of_one =
     each_of (HasCharactersWithin 1) "3 mai é" "Отчёт" refl refl (All-from_recursion (HasCharactersWithin 1) (utf8 "3 mai é" ∷ []) (refl, tt)) (All-from_recursion (HasCharactersWithin 1) (utf8 "Отчёт" ∷ []) (refl, tt))
 
--- the frame of two columns takes nine terminal columns
-frame_of_two : frame_room (table_of "3 mai é" "Отчёт") ≡ 9
+-- three borders, four paddings and two columns take nine terminal columns
+frame_of_two : least_total (table_of "3 mai é" "Отчёт") ≡ 9
 frame_of_two = refl
 
 -- Chinese: two terminal columns for a character

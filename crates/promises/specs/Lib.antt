@@ -2,4 +2,6 @@ pub mod Added
 pub mod Headline
 pub mod Kept
 pub mod Shown
+pub mod Straight
 pub mod Tables
+pub mod Widths

@@ -1,5 +1,5 @@
 -- Tables as callers make them, and how wide their lines are shown.
-use Rattle.std.specs.Prelude.{◌≡◌, ◌==◌, ◌&&◌, ℕ, ◌+◌, ◌<◌, ◌≤◌, true, false, not, None, Some, List, All, chars, encode_utf8, filter, length, nat_le, slice_get, sum_by}
+use Rattle.std.specs.Prelude.{◌≡◌, ◌==◌, ◌&&◌, ℕ, ◌<◌, ◌≤◌, true, false, not, None, Some, List, All, chars, encode_utf8, filter, length, nat_le, slice_get}
 use Rattle.std.specs.List.{list_all}
 use Rattle.comfy_parts.specs.CellValue.{CellValue, ColumnInfo, ColumnValue, RowValue, is_hidden_column}
 use Rattle.comfy_parts.specs.Columns.{IsApart, IsOneColumn, IsOneColumnStyle}
@@ -65,7 +65,3 @@ pub record IsShownWhole (table : TableValue) : Type 0 where
 abbrev pub CharactersFit : TableValue → List ColumnInfo → Type 0
 CharactersFit table columns =
     All (λ (column : ColumnInfo). EachText (HasCharactersWithin column.content_width) table) (filter (λ (column : ColumnInfo). not column.is_hidden) columns)
-
--- what the frame takes where each shown column has its paddings, one terminal column for its texts, and a border at each side
-abbrev pub frame_room : TableValue → ℕ
-frame_room table = 1 + sum_by (λ (column : ColumnValue). column.padding.0 + 1 + column.padding.1 + 1) (shown table)

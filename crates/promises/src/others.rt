@@ -1,16 +1,14 @@
 //! Tables beside others: what is hidden tells nothing, and what was shown stays.
 
-ghost use Rattle.std.specs.Prelude.{◌≡◌, false, IfOk};
-ghost use Rattle.comfy_parts.specs.declared.style.table.ContentArrangement.TheVariants.{Disabled};
-ghost use Rattle.comfy_table.specs.HiddenColumns.{without_hidden};
-ghost use Rattle.promises.specs.Added.{HasRoomFor, Stay};
+ghost use Rattle.std.specs.Prelude.{IfOk};
+ghost use Rattle.promises.specs.Added.{AreSameButForHidden, StayWithRow};
 
 use comfy_table::laws::{hidden_columns_tell_nothing, shown_lines_stay};
 use comfy_table::{Lines, Result, Row, Table};
 
 /// Two tables that are the same but for hidden columns have the same lines.
 pub fn lines_of_both(table: &Table, other: &Table) -> Result<(Lines, Lines)>
-    ensures { IfOk result (λ drawn. without_hidden table.now ≡ without_hidden other.now → drawn.0 ≡ drawn.1) }
+    ensures { IfOk result (λ drawn. AreSameButForHidden table.now other.now drawn.0 drawn.1) }
 {
     hidden_columns_tell_nothing();
     let lines = table.lines()?;
@@ -20,7 +18,7 @@ pub fn lines_of_both(table: &Table, other: &Table) -> Result<(Lines, Lines)>
 
 /// The lines of a table before and after a row was added. Where the row has room, all lines stay as they were.
 pub fn lines_before_and_after(table: &mut Table, row: Row) -> Result<(Lines, Lines)>
-    ensures { IfOk result (λ drawn. table.old.arrangement ≡ Disabled → table.old.custom_styling ≡ false → HasRoomFor table.old row → Stay drawn.0 drawn.1) }
+    ensures { IfOk result (λ drawn. StayWithRow table.old row drawn.0 drawn.1) }
 {
     shown_lines_stay();
     let lines = table.lines()?;

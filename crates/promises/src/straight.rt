@@ -1,24 +1,21 @@
 //! Straight edges.
 
-ghost use Rattle.std.specs.Prelude.{◌≡◌, IfOk};
-ghost use Rattle.comfy_parts.specs.declared.style.table.ContentArrangement.TheVariants.{Disabled};
-ghost use Rattle.comfy_table.specs.NewTables.{AreEquallyWide};
-ghost use Rattle.promises.specs.Shown.{AreShownEquallyWide, HasNoControls};
-ghost use Rattle.promises.specs.Tables.{CharactersFit, EachText, HasCharactersWithin, HasPlainFrame, IsPlain, IsShownWhole};
+ghost use Rattle.std.specs.Prelude.{IfOk};
+ghost use Rattle.promises.specs.Straight.{AreShownStraight, AreStraight, AreStraightWhereCharactersFit, AreStraightWhole};
 
 use comfy_table::{ArrangedTable, Lines, Result, Table};
 
 /// Where no character takes more than one terminal column, all lines are equally wide, under every arrangement, width,
 /// constraint and height.
 pub fn straight_lines(table: &Table) -> Result<Lines>
-    ensures { IfOk result (λ lines. IsPlain table.now → HasPlainFrame table.now → EachText (HasCharactersWithin 1) table.now → AreEquallyWide lines) }
+    ensures { IfOk result (λ lines. AreStraight table.now lines) }
 {
     table.lines()
 }
 
 /// Without a width to keep to, all lines are equally wide, for texts of every script.
 pub fn straight_whole_lines(table: &Table) -> Result<Lines>
-    ensures { IfOk result (λ lines. IsPlain table.now → HasPlainFrame table.now → table.now.arrangement ≡ Disabled → IsShownWhole table.now → AreEquallyWide lines) }
+    ensures { IfOk result (λ lines. AreStraightWhole table.now lines) }
 {
     table.lines()
 }
@@ -26,7 +23,7 @@ pub fn straight_whole_lines(table: &Table) -> Result<Lines>
 /// Where each character has room in each column, all lines are equally wide, whatever the script. The columns are returned
 /// with the lines.
 pub fn straight_fitting_lines(table: &Table) -> Result<(ArrangedTable<'_>, Lines)>
-    ensures { IfOk result (λ drawn. IsPlain table.now → HasPlainFrame table.now → CharactersFit table.now drawn.0.infos → AreEquallyWide drawn.1) }
+    ensures { IfOk result (λ drawn. AreStraightWhereCharactersFit table.now drawn.0.infos drawn.1) }
 {
     let arranged = table.arranged()?;
     let lines = table.lines()?;
@@ -34,9 +31,9 @@ pub fn straight_fitting_lines(table: &Table) -> Result<(ArrangedTable<'_>, Lines
 }
 
 /// With colours and attributes, all lines show the same number of terminal columns, where no character takes more than one
-/// and none is a control character.
+/// and no shown text holds a control character.
 pub fn straight_styled_lines(table: &Table) -> Result<Lines>
-    ensures { IfOk result (λ lines. HasNoControls table.now → HasPlainFrame table.now → EachText (HasCharactersWithin 1) table.now → AreShownEquallyWide lines) }
+    ensures { IfOk result (λ lines. AreShownStraight table.now lines) }
 {
     table.lines()
 }

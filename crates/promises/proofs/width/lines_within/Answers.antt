@@ -4,4 +4,4 @@ use Rattle.promises.proofs.FrameLemmas.{within}
 use Rattle.promises.proofs.width.lines_within.Goals as goal
 
 pub returns : goal.returns
-returns c = IfOk-weaker c.lines.result _ _ (λ lines. within c.args.table.now _ c.args.width lines (search rules)) c.lines.ensures.headline
+returns c = IfOk-weaker c.lines.result _ _ (λ lines drawn is. within c.args.table.now _ c.args.width lines (search rules) drawn is.0 is.1 is.2 is.3) c.lines.ensures.headline

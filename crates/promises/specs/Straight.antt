@@ -1,0 +1,29 @@
+-- Lines that are equally wide.
+use Rattle.std.specs.Prelude.{◌≡◌, List}
+use Rattle.comfy_parts.specs.CellValue.{ColumnInfo}
+use Rattle.comfy_parts.specs.Text.{Text}
+use Rattle.comfy_parts.specs.declared.style.table.ContentArrangement.TheVariants.{Disabled}
+use Rattle.comfy_table.specs.NewTables.{AreEquallyWide}
+use Rattle.comfy_table.specs.TableValue.{TableValue}
+use Rattle.promises.specs.Shown.{AreShownEquallyWide, HasNoControls}
+use Rattle.promises.specs.Tables.{CharactersFit, EachText, HasCharactersWithin, HasPlainFrame, IsPlain, IsShownWhole}
+
+-- where no character takes more than one terminal column
+abbrev pub AreStraight : TableValue → List Text → Type 0
+AreStraight table lines =
+    IsPlain table → HasPlainFrame table → EachText (HasCharactersWithin 1) table → AreEquallyWide lines
+
+-- where the table is as wide as its texts
+abbrev pub AreStraightWhole : TableValue → List Text → Type 0
+AreStraightWhole table lines =
+    IsPlain table → HasPlainFrame table → table.arrangement ≡ Disabled → IsShownWhole table → AreEquallyWide lines
+
+-- where each character fits these columns
+abbrev pub AreStraightWhereCharactersFit : TableValue → List ColumnInfo → List Text → Type 0
+AreStraightWhereCharactersFit table columns lines =
+    IsPlain table → HasPlainFrame table → CharactersFit table columns → AreEquallyWide lines
+
+-- with colours and attributes, by what the lines show
+abbrev pub AreShownStraight : TableValue → List Text → Type 0
+AreShownStraight table lines =
+    HasNoControls table → HasPlainFrame table → EachText (HasCharactersWithin 1) table → AreShownEquallyWide lines

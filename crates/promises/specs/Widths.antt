@@ -1,0 +1,27 @@
+-- Lines that keep to a width.
+use Rattle.std.specs.Prelude.{◌≡◌, ℕ, ◌≤◌, List, Some, All, max}
+use Rattle.comfy_parts.specs.CellValue.{ColumnInfo}
+use Rattle.comfy_parts.specs.Text.{Text, measure}
+use Rattle.comfy_parts.specs.declared.style.table.ContentArrangement.TheVariants.{Dynamic}
+use Rattle.comfy_table.specs.Laws.{least_total}
+use Rattle.comfy_table.specs.TableValue.{TableValue}
+use Rattle.promises.specs.Tables.{CharactersFit, EachText, HasCharactersWithin, HasPlainFrame, IsFree, IsPlain}
+
+-- the texts of a table without styles and constraints have characters of at most one terminal column
+abbrev pub IsNarrow : TableValue → Type 0
+IsNarrow table = IsPlain table × HasPlainFrame table × IsFree table × EachText (HasCharactersWithin 1) table
+
+-- then no line is wider than the width, or than borders, paddings and one terminal column for each column
+abbrev pub KeepToWidth : TableValue → ℕ → List Text → Type 0
+KeepToWidth table w lines = IsNarrow table → All (λ line. measure line ≤ max w (least_total table)) lines
+
+-- or each is exactly as wide
+abbrev pub FillWidth : TableValue → ℕ → List Text → Type 0
+FillWidth table w lines = IsNarrow table → All (λ line. measure line ≡ max w (least_total table)) lines
+
+-- no line is wider where each character fits these columns
+abbrev pub KeepToWidthWhereCharactersFit : TableValue → List ColumnInfo → List Text → Type 0
+KeepToWidthWhereCharactersFit table columns lines =
+    (w : ℕ) → table.set_width ≡ Some w → table.arrangement ≡ Dynamic
+    → IsPlain table → HasPlainFrame table → IsFree table → CharactersFit table columns
+    → All (λ line. measure line ≤ max w (least_total table)) lines
