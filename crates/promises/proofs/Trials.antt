@@ -1,11 +1,12 @@
 -- Tables for which the premises of the promises hold, and texts that these promises refuse.
-use Rattle.std.proofs.Common.{◌≡◌, ◌==◌, ◌&&◌, ◌≤◌, ℕ, zero, suc, true, false, not, [], ◌∷◌, ◌++◌, ◌∙◌, Contains, Some, None, codes, refl, ap, subst, arith, slice_index_or}
-use Rattle.std.specs.List.{All, slice_get}
+use Rattle.std.proofs.Common.{◌≡◌, ◌==◌, ◌&&◌, ◌≤◌, ◌<◌, ℕ, zero, suc, true, false, not, List, [], ◌∷◌, ◌++◌, ◌∙◌, length, max, Contains, Some, None, codes, refl, sym, ap, subst, arith, slice_index_or}
+use Rattle.std.specs.List.{All, AllZip, concat, slice_get}
 use Rattle.std.specs.Char.{is_control}
 use Rattle.std.specs.Prelude.{encode_utf8_all}
 use Rattle.std.specs.Str.{NoCharPasses, chars}
 use Prim.Native.String.{String}
 use lib.Utf8.{encode}
+use Rattle.std.proofs.lemmas.Bool.{or_parts}
 use Rattle.std.proofs.lemmas.List.Elements.{All-from_recursion}
 use Rattle.std.proofs.lemmas.Str.{NoCharPasses-byte}
 use Rattle.comfy_parts.proofs.CallerLemmas.{All-at, All-every, frame_adds, frame_apart, one_column_characters}
@@ -13,14 +14,16 @@ use Rattle.comfy_parts.proofs.Computing.{wrapping}
 use Rattle.comfy_parts.specs.CellValue.{ColumnInfo, info_of, new_column, CellValue, ColumnValue, RowValue, plain_cell, plain_row}
 use Rattle.comfy_parts.specs.Columns.{IsApart, IsOneColumn}
 use Rattle.comfy_parts.specs.Presets.{utf8_full}
-use Rattle.comfy_parts.specs.Text.{Text, measure}
+use Rattle.comfy_parts.specs.Text.{HasNo, Text, measure}
 use Rattle.comfy_parts.specs.declared.style.column.ColumnConstraint.TheVariants.{Hidden}
 use Rattle.comfy_table.specs.HiddenColumns.{without_hidden}
 use Rattle.comfy_table.specs.Laws.{least_total}
 use Rattle.comfy_table.specs.TableValue.{cell_content_width, TableValue, ellipsis, header_and_rows, new_table, shown_columns, with_header, with_row, constrained}
-use Rattle.promises.specs.Added.{HasRoomFor}
-use Rattle.promises.specs.Kept.{AreSameBut, StandIn}
-use Rattle.promises.specs.Shown.{HasNoControls, IsHarmless, Shows}
+use Rattle.comfy_table.specs.NewTables.{AreEquallyWide}
+use Rattle.promises.specs.Added.{HasRoomFor, Stay}
+use Rattle.promises.specs.Headline.{IsHeadline}
+use Rattle.promises.specs.Kept.{AreSameBut, AreShown, ShowsRow, ShowsWholeRow, StandIn}
+use Rattle.promises.specs.Shown.{AreShownEquallyWide, HasNoControls, IsHarmless, Shows}
 use Rattle.promises.specs.Shown.Shows.{nothing, byte, sequence}
 use Rattle.promises.specs.Tables.{CharactersFit, EachShownText, EachText, HasCharactersWithin, HasPlainFrame, IsFree, IsPlain, IsShownWhole}
 
@@ -195,6 +198,7 @@ bell_shows (byte b text shown clear rest) is = let end : text ≡ [] = cc is in 
     nothing_left (sequence code text shown all rest) same = absurd (cc same)
 bell_shows (sequence code text shown all rest) is = absurd (cc is)
 
+-- false: promises::harmless::harmless_text, csv_promises::harmless::harmless_output
 bell_is_harmful : ¬ (IsHarmless (0x07 ∷ []))
 bell_is_harmful (shown, shows, none) =
     let own : NoCharPasses (λ c. is_control c && not (c == 0x0A)) (0x07 ∷ []) = subst (NoCharPasses (λ c. is_control c && not (c == 0x0A))) (bell_shows shows refl) none in
@@ -223,3 +227,108 @@ turned_round (before, behind, is, (between, rest, are, end)) = by_before before 
     by_before [] same = let letter : ◌≡◌ {A = ℕ} 0x61 0x62 = cc same in absurd (omega (arith, letter))
     by_before (x ∷ []) same = let gone : [] ≡ behind = cc same in none_in_nothing between [] rest 0x61 (gone ∙ are)
     by_before (x ∷ y ∷ more) same = none_in_nothing more [] behind 0x62 (let end : [] ≡ more ++ (0x62 ∷ behind) = cc same in end)
+
+-- ---- what no call returns
+
+-- lines of two widths
+uneven : List Text
+uneven = codes "ab" ∷ codes "a" ∷ []
+
+-- false: promises::straight::straight_lines, promises::straight::straight_whole_lines, promises::straight::straight_fitting_lines
+uneven_is_not_straight : ¬ (AreEquallyWide uneven)
+unfolding wrapping uneven
+uneven_is_not_straight (n, each) =
+    let two : 2 ≡ n = each 0 [] (omega arith) in
+    let one : 1 ≡ n = each 1 [] (omega arith) in
+    absurd (omega (arith, two, one))
+
+-- a text without ESC shows itself alone
+shows_itself : {text shown : Text} → Shows text shown → HasNo 0x1B text → shown ≡ text
+shows_itself nothing none = refl
+shows_itself (byte b text shown clear rest) none = ap (λ (t : Text). b ∷ t) (shows_itself rest (or_parts (b == 0x1B) _ none).1)
+shows_itself (sequence code text shown all rest) none = absurd (cc none)
+
+-- false: promises::straight::straight_styled_lines
+uneven_is_not_shown_straight : ¬ (AreShownEquallyWide uneven)
+unfolding wrapping uneven
+uneven_is_not_shown_straight (n, each) =
+    let first = each 0 [] (omega arith) in
+    let second = each 1 [] (omega arith) in
+    let two : 2 ≡ n = ap measure (sym (shows_itself first.1 refl)) ∙ first.2 in
+    let one : 1 ≡ n = ap measure (sym (shows_itself second.1 refl)) ∙ second.2 in
+    absurd (omega (arith, two, one))
+
+-- false: promises::width::lines_within, promises::width::fitting_lines_within
+wider_than_the_width : ¬ (All (λ line. measure line ≤ max 3 9) (codes "0123456789" ∷ []))
+unfolding wrapping
+wider_than_the_width each = let ten : 10 ≤ 9 = each 0 [] (omega arith) in absurd (omega (arith, ten))
+
+-- false: promises::width::lines_over
+narrower_than_the_width : ¬ (All (λ line. measure line ≡ max 3 9) (codes "01234567" ∷ []))
+unfolding wrapping
+narrower_than_the_width each = let eight : 8 ≡ 9 = each 0 [] (omega arith) in absurd (omega (arith, eight))
+
+-- what stands in nothing is nothing
+nothing_inside : {A : Type 0} (before part behind : List A) → [] ≡ before ++ (part ++ behind) → part ≡ []
+nothing_inside [] [] behind is = refl
+nothing_inside [] (x ∷ part) behind is = absurd (cc is)
+nothing_inside (b ∷ before) part behind is = absurd (cc is)
+
+-- a list that is no longer than another one without elements is none
+no_longer : {A B : Type 0} (xs : List A) (ys : List B) → ys ≡ [] → length xs ≤ length ys → xs ≡ []
+no_longer [] ys none short = refl
+no_longer (x ∷ xs) ys none short = let zero_long = ap length none in absurd (omega (arith, short, zero_long))
+
+-- the first shown column of these tables
+first_column : 0 < length (shown_columns (table_of "3 mai" "oats"))
+first_column = omega arith
+
+-- false: promises::kept::lines_with_all_texts
+no_lines_lose_texts : ¬ (AreShown (ShowsRow (table_of "3 mai" "oats")) (table_of "3 mai" "oats") [])
+unfolding chars encode
+no_lines_lose_texts is = by_blocks is.blocks is.stand is.show
+  where
+    by_blocks : (blocks : List (List Text)) → StandIn blocks [] → ¬ (AllZip (ShowsRow (table_of "3 mai" "oats")) (row_of "day" "text" ∷ row_of "3 mai" "oats" ∷ []) blocks)
+    by_blocks [] stand show = show
+    by_blocks (block ∷ blocks) (before, behind, inside, later) show =
+        let header = show.0 in
+        let none = nothing_inside before block behind inside in
+        let short : length (header.slices (0, new_column 0)) ≤ length block = header.stand.enough_lines 0 (0, new_column 0) first_column in
+        let gone = no_longer (header.slices (0, new_column 0)) block none short in
+        let same : AreSameBut 0x20 (concat (header.slices (0, new_column 0))) (codes "day") = header.are_texts refl 0 (0, new_column 0) first_column (plain_cell (utf8 "day")) refl in
+        let lost : AreSameBut 0x20 [] (codes "day") = subst (λ (slices : List Text). AreSameBut 0x20 (concat slices) (codes "day")) gone same in
+        cc lost
+
+-- false: promises::kept::lines_with_whole_texts
+no_lines_lose_whole_texts : ¬ (AreShown (ShowsWholeRow (table_of "3 mai" "oats")) (table_of "3 mai" "oats") [])
+unfolding chars encode
+no_lines_lose_whole_texts is = by_blocks is.blocks is.stand is.show
+  where
+    by_blocks : (blocks : List (List Text)) → StandIn blocks [] → ¬ (AllZip (ShowsWholeRow (table_of "3 mai" "oats")) (row_of "day" "text" ∷ row_of "3 mai" "oats" ∷ []) blocks)
+    by_blocks [] stand show = show
+    by_blocks (block ∷ blocks) (before, behind, inside, later) show =
+        let none = ap length (nothing_inside before block behind inside) in
+        let short : 1 ≤ length block = show.0.enough_lines 0 (0, new_column 0) first_column in
+        absurd (omega (arith, short, none))
+
+-- false: promises::others::lines_of_both
+one_line_more : ¬ (uneven ≡ codes "a" ∷ uneven)
+unfolding uneven
+one_line_more is = cc is
+
+-- false: promises::others::lines_before_and_after
+changed_line : ¬ (Stay (codes "a" ∷ []) (codes "b" ∷ []))
+changed_line (above, last, added, short, before, after) = by_above above last added before after
+  where
+    other : ¬ (codes "a" ≡ codes "b")
+    other is = let letter : ◌≡◌ {A = ℕ} 0x61 0x62 = cc is in absurd (omega (arith, letter))
+
+    by_above : (above last added : List Text) → codes "a" ∷ [] ≡ above ++ last → ¬ (codes "b" ∷ [] ≡ above ++ (added ++ last))
+    by_above [] last [] before after = let own : codes "a" ≡ codes "b" = cc (before, after) in other own
+    by_above [] last (x ∷ []) before after = let own : [] ≡ codes "a" ∷ [] = cc (before, after) in cc own
+    by_above [] last (x ∷ y ∷ added) before after = cc after
+    by_above (x ∷ above) last added before after = let own : codes "a" ≡ codes "b" = cc (before, after) in other own
+
+-- false: promises::headline::headline
+no_lines_are_no_table : ¬ (IsHeadline (table_of "3 mai" "oats") [])
+no_lines_are_no_table is = cc is.drawn
