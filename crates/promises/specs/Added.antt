@@ -15,7 +15,8 @@ StandsBelowAsWide table i cell =
 -- a row has no more cells than there are columns, and each stands below such a cell
 pub record HasRoomFor (table : TableValue) (row : RowValue) : Type 0 where
   pub columns : length row.cells ≤ length table.columns
-  pub widths : (i : ℕ) (cell : CellValue) → slice_get row.cells i ≡ Some cell → StandsBelowAsWide table i cell
+  pub widths : (i : ℕ) (cell : CellValue) → slice_get row.cells i ≡ Some cell
+      → StandsBelowAsWide table i cell
 
 -- all lines stay as they were; further ones stand below them, or above the last one
 abbrev pub Stay : List Text → List Text → Type 0
@@ -26,8 +27,10 @@ Stay lines others =
 -- so they do where the added row has room, and no width is kept to
 abbrev pub StayWithRow : TableValue → RowValue → List Text → List Text → Type 0
 StayWithRow table row lines others =
-    table.arrangement ≡ Disabled → table.custom_styling ≡ false → HasRoomFor table row → Stay lines others
+    table.arrangement ≡ Disabled → table.custom_styling ≡ false → HasRoomFor table row
+    → Stay lines others
 
 -- tables that are the same but for hidden columns have the same lines
 abbrev pub AreSameButForHidden : TableValue → TableValue → List Text → List Text → Type 0
-AreSameButForHidden table other lines others = without_hidden table ≡ without_hidden other → lines ≡ others
+AreSameButForHidden table other lines others =
+    without_hidden table ≡ without_hidden other → lines ≡ others

@@ -12,7 +12,9 @@ use Rattle.promises.specs.Tables.{IsShownWhole}
 -- the parts stand in the whole, one behind the other, whatever is between them
 abbrev pub StandIn : {A : Type 0} → List (List A) → List A → Type 0
 StandIn {A} [] whole = Unit {0}
-StandIn {A} (part ∷ parts) whole = (before : List A) × (behind : List A) × (whole ≡ before ++ (part ++ behind)) × StandIn parts behind
+StandIn {A} (part ∷ parts) whole =
+    (before : List A) × (behind : List A) × (whole ≡ before ++ (part ++ behind))
+    × StandIn parts behind
 
 -- both texts have the same characters, in order, but for d
 abbrev pub AreSameBut : ℕ → Text → Text → Type 0
@@ -20,22 +22,27 @@ AreSameBut d text other = characters_without d text ≡ characters_without d oth
 
 -- the text lines of a row's cell, where it has one at that position
 abbrev pub text_lines_at : RowValue → ℕ → List Text
-text_lines_at row i = flat_map (λ (cell : CellValue). cell.text_lines) (option_to_list (slice_get row.cells i))
+text_lines_at row i =
+    flat_map (λ (cell : CellValue). cell.text_lines) (option_to_list (slice_get row.cells i))
 
 -- in each of the lines stands a part for each shown column, from left to right
-pub record StandInLines (table : TableValue) (parts : ℕ × ColumnValue → List Text) (lines : List Text) : Type 0 where
-  pub enough_lines : All (λ (p : ℕ × ColumnValue). length (parts p) ≤ length lines) (shown_columns table)
+pub record StandInLines (table : TableValue) (parts : ℕ × ColumnValue → List Text)
+    (lines : List Text) : Type 0 where
+  pub enough_lines :
+      All (λ (p : ℕ × ColumnValue). length (parts p) ≤ length lines) (shown_columns table)
   pub stand : EachIndex lines (λ k. StandIn
       (map (λ (p : ℕ × ColumnValue). slice_index_or (parts p) k []) (shown_columns table))
       (slice_index_or lines k []))
 
--- the lines show a row: in each line stands a slice of each shown cell; the slices of a cell that no height cuts, from top to bottom, are its text, but for the character at which it breaks
+-- the lines show a row: in each line stands a slice of each shown cell; the slices of a cell that
+-- no height cuts, from top to bottom, are its text, but for the character at which it breaks
 pub record ShowsRow (table : TableValue) (row : RowValue) (lines : List Text) : Type 0 where
   pub slices : ℕ × ColumnValue → List Text
   pub stand : StandInLines table slices lines
   pub are_texts : row.max_height ≡ None → All (λ (p : ℕ × ColumnValue). (cell : CellValue)
       → slice_get row.cells p.0 ≡ Some cell
-      → AreSameBut (cell_delimiter table p.1.delimiter cell) (concat (slices p)) (concat cell.text_lines))
+      → AreSameBut (cell_delimiter table p.1.delimiter cell)
+      (concat (slices p)) (concat cell.text_lines))
       (shown_columns table)
 
 -- the lines show a row unchanged: in line k stands line k of the text of each shown cell
@@ -43,7 +50,8 @@ abbrev pub ShowsWholeRow : TableValue → RowValue → List Text → Type 0
 ShowsWholeRow table row lines = StandInLines table (λ p. text_lines_at row p.0) lines
 
 -- the lines show all rows of a table: below each other stand some for each row, the header first
-pub record AreShown (Shows : RowValue → List Text → Type 0) (table : TableValue) (lines : List Text) : Type 0 where
+pub record AreShown (Shows : RowValue → List Text → Type 0) (table : TableValue)
+    (lines : List Text) : Type 0 where
   pub blocks : List (List Text)
   pub stand : StandIn blocks lines
   pub show : AllZip Shows (header_and_rows table) blocks

@@ -9,22 +9,29 @@ use Rattle.comfy_parts.specs.VisibleText.{is_parameter}
 use Rattle.comfy_table.specs.TableValue.{TableValue}
 use Rattle.promises.specs.Tables.{EachShownText}
 
--- a text, and what it shows: the text without its SGR sequences, which set colours and attributes. ESC stands nowhere but at the front of these
+-- a text, and what it shows: the text without its SGR sequences, which set colours and
+-- attributes. ESC stands nowhere but at the front of these
 pub data Shows : Text → Text → Type 0 where
   nothing : Shows [] []
-  byte : (b : ℕ) (text shown : Text) → (b == 0x1B) ≡ false → Shows text shown → Shows (b ∷ text) (b ∷ shown)
-  sequence : (code text shown : Text) → list_all is_parameter code ≡ true → Shows text shown → Shows (0x1B ∷ 0x5B ∷ (code ++ 0x6D ∷ text)) shown
+  byte : (b : ℕ) (text shown : Text) → (b == 0x1B) ≡ false
+      → Shows text shown → Shows (b ∷ text) (b ∷ shown)
+  sequence : (code text shown : Text) → list_all is_parameter code ≡ true
+      → Shows text shown → Shows (0x1B ∷ 0x5B ∷ (code ++ 0x6D ∷ text)) shown
 
 -- all that a terminal is told are characters, line ends, colours and attributes
 abbrev pub IsHarmless : Text → Type 0
-IsHarmless text = (shown : Text) × Shows text shown × NoCharPasses (λ c. is_control c && not (c == 0x0A)) shown
+IsHarmless text =
+    (shown : Text) × Shows text shown × NoCharPasses (λ c. is_control c && not (c == 0x0A)) shown
 
 -- all lines show the same number of terminal columns
 abbrev pub AreShownEquallyWide : List Text → Type 0
-AreShownEquallyWide lines = (n : ℕ) × All (λ line. (shown : Text) × Shows line shown × (measure shown ≡ n)) lines
+AreShownEquallyWide lines =
+    (n : ℕ) × All (λ line. (shown : Text) × Shows line shown × (measure shown ≡ n)) lines
 
 -- no character of a shown text, of the indicator and of the style is a control character
 pub record HasNoControls (table : TableValue) : Type 0 where
   pub texts : EachShownText (NoCharPasses is_control) table
   pub indicator : NoCharPasses is_control table.indicator
-  pub style : list_any (λ (c : Option ℕ). is_control (unwrap_or c 0x20)) (style_characters table.style) ≡ false
+  pub style :
+      list_any (λ (c : Option ℕ). is_control (unwrap_or c 0x20)) (style_characters table.style)
+      ≡ false

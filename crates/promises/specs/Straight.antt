@@ -11,12 +11,14 @@ use Rattle.promises.specs.Tables.{CharactersFit, EachText, HasCharactersWithin, 
 -- where no character takes more than one terminal column
 abbrev pub AreStraight : TableValue → List Text → Type 0
 AreStraight table lines =
-    IsPlain table → HasPlainFrame table → EachText (HasCharactersWithin 1) table → AreEquallyWide lines
+    IsPlain table → HasPlainFrame table → EachText (HasCharactersWithin 1) table
+    → AreEquallyWide lines
 
 -- where the table is as wide as its texts
 abbrev pub AreStraightWhole : TableValue → List Text → Type 0
 AreStraightWhole table lines =
-    IsPlain table → HasPlainFrame table → table.arrangement ≡ Disabled → IsShownWhole table → AreEquallyWide lines
+    IsPlain table → HasPlainFrame table → table.arrangement ≡ Disabled → IsShownWhole table
+    → AreEquallyWide lines
 
 -- where each character fits these columns
 abbrev pub AreStraightWhereCharactersFit : TableValue → List ColumnInfo → List Text → Type 0
@@ -26,4 +28,5 @@ AreStraightWhereCharactersFit table columns lines =
 -- with colours and attributes, by what the lines show
 abbrev pub AreShownStraight : TableValue → List Text → Type 0
 AreShownStraight table lines =
-    HasNoControls table → HasPlainFrame table → EachText (HasCharactersWithin 1) table → AreShownEquallyWide lines
+    HasNoControls table → HasPlainFrame table → EachText (HasCharactersWithin 1) table
+    → AreShownEquallyWide lines

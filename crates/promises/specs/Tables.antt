@@ -20,7 +20,8 @@ EachText P table = EachCell (λ (cell : CellValue). All P cell.text_lines) table
 abbrev pub EachShownText : (Text → Type 0) → TableValue → Type 0
 EachShownText P table =
     All (λ (p : ℕ × ColumnValue). All (λ (row : RowValue). (cell : CellValue)
-    → slice_get row.cells p.0 ≡ Some cell → All P cell.text_lines) (header_and_rows table)) (shown_columns table)
+    → slice_get row.cells p.0 ≡ Some cell → All P cell.text_lines) (header_and_rows table))
+    (shown_columns table)
 
 -- the columns that aren't hidden
 abbrev pub shown : TableValue → List ColumnValue
@@ -42,11 +43,14 @@ pub record IsPlain (table : TableValue) : Type 0 where
 
 -- ---- terminal columns
 
--- each character of the text takes at most n terminal columns, and none is U+FE01, which widens the one before it
+-- each character of the text takes at most n terminal columns, and none is U+FE01, which widens
+-- the one before it
 abbrev pub HasCharactersWithin : ℕ → Text → Type 0
-HasCharactersWithin n text = list_all (λ c. nat_le (measure (encode_utf8 c)) n && not (c == 0xFE01)) (chars text) ≡ true
+HasCharactersWithin n text =
+    list_all (λ c. nat_le (measure (encode_utf8 c)) n && not (c == 0xFE01)) (chars text) ≡ true
 
--- each character of the style adds one terminal column, wherever it stands; so does each at which texts break; no text joins the indicator; and a space stands before each text
+-- each character of the style adds one terminal column, wherever it stands; so does each at which
+-- texts break; no text joins the indicator; and a space stands before each text
 pub record HasPlainFrame (table : TableValue) : Type 0 where
   pub style : IsOneColumnStyle table.style
   pub delimiter : IsOneColumn table.delimiter
@@ -55,7 +59,8 @@ pub record HasPlainFrame (table : TableValue) : Type 0 where
   pub indicator : IsApart table.indicator
   pub paddings : All (λ (column : ColumnValue). 1 ≤ column.padding.0) (shown table)
 
--- the table is drawn as wide as its texts: no constraint, no row that is cut, no text line of more than 65535 terminal columns
+-- the table is drawn as wide as its texts: no constraint, no row that is cut, no text line of more
+-- than 65535 terminal columns
 pub record IsShownWhole (table : TableValue) : Type 0 where
   pub no_constraint : IsUnconstrained table
   pub uncut : All (λ (row : RowValue). row.max_height ≡ None) (header_and_rows table)
@@ -64,4 +69,5 @@ pub record IsShownWhole (table : TableValue) : Type 0 where
 -- each character of each text fits each column that is drawn
 abbrev pub CharactersFit : TableValue → List ColumnInfo → Type 0
 CharactersFit table columns =
-    All (λ (column : ColumnInfo). EachText (HasCharactersWithin column.content_width) table) (filter (λ (column : ColumnInfo). not column.is_hidden) columns)
+    All (λ (column : ColumnInfo). EachText (HasCharactersWithin column.content_width) table)
+    (filter (λ (column : ColumnInfo). not column.is_hidden) columns)

@@ -7,17 +7,21 @@ use Rattle.comfy_table.specs.Laws.{least_total}
 use Rattle.comfy_table.specs.TableValue.{TableValue}
 use Rattle.promises.specs.Tables.{CharactersFit, EachText, HasCharactersWithin, HasPlainFrame, IsFree, IsPlain}
 
--- the texts of a table without styles and constraints have characters of at most one terminal column
+-- the texts of a table without styles and constraints have characters of one terminal column
 abbrev pub IsNarrow : TableValue → Type 0
-IsNarrow table = IsPlain table × HasPlainFrame table × IsFree table × EachText (HasCharactersWithin 1) table
+IsNarrow table =
+    IsPlain table × HasPlainFrame table × IsFree table × EachText (HasCharactersWithin 1) table
 
--- then no line is wider than the width, or than borders, paddings and one terminal column for each column
+-- then no line is wider than the width, or than borders, paddings and one terminal column for
+-- each column
 abbrev pub KeepToWidth : TableValue → ℕ → List Text → Type 0
-KeepToWidth table w lines = IsNarrow table → All (λ line. measure line ≤ max w (least_total table)) lines
+KeepToWidth table w lines =
+    IsNarrow table → All (λ line. measure line ≤ max w (least_total table)) lines
 
 -- or each is exactly as wide
 abbrev pub FillWidth : TableValue → ℕ → List Text → Type 0
-FillWidth table w lines = IsNarrow table → All (λ line. measure line ≡ max w (least_total table)) lines
+FillWidth table w lines =
+    IsNarrow table → All (λ line. measure line ≡ max w (least_total table)) lines
 
 -- no line is wider where each character fits these columns
 abbrev pub KeepToWidthWhereCharactersFit : TableValue → List ColumnInfo → List Text → Type 0

@@ -5,8 +5,8 @@ ghost use Rattle.promises.specs.Shown.{HasNoControls, IsHarmless};
 
 use comfy_table::{Result, Table};
 
-/// A table whose texts, indicator and style hold no control character tells a terminal nothing but characters, line ends,
-/// colours and attributes.
+/// A table whose shown texts, indicator and style hold no control character tells a terminal
+/// nothing but characters, line ends, colours and attributes.
 pub fn harmless_text(table: &Table) -> Result<String>
     ensures { IfOk result (λ text. HasNoControls table.now → IsHarmless (string_bytes text)) }
 {

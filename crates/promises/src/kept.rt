@@ -5,15 +5,16 @@ ghost use Rattle.promises.specs.Kept.{ShowAllTexts, ShowWholeTexts};
 
 use comfy_table::{Lines, Result, Table};
 
-/// All texts stand in the lines, each row's below the one before, broken only where a character at which they may break is
-/// left out.
+/// All texts stand in the lines, each row's below the one before, broken only where a character at
+/// which they may break is left out.
 pub fn lines_with_all_texts(table: &Table) -> Result<Lines>
     ensures { IfOk result (λ lines. ShowAllTexts table.now lines) }
 {
     table.lines()
 }
 
-/// Without a width to keep to, all texts stand in the lines unchanged, each row's below the one before.
+/// Without a width to keep to, all texts stand in the lines unchanged, each row's below the one
+/// before.
 pub fn lines_with_whole_texts(table: &Table) -> Result<Lines>
     ensures { IfOk result (λ lines. ShowWholeTexts table.now lines) }
 {

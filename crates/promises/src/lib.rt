@@ -1,6 +1,7 @@
-//! What users are promised, in their words. Each function calls the libraries and does nothing else, and its one clause
-//! speaks of what the call returns and of the table that was passed. So a reader needs to believe no definition but those
-//! of the clause: how widths are found and texts are wrapped isn't among them.
+//! What users are promised, in their words. Each function calls the libraries and does nothing
+//! else, and its one clause speaks of what the call returns and of the table that was passed. So a
+//! reader needs to believe no definition but those of the clause: how widths are found and texts
+//! are wrapped isn't among them.
 #![tactic(auto)]
 
 pub mod harmless;

@@ -16,7 +16,8 @@ pub fn lines_of_both(table: &Table, other: &Table) -> Result<(Lines, Lines)>
     Ok((lines, others))
 }
 
-/// The lines of a table before and after a row was added. Where the row has room, all lines stay as they were.
+/// The lines of a table before and after a row was added. Where the row has room, all lines stay
+/// as they were.
 pub fn lines_before_and_after(table: &mut Table, row: Row) -> Result<(Lines, Lines)>
     ensures { IfOk result (λ drawn. StayWithRow table.old row drawn.0 drawn.1) }
 {

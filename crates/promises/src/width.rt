@@ -5,8 +5,8 @@ ghost use Rattle.promises.specs.Widths.{FillWidth, KeepToWidth, KeepToWidthWhere
 
 use comfy_table::{ArrangedTable, ContentArrangement, Lines, Result, Table};
 
-/// No line is wider than the width that was set, or than borders, paddings and one terminal column for each column. No
-/// character takes more than one.
+/// No line is wider than the width that was set, or than borders, paddings and one terminal column
+/// for each column. No character takes more than one.
 pub fn lines_within(table: &mut Table, width: u16) -> Result<Lines>
     ensures { IfOk result (λ lines. KeepToWidth table.old width lines) }
 {
@@ -26,8 +26,9 @@ pub fn lines_over(table: &mut Table, width: u16) -> Result<Lines>
     table.lines()
 }
 
-/// Where each character has room in each column, no line is wider than the width that was set, or than borders, paddings
-/// and one terminal column for each column, whatever the script. The columns are returned with the lines.
+/// Where each character has room in each column, no line is wider than the width that was set, or
+/// than borders, paddings and one terminal column for each column, whatever the script. The columns
+/// are returned with the lines.
 pub fn fitting_lines_within(table: &Table) -> Result<(ArrangedTable<'_>, Lines)>
     ensures { IfOk result (λ drawn. KeepToWidthWhereCharactersFit table.now drawn.0.infos drawn.1) }
 {
