@@ -70,6 +70,10 @@ message_for asked fault e =
 abbrev pub word_not_utf8 : Text
 word_not_utf8 = codes "csvtable: a word isn't UTF-8\n"
 
+-- the line where the output can't be written
+abbrev pub output_unwritten : Text
+output_unwritten = codes "csvtable: the output can't be written\n"
+
 abbrev pub no_memory : Text
 no_memory = codes "csvtable: out of memory\n"
 
@@ -77,18 +81,28 @@ no_memory = codes "csvtable: out of memory\n"
 abbrev pub text_of : Said → Text
 text_of said.Nothing = []
 text_of said.OutOfMemory = no_memory
+text_of said.NotUtf8 = word_not_utf8
+text_of said.Unwritten = output_unwritten
 text_of (said.Text text) = string_bytes text
 
 -- P holds of the text that is said, or there is no memory for it
 abbrev pub Says : (Text → Type 0) → Said → Type 0
 Says P said.Nothing = ⊥
 Says P said.OutOfMemory = Unit {0}
+Says P said.NotUtf8 = ⊥
+Says P said.Unwritten = ⊥
 Says P (said.Text text) = P (string_bytes text)
 
 -- the status is n, and nothing is said
 pub record IsSilent (n : ℕ) (ending : Ending) : Type 0 where
   pub status : ending.status ≡ n
   pub silent : ending.said ≡ said.Nothing
+
+-- the status is n, and this line, for which no memory is needed, is said on standard error
+pub record IsLine (n : ℕ) (line : Said) (ending : Ending) : Type 0 where
+  pub status : ending.status ≡ n
+  pub is_message : ending.is_message ≡ true
+  pub said : ending.said ≡ line
 
 -- the status is n, and P holds of what is said on standard error
 pub record IsMessage (n : ℕ) (P : Text → Type 0) (ending : Ending) : Type 0 where
@@ -99,6 +113,8 @@ pub record IsMessage (n : ℕ) (P : Text → Type 0) (ending : Ending) : Type 0 
 -- the end after an error, by whether the reader of the output has ended: then nothing is said
 abbrev pub IsEndOfError : Drawing → CsvError → Bool → Ending → Type 0
 IsEndOfError drawing err.Write true ending = IsSilent 1 ending
+IsEndOfError drawing err.Write false ending = IsLine 1 said.Unwritten ending
+IsEndOfError drawing err.OutOfMemory is_unread ending = IsLine 1 said.OutOfMemory ending
 IsEndOfError drawing e is_unread ending = IsMessage 1 (λ text. text ≡ message_for drawing.asked.now drawing.fault e) ending
 
 -- the end of a drawing, by its result
@@ -117,12 +133,12 @@ pub record IsHelp (ending : Ending) : Type 0 where
 
 -- the end where clap has something to say, by its kind
 abbrev pub IsEndOfWords : ErrorKind → Ending → Type 0
-IsEndOfWords kind.OutOfMemory ending = IsMessage 1 (λ text. text ≡ no_memory) ending
+IsEndOfWords kind.OutOfMemory ending = IsLine 1 said.OutOfMemory ending
 IsEndOfWords kind.DisplayHelp ending = IsHelp ending
 IsEndOfWords kind.DisplayVersion ending = IsHelp ending
 IsEndOfWords _ ending = IsMessage 2 IsHarmless ending
 
 -- the end where words couldn't be read, by the kind of fault: one isn't UTF-8, or there is no memory
 abbrev pub IsEndWithoutWords : IoErrorKind → Ending → Type 0
-IsEndWithoutWords io.InvalidData ending = IsMessage 2 (λ text. text ≡ word_not_utf8) ending
-IsEndWithoutWords _ ending = IsMessage 1 (λ text. text ≡ no_memory) ending
+IsEndWithoutWords io.InvalidData ending = IsLine 2 said.NotUtf8 ending
+IsEndWithoutWords _ ending = IsLine 1 said.OutOfMemory ending

@@ -34,7 +34,7 @@ pub record IsSaidOfInput (words : List Text) (input message : Text) : Type 0 whe
 
 -- the text on words that ask for no drawing
 pub record IsSaidOfWords (words : List Text) (message : Text) : Type 0 where
-  pub in_vain : AreNotTaken words ⊎ AreFoundInVain words
+  pub in_vain : ((kind : ErrorKind) × AreNotTaken words kind) ⊎ AreFoundInVain words
   pub harmless : IsHarmless message
 
 -- why there is no drawing

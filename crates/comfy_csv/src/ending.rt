@@ -34,6 +34,10 @@ pub(crate) struct Ending {
 pub(crate) enum Said {
     Nothing,
     OutOfMemory,
+    /// That a word isn't UTF-8.
+    NotUtf8,
+    /// That the output can't be written.
+    Unwritten,
     Text(String),
 }
 
@@ -45,6 +49,8 @@ impl Said {
         match self {
             Said::Nothing => "",
             Said::OutOfMemory => "csvtable: out of memory\n",
+            Said::NotUtf8 => WORD_NOT_UTF8,
+            Said::Unwritten => "csvtable: the output can't be written\n",
             Said::Text(text) => text.as_str(),
         }
     }
@@ -70,6 +76,8 @@ pub(crate) fn ending_of_drawing(alloc: Global, drawing: &Drawing<'_>) -> Ending
     match &drawing.result {
         Ok(()) => silent(0),
         Err(CsvError::Write) if drawing.is_unread => silent(FAILED),
+        Err(CsvError::Write) => message(FAILED, Said::Unwritten),
+        Err(CsvError::OutOfMemory) => message(FAILED, Said::OutOfMemory),
         Err(error) => {
             let text = message_of(alloc, drawing.asked, drawing.fault, error);
             message(FAILED, said_of(text))
@@ -93,14 +101,11 @@ pub(crate) fn ending_of_words(alloc: Global, error: &Error) -> Ending
 }
 
 /// How the program ends where words couldn't be read: one isn't UTF-8, or there is no memory for them.
-pub(crate) fn ending_without_words(alloc: Global, kind: io::ErrorKind) -> Ending
+pub(crate) fn ending_without_words(kind: io::ErrorKind) -> Ending
     ensures { IsEndWithoutWords kind result }
 {
     match kind {
-        io::ErrorKind::InvalidData => message(
-            MISUSED,
-            said_of(String::from_str(alloc, WORD_NOT_UTF8)),
-        ),
+        io::ErrorKind::InvalidData => message(MISUSED, Said::NotUtf8),
         _ => message(FAILED, Said::OutOfMemory),
     }
 }

@@ -10,6 +10,8 @@ mod output;
 mod process;
 mod separators;
 mod table;
+#[cfg(test)]
+mod tests;
 mod transfer;
 mod unbroken;
 

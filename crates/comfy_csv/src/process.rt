@@ -24,7 +24,7 @@ use std::{env, io};
 pub fn run_with_arguments(rt: &HostRuntime) -> ExitCode {
     let ending = match words_of_process(rt) {
         Ok(words) => run_with_words(rt, words.as_slice()),
-        Err(error) => ending_without_words(rt.alloc(), error.kind()),
+        Err(error) => ending_without_words(error.kind()),
     };
     end(rt, &ending)
 }

@@ -1,6 +1,6 @@
 //! Reads an input, draws the table of its records, and writes the drawing.
 
-ghost use Rattle.std.specs.Prelude.{◌≡◌, List, ℕ, true, false, Some, OnOk, IfOk, IfErr, string_bytes};
+ghost use Rattle.std.specs.Prelude.{◌≡◌, List, ℕ, true, false, Some, OnErr, OnOk, IfOk, IfErr, string_bytes};
 ghost use Rattle.comfy_csv.specs.Drawn.{IsOutputFor};
 ghost use Rattle.comfy_csv.specs.Run.{IsAfter, IsInputRefusal, IsReadFailure, IsRefusal, is_read_fault, is_write_fault};
 ghost use Rattle.comfy_run.specs.Run.{Between};
@@ -77,13 +77,14 @@ pub(crate) fn output_of_input(
     output_of(alloc, records, options)
 }
 
-// All that the source has left.
+// All that the source has left. After an error its end was read only if it was before.
 fn input_of<R: Source>(alloc: Global, source: &mut R) -> Result<Vec<u8>, CsvError>
     ensures ended { OnOk result (R.end_was_read source.new ≡ true) }
     ensures fault { R.has_failed source.new ≡ is_read_fault result }
     ensures no_write { is_write_fault result ≡ false }
     ensures input { IfOk result (λ bytes. (input : List ℕ) → R.remaining source.old ≡ Some input → bytes.items ≡ input) }
     ensures refused { IfErr result (λ e. (input : List ℕ) → R.remaining source.old ≡ Some input → IsReadFailure e input (R.end_was_read source.new) (R.has_failed source.new)) }
+    ensures unread { OnErr result (R.end_was_read source.new ≡ R.end_was_read source.old) }
 {
     match read_all(alloc, source) {
         Ok(input) => Ok(input),

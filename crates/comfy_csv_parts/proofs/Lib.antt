@@ -1,4 +1,5 @@
 pub mod CleaningLemmas
+pub mod ColumnLawLemmas
 pub mod ColumnLemmas
 pub mod ControlLemmas
 pub mod DelimiterLemmas
@@ -10,6 +11,7 @@ pub mod LineLemmas
 pub mod MarkdownLemmas
 pub mod MarkedLemmas
 pub mod NamedStyleLemmas
+pub mod NumberLawLemmas
 pub mod NumberLemmas
 pub mod PieceLemmas
 pub mod PlaceLemmas

@@ -1,8 +1,8 @@
 -- How the program's command comes to have its rules.
-use Rattle.std.proofs.Common.{◌≡◌, ◌≢◌, ℕ, ◌+◌, ◌<◌, Bool, true, false, List, [], ◌∷◌, ◌++◌, Option, Some, None, map, take, length, slice_index_or, arith, rules, tests, refl, ap, ap₂, ◌∙◌}
+use Rattle.std.proofs.Common.{◌≡◌, ◌≢◌, inl, inr, ℕ, ◌+◌, ◌<◌, Bool, true, false, List, [], ◌∷◌, ◌++◌, Option, Some, None, map, take, length, slice_index_or, arith, rules, tests, refl, sym, subst, ap, ap₂, ◌∙◌}
 use Rattle.std.proofs.lemmas.Grind.{common_steps}
 use Rattle.clap.specs.Walk.{is_simple_arg}
-use Rattle.clap.specs.Words.{App, Rule, is_simple, kind_of, new_rule, rule_of, takes}
+use Rattle.clap.specs.Words.{App, HasKind, IsAmong, Rule, fault_of, is_simple, is_simple_and_free, kind_of, new_rule, rule_of, takes}
 use Rattle.clap.specs.declared.builder.arg.Arg.{Arg}
 use Rattle.clap.specs.declared.error.Error.{Error}
 use Rattle.clap.specs.declared.error.kind.ErrorKind.TheVariants.{OutOfMemory}
@@ -68,21 +68,38 @@ are_restored (r ∷ rs) (c ∷ cs) h =
     let rest : map bare rs ≡ cs = cc h in
     ap₂ (λ (x : Rule) (xs : List Rule). x ∷ xs) (ap (λ (x : Rule × List Text). record x.0 { parser = r.parser }) head) (are_restored rs cs rest)
 
+-- P holds of a command that has the program's rules, where it holds of those rules, whatever the names of values are
+by_rules : (P : App → Type 0) → ((from : List Rule) → P (with_rules wordless (restored csvtable_rules from))) → (app : App) → IsCsvtable app → P app
+by_rules P each app is =
+    let rules = app.top.rules in
+    let same : app ≡ with_rules wordless (restored csvtable_rules rules) =
+    ap (λ (a : App). with_rules a rules) is.is_wordless ∙ ap (with_rules wordless) (are_restored rules csvtable_rules is.rules) in
+    subst P (sym same) (each rules)
+
 restored_is_simple : (from : List Rule) → is_simple (with_rules wordless (restored csvtable_rules from)) ≡ true
 unfolding restored
 restored_is_simple from = refl
 
 pub csvtable_is_simple : (app : App) → IsCsvtable app → is_simple app ≡ true
-csvtable_is_simple app is =
-    let rules = app.top.rules in
-    let same : app ≡ with_rules wordless (restored csvtable_rules rules) =
-    ap (λ (a : App). with_rules a rules) is.is_wordless ∙ ap (with_rules wordless) (are_restored rules csvtable_rules is.rules) in
-    ap is_simple same ∙ restored_is_simple rules
+csvtable_is_simple = by_rules (λ app. is_simple app ≡ true) restored_is_simple
 
--- where the words would be taken, no memory is the only fault
-pub not_taken : (app : App) (words : List Text) (e : Error) → IsCsvtable app → (takes app words ≡ true → kind_of e ≡ OutOfMemory) → kind_of e ≢ OutOfMemory → AreNotTaken words
-not_taken app words e is passes other = by_test (takes app words) refl
+-- and no rule of it is on another one
+restored_is_free : (from : List Rule) → is_simple_and_free (with_rules wordless (restored csvtable_rules from)) ≡ true
+unfolding restored
+restored_is_free from = refl
+
+pub csvtable_is_free : (app : App) → IsCsvtable app → is_simple_and_free app ≡ true
+csvtable_is_free = by_rules (λ app. is_simple_and_free app ≡ true) restored_is_free
+
+-- where the words would be taken, no memory is the only fault; else the kind is among those of the words
+pub not_taken : (app : App) (words : List Text) (e : Error) → IsCsvtable app → (takes app words ≡ true → kind_of e ≡ OutOfMemory) → HasKind (fault_of app words) e
+    → kind_of e ≢ OutOfMemory → AreNotTaken words (kind_of e)
+not_taken app words e is passes kinds other = by_test (takes app words) refl
   where
-    by_test : (b : Bool) → takes app words ≡ b → AreNotTaken words
+    known : HasKind (fault_of app words) e → IsAmong (kind_of e) (fault_of app words)
+    known (inl none) = absurd (other none)
+    known (inr among) = among
+
+    by_test : (b : Bool) → takes app words ≡ b → AreNotTaken words (kind_of e)
     by_test true is_taken = absurd (other (passes is_taken))
-    by_test false is_refused = record { app = app; is_csvtable = is; not_taken = is_refused }
+    by_test false is_refused = record { app = app; is_csvtable = is; not_taken = is_refused; is_kind = known kinds }

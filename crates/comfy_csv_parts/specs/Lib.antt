@@ -1,5 +1,6 @@
 pub mod Cells
 pub mod Cleaning
+pub mod ColumnLaws
 pub mod Columns
 pub mod Controls
 pub mod Delimiter
@@ -7,6 +8,7 @@ pub mod Encoding
 pub mod Input
 pub mod Markdown
 pub mod Number
+pub mod NumberLaws
 pub mod Numerals
 pub mod Pieces
 pub mod Places

@@ -4,8 +4,9 @@ use Rattle.std.specs.List.{list_any, slice_split}
 use Rattle.std.specs.Option.{option_map_or}
 use Rattle.std.specs.Str.{str_eq_ignore_ascii_case}
 use Rattle.std.specs.Str.Parse.{without_leading_plus}
-use Rattle.clap.specs.Words.{App, first_value, kind_of, matches_of, one_text, rows_of, takes}
+use Rattle.clap.specs.Words.{App, IsAmong, fault_of, first_value, kind_of, matches_of, one_text, rows_of, takes}
 use Rattle.clap.specs.declared.error.Error.{Error}
+use Rattle.clap.specs.declared.error.kind.ErrorKind.{ErrorKind}
 use Rattle.clap.specs.declared.error.kind.ErrorKind.TheVariants.{InvalidValue, OutOfMemory}
 use Rattle.clap.specs.declared.parser.matches.Found.{Found}
 use Rattle.comfy_parts.specs.Text.{Text}
@@ -178,11 +179,13 @@ pub record IsAsked (words : List Text) (surroundings : Surroundings) (asked : As
   pub options : OptionsAreAsked surroundings found asked.options
   pub file : option_map string_bytes asked.file ≡ file_for (first_value found (codes "file"))
 
--- words that the program's command doesn't take
-pub record AreNotTaken (words : List Text) : Type 0 where
+-- words that the program's command doesn't take. The kind is clap's for the first of them at which it stops: help, the
+-- version, or a mistake
+pub record AreNotTaken (words : List Text) (kind : ErrorKind) : Type 0 where
   pub app : App
   pub is_csvtable : IsCsvtable app
   pub not_taken : takes app words ≡ false
+  pub is_kind : IsAmong kind (fault_of app words)
 
 -- words of which such options are found that exclude each other, or a delimiter that is none
 pub record AreFoundInVain (words : List Text) : Type 0 where
@@ -192,4 +195,6 @@ pub record AreFoundInVain (words : List Text) : Type 0 where
 
 -- why nothing is asked for: the words aren't taken, or were found in vain, which is told as an invalid value, or there is no memory
 abbrev pub IsWordRefusal : List Text → Error → Type 0
-IsWordRefusal words e = (kind_of e ≢ OutOfMemory) → AreNotTaken words ⊎ AreFoundInVain words × (kind_of e ≡ InvalidValue)
+IsWordRefusal words e =
+    (kind_of e ≢ OutOfMemory)
+    → AreNotTaken words (kind_of e) ⊎ AreFoundInVain words × (kind_of e ≡ InvalidValue)

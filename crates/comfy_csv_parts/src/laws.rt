@@ -4,15 +4,18 @@
 ghost use Rattle.std.specs.Prelude.{◌≡◌, Bool, List, Option, ℕ};
 ghost use Rattle.comfy_parts.specs.Text.{Text};
 ghost use Rattle.comfy_csv_parts.specs.Cleaning.{HoldsNoControls, IsCleanedOnce};
+ghost use Rattle.comfy_csv_parts.specs.ColumnLaws.{KeepsChosenColumns};
 ghost use Rattle.comfy_csv_parts.specs.Controls.{IsStyleWithoutControls};
 ghost use Rattle.comfy_csv_parts.specs.Delimiter.{LeavesOutLines};
 ghost use Rattle.comfy_csv_parts.specs.Encoding.{IsItsOwnText, IsReadBack as IsUtf16ReadBack};
 ghost use Rattle.comfy_csv_parts.specs.Input.{RecordsAreText};
 ghost use Rattle.comfy_csv_parts.specs.Markdown.{IsReadBack};
+ghost use Rattle.comfy_csv_parts.specs.NumberLaws.{IsOfDigits, SignsAreAlike};
 ghost use Rattle.comfy_csv_parts.specs.Quotes.{IsUnclosed};
 ghost use Rattle.comfy_csv_parts.specs.Styles.{style_for};
 ghost use Rattle.comfy_csv_parts.specs.declared.cleaning.Kept.{Kept};
 ghost use Rattle.comfy_csv_parts.specs.declared.encoding.ByteOrder.{ByteOrder};
+ghost use Rattle.comfy_csv_parts.specs.declared.options.Options.{Options};
 
 /// What was escaped for Markdown is read back.
 pub fn escaped_texts_are_read_back()
@@ -55,4 +58,17 @@ pub fn texts_in_utf16_are_read_back()
 /// At most one quote of a text opens a field that the text's end doesn't close.
 pub fn unclosed_quotes_stand_alone()
     ensures { (delimiter : ℕ) (text one other : List ℕ) → IsUnclosed delimiter text one → IsUnclosed delimiter text other → one ≡ other }
+{}
+
+/// A number has a digit, and no characters but digits, signs, marks, spaces, `e` or `E`, parentheses, a currency and `%`.
+/// With one sign at its front a text is a number exactly if it is one with another.
+pub fn numbers_are_made_of_digits()
+    ensures characters { (text : Text) → IsOfDigits text }
+    ensures signs { (sign other : ℕ) (text : Text) → SignsAreAlike sign other text }
+{}
+
+/// The columns that are drawn are there. They are those that words choose and none that others leave out. None stands
+/// twice where no two words choose the same: `-c 1,a` draws a first column named `a` twice.
+pub fn drawn_columns_are_chosen()
+    ensures { (options : Options) (names : List Text) (rows : List (List Text)) → KeepsChosenColumns options names rows }
 {}

@@ -1,5 +1,5 @@
 -- The table of an input has the settings that were passed, and cells of printable ASCII where the input is such. So its lines keep to a width.
-use Rattle.std.proofs.Common.{◌≡◌, ℕ, ◌==◌, ◌≤◌, Bool, true, false, ◌&&◌, ◌||◌, List, [], ◌∷◌, Option, Some, None, map, max, refl, sym, ap, ap₂, ◌∙◌, subst, slice_index_or, unwrap_or}
+use Rattle.std.proofs.Common.{◌≡◌, ℕ, ◌==◌, ◌≤◌, Bool, true, false, ◌&&◌, ◌||◌, List, [], ◌∷◌, Option, Some, None, map, refl, sym, ap, ap₂, ◌∙◌, subst, slice_index_or, unwrap_or}
 use Rattle.std.specs.Int.{is_in_range}
 use Rattle.std.specs.List.{All, list_all, onto_first, slice_get, slice_split}
 use Rattle.std.specs.Str.Lines.{lines}
@@ -10,16 +10,15 @@ use Rattle.comfy_parts.specs.Text.{Text, is_printable_ascii}
 use Rattle.comfy_parts.specs.declared.style.table.ContentArrangement.{ContentArrangement}
 use Rattle.comfy_parts.specs.declared.style.table.ContentArrangement.TheVariants.{Dynamic, DynamicFullWidth}
 use Rattle.comfy_parts.specs.declared.style.table_style.TableStyle.{TableStyle}
-use Rattle.comfy_run.proofs.StraightLemmas.{OfLine, base, base_width, built}
-use Rattle.comfy_run.specs.Counts.{EachLineHas, HasSettings, IsPrintableInput, OutputFillsWidth, OutputHasOneCount, OutputKeepsToWidth, is_printable_input_byte}
+use Rattle.comfy_run.proofs.StraightLemmas.{OfLine, base, base_width, built, lines_of_drawing}
+use Rattle.comfy_run.specs.Counts.{EachLineHas, HasSettings, IsPrintableInput, IsTotalOf, OutputFillsWidth, OutputHasOneCount, OutputKeepsToWidth, enough, is_printable_input_byte}
 use Rattle.comfy_run.specs.Input.{input_table}
 use Rattle.comfy_run.specs.Rows.{break_of, cells_of_line, row_of_line}
 use Rattle.comfy_table.proofs.BuiltTableLemmas.{IsBuilt, IsNewColumn, columns_known, rows_known, unconstrained}
 use Rattle.comfy_parts.proofs.CallerLemmas.{All-at, All-every, All-found}
-use Rattle.comfy_table.specs.Arrangement.{IsArranged}
 use Rattle.comfy_table.specs.Drawing.{infos_of, terminated_text_of}
 use Rattle.comfy_table.specs.Headline.{IsTableDrawing}
-use Rattle.comfy_table.specs.Laws.{AddsOneColumnEachWhereWritten, HasPrintableCells, IsPrintableCell, count, least_total, line_total}
+use Rattle.comfy_table.specs.Laws.{AddsOneColumnEachWhereWritten, HasPrintableCells, IsStyleWithout, IsPrintableCell, count, line_total}
 use Rattle.comfy_table.specs.Lines.{cell_delimiter}
 use Rattle.comfy_table.specs.Pieces.{shown_infos}
 use Rattle.comfy_table.specs.TableValue.{TableValue, column_cells, measured_rows, should_style, table_width, shown_columns}
@@ -134,32 +133,31 @@ module _ (width : Option ℕ) (arrangement : ContentArrangement) (style : TableS
         (λ row is. All-every (AddsOneColumnEachWhereWritten table row) (shown_infos (infos_of table widths)) (λ p cell h found limited. absurd (cc (is.uncut, limited)))) (measured_rows table) (rows_known own IsBareRow table bare refl)
 
     -- the lines of its drawing, where P holds of their count
-    counted : (P : ℕ → Type 0) (output : Text) (drawn : List Text) (drawing : IsTableDrawing table drawn) → P (line_total table drawing.widths) → output ≡ terminated_text_of drawn → EachLineHas P output
-    counted P output drawn drawing holds same =
+    counted : IsStyleWithout 0x0A style → (P : ℕ → Type 0) (output : Text) (drawn : List Text) (drawing : IsTableDrawing table drawn) → P (line_total table drawing.widths)
+        → output ≡ terminated_text_of drawn → EachLineHas P output
+    counted unbroken P output drawn drawing holds same =
         let unstyled = drawing.unstyled_lines has_settings.unstyled has_settings.no_custom_styling in (
           line_total table drawing.widths,
           holds,
           drawn,
+          lines_of_drawing width arrangement style IsBareRow table bare unbroken output drawn drawing same,
           subst (All (λ line. count line ≡ line_total table drawing.widths)) (sym unstyled) (drawing.equal_counts (record { printable_cells = printable_cells; indicator_adds_one_column_each = uncut drawing.widths })),
-          same,
         )
 
 pub has_one_count : (width : Option ℕ) (arrangement : ContentArrangement) (style : TableStyle) (input output : Text) → OutputHasOneCount width arrangement style input output
-has_one_count width arrangement style input output printable (drawn, drawing, same) =
-    let table = input_table width arrangement style input in
-    let counts : ℕ → Type 0 = λ n. (widths : List ℕ) × IsArranged table widths × (n ≡ line_total table widths) in
-    counted width arrangement style input printable counts output drawn drawing (drawing.widths, drawing.arranged, refl) same
+has_one_count width arrangement style input output is (drawn, drawing, same) =
+    counted width arrangement style input is.printable is.unbroken (IsTotalOf (input_table width arrangement style input)) output drawn drawing (drawing.widths, drawing.arranged, refl) same
 
 pub keeps_to_width : (w : ℕ) (style : TableStyle) (input output : Text) → OutputKeepsToWidth w style input output
-keeps_to_width w style input output plain (drawn, drawing, same) =
+keeps_to_width w style input output is (drawn, drawing, same) =
     let settings = has_settings (Some w) Dynamic style input in
-    let within : ℕ → Type 0 = λ n. n ≤ max w (least_total (input_table (Some w) Dynamic style input)) in
-    counted (Some w) Dynamic style input plain within output drawn drawing
+    let within : ℕ → Type 0 = λ n. n ≤ enough w (input_table (Some w) Dynamic style input) in
+    counted (Some w) Dynamic style input is.printable is.unbroken within output drawn drawing
     (subst within (drawing.frame_counts style.top_border) ((drawing.keeps_to_width w settings.unconstrained settings.arrangement_is settings.width_is).frame_lines style.top_border)) same
 
 pub fills_width : (w : ℕ) (style : TableStyle) (input output : Text) → OutputFillsWidth w style input output
-fills_width w style input output plain some (drawn, drawing, same) =
+fills_width w style input output is some (drawn, drawing, same) =
     let settings = has_settings (Some w) DynamicFullWidth style input in
-    let exact : ℕ → Type 0 = λ n. n ≡ max w (least_total (input_table (Some w) DynamicFullWidth style input)) in
-    counted (Some w) DynamicFullWidth style input plain exact output drawn drawing
+    let exact : ℕ → Type 0 = λ n. n ≡ enough w (input_table (Some w) DynamicFullWidth style input) in
+    counted (Some w) DynamicFullWidth style input is.printable is.unbroken exact output drawn drawing
     (subst exact (drawing.frame_counts style.top_border) ((drawing.fills_width w settings.unconstrained settings.arrangement_is settings.width_is some).frame_lines style.top_border)) same

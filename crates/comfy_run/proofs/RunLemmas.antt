@@ -1,13 +1,22 @@
 -- What the parts of a run ensure, put together.
-use Rattle.std.proofs.Common.{◌≡◌, Bool, true, false, [], ◌++◌, Option, Some, Ok, Err, refl}
+use Rattle.std.proofs.Common.{◌≡◌, Bool, true, false, [], ◌++◌, Option, Some, Ok, Err, refl, subst, sym}
+use Rattle.std.proofs.lemmas.Str.{IsUtf8-nil}
 use Rattle.std.specs.Str.{IsUtf8}
 use Rattle.comfy_parts.specs.Text.{Text}
 use Rattle.comfy_run.specs.Input.{IsOutputFor}
 use Rattle.comfy_run.specs.Outcome.{IsBeginningOnly}
-use Rattle.comfy_run.specs.Run.{IsAfter, IsRefusal}
+use Rattle.comfy_run.specs.Run.{IsAfter, IsRefusal, run_error_of}
+use Rattle.comfy_run.specs.Whole.{is_source_fault}
 use Rattle.comfy_run.specs.declared.error.RunError.{RunError}
 use Rattle.comfy_run.specs.declared.error.RunError.TheVariants.{Read, Write, NotUtf8, Table}
 use Rattle.comfy_run.specs.declared.settings.Settings.{Settings}
+use Rattle.comfy_run.specs.declared.whole.ReadError.{ReadError}
+use Rattle.comfy_run.specs.declared.whole.ReadError.TheVariants.{Source, OutOfMemory}
+
+-- why there is nothing to write where the source wasn't read: if its end was, nothing was left
+pub of_read : (T : Type 0) (e : ReadError) (input : Text) (ended failed : Bool) → failed ≡ is_source_fault {T = T} (Err e) → (ended ≡ true → input ≡ []) → IsRefusal (run_error_of e) input ended failed
+of_read T Source input ended failed fault none = (fault, λ whole. subst IsUtf8 (sym (none whole)) IsUtf8-nil)
+of_read T OutOfMemory input ended failed fault none = (fault, λ whole. subst IsUtf8 (sym (none whole)) IsUtf8-nil)
 
 -- nothing is written where there is nothing to write
 pub after_refusal : (T : Type 0) (settings : Settings) (e : RunError) (input : Text) (ended failed write_failed : Bool) → write_failed ≡ false → IsRefusal e input ended failed

@@ -9,8 +9,7 @@ use Rattle.comfy_parts.specs.declared.style.table.ContentArrangement.TheVariants
 use Rattle.comfy_parts.specs.declared.style.table_style.TableStyle.{TableStyle}
 use Rattle.comfy_run.specs.Input.{IsOutputFor, input_table}
 use Rattle.comfy_table.specs.Arrangement.{IsArranged}
-use Rattle.comfy_table.specs.Drawing.{terminated_text_of}
-use Rattle.comfy_table.specs.Laws.{HasPrintableCells, NoConstraints, count, least_total, line_total}
+use Rattle.comfy_table.specs.Laws.{AreLinesOf, HasPrintableCells, IsStyleWithout, NoConstraints, count, least_total, line_total}
 use Rattle.comfy_table.specs.TableValue.{TableValue, should_style, table_width}
 use Rattle.comfy_table.specs.Widths.{shown_count}
 
@@ -22,9 +21,11 @@ is_printable_input_byte b = (is_in_range 0x20 0x7E b || (b == 0x0B)) || (b == 0x
 abbrev pub IsPrintableInput : Text → Type 0
 IsPrintableInput input = All (λ line. list_all is_printable_input_byte line ≡ true) (lines input)
 
--- the output is lines of the same number of characters, of which P holds, each followed by a line feed
+-- the lines of the output have the same number of characters, of which P holds
 abbrev pub EachLineHas : (ℕ → Type 0) → Text → Type 0
-EachLineHas P output = (n : ℕ) × P n × (drawn : List Text) × All (λ line. count line ≡ n) drawn × (output ≡ terminated_text_of drawn)
+EachLineHas P output =
+    (n : ℕ) × P n × (drawn : List Text) × AreLinesOf output drawn
+    × All (λ line. count line ≡ n) drawn
 
 module _ (width : Option ℕ) (arrangement : ContentArrangement) (style : TableStyle) (input : Text) where
   -- the table of an input
@@ -44,19 +45,35 @@ module _ (width : Option ℕ) (arrangement : ContentArrangement) (style : TableS
   abbrev pub PrintableInputHasPrintableCells : Type 0
   PrintableInputHasPrintableCells = IsPrintableInput input → HasPrintableCells table
 
+-- the number of characters that widths of a table make, as they are arranged
+abbrev pub IsTotalOf : TableValue → ℕ → Type 0
+IsTotalOf table n = (widths : List ℕ) × IsArranged table widths × (n ≡ line_total table widths)
+
+-- the input is printable, and no character of the style is a line feed
+pub record IsPrintedInLines (style : TableStyle) (input : Text) : Type 0 where
+  pub printable : IsPrintableInput input
+  pub unbroken : IsStyleWithout 0x0A style
+
 -- under every arrangement all lines have as many characters as the full width
 abbrev pub OutputHasOneCount : Option ℕ → ContentArrangement → TableStyle → Text → Text → Type 0
 OutputHasOneCount width arrangement style input output =
-    IsPrintableInput input → IsOutputFor width arrangement style input output
-    → EachLineHas (λ n. (widths : List ℕ) × IsArranged (input_table width arrangement style input) widths × (n ≡ line_total (input_table width arrangement style input) widths)) output
+    IsPrintedInLines style input → IsOutputFor width arrangement style input output
+    → EachLineHas (IsTotalOf (input_table width arrangement style input)) output
 
--- under `Dynamic` a line has at most as many characters as the width, or as borders, paddings and one for each column
+-- the width, or borders, paddings and one character for each column, whichever is more
+abbrev pub enough : ℕ → TableValue → ℕ
+enough w table = max w (least_total table)
+
+-- under `Dynamic` a line has at most so many characters
 abbrev pub OutputKeepsToWidth : ℕ → TableStyle → Text → Text → Type 0
 OutputKeepsToWidth w style input output =
-    IsPrintableInput input → IsOutputFor (Some w) Dynamic style input output → EachLineHas (λ n. n ≤ max w (least_total (input_table (Some w) Dynamic style input))) output
+    IsPrintedInLines style input → IsOutputFor (Some w) Dynamic style input output
+    → EachLineHas (λ n. n ≤ enough w (input_table (Some w) Dynamic style input)) output
 
 -- under `DynamicFullWidth` it has exactly so many, where there is a column
 abbrev pub OutputFillsWidth : ℕ → TableStyle → Text → Text → Type 0
 OutputFillsWidth w style input output =
-    IsPrintableInput input → 0 < shown_count (input_table (Some w) DynamicFullWidth style input) → IsOutputFor (Some w) DynamicFullWidth style input output
-    → EachLineHas (λ n. n ≡ max w (least_total (input_table (Some w) DynamicFullWidth style input))) output
+    IsPrintedInLines style input
+    → 0 < shown_count (input_table (Some w) DynamicFullWidth style input)
+    → IsOutputFor (Some w) DynamicFullWidth style input output
+    → EachLineHas (λ n. n ≡ enough w (input_table (Some w) DynamicFullWidth style input)) output

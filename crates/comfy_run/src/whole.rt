@@ -28,12 +28,12 @@ impl From<AllocError> for ReadError {
     }
 }
 
-/// All that the source has left. After an error its end wasn't read, unless nothing was left.
+/// All that the source has left. After an error its end was read only if it was before.
 pub fn read_all<R: Source>(alloc: Global, source: &mut R) -> Result<Vec<u8>, ReadError>
     ensures ended { OnOk result (R.end_was_read source.new ≡ true) }
     ensures fault { R.has_failed source.new ≡ is_source_fault result }
     ensures input { IfOk result (λ bytes. (input : List ℕ) → R.remaining source.old ≡ Some input → bytes.items ≡ input) }
-    ensures unread { OnErr result (R.end_was_read source.new ≡ true → (input : List ℕ) → R.remaining source.old ≡ Some input → input ≡ []) }
+    ensures unread { OnErr result (R.end_was_read source.new ≡ R.end_was_read source.old) }
 {
     let mut bytes = Vec::new(alloc);
     let mut buffer = [0u8; CHUNK];

@@ -8,8 +8,10 @@ mod EncodingTrials
 mod HiddenColumnTrials
 mod InputTrials
 mod MarkdownLineTrials
+mod NumberLawTrials
 mod OutcomeTrials
 mod OutputControlTrials
+mod OutputLineTrials
 mod PartTrials
 mod PremiseTrials
 mod PresetTrials
@@ -25,4 +27,5 @@ mod UnbrokenTrials
 mod ValueTrials
 mod VisibleTextTrials
 mod WidthTrials
+mod WordTrials
 mod WrappingTrials

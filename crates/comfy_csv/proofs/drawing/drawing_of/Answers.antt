@@ -1,6 +1,6 @@
 use Rattle.std.proofs.Common.{string_bytes, subst}
 use Rattle.comfy_parts.specs.Text.{Text}
-use Rattle.comfy_csv.proofs.RefusalLemmas.{refused_input}
+use Rattle.comfy_csv.proofs.RefusalLemmas.{refused_input, refused_words}
 use Rattle.comfy_csv.specs.Drawn.{IsOutputFor}
 use Rattle.comfy_csv.specs.Run.{IsInputRefusal}
 use Rattle.comfy_csv.proofs.drawing.drawing_of.Goals as goal
@@ -18,3 +18,6 @@ returns-clause-refused c =
     let e = c.in-Err-output_of_input.error in
     refused_input _ c.args.input.now c.in-Ok.asked c.in-Ok.ensures.ok e
     (subst (λ (bytes : Text). IsInputRefusal c.in-Ok.asked.options bytes e) c.in_ok-input.ensures.items c.in-Err-output_of_input.ensures.refused) c.refusal_of_input.result c.refusal_of_input.ensures
+
+pub returns-in-Err-clause-refused : goal.returns-in-Err-clause-refused
+returns-in-Err-clause-refused c = refused_words _ c.args.input.now c.in-Err.error c.in-Err.ensures.refused c.refusal_of_words.result c.refusal_of_words.ensures

@@ -1,13 +1,13 @@
 use Rattle.std.proofs.Common.{◌≡◌, inl, inr, ◌∙◌, Err, sym, rules}
 use Rattle.clap.specs.Words.{app_of, found_of}
-use Rattle.comfy_csv_parts.proofs.ProgramLemmas.{csvtable_is_simple, not_taken}
+use Rattle.comfy_csv_parts.proofs.ProgramLemmas.{csvtable_is_free, csvtable_is_simple, not_taken}
 use Rattle.comfy_csv_parts.proofs.arguments.asked_by.Goals as goal
 
 pub returns-in_err-matches-clause-refused : goal.returns-in_err-matches-clause-refused
 returns-in_err-matches-clause-refused c =
     let e = c.in_err-matches.field-0.0 in
     let same : c.from_residual.result ≡ Err e = search rules in
-    rw same (λ other. inl (not_taken (app_of c.args.command.now) _ e c.requires c.in_err-matches.ensures.passes other))
+    rw same (λ other. inl (not_taken (app_of c.args.command.now) _ e c.requires c.in_err-matches.ensures.passes (c.in_err-matches.ensures.kinds (csvtable_is_free _ c.requires)) other))
 
 pub returns-then-are_exclusive-clause-refused : goal.returns-then-are_exclusive-clause-refused
 returns-then-are_exclusive-clause-refused c no_memory =

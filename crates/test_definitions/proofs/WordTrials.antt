@@ -1,0 +1,40 @@
+-- What clap has to say of words, computed: help and the version where they are asked for alone.
+use Rattle.std.proofs.Common.{◌≡◌, List, [], ◌∷◌, codes, map, inl, inr, refl}
+use Prim.Native.String.{String}
+use Rattle.clap.proofs.OnLiterals.{clap_on_literals}
+use Rattle.clap.specs.Words.{App, IsAmong, Rule, fault_of}
+use Rattle.clap.specs.declared.error.kind.ErrorKind.{ErrorKind}
+use Rattle.clap.specs.declared.error.kind.ErrorKind.TheVariants as kind
+use Rattle.comfy_parts.specs.Text.{Text}
+use Rattle.comfy_csv_parts.specs.Program.{csvtable_rules, with_rules, wordless}
+
+-- the program's command, whose values may have any name
+abbrev app : App
+app = with_rules wordless (map (λ (known : Rule × List Text). known.0) csvtable_rules)
+
+abbrev faults : List String → List ErrorKind
+faults words = fault_of app (codes "csvtable" ∷ map (λ (word : String). codes word) words)
+
+help : map faults (("-h" ∷ []) ∷ ("--help" ∷ []) ∷ ("a.csv" ∷ "-nh" ∷ []) ∷ []) ≡ (kind.DisplayHelp ∷ []) ∷ (kind.DisplayHelp ∷ []) ∷ (kind.DisplayHelp ∷ []) ∷ []
+unfolding clap_on_literals
+help = refl
+
+version : map faults (("-V" ∷ []) ∷ ("--version" ∷ "--help" ∷ []) ∷ []) ≡ (kind.DisplayVersion ∷ []) ∷ (kind.DisplayVersion ∷ []) ∷ []
+unfolding clap_on_literals
+version = refl
+
+-- a word that isn't known, one file too many, a value that is missing, and one that is no number; help behind them isn't reached
+mistakes : map faults (("--wide" ∷ []) ∷ ("a" ∷ "b" ∷ "-h" ∷ []) ∷ ("-w" ∷ []) ∷ ("-w" ∷ "wide" ∷ "-V" ∷ []) ∷ []) ≡ (kind.UnknownArgument ∷ []) ∷ (kind.UnknownArgument ∷ []) ∷ (kind.InvalidValue ∷ []) ∷ (kind.ValueValidation ∷ []) ∷ []
+unfolding clap_on_literals
+mistakes = refl
+
+-- two options that exclude each other, and two delimiters, are taken by clap
+taken : map faults (("--rows" ∷ "--no-rows" ∷ []) ∷ ("-t" ∷ "-d" ∷ "," ∷ []) ∷ ([]) ∷ []) ≡ [] ∷ [] ∷ [] ∷ []
+unfolding clap_on_literals
+taken = refl
+
+-- so a word that isn't known is no call for help
+no_call_for_help : ¬ (IsAmong kind.DisplayHelp (faults ("--wide" ∷ [])))
+unfolding clap_on_literals
+no_call_for_help (inl is) = cc is
+no_call_for_help (inr among) = among
