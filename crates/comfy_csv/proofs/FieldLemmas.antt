@@ -14,6 +14,7 @@ use Rattle.comfy_parts.specs.CellValue.{plain_cell}
 use Rattle.comfy_parts.specs.Text.{Text, is_printable_ascii}
 use Rattle.comfy_parts.specs.VisibleText.{is_parameter}
 use Rattle.comfy_table.proofs.StyledLemmas.{decimal-parameters}
+use Rattle.comfy_table.specs.Laws.{HasNoBreak}
 use Rattle.comfy_csv_parts.proofs.CleaningLemmas.{drawn_so, none_replaced}
 use Rattle.comfy_csv_parts.specs.Cells.{field_text, kept_by, kept_for_markdown, marked}
 use Rattle.comfy_csv_parts.specs.Cleaning.{cleaned}
@@ -34,6 +35,10 @@ none_pass p none (c ∷ cs) printable =
 
 no_break : (c : ℕ) → is_printable c ≡ true → (c == 0x0A) ≡ false
 no_break c printable = grind (arith, tests)
+
+-- so no line feed is in such a text
+pub printable_unbroken : (text : Text) → is_printable_ascii text ≡ true → HasNoBreak text
+printable_unbroken text printable = none_pass (λ b. b == 0x0A) no_break text printable
 
 character_stays : (before : Option ℕ) (c : ℕ) (after : Option ℕ) → is_printable c ≡ true → is_printable_ascii (escaped_character before c after) ≡ true
 character_stays before c after printable = rw (no_break c printable) (by_test (is_special before c after))
@@ -57,7 +62,7 @@ marked_stays text printable =
 -- such a text is one text line of its cell
 one_line : (text : Text) → is_printable_ascii text ≡ true → All (λ (line : Text). is_printable_ascii line ≡ true) (plain_cell text).text_lines
 one_line text printable =
-    let whole : (plain_cell text).text_lines ≡ text ∷ [] = slice_split_none (λ b. b == 0x0A) text (All-none (λ b. b == 0x0A) text (none_pass (λ b. b == 0x0A) no_break text printable)) in
+    let whole : (plain_cell text).text_lines ≡ text ∷ [] = slice_split_none (λ b. b == 0x0A) text (All-none (λ b. b == 0x0A) text (printable_unbroken text printable)) in
     subst (All (λ (line : Text). is_printable_ascii line ≡ true)) (sym whole) (All-cons (λ (line : Text). is_printable_ascii line ≡ true) text [] printable (All-nil (λ (line : Text). is_printable_ascii line ≡ true)))
 
 -- ---- numbers

@@ -1,4 +1,5 @@
 pub mod BuiltLemmas
+pub mod CleanCharacterLemmas
 pub mod FieldLemmas
 pub mod KeptWidthLemmas
 pub mod LineLemmas
@@ -7,14 +8,19 @@ pub mod MarkdownLineLemmas
 pub mod MarkdownPartLemmas
 pub mod MarkdownRowLemmas
 pub mod MarkdownWidthLemmas
+pub mod OneAskedLemmas
+pub mod OneOutputLemmas
+pub mod OneParseLemmas
 pub mod OutputControlLemmas
 pub mod OutputLemmas
 pub mod PrintableTableLemmas
 pub mod RefusalLemmas
 pub mod RowLemmas
 pub mod RunLemmas
+pub mod SeenLemmas
 pub mod SeparatorLemmas
 pub mod StraightLemmas
+pub mod StyleColumnLemmas
 pub mod TextTableLemmas
 pub mod UnbrokenLemmas
 pub mod WholeColumnLemmas

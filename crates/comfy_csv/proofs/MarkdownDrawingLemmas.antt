@@ -1,12 +1,11 @@
 -- The lines of an output for Markdown give back its records.
-use Rattle.std.proofs.Common.{◌≡◌, ◌<◌, ◌≤◌, ℕ, ◌+◌, Bool, false, List, [], ◌∷◌, ◌++◌, Some, arith, flat_map, length, map, max, append-nil, refl, slice_get, ap, ap₂, sym, ◌∙◌, subst, unwrap_or, ◌==◌, Option}
-use Rattle.std.specs.List.{All, AllZip, enumerate_from, range_with_len, list_any}
+use Rattle.std.proofs.Common.{◌≡◌, ◌<◌, ◌≤◌, ℕ, ◌+◌, Bool, false, List, [], ◌∷◌, ◌++◌, Some, arith, flat_map, length, map, max, append-nil, refl, slice_get, ap, ap₂, sym, ◌∙◌, subst, unwrap_or}
+use Rattle.std.specs.List.{All, AllZip, enumerate_from, range_with_len}
 use Rattle.std.specs.Str.{IsUtf8}
 use Rattle.std.proofs.lemmas.List.Elements.{All-cons, All-head, All-nil, All-tail, All-weaker}
 use Rattle.std.proofs.lemmas.Str.{IsUtf8-nil}
 use Rattle.comfy_parts.proofs.CallerLemmas.{All-of_map}
 use Rattle.comfy_parts.specs.CellValue.{ColumnInfo, RowValue}
-use Rattle.comfy_parts.specs.Columns.{style_characters}
 use Rattle.comfy_parts.specs.Text.{Text, measure}
 use Rattle.comfy_parts.specs.declared.style.table_style.ContentLineStyle.{ContentLineStyle}
 use Rattle.comfy_parts.specs.declared.style.table_style.TableStyle.{TableStyle}
@@ -14,7 +13,7 @@ use Rattle.comfy_table.proofs.MeasuredLemmas.{row_measured}
 use Rattle.comfy_table.specs.Arrangement.{IsArranged, widths_at}
 use Rattle.comfy_table.specs.Drawing.{drawing, drawn_header, drawn_row, drawn_rows, infos_of, terminated_text_of, whole_widths}
 use Rattle.comfy_table.specs.Frame.{content_line, optional_frame_line}
-use Rattle.comfy_table.specs.Laws.{HasNoBreak, HasUnbrokenStyle}
+use Rattle.comfy_table.specs.Laws.{HasNoBreak}
 use Rattle.comfy_table.specs.Pieces.{row_height, row_line, shown_infos}
 use Rattle.comfy_table.specs.TableValue.{TableValue, column_content_width, max_content_widths, measured_rows, should_style}
 use Rattle.csv.specs.Records.{AllText}
@@ -28,19 +27,12 @@ use Rattle.comfy_csv.proofs.MarkdownLineLemmas.{gives_back}
 use Rattle.comfy_csv.proofs.MarkdownRowLemmas.{FitsAmong, IsOnly, all_fit, first_line, height_of, infos_placed, markdown_row, one_high, one_text_line, only_pieces, pieces_of, placed}
 use Rattle.comfy_csv.proofs.MarkdownWidthLemmas.{all_columns, by_contents, drawn_for_markdown, headed, header, known, rows_measured, table, with_names}
 use Rattle.comfy_csv.proofs.OutputControlLemmas.{text_fields}
+use Rattle.comfy_csv.proofs.OutputLemmas.{markdown_unbroken}
 use Rattle.comfy_csv.proofs.RowLemmas.{with_rows-rows}
 use Rattle.comfy_csv.proofs.StraightLemmas.{IsShort, empty_is_short}
 use Rattle.comfy_csv.proofs.TextTableLemmas.{EachLine, blank}
 use Rattle.comfy_csv.specs.Drawn.{ContentValue, IsMarkdownText, IsText, below_first, headed_table, markdown_look, markdown_style, markdown_table, note_for}
 use Rattle.comfy_csv.specs.MarkdownLines.{GivesBack, MarkdownGivesRecordsBack}
-
--- no line feed is in its style
-unbroken_style : (look : Look) (content : ContentValue) → HasUnbrokenStyle (markdown_table look content)
-unbroken_style look content =
-    record {
-      indicator = ap (λ (t : TableValue). list_any (λ b. b == 0x0A) t.indicator) (known look content).is;
-      characters = ap (λ (t : TableValue). list_any (λ (c : Option ℕ). unwrap_or c 0x20 == 0x0A) (style_characters t.style)) (known look content).is;
-    }
 
 module _ (look : Look) (content : ContentValue) (widths : List ℕ) (arranged : IsArranged (markdown_table look content) widths) where
   abbrev drawn : TableValue
@@ -185,7 +177,7 @@ records_are_given_back options records output is short text made some =
       is =
           made.joined
           ∙ ap₂ (λ (t : Text) (b : Bool). t ++ note_for b options.limit content.count) (drawn.is ∙ ap (λ (ls : List Text). terminated_text_of (below_first rule ls)) lines) is;
-      unbroken = subst (All HasNoBreak) lines (drawn.drawing.without_breaks (unbroken_style look content));
+      unbroken = subst (All HasNoBreak) lines (drawn.drawing.without_breaks (markdown_unbroken look content));
       names = line_gives_back look content widths arranged some names (texts.names names refl) (All-head (IsFitting look content widths arranged) names content.rows fit);
       rows = lines_give_back look content widths arranged some content.rows texts.rows (All-tail (IsFitting look content widths arranged) names content.rows fit);
     }

@@ -1,5 +1,5 @@
 -- The lines of a table for Markdown are equally wide, the line below the header among them.
-use Rattle.std.proofs.Common.{◌≡◌, ◌<◌, ◌≤◌, ℕ, zero, suc, ◌+◌, ◌*◌, ◌-◌, Bool, true, false, List, [], ◌∷◌, ◌++◌, Option, Some, None, arith, codes, cond, flat_map, length, map, max, refl, sym, ap, ap₂, ◌∙◌, subst, filter, not, slice_get, sum, sum_by, zip, option_to_list, unwrap_or}
+use Rattle.std.proofs.Common.{◌≡◌, ◌<◌, ◌≤◌, ℕ, zero, suc, ◌+◌, ◌*◌, ◌-◌, Bool, true, false, List, [], ◌∷◌, ◌++◌, Option, Some, None, Ok, arith, codes, cond, flat_map, length, map, max, refl, sym, ap, ap₂, ◌∙◌, subst, filter, not, slice_get, sum, sum_by, zip, option_to_list, unwrap_or}
 use Rattle.std.specs.List.{All, AllByRecursion, cons_option, enumerate_from, filter_map, range_with_len, repeat}
 use Rattle.std.specs.Option.{MatchOption}
 use Rattle.std.specs.Prelude.{if◌then◌else◌}
@@ -11,9 +11,11 @@ use Rattle.std.proofs.lemmas.Option.{slice_get-get_or}
 use Rattle.comfy_parts.proofs.CallerLemmas.{All-every, measure-printable, no_fewer_columns, one_column_characters}
 use Rattle.comfy_parts.specs.CellValue.{CellValue, plain_cell, ColumnValue, RowValue, column_padding, info_of, is_hidden_column, is_hidden_constraint}
 use Rattle.comfy_parts.specs.Text.{Text, greatest, measure}
+use Rattle.comfy_parts.specs.VisibleText.{visible_text}
 use Rattle.comfy_parts.specs.declared.style.column.ColumnConstraint.{ColumnConstraint}
 use Rattle.comfy_parts.specs.declared.style.table_style.TableStyle.{TableStyle}
 use Rattle.comfy_table.proofs.BuiltTableLemmas.{IsNewColumn, built_is_straight}
+use Rattle.comfy_table.proofs.ControlLemmas.{free_of_escapes}
 use Rattle.comfy_table.proofs.DrawnWidthLemmas.{sum-whole_widths}
 use Rattle.comfy_table.proofs.MeasuredLemmas.{measured_rows-is, row_measured}
 use Rattle.comfy_table.specs.Arrangement.{IsArranged, is_full_width, room_beside_borders, width_kept, widths_at}
@@ -21,23 +23,25 @@ use Rattle.comfy_table.specs.Drawing.{drawing, drawing_of_infos, drawn_header, d
 use Rattle.comfy_table.specs.Dynamic.{IsDynamic}
 use Rattle.comfy_table.specs.Frame.{border_count, optional_frame_line}
 use Rattle.comfy_table.specs.Headline.{IsTableDrawing}
-use Rattle.comfy_table.specs.Laws.{line_total}
+use Rattle.comfy_table.specs.Laws.{HasNoControl, line_total}
 use Rattle.comfy_table.specs.NewTables.{AreEquallyWide, IsShortRow}
+use Rattle.comfy_table.specs.Straight.{IsStraightTable}
 use Rattle.comfy_table.specs.TableValue.{TableValue, cell_content_width, column_content_width, header_and_rows, max_content_widths, measured_rows, should_style, shown_columns, table_width, with_row, with_rows}
 use Rattle.comfy_table.specs.Widths.{capped_content, disabled_width, fixed_by_constraint, shown_count, shown_needs, upper_boundary}
+use Rattle.csv.specs.Records.{AllText}
 use Rattle.comfy_csv_parts.specs.Cells.{header_for, kept_by, kept_for_markdown, marked, row_for}
-use Rattle.comfy_csv_parts.specs.Cleaning.{cleaned}
+use Rattle.comfy_csv_parts.specs.Cleaning.{cleaned, visible_of}
 use Rattle.comfy_csv_parts.specs.Markdown.{is_right, rule_line, rule_part}
 use Rattle.comfy_csv_parts.specs.declared.options.DrawnColumn.{DrawnColumn}
 use Rattle.comfy_csv_parts.specs.declared.options.Look.{Look}
 use Rattle.comfy_csv_parts.specs.declared.options.Options.{Options}
 use Rattle.comfy_csv.proofs.BuiltLemmas.{Built, EachOf, each_content}
-use Rattle.comfy_csv.proofs.OutputControlLemmas.{rule_is_printable}
+use Rattle.comfy_csv.proofs.OutputControlLemmas.{each_below_first, free_markdown, markdown_lines_of, printable_is_seen, rule_is_clear, rule_is_printable}
 use Rattle.comfy_csv.proofs.LineLemmas.{Any, any_built, never_expanded}
-use Rattle.comfy_csv.proofs.StraightLemmas.{IsShort, empty_is_short, rows_are_straight, short_rows}
+use Rattle.comfy_csv.proofs.StraightLemmas.{IsSeenTable, IsShort, empty_is_short, rows_are_straight, short_rows}
 use Rattle.comfy_csv.proofs.TextTableLemmas.{EachLine, rows_of_texts}
-use Rattle.comfy_csv.specs.Laws.{IsStraightOutput, IsUnstyledUncut, MarkdownOutputIsStraight, WholeOutputIsStraight}
-use Rattle.comfy_csv.specs.Drawn.{ContentValue, IsMarkdownText, IsText, below_first, headed_table, empty_table, markdown_content, markdown_look, markdown_style, markdown_table}
+use Rattle.comfy_csv.specs.Laws.{AreSeen, EachText, IsLookWithoutControls, IsStraightOutput, MarkdownOutputIsStraight, WholeOutputIsStraight, seen_lines}
+use Rattle.comfy_csv.specs.Drawn.{ContentValue, IsMarkdownText, IsOutputOf, IsText, content_of, below_first, headed_table, empty_table, markdown_content, markdown_look, markdown_style, markdown_table}
 
 -- ---- a header with a cell for each column
 
@@ -223,31 +227,51 @@ module _ (look : Look) (content : ContentValue) where
         let bar : length (rule_line content.columns (max_content_widths table)) ≡ 1 + length (flat_map rule_part (zip content.columns (max_content_widths table))) = omega arith in
         omega (arith, whole, sums, two_each, count, borders, parts, printable, bar, headed.count, some)
 
-  -- so all lines are
-  pub markdown_lines_are_straight : EachOf (All (EachLine IsShort (markdown_look look))) (markdown_content content) → (lines : List Text) → IsTableDrawing table lines
-      → AreEquallyWide (below_first (rule_line content.columns (max_content_widths table)) lines)
-  markdown_lines_are_straight each lines drawing =
-      let plain : IsUnstyledUncut (markdown_look look) = record { no_bold = refl; no_sequences = refl; uncut = refl } in
-      let short = rows_of_texts IsShort empty_is_short (markdown_look look) IsShortRow (short_rows (markdown_look look) plain) (markdown_content content) each in
-      let straight = built_is_straight (empty_table (markdown_look look)) refl table drawing.widths short (one_column_characters markdown_style refl) no_width in
-      let unstyled = drawing.unstyled_lines (ap should_style known.is) (ap (λ (t : TableValue). t.custom_styling) known.is) in
-      (line_total table drawing.widths, with_rule lines drawing (subst (All (λ line. measure line ≡ line_total table drawing.widths)) (sym unstyled) (drawing.straight straight)))
+  -- so are all lines as they are seen
+  pub markdown_lines_are_straight : EachOf (All (EachLine IsShort (markdown_look look))) (markdown_content content) → (visible : Bool) → IsSeenTable visible (markdown_look look) table → (lines : List Text) → IsTableDrawing table lines
+      → AreEquallyWide (seen_lines visible (below_first (rule_line content.columns (max_content_widths table)) lines))
+  markdown_lines_are_straight each visible seen lines drawing =
+      (line_total table drawing.widths, All-map (λ line. measure line ≡ line_total table drawing.widths) (visible_of visible) (below_first rule lines) (with_rule lines refl (by_kind visible seen)))
     where
       rule : Text
       rule = rule_line content.columns (max_content_widths table)
 
-      with_rule : (lines : List Text) (drawing : IsTableDrawing table lines) → All (λ line. measure line ≡ line_total table drawing.widths) lines
-          → All (λ line. measure line ≡ line_total table drawing.widths) (below_first rule lines)
-      with_rule [] drawing each = All-nil _
-      with_rule (first ∷ rest) drawing each =
-          let Is = λ (line : Text). measure line ≡ line_total table drawing.widths in
-          All-cons Is first (rule ∷ rest) (All-head Is first rest each) (All-cons Is rule rest (rule_is_as_wide drawing.widths drawing.arranged (by_count content.columns refl)) (All-tail Is first rest each))
-        where
-          by_count : (columns : List DrawnColumn) → content.columns ≡ columns → 0 < length content.columns
-          by_count [] none =
-              let no_columns : length table.columns ≡ 0 = headed.count ∙ ap (λ (cs : List DrawnColumn). length cs) none in
-              absurd (let empty : first ∷ rest ≡ [] = drawing.drawn ∙ none_drawn table (ap (λ (t : TableValue). t.style) known.is) drawing.widths (nil_from_length table.columns no_columns) in cc empty)
-          by_count (column ∷ columns) some = rw some (omega arith)
+      Is : Bool → Text → Type 0
+      Is kind line = measure (visible_of kind line) ≡ line_total table drawing.widths
+
+      straight : IsStraightTable table drawing.widths
+      straight =
+          built_is_straight (empty_table (markdown_look look)) refl table drawing.widths
+          (rows_of_texts IsShort empty_is_short (markdown_look look) IsShortRow (short_rows (markdown_look look) refl) (markdown_content content) each) (one_column_characters markdown_style refl) no_width
+
+      by_kind : (kind : Bool) → IsSeenTable kind (markdown_look look) table → All (Is kind) lines
+      by_kind true free = drawing.straight_without_sequences (free_of_escapes table free) straight
+      by_kind false plain =
+          subst (All (Is false)) (sym (drawing.unstyled_lines (ap should_style known.is) (ap (λ (t : TableValue). t.custom_styling) known.is))) (drawing.straight straight)
+
+      seen_rule : (kind : Bool) → measure (visible_of kind rule) ≡ measure rule
+      seen_rule true = ap measure (printable_is_seen rule (rule_is_printable content.columns (max_content_widths table)))
+      seen_rule false = refl
+
+      some_columns : (first : Text) (rest : List Text) → first ∷ rest ≡ lines → (columns : List DrawnColumn) → content.columns ≡ columns → 0 < length content.columns
+      some_columns first rest are [] none =
+          let no_columns : length table.columns ≡ 0 = headed.count ∙ ap (λ (cs : List DrawnColumn). length cs) none in
+          absurd (let empty : first ∷ rest ≡ [] = are ∙ drawing.drawn ∙ none_drawn table (ap (λ (t : TableValue). t.style) known.is) drawing.widths (nil_from_length table.columns no_columns) in cc empty)
+      some_columns first rest are (column ∷ columns) some = rw some (omega arith)
+
+      with_rule : (own : List Text) → own ≡ lines → All (Is visible) own → All (Is visible) (below_first rule own)
+      with_rule [] are all = All-nil (Is visible)
+      with_rule (first ∷ rest) are all =
+          All-cons (Is visible) first (rule ∷ rest) (All-head (Is visible) first rest all)
+          (All-cons (Is visible) rule rest (seen_rule visible ∙ rule_is_as_wide drawing.widths drawing.arranged (some_columns first rest are content.columns refl)) (All-tail (Is visible) first rest all))
+
+-- no control character is visible of them
+clear_markdown : (visible : Bool) (look : Look) (content : ContentValue) (lines : List Text) → IsTableDrawing (markdown_table look content) lines → IsSeenTable visible (markdown_look look) (markdown_table look content)
+    → visible ≡ true → All HasNoControl (seen_lines visible (below_first (rule_line content.columns (max_content_widths (markdown_table look content))) lines))
+clear_markdown false look content lines drawing plain is = absurd (cc is)
+clear_markdown true look content lines drawing free is =
+    let rule = rule_line content.columns (max_content_widths (markdown_table look content)) in
+    All-map HasNoControl visible_text (below_first rule lines) (each_below_first (λ (line : Text). HasNoControl (visible_text line)) rule lines (rule_is_clear content.columns _) (drawing.without_controls free))
 
 -- ---- outputs
 
@@ -264,21 +288,42 @@ with_names P none content own = record { names = λ names is. by_names content.n
     by_names None own n is = let same : [] ≡ n = cc is in subst P same none
     by_names (Some names) own n is = let same : names ≡ n = cc is in subst P same (own names refl)
 
-pub markdown_is_straight : (options : Options) (records : List (List Text)) (output : Text) → MarkdownOutputIsStraight options records output
-markdown_is_straight options records output is short made =
+-- the table for Markdown is seen as it is written, or without sequences
+abbrev AreSeenInMarkdown : Bool → Look → List (List Text) → Type 0
+AreSeenInMarkdown false look records = Unit {0}
+AreSeenInMarkdown true look records = IsLookWithoutControls look × All AllText records
+
+seen_markdown : (visible : Bool) (options : Options) (records : List (List Text)) (content : ContentValue) → content_of options records ≡ Ok content → AreSeenInMarkdown visible options.look records → IsSeenTable visible (markdown_look options.look) (markdown_table options.look content)
+seen_markdown false options records content is any = refl
+seen_markdown true options records content is (clear, text) = let cleaned = clear.cleaned in free_markdown options.look cleaned content (each_content AllText options records content is text)
+
+markdown_straight : (visible : Bool) (options : Options) (records : List (List Text)) (output : Text) → AreSeenInMarkdown visible options.look records → options.look.is_markdown ≡ true
+    → EachText IsShort options.look records → IsOutputOf options records output → IsStraightOutput visible options records output
+markdown_straight visible options records output own is short made =
     let look = options.look in
     let Short = All (EachLine IsShort (markdown_look look)) in
     let text : IsMarkdownText look made.content made.text = subst (λ b. IsText b look made.content made.text) is made.is_text in
     let fields : All Short records = All-weaker (All (EachLine IsShort look)) Short (λ fields. All-weaker (EachLine IsShort look) (EachLine IsShort (markdown_look look)) (drawn_for_markdown look is) fields) records short in
-    let each = with_names Short (All-nil (EachLine IsShort (markdown_look look))) made.content (each_content Short options records made.content made.is_content fields) in (
-      below_first (rule_line made.content.columns (max_content_widths (markdown_table look made.content))) text.lines,
-      record { content = made.content; is_content = made.is_content; is_expanded = false; expansion = never_expanded look made.content is; text = made.text; has_lines = text.is; joined = made.joined },
-      markdown_lines_are_straight look made.content each text.lines text.drawing,
-    )
+    let each = with_names Short (All-nil (EachLine IsShort (markdown_look look))) made.content (each_content Short options records made.content made.is_content fields) in
+    let seen = seen_markdown visible options records made.content made.is_content own in
+    let rule = rule_line made.content.columns (max_content_widths (markdown_table look made.content)) in
+    record {
+      lines = below_first rule text.lines;
+      is_output = record { content = made.content; is_content = made.is_content; is_expanded = false; expansion = never_expanded look made.content is; text = made.text; has_lines = markdown_lines_of look made.content made.text text; joined = made.joined };
+      equally_wide = markdown_lines_are_straight look made.content each visible seen text.lines text.drawing;
+      clear = clear_markdown visible look made.content text.lines text.drawing seen;
+    }
 
-pub whole_is_straight : (options : Options) (records : List (List Text)) (output : Text) → WholeOutputIsStraight options records output
-whole_is_straight options records output characters plain no_width short made = by_markdown options.look.is_markdown refl
+pub markdown_is_straight : (options : Options) (records : List (List Text)) (output : Text) → MarkdownOutputIsStraight options records output
+markdown_is_straight options records output is short made = markdown_straight false options records output tt is short made
+
+pub whole_is_straight : (visible : Bool) (options : Options) (records : List (List Text)) (output : Text) → WholeOutputIsStraight visible options records output
+whole_is_straight visible options records output characters plain no_width cut short made = by_markdown options.look.is_markdown refl
   where
-    by_markdown : (b : Bool) → options.look.is_markdown ≡ b → IsStraightOutput options records output
-    by_markdown true is = markdown_is_straight options records output is short made
-    by_markdown false none = rows_are_straight options records output none characters plain no_width short made
+    in_markdown : (kind : Bool) → AreSeen kind options.look records → AreSeenInMarkdown kind options.look records
+    in_markdown true own = own
+    in_markdown false own = tt
+
+    by_markdown : (b : Bool) → options.look.is_markdown ≡ b → IsStraightOutput visible options records output
+    by_markdown true is = markdown_straight visible options records output (in_markdown visible plain.seen) is short made
+    by_markdown false none = rows_are_straight visible options records output none characters plain no_width cut short made

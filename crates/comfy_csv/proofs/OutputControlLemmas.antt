@@ -10,7 +10,7 @@ use Rattle.std.specs.List.{All, list_any, range_with_len, repeat}
 use Rattle.std.specs.Prelude.{if◌then◌else◌}
 use Rattle.std.specs.Str.{IsUtf8, NonePass}
 use lib.Utf8.{encode}
-use Rattle.comfy_parts.proofs.CallerLemmas.{IsUtf8-printable, Shows-byte, Shows-visible, none_by_characters}
+use Rattle.comfy_parts.proofs.CallerLemmas.{IsUtf8-printable, Shows-byte, Shows-visible, none_by_characters, unlike}
 use Rattle.comfy_parts.specs.CellValue.{CellValue, RowValue}
 use Rattle.comfy_parts.specs.Columns.{style_characters}
 use Rattle.comfy_parts.specs.Text.{Text, is_printable_ascii}
@@ -18,7 +18,7 @@ use Rattle.comfy_parts.specs.declared.style.table_style.TableStyle.{TableStyle}
 use Rattle.comfy_parts.specs.VisibleText.{visible_text}
 use Rattle.comfy_table.proofs.MeasuredLemmas.{IsRowOf, row_measured}
 use Rattle.comfy_table.specs.Drawing.{terminated_text_of}
-use Rattle.comfy_table.specs.Laws.{HasNoControl, IsFreeOfControls}
+use Rattle.comfy_table.specs.Laws.{AreLinesOf, HasNoBreak, HasNoControl, IsFreeOfControls, IsStyleWithout}
 use Rattle.comfy_table.specs.TableValue.{TableValue, ellipsis, max_content_widths, visible_cell}
 use Rattle.clap.specs.Words.{first_value}
 use Rattle.csv.specs.Records.{AllText}
@@ -35,8 +35,9 @@ use Rattle.comfy_csv_parts.specs.declared.options.DrawnColumn.{DrawnColumn}
 use Rattle.comfy_csv_parts.specs.declared.options.Look.{Look}
 use Rattle.comfy_csv_parts.specs.declared.options.Options.{Options}
 use Rattle.comfy_csv.proofs.BuiltLemmas.{Built, EachOf, each_content, plain_table}
-use Rattle.comfy_csv.proofs.FieldLemmas.{number_is_printable}
+use Rattle.comfy_csv.proofs.FieldLemmas.{number_is_printable, printable_unbroken}
 use Rattle.comfy_csv.proofs.LineLemmas.{drawn, never_expanded, with_lines}
+use Rattle.comfy_csv.proofs.OutputLemmas.{markdown_unbroken}
 use Rattle.comfy_csv.proofs.SeparatorLemmas.{condensed-all}
 use Rattle.comfy_csv.proofs.TextTableLemmas.{EachLine, MakesRows, cells_each, pair_each, rows_of_texts, table_of_texts}
 use Rattle.comfy_csv.proofs.WholeTableLemmas.{IsDrawn, drawn-is, drawn_plain, drawn_table-is, measured-drawn}
@@ -101,6 +102,14 @@ ellipsis_is_plain : HasNoControl ellipsis
 unfolding encode
 ellipsis_is_plain = (0x2026 ∷ [], refl, (refl, tt))
 
+-- a style without control characters has no line feed
+pub unbroken_without : (style : TableStyle) → IsStyleWithoutControls style → IsStyleWithout 0x0A style
+unbroken_without style none =
+    list_any_none (λ (c : Option ℕ). unwrap_or c 0x20 == 0x0A) (style_characters style)
+    (All-weaker (λ (c : Option ℕ). is_control (unwrap_or c 0x20) ≡ false) (λ (c : Option ℕ). (unwrap_or c 0x20 == 0x0A) ≡ false)
+    (λ c fails. unlike is_control (unwrap_or c 0x20) 0x0A refl (λ _. fails)) (style_characters style)
+    (none_each (λ c. is_control (unwrap_or c 0x20)) (style_characters style) none))
+
 separated_without : (has : Bool) (look : Look) → IsLookWithoutControls look → IsLookWithoutControls (separated has look)
 separated_without true look is = is
 separated_without false look is = record { cleaned = is.cleaned; style = condensed_without look.style is.style }
@@ -121,7 +130,7 @@ module _ (look : Look) (is : IsLookWithoutControls look) (content : ContentValue
         rows = All-weaker AllText (All (EachLine (IsClearLine look.has_sequences) look)) (clear_fields look is.cleaned) content.rows text.rows;
       }
 
-  free_rows : IsFreeOfControls (rows_table look content)
+  pub free_rows : IsFreeOfControls (rows_table look content)
   free_rows = free_of_controls (rows_table look content) (drawn_plain look (IsClearRow look.has_sequences) content (rows_table look content) (rows_of_texts (IsClearLine look.has_sequences) (empty_line look.has_sequences) look (IsClearRow look.has_sequences) (clear_rows look) content each))
 
   built_output : (is_expanded : Bool) → Built look (IsClearRow look.has_sequences) content (plain_table is_expanded look content)
@@ -129,7 +138,7 @@ module _ (look : Look) (is : IsLookWithoutControls look) (content : ContentValue
       table_of_texts (IsClearLine look.has_sequences) (empty_line look.has_sequences) look (IsClearRow look.has_sequences) (clear_rows look) content each
       (λ at. clear_field look is.cleaned (decimal (at + 1)) (IsUtf8-printable (decimal (at + 1)) (number_is_printable (at + 1)))) is_expanded
 
-free_output : (look : Look) → IsLookWithoutControls look → (content : ContentValue) → EachOf AllText content → (is_expanded has : Bool) → IsFreeOfControls (separated_table has (output_table is_expanded look content))
+pub free_output : (look : Look) → IsLookWithoutControls look → (content : ContentValue) → EachOf AllText content → (is_expanded has : Bool) → IsFreeOfControls (separated_table has (output_table is_expanded look content))
 free_output look is content text is_expanded has =
     let own = separated has look in
     let clear = separated_without has look is in
@@ -183,7 +192,7 @@ shown_before (c ∷ cs) rest all =
     let both = and_parts (is_in_range 0x20 0x7E c) (is_printable_ascii cs) all in
     (Shows-byte c (printable_is_plain c both.0).2).shows (cs ++ rest) ∙ ap (λ (t : Text). c ∷ t) (shown_before cs rest both.1)
 
-printable_is_seen : (text : Text) → is_printable_ascii text ≡ true → visible_text text ≡ text
+pub printable_is_seen : (text : Text) → is_printable_ascii text ≡ true → visible_text text ≡ text
 printable_is_seen text all = ap visible_text (sym (append-nil text)) ∙ shown_before text [] all ∙ append-nil text
 
 -- a printable line, a line feed, and what follows
@@ -194,7 +203,7 @@ both_printable : (xs ys : Text) → is_printable_ascii xs ≡ true → is_printa
 both_printable xs ys one other = list_all-append (is_in_range 0x20 0x7E) xs ys ∙ ap₂ (λ a b. a && b) one other
 
 -- `n of m`, and what stands around it
-counts_are_printable : (before after : Text) (n m : ℕ) → is_printable_ascii before ≡ true → is_printable_ascii after ≡ true → is_printable_ascii ((((before ++ decimal n) ++ codes " of ") ++ decimal m) ++ after) ≡ true
+pub counts_are_printable : (before after : Text) (n m : ℕ) → is_printable_ascii before ≡ true → is_printable_ascii after ≡ true → is_printable_ascii ((((before ++ decimal n) ++ codes " of ") ++ decimal m) ++ after) ≡ true
 counts_are_printable before after n m first last =
     both_printable (((before ++ decimal n) ++ codes " of ") ++ decimal m) after
     (both_printable ((before ++ decimal n) ++ codes " of ") (decimal m) (both_printable (before ++ decimal n) (codes " of ") (both_printable before (decimal n) first (number_is_printable n)) refl) (number_is_printable m)) last
@@ -233,8 +242,8 @@ IsClear line = HasNoControl (visible_text line)
 
 -- a text of such lines, and what follows
 after_text : (is_expanded : Bool) (content : ContentValue) (lines : List Text) (text rest : Text) → HasLines is_expanded content lines text → All IsClear lines → HasNoStrayControl (visible_text rest) → HasNoStrayControl (visible_text (text ++ rest))
-after_text false content lines text rest is none more = subst (λ (t : Text). HasNoStrayControl (visible_text (t ++ rest))) (sym is) (after_lines lines rest none more)
-after_text true content lines text rest (parts, within, is) none more =
+after_text false content lines text rest are none more = subst (λ (t : Text). HasNoStrayControl (visible_text (t ++ rest))) (sym are.joined) (after_lines lines rest none more)
+after_text true content lines text rest (parts, within, unbroken, is) none more =
     subst (λ (t : Text). HasNoStrayControl (visible_text (t ++ rest))) (sym is) (records (range_with_len 0 (length content.rows)))
   where
     one : ℕ → Text
@@ -275,32 +284,52 @@ rule_is_printable columns widths = parts columns widths
     parts (column ∷ columns) [] = refl
     parts (column ∷ columns) (width ∷ widths) = both_printable (rule_part (column, width)) (flat_map rule_part (zip columns widths)) (part_is_printable column width) (parts columns widths)
 
-each_below_first : (P : Text → Type 0) (line : Text) (lines : List Text) → P line → All P lines → All P (below_first line lines)
+-- no control character is visible of that line
+pub rule_is_clear : (columns : List DrawnColumn) (widths : List ℕ) → HasNoControl (visible_text (rule_line columns widths))
+rule_is_clear columns widths =
+    let printable = rule_is_printable columns widths in
+    subst HasNoControl (sym (printable_is_seen (rule_line columns widths) printable)) (printable_is_clear (rule_line columns widths) printable)
+
+pub each_below_first : (P : Text → Type 0) (line : Text) (lines : List Text) → P line → All P lines → All P (below_first line lines)
 each_below_first P line [] own each = each
 each_below_first P line (first ∷ rest) own each = All-cons P first (line ∷ rest) (All-head P first rest each) (All-cons P line rest own (All-tail P first rest each))
 
-markdown_is_clear : (options : Options) (records : List (List Text)) (output : Text) → IsLookWithoutControls options.look → All AllText records → (made : IsOutputOf options records output) → IsMarkdownText options.look made.content made.text → options.look.is_markdown ≡ true → HasNoStrayControl (visible_text output)
+-- the lines of a text for Markdown
+pub markdown_lines_of : (look : Look) (content : ContentValue) (text : Text) (drawn : IsMarkdownText look content text)
+    → AreLinesOf text (below_first (rule_line content.columns (max_content_widths (markdown_table look content))) drawn.lines)
+markdown_lines_of look content text drawn =
+    let rule = rule_line content.columns (max_content_widths (markdown_table look content)) in
+    record {
+      joined = drawn.is;
+      unbroken = each_below_first HasNoBreak rule drawn.lines (printable_unbroken rule (rule_is_printable content.columns _)) (drawn.drawing.without_breaks (markdown_unbroken look content));
+    }
+
+-- it has names, be they blank
+pub titled : (content : ContentValue) → EachOf AllText content → EachOf AllText (markdown_content content)
 unfolding AllText
+titled content own = record { names = λ names is. by_names content.names own.names names is; rows = own.rows }
+  where
+    by_names : (known : Option (List Text)) → ((n : List Text) → known ≡ Some n → AllText n) → (names : List Text) → Some (unwrap_or known []) ≡ Some names → AllText names
+    by_names None own names is = let same : [] ≡ names = cc is in subst AllText same tt
+    by_names (Some n) own names is = let same : n ≡ names = cc is in subst AllText same (own n refl)
+
+-- and no control character
+pub free_markdown : (look : Look) → look.is_raw ≡ false → (content : ContentValue) → EachOf AllText content → IsFreeOfControls (markdown_table look content)
+free_markdown look cleaned content text = free_rows (markdown_look look) (record { cleaned = cleaned; style = refl }) (markdown_content content) (titled content text)
+
+markdown_is_clear : (options : Options) (records : List (List Text)) (output : Text) → IsLookWithoutControls options.look → All AllText records → (made : IsOutputOf options records output) → IsMarkdownText options.look made.content made.text → options.look.is_markdown ≡ true → HasNoStrayControl (visible_text output)
 markdown_is_clear options records output look text made drawn is =
     let rule = rule_line made.content.columns (max_content_widths (markdown_table options.look made.content)) in
-    let seen = printable_is_seen rule (rule_is_printable made.content.columns _) in
     let own = each_content AllText options records made.content made.is_content text in
-    output_of_clear options records output (below_first rule drawn.lines) (record { content = made.content; is_content = made.is_content; is_expanded = false; expansion = never_expanded options.look made.content is; text = made.text; has_lines = drawn.is; joined = made.joined })
-    (each_below_first IsClear rule drawn.lines (subst HasNoControl (sym seen) (printable_is_clear rule (rule_is_printable made.content.columns _)))
-    (drawn.drawing.without_controls (free_rows (markdown_look options.look) (record { cleaned = look.cleaned; style = refl }) (markdown_content made.content) (titled made.content own))))
-  where
-    titled : (content : ContentValue) → EachOf AllText content → EachOf AllText (markdown_content content)
-    titled content own = record { names = λ names is. by_names content.names own.names names is; rows = own.rows }
-      where
-        by_names : (known : Option (List Text)) → ((n : List Text) → known ≡ Some n → AllText n) → (names : List Text) → Some (unwrap_or known []) ≡ Some names → AllText names
-        by_names None own names is = let same : [] ≡ names = cc is in subst AllText same tt
-        by_names (Some n) own names is = let same : n ≡ names = cc is in subst AllText same (own n refl)
+    output_of_clear options records output (below_first rule drawn.lines) (record { content = made.content; is_content = made.is_content; is_expanded = false; expansion = never_expanded options.look made.content is; text = made.text; has_lines = markdown_lines_of options.look made.content made.text drawn; joined = made.joined })
+    (each_below_first IsClear rule drawn.lines (rule_is_clear made.content.columns _)
+    (drawn.drawing.without_controls (free_markdown options.look look.cleaned made.content own)))
 
 table_is_clear : (options : Options) (records : List (List Text)) (output : Text) → IsLookWithoutControls options.look → All AllText records → (made : IsOutputOf options records output) → IsTableText options.look made.content made.text → options.look.is_markdown ≡ false → HasNoStrayControl (visible_text output)
 table_is_clear options records output look text made drawn_text none =
     let has = drawn_text.drawn.has_separators in
     let own = each_content AllText options records made.content made.is_content text in
-    output_of_clear options records output (drawn options records output made drawn_text none) (with_lines options records output made drawn_text none)
+    output_of_clear options records output (drawn options records output made drawn_text none) (with_lines options records output made drawn_text none (unbroken_without options.look.style look.style))
     (drawn_text.drawn.is_arranged.headline.without_controls (free_output options.look look made.content own drawn_text.is_expanded has))
 
 pub output_without_controls : (options : Options) (records : List (List Text)) (output : Text) → OutputHoldsNoControls options records output

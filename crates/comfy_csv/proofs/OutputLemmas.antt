@@ -67,14 +67,14 @@ with_line_below line lines drawing r is none split = by_lines lines is none r (s
             ∙ sym (append_assoc first (0x0A ∷ []) ((line ++ 0x0A ∷ []) ++ terminated_text_of rest) ∙ ap (λ (t : Text). first ++ 0x0A ∷ t) (append_assoc line (0x0A ∷ []) (terminated_text_of rest)))
 
 -- no line of a table for Markdown holds a line feed
-unbroken : (look : Look) (content : ContentValue) → HasUnbrokenStyle (markdown_table look content)
-unbroken look content = let known = any_built false (markdown_look look) (markdown_content content) in subst HasUnbrokenStyle (sym known.is) (record { indicator = refl; characters = refl })
+pub markdown_unbroken : (look : Look) (content : ContentValue) → HasUnbrokenStyle (markdown_table look content)
+markdown_unbroken look content = let known = any_built false (markdown_look look) (markdown_content content) in subst HasUnbrokenStyle (sym known.is) (record { indicator = refl; characters = refl })
 
 -- the text of such a table, by what stands at the two sides of the first line feed of its drawing
 pub markdown_lines : (look : Look) (content : ContentValue) (table : TableValue) (drawing : Text) → table ≡ markdown_table look content → IsTerminatedTextOf table drawing → (widths : List ℕ) → widths ≡ max_content_widths table
     → (r : Option (Bor Text × Bor Text)) → IsSplitOnceResult 0x0A drawing r
     → MatchOption r (IsMarkdownText look content []) (λ x. IsMarkdownText look content (x.0.now ++ 0x0A ∷ (rule_line content.columns widths ++ 0x0A ∷ x.1.now)))
-markdown_lines look content table drawing is drawn widths are r split = by_result r (with_line_below rule lines drawing r own.2 (own.1.without_breaks (unbroken look content)) split)
+markdown_lines look content table drawing is drawn widths are r split = by_result r (with_line_below rule lines drawing r own.2 (own.1.without_breaks (markdown_unbroken look content)) split)
   where
     own : IsTerminatedTextOf (markdown_table look content) drawing
     own = subst (λ t. IsTerminatedTextOf t drawing) is drawn

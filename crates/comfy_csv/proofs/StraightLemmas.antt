@@ -1,40 +1,46 @@
--- The lines of an output are equally wide.
-use Rattle.std.proofs.Common.{◌≡◌, ℕ, ◌≤◌, ◌+◌, Bool, true, false, List, [], ◌∷◌, None, All, arith, decimal, inl, inr, length, map, slice_index_or, unwrap_or, ap, refl, subst, sym, ◌∙◌}
+-- What is visible of the lines of an output is equally wide.
+use Rattle.std.proofs.Common.{◌≡◌, ℕ, ◌≤◌, ◌+◌, ◌⊎◌, Bool, true, false, List, [], ◌∷◌, Option, Some, None, Ok, All, arith, decimal, inl, inr, length, map, max, option_map, slice_index_or, unwrap_or, ap, refl, subst, sym, ◌∙◌}
 use Rattle.std.proofs.lemmas.List.Elements.{All-cons, All-map, All-nil, All-weaker}
+use Rattle.std.proofs.lemmas.Str.{chars-nil}
+use Rattle.cluster_width.specs.ClusterSums.{selectors_agree}
 use Rattle.comfy_parts.proofs.CallerLemmas.{All-at, All-every, frame_adds, measure-nil, measure-printable}
 use Rattle.comfy_parts.specs.CellValue.{CellValue, ColumnInfo, ColumnValue, RowValue, plain_cell}
-use Rattle.comfy_parts.specs.Columns.{AddsOneColumn, IsOneColumnStyle}
+use Rattle.comfy_parts.specs.Columns.{AddsOneColumn, CharactersFit, IsApart, IsOneColumnStyle, SelectorsAgree}
 use Rattle.comfy_parts.specs.Text.{Text, is_printable_ascii, measure}
-use Rattle.comfy_table.proofs.FittingTableLemmas.{IsDefaultRow, fitting_tables_are_straight}
+use Rattle.comfy_parts.specs.VisibleText.{visible_text}
+use Rattle.comfy_table.proofs.ControlLemmas.{free_of_escapes}
+use Rattle.comfy_table.proofs.FittingTableLemmas.{fitting_tables_are_straight}
 use Rattle.comfy_table.proofs.InfoLemmas.{infos-known}
+use Rattle.comfy_table.proofs.WholeTableLemmas.{whole_lines_fit}
 use Rattle.comfy_table.specs.Arrangement.{width_kept}
 use Rattle.comfy_table.specs.Drawing.{infos_of}
 use Rattle.comfy_table.specs.FittingTables.{CharactersFitColumn, FitsByCharacters}
 use Rattle.comfy_table.specs.Headline.{IsTableDrawing}
-use Rattle.comfy_table.specs.Laws.{line_total}
+use Rattle.comfy_table.specs.Laws.{HasNoControl, IsFreeOfControls, line_total}
 use Rattle.comfy_table.specs.Lines.{cell_delimiter}
 use Rattle.comfy_table.specs.NewTables.{AreEquallyWide, IsShortRow}
 use Rattle.comfy_table.specs.Pieces.{shown_infos}
-use Rattle.comfy_table.specs.Straight.{EachCell, IsStraightTable}
+use Rattle.comfy_table.specs.Straight.{EachCell, IsStraightTable, TextsFit}
 use Rattle.comfy_table.specs.TableValue.{TableValue, measured_rows, should_style, table_width}
 use Rattle.comfy_csv.proofs.BuiltLemmas.{EachOf, each_content}
 use Rattle.comfy_csv.proofs.FieldLemmas.{number_lines}
-use Rattle.comfy_csv.proofs.LineLemmas.{drawn, drawn_table, expansion, is_table_text, with_lines}
+use Rattle.comfy_csv.proofs.LineLemmas.{drawn, drawn_table, expansion, is_table_text, kept_setting, with_lines}
+use Rattle.comfy_csv.proofs.OutputControlLemmas.{free_output}
+use Rattle.comfy_csv.proofs.SeenLemmas.{ellipsis_is_apart, fitting_agree, printable_fits, wider_column}
 use Rattle.comfy_csv.proofs.SeparatorLemmas.{separated_is_one_column}
 use Rattle.comfy_csv.proofs.TextTableLemmas.{EachLine, MakesRows, cells_each, pair_each, table_of_texts}
 use Rattle.comfy_csv.proofs.WholeColumnLemmas.{IsPaddedColumn}
 use Rattle.comfy_csv.proofs.WholeTableLemmas.{IsDrawn, columns-drawn, drawn-is, drawn_table-is, padded-drawn, rows-drawn, unconstrained-drawn}
 use Rattle.comfy_csv_parts.specs.Cells.{cell_for, field_or_blank, field_text, with_weight}
-use Rattle.comfy_csv.specs.Drawn.{ContentValue, empty_table, output_table, separated, separated_table}
-use Rattle.comfy_csv.specs.Laws.{FittingOutputIsStraight, IsUnstyledUncut, WholeOutputIsStraight}
+use Rattle.comfy_csv_parts.specs.Cleaning.{visible_of}
+use Rattle.comfy_csv.specs.Drawn.{ContentValue, IsOutputOf, IsTableText, content_of, empty_table, output_table, separated, separated_table}
+use Rattle.comfy_csv.specs.Laws.{ArePlainLines, AreSeen, CanBeCut, EachText, FittingOutputIsStraight, IsStraightOutput, NarrowOutputIsStraight, WholeOutputIsStraight, seen_lines}
 use Rattle.comfy_csv_parts.specs.declared.options.Look.{Look}
 use Rattle.comfy_csv_parts.specs.declared.options.Options.{Options}
 use Rattle.comfy_csv_parts.specs.declared.options.DrawnColumn.{DrawnColumn}
+use Rattle.csv.specs.Records.{AllText}
 
--- lines between rows or none: nothing is in bold, no sequence counts nothing, and no row is cut
-pub still_unstyled : (has : Bool) (look : Look) → IsUnstyledUncut look → IsUnstyledUncut (separated has look)
-still_unstyled true look plain = plain
-still_unstyled false look plain = record { no_bold = plain.no_bold; no_sequences = plain.no_sequences; uncut = plain.uncut }
+-- ---- texts
 
 abbrev pub IsShort : Text → Type 0
 IsShort text = measure text ≤ 65535
@@ -42,19 +48,14 @@ IsShort text = measure text ≤ 65535
 pub empty_is_short : IsShort []
 empty_is_short = rw measure-nil (omega arith)
 
-pub short_rows : (look : Look) → IsUnstyledUncut look → MakesRows IsShort empty_is_short look IsShortRow
-short_rows look plain =
-    record {
-      header = λ columns fields each. record { uncut = refl; short = cells_each IsShort empty_is_short look look.has_bold_header columns fields each };
-      row = λ columns fields each. record { uncut = rw plain.uncut refl; short = cells_each IsShort empty_is_short look false columns fields each };
-      pair = λ name field own other. record { uncut = rw plain.uncut refl; short = pair_each IsShort empty_is_short look name field own other };
-    }
+-- a short text, whose selectors agree where texts are cut
+abbrev IsWholeText : Option ℕ → Text → Type 0
+IsWholeText limit text = IsShort text × ((limit ≡ None) ⊎ SelectorsAgree text)
 
--- a number is short
-short_number : (look : Look) → look.is_markdown ≡ false → (n : ℕ) → EachLine IsShort look (decimal n)
-short_number look none n = All-weaker (λ text. (is_printable_ascii text ≡ true) × (length text ≤ 64)) IsShort (λ text is. rw (measure-printable text is.0) (omega (arith, is.1))) _ (number_lines look none n)
+empty_is_whole : (limit : Option ℕ) → IsWholeText limit []
+empty_is_whole limit = (empty_is_short, inr (ap selectors_agree chars-nil))
 
--- any texts
+-- any text
 abbrev pub IsAny : Text → Type 0
 IsAny text = Unit {0}
 
@@ -65,125 +66,299 @@ any_content : (look : Look) (content : ContentValue) → EachOf (All (EachLine I
 any_content look content =
     record { names = λ names is. All-every (EachLine IsAny look) names (any_line look); rows = All-every (All (EachLine IsAny look)) content.rows (λ fields. All-every (EachLine IsAny look) fields (any_line look)) }
 
--- cells without bold have no delimiter of their own
-undelimited : (look : Look) (columns : List DrawnColumn) (fields : List Text) → All (λ (cell : CellValue). cell.delimiter ≡ None) (map (λ (column : DrawnColumn). with_weight false (cell_for look column.alignment (field_or_blank fields column.position))) columns)
-undelimited look columns fields =
-    All-map (λ (cell : CellValue). cell.delimiter ≡ None) (λ (column : DrawnColumn). with_weight false (cell_for look column.alignment (field_or_blank fields column.position))) columns
-    (All-every (λ (column : DrawnColumn). (with_weight false (cell_for look column.alignment (field_or_blank fields column.position))).delimiter ≡ None) columns (λ column. refl))
+-- what printable ASCII of at most 64 characters meets, a number does
+each_number : (P : Text → Type 0) → ((text : Text) → is_printable_ascii text ≡ true → length text ≤ 64 → P text) → (look : Look) → look.is_markdown ≡ false → (n : ℕ) → EachLine P look (decimal n)
+each_number P gives look none n = All-weaker (λ text. (is_printable_ascii text ≡ true) × (length text ≤ 64)) P (λ text is. gives text is.0 is.1) _ (number_lines look none n)
 
-pub default_rows : (look : Look) → IsUnstyledUncut look → MakesRows IsAny tt look IsDefaultRow
-default_rows look plain =
+short_printable : (text : Text) → is_printable_ascii text ≡ true → length text ≤ 64 → IsShort text
+short_printable text printable few = rw (measure-printable text printable) (omega (arith, few))
+
+whole_printable : (limit : Option ℕ) (text : Text) → is_printable_ascii text ≡ true → length text ≤ 64 → IsWholeText limit text
+whole_printable limit text printable few = (short_printable text printable few, inr (fitting_agree 1 text (printable_fits text printable)))
+
+-- ---- rows
+
+pub short_rows : (look : Look) → look.max_height ≡ None → MakesRows IsShort empty_is_short look IsShortRow
+short_rows look uncut =
     record {
-      header = λ columns fields each. record { uncut = refl; no_delimiters = rw plain.no_bold (undelimited look columns fields) };
-      row = λ columns fields each. record { uncut = rw plain.uncut refl; no_delimiters = undelimited look columns fields };
-      pair = λ name field own other. record { uncut = rw plain.uncut refl; no_delimiters = both name field };
+      header = λ columns fields each. record { uncut = refl; short = cells_each IsShort empty_is_short look look.has_bold_header columns fields each };
+      row = λ columns fields each. record { uncut = rw uncut refl; short = cells_each IsShort empty_is_short look false columns fields each };
+      pair = λ name field own other. record { uncut = rw uncut refl; short = pair_each IsShort empty_is_short look name field own other };
+    }
+
+abbrev EachCellText : (Text → Type 0) → RowValue → Type 0
+EachCellText P row = All (λ (cell : CellValue). All P cell.text_lines) row.cells
+
+-- a row of short texts, whose selectors agree where it has a greatest height
+record IsWholeRow (row : RowValue) : Type 0 where
+  short : EachCellText IsShort row
+  agree : (h : ℕ) → row.max_height ≡ Some h → EachCellText SelectorsAgree row
+
+each_cell : (P R : Text → Type 0) → ((text : Text) → P text → R text) → (cells : List CellValue) → All (λ (cell : CellValue). All P cell.text_lines) cells → All (λ (cell : CellValue). All R cell.text_lines) cells
+each_cell P R gives = All-weaker (λ (cell : CellValue). All P cell.text_lines) (λ (cell : CellValue). All R cell.text_lines) (λ cell. All-weaker P R gives cell.text_lines)
+
+whole_rows : (limit : Option ℕ) (look : Look) → look.max_height ≡ limit → MakesRows (IsWholeText limit) (empty_is_whole limit) look IsWholeRow
+whole_rows limit look same =
+    let Whole = IsWholeText limit in
+    let empty = empty_is_whole limit in
+    record {
+      header = λ columns fields each. made _ (cells_each Whole empty look look.has_bold_header columns fields each) (λ h tall. absurd (cc tall));
+      row = λ columns fields each. made _ (cells_each Whole empty look false columns fields each) limited;
+      pair = λ name field own other. made _ (pair_each Whole empty look name field own other) limited;
     }
   where
-    weighted : (is_bold : Bool) (cell : CellValue) → cell.delimiter ≡ None → (with_weight is_bold cell).delimiter ≡ None
-    weighted true cell none = none
-    weighted false cell none = none
+    -- a limit is known where a row has a greatest height
+    limited : (h : ℕ) → option_map (max 1) look.max_height ≡ Some h → (text : Text) → IsWholeText limit text → SelectorsAgree text
+    limited h tall text (short, inr agrees) = agrees
+    limited h tall text (short, inl none) = let gone : option_map (max 1) look.max_height ≡ None = ap (option_map (max 1)) (same ∙ none) in absurd (cc (gone, tall))
 
+    made : (row : RowValue) → EachCellText (IsWholeText limit) row → ((h : ℕ) → row.max_height ≡ Some h → (text : Text) → IsWholeText limit text → SelectorsAgree text) → IsWholeRow row
+    made row each agrees =
+        record {
+          short = each_cell (IsWholeText limit) IsShort (λ text own. own.0) row.cells each;
+          agree = λ h tall. each_cell (IsWholeText limit) SelectorsAgree (agrees h tall) row.cells each;
+        }
+
+-- a row whose cells have no delimiter of their own
+abbrev pub IsDefaultRow : RowValue → Type 0
+IsDefaultRow row = All (λ (cell : CellValue). cell.delimiter ≡ None) row.cells
+
+weighted : (is_bold : Bool) (cell : CellValue) → cell.delimiter ≡ None → (with_weight is_bold cell).delimiter ≡ None
+weighted true cell none = none
+weighted false cell none = none
+
+undelimited : (is_bold : Bool) (look : Look) (columns : List DrawnColumn) (fields : List Text)
+    → All (λ (cell : CellValue). cell.delimiter ≡ None) (map (λ (column : DrawnColumn). with_weight is_bold (cell_for look column.alignment (field_or_blank fields column.position))) columns)
+undelimited is_bold look columns fields =
+    All-map (λ (cell : CellValue). cell.delimiter ≡ None) (λ (column : DrawnColumn). with_weight is_bold (cell_for look column.alignment (field_or_blank fields column.position))) columns
+    (All-every (λ (column : DrawnColumn). (with_weight is_bold (cell_for look column.alignment (field_or_blank fields column.position))).delimiter ≡ None) columns
+    (λ column. weighted is_bold (cell_for look column.alignment (field_or_blank fields column.position)) refl))
+
+pub default_rows : (look : Look) → MakesRows IsAny tt look IsDefaultRow
+default_rows look =
+    record {
+      header = λ columns fields each. undelimited look.has_bold_header look columns fields;
+      row = λ columns fields each. undelimited false look columns fields;
+      pair = λ name field own other. both name field;
+    }
+  where
     both : (name field : Text) → All (λ (cell : CellValue). cell.delimiter ≡ None) (with_weight look.has_bold_header (cell_for look None name) ∷ cell_for look None field ∷ [])
     both name field =
         All-cons (λ (cell : CellValue). cell.delimiter ≡ None) (with_weight look.has_bold_header (cell_for look None name)) (cell_for look None field ∷ []) (weighted look.has_bold_header (cell_for look None name) refl)
         (All-cons (λ (cell : CellValue). cell.delimiter ≡ None) (cell_for look None field) [] refl (All-nil (λ (cell : CellValue). cell.delimiter ≡ None)))
 
-module _ (look : Look) (plain : IsUnstyledUncut look) (characters : IsOneColumnStyle look.style) (content : ContentValue) (table : TableValue) (lines : List Text) (drawing : IsTableDrawing table lines) where
+-- such a row of texts of which P holds
+pub record IsDefaultRowOf (P : Text → Type 0) (row : RowValue) : Type 0 where
+  pub no_delimiters : IsDefaultRow row
+  pub each : EachCellText P row
+
+pub default_rows_of : (P : Text → Type 0) (empty : P []) (look : Look) → MakesRows P empty look (IsDefaultRowOf P)
+default_rows_of P empty look =
+    let default = default_rows look in
+    let any = λ (fields : List Text). All-every (EachLine IsAny look) fields (any_line look) in
+    record {
+      header = λ columns fields each. record { no_delimiters = default.header columns fields (any fields); each = cells_each P empty look look.has_bold_header columns fields each };
+      row = λ columns fields each. record { no_delimiters = default.row columns fields (any fields); each = cells_each P empty look false columns fields each };
+      pair = λ name field own other. record { no_delimiters = default.pair name field (any_line look name) (any_line look field); each = pair_each P empty look name field own other };
+    }
+
+-- ---- tables
+
+-- nothing is in bold, or no control character stands beside sequences
+abbrev pub IsSeenTable : Bool → Look → TableValue → Type 0
+IsSeenTable false look table = look.has_bold_header ≡ false
+IsSeenTable true look table = IsFreeOfControls table
+
+-- no control character is visible of the lines of such a table
+pub clear_lines : (visible : Bool) (look : Look) (table : TableValue) (lines : List Text) → IsTableDrawing table lines → IsSeenTable visible look table → visible ≡ true → All HasNoControl (seen_lines visible lines)
+clear_lines true look table lines drawing free is = All-map HasNoControl visible_text lines (drawing.without_controls free)
+clear_lines false look table lines drawing plain is = absurd (cc is)
+
+module _ (look : Look) (no_sequences : look.has_sequences ≡ false) (characters : IsOneColumnStyle look.style) (content : ContentValue) (table : TableValue) (lines : List Text) (drawing : IsTableDrawing table lines) where
   abbrev base : TableValue
   base = empty_table look
 
-  -- the lines are equally wide where the table is straight
-  equally_wide : (Q : RowValue → Type 0) → IsDrawn look Q content table → IsStraightTable table drawing.widths → AreEquallyWide lines
-  equally_wide Q known is =
-      let looks = drawn-is look Q content table known in (
-        line_total table drawing.widths,
-        subst (All (λ line. measure line ≡ line_total table drawing.widths)) (sym (drawing.unstyled_lines (ap should_style looks ∙ rw plain.no_bold refl) (ap (λ (t : TableValue). t.custom_styling) looks ∙ plain.no_sequences))) (drawing.straight is),
-      )
-
-  -- the characters are those of the look
-  characters_known : (Q : RowValue → Type 0) → IsDrawn look Q content table → IsOneColumnStyle table.style
-  characters_known Q known = subst IsOneColumnStyle (sym (ap (λ (t : TableValue). t.style) (drawn-is look Q content table known))) characters
-
-  -- a table that keeps to no width
-  whole : IsDrawn look IsShortRow content table → look.width ≡ None → AreEquallyWide lines
-  whole known no_width =
-      let looks = drawn-is look IsShortRow content table known in
-      let kept : width_kept table.arrangement (table_width table) ≡ None = ap (λ (t : TableValue). width_kept t.arrangement (table_width t)) looks ∙ rw no_width refl in
-      let rows = rows-drawn look IsShortRow content table known plain.no_sequences in
-      equally_wide IsShortRow known
-      (record {
-        characters = characters_known IsShortRow known;
-        apart = inr (inl (padded-drawn look IsShortRow content table known));
-        fits = inr (inr (record {
-          no_width = kept;
-          no_constraints = unconstrained-drawn look IsShortRow content table known (known.no_width no_width);
-          uncut = All-weaker IsShortRow (λ (row : RowValue). row.max_height ≡ None) (λ row own. own.uncut) (measured_rows table) rows;
-          short = All-weaker IsShortRow (λ (row : RowValue). All (λ (cell : CellValue). All (λ line. measure line ≤ 65535) cell.text_lines) row.cells) (λ row own. own.short) (measured_rows table) rows;
-        }));
-      })
-
-  -- or one whose characters fit its columns
-  fitting : IsDrawn look IsDefaultRow content table → EachCell CharactersFitColumn table drawing.widths → AreEquallyWide lines
-  fitting known each = equally_wide IsDefaultRow known (fitting_tables_are_straight table lines drawing (characters_known IsDefaultRow known) (inr (inl (padded-drawn look IsDefaultRow content table known))) fits)
+  -- the lines as they are seen are equally wide where the table is straight
+  equally_wide : (Q : RowValue → Type 0) → IsDrawn look Q content table → (visible : Bool) → IsSeenTable visible look table → IsStraightTable table drawing.widths → AreEquallyWide (seen_lines visible lines)
+  equally_wide Q known visible seen is =
+      (line_total table drawing.widths, All-map (λ line. measure line ≡ line_total table drawing.widths) (visible_of visible) lines (by_kind visible seen))
     where
-      fits : EachCell (FitsByCharacters table) table drawing.widths
+      looks : table ≡ record base { columns = table.columns; header = table.header; rows = table.rows }
+      looks = drawn-is look Q content table known
+
+      by_kind : (b : Bool) → IsSeenTable b look table → All (λ line. measure (visible_of b line) ≡ line_total table drawing.widths) lines
+      by_kind true free = drawing.straight_without_sequences (free_of_escapes table free) is
+      by_kind false plain =
+          subst (All (λ line. measure line ≡ line_total table drawing.widths)) (sym (drawing.unstyled_lines (ap should_style looks ∙ rw plain refl) (ap (λ (t : TableValue). t.custom_styling) looks ∙ no_sequences))) (drawing.straight is)
+
+  module _ (Q : RowValue → Type 0) (known : IsDrawn look Q content table) where
+    -- the characters are those of the look
+    characters_known : IsOneColumnStyle table.style
+    characters_known = subst IsOneColumnStyle (sym (ap (λ (t : TableValue). t.style) (drawn-is look Q content table known))) characters
+
+    -- and the indicator is that of a new table
+    apart_indicator : IsApart table.indicator
+    apart_indicator = subst IsApart (sym (ap (λ (t : TableValue). t.indicator) (drawn-is look Q content table known))) ellipsis_is_apart
+
+    -- a table whose characters fit its columns is straight
+    fitting : ((row : RowValue) → Q row → IsDefaultRow row) → EachCell CharactersFitColumn table drawing.widths → IsStraightTable table drawing.widths
+    fitting gives each = fitting_tables_are_straight table lines drawing characters_known (inr (inl (padded-drawn look Q content table known))) fits
+      where
+        fits : EachCell (FitsByCharacters table) table drawing.widths
+        fits k default under j other below cell found =
+            let row = slice_index_or (measured_rows table) k default in
+            let p = slice_index_or (shown_infos (infos_of table drawing.widths)) j other in
+            let of_row = gives row (rows-drawn look Q content table known no_sequences k default under) in
+            let of_cell = All-at (λ (c : CellValue). c.delimiter ≡ None) row.cells p.0 cell of_row found in
+            let of_column : p.1.delimiter ≡ None =
+            infos-known table drawing.widths (λ (q : ℕ × ColumnValue). IsPaddedColumn q.1) (λ (q : ℕ × ColumnInfo). q.1.delimiter ≡ None) drawing.arranged.one_for_each (columns-drawn look Q content table known) (λ i column w own. own.no_delimiter) j other below in
+            let space : cell_delimiter table p.1.delimiter cell ≡ 0x20 =
+            ap (λ o. unwrap_or o (unwrap_or p.1.delimiter (unwrap_or table.delimiter 0x20))) of_cell ∙ ap (λ o. unwrap_or o (unwrap_or table.delimiter 0x20)) of_column
+            ∙ ap (λ (t : TableValue). unwrap_or t.delimiter 0x20) (drawn-is look Q content table known) in
+            record {
+              characters = each k default under j other below cell found;
+              delimiter = subst AddsOneColumn (sym space) (frame_adds 0x20 refl);
+              indicator = inr apart_indicator;
+            }
+
+  -- so is one whose characters take one column each
+  narrow : IsDrawn look (IsDefaultRowOf (CharactersFit 1)) content table → IsStraightTable table drawing.widths
+  narrow known = fitting (IsDefaultRowOf (CharactersFit 1)) known (λ row own. own.no_delimiters) each
+    where
+      some_room : All (λ (p : ℕ × ColumnInfo). 1 ≤ p.1.content_width) (shown_infos (infos_of table drawing.widths))
+      some_room = infos-known table drawing.widths (λ (p : ℕ × ColumnValue). Unit {0}) (λ (p : ℕ × ColumnInfo). 1 ≤ p.1.content_width) drawing.arranged.one_for_each (λ k default below. tt) (λ i column w any. omega arith)
+
+      each : EachCell CharactersFitColumn table drawing.widths
+      each k default under j other below cell found =
+          let row = slice_index_or (measured_rows table) k default in
+          let p = slice_index_or (shown_infos (infos_of table drawing.widths)) j other in
+          let of_row = rows-drawn look (IsDefaultRowOf (CharactersFit 1)) content table known no_sequences k default under in
+          All-weaker (CharactersFit 1) (CharactersFit p.1.content_width) (wider_column 1 p.1.content_width (some_room j other below)) cell.text_lines
+          (All-at (λ (c : CellValue). All (CharactersFit 1) c.text_lines) row.cells p.0 cell of_row.each found)
+
+  -- and one that keeps to no width, of short texts
+  whole : IsDrawn look IsWholeRow content table → look.width ≡ None → IsStraightTable table drawing.widths
+  whole known no_width =
+      record { characters = characters_known IsWholeRow known; apart = inr (inl (padded-drawn look IsWholeRow content table known)); fits = inr (inl fits) }
+    where
+      rows : All IsWholeRow (measured_rows table)
+      rows = rows-drawn look IsWholeRow content table known no_sequences
+
+      kept : width_kept table.arrangement (table_width table) ≡ None
+      kept = ap (λ (t : TableValue). width_kept t.arrangement (table_width t)) (drawn-is look IsWholeRow content table known) ∙ rw no_width refl
+
+      short : All (EachCellText IsShort) (measured_rows table)
+      short = All-weaker IsWholeRow (EachCellText IsShort) (λ row own. own.short) (measured_rows table) rows
+
+      fits : EachCell (TextsFit table) table drawing.widths
       fits k default under j other below cell found =
           let row = slice_index_or (measured_rows table) k default in
           let p = slice_index_or (shown_infos (infos_of table drawing.widths)) j other in
-          let of_row = rows-drawn look IsDefaultRow content table known plain.no_sequences k default under in
-          let of_cell = All-at (λ (c : CellValue). c.delimiter ≡ None) row.cells p.0 cell of_row.no_delimiters found in
-          let of_column : p.1.delimiter ≡ None =
-          infos-known table drawing.widths (λ (q : ℕ × ColumnValue). IsPaddedColumn q.1) (λ (q : ℕ × ColumnInfo). q.1.delimiter ≡ None) drawing.arranged.one_for_each (columns-drawn look IsDefaultRow content table known) (λ i column w own. own.no_delimiter) j other below in
-          let space : cell_delimiter table p.1.delimiter cell ≡ 0x20 =
-          ap (λ o. unwrap_or o (unwrap_or p.1.delimiter (unwrap_or table.delimiter 0x20))) of_cell ∙ ap (λ o. unwrap_or o (unwrap_or table.delimiter 0x20)) of_column
-          ∙ ap (λ (t : TableValue). unwrap_or t.delimiter 0x20) (drawn-is look IsDefaultRow content table known) in
           record {
-            characters = each k default under j other below cell found;
-            delimiter = subst AddsOneColumn (sym space) (frame_adds 0x20 refl);
-            indicator = inl of_row.uncut;
+            fit = λ i text inside.
+                inl (whole_lines_fit table drawing.widths kept (unconstrained-drawn look IsWholeRow content table known (known.no_width no_width)) short drawing.arranged k default under j other below cell found i text inside);
+            cut = λ h tall more. (All-at (λ (c : CellValue). All SelectorsAgree c.text_lines) row.cells p.0 cell ((rows k default under).agree h tall) found, apart_indicator IsWholeRow known);
           }
 
--- short fields make short contents, with lines between rows or without
-short_content : (look : Look) (has : Bool) (content : ContentValue) → EachOf (All (EachLine IsShort look)) content → EachOf (All (EachLine IsShort (separated has look))) content
-short_content look true content each = each
-short_content look false content each = each
+-- ---- outputs
+
+-- texts of one kind make contents of that kind, with lines between rows or without
+each_separated : (P : Text → Type 0) (look : Look) (has : Bool) (content : ContentValue) → EachOf (All (EachLine P look)) content → EachOf (All (EachLine P (separated has look))) content
+each_separated P look true content each = each
+each_separated P look false content each = each
 
 no_markdown : (has : Bool) (look : Look) → look.is_markdown ≡ false → (separated has look).is_markdown ≡ false
 no_markdown true look none = none
 no_markdown false look none = none
 
-no_width_kept : (has : Bool) (look : Look) → look.width ≡ None → (separated has look).width ≡ None
-no_width_kept true look none = none
-no_width_kept false look none = none
+-- the drawn table is seen as its lines are
+pub seen_table : (options : Options) (records : List (List Text)) (content : ContentValue) → content_of options records ≡ Ok content → (is_expanded has visible : Bool) → AreSeen visible options.look records
+    → IsSeenTable visible (separated has options.look) (separated_table has (output_table is_expanded options.look content))
+seen_table options records content is is_expanded true false plain = plain
+seen_table options records content is is_expanded false false plain = plain
+seen_table options records content is is_expanded has true (clear, text) = free_output options.look clear content (each_content AllText options records content is text) is_expanded has
 
--- an output that isn't for Markdown
-pub rows_are_straight : (options : Options) (records : List (List Text)) (output : Text) → options.look.is_markdown ≡ false → WholeOutputIsStraight options records output
-rows_are_straight options records output none characters plain no_width short made =
-    let look = options.look in
-    let text = is_table_text options records output made none in
-    let has = text.drawn.has_separators in
-    let own = separated has look in
-    let plain_look = still_unstyled has look plain in
-    let each = short_content look has made.content (each_content (All (EachLine IsShort look)) options records made.content made.is_content short) in
-    let known = table_of_texts IsShort empty_is_short own IsShortRow (short_rows own plain_look) made.content each (λ at. short_number own (no_markdown has look none) (at + 1)) text.is_expanded in (
-      drawn options records output made text none,
-      with_lines options records output made text none,
-      whole own plain_look (separated_is_one_column has look characters) made.content _ (drawn options records output made text none) text.drawn.is_arranged.headline
-          (drawn_table-is look IsShortRow made.content text.is_expanded has known) (no_width_kept has look no_width),
-    )
+-- short texts, whose selectors agree where texts are cut
+whole_texts : (look : Look) (records : List (List Text)) → EachText IsShort look records → CanBeCut look records → EachText (IsWholeText look.max_height) look records
+whole_texts look records short (inl uncut) k fields under j field below i text inside = (short k fields under j field below i text inside, inl uncut)
+whole_texts look records short (inr agree) k fields under j field below i text inside = (short k fields under j field below i text inside, inr (agree k fields under j field below i text inside))
 
-pub fitting_is_straight : (options : Options) (records : List (List Text)) (output : Text) → FittingOutputIsStraight options records output
-fitting_is_straight options records output none characters plain fits made =
-    let look = options.look in
+module _ (visible : Bool) (options : Options) (records : List (List Text)) (output : Text) (none : options.look.is_markdown ≡ false) (characters : IsOneColumnStyle options.look.style) (plain : ArePlainLines visible options.look records) (made : IsOutputOf options records output) where
+  abbrev look : Look
+  look = options.look
+
+  abbrev text : IsTableText look made.content made.text
+  text = is_table_text options records output made none
+
+  abbrev has : Bool
+  has = text.drawn.has_separators
+
+  abbrev own : Look
+  own = separated has look
+
+  abbrev table : TableValue
+  table = drawn_table options records output made text none
+
+  abbrev lines : List Text
+  lines = drawn options records output made text none
+
+  abbrev headline : IsTableDrawing table lines
+  headline = text.drawn.is_arranged.headline
+
+  unkept : own.has_sequences ≡ false
+  unkept = kept_setting (λ l. l.has_sequences) look refl has false plain.no_sequences
+
+  seen : IsSeenTable visible own table
+  seen = seen_table options records made.content made.is_content text.is_expanded has visible plain.seen
+
+  -- the drawn table, of rows of which Q holds
+  of_texts : (P : Text → Type 0) (empty : P []) (Q : RowValue → Type 0) → MakesRows P empty own Q → EachText P look records → ((n : ℕ) → EachLine P own (decimal n)) → IsDrawn own Q made.content table
+  of_texts P empty Q makes each numbers =
+      drawn_table-is look Q made.content text.is_expanded has
+      (table_of_texts P empty own Q makes made.content (each_separated P look has made.content (each_content (All (EachLine P look)) options records made.content made.is_content each)) (λ at. numbers (at + 1)) text.is_expanded)
+
+  -- the output is straight where its table is
+  straight : (Q : RowValue → Type 0) → IsDrawn own Q made.content table → IsStraightTable table headline.widths → IsStraightOutput visible options records output
+  straight Q known is =
+      record {
+        lines = lines;
+        is_output = with_lines options records output made text none plain.unbroken;
+        equally_wide = equally_wide own unkept (separated_is_one_column has look characters) made.content table lines headline Q known visible seen is;
+        clear = clear_lines visible own table lines headline seen;
+      }
+
+pub rows_are_straight : (visible : Bool) (options : Options) (records : List (List Text)) (output : Text) → options.look.is_markdown ≡ false → WholeOutputIsStraight visible options records output
+rows_are_straight visible options records output none characters plain no_width cut short made =
+    let separators = has visible options records output none characters plain made in
+    let limit = options.look.max_height in
+    let own = separated separators options.look in
+    let known =
+    of_texts visible options records output none characters plain made (IsWholeText limit) (empty_is_whole limit) IsWholeRow (whole_rows limit own (kept_setting (λ l. l.max_height) options.look refl separators limit refl))
+    (whole_texts options.look records short cut) (each_number (IsWholeText limit) (whole_printable limit) own (no_markdown separators options.look none)) in
+    straight visible options records output none characters plain made IsWholeRow known
+    (whole own (unkept visible options records output none characters plain made) (separated_is_one_column separators options.look characters) made.content _ _ (headline visible options records output none characters plain made) known
+    (kept_setting (λ l. l.width) options.look refl separators None no_width))
+
+pub narrow_is_straight : (visible : Bool) (options : Options) (records : List (List Text)) (output : Text) → NarrowOutputIsStraight visible options records output
+narrow_is_straight visible options records output none characters plain each made =
+    let separators = has visible options records output none characters plain made in
+    let own = separated separators options.look in
+    let empty : CharactersFit 1 [] = printable_fits [] refl in
+    let known =
+    of_texts visible options records output none characters plain made (CharactersFit 1) empty (IsDefaultRowOf (CharactersFit 1)) (default_rows_of (CharactersFit 1) empty own) each
+    (each_number (CharactersFit 1) (λ text printable few. printable_fits text printable) own (no_markdown separators options.look none)) in
+    straight visible options records output none characters plain made (IsDefaultRowOf (CharactersFit 1)) known
+    (narrow own (unkept visible options records output none characters plain made) (separated_is_one_column separators options.look characters) made.content _ _ (headline visible options records output none characters plain made) known)
+
+pub fitting_is_straight : (visible : Bool) (options : Options) (records : List (List Text)) (output : Text) → FittingOutputIsStraight visible options records output
+fitting_is_straight visible options records output none characters plain fits made =
+    let separators = has visible options records output none characters plain made in
+    let own = separated separators options.look in
+    let drawing = headline visible options records output none characters plain made in
     let text = is_table_text options records output made none in
-    let has = text.drawn.has_separators in
-    let own = separated has look in
-    let plain_look = still_unstyled has look plain in
-    let headline = text.drawn.is_arranged.headline in
-    let known = table_of_texts IsAny tt own IsDefaultRow (default_rows own plain_look) made.content (any_content own made.content) (λ at. any_line own (decimal (at + 1))) text.is_expanded in (
-      drawn options records output made text none,
-      with_lines options records output made text none,
-      fitting own plain_look (separated_is_one_column has look characters) made.content _ (drawn options records output made text none) headline
-          (drawn_table-is look IsDefaultRow made.content text.is_expanded has known)
-          (fits made.content (drawn_table options records output made text none) headline.widths made.is_content (has, ap (λ e. separated_table has (output_table e look made.content)) (expansion options records output made text none)) headline.arranged),
-    )
+    let known =
+    drawn_table-is options.look IsDefaultRow made.content text.is_expanded separators
+    (table_of_texts IsAny tt own IsDefaultRow (default_rows own) made.content (any_content own made.content) (λ at. any_line own (decimal (at + 1))) text.is_expanded) in
+    straight visible options records output none characters plain made IsDefaultRow known
+    (fitting own (unkept visible options records output none characters plain made) (separated_is_one_column separators options.look characters) made.content _ _ drawing IsDefaultRow known (λ row is. is)
+    (fits made.content (drawn_table options records output made text none) drawing.widths made.is_content (separators, ap (λ e. separated_table separators (output_table e options.look made.content)) (expansion options records output made text none)) drawing.arranged))

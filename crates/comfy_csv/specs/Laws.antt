@@ -1,20 +1,21 @@
 -- What is so of every output.
-use Rattle.std.specs.Prelude.{◌≡◌, ℕ, ◌+◌, ◌<◌, ◌≤◌, Bool, true, false, List, [], ◌++◌, Some, None, Ok, All, Contains, flat_map, length, map, max, slice_get, slice_index, unwrap_or}
+use Rattle.std.specs.Prelude.{◌≡◌, ◌⊎◌, ℕ, ◌+◌, ◌<◌, ◌≤◌, Bool, true, false, List, [], ◌++◌, Some, None, Ok, All, Contains, flat_map, length, map, max, slice_get, slice_index, unwrap_or}
 use Rattle.std.specs.List.{range_with_len}
 use Rattle.comfy_parts.specs.CellValue.{plain_cell}
-use Rattle.comfy_parts.specs.Columns.{IsOneColumnStyle}
+use Rattle.comfy_parts.specs.Columns.{CharactersFit, IsOneColumnStyle, SelectorsAgree}
 use Rattle.comfy_parts.specs.Text.{Text, is_printable_ascii, measure}
 use Rattle.comfy_parts.specs.VisibleText.{visible_text}
 use Rattle.comfy_table.specs.Arrangement.{IsArranged}
 use Rattle.comfy_table.specs.Drawing.{terminated_text_of}
 use Rattle.comfy_table.specs.FittingTables.{CharactersFitColumn}
 use Rattle.comfy_table.specs.Headline.{EachLineCounts, IsTableDrawing}
-use Rattle.comfy_table.specs.Laws.{IsPrintableTable, count, least_total}
+use Rattle.comfy_table.specs.Laws.{AreLinesOf, HasNoBreak, HasNoControl, IsPrintableTable, IsStyleWithout, count, least_total}
 use Rattle.comfy_table.specs.NewTables.{AreEquallyWide}
 use Rattle.comfy_table.specs.Straight.{EachCell}
 use Rattle.comfy_table.specs.TableValue.{TableValue, column_content_width, max_content_widths}
 use Rattle.comfy_table.specs.Widths.{shown_count}
 use Rattle.comfy_csv_parts.specs.Cells.{field_text, row_for}
+use Rattle.comfy_csv_parts.specs.Cleaning.{visible_of}
 use Rattle.comfy_csv_parts.specs.Columns.{count_of, kept_columns}
 use Rattle.comfy_csv_parts.specs.Controls.{HasNoStrayControl, IsStyleWithoutControls}
 use Rattle.comfy_csv_parts.specs.Words.{IsAsked}
@@ -41,12 +42,16 @@ TableKeepsRows options records table = table_for options records ≡ Ok table �
 
 -- ---- lines
 
--- lines are those of a text: each is followed by a line feed; or, expanded, such lines alone stand below each record's own line
+-- an expanded record: its own line, and some lines below it
+abbrev pub numbered_lines : ℕ → (ℕ → List Text) → ℕ → Text
+numbered_lines count parts at = record_line (at + 1) count ++ terminated_text_of (parts at)
+
+-- lines are those of a text; or, expanded, such lines alone stand below each record's own line
 abbrev pub HasLines : Bool → ContentValue → List Text → Text → Type 0
-HasLines false content lines text = text ≡ terminated_text_of lines
+HasLines false content lines text = AreLinesOf text lines
 HasLines true content lines text =
-    (parts : ℕ → List Text) × ((at : ℕ) → All (Contains lines) (parts at))
-    × (text ≡ flat_map (λ at. record_line (at + 1) content.count ++ terminated_text_of (parts at)) (range_with_len 0 (length content.rows)))
+    (parts : ℕ → List Text) × ((at : ℕ) → All (Contains lines) (parts at)) × All HasNoBreak lines
+    × (text ≡ flat_map (numbered_lines content.count parts) (range_with_len 0 (length content.rows)))
 
 -- an output has these lines, before the line on records that aren't drawn
 pub record IsOutputWith (options : Options) (records : List (List Text)) (output : Text) (lines : List Text) : Type 0 where
@@ -84,26 +89,49 @@ IsFilling w table n = 0 < shown_count table → n ≡ max w (least_total table)
 -- with a width, a frame line keeps to it
 abbrev pub OutputKeepsToWidth : ℕ → Options → List (List Text) → Text → Type 0
 OutputKeepsToWidth w options records output =
-    options.look.is_markdown ≡ false → options.look.width ≡ Some w → options.look.fills_width ≡ false → options.look.has_sequences ≡ false → IsOutputOf options records output
+    options.look.is_markdown ≡ false → options.look.width ≡ Some w
+    → options.look.fills_width ≡ false → options.look.has_sequences ≡ false
+    → IsStyleWithout 0x0A options.look.style → IsOutputOf options records output
     → EachLineHas (IsWithin w) options records output
 
 -- where the width is filled, it fills it
 abbrev pub OutputFillsWidth : ℕ → Options → List (List Text) → Text → Type 0
 OutputFillsWidth w options records output =
-    options.look.is_markdown ≡ false → options.look.width ≡ Some w → options.look.fills_width ≡ true → options.look.has_sequences ≡ false → IsOutputOf options records output
+    options.look.is_markdown ≡ false → options.look.width ≡ Some w
+    → options.look.fills_width ≡ true → options.look.has_sequences ≡ false
+    → IsStyleWithout 0x0A options.look.style → IsOutputOf options records output
     → EachLineHas (IsFilling w) options records output
 
--- nothing is in bold, no sequence counts nothing, and no row is cut
-pub record IsUnstyledUncut (look : Look) : Type 0 where
-  pub no_bold : look.has_bold_header ≡ false
-  pub no_sequences : look.has_sequences ≡ false
-  pub uncut : look.max_height ≡ None
+-- ---- what is visible of lines
 
--- then each line does, where each field is printable ASCII
-abbrev pub PrintableLinesHave : (TableValue → ℕ → Type 0) → Options → List (List Text) → Text → Type 0
-PrintableLinesHave P options records output =
-    (has : EachLineHas P options records output) → IsUnstyledUncut options.look → All (λ (fields : List Text). All (λ (field : Text). is_printable_ascii field ≡ true) fields) records
-    → All (λ line. P has.table (count line)) has.lines
+-- fields are cleaned, and no character of the style is a control character
+pub record IsLookWithoutControls (look : Look) : Type 0 where
+  pub cleaned : look.is_raw ≡ false
+  pub style : IsStyleWithoutControls look.style
+
+-- lines are seen as they are written, where nothing is in bold; or without their sequences, where no
+-- control character stands beside these
+abbrev pub AreSeen : Bool → Look → List (List Text) → Type 0
+AreSeen false look records = look.has_bold_header ≡ false
+AreSeen true look records = IsLookWithoutControls look × All AllText records
+
+-- lines are seen so, they end where line feeds are, and no sequence of a field counts nothing
+pub record ArePlainLines (visible : Bool) (look : Look) (records : List (List Text)) : Type 0 where
+  pub seen : AreSeen visible look records
+  pub unbroken : IsStyleWithout 0x0A look.style
+  pub no_sequences : look.has_sequences ≡ false
+
+-- lines as they are seen
+abbrev pub seen_lines : Bool → List Text → List Text
+seen_lines visible lines = map (visible_of visible) lines
+
+-- then each line is counted too, where each field is printable ASCII
+abbrev pub PrintableLinesHave :
+    (TableValue → ℕ → Type 0) → Bool → Options → List (List Text) → Text → Type 0
+PrintableLinesHave P visible options records output =
+    (has : EachLineHas P options records output) → ArePlainLines visible options.look records
+    → All (All (λ field. is_printable_ascii field ≡ true)) records
+    → All (λ line. P has.table (count line)) (seen_lines visible has.lines)
 
 -- ---- numbers and dates
 
@@ -122,27 +150,55 @@ UnbrokenColumnIsWhole w look content has_separators widths i =
 abbrev pub EachText : (Text → Type 0) → Look → List (List Text) → Type 0
 EachText P look records = All (λ (fields : List Text). All (λ (field : Text). All P (plain_cell (field_text look field)).text_lines) fields) records
 
--- an output has lines of the same width
-abbrev pub IsStraightOutput : Options → List (List Text) → Text → Type 0
-IsStraightOutput options records output = (lines : List Text) × IsOutputWith options records output lines × AreEquallyWide lines
+-- the lines of an output, as they are seen, take the same number of terminal columns each; and where
+-- that is without their sequences, no control character is visible of them
+pub record IsStraightOutput (visible : Bool) (options : Options) (records : List (List Text)) (output : Text) : Type 0 where
+  pub lines : List Text
+  pub is_output : IsOutputWith options records output lines
+  pub equally_wide : AreEquallyWide (seen_lines visible lines)
+  pub clear : visible ≡ true → All HasNoControl (seen_lines visible lines)
+
+-- no text is cut, or none has U+FE01 directly beside U+FE0E or U+FE0F
+abbrev pub CanBeCut : Look → List (List Text) → Type 0
+CanBeCut look records = (look.max_height ≡ None) ⊎ EachText SelectorsAgree look records
 
 -- so it is where no width is kept to, for texts of every script
-abbrev pub WholeOutputIsStraight : Options → List (List Text) → Text → Type 0
-WholeOutputIsStraight options records output =
-    IsOneColumnStyle options.look.style → IsUnstyledUncut options.look → options.look.width ≡ None → EachText (λ text. measure text ≤ 65535) options.look records
-    → IsOutputOf options records output → IsStraightOutput options records output
+abbrev pub WholeOutputIsStraight : Bool → Options → List (List Text) → Text → Type 0
+WholeOutputIsStraight visible options records output =
+    IsOneColumnStyle options.look.style → ArePlainLines visible options.look records
+    → options.look.width ≡ None → CanBeCut options.look records
+    → EachText (λ text. measure text ≤ 65535) options.look records
+    → IsOutputOf options records output
+    → IsStraightOutput visible options records output
 
 -- for Markdown whatever the look asks for besides
 abbrev pub MarkdownOutputIsStraight : Options → List (List Text) → Text → Type 0
 MarkdownOutputIsStraight options records output =
-    options.look.is_markdown ≡ true → EachText (λ text. measure text ≤ 65535) options.look records → IsOutputOf options records output → IsStraightOutput options records output
+    options.look.is_markdown ≡ true → EachText (λ text. measure text ≤ 65535) options.look records
+    → IsOutputOf options records output → IsStraightOutput false options records output
+
+-- under every width, where no character takes more than one terminal column
+abbrev pub NarrowOutputIsStraight : Bool → Options → List (List Text) → Text → Type 0
+NarrowOutputIsStraight visible options records output =
+    options.look.is_markdown ≡ false → IsOneColumnStyle options.look.style
+    → ArePlainLines visible options.look records → EachText (CharactersFit 1) options.look records
+    → IsOutputOf options records output
+    → IsStraightOutput visible options records output
+
+-- each character of each text fits its column, for all widths that are arranged for the table
+abbrev pub CharactersFitEachWidth : Options → List (List Text) → Type 0
+CharactersFitEachWidth options records =
+    (content : ContentValue) (table : TableValue) (widths : List ℕ)
+    → content_of options records ≡ Ok content → IsDrawnTable options.look content table
+    → IsArranged table widths → EachCell CharactersFitColumn table widths
 
 -- and under every width, where each character of each text fits its column
-abbrev pub FittingOutputIsStraight : Options → List (List Text) → Text → Type 0
-FittingOutputIsStraight options records output =
-    options.look.is_markdown ≡ false → IsOneColumnStyle options.look.style → IsUnstyledUncut options.look
-    → ((content : ContentValue) (table : TableValue) (widths : List ℕ) → content_of options records ≡ Ok content → IsDrawnTable options.look content table → IsArranged table widths → EachCell CharactersFitColumn table widths)
-    → IsOutputOf options records output → IsStraightOutput options records output
+abbrev pub FittingOutputIsStraight : Bool → Options → List (List Text) → Text → Type 0
+FittingOutputIsStraight visible options records output =
+    options.look.is_markdown ≡ false → IsOneColumnStyle options.look.style
+    → ArePlainLines visible options.look records → CharactersFitEachWidth options records
+    → IsOutputOf options records output
+    → IsStraightOutput visible options records output
 
 -- a field of printable ASCII is drawn as such text
 abbrev pub PrintableFieldsStay : Look → Text → Type 0
@@ -151,15 +207,11 @@ PrintableFieldsStay look field = is_printable_ascii field ≡ true → All (λ t
 -- for texts of printable ASCII each line of the table is counted, under every width
 abbrev pub PrintableTextsMakePrintableTable : Options → List (List Text) → TableValue → List ℕ → Type 0
 PrintableTextsMakePrintableTable options records table widths =
-    IsUnstyledUncut options.look → EachText (λ text. is_printable_ascii text ≡ true) options.look records → table_for options records ≡ Ok table
-    → IsPrintableTable table widths
+    options.look.has_sequences ≡ false
+    → EachText (λ text. is_printable_ascii text ≡ true) options.look records
+    → table_for options records ≡ Ok table → IsPrintableTable table widths
 
 -- ---- control characters
-
--- fields are cleaned, and no character of the style is a control character
-pub record IsLookWithoutControls (look : Look) : Type 0 where
-  pub cleaned : look.is_raw ≡ false
-  pub style : IsStyleWithoutControls look.style
 
 -- then nothing harmful is visible of an output for records that are text
 abbrev pub OutputHoldsNoControls : Options → List (List Text) → Text → Type 0

@@ -2,6 +2,7 @@ pub mod Drawn
 pub mod Ending
 pub mod Laws
 pub mod MarkdownLines
+pub mod OneOutput
 pub mod Refusals
 pub mod Run
 pub mod Separators

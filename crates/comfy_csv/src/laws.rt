@@ -3,8 +3,9 @@
 ghost use Rattle.std.specs.Prelude.{Bool, List, ℕ};
 ghost use Rattle.comfy_parts.specs.Text.{Text};
 ghost use Rattle.comfy_csv.specs.Drawn.{ContentValue};
-ghost use Rattle.comfy_csv.specs.Laws.{AskedOutputHoldsNoControls, FittingOutputIsStraight, InputIsDrawnWithoutControls, IsFilling, IsWithin, MarkdownOutputIsStraight, OutputFillsWidth, OutputHoldsNoControls, OutputKeepsToWidth, PrintableFieldsStay, PrintableLinesHave, PrintableTextsMakePrintableTable, TableKeepsRows, UnbrokenColumnIsWhole, WholeOutputIsStraight};
+ghost use Rattle.comfy_csv.specs.Laws.{AskedOutputHoldsNoControls, FittingOutputIsStraight, InputIsDrawnWithoutControls, IsFilling, IsWithin, MarkdownOutputIsStraight, NarrowOutputIsStraight, OutputFillsWidth, OutputHoldsNoControls, OutputKeepsToWidth, PrintableFieldsStay, PrintableLinesHave, PrintableTextsMakePrintableTable, TableKeepsRows, UnbrokenColumnIsWhole, WholeOutputIsStraight};
 ghost use Rattle.comfy_csv.specs.MarkdownLines.{MarkdownGivesRecordsBack};
+ghost use Rattle.comfy_csv.specs.OneOutput.{AskedIsOne, DrawnHoldsNoControls, DrawnIsOne, OutputIsOne, OutputOfIsOne, RecordsAreOne};
 ghost use Rattle.comfy_csv_parts.specs.declared.arguments.Asked.{Asked};
 ghost use Rattle.comfy_csv_parts.specs.declared.arguments.Surroundings.{Surroundings};
 ghost use Rattle.comfy_csv_parts.specs.declared.options.Look.{Look};
@@ -25,13 +26,20 @@ pub fn tables_keep_their_rows()
 
 /// With a width, a frame line of an output that isn't for Markdown has at most as many characters, or as many as borders,
 /// paddings and one character for each column. Where the width is filled, it has exactly so many, where there is a column.
-/// So has each line where all fields are printable ASCII, nothing is in bold, no sequence counts nothing, and no row is cut.
-/// Where records are expanded, the lines that number them and the one on further records aren't among these lines.
+/// So has each line where all fields are printable ASCII: as it is written, where nothing is in bold; or without its
+/// sequences, where no control character stands beside them. Sequences in fields are not kept, and no line feed is in the
+/// style. Where records are expanded, the lines that number them and the one on further records aren't among these lines.
 pub fn outputs_keep_to_a_width()
-    ensures dynamic { (w : ℕ) (options : Options) (records : List (List Text)) (output : Text) → OutputKeepsToWidth w options records output }
-    ensures full { (w : ℕ) (options : Options) (records : List (List Text)) (output : Text) → OutputFillsWidth w options records output }
-    ensures each_line { (w : ℕ) (options : Options) (records : List (List Text)) (output : Text) → PrintableLinesHave (IsWithin w) options records output }
-    ensures each_full_line { (w : ℕ) (options : Options) (records : List (List Text)) (output : Text) → PrintableLinesHave (IsFilling w) options records output }
+    ensures dynamic { (w : ℕ) (options : Options) (records : List (List Text)) (output : Text)
+        → OutputKeepsToWidth w options records output }
+    ensures full { (w : ℕ) (options : Options) (records : List (List Text)) (output : Text)
+        → OutputFillsWidth w options records output }
+    ensures each_line { (w : ℕ) (visible : Bool)
+        (options : Options) (records : List (List Text)) (output : Text)
+        → PrintableLinesHave (IsWithin w) visible options records output }
+    ensures each_full_line { (w : ℕ) (visible : Bool)
+        (options : Options) (records : List (List Text)) (output : Text)
+        → PrintableLinesHave (IsFilling w) visible options records output }
 {}
 
 /// Where a width has room for the columns of numbers and dates, and for what the others need, none of them is drawn narrower
@@ -40,31 +48,46 @@ pub fn numbers_and_dates_are_whole()
     ensures { (w : ℕ) (look : Look) (content : ContentValue) (has_separators : Bool) (widths : List ℕ) (i : ℕ) → UnbrokenColumnIsWhole w look content has_separators widths i }
 {}
 
-/// Fields of printable ASCII are drawn as such texts. These make a table of printable ASCII, where nothing is in bold, no
-/// sequence counts nothing, and no row is cut.
+/// Fields of printable ASCII are drawn as such texts. These make a table of printable ASCII, where sequences in fields are
+/// not kept.
 pub fn printable_texts_make_printable_tables()
     ensures fields { (look : Look) (field : Text) → PrintableFieldsStay look field }
     ensures tables { (options : Options) (records : List (List Text)) (table : TableValue) (widths : List ℕ) → PrintableTextsMakePrintableTable options records table widths }
 {}
 
-/// Where no width is kept to and each character of the style adds one terminal column, all lines of an output are equally
-/// many terminal columns wide, for texts of every script up to 65535 columns. So they are under every width where each
-/// character of each text fits its column and U+FE01 stands nowhere directly beside U+FE0E or U+FE0F. Nothing is in bold, no
-/// sequence counts nothing, and no row is cut. The tables of expanded records are as wide as each other. So
-/// is an output for Markdown of texts up to 65535 columns, whatever its look asks for besides, and its line below the header.
+/// All lines of an output take equally many terminal columns: as they are written, where nothing is in bold; or without
+/// their sequences, where no control character stands beside them, with a bold header too. Lines end at line feeds. Each
+/// character of the style adds one column and none is a line feed, and sequences in fields are not kept.
+///
+/// That is so where no width is kept to, for texts of every script up to 65535 columns; where rows are cut, U+FE01 stands
+/// nowhere directly beside U+FE0E or U+FE0F. It is so under every width where no character takes more than one column, and
+/// where each character of each text fits its column. The tables of expanded records are as wide as each other; the lines
+/// that number them and the one on further records aren't among these lines. An output for Markdown of texts up to 65535
+/// columns is straight, whatever its look asks for besides, and its line below the header is as wide as the others.
 pub fn outputs_are_straight()
-    ensures whole { (options : Options) (records : List (List Text)) (output : Text) → WholeOutputIsStraight options records output }
-    ensures markdown { (options : Options) (records : List (List Text)) (output : Text) → MarkdownOutputIsStraight options records output }
-    ensures characters_fit { (options : Options) (records : List (List Text)) (output : Text) → FittingOutputIsStraight options records output }
+    ensures whole { (visible : Bool)
+        (options : Options) (records : List (List Text)) (output : Text)
+        → WholeOutputIsStraight visible options records output }
+    ensures markdown { (options : Options) (records : List (List Text)) (output : Text)
+        → MarkdownOutputIsStraight options records output }
+    ensures narrow { (visible : Bool)
+        (options : Options) (records : List (List Text)) (output : Text)
+        → NarrowOutputIsStraight visible options records output }
+    ensures characters_fit { (visible : Bool)
+        (options : Options) (records : List (List Text)) (output : Text)
+        → FittingOutputIsStraight visible options records output }
 {}
 
 /// Without its SGR sequences an output holds no control character but line feeds, whatever bytes the input has, under every
 /// width, limit and height, in Markdown and in bold. Fields are not left raw, and no character of the style is a control
-/// character; words ask for no such style. ESC stands in those sequences alone.
+/// character; words ask for no such style. ESC stands in those sequences alone. So it is with each drawing that `drawing_of`
+/// returns, which is what a caller from C gets too.
 pub fn outputs_hold_no_controls()
     ensures records { (options : Options) (records : List (List Text)) (output : Text) → OutputHoldsNoControls options records output }
     ensures input { (options : Options) (input output : Text) → InputIsDrawnWithoutControls options input output }
     ensures asked { (words : List Text) (surroundings : Surroundings) (asked : Asked) (input output : Text) → AskedOutputHoldsNoControls words surroundings asked input output }
+    ensures drawn { (words : List Text) (asked : Asked) (input drawing : Text)
+        → DrawnHoldsNoControls words asked input drawing }
 {}
 
 /// An output for Markdown has one line for the names, the rule below it, and one for each record that is drawn; none holds a
@@ -73,4 +96,20 @@ pub fn outputs_hold_no_controls()
 /// terminal columns.
 pub fn markdown_lines_give_back_their_fields()
     ensures { (options : Options) (records : List (List Text)) (output : Text) → MarkdownGivesRecordsBack options records output }
+{}
+
+/// An input has one output: two that are drawn of it by the same options are equal, and so are two for the same records.
+/// The same words ask for one thing where the output goes to the same place, so `drawing_of` has one drawing for them.
+/// Options are the same where their texts are, wherever these are held.
+pub fn outputs_are_one()
+    ensures input { (options others : Options) (input output other : Text)
+        → OutputIsOne options others input output other }
+    ensures records { (options : Options) (records : List (List Text)) (output other : Text)
+        → OutputOfIsOne options records output other }
+    ensures asked { (words : List Text) (surroundings : Surroundings) (asked other : Asked)
+        → AskedIsOne words surroundings asked other }
+    ensures drawn { (words : List Text) (input drawing other : Text)
+        → DrawnIsOne words input drawing other }
+    ensures read { (options : Options) (input : Text) (records others : List (List Text))
+        → RecordsAreOne options input records others }
 {}

@@ -19,21 +19,21 @@ use Rattle.comfy_csv_parts.specs.Controls.{HasNoStrayControl, is_stray_control}
 -- ---- the first text line
 
 -- the text lines of a text
-abbrev text_lines : Text → List Text
+abbrev pub text_lines : Text → List Text
 text_lines text = slice_split (λ b. b == 0x0A) text
 
 -- these are the first one and the others
-record AreLines (text : Text) : Type 0 where
-  first : Text
-  others : List Text
-  are : text_lines text ≡ first ∷ others
+pub record AreLines (text : Text) : Type 0 where
+  pub first : Text
+  pub others : List Text
+  pub are : text_lines text ≡ first ∷ others
 
 -- of a text behind a byte that is no line feed
 lines-byte : (b : ℕ) (text : Text) → (b == 0x0A) ≡ false → AreLines text → AreLines (b ∷ text)
 lines-byte b text other lines =
     record { first = b ∷ lines.first; others = lines.others; are = slice_split-cons_no (λ x. x == 0x0A) b text other ∙ ap (onto_first b) lines.are }
 
-lines_of : (text : Text) → AreLines text
+pub lines_of : (text : Text) → AreLines text
 lines_of [] = record { first = []; others = []; are = refl }
 lines_of (b ∷ bs) = by_test (b == 0x0A) refl (lines_of bs)
   where
@@ -42,7 +42,7 @@ lines_of (b ∷ bs) = by_test (b == 0x0A) refl (lines_of bs)
     by_test false is more = lines-byte b bs is more
 
 -- the text line that what has no line feed is continued by
-lines-front : (front text : Text) → HasNo 0x0A front → (first : Text) (others : List Text) → text_lines text ≡ first ∷ others → text_lines (front ++ text) ≡ (front ++ first) ∷ others
+pub lines-front : (front text : Text) → HasNo 0x0A front → (first : Text) (others : List Text) → text_lines text ≡ first ∷ others → text_lines (front ++ text) ≡ (front ++ first) ∷ others
 lines-front [] text clear first others are = are
 lines-front (b ∷ bs) text clear first others are =
     let each = or_parts (b == 0x0A) (list_any (λ x. x == 0x0A) bs) clear in

@@ -1,0 +1,103 @@
+-- Texts that add as many terminal columns as they have: the indicator of cut rows, and characters of one column.
+use Rattle.std.proofs.Common.{◌≡◌, ◌≤◌, ◌<◌, ◌==◌, ◌&&◌, ℕ, Bool, true, false, List, [], ◌∷◌, append-nil, arith, chars, length, nat_le, refl, sym, ap, ap₂, ◌∙◌, subst, tests}
+use Rattle.std.specs.Int.{is_in_range}
+use Rattle.std.specs.List.{list_all}
+use Rattle.std.specs.Prelude.{encode_utf8, if◌then◌else◌, nat_lt}
+use Rattle.std.proofs.lemmas.Bool.{and_parts}
+use Rattle.std.proofs.lemmas.Bool.Decides.{nat_tests}
+use Rattle.std.proofs.lemmas.Str.{IsUtf8-nil, chars-IsAscii, chars-nil, chars_from_encodes, encode_ascii}
+use lib.Utf8.{encode}
+use Rattle.cluster_width.specs.ClusterSums.{clashes, is_presentation, selectors_agree}
+use Rattle.comfy_parts.proofs.CallerLemmas.{IsUtf8-printable, ascii-printable, frame_adds, frame_apart, measure-nil, measure-printable}
+use Rattle.comfy_parts.specs.Columns.{CharactersFit, IsApart, SelectorsAgree, character_fits}
+use Rattle.comfy_parts.specs.Text.{AddsOneColumnEach, Text, is_printable_ascii, measure}
+use Rattle.comfy_table.specs.Lines.{fitting_indicator}
+use Rattle.comfy_table.specs.TableValue.{ellipsis}
+
+-- ---- the indicator
+
+-- no text joins it
+pub ellipsis_is_apart : IsApart ellipsis
+unfolding encode
+ellipsis_is_apart = frame_apart 0x2026 [] refl
+
+ellipsis_is_one : measure ellipsis ≡ 1
+unfolding encode
+ellipsis_is_one = let none = measure-nil in let alone = frame_adds 0x2026 refl [] [] IsUtf8-nil in omega (arith, none, alone)
+
+ellipsis_characters : chars ellipsis ≡ 0x2026 ∷ []
+unfolding encode
+ellipsis_characters = sym (chars_from_encodes (0x2026 ∷ []) ellipsis (0x2026 ∷ [], (refl, refl)) refl)
+
+-- it adds one column for its one character, and none where it has no room
+ellipsis_adds : AddsOneColumnEach ellipsis
+ellipsis_adds p printable =
+    let apart = ellipsis_is_apart p (IsUtf8-printable p printable) in
+    let own = measure-printable p printable in
+    let one : length (chars ellipsis) ≡ 1 = ap length ellipsis_characters in
+    omega (arith, apart, own, one, ellipsis_is_one)
+
+nothing_adds : AddsOneColumnEach []
+nothing_adds p printable =
+    let none : length (chars []) ≡ 0 = ap length chars-nil in
+    ap measure (append-nil p) ∙ measure-printable p printable ∙ omega (arith, none)
+
+pub fitting_ellipsis_adds : (w : ℕ) → AddsOneColumnEach (fitting_indicator w ellipsis)
+fitting_ellipsis_adds w = by_test (nat_lt w (measure ellipsis))
+  where
+    by_test : (b : Bool) → AddsOneColumnEach (if b then [] else ellipsis)
+    by_test true = nothing_adds
+    by_test false = ellipsis_adds
+
+-- ---- characters
+
+-- those that fit a column fit a wider one
+pub wider_column : (n w : ℕ) → n ≤ w → (text : Text) → CharactersFit n text → CharactersFit w text
+wider_column n w room text fit =
+    let both = and_parts (list_all (character_fits n) (chars text)) (selectors_agree (chars text)) fit in
+    ap₂ (λ a b. a && b) (each (chars text) both.0) both.1
+  where
+    more_room : (size : ℕ) → nat_le size n ≡ true → nat_le size w ≡ true
+    more_room size fits = grind (arith, nat_tests, room)
+
+    each : (cs : List ℕ) → list_all (character_fits n) cs ≡ true → list_all (character_fits w) cs ≡ true
+    each [] all = refl
+    each (c ∷ cs) all =
+        let both = and_parts (character_fits n c) (list_all (character_fits n) cs) all in
+        ap₂ (λ a b. a && b) (more_room (measure (encode_utf8 c)) both.0) (each cs both.1)
+
+-- printable ASCII has characters of one column
+pub printable_fits : (text : Text) → is_printable_ascii text ≡ true → CharactersFit 1 text
+printable_fits text printable =
+    let same = chars-IsAscii text (ascii-printable text printable) in
+    subst (λ (cs : List ℕ). (list_all (character_fits 1) cs && selectors_agree cs) ≡ true) (sym same)
+    (ap₂ (λ a b. a && b) (each text printable) (agree text printable))
+  where
+    is_low : (c : ℕ) → is_in_range 0x20 0x7E c ≡ true → c < 128
+    is_low c is = grind (arith, tests)
+
+    one : (c : ℕ) → is_in_range 0x20 0x7E c ≡ true → measure (encode_utf8 c) ≡ 1
+    one c is = ap measure (encode_ascii c (is_low c is)) ∙ measure-printable (c ∷ []) (rw is refl)
+
+    each : (cs : List ℕ) → is_printable_ascii cs ≡ true → list_all (character_fits 1) cs ≡ true
+    each [] all = refl
+    each (c ∷ cs) all =
+        let both = and_parts (is_in_range 0x20 0x7E c) (is_printable_ascii cs) all in
+        rw (one c both.0) (each cs both.1)
+
+    no_selector : (c : ℕ) → is_in_range 0x20 0x7E c ≡ true → ((c == 0xFE01) ≡ false) × (is_presentation c ≡ false)
+    no_selector c is = (grind (arith, tests), grind (arith, tests))
+
+    no_clash : (c : ℕ) (cs : List ℕ) → is_in_range 0x20 0x7E c ≡ true → clashes c cs ≡ false
+    no_clash c [] is = refl
+    no_clash c (d ∷ cs) is = let own = no_selector c is in rw own.0 (rw own.1 refl)
+
+    agree : (cs : List ℕ) → is_printable_ascii cs ≡ true → selectors_agree cs ≡ true
+    agree [] all = refl
+    agree (c ∷ cs) all =
+        let both = and_parts (is_in_range 0x20 0x7E c) (is_printable_ascii cs) all in
+        rw (no_clash c cs both.0) (agree cs both.1)
+
+-- so no selectors clash in it
+pub fitting_agree : (n : ℕ) (text : Text) → CharactersFit n text → SelectorsAgree text
+fitting_agree n text fit = (and_parts (list_all (character_fits n) (chars text)) (selectors_agree (chars text)) fit).1
