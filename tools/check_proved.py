@@ -7,6 +7,8 @@
   of its `try_` form, or stands in OVER_OTHERS. It says how many lines of definitions a reader must believe, for each
   promise and for all (tools/what_is_believed.py).
 - The laws of comfy_table pass on all those of comfy_parts.
+- Each law, and each function of `promises` and `csv_promises`, has a trial that shows a value of which its conclusion is
+  false, below a line `-- false: CRATE::laws::NAME` of a file of trials.
 - README.md: each label that it cites is a heading of PROVED.md, and what it prints is the output of the stored run.
 - CALLING.md of each library: each clause that it quotes stands in the library's source or in that of a caller.
 - Each mutation changes a function that exists.
@@ -19,7 +21,7 @@ import os
 import re
 import sys
 
-from definitions import TOP, functions_of, sources_of, text_of
+from definitions import LIBRARIES, PROMISES, TOP, files_of, functions_of, sources_of, text_of
 from doc_examples import wrong_examples
 from manual import wrong_files
 from mutations import must_fail_of, mutations_of
@@ -34,6 +36,7 @@ OVER_OTHERS = set(
     "should_draw_left_border should_draw_right_border should_draw_vertical_lines".split()
 )
 CALLERS = ["test_callers", "test_csv_cases"]
+TRIALS = ["test_definitions", *PROMISES]
 STORED = ["csvtable/stdout"]
 
 
@@ -68,6 +71,25 @@ def wrong_in_section(crate, section):
             if not is_law and not {name, f"try_{name}"} & mutated and name not in OVER_OTHERS | WORDS:
                 wrong.append(f"{crate} has no mutation of {it[1]}")
     return wrong
+
+
+def laws():
+    """The laws, and the promises, as a line `-- false:` names them."""
+    for crate in LIBRARIES:
+        for name, (one, *_) in functions_of(crate).items():
+            in_laws = f"crates/{crate}/src/laws.rt" == one.signature.path
+            if one.is_public and (in_laws or crate in [*LAWS_ALONE, *PROMISES]):
+                yield f"{crate}::laws::{name}" if in_laws else f"{crate}::{name}"
+
+
+def wrong_trials():
+    """The laws that no trial shows to be false of a value, and what is named as one and is none."""
+    named = set()
+    for path in (it for crate in TRIALS for it in files_of(crate, "proofs/**/*Trials.antt")):
+        for labels in re.findall(r"^-- false: (.*)\n(?:--.*\n)*(?:pub )?\w+ :", text_of(path), re.M):
+            named |= set(labels.split(", "))
+    wrong = [f"no trial shows a value of which {it} is false" for it in laws() if it not in named]
+    return wrong + [f"a trial names {it}, which is no law" for it in sorted(named - set(laws()))]
 
 
 def wrong_in_calling(crate):
@@ -121,6 +143,7 @@ def main():
         wrong += [f"crates/{path} hasn't the line of README.md: {line}" for line in code.splitlines() if line not in text_of(f"crates/{path}")]
     for path in glob.glob("crates/*/CALLING.md", root_dir=TOP):
         wrong += wrong_in_calling(path.split("/")[1])
+    wrong += wrong_trials()
     wrong += wrong_examples()
     wrong += [f"{path} isn't what tools/manual.py makes" for path in wrong_files()]
     wrong += [f"{path} isn't what tools/pictures.py makes" for path in wrong_pictures()]

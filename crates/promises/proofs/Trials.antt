@@ -1,12 +1,12 @@
 -- Tables for which the premises of the promises hold, and texts that these promises refuse.
-use Rattle.std.proofs.Common.{◌≡◌, ◌==◌, ◌&&◌, ◌≤◌, ℕ, zero, suc, true, false, not, [], ◌∷◌, ◌++◌, ◌∙◌, Contains, Some, None, codes, refl, ap, subst, arith}
+use Rattle.std.proofs.Common.{◌≡◌, ◌==◌, ◌&&◌, ◌≤◌, ℕ, zero, suc, true, false, not, [], ◌∷◌, ◌++◌, ◌∙◌, Contains, Some, None, codes, refl, ap, subst, arith, length, max}
 use Rattle.std.specs.List.{All, slice_get}
 use Rattle.std.specs.Char.{is_control}
 use Rattle.std.specs.Prelude.{encode_utf8_all}
 use Rattle.std.specs.Str.{NoCharPasses, chars}
 use Prim.Native.String.{String}
 use lib.Utf8.{encode}
-use Rattle.std.proofs.lemmas.List.Elements.{All-from_recursion}
+use Rattle.std.proofs.lemmas.List.Elements.{All-from_recursion, All-head, All-tail}
 use Rattle.std.proofs.lemmas.Str.{NoCharPasses-byte}
 use Rattle.comfy_parts.proofs.CallerLemmas.{frame_adds, frame_apart, one_column_characters}
 use Rattle.comfy_parts.proofs.Computing.{wrapping}
@@ -16,10 +16,11 @@ use Rattle.comfy_parts.specs.Presets.{utf8_full}
 use Rattle.comfy_parts.specs.Text.{Text, measure}
 use Rattle.comfy_parts.specs.declared.style.column.ColumnConstraint.TheVariants.{Hidden}
 use Rattle.comfy_table.specs.HiddenColumns.{without_hidden}
+use Rattle.comfy_table.specs.NewTables.{AreEquallyWide}
 use Rattle.comfy_table.specs.TableValue.{cell_content_width, TableValue, ellipsis, header_and_rows, new_table, with_header, with_row, constrained}
-use Rattle.promises.specs.Added.{HasRoomFor}
+use Rattle.promises.specs.Added.{HasRoomFor, Stay}
 use Rattle.promises.specs.Kept.{AreSameBut, StandIn}
-use Rattle.promises.specs.Shown.{HasNoControls, IsHarmless, Shows}
+use Rattle.promises.specs.Shown.{AreShownEquallyWide, HasNoControls, IsHarmless, Shows}
 use Rattle.promises.specs.Shown.Shows.{nothing, byte, sequence}
 use Rattle.promises.specs.Tables.{CharactersFit, EachText, HasCharactersWithin, HasPlainFrame, IsFree, IsPlain, IsShownWhole, frame_room}
 
@@ -159,6 +160,12 @@ widening_is_refused is = cc is
 bold_shows : Shows (codes "\u{1b}[1ma\u{1b}[0m") (codes "a")
 bold_shows = sequence (codes "1") (codes "a\u{1b}[0m") (codes "a") refl (byte 0x61 (codes "\u{1b}[0m") [] refl (sequence (codes "0") [] [] refl nothing))
 
+-- an empty text shows nothing
+none_shows : {text shown : Text} → Shows text shown → text ≡ [] → shown ≡ []
+none_shows nothing is = is
+none_shows (byte b text shown clear rest) is = absurd (cc is)
+none_shows (sequence code text shown all rest) is = absurd (cc is)
+
 -- ESC alone is no beginning of a harmless text
 lone_escape : {text shown : Text} → Shows text shown → ¬ (text ≡ 0x1B ∷ [])
 lone_escape nothing is = cc is
@@ -177,20 +184,17 @@ clear_screen (sequence code text shown all rest) is = no_end code (cc is)
     no_end (x ∷ y ∷ []) same = cc same
     no_end (x ∷ y ∷ z ∷ zs) same = cc same
 
--- a bell shows itself, so it is no harmless text
-bell_shows : {text shown : Text} → Shows text shown → text ≡ 0x07 ∷ [] → shown ≡ 0x07 ∷ []
-bell_shows nothing is = is
-bell_shows (byte b text shown clear rest) is = let end : text ≡ [] = cc is in let own : shown ≡ [] = nothing_left rest end in cc (is, own)
-  where
-    nothing_left : {xs ys : Text} → Shows xs ys → xs ≡ [] → ys ≡ []
-    nothing_left nothing same = same
-    nothing_left (byte c text shown clear rest) same = absurd (cc same)
-    nothing_left (sequence code text shown all rest) same = absurd (cc same)
-bell_shows (sequence code text shown all rest) is = absurd (cc is)
+-- another byte shows itself
+byte_shows : {c : ℕ} {text shown : Text} → Shows text shown → text ≡ c ∷ [] → shown ≡ c ∷ []
+byte_shows nothing is = is
+byte_shows (byte b text shown clear rest) is = let end : text ≡ [] = cc is in let own : shown ≡ [] = none_shows rest end in cc (is, own)
+byte_shows (sequence code text shown all rest) is = absurd (cc is)
 
+-- so a bell is no harmless text
+-- false: promises::harmless_text, csv_promises::harmless_output
 bell_is_harmful : ¬ (IsHarmless (0x07 ∷ []))
 bell_is_harmful (shown, shows, none) =
-    let own : NoCharPasses (λ c. is_control c && not (c == 0x0A)) (0x07 ∷ []) = subst (NoCharPasses (λ c. is_control c && not (c == 0x0A))) (bell_shows shows refl) none in
+    let own : NoCharPasses (λ c. is_control c && not (c == 0x0A)) (0x07 ∷ []) = subst (NoCharPasses (λ c. is_control c && not (c == 0x0A))) (byte_shows shows refl) none in
     let is : true ≡ false = NoCharPasses-byte (λ c. is_control c && not (c == 0x0A)) (0x07 ∷ []) 0 own (omega arith) (omega arith) in
     cc is
 
@@ -209,6 +213,7 @@ none_in_nothing [] part behind c is = cc is
 none_in_nothing (b ∷ before) part behind c is = cc is
 
 -- texts that stand the other way round aren't those of the line
+-- false: promises::lines_with_all_texts, promises::lines_with_whole_texts
 turned_round : ¬ (StandIn (codes "b" ∷ codes "a" ∷ []) (codes "ab"))
 turned_round (before, behind, is, (between, rest, are, end)) = by_before before is
   where
@@ -216,3 +221,56 @@ turned_round (before, behind, is, (between, rest, are, end)) = by_before before 
     by_before [] same = let letter : ◌≡◌ {A = ℕ} 0x61 0x62 = cc same in absurd (omega (arith, letter))
     by_before (x ∷ []) same = let gone : [] ≡ behind = cc same in none_in_nothing between [] rest 0x61 (gone ∙ are)
     by_before (x ∷ y ∷ more) same = none_in_nothing more [] behind 0x62 (let end : [] ≡ more ++ (0x62 ∷ behind) = cc same in end)
+
+-- lines of two terminal columns and of one
+-- false: promises::straight_lines, promises::straight_whole_lines, promises::straight_fitting_lines
+unequal_lines : ¬ (AreEquallyWide (codes "ab" ∷ codes "a" ∷ []))
+unfolding wrapping
+unequal_lines (n, all) =
+    let P : Text → Type 0 = λ line. measure line ≡ n in
+    let first : 2 ≡ n = All-head P (codes "ab") (codes "a" ∷ []) all in
+    let second : 1 ≡ n = All-head P (codes "a") [] (All-tail P (codes "ab") (codes "a" ∷ []) all) in
+    omega (arith, first, second)
+
+-- a line that shows n terminal columns
+abbrev ShowsWidth : ℕ → Text → Type 0
+ShowsWidth n line = (shown : Text) × Shows line shown × (measure shown ≡ n)
+
+-- false: promises::straight_styled_lines
+unequal_when_shown : ¬ (AreShownEquallyWide (codes "a" ∷ [] ∷ []))
+unfolding wrapping
+unequal_when_shown (n, all) =
+    differ (All-head (ShowsWidth n) (codes "a") ([] ∷ []) all) (All-head (ShowsWidth n) [] [] (All-tail (ShowsWidth n) (codes "a") ([] ∷ []) all))
+  where
+    differ : ShowsWidth n (codes "a") → ShowsWidth n [] → ⊥
+    differ (one, shows, is) (other, show, are) =
+        let first : 1 ≡ n = subst (λ text. measure text ≡ n) (byte_shows shows refl) is in
+        let second : 0 ≡ n = subst (λ text. measure text ≡ n) (none_shows show refl) are in
+        omega (arith, first, second)
+
+-- a line of ten terminal columns, where nine are set and the frame takes nine
+-- false: promises::lines_within, promises::fitting_lines_within
+line_over_the_width : ¬ (All (λ line. measure line ≤ max 9 (frame_room (table_of "a" "b"))) (codes "1234567890" ∷ []))
+unfolding wrapping
+line_over_the_width all =
+    let is : 10 ≤ 9 = All-head (λ line. measure line ≤ max 9 (frame_room (table_of "a" "b"))) (codes "1234567890") [] all in
+    omega (arith, is)
+
+-- false: promises::lines_over
+line_below_the_width : ¬ (All (λ line. measure line ≡ 11) (codes "1234567890" ∷ []))
+unfolding wrapping
+line_below_the_width all = let is : ◌≡◌ {A = ℕ} 10 11 = All-head (λ line. measure line ≡ 11) (codes "1234567890") [] all in omega (arith, is)
+
+-- false: promises::lines_of_both
+other_lines : ¬ (codes "a" ∷ [] ≡ codes "b" ∷ [])
+other_lines same = let letter : ◌≡◌ {A = ℕ} 0x61 0x62 = cc same in omega (arith, letter)
+
+-- the first of two lines is another one
+-- false: promises::lines_before_and_after
+first_line_changes : ¬ (Stay (codes "a" ∷ codes "b" ∷ []) (codes "c" ∷ codes "b" ∷ []))
+first_line_changes ([], last, added, short, is, are) = let both : 2 ≡ length last = ap length is in omega (arith, short, both)
+first_line_changes (line ∷ above, last, added, short, is, are) =
+    let one : codes "a" ≡ line = cc is in
+    let other : codes "c" ≡ line = cc are in
+    let letter : ◌≡◌ {A = ℕ} 0x61 0x63 = cc (one, other) in
+    omega (arith, letter)

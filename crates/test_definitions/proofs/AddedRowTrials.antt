@@ -30,3 +30,13 @@ wider_row : drawing (with_row (row_of ("efg" ∷ [])) two_lines) (3 ∷ [])
     ≡ texts ("+-----+" ∷ "| ab  |" ∷ "+=====+" ∷ "| cd  |" ∷ "|-----|" ∷ "| efg |" ∷ "+-----+" ∷ [])
 unfolding wrapping
 wider_row = refl
+
+-- so its lines aren't those of the first table and some below
+-- false: comfy_table::laws::shown_lines_stay
+wider_lines_do_not_stay : ¬ (AddsBelow two_lines short_row (2 ∷ []) (drawing two_lines (2 ∷ []))
+    (texts ("+-----+" ∷ "| ab  |" ∷ "+=====+" ∷ "| cd  |" ∷ "|-----|" ∷ "| e   |" ∷ "+-----+" ∷ [])))
+unfolding wrapping
+wider_lines_do_not_stay adds =
+    let is : texts ("+-----+" ∷ "| ab  |" ∷ "+=====+" ∷ "| cd  |" ∷ "|-----|" ∷ "| e   |" ∷ "+-----+" ∷ [])
+        ≡ texts ("+----+" ∷ "| ab |" ∷ "+====+" ∷ "| cd |" ∷ "|----|" ∷ "| e  |" ∷ "+----+" ∷ []) = adds.1 in
+    cc is
