@@ -84,9 +84,9 @@ def laws():
 
 def wrong_trials():
     """The laws that no trial shows to be false of a value, and what is named as one and is none."""
-    named = set()
+    named, false = set(), r"^-- false: (.*)\n(?=(?:--.*\n)*(?:pub )?\w+ :)"
     for path in (it for crate in TRIALS for it in files_of(crate, "proofs/**/*Trials.antt")):
-        for labels in re.findall(r"^-- false: (.*)\n(?:--.*\n)*(?:pub )?\w+ :", text_of(path), re.M):
+        for labels in re.findall(false, text_of(path), re.M):
             named |= set(labels.split(", "))
     wrong = [f"no trial shows a value of which {it} is false" for it in laws() if it not in named]
     return wrong + [f"a trial names {it}, which is no law" for it in sorted(named - set(laws()))]

@@ -1,12 +1,12 @@
 -- Tables for which the premises of the promises hold, and texts that these promises refuse.
-use Rattle.std.proofs.Common.{◌≡◌, ◌==◌, ◌&&◌, ◌≤◌, ℕ, zero, suc, true, false, not, [], ◌∷◌, ◌++◌, ◌∙◌, Contains, Some, None, codes, refl, ap, subst, arith, length, max}
+use Rattle.std.proofs.Common.{◌≡◌, ◌==◌, ◌&&◌, ◌≤◌, ℕ, zero, suc, Bool, true, false, not, [], ◌∷◌, ◌++◌, ◌∙◌, Contains, Some, None, codes, refl, ap, subst, arith, length, max}
 use Rattle.std.specs.List.{All, slice_get}
 use Rattle.std.specs.Char.{is_control}
 use Rattle.std.specs.Prelude.{encode_utf8_all}
 use Rattle.std.specs.Str.{NoCharPasses, chars}
 use Prim.Native.String.{String}
 use lib.Utf8.{encode}
-use Rattle.std.proofs.lemmas.List.Elements.{All-from_recursion, All-head, All-tail}
+use Rattle.std.proofs.lemmas.List.Elements.{All-from_recursion}
 use Rattle.std.proofs.lemmas.Str.{NoCharPasses-byte}
 use Rattle.comfy_parts.proofs.CallerLemmas.{frame_adds, frame_apart, one_column_characters}
 use Rattle.comfy_parts.proofs.Computing.{wrapping}
@@ -187,15 +187,22 @@ clear_screen (sequence code text shown all rest) is = no_end code (cc is)
 -- another byte shows itself
 byte_shows : {c : ℕ} {text shown : Text} → Shows text shown → text ≡ c ∷ [] → shown ≡ c ∷ []
 byte_shows nothing is = is
-byte_shows (byte b text shown clear rest) is = let end : text ≡ [] = cc is in let own : shown ≡ [] = none_shows rest end in cc (is, own)
+byte_shows (byte b text shown clear rest) is =
+    let end : text ≡ [] = cc is in
+    let own : shown ≡ [] = none_shows rest end in
+    cc (is, own)
 byte_shows (sequence code text shown all rest) is = absurd (cc is)
+
+-- what no harmless text shows
+abbrev is_harmful : ℕ → Bool
+is_harmful c = is_control c && not (c == 0x0A)
 
 -- so a bell is no harmless text
 -- false: promises::harmless_text, csv_promises::harmless_output
 bell_is_harmful : ¬ (IsHarmless (0x07 ∷ []))
 bell_is_harmful (shown, shows, none) =
-    let own : NoCharPasses (λ c. is_control c && not (c == 0x0A)) (0x07 ∷ []) = subst (NoCharPasses (λ c. is_control c && not (c == 0x0A))) (byte_shows shows refl) none in
-    let is : true ≡ false = NoCharPasses-byte (λ c. is_control c && not (c == 0x0A)) (0x07 ∷ []) 0 own (omega arith) (omega arith) in
+    let own : NoCharPasses is_harmful (0x07 ∷ []) = subst (NoCharPasses is_harmful) (byte_shows shows refl) none in
+    let is : true ≡ false = NoCharPasses-byte is_harmful (0x07 ∷ []) 0 own (omega arith) (omega arith) in
     cc is
 
 -- a text that lost a character isn't the same, one that lost a space is
@@ -227,9 +234,8 @@ turned_round (before, behind, is, (between, rest, are, end)) = by_before before 
 unequal_lines : ¬ (AreEquallyWide (codes "ab" ∷ codes "a" ∷ []))
 unfolding wrapping
 unequal_lines (n, all) =
-    let P : Text → Type 0 = λ line. measure line ≡ n in
-    let first : 2 ≡ n = All-head P (codes "ab") (codes "a" ∷ []) all in
-    let second : 1 ≡ n = All-head P (codes "a") [] (All-tail P (codes "ab") (codes "a" ∷ []) all) in
+    let first : 2 ≡ n = all 0 (codes "ab") (omega arith) in
+    let second : 1 ≡ n = all 1 (codes "a") (omega arith) in
     omega (arith, first, second)
 
 -- a line that shows n terminal columns
@@ -239,8 +245,7 @@ ShowsWidth n line = (shown : Text) × Shows line shown × (measure shown ≡ n)
 -- false: promises::straight_styled_lines
 unequal_when_shown : ¬ (AreShownEquallyWide (codes "a" ∷ [] ∷ []))
 unfolding wrapping
-unequal_when_shown (n, all) =
-    differ (All-head (ShowsWidth n) (codes "a") ([] ∷ []) all) (All-head (ShowsWidth n) [] [] (All-tail (ShowsWidth n) (codes "a") ([] ∷ []) all))
+unequal_when_shown (n, all) = differ (all 0 (codes "a") (omega arith)) (all 1 [] (omega arith))
   where
     differ : ShowsWidth n (codes "a") → ShowsWidth n [] → ⊥
     differ (one, shows, is) (other, show, are) =
@@ -248,18 +253,22 @@ unequal_when_shown (n, all) =
         let second : 0 ≡ n = subst (λ text. measure text ≡ n) (none_shows show refl) are in
         omega (arith, first, second)
 
--- a line of ten terminal columns, where nine are set and the frame takes nine
+-- a line of ten terminal columns
+abbrev ten : Text
+ten = codes "1234567890"
+
+-- nine are set, and the frame takes nine
 -- false: promises::lines_within, promises::fitting_lines_within
-line_over_the_width : ¬ (All (λ line. measure line ≤ max 9 (frame_room (table_of "a" "b"))) (codes "1234567890" ∷ []))
+line_over_the_width : ¬ (All (λ line. measure line ≤ max 9 (frame_room (table_of "a" "b"))) (ten ∷ []))
 unfolding wrapping
-line_over_the_width all =
-    let is : 10 ≤ 9 = All-head (λ line. measure line ≤ max 9 (frame_room (table_of "a" "b"))) (codes "1234567890") [] all in
-    omega (arith, is)
+line_over_the_width all = let is : 10 ≤ 9 = all 0 ten (omega arith) in omega (arith, is)
 
 -- false: promises::lines_over
-line_below_the_width : ¬ (All (λ line. measure line ≡ 11) (codes "1234567890" ∷ []))
+line_below_the_width : ¬ (All (λ line. measure line ≡ 11) (ten ∷ []))
 unfolding wrapping
-line_below_the_width all = let is : ◌≡◌ {A = ℕ} 10 11 = All-head (λ line. measure line ≡ 11) (codes "1234567890") [] all in omega (arith, is)
+line_below_the_width all =
+    let is : ◌≡◌ {A = ℕ} 10 11 = all 0 ten (omega arith) in
+    omega (arith, is)
 
 -- false: promises::lines_of_both
 other_lines : ¬ (codes "a" ∷ [] ≡ codes "b" ∷ [])
@@ -268,7 +277,9 @@ other_lines same = let letter : ◌≡◌ {A = ℕ} 0x61 0x62 = cc same in omega
 -- the first of two lines is another one
 -- false: promises::lines_before_and_after
 first_line_changes : ¬ (Stay (codes "a" ∷ codes "b" ∷ []) (codes "c" ∷ codes "b" ∷ []))
-first_line_changes ([], last, added, short, is, are) = let both : 2 ≡ length last = ap length is in omega (arith, short, both)
+first_line_changes ([], last, added, short, is, are) =
+    let both : 2 ≡ length last = ap length is in
+    omega (arith, short, both)
 first_line_changes (line ∷ above, last, added, short, is, are) =
     let one : codes "a" ≡ line = cc is in
     let other : codes "c" ≡ line = cc are in

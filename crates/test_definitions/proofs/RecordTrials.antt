@@ -6,10 +6,10 @@ use Rattle.comfy_parts.specs.Text.{Text, is_printable_ascii}
 use Rattle.comfy_parts.specs.declared.style.cell.CellAlignment.TheVariants.{Left, Right}
 use Rattle.std.specs.Fmt.{digits}
 use Rattle.std.specs.List.{All, list_all, list_any}
-use Rattle.std.proofs.lemmas.List.Elements.{All-head}
-use Rattle.std.specs.Str.{chars}
+use Rattle.std.specs.Str.{IsUtf8, chars, is_utf8}
+use Rattle.std.proofs.lemmas.Str.{is_utf8-from_IsUtf8}
 use Rattle.ucd_category.proofs.Computing.{ucd_category}
-use Rattle.csv.specs.Records.{field_at}
+use Rattle.csv.specs.Records.{AllText, field_at}
 use Rattle.comfy_csv_parts.specs.Cleaning.{after_piece, pieces, start}
 use Rattle.comfy_csv_parts.specs.Input.{line_breaks as line_breaks_of, line_of}
 use Rattle.comfy_csv_parts.specs.declared.cleaning.Kept.{Kept}
@@ -340,12 +340,13 @@ said_in_lines = refl
 
 -- two records, and a table of one row
 -- false: comfy_csv::laws::tables_keep_their_rows
-row_is_missing : ¬ (length seven.rows ≡ length (limited {A = List Text} None (texts ("a" ∷ []) ∷ texts ("b" ∷ []) ∷ [])))
+row_is_missing :
+    ¬ (length seven.rows ≡ length (limited {A = List Text} None (texts ("a" ∷ []) ∷ texts ("b" ∷ []) ∷ [])))
 row_is_missing same = let is : ◌≡◌ {A = ℕ} 1 2 = same in omega (arith, is)
 
 -- false: comfy_csv::laws::printable_texts_make_printable_tables
 tab_is_not_printable : ¬ (All (λ text. is_printable_ascii text ≡ true) (codes "\t" ∷ []))
-tab_is_not_printable all = let is : false ≡ true = All-head (λ text. is_printable_ascii text ≡ true) (codes "\t") [] all in cc is
+tab_is_not_printable all = let is : false ≡ true = all 0 (codes "\t") (omega arith) in cc is
 
 -- false: comfy_csv_parts::laws::escaped_texts_are_read_back
 line_break_is_read : ¬ (unescaped (codes "<br>") ≡ codes "<br>")
@@ -354,3 +355,12 @@ line_break_is_read same = let is : 0x0A ∷ [] ≡ codes "<br>" = same in cc is
 -- false: comfy_csv_parts::laws::lines_are_left_out_as_they_are_counted
 one_break : ¬ (line_breaks_of (codes "a\n") ≡ 2)
 one_break same = let is : ◌≡◌ {A = ℕ} 1 2 = same in omega (arith, is)
+
+-- a byte that no text has
+-- false: comfy_csv_parts::laws::records_of_texts_are_texts
+byte_is_no_text : ¬ (All AllText (((0xFF ∷ []) ∷ []) ∷ []))
+unfolding AllText is_utf8 chars
+byte_is_no_text all =
+    let field : IsUtf8 (0xFF ∷ []) = (all 0 ((0xFF ∷ []) ∷ []) (omega arith)).0 in
+    let is : false ≡ true = is_utf8-from_IsUtf8 (0xFF ∷ []) field in
+    cc is
