@@ -197,12 +197,15 @@ byte_shows (sequence code text shown all rest) is = absurd (cc is)
 abbrev is_harmful : ℕ → Bool
 is_harmful c = is_control c && not (c == 0x0A)
 
+abbrev bell : Text
+bell = 0x07 ∷ []
+
 -- so a bell is no harmless text
 -- false: promises::harmless_text, csv_promises::harmless_output
-bell_is_harmful : ¬ (IsHarmless (0x07 ∷ []))
+bell_is_harmful : ¬ (IsHarmless bell)
 bell_is_harmful (shown, shows, none) =
-    let own : NoCharPasses is_harmful (0x07 ∷ []) = subst (NoCharPasses is_harmful) (byte_shows shows refl) none in
-    let is : true ≡ false = NoCharPasses-byte is_harmful (0x07 ∷ []) 0 own (omega arith) (omega arith) in
+    let own : NoCharPasses is_harmful bell = subst (NoCharPasses is_harmful) (byte_shows shows refl) none in
+    let is : true ≡ false = NoCharPasses-byte is_harmful bell 0 own (omega arith) (omega arith) in
     cc is
 
 -- a text that lost a character isn't the same, one that lost a space is
@@ -259,7 +262,8 @@ ten = codes "1234567890"
 
 -- nine are set, and the frame takes nine
 -- false: promises::lines_within, promises::fitting_lines_within
-line_over_the_width : ¬ (All (λ line. measure line ≤ max 9 (frame_room (table_of "a" "b"))) (ten ∷ []))
+line_over_the_width :
+    ¬ (All (λ line. measure line ≤ max 9 (frame_room (table_of "a" "b"))) (ten ∷ []))
 unfolding wrapping
 line_over_the_width all = let is : 10 ≤ 9 = all 0 ten (omega arith) in omega (arith, is)
 

@@ -341,7 +341,7 @@ said_in_lines = refl
 -- two records, and a table of one row
 -- false: comfy_csv::laws::tables_keep_their_rows
 row_is_missing :
-    ¬ (length seven.rows ≡ length (limited {A = List Text} None (texts ("a" ∷ []) ∷ texts ("b" ∷ []) ∷ [])))
+    ¬ (length seven.rows ≡ length (limited {A = List Text} None ((codes "a" ∷ []) ∷ (codes "b" ∷ []) ∷ [])))
 row_is_missing same = let is : ◌≡◌ {A = ℕ} 1 2 = same in omega (arith, is)
 
 -- false: comfy_csv::laws::printable_texts_make_printable_tables
