@@ -55,7 +55,8 @@ def wrong_in_section(crate, section):
         wrong += [f"no field {it}" for it in re.findall(r"`(\w+)`", more) if it not in fields | WORDS]
         named = re.findall(r"`([A-Z]\w+)`", clauses)
         for of_type in set(named) - WORDS:
-            own = {name for name, found in functions.items() if any(of_type in it.places and it.is_public for it in found)}
+            public = [(name, it) for name in functions for it in functions[name] if it.is_public]
+            own = {name for name, it in public if of_type in it.places}
             wrong += [f"{crate} has no mutation of {of_type}::{it}" for it in own - mutated - OVER_OTHERS]
             wrong += [f"{crate} has no type {of_type}"] * (not own)
         for it in re.finditer(r"`([\w:]+)`(?: \(([^)]*)\))?", clauses):
@@ -94,7 +95,8 @@ def wrong_trials():
 
 def wrong_in_calling(crate):
     """The clauses that a CALLING.md quotes and its library doesn't have."""
-    source = " ".join(" ".join(text_of(it) for name in (crate, *CALLERS) for it in sources_of(name)).split())
+    sources = [it for name in (crate, *CALLERS) for it in sources_of(name)]
+    source = " ".join(" ".join(text_of(it) for it in sources).split())
     wrong = []
     for block in re.findall(r"```rust\n(.*?)```", text_of(f"crates/{crate}/CALLING.md"), re.S):
         for clause in re.findall(r"^\s*((?:ensures|requires)\b.*?);?$", block, re.M):
@@ -149,7 +151,7 @@ def main():
     wrong += [f"{path} isn't what tools/pictures.py makes" for path in wrong_pictures()]
     wrong += wrong_links()
     counted = zip(page.splitlines(), updated(page).splitlines())
-    wrong += [f"docs/PROVED.md has other counts than tools/what_is_believed.py: {new}" for old, new in counted if old != new]
+    wrong += [f"docs/PROVED.md hasn't this count: {new}" for old, new in counted if old != new]
     for parts, crate in (("comfy_parts", "comfy_table"), ("comfy_csv_parts", "comfy_csv")):
         passed_on = re.search(r"^pub use " + parts + r"::laws::\{(.*?)\};", text_of(f"crates/{crate}/src/laws.rt"), re.M | re.S)[1]
         laws = re.findall(r"^pub fn (\w+)", text_of(f"crates/{parts}/src/laws.rt"), re.M)

@@ -40,6 +40,7 @@ TOP = os.path.dirname(os.path.dirname(os.path.realpath(__file__)))
 TRIES = 5  # checks that a function may be hidden in by those it calls, before its mutation is tried by itself
 # what a check says of an answer that names what a mutation takes away
 STALE = r"has no field|has no `|is not in scope|is not a field|was not admitted"
+FUNCTION = r"^[ \t]*(?:pub(?:\(\w+\))? )?(?:const )?fn (\w+)"
 FORM = r"# \w+__\w+\n(?:(?:file: \S+\n)?old: .+\nnew:.*\n)+\n*"  # a mutation in a file of mutations/
 
 
@@ -107,7 +108,7 @@ def function_at(crate, file, old):
     """How the name of the function that has a text ends in the lines of a check, or None where no function has it."""
     text = text_of(f"{crate}/{file}")
     above = text[: text.find(old) + len(old)]
-    starts = [(it.start(), it[1]) for it in re.finditer(r"^[ \t]*(?:pub(?:\(\w+\))? )?(?:const )?fn (\w+)", above, re.M)]
+    starts = [(it.start(), it[1]) for it in re.finditer(FUNCTION, above, re.M)]
     if old not in text or not starts or re.search(r"^}", above[starts[-1][0] :], re.M):
         return None
     block = None
@@ -123,11 +124,11 @@ def function_at(crate, file, old):
 def lines_at(crate, file, old):
     """The numbers of the lines from the function that has a text to the next one."""
     text = text_of(f"{crate}/{file}")
-    begins = r"^[ \t]*(?:pub(?:\(\w+\))? )?(?:const )?fn "
-    starts = [it.start() for it in re.finditer(begins, text, re.M)]
+    starts = [it.start() for it in re.finditer(FUNCTION, text, re.M)]
     at = text.find(old) + len(old)
-    first = text.count("\n", 0, max(it for it in starts if it < at)) + 1
-    return range(first, text.count("\n", 0, min([it for it in starts if it >= at] or [len(text)])) + 1)
+    start = max(it for it in starts if it < at)
+    end = min([it for it in starts if it >= at] or [len(text)])
+    return range(text.count("\n", 0, start) + 1, text.count("\n", 0, end) + 1)
 
 
 def copied(crate, room):
@@ -202,19 +203,21 @@ def batch_of(waiting, crate, calls):
 
 
 def is_in(mutation, place):
-    """Whether a place that a check names is in the function that a mutation changes, or in its answers."""
+    """Whether a place that a check names is in a mutation's function, or in its answers."""
     file = mutation.pairs[0][0]
     if place.startswith("src/"):
         path, line = place.split(":")[:2]
         return path == file and int(line) in mutation.lines
-    module = re.sub(r"^src/|\.rt$", "", file).removesuffix("lib")
-    return re.match(rf"proofs/{module}/?(?:\w+/)?{mutation.function.split('::')[-1]}/", place) is not None
+    module, name = re.sub(r"^src/|\.rt$", "", file), mutation.function.split("::")[-1]
+    folder = "" if module == "lib" else f"{module}/"
+    return re.match(rf"proofs/{folder}(?:\w+/)?{name}/", place) is not None
 
 
 def is_stale(mutation, lines, is_alone):
-    """Whether no goal is left unproved, and written answers fail only for the names that they use."""
-    told = [re.match(r"(?:note: )?(?:\./)?((?:src|proofs)/[^: ]+:\d+:\d+): (.*)", it) for it in lines]
-    told = [it for it in told if it and (is_alone or is_in(mutation, it[1]))]
+    """Whether no goal is left unproved, and written answers fail only for names that they use."""
+    place = r"(?:note: )?(?:\./)?((?:src|proofs)/[^: ]+:\d+:\d+): (.*)"
+    told = [it for it in (re.match(place, line) for line in lines) if it]
+    told = [it for it in told if is_alone or is_in(mutation, it[1])]
     if any("it is not proved that" in it[2] for it in told):
         return False
     errors = [it[2] for it in told if it[2].startswith("error")]
@@ -230,11 +233,12 @@ def said_of(mutation, state, check, is_alone):
         return "SURVIVED"
     if not is_alone and (not state or state.startswith("proved") or "it calls" in state):
         return None
-    return "STALE" if "did not prove" not in state and is_stale(mutation, lines, is_alone) else "refused"
+    is_unproved = "did not prove" in state or not is_stale(mutation, lines, is_alone)
+    return "refused" if is_unproved else "STALE"
 
 
 def tried(crate, waiting, jobs):
-    """Tries a crate's mutations, prints what comes of each, and returns how many were refused, and how many are stale."""
+    """Tries a crate's mutations, and prints what comes of each: how many are refused, and stale."""
     missing = [it for it in waiting if it.applied(crate, {}) is None]
     for it in missing:
         print(f"{it.label}: DOES NOT STAND ONCE", flush=True)
