@@ -7,6 +7,8 @@
   of its `try_` form, or stands in OVER_OTHERS. It says how many lines of definitions a reader must believe, for each
   promise and for all (tools/what_is_believed.py).
 - The laws of comfy_table pass on all those of comfy_parts.
+- Each law, and each function of `promises` and `csv_promises`, has a trial that shows a value of which its conclusion is
+  false, below a line `-- false: CRATE::laws::NAME` of a file of trials.
 - README.md: each label that it cites is a heading of PROVED.md, and what it prints is the output of the stored run.
 - CALLING.md of each library: each clause that it quotes stands in the library's source or in that of a caller.
 - Each mutation changes a function that exists.
@@ -19,11 +21,12 @@ import os
 import re
 import sys
 
+from definitions import LIBRARIES, PROMISES, TOP, files_of, functions_of, sources_of, text_of
 from doc_examples import wrong_examples
 from manual import wrong_files
 from mutations import must_fail_of, mutations_of
 from pictures import drawing_of_case, wrong_pictures
-from what_is_believed import LIBRARIES, TOP, counts, functions_of, text_of
+from what_is_believed import updated
 
 LAWS_ALONE = ["cluster_width"]  # libraries without code
 WORDS = {"IsAfter", "IsTableDrawing", "input_table"}  # definitions, not functions
@@ -33,11 +36,8 @@ OVER_OTHERS = set(
     "should_draw_left_border should_draw_right_border should_draw_vertical_lines".split()
 )
 CALLERS = ["test_callers", "test_csv_cases"]
+TRIALS = ["test_definitions", *PROMISES]
 STORED = ["csvtable/stdout"]
-
-
-def sources_of(crate):
-    return [text_of(path) for path in glob.glob("crates/" + crate + "/src/**/*.rt", root_dir=TOP, recursive=True)]
 
 
 def mutated_in(crate):
@@ -55,17 +55,18 @@ def wrong_in_section(crate, section):
         wrong += [f"no field {it}" for it in re.findall(r"`(\w+)`", more) if it not in fields | WORDS]
         named = re.findall(r"`([A-Z]\w+)`", clauses)
         for of_type in set(named) - WORDS:
-            own = {name for name, found in functions.items() if any(of_type in it[0] and it[2] for it in found)}
+            public = [(name, it) for name in functions for it in functions[name] if it.is_public]
+            own = {name for name, it in public if of_type in it.places}
             wrong += [f"{crate} has no mutation of {of_type}::{it}" for it in own - mutated - OVER_OTHERS]
             wrong += [f"{crate} has no type {of_type}"] * (not own)
         for it in re.finditer(r"`([\w:]+)`(?: \(([^)]*)\))?", clauses):
             *place, name = it[1].split("::")
             if not place and name in named:
                 continue
-            found = [one for one in functions.get(name, []) if set(place[-1:]) <= one[0]]
+            found = [one for one in functions.get(name, []) if set(place[-1:]) <= one.places]
             if not found and name not in WORDS:
                 wrong.append(f"{crate} has no function {it[1]}")
-            known = {clause for one in found for clause, _ in one[1]}
+            known = {clause for one in found for clause, _ in one.clauses}
             wrong += [f"{it[1]} has no clause {clause}" for clause in re.findall(r"\w+", it[2] or "") if clause not in known]
             is_law = place[-1:] == ["laws"] or crate in LAWS_ALONE
             if not is_law and not {name, f"try_{name}"} & mutated and name not in OVER_OTHERS | WORDS:
@@ -73,9 +74,29 @@ def wrong_in_section(crate, section):
     return wrong
 
 
+def laws():
+    """The laws, and the promises, as a line `-- false:` names them."""
+    for crate in LIBRARIES:
+        for name, (one, *_) in functions_of(crate).items():
+            in_laws = f"crates/{crate}/src/laws.rt" == one.signature.path
+            if one.is_public and (in_laws or crate in [*LAWS_ALONE, *PROMISES]):
+                yield f"{crate}::laws::{name}" if in_laws else f"{crate}::{name}"
+
+
+def wrong_trials():
+    """The laws that no trial shows to be false of a value, and what is named as one and is none."""
+    named, false = set(), r"^-- false: (.*)\n(?=(?:--.*\n)*(?:pub )?\w+ :)"
+    for path in (it for crate in TRIALS for it in files_of(crate, "proofs/**/*Trials.antt")):
+        for labels in re.findall(false, text_of(path), re.M):
+            named |= set(labels.split(", "))
+    wrong = [f"no trial shows a value of which {it} is false" for it in laws() if it not in named]
+    return wrong + [f"a trial names {it}, which is no law" for it in sorted(named - set(laws()))]
+
+
 def wrong_in_calling(crate):
     """The clauses that a CALLING.md quotes and its library doesn't have."""
-    source = " ".join(" ".join(it for name in (crate, *CALLERS) for it in sources_of(name)).split())
+    sources = [it for name in (crate, *CALLERS) for it in sources_of(name)]
+    source = " ".join(" ".join(text_of(it) for it in sources).split())
     wrong = []
     for block in re.findall(r"```rust\n(.*?)```", text_of(f"crates/{crate}/CALLING.md"), re.S):
         for clause in re.findall(r"^\s*((?:ensures|requires)\b.*?);?$", block, re.M):
@@ -105,13 +126,6 @@ def wrong_links():
     return wrong
 
 
-def lines_to_believe():
-    """Lines of the definitions in which public contracts are written: of the files that don't say that they are private."""
-    paths = [it for crate in LIBRARIES for it in glob.glob(f"crates/{crate}/specs/**/*.antt", root_dir=TOP, recursive=True)]
-    texts = [text_of(path) for path in paths]
-    return sum(text.count("\n") for text in texts if not text.startswith("-- Private:"))
-
-
 def main():
     page, readme, wrong = text_of("docs/PROVED.md"), text_of("README.md"), []
     for section in re.split(r"^## ", page, flags=re.M)[1:]:
@@ -131,18 +145,17 @@ def main():
         wrong += [f"crates/{path} hasn't the line of README.md: {line}" for line in code.splitlines() if line not in text_of(f"crates/{path}")]
     for path in glob.glob("crates/*/CALLING.md", root_dir=TOP):
         wrong += wrong_in_calling(path.split("/")[1])
+    wrong += wrong_trials()
     wrong += wrong_examples()
     wrong += [f"{path} isn't what tools/manual.py makes" for path in wrong_files()]
     wrong += [f"{path} isn't what tools/pictures.py makes" for path in wrong_pictures()]
     wrong += wrong_links()
-    wrong += [f"docs/PROVED.md gives {given} lines for {label}, which stands on {count}" for label, count, given in counts(page) if count != given]
+    counted = zip(page.splitlines(), updated(page).splitlines())
+    wrong += [f"docs/PROVED.md hasn't this count: {new}" for old, new in counted if old != new]
     for parts, crate in (("comfy_parts", "comfy_table"), ("comfy_csv_parts", "comfy_csv")):
         passed_on = re.search(r"^pub use " + parts + r"::laws::\{(.*?)\};", text_of(f"crates/{crate}/src/laws.rt"), re.M | re.S)[1]
         laws = re.findall(r"^pub fn (\w+)", text_of(f"crates/{parts}/src/laws.rt"), re.M)
         wrong += [f"{crate}::laws doesn't pass on {it}" for it in set(laws) ^ set(re.findall(r"\w+", passed_on))]
-    believed = lines_to_believe()
-    if f"the {believed} lines" not in page:
-        wrong.append(f"docs/PROVED.md doesn't name the {believed} lines of definitions to believe")
     print("\n".join(wrong) or f"{len(labels)} labels: all found")
     return 1 if wrong else 0
 

@@ -22,9 +22,10 @@ the crate's folder beforehand saves time. A check tries mutations of different f
 says whether it is proved. A function that only calls a mutated one is tried again in a later check. What can't be told
 so is tried by itself.
 
-It prints a line for each mutation: refused, SURVIVED (the crate is proved with it), DOES NOT STAND ONCE (a text of it
-is missing, or stands more than once), or CANNOT BE READ (what it makes doesn't compile). It ends with 1 unless every
-mutation is refused, or, with --list, stands once under a name of its own.
+It prints a line for each mutation: refused, SURVIVED (the crate is proved with it), STALE (no goal is left unproved: it
+fails only because an answer that was written by hand names what it takes away, so it shows nothing of a clause), DOES NOT
+STAND ONCE (a text of it is missing, or stands more than once), or CANNOT BE READ (what it makes doesn't compile). It ends
+with 1 unless every mutation is refused, or, with --list, stands once under a name of its own.
 """
 import argparse
 import glob
@@ -37,6 +38,9 @@ import tempfile
 
 TOP = os.path.dirname(os.path.dirname(os.path.realpath(__file__)))
 TRIES = 5  # checks that a function may be hidden in by those it calls, before its mutation is tried by itself
+# what a check says of an answer that names what a mutation takes away
+STALE = r"has no field|has no `|is not in scope|is not a field|was not admitted"
+FUNCTION = r"^[ \t]*(?:pub(?:\(\w+\))? )?(?:const )?fn (\w+)"
 FORM = r"# \w+__\w+\n(?:(?:file: \S+\n)?old: .+\nnew:.*\n)+\n*"  # a mutation in a file of mutations/
 
 
@@ -56,6 +60,7 @@ class Mutation:
             elif word == "new":
                 self.pairs.append((file, old, text))
         self.function = function_at(crate, *self.pairs[0][:2]) if self.pairs else None
+        self.lines = lines_at(crate, *self.pairs[0][:2]) if self.function else None
 
     def applied(self, crate, texts):
         """The texts with this mutation, or None where an old text doesn't stand in them exactly once."""
@@ -103,7 +108,7 @@ def function_at(crate, file, old):
     """How the name of the function that has a text ends in the lines of a check, or None where no function has it."""
     text = text_of(f"{crate}/{file}")
     above = text[: text.find(old) + len(old)]
-    starts = [(it.start(), it[1]) for it in re.finditer(r"^[ \t]*(?:pub(?:\(\w+\))? )?(?:const )?fn (\w+)", above, re.M)]
+    starts = [(it.start(), it[1]) for it in re.finditer(FUNCTION, above, re.M)]
     if old not in text or not starts or re.search(r"^}", above[starts[-1][0] :], re.M):
         return None
     block = None
@@ -114,6 +119,16 @@ def function_at(crate, file, old):
         return "::".join([os.path.basename(crate), *(it for it in module if it not in ("lib", "main")), starts[-1][1]])
     trait, _, of = re.sub(r"<[^{]*?>", "", block).split(" where ")[0].rpartition(" for ")
     return "::" + "".join(it.strip().split("::")[-1] for it in (of, trait)) + "::" + starts[-1][1]
+
+
+def lines_at(crate, file, old):
+    """The numbers of the lines from the function that has a text to the next one."""
+    text = text_of(f"{crate}/{file}")
+    starts = [it.start() for it in re.finditer(FUNCTION, text, re.M)]
+    at = text.find(old) + len(old)
+    start = max(it for it in starts if it < at)
+    end = min([it for it in starts if it >= at] or [len(text)])
+    return range(text.count("\n", 0, start) + 1, text.count("\n", 0, end) + 1)
 
 
 def copied(crate, room):
@@ -187,39 +202,65 @@ def batch_of(waiting, crate, calls):
     return batch, texts
 
 
-def said_of(state, unread, is_proved, is_alone):
+def is_in(mutation, place):
+    """Whether a place that a check names is in a mutation's function, or in its answers."""
+    file = mutation.pairs[0][0]
+    if place.startswith("src/"):
+        path, line = place.split(":")[:2]
+        return path == file and int(line) in mutation.lines
+    module, name = re.sub(r"^src/|\.rt$", "", file), mutation.function.split("::")[-1]
+    folder = "" if module == "lib" else f"{module}/"
+    return re.match(rf"proofs/{folder}(?:\w+/)?{name}/", place) is not None
+
+
+def is_stale(mutation, lines, is_alone):
+    """Whether no goal is left unproved, and written answers fail only for names that they use."""
+    place = r"(?:note: )?(?:\./)?((?:src|proofs)/[^: ]+:\d+:\d+): (.*)"
+    told = [it for it in (re.match(place, line) for line in lines) if it]
+    told = [it for it in told if is_alone or is_in(mutation, it[1])]
+    if any("it is not proved that" in it[2] for it in told):
+        return False
+    errors = [it[2] for it in told if it[2].startswith("error")]
+    return bool(errors) and all(re.search(STALE, it) for it in errors)
+
+
+def said_of(mutation, state, check, is_alone):
     """What a check shows of a mutation, or None where another check has to."""
+    lines, unread, is_proved = check
     if unread:
         return f"CANNOT BE READ: {unread[0][:200]}" if is_alone else None
-    if is_alone:
-        return "SURVIVED" if is_proved else "refused"
-    return None if not state or state.startswith("proved") or "it calls" in state else "refused"
+    if is_alone and is_proved:
+        return "SURVIVED"
+    if not is_alone and (not state or state.startswith("proved") or "it calls" in state):
+        return None
+    is_unproved = "did not prove" in state or not is_stale(mutation, lines, is_alone)
+    return "refused" if is_unproved else "STALE"
 
 
 def tried(crate, waiting, jobs):
-    """Tries a crate's mutations, prints what comes of each, and returns how many were not refused."""
+    """Tries a crate's mutations, and prints what comes of each: how many are refused, and stale."""
     missing = [it for it in waiting if it.applied(crate, {}) is None]
     for it in missing:
         print(f"{it.label}: DOES NOT STAND ONCE", flush=True)
-    bad, waiting, calls = len(missing), [it for it in waiting if it not in missing], {}
+    found, waiting, calls = [], [it for it in waiting if it not in missing], {}
     with tempfile.TemporaryDirectory(prefix="mutations-") as room:
         copy = copied(os.path.basename(crate), room)
         while waiting:
             batch, texts = batch_of(waiting, crate, calls)
-            lines, unread, is_proved = checked(copy, crate, texts, jobs)
-            states = states_of(lines, calls)
+            check = checked(copy, crate, texts, jobs)
+            states = states_of(check[0], calls)
             for it in batch:
                 state = state_of(it, states)
-                said = said_of(state, unread, is_proved, len(batch) == 1)
+                said = said_of(it, state, check, len(batch) == 1)
                 if said:
                     waiting.remove(it)
-                    bad += said != "refused"
+                    found.append(said)
                     print(f"{it.label}: {said}", flush=True)
-                elif unread or state.startswith("proved"):
+                elif check[1] or state.startswith("proved"):
                     it.is_alone = True
                 else:
                     it.tries += 1
-    return bad
+    return found.count("refused"), found.count("STALE")
 
 
 def listed(crate, found):
@@ -240,7 +281,7 @@ def main():
     parser.add_argument("--only", default="", metavar="TEXT", help="only those whose label has TEXT in it")
     parser.add_argument("crate", nargs="*", help="a crate's name (all crates, where none is given)")
     options = parser.parse_args()
-    count = bad = 0
+    count = refused = stale = faults = 0
     for name in options.crate or sorted(os.listdir(f"{TOP}/crates")):
         crate = f"{TOP}/crates/{name}"
         if not os.path.isdir(crate):
@@ -249,11 +290,15 @@ def main():
         found = [it for it in found if options.only in it.label]
         count += len(found)
         if options.list:
-            bad += listed(crate, found)
+            faults += listed(crate, found)
         elif found:
-            bad += tried(crate, found, options.jobs)
-    print(f"{count} mutations, {bad} faults" if options.list else f"{count - bad} of {count} mutations refused")
-    return 1 if bad else 0
+            own = tried(crate, found, options.jobs)
+            refused, stale = refused + own[0], stale + own[1]
+    if options.list:
+        print(f"{count} mutations, {faults} faults")
+        return 1 if faults else 0
+    print(f"{refused} of {count} mutations refused, {stale} stale")
+    return 1 if refused < count else 0
 
 
 if __name__ == "__main__":

@@ -11,7 +11,7 @@ import re
 import unicodedata
 from xml.sax.saxutils import escape
 
-from what_is_believed import TOP, text_of
+from definitions import TOP, text_of
 
 WIDTH, HEIGHT, MARGIN = 9, 20, 12  # of a column, of a line, around all: in pixels
 BACKGROUND, FOREGROUND, FRAME = "#1e1e2e", "#e6e6ef", "#8a8fa8"

@@ -1,232 +1,218 @@
 #!/usr/bin/env python3
-"""Prints what a reader must believe for one promise of docs/PROVED.md: its clauses, and below them each definition on
-which they stand, down to the words of other libraries, which it only names.
+"""Prints what a reader must believe for a promise: its clauses, and each definition below them.
 
     tools/what_is_believed.py P20
+    tools/what_is_believed.py promises::straight_lines
+    tools/what_is_believed.py
     tools/what_is_believed.py --update
 
-With --update it writes into the page how many lines each promise stands on. A definition stands below the first that uses it. The last line counts the lines of the definitions. Where a promise
-names fields of `IsTableDrawing`, these alone are followed.
+A promise is a heading of docs/PROVED.md, or a function of `promises` or `csv_promises`. With no
+word it lists them all, each with its lines. With --update it writes these into the page: after
+`Clauses`, in the sentence on all of them, and at the end of a table's row that names a function.
+
+A clause stands on the words in it, on the types in the function's signature, and on the ghost
+members of its block. A type of src/ stands for its model, where it has one, else for its
+declaration. What a model's fields hold is said by the clauses of calls, so their types aren't
+followed, nor is an invariant, which is proved of each value. Where a promise names fields of
+`IsTableDrawing`, these alone are followed.
+
+The promise's own file comes first. Comments count as lines, of a doc comment the first
+paragraph; clauses and headings don't. Other libraries are counted in a line for each.
 """
-import glob
-import os
 import re
 import sys
+from dataclasses import replace
 
-TOP = os.path.dirname(os.path.dirname(os.path.realpath(__file__)))
-LIBRARIES = ["cluster_width", "comfy_parts", "comfy_table", "comfy_run", "comfy_csv_parts", "comfy_csv", "comfy_c"]
+from definitions import (
+    LIBRARIES, PROMISES, TOP, crate_of, definitions_in, files_of, functions_of, imports_of,
+    members, path_of, text_of, types,
+)
+
 WORD = r"(?<![\w.'-])[A-Za-z_][\w']*(?![\w'-])"
 
 
-def text_of(path):
-    with open(f"{TOP}/{path}", encoding="utf-8") as file:
-        return file.read()
+def named(word, path):
+    """The file where a word of another is defined, its name there, and whether it is a variant."""
+    name, module = word, ""
+    while name not in definitions_in(path):
+        if name in imports_of(path):
+            module, name = imports_of(path)[name]
+            path = path_of(module)
+            if path.endswith(".rt"):
+                name = module.removesuffix(".TheVariants").split(".")[-1]
+        elif path.endswith(".rt") and name in types() and not module:
+            path = min(types()[name], key=lambda it: crate_of(it) != crate_of(path))
+        else:
+            return None
+    return path, name, module.endswith(".TheVariants")
 
 
-def imports_of(text):
-    """For each imported word, the module that it comes from."""
-    found = {}
-    for module, words in re.findall(r"^\s*(?:pub |ghost )*use (Rattle\.[\w.-]+)\.\{([^}]*)\}", text, re.M):
-        for word in words.split(","):
-            name, _, local = word.strip().partition(" as ")
-            found[local or name] = (module, name)
-    return found
+def below(one):
+    """The files and names on which a definition stands; on an enum where it names a variant."""
+    text = re.sub(r"(--|//).*|ghost invariant = .*", "", f"{one.head}\n{one.text}")
+    found = [named(word, one.path) for word in dict.fromkeys(re.findall(WORD, text))]
+    for local, (module, name) in imports_of(one.path).items():
+        if not name and path_of(module).endswith(".antt"):
+            words = re.findall(rf"\b{local}\.([\w']+)", text)
+            found += [named(word, path_of(module)) for word in words]
+    for path, name, is_variant in filter(None, found):
+        is_enum = any(it.is_a("enum") for it in definitions_in(path)[name])
+        if is_variant or not is_enum or one.is_a("fn"):
+            yield path, name
 
 
-class Definition:
-    """A definition of specs/, with the comment above it."""
-
-    def __init__(self, path, name, text):
-        self.path, self.name, self.text = path, name, text
-
-    def lines(self):
-        return self.text.rstrip().count("\n") + 1
+def members_below(one):
+    """The ghost members of traits that a function or a member names, with those of all impls."""
+    for name in re.findall(rf"\b[A-Z]\w*\.(\w+)|({WORD})", one.text):
+        ones = members().get("".join(name), [])
+        if any(" trait " in f" {it.head}" for it in ones):
+            yield from ones
 
 
-def module_of(path):
-    """crates/CRATE/specs/A/B.antt is the module Rattle.CRATE.specs.A.B."""
-    return "Rattle." + path.removeprefix("crates/").removesuffix(".antt").replace("/", ".")
-
-
-def definitions_in(path):
-    """The definitions of a file, by name."""
-    found, start = {}, None
-    lines = text_of(path).split("\n")
-    heads = [re.match(r"(?:  )?(?:(?:abbrev|unfoldable|pub|record|data) )+([\w']+)\b", it) for it in lines]
-    heads = [it and (it if it[0].lstrip().startswith(("abbrev", "unfoldable", "pub")) else None) for it in heads]
-    for at, head in enumerate(heads):
-        if not head or re.match(r"\s*pub (use|mod)\b", lines[at]) or (lines[at].startswith("  ") and in_record(lines, at)):
+def standing_below(starts, fields, is_followed):
+    """The definitions below others, in the order of a reading; and the names of those left out."""
+    found, others, waiting = {}, {}, starts[::-1]
+    while waiting:
+        one = waiting.pop()
+        if one in found:
             continue
-        start = at
-        while start > 0 and re.match(r"\s*--(?! --)", lines[start - 1]):
-            start -= 1
-        end = at + 1
-        while end < len(lines) and (lines[end].strip() and not ends_at(lines, end, at)):
-            end += 1
-        found[head[1]] = Definition(path, head[1], "\n".join(lines[start:end]))
-    return found
-
-
-def in_record(lines, at):
-    """Whether an indented line is a field of a record."""
-    for line in reversed(lines[:at]):
-        if line.strip() and not line.startswith("  "):
-            return bool(re.match(r"(pub )?(record|data) ", line))
-    return False
-
-
-def ends_at(lines, end, at):
-    """Whether another definition, or its comment, begins at a line right after one."""
-    indent = len(lines[at]) - len(lines[at].lstrip())
-    line = lines[end]
-    return len(line) - len(line.lstrip()) == indent and line.lstrip().startswith(("abbrev ", "unfoldable ", "pub ", "--"))
-
-
-class Specs:
-    """All definitions of the libraries."""
-
-    def __init__(self):
-        self.modules, self.imports = {}, {}
-        for crate in LIBRARIES:
-            for path in glob.glob(f"crates/{crate}/specs/**/*.antt", root_dir=TOP, recursive=True):
-                self.modules[module_of(path)] = definitions_in(path)
-                self.imports[module_of(path)] = imports_of(text_of(path))
-
-    def below(self, text, imports, own):
-        """The definitions that a text uses, and its words of other libraries."""
-        used, others = [], []
-        for word in dict.fromkeys(re.findall(WORD, re.sub(r"--.*", "", text))):
-            module, name = (own, word) if word in self.modules.get(own, {}) else imports.get(word, ("", ""))
-            if name in self.modules.get(module, {}):
-                used.append(self.modules[module][name])
-            elif module and module.split(".")[1] not in LIBRARIES:
-                others.append(f"{module.removeprefix('Rattle.')}.{name}")
-        return used, others
-
-    def believed(self, clauses, fields):
-        """The definitions on which clauses stand, those above first, and the words of other libraries."""
-        found, others = [], []
-        waiting = [self.below(text, imports, None) for text, imports in clauses]
-        queue = [it for used, words in waiting for it in used]
-        others += [it for used, words in waiting for it in words]
-        while queue:
-            one = queue.pop(0)
-            if one in found:
-                continue
-            if one.name == "IsTableDrawing" and fields:
-                one = self.modules[module_of(one.path)].setdefault(one.name + "\0" + " ".join(fields), with_fields(one, fields))
-                if one in found:
-                    continue
-            found.append(one)
-            used, words = self.below(one.text, self.imports[module_of(one.path)], module_of(one.path))
-            queue += used
-            others += words
-        return found, list(dict.fromkeys(others))
+        if fields and "pub record IsTableDrawing " in one.text:
+            one = with_fields(one, fields)
+        found[one] = None
+        names = list(below(one))
+        others |= {it: None for it in names if not is_followed(it[0])}
+        own = [definitions_in(path)[name] for path, name in names if is_followed(path)]
+        own.append(list(members_below(one)) if one.path.endswith(".rt") else [])
+        waiting += [it for ones in own for it in ones][::-1]
+    return list(found), list(others)
 
 
 def with_fields(record, fields):
-    """A record of which only some fields are left."""
-    kept, comment = [], []
-    lines = record.text.split("\n")
-    head = next(at for at, line in enumerate(lines) if " where" in line) + 1
-    keeps = False
-    for line in lines[head:]:
-        field = re.match(r"  pub (\w+) :", line)
-        if line.startswith("  --"):
-            comment, keeps = comment + [line], False
-        elif field:
-            keeps = field[1] in [*fields, "widths"]  # the other fields speak of the widths
-            kept += (comment if keeps else []) + ([line] if keeps else [])
-            comment = []
-        elif keeps:
-            kept.append(line)
-    return Definition(record.path, record.name, "\n".join(lines[:head] + kept))
+    """A record of which some fields are left, and the comments that describe none but these."""
+    head, *parts = re.split(r"\n(?=  (?:--|pub) )", record.text)
+    groups = [([], [])]
+    for part in parts:
+        is_comment = part.startswith("  --")
+        if is_comment and groups[-1][1]:
+            groups.append(([], []))
+        groups[-1][not is_comment].append(part)
+    kept = [head]
+    for comment, own in groups:
+        left = [it for it in own if re.match(r"  pub (\w+)", it)[1] in {*fields, "widths"}]
+        kept += comment + left if left == own else left
+    return replace(record, text="\n".join(kept))
 
 
-def functions_of(crate):
-    """For each function's name: the words by which a page may call its place, its clauses by name, the imports of its file."""
-    found = {}
-    for path in glob.glob(f"crates/{crate}/src/**/*.rt", root_dir=TOP, recursive=True):
-        text = text_of(path)
-        starts = list(re.finditer(r"^[ \t]*(?:pub(?:\(\w+\))? )?(?:extern \"C\" )?(?:fn|ghost) (\w+)", text, re.M))
-        for start, after in zip(starts, [it.start() for it in starts[1:]] + [len(text)]):
-            block = ""
-            for it in re.finditer(r"^(?:(?:pub )?(?:impl|trait)\b.*|\})", text[: start.start()], re.M):
-                block = it[0]
-            places = {os.path.basename(path)[: -len(".rt")], *re.findall(r"\w+", block)}
-            body = text[start.start() : after]
-            clauses = re.findall(r"ensures\*?(?: (\w+))? \{(.*?)\}(?=;?\s*(?:\n\s*(?:ensures|requires|\{|//|fn|pub|ghost|\})|$))", body, re.S)
-            found.setdefault(start[1], []).append((places, clauses, "pub " in start[0], imports_of(text)))
-    return found
+def start_of(function, clauses):
+    """What a promise begins with: a function with some of its clauses, and its block's members."""
+    one = function.signature
+    indent = re.match(" *", one.text)[0] + "    "
+    text = "\n".join([one.text, *(indent + clause for _, clause in clauses)])
+    return [replace(one, text=text), *function.members]
 
 
 def promises(page):
-    """For each promise of the page: its label, its crate, the text that names its clauses, and the count it gives."""
+    """For each promise of the page its label, its crate, and the text that names its clauses."""
     for section in re.split(r"^## ", page, flags=re.M)[1:]:
         crate = section.split("\n")[0]
         for label, body in re.findall(r"^### (P\d+) (.*?)(?=^### |\Z)", section, re.M | re.S):
-            named = re.search(r"^Clauses(?: \((\d+) lines\))?: (.*?)\.\n(?:\n|\Z)", body + "\n\n", re.M | re.S)
-            if named and os.path.isdir(f"{TOP}/crates/{crate}"):
-                yield label, crate, " ".join(named[2].split()), int(named[1] or 0)
+            given = re.search(r"^Clauses[^:]*: (.*?)\.\n\n", body + "\n\n", re.M | re.S)
+            if given and crate in LIBRARIES:
+                yield label, crate, " ".join(given[1].split())
 
 
-def clauses_of(crate, named):
-    """The clauses that a promise names, with the imports where they stand, and the fields of IsTableDrawing."""
-    functions = functions_of(crate)
-    names, _, more = named.partition("; ")
-    found = []
+def starts_of(crate, clauses):
+    """What a promise begins with, and the fields of IsTableDrawing that it names."""
+    functions, found = functions_of(crate), []
+    names, _, more = clauses.partition("; ")
     for of_type in re.findall(r"`([A-Z]\w+)`", names):
-        found += [it for group in functions.values() for it in group if of_type in it[0] and it[2]]
-    chosen = [(text, it[3]) for it in found for name, text in it[1]]
+        for one in (it for group in functions.values() for it in group):
+            found += start_of(one, one.clauses) if of_type in one.places and one.is_public else []
     for it in re.finditer(r"`([\w:]+)`(?: \(([^)]*)\))?", names):
         *place, name = it[1].split("::")
-        wanted = set(re.findall(r"\w+", it[2] or ""))
-        for places, clauses, _, imports in functions.get(name, []):
-            if more and any("IsTableDrawing" in text for _, text in clauses):
-                clauses = [it for it in clauses if "IsTableDrawing" in it[1]]
-            if set(place[-1:]) <= places:
-                chosen += [(text, imports) for clause, text in clauses if not wanted or clause in wanted]
-    return chosen, re.findall(r"`(\w+)`", more)
+        wanted = re.findall(r"\w+", it[2] or "")
+        for one in functions.get(name, []):
+            of_drawing = [it for it in one.clauses if more and "IsTableDrawing" in it[1]]
+            chosen = [it for it in one.clauses if not wanted or it[0] in wanted]
+            if set(place[-1:]) <= one.places:
+                found += start_of(one, of_drawing or chosen)
+    return found, re.findall(r"`(\w+)`", more)
 
 
-def counts(page):
-    """How many lines of definitions each promise stands on, and how many the page gives."""
-    specs = Specs()
-    for label, crate, named, given in promises(page):
-        found, _ = specs.believed(*clauses_of(crate, named))
-        yield label, sum(it.lines() for it in found), given
+def all_starts(page):
+    """What each promise begins with, of the page and of the crates of promises, by its label."""
+    found = {label: starts_of(crate, clauses) for label, crate, clauses in promises(page)}
+    for crate in PROMISES:
+        for name, (one, *_) in functions_of(crate).items():
+            if one.is_public:
+                found[f"{crate}::{name}"] = (start_of(one, one.clauses), [])
+    return found
+
+
+def believed(starts, fields):
+    """The definitions of ours below a promise, its functions too; and names of other libraries."""
+    return standing_below(starts, fields, lambda path: crate_of(path) in LIBRARIES)
+
+
+def count_of(found):
+    """How many lines definitions take, with those of the modules and blocks they stand in."""
+    counted = [it for it in found if not it.is_a("fn")]
+    heads = {(it.path, it.head) for it in counted if it.head}
+    return sum(it.lines() for it in counted) + len(heads)
 
 
 def updated(page):
     """The page with the counts."""
-    for label, count, _ in counts(page):
-        pattern = rf"(^### {label} (?:(?!^### ).)*?^Clauses)(?: \(\d+ lines\))?:"
-        page = re.sub(pattern, rf"\1 ({count} lines):", page, flags=re.M | re.S)
+    specs = [text_of(it) for crate in LIBRARIES for it in files_of(crate, "specs/**/*.antt")]
+    lines = sum(it.count("\n") for it in specs if not it.startswith("-- Private:"))
+    ghosts = sum(map(len, members().values()))
+    page = re.sub(r"the \d+ lines of definitions", f"the {lines} lines of definitions", page)
+    page = re.sub(r"the \d+ ghost members", f"the {ghosts} ghost members", page)
+    for label, starts in all_starts(page).items():
+        count = count_of(believed(*starts)[0])
+        clauses = rf"(^### {label} (?:(?!^### ).)*?^Clauses)(?: \(\d+ lines\))?:"
+        page = re.sub(clauses, rf"\1 ({count} lines):", page, flags=re.M | re.S)
+        page = re.sub(rf"^(\|.*`{label}`.*\|) *\d+ *\|$", rf"\1 {count} |", page, flags=re.M)
     return page
 
 
-def shown(label):
+def shown(starts, fields):
     """What a reader must believe for a promise."""
-    for found_label, crate, named, _ in promises(text_of("docs/PROVED.md")):
-        if found_label == label:
-            clauses, fields = clauses_of(crate, named)
-            found, others = Specs().believed(clauses, fields)
-            texts = [text.strip() for text, _ in clauses]
-            texts += [f"\n-- {it.path.removeprefix('crates/')}\n{it.text.rstrip()}" for it in found]
-            texts += ["\nWords of other libraries: " + ", ".join(others), f"{sum(it.lines() for it in found)} lines of definitions"]
-            return "\n".join(texts)
-    sys.exit(f"no promise {label}")
+    found, others = believed(starts, fields)
+    for path in dict.fromkeys(it.path for it in found):
+        yield f"-- {path.removeprefix('crates/')}"
+        head = ""
+        for one in sorted((it for it in found if it.path == path), key=lambda it: it.line):
+            yield from [one.head] if one.head not in ("", head) else []
+            yield f"{one.text}\n"
+            head = one.head
+    yield f"{count_of(found)} lines of definitions. Of other libraries, below these:"
+    yield from lines_of_others(others)
+
+
+def lines_of_others(others):
+    """A line for each other library: how many of its lines are below some names, and its own."""
+    starts = [one for path, name in others for one in definitions_in(path)[name]]
+    found, _ = standing_below(starts, [], lambda path: True)
+    for crate in dict.fromkeys(crate_of(it.path) for it in found):
+        names = ", ".join(name for path, name in others if crate_of(path) == crate)
+        count = count_of([it for it in found if crate_of(it.path) == crate])
+        yield f"  {crate}: {count} lines" + (f", for {names}" if names else "")
 
 
 def main():
-    if len(sys.argv) != 2:
+    page = text_of("docs/PROVED.md")
+    starts = all_starts(page)
+    if sys.argv[1:] == ["--update"]:
+        with open(f"{TOP}/docs/PROVED.md", "w", encoding="utf-8") as file:
+            file.write(updated(page))
+    elif not sys.argv[1:]:
+        for label, one in starts.items():
+            print(f"{count_of(believed(*one)[0]):5} {label}")
+    elif sys.argv[1] in starts:
+        print("\n".join(shown(*starts[sys.argv[1]])))
+    else:
         sys.exit(__doc__)
-    if sys.argv[1] != "--update":
-        print(shown(sys.argv[1]))
-        return
-    page = updated(text_of("docs/PROVED.md"))
-    with open(f"{TOP}/docs/PROVED.md", "w", encoding="utf-8") as file:
-        file.write(page)
 
 
 if __name__ == "__main__":

@@ -198,7 +198,7 @@ bell_shows (byte b text shown clear rest) is = let end : text ≡ [] = cc is in 
     nothing_left (sequence code text shown all rest) same = absurd (cc same)
 bell_shows (sequence code text shown all rest) is = absurd (cc is)
 
--- false: promises::harmless::harmless_text, csv_promises::harmless::harmless_output
+-- false: promises::harmless_text, csv_promises::harmless_output
 bell_is_harmful : ¬ (IsHarmless (0x07 ∷ []))
 bell_is_harmful (shown, shows, none) =
     let own : NoCharPasses (λ c. is_control c && not (c == 0x0A)) (0x07 ∷ []) = subst (NoCharPasses (λ c. is_control c && not (c == 0x0A))) (bell_shows shows refl) none in
@@ -234,7 +234,7 @@ turned_round (before, behind, is, (between, rest, are, end)) = by_before before 
 uneven : List Text
 uneven = codes "ab" ∷ codes "a" ∷ []
 
--- false: promises::straight::straight_lines, promises::straight::straight_whole_lines, promises::straight::straight_fitting_lines
+-- false: promises::straight_lines, promises::straight_whole_lines, promises::straight_fitting_lines
 uneven_is_not_straight : ¬ (AreEquallyWide uneven)
 unfolding wrapping uneven
 uneven_is_not_straight (n, each) =
@@ -248,7 +248,7 @@ shows_itself nothing none = refl
 shows_itself (byte b text shown clear rest) none = ap (λ (t : Text). b ∷ t) (shows_itself rest (or_parts (b == 0x1B) _ none).1)
 shows_itself (sequence code text shown all rest) none = absurd (cc none)
 
--- false: promises::straight::straight_styled_lines
+-- false: promises::straight_styled_lines
 uneven_is_not_shown_straight : ¬ (AreShownEquallyWide uneven)
 unfolding wrapping uneven
 uneven_is_not_shown_straight (n, each) =
@@ -258,12 +258,12 @@ uneven_is_not_shown_straight (n, each) =
     let one : 1 ≡ n = ap measure (sym (shows_itself second.1 refl)) ∙ second.2 in
     absurd (omega (arith, two, one))
 
--- false: promises::width::lines_within, promises::width::fitting_lines_within
+-- false: promises::lines_within, promises::fitting_lines_within
 wider_than_the_width : ¬ (All (λ line. measure line ≤ max 3 9) (codes "0123456789" ∷ []))
 unfolding wrapping
 wider_than_the_width each = let ten : 10 ≤ 9 = each 0 [] (omega arith) in absurd (omega (arith, ten))
 
--- false: promises::width::lines_over
+-- false: promises::lines_over
 narrower_than_the_width : ¬ (All (λ line. measure line ≡ max 3 9) (codes "01234567" ∷ []))
 unfolding wrapping
 narrower_than_the_width each = let eight : 8 ≡ 9 = each 0 [] (omega arith) in absurd (omega (arith, eight))
@@ -283,7 +283,7 @@ no_longer (x ∷ xs) ys none short = let zero_long = ap length none in absurd (o
 first_column : 0 < length (shown_columns (table_of "3 mai" "oats"))
 first_column = omega arith
 
--- false: promises::kept::lines_with_all_texts
+-- false: promises::lines_with_all_texts
 no_lines_lose_texts : ¬ (AreShown (ShowsRow (table_of "3 mai" "oats")) (table_of "3 mai" "oats") [])
 unfolding chars encode
 no_lines_lose_texts is = by_blocks is.blocks is.stand is.show
@@ -299,7 +299,7 @@ no_lines_lose_texts is = by_blocks is.blocks is.stand is.show
         let lost : AreSameBut 0x20 [] (codes "day") = subst (λ (slices : List Text). AreSameBut 0x20 (concat slices) (codes "day")) gone same in
         cc lost
 
--- false: promises::kept::lines_with_whole_texts
+-- false: promises::lines_with_whole_texts
 no_lines_lose_whole_texts : ¬ (AreShown (ShowsWholeRow (table_of "3 mai" "oats")) (table_of "3 mai" "oats") [])
 unfolding chars encode
 no_lines_lose_whole_texts is = by_blocks is.blocks is.stand is.show
@@ -311,12 +311,12 @@ no_lines_lose_whole_texts is = by_blocks is.blocks is.stand is.show
         let short : 1 ≤ length block = show.0.enough_lines 0 (0, new_column 0) first_column in
         absurd (omega (arith, short, none))
 
--- false: promises::others::lines_of_both
+-- false: promises::lines_of_both
 one_line_more : ¬ (uneven ≡ codes "a" ∷ uneven)
 unfolding uneven
 one_line_more is = cc is
 
--- false: promises::others::lines_before_and_after
+-- false: promises::lines_before_and_after
 changed_line : ¬ (Stay (codes "a" ∷ []) (codes "b" ∷ []))
 changed_line (above, last, added, short, before, after) = by_above above last added before after
   where
@@ -329,6 +329,6 @@ changed_line (above, last, added, short, before, after) = by_above above last ad
     by_above [] last (x ∷ y ∷ added) before after = cc after
     by_above (x ∷ above) last added before after = let own : codes "a" ≡ codes "b" = cc (before, after) in other own
 
--- false: promises::headline::headline
+-- false: promises::headline
 no_lines_are_no_table : ¬ (IsHeadline (table_of "3 mai" "oats") [])
 no_lines_are_no_table is = cc is.drawn

@@ -1,12 +1,12 @@
 -- What a further row leaves of a drawing, computed.
-use Rattle.std.proofs.Common.{◌≡◌, [], ◌∷◌, refl}
+use Rattle.std.proofs.Common.{◌≡◌, [], ◌∷◌, refl, ap, slice_index_or}
 use Rattle.comfy_parts.proofs.Computing.{wrapping}
 use Rattle.comfy_parts.specs.CellValue.{RowValue}
 use Rattle.comfy_parts.specs.Presets.{ascii_full}
 use Rattle.comfy_table.specs.AddedRows.{AddsBelow, added_lines}
 use Rattle.comfy_table.specs.Drawing.{drawing, infos_of}
 use Rattle.comfy_table.specs.TableValue.{TableValue, with_row}
-use Rattle.test_definitions.proofs.TrialTables.{row_of, table_of, texts}
+use Rattle.test_definitions.proofs.TrialTables.{row_of, table_of, texts, utf8}
 
 abbrev two_lines : TableValue
 two_lines = table_of ascii_full ("ab" ∷ []) (("cd" ∷ []) ∷ [])
@@ -30,3 +30,12 @@ wider_row : drawing (with_row (row_of ("efg" ∷ [])) two_lines) (3 ∷ [])
     ≡ texts ("+-----+" ∷ "| ab  |" ∷ "+=====+" ∷ "| cd  |" ∷ "|-----|" ∷ "| efg |" ∷ "+-----+" ∷ [])
 unfolding wrapping
 wider_row = refl
+
+-- so its lines aren't those of the first table and some below
+-- false: comfy_table::laws::shown_lines_stay
+wider_lines_do_not_stay : ¬ (AddsBelow two_lines short_row (2 ∷ []) (drawing two_lines (2 ∷ []))
+    (drawing (with_row short_row two_lines) (3 ∷ [])))
+unfolding wrapping
+wider_lines_do_not_stay adds =
+    let first : utf8 "+-----+" ≡ utf8 "+----+" = ap (λ lines. slice_index_or lines 0 []) adds.1 in
+    cc first

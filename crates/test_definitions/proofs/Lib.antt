@@ -7,6 +7,7 @@ mod DrawingTrials
 mod EncodingTrials
 mod HiddenColumnTrials
 mod InputTrials
+mod LawTrials
 mod MarkdownLineTrials
 mod NumberLawTrials
 mod OutcomeTrials

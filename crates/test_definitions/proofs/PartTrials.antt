@@ -1,5 +1,7 @@
 -- Parts of tables and heights of rows, computed.
-use Rattle.std.proofs.Common.{◌≡◌, ℕ, List, [], ◌∷◌, Some, refl}
+use Rattle.std.proofs.Common.{◌≡◌, ℕ, zero, suc, List, [], ◌∷◌, Some, refl, arith, Contains}
+use Rattle.std.specs.List.{All}
+use Rattle.std.proofs.lemmas.List.Elements.{All-head}
 use Rattle.comfy_parts.proofs.Computing.{wrapping}
 use Rattle.comfy_parts.specs.Presets.{ascii_full}
 use Rattle.comfy_parts.specs.declared.style.column.ColumnConstraint.TheVariants.{Hidden}
@@ -39,3 +41,13 @@ heights = refl
 heights_of_hidden : row_heights (over (with_constraints (Some Hidden ∷ []) days) (3 ∷ [])) ≡ 0 ∷ 0 ∷ 0 ∷ []
 unfolding wrapping
 heights_of_hidden = refl
+
+-- a line that is wider than the table is none of its lines
+-- false: comfy_table::laws::parts_have_lines_of_the_table
+wider_line : ¬ (All (Contains (texts ("+-----+" ∷ []))) (texts ("+------+" ∷ [])))
+unfolding wrapping
+wider_line all = at (All-head (Contains (texts ("+-----+" ∷ []))) (utf8 "+------+") [] all)
+  where
+    at : ¬ (Contains (texts ("+-----+" ∷ [])) (utf8 "+------+"))
+    at (zero, below, is) = let same : utf8 "+-----+" ≡ utf8 "+------+" = is in cc same
+    at (suc k, below, is) = omega (arith, below)

@@ -1,14 +1,15 @@
 -- What `csvtable` makes of fields and columns: numbers, control characters, Markdown, chosen columns, alignment. And what words ask for.
-use Rattle.std.proofs.Common.{◌≡◌, ℕ, Bool, true, false, List, [], ◌∷◌, ◌++◌, Option, Some, None, Ok, Err, codes, decimal, encode_utf8_all, fold, map, refl}
+use Rattle.std.proofs.Common.{◌≡◌, ℕ, Bool, true, false, List, [], ◌∷◌, ◌++◌, Option, Some, None, Ok, Err, codes, decimal, encode_utf8_all, fold, map, refl, arith, length}
 use Prim.Native.String.{String}
 use Rattle.comfy_parts.proofs.Computing.{wrapping}
-use Rattle.comfy_parts.specs.Text.{Text}
+use Rattle.comfy_parts.specs.Text.{Text, is_printable_ascii}
 use Rattle.comfy_parts.specs.declared.style.cell.CellAlignment.TheVariants.{Left, Right}
 use Rattle.std.specs.Fmt.{digits}
-use Rattle.std.specs.List.{list_all, list_any}
-use Rattle.std.specs.Str.{chars}
+use Rattle.std.specs.List.{All, list_all, list_any}
+use Rattle.std.specs.Str.{IsUtf8, chars, is_utf8}
+use Rattle.std.proofs.lemmas.Str.{is_utf8-from_IsUtf8}
 use Rattle.ucd_category.proofs.Computing.{ucd_category}
-use Rattle.csv.specs.Records.{field_at}
+use Rattle.csv.specs.Records.{AllText, field_at}
 use Rattle.comfy_csv_parts.specs.Cleaning.{after_piece, pieces, start}
 use Rattle.comfy_csv_parts.specs.Input.{line_breaks as line_breaks_of, line_of}
 use Rattle.comfy_csv_parts.specs.declared.cleaning.Kept.{Kept}
@@ -334,3 +335,32 @@ said = refl
 
 said_in_lines : map (shown_in true) (0x09 ∷ 0x0A ∷ []) ≡ 0xFFFD ∷ 0x0A ∷ []
 said_in_lines = refl
+
+-- ---- what laws refuse
+
+-- two records, and a table of one row
+-- false: comfy_csv::laws::tables_keep_their_rows
+row_is_missing :
+    ¬ (length seven.rows ≡ length (limited {A = List Text} None ((codes "a" ∷ []) ∷ (codes "b" ∷ []) ∷ [])))
+row_is_missing same = let is : ◌≡◌ {A = ℕ} 1 2 = same in omega (arith, is)
+
+-- false: comfy_csv::laws::printable_texts_make_printable_tables
+tab_is_not_printable : ¬ (All (λ text. is_printable_ascii text ≡ true) (codes "\t" ∷ []))
+tab_is_not_printable all = let is : false ≡ true = all 0 (codes "\t") (omega arith) in cc is
+
+-- false: comfy_csv_parts::laws::escaped_texts_are_read_back
+line_break_is_read : ¬ (unescaped (codes "<br>") ≡ codes "<br>")
+line_break_is_read same = let is : 0x0A ∷ [] ≡ codes "<br>" = same in cc is
+
+-- false: comfy_csv_parts::laws::lines_are_left_out_as_they_are_counted
+one_break : ¬ (line_breaks_of (codes "a\n") ≡ 2)
+one_break same = let is : ◌≡◌ {A = ℕ} 1 2 = same in omega (arith, is)
+
+-- a byte that no text has
+-- false: comfy_csv_parts::laws::records_of_texts_are_texts
+byte_is_no_text : ¬ (All AllText (((0xFF ∷ []) ∷ []) ∷ []))
+unfolding AllText is_utf8 chars
+byte_is_no_text all =
+    let field : IsUtf8 (0xFF ∷ []) = (all 0 ((0xFF ∷ []) ∷ []) (omega arith)).0 in
+    let is : false ≡ true = is_utf8-from_IsUtf8 (0xFF ∷ []) field in
+    cc is

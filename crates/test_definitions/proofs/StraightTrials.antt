@@ -35,7 +35,8 @@ unfolding wrapping
 nothing_measures_nothing = refl
 
 -- so the number sign adds two columns there
-number_sign_adds_two : ¬ (AddsOneColumn 0x23)
+-- false: comfy_parts::laws::spaces_and_borders_add_one_column
+pub number_sign_adds_two : ¬ (AddsOneColumn 0x23)
 number_sign_adds_two adds =
     let one = adds [] (encode_utf8_all (0xFE0F ∷ [])) IsUtf8-nil in
     omega (arith, one, wide_number_sign_measures_two, nothing_measures_nothing, selector_measures_nothing)
@@ -109,6 +110,7 @@ abbrev two_measures : List ℕ → List ℕ
 two_measures cs = measure (encode_utf8_all cs) ∷ sum_by measure (clusters (encode_utf8_all cs)) ∷ []
 
 -- the four pairs of selectors: with each of them some text is wider than its clusters
+-- false: cluster_width::clusters_bound_the_measure
 text_selector_before : two_measures (0x2018 ∷ 0xFE0E ∷ 0xFE01 ∷ 0x5DC ∷ []) ≡ 3 ∷ 2 ∷ []
 unfolding wrapping
 text_selector_before = refl

@@ -1,5 +1,5 @@
 -- Which fields aren't broken over lines, and what room their columns need.
-use Rattle.std.proofs.Common.{◌≡◌, ℕ, true, false, List, [], ◌∷◌, Option, Some, None, codes, map, refl}
+use Rattle.std.proofs.Common.{◌≡◌, ◌≤◌, ℕ, true, false, List, [], ◌∷◌, Option, Some, None, codes, map, refl, arith, slice_index}
 use Prim.Native.String.{String}
 use Rattle.std.specs.List.{list_all, list_any}
 use Rattle.std.specs.Str.{chars}
@@ -11,7 +11,7 @@ use Rattle.comfy_parts.specs.Presets.{ascii_full}
 use Rattle.comfy_parts.specs.Text.{Text}
 use Rattle.comfy_parts.specs.declared.style.column.ColumnConstraint.{ColumnConstraint}
 use Rattle.comfy_parts.specs.declared.style.column.ColumnConstraint.TheVariants.{ContentWidth}
-use Rattle.comfy_table.specs.TableValue.{TableValue, new_table, with_rows}
+use Rattle.comfy_table.specs.TableValue.{TableValue, column_content_width, new_table, with_rows}
 use Rattle.comfy_csv_parts.specs.Unbroken.{is_unbroken, is_unbroken_column}
 use Rattle.comfy_csv.specs.Unbroken.{framed_width, kept_whole, needed_contents}
 
@@ -58,3 +58,9 @@ no_room = refl
 
 no_width : constraints None ≡ None ∷ []
 no_width = refl
+
+-- a column of six for its seven letters
+-- false: comfy_csv::laws::numbers_and_dates_are_whole
+narrower_than_its_content : ¬ (column_content_width seven 0 ≤ slice_index (6 ∷ []) 0)
+unfolding wrapping
+narrower_than_its_content fits = let is : 7 ≤ 6 = fits in omega (arith, is)

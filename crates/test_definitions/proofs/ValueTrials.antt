@@ -46,6 +46,7 @@ further_columns = refl
 least_first : ascends attribute_cmp (attribute.Bold ∷ attribute.Dim ∷ attribute.Italic ∷ []) ≡ true
 least_first = refl
 
+-- false: comfy_parts::laws::attributes_are_ordered
 greater_first : ascends attribute_cmp (attribute.Bold ∷ attribute.Italic ∷ attribute.Dim ∷ []) ≡ false
 greater_first = refl
 
@@ -60,3 +61,7 @@ one_ascends = refl
 -- colours of parts ascend by the first part in which they differ
 by_the_second_part : ascends color_cmp (color.Rgb 1 2 9 ∷ color.Rgb 1 3 0 ∷ []) ≡ true
 by_the_second_part = refl
+
+-- false: comfy_parts::laws::colors_are_ordered
+greater_part_first : ascends color_cmp (color.Rgb 1 3 0 ∷ color.Rgb 1 2 9 ∷ []) ≡ false
+greater_part_first = refl
