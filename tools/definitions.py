@@ -15,7 +15,7 @@ LIBRARIES = [
 ]
 BRACES = r"\{(?:[^{}]|\{(?:[^{}]|\{[^{}]*\})*\})*\}"
 PUBLIC = r"(?:pub(?:\(\w+\))? )?"
-MODEL = {"Value", "invariant", "view"}
+MODEL = {"Value", "view"}  # an invariant is proved of each value
 
 
 @dataclass(frozen=True)

@@ -13,11 +13,12 @@ word it lists them all, each with its lines. With --update it writes these into 
 A clause stands on the words in it, on the types in the function's signature, and on the ghost
 members of its block. A type of src/ stands for its model, where it has one, else for its
 declaration. What a model's fields hold is said by the clauses of calls, so their types aren't
-followed, nor is an invariant, which is proved of each value. Where a promise names fields of
+followed; and an invariant is proved of each value. Where a promise names fields of
 `IsTableDrawing`, these alone are followed.
 
-The promise's own file comes first. Comments count as lines, of a doc comment the first
-paragraph; clauses and headings don't. Other libraries are counted in a line for each.
+The promise's own file comes first. Comments count as lines; clauses and headings don't. Public
+types that are declared and have no model, which callers know, are counted apart, with the first
+paragraph of their doc comments. Other libraries are counted in a line for each.
 """
 import re
 import sys
@@ -49,7 +50,7 @@ def named(word, path):
 
 def below(one):
     """The files and names on which a definition stands; on an enum where it names a variant."""
-    text = re.sub(r"(--|//).*|ghost invariant = .*", "", f"{one.head}\n{one.text}")
+    text = re.sub(r"(--|//).*", "", f"{one.head}\n{one.text}")
     found = [named(word, one.path) for word in dict.fromkeys(re.findall(WORD, text))]
     for local, (module, name) in imports_of(one.path).items():
         if not name and path_of(module).endswith(".antt"):
@@ -154,9 +155,14 @@ def believed(starts, fields):
     return standing_below(starts, fields, lambda path: crate_of(path) in LIBRARIES)
 
 
+def is_declared(one):
+    """Whether it is a declaration of a type, and no definition."""
+    return one.is_a("struct") or one.is_a("enum")
+
+
 def count_of(found):
     """How many lines definitions take, with those of the modules and blocks they stand in."""
-    counted = [it for it in found if not it.is_a("fn")]
+    counted = [it for it in found if not it.is_a("fn") and not is_declared(it)]
     heads = {(it.path, it.head) for it in counted if it.head}
     return sum(it.lines() for it in counted) + len(heads)
 
@@ -186,7 +192,9 @@ def shown(starts, fields):
             yield from [one.head] if one.head not in ("", head) else []
             yield f"{one.text}\n"
             head = one.head
-    yield f"{count_of(found)} lines of definitions. Of other libraries, below these:"
+    declared = sum(it.lines() for it in found if is_declared(it))
+    yield f"{count_of(found)} lines of definitions, and {declared} that declare public types."
+    yield "Of other libraries, below these:"
     yield from lines_of_others(others)
 
 

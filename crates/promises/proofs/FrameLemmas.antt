@@ -1,11 +1,16 @@
--- Lines keep to a width that was set, or fill it.
-use Rattle.std.proofs.Common.{◌≡◌, ◌<◌, ◌≤◌, ℕ, ◌+◌, Bool, true, false, cond, not, List, [], ◌∷◌, Option, Some, length, max, refl, sym, subst, ap, arith}
+-- What the frame takes.
+use Rattle.std.proofs.Common.{◌≡◌, ◌<◌, ◌≤◌, ℕ, ◌+◌, ◌-◌, Bool, true, false, cond, not, List, [], ◌∷◌, Option, Some, length, max, refl, sym, subst, ap, arith}
 use Rattle.std.specs.List.{All, filter}
-use Rattle.comfy_parts.specs.CellValue.{ColumnValue, is_hidden_column}
+use Rattle.std.specs.Prelude.{if◌then◌else◌, sum_by}
+use Rattle.std.proofs.lemmas.List.Elements.{All-weaker}
+use Rattle.std.proofs.lemmas.List.Sums.{sum_by-cons}
+use Rattle.comfy_parts.specs.CellValue.{ColumnValue, column_padding, is_hidden_column}
 use Rattle.comfy_parts.specs.Text.{Text, measure}
 use Rattle.comfy_parts.specs.declared.style.table.ContentArrangement.{ContentArrangement}
 use Rattle.comfy_parts.specs.declared.style.table.ContentArrangement.TheVariants.{Dynamic, DynamicFullWidth}
+use Rattle.comfy_parts.specs.declared.style.table_style.TableStyle.{TableStyle}
 use Rattle.comfy_table.proofs.InfoLemmas.{columns_from}
+use Rattle.comfy_table.specs.Frame.{border_count, draws_left_border, draws_right_border, draws_vertical_lines}
 use Rattle.comfy_table.specs.Headline.{IsTableDrawing}
 use Rattle.comfy_table.specs.Laws.{least_total}
 use Rattle.comfy_table.specs.Straight as straight
@@ -13,19 +18,55 @@ use Rattle.comfy_table.specs.TableValue.{is_tty, width_or_terminal, TableValue}
 use Rattle.comfy_table.specs.Widths.{shown_count}
 use Rattle.promises.proofs.FittingLemmas.{narrow, plain_stay, unconstrained}
 use Rattle.promises.specs.Tables.{EachText, HasCharactersWithin, HasPlainFrame, IsFree, IsPlain, shown}
+use Rattle.promises.specs.Widths.{frame_room}
 
--- how many columns are shown
-counted : (n : ℕ) (columns : List ColumnValue) → length (columns_from n columns) ≡ length (filter (λ (c : ColumnValue). not (is_hidden_column c)) columns)
-counted n [] = refl
+-- borders at both sides, and one between each two columns
+borders : (style : TableStyle) (n : ℕ) → 0 < n → border_count style n ≤ n + 1
+borders style n some = by_tests (draws_left_border style) (draws_right_border style) (draws_vertical_lines style)
+  where
+    by_tests : (a b c : Bool) → (if a then 1 else 0) + (if b then 1 else 0) + (if c then n - 1 else 0) ≤ n + 1
+    by_tests true true true = omega arith
+    by_tests true true false = omega arith
+    by_tests true false true = omega arith
+    by_tests true false false = omega arith
+    by_tests false true true = omega arith
+    by_tests false true false = omega arith
+    by_tests false false true = omega arith
+    by_tests false false false = omega arith
+
+-- a shown column with its paddings and a border
+abbrev part : ColumnValue → ℕ
+part column = column.padding.0 + 1 + column.padding.1 + 1
+
+-- what the shown columns from a position on take, and how many they are
+counted : (n : ℕ) (columns : List ColumnValue)
+    → (sum_by (λ (p : ℕ × ColumnValue). column_padding p.1) (columns_from n columns) + (length (columns_from n columns) + length (columns_from n columns)) ≡ sum_by part (filter (λ (c : ColumnValue). not (is_hidden_column c)) columns))
+    × (length (columns_from n columns) ≡ length (filter (λ (c : ColumnValue). not (is_hidden_column c)) columns))
+counted n [] = (refl, refl)
 counted n (column ∷ columns) = by_test (is_hidden_column column) (counted (n + 1) columns)
   where
-    by_test : (b : Bool) → length (columns_from (n + 1) columns) ≡ length (filter (λ (c : ColumnValue). not (is_hidden_column c)) columns)
-        → length (cond (not b) ((n, column) ∷ columns_from (n + 1) columns) (columns_from (n + 1) columns)) ≡ length (cond (not b) (column ∷ filter (λ (c : ColumnValue). not (is_hidden_column c)) columns) (filter (λ (c : ColumnValue). not (is_hidden_column c)) columns))
+    later : List (ℕ × ColumnValue)
+    later = columns_from (n + 1) columns
+
+    others : List ColumnValue
+    others = filter (λ (c : ColumnValue). not (is_hidden_column c)) columns
+
+    by_test : (b : Bool) → (sum_by (λ (p : ℕ × ColumnValue). column_padding p.1) later + (length later + length later) ≡ sum_by part others) × (length later ≡ length others)
+        → (sum_by (λ (p : ℕ × ColumnValue). column_padding p.1) (cond (not b) ((n, column) ∷ later) later) + (length (cond (not b) ((n, column) ∷ later) later) + length (cond (not b) ((n, column) ∷ later) later)) ≡ sum_by part (cond (not b) (column ∷ others) others))
+        × (length (cond (not b) ((n, column) ∷ later) later) ≡ length (cond (not b) (column ∷ others) others))
     by_test true rest = rest
-    by_test false rest = omega (arith, rest)
+    by_test false rest =
+        (omega (arith, rest.0, sum_by-cons (λ (p : ℕ × ColumnValue). column_padding p.1) (n, column) later, sum_by-cons part column others), omega (arith, rest.1))
 
 pub shown_columns-count : (table : TableValue) → shown_count table ≡ length (shown table)
-shown_columns-count table = counted 0 table.columns
+shown_columns-count table = (counted 0 table.columns).1
+
+-- borders, paddings and one terminal column for each shown column have room in it
+least : (table : TableValue) → IsFree table → least_total table ≤ frame_room table
+least table free =
+    let own = counted 0 table.columns in
+    let some : 0 < shown_count table = omega (arith, own.1, free.some_column) in
+    omega (arith, own.0, borders table.style (shown_count table) some)
 
 -- a table with other settings has as plain a frame, and as free columns
 same_frame : (table : TableValue) (width : Option ℕ) (arrangement : ContentArrangement) → HasPlainFrame table → HasPlainFrame (record table { set_width = width; arrangement = arrangement })
@@ -38,28 +79,37 @@ same_free table width arrangement is = record { some_column = is.some_column; no
 module _ (old new : TableValue) (w : ℕ) (lines : List Text) where
   -- under `Dynamic` no line is wider than the width, or than this
   pub within : new ≡ record old { set_width = Some w; arrangement = Dynamic } → IsTableDrawing new lines → IsPlain old → HasPlainFrame old → IsFree old → EachText (HasCharactersWithin 1) old
-      → All (λ line. measure line ≤ max w (least_total old)) lines
+      → All (λ line. measure line ≤ max w (frame_room old)) lines
   within set =
       rw set (λ drawn plain frame free each.
       let table : TableValue = record old { set_width = Some w; arrangement = Dynamic } in
       let own = same_free old (Some w) Dynamic free in
       let straight = narrow table (plain_stay table plain.no_sequences) (same_frame old (Some w) Dynamic frame) lines drawn each in
-      subst (All (λ line. measure line ≤ max w (least_total table))) (sym (drawn.unstyled_lines plain.no_styles plain.no_sequences)) ((drawn.keeps_to_width w (unconstrained table own.no_constraint) refl refl).straight_lines straight))
+      let known : All (λ line. measure line ≤ max w (least_total table)) lines =
+      subst (All (λ line. measure line ≤ max w (least_total table))) (sym (drawn.unstyled_lines plain.no_styles plain.no_sequences)) ((drawn.keeps_to_width w (unconstrained table own.no_constraint) refl refl).straight_lines straight) in
+      let enough : least_total table ≤ frame_room table = least table own in
+      All-weaker (λ line. measure line ≤ max w (least_total table)) (λ line. measure line ≤ max w (frame_room old)) (λ line is. omega (arith, is, enough)) lines known)
 
-  -- under `DynamicFullWidth` each is as wide
+  -- under `DynamicFullWidth` each is as wide as the width, where that has room for it
   pub over : new ≡ record old { set_width = Some w; arrangement = DynamicFullWidth } → IsTableDrawing new lines → IsPlain old → HasPlainFrame old → IsFree old → EachText (HasCharactersWithin 1) old
-      → All (λ line. measure line ≡ max w (least_total old)) lines
+      → frame_room old ≤ w → All (λ line. measure line ≡ w) lines
   over set =
-      rw set (λ drawn plain frame free each.
+      rw set (λ drawn plain frame free each room.
       let table : TableValue = record old { set_width = Some w; arrangement = DynamicFullWidth } in
       let own = same_free old (Some w) DynamicFullWidth free in
       let straight = narrow table (plain_stay table plain.no_sequences) (same_frame old (Some w) DynamicFullWidth frame) lines drawn each in
-      let some : 0 < shown_count table = omega (arith, shown_columns-count table, own.some_column) in
-      subst (All (λ line. measure line ≡ max w (least_total table))) (sym (drawn.unstyled_lines plain.no_styles plain.no_sequences)) ((drawn.fills_width w (unconstrained table own.no_constraint) refl refl some).straight_lines straight))
+      let some : 0 < shown_count table = omega (arith, (counted 0 old.columns).1, free.some_column) in
+      let known : All (λ line. measure line ≡ max w (least_total table)) lines =
+      subst (All (λ line. measure line ≡ max w (least_total table))) (sym (drawn.unstyled_lines plain.no_styles plain.no_sequences)) ((drawn.fills_width w (unconstrained table own.no_constraint) refl refl some).straight_lines straight) in
+      let enough : least_total table ≤ frame_room table = least table own in
+      All-weaker (λ line. measure line ≡ max w (least_total table)) (λ line. measure line ≡ w) (λ line is. omega (arith, is, enough, room)) lines known)
 
--- under `Dynamic` no line of a straight table is wider than the width, or than this
+-- under `Dynamic` no line of a straight table is wider than the width, or than what the frame takes
 pub fitting_within : (table : TableValue) (w : ℕ) (lines : List Text) (drawn : IsTableDrawing table lines) → IsPlain table → IsFree table → straight.IsStraightTable table drawn.widths
-    → table.arrangement ≡ Dynamic → table.set_width ≡ Some w → All (λ line. measure line ≤ max w (least_total table)) lines
+    → table.arrangement ≡ Dynamic → table.set_width ≡ Some w → All (λ line. measure line ≤ max w (frame_room table)) lines
 fitting_within table w lines drawn plain free is dynamic width =
+    let known : All (λ line. measure line ≤ max w (least_total table)) lines =
     subst (All (λ line. measure line ≤ max w (least_total table))) (sym (drawn.unstyled_lines plain.no_styles plain.no_sequences))
-    ((drawn.keeps_to_width w (unconstrained table free.no_constraint) dynamic (ap (λ (o : Option ℕ). width_or_terminal o (is_tty table) table.terminal.width) width)).straight_lines is)
+    ((drawn.keeps_to_width w (unconstrained table free.no_constraint) dynamic (ap (λ (o : Option ℕ). width_or_terminal o (is_tty table) table.terminal.width) width)).straight_lines is) in
+    let enough : least_total table ≤ frame_room table = least table free in
+    All-weaker (λ line. measure line ≤ max w (least_total table)) (λ line. measure line ≤ max w (frame_room table)) (λ line own. omega (arith, own, enough)) lines known

@@ -17,7 +17,6 @@ use Rattle.comfy_parts.specs.Presets.{utf8_full}
 use Rattle.comfy_parts.specs.Text.{HasNo, Text, measure}
 use Rattle.comfy_parts.specs.declared.style.column.ColumnConstraint.TheVariants.{Hidden}
 use Rattle.comfy_table.specs.HiddenColumns.{without_hidden}
-use Rattle.comfy_table.specs.Laws.{least_total}
 use Rattle.comfy_table.specs.TableValue.{cell_content_width, TableValue, ellipsis, header_and_rows, new_table, shown_columns, with_header, with_row, constrained}
 use Rattle.comfy_table.specs.NewTables.{AreEquallyWide}
 use Rattle.promises.specs.Added.{HasRoomFor, Stay}
@@ -26,6 +25,7 @@ use Rattle.promises.specs.Kept.{AreSameBut, AreShown, ShowsRow, ShowsWholeRow, S
 use Rattle.promises.specs.Shown.{AreShownEquallyWide, HasNoControls, IsHarmless, Shows}
 use Rattle.promises.specs.Shown.Shows.{nothing, byte, sequence}
 use Rattle.promises.specs.Tables.{CharactersFit, EachShownText, EachText, HasCharactersWithin, HasPlainFrame, IsFree, IsPlain, IsShownWhole}
+use Rattle.promises.specs.Widths.{frame_room}
 
 -- ---- a table
 
@@ -85,7 +85,7 @@ characters_of_one =
     each_of (HasCharactersWithin 1) "3 mai é" "Отчёт" refl refl (All-from_recursion (HasCharactersWithin 1) (utf8 "3 mai é" ∷ []) (refl, tt)) (All-from_recursion (HasCharactersWithin 1) (utf8 "Отчёт" ∷ []) (refl, tt))
 
 -- three borders, four paddings and two columns take nine terminal columns
-frame_of_two : least_total (table_of "3 mai é" "Отчёт") ≡ 9
+frame_of_two : frame_room (table_of "3 mai é" "Отчёт") ≡ 9
 frame_of_two = refl
 
 -- Chinese: two terminal columns for a character

@@ -31,10 +31,10 @@ shown table = filter (λ (column : ColumnValue). not (is_hidden_column column)) 
 abbrev pub IsUnconstrained : TableValue → Type 0
 IsUnconstrained table = All (λ (column : ColumnValue). column.constraint ≡ None) (shown table)
 
--- and there is one of these
+-- there is one of these, and none has a constraint
 pub record IsFree (table : TableValue) : Type 0 where
   pub some_column : 0 < length (shown table)
-  pub no_constraint : IsUnconstrained table
+  pub no_constraint : All (λ (column : ColumnValue). column.constraint ≡ None) (shown table)
 
 -- neither colours nor attributes are written, and texts aren't searched for sequences
 pub record IsPlain (table : TableValue) : Type 0 where
@@ -43,8 +43,7 @@ pub record IsPlain (table : TableValue) : Type 0 where
 
 -- ---- terminal columns
 
--- each character of the text takes at most n terminal columns, and none is U+FE01, which widens
--- the one before it
+-- each character takes at most n terminal columns, and none is U+FE01, which widens another
 abbrev pub HasCharactersWithin : ℕ → Text → Type 0
 HasCharactersWithin n text =
     list_all (λ c. nat_le (measure (encode_utf8 c)) n && not (c == 0xFE01)) (chars text) ≡ true

@@ -1,31 +1,34 @@
 -- Lines that keep to a width.
-use Rattle.std.specs.Prelude.{◌≡◌, ℕ, ◌≤◌, List, Some, All, max}
-use Rattle.comfy_parts.specs.CellValue.{ColumnInfo}
+use Rattle.std.specs.Prelude.{◌≡◌, ℕ, ◌+◌, ◌≤◌, List, Some, All, max, sum_by}
+use Rattle.comfy_parts.specs.CellValue.{ColumnInfo, ColumnValue}
 use Rattle.comfy_parts.specs.Text.{Text, measure}
 use Rattle.comfy_parts.specs.declared.style.table.ContentArrangement.TheVariants.{Dynamic}
-use Rattle.comfy_table.specs.Laws.{least_total}
 use Rattle.comfy_table.specs.TableValue.{TableValue}
-use Rattle.promises.specs.Tables.{CharactersFit, EachText, HasCharactersWithin, HasPlainFrame, IsFree, IsPlain}
+use Rattle.promises.specs.Tables.{CharactersFit, EachText, HasCharactersWithin, HasPlainFrame, IsFree, IsPlain, shown}
+
+-- a border at each side of each shown column, its paddings, and one terminal column for texts
+abbrev pub frame_room : TableValue → ℕ
+frame_room table =
+    1 + sum_by (λ (column : ColumnValue). column.padding.0 + 1 + column.padding.1 + 1) (shown table)
 
 -- the texts of a table without styles and constraints have characters of one terminal column
 abbrev pub IsNarrow : TableValue → Type 0
 IsNarrow table =
     IsPlain table × HasPlainFrame table × IsFree table × EachText (HasCharactersWithin 1) table
 
--- then no line is wider than the width, or than borders, paddings and one terminal column for
--- each column
+-- then no line is wider than the width, or than the frame
 abbrev pub KeepToWidth : TableValue → ℕ → List Text → Type 0
 KeepToWidth table w lines =
-    IsNarrow table → All (λ line. measure line ≤ max w (least_total table)) lines
+    IsNarrow table → All (λ line. measure line ≤ max w (frame_room table)) lines
 
--- or each is exactly as wide
+-- or each is exactly as wide, where that has room for the frame
 abbrev pub FillWidth : TableValue → ℕ → List Text → Type 0
 FillWidth table w lines =
-    IsNarrow table → All (λ line. measure line ≡ max w (least_total table)) lines
+    IsNarrow table → frame_room table ≤ w → All (λ line. measure line ≡ w) lines
 
 -- no line is wider where each character fits these columns
 abbrev pub KeepToWidthWhereCharactersFit : TableValue → List ColumnInfo → List Text → Type 0
 KeepToWidthWhereCharactersFit table columns lines =
     (w : ℕ) → table.set_width ≡ Some w → table.arrangement ≡ Dynamic
     → IsPlain table → HasPlainFrame table → IsFree table → CharactersFit table columns
-    → All (λ line. measure line ≤ max w (least_total table)) lines
+    → All (λ line. measure line ≤ max w (frame_room table)) lines
