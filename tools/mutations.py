@@ -215,8 +215,8 @@ def is_in(mutation, place):
 
 def is_stale(mutation, lines, is_alone):
     """Whether no goal is left unproved, and written answers fail only for names that they use."""
-    place = r"(?:note: )?(?:\./)?((?:src|proofs)/[^: ]+:\d+:\d+): (.*)"
-    told = [it for it in (re.match(place, line) for line in lines) if it]
+    told = r"^(?:note: )?(?:\./)?((?:src|proofs)/[^: ]+:\d+:\d+): (.*(?:\n  .*)?)"
+    told = re.finditer(told, "\n".join(lines), re.M)  # a long message goes on in the next line
     told = [it for it in told if is_alone or is_in(mutation, it[1])]
     if any("it is not proved that" in it[2] for it in told):
         return False
