@@ -2,28 +2,25 @@
 use Rattle.std.proofs.Common.{◌≡◌, ℕ, ◌+◌, decimal, Bool, true, false, List, Option, Some, None, refl, ap, sym, subst, ◌∙◌, unwrap_or}
 use Rattle.std.specs.Int.{is_in_range}
 use Rattle.std.specs.List.{All, slice_get}
-use Rattle.std.proofs.lemmas.List.Elements.{All-map, All-weaker}
+use Rattle.std.proofs.lemmas.List.Elements.{All-weaker}
 use Rattle.comfy_parts.specs.CellValue.{CellValue, ColumnValue, RowValue}
 use Rattle.comfy_parts.specs.Text.{AddsOneColumnEach, Text, is_printable_ascii}
-use Rattle.comfy_parts.specs.VisibleText.{visible_text}
-use Rattle.comfy_parts.proofs.CallerLemmas.{All-at, All-every, All-found, All-of_map}
-use Rattle.comfy_table.proofs.ControlLemmas.{free_of_escapes}
-use Rattle.comfy_table.specs.Drawing.{drawing, infos_of}
-use Rattle.comfy_table.specs.Laws.{AddsOneColumnEachWhereWritten, HasPrintableCells, IsPrintableCell, IsPrintableTable, count, unstyled}
+use Rattle.comfy_parts.proofs.CallerLemmas.{All-at, All-every, All-found}
+use Rattle.comfy_table.specs.Drawing.{infos_of}
+use Rattle.comfy_table.specs.Laws.{AddsOneColumnEachWhereWritten, HasPrintableCells, IsPrintableCell, IsPrintableTable, count}
 use Rattle.comfy_table.specs.Lines.{cell_delimiter, fitting_indicator}
 use Rattle.comfy_table.specs.Pieces.{shown_infos}
-use Rattle.comfy_table.specs.TableValue.{TableValue, column_cells, measured_rows, should_style, shown_columns}
+use Rattle.comfy_table.specs.TableValue.{TableValue, column_cells, measured_rows, shown_columns}
 use Rattle.comfy_csv.proofs.BuiltLemmas.{Built, EachOf, each_content, made_of, plain_table}
 use Rattle.comfy_csv.proofs.FieldLemmas.{fields_stay, number_is_printable}
 use Rattle.comfy_csv.proofs.LineLemmas.{kept_setting}
 use Rattle.comfy_csv.proofs.SeenLemmas.{fitting_ellipsis_adds}
-use Rattle.comfy_csv.proofs.StraightLemmas.{IsDefaultRowOf, IsSeenTable, default_rows_of, seen_table}
+use Rattle.comfy_csv.proofs.StraightLemmas.{IsDefaultRowOf, IsSeenTable, default_rows_of, seen_all, seen_table}
 use Rattle.comfy_csv.proofs.TextTableLemmas.{EachLine, rows_of_texts, table_of_texts}
 use Rattle.comfy_csv.proofs.WholeColumnLemmas.{IsPaddedColumn}
 use Rattle.comfy_csv.proofs.WholeTableLemmas.{IsDrawn, columns-drawn, drawn-is, drawn_plain, drawn_table-is, rows-drawn}
-use Rattle.comfy_csv.specs.Drawn.{ContentValue, content_of, empty_table, is_expanded_for, output_table, rows_table, separated, separated_table}
+use Rattle.comfy_csv.specs.Drawn.{ContentValue, content_of, is_expanded_for, rows_table, separated}
 use Rattle.comfy_csv.specs.Laws.{IsDrawnTable, PrintableLinesHave, PrintableTextsMakePrintableTable, seen_lines}
-use Rattle.comfy_csv_parts.specs.Cleaning.{visible_of}
 use Rattle.comfy_csv_parts.specs.declared.options.Look.{Look}
 use Rattle.comfy_csv_parts.specs.declared.options.Options.{Options}
 
@@ -95,32 +92,12 @@ lines_have P visible options records output has plain each = by_table has.is_tab
     separated_texts false = texts
 
     by_table : IsDrawnTable look content has.table → All (λ line. P has.table (count line)) (seen_lines visible has.lines)
-    by_table (separators, is) = All-map (λ line. P has.table (count line)) (visible_of visible) has.lines (by_kind visible (subst (IsSeenTable visible own) (sym is) seen))
-      where
-        is_expanded : Bool
-        is_expanded = is_expanded_for look content
-
-        own : Look
-        own = separated separators look
-
-        unkept : own.has_sequences ≡ false
-        unkept = kept_setting (λ l. l.has_sequences) look refl separators false plain.no_sequences
-
-        seen : IsSeenTable visible own (separated_table separators (output_table is_expanded look content))
-        seen = seen_table options records content has.is_output.is_content is_expanded separators visible plain.seen
-
-        drawn : IsDrawn own IsBareRow content has.table
-        drawn = subst (IsDrawn own IsBareRow content) (sym is) (drawn_table-is look IsBareRow content is_expanded separators (built_output own unkept content (separated_texts separators) is_expanded))
-
-        looks : has.table ≡ record (empty_table own) { columns = has.table.columns; header = has.table.header; rows = has.table.rows }
-        looks = drawn-is own IsBareRow content has.table drawn
-
-        counted : All (λ line. P has.table (count line)) (drawing (unstyled has.table) has.drawing.widths)
-        counted = has.counts.printable_lines (of_drawn own unkept content (separated_texts separators) has.table has.drawing.widths drawn)
-
-        by_kind : (kind : Bool) → IsSeenTable kind own has.table → All (λ line. P has.table (count (visible_of kind line))) has.lines
-        by_kind true free =
-            All-of_map (λ line. P has.table (count line)) visible_text has.lines
-            (subst (All (λ line. P has.table (count line))) (sym (has.drawing.without_sequences (free_of_escapes has.table free))) counted)
-        by_kind false none =
-            subst (All (λ line. P has.table (count line))) (sym (has.drawing.unstyled_lines (ap should_style looks ∙ rw none refl) (ap (λ (t : TableValue). t.custom_styling) looks ∙ unkept))) counted
+    by_table (separators, is) =
+        let own = separated separators look in
+        let is_expanded = is_expanded_for look content in
+        let unkept = kept_setting (λ l. l.has_sequences) look refl separators false plain.no_sequences in
+        let seen = subst (IsSeenTable visible own) (sym is) (seen_table options records content has.is_output.is_content is_expanded separators visible plain.seen) in
+        let built = built_output own unkept content (separated_texts separators) is_expanded in
+        let known = subst (IsDrawn own IsBareRow content) (sym is) (drawn_table-is look IsBareRow content is_expanded separators built) in
+        seen_all own unkept content has.table has.lines has.drawing IsBareRow known visible seen (λ line. P has.table (count line))
+        (has.counts.printable_lines (of_drawn own unkept content (separated_texts separators) has.table has.drawing.widths known))

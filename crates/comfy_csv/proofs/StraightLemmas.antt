@@ -13,10 +13,10 @@ use Rattle.comfy_table.proofs.FittingTableLemmas.{fitting_tables_are_straight}
 use Rattle.comfy_table.proofs.InfoLemmas.{infos-known}
 use Rattle.comfy_table.proofs.WholeTableLemmas.{whole_lines_fit}
 use Rattle.comfy_table.specs.Arrangement.{width_kept}
-use Rattle.comfy_table.specs.Drawing.{infos_of}
+use Rattle.comfy_table.specs.Drawing.{drawing as drawn_over, infos_of}
 use Rattle.comfy_table.specs.FittingTables.{CharactersFitColumn, FitsByCharacters}
 use Rattle.comfy_table.specs.Headline.{IsTableDrawing}
-use Rattle.comfy_table.specs.Laws.{HasNoControl, IsFreeOfControls, line_total}
+use Rattle.comfy_table.specs.Laws.{HasNoControl, IsFreeOfControls, line_total, unstyled}
 use Rattle.comfy_table.specs.Lines.{cell_delimiter}
 use Rattle.comfy_table.specs.NewTables.{AreEquallyWide, IsShortRow}
 use Rattle.comfy_table.specs.Pieces.{shown_infos}
@@ -33,8 +33,8 @@ use Rattle.comfy_csv.proofs.WholeColumnLemmas.{IsPaddedColumn}
 use Rattle.comfy_csv.proofs.WholeTableLemmas.{IsDrawn, columns-drawn, drawn-is, drawn_table-is, padded-drawn, rows-drawn, unconstrained-drawn}
 use Rattle.comfy_csv_parts.specs.Cells.{cell_for, field_or_blank, field_text, with_weight}
 use Rattle.comfy_csv_parts.specs.Cleaning.{visible_of}
-use Rattle.comfy_csv.specs.Drawn.{ContentValue, IsOutputOf, IsTableText, content_of, empty_table, output_table, separated, separated_table}
-use Rattle.comfy_csv.specs.Laws.{ArePlainLines, AreSeen, CanBeCut, EachText, FittingOutputIsStraight, IsStraightOutput, NarrowOutputIsStraight, WholeOutputIsStraight, seen_lines}
+use Rattle.comfy_csv.specs.Drawn.{ContentValue, IsOutputOf, IsTableText, content_of, empty_table, is_expanded_for, output_table, separated, separated_table}
+use Rattle.comfy_csv.specs.Laws.{ArePlainLines, AreSeen, CanBeCut, EachText, FittingOutputIsStraight, IsStraightOutput, IsDrawnTable, NarrowLinesHave, NarrowOutputIsStraight, WholeOutputIsStraight, seen_lines}
 use Rattle.comfy_csv_parts.specs.declared.options.Look.{Look}
 use Rattle.comfy_csv_parts.specs.declared.options.Options.{Options}
 use Rattle.comfy_csv_parts.specs.declared.options.DrawnColumn.{DrawnColumn}
@@ -174,22 +174,22 @@ pub clear_lines : (visible : Bool) (look : Look) (table : TableValue) (lines : L
 clear_lines true look table lines drawing free is = All-map HasNoControl visible_text lines (drawing.without_controls free)
 clear_lines false look table lines drawing plain is = absurd (cc is)
 
+module _ (look : Look) (no_sequences : look.has_sequences ≡ false) (content : ContentValue) (table : TableValue) (lines : List Text) (drawing : IsTableDrawing table lines) where
+  -- what holds of the lines without styling holds of the lines as they are seen
+  pub seen_all : (Q : RowValue → Type 0) → IsDrawn look Q content table → (visible : Bool) → IsSeenTable visible look table → (R : Text → Type 0) → All R (drawn_over (unstyled table) drawing.widths) → All R (seen_lines visible lines)
+  seen_all Q known true free R each = subst (All R) (sym (drawing.without_sequences (free_of_escapes table free))) each
+  seen_all Q known false plain R each =
+      let looks = drawn-is look Q content table known in
+      All-map R (visible_of false) lines
+      (subst (All R) (sym (drawing.unstyled_lines (ap should_style looks ∙ rw plain refl) (ap (λ (t : TableValue). t.custom_styling) looks ∙ no_sequences))) each)
+
 module _ (look : Look) (no_sequences : look.has_sequences ≡ false) (characters : IsOneColumnStyle look.style) (content : ContentValue) (table : TableValue) (lines : List Text) (drawing : IsTableDrawing table lines) where
   abbrev base : TableValue
   base = empty_table look
 
-  -- the lines as they are seen are equally wide where the table is straight
+  -- they are equally wide where the table is straight
   equally_wide : (Q : RowValue → Type 0) → IsDrawn look Q content table → (visible : Bool) → IsSeenTable visible look table → IsStraightTable table drawing.widths → AreEquallyWide (seen_lines visible lines)
-  equally_wide Q known visible seen is =
-      (line_total table drawing.widths, All-map (λ line. measure line ≡ line_total table drawing.widths) (visible_of visible) lines (by_kind visible seen))
-    where
-      looks : table ≡ record base { columns = table.columns; header = table.header; rows = table.rows }
-      looks = drawn-is look Q content table known
-
-      by_kind : (b : Bool) → IsSeenTable b look table → All (λ line. measure (visible_of b line) ≡ line_total table drawing.widths) lines
-      by_kind true free = drawing.straight_without_sequences (free_of_escapes table free) is
-      by_kind false plain =
-          subst (All (λ line. measure line ≡ line_total table drawing.widths)) (sym (drawing.unstyled_lines (ap should_style looks ∙ rw plain refl) (ap (λ (t : TableValue). t.custom_styling) looks ∙ no_sequences))) (drawing.straight is)
+  equally_wide Q known visible seen is = (line_total table drawing.widths, seen_all look no_sequences content table lines drawing Q known visible seen (λ line. measure line ≡ line_total table drawing.widths) (drawing.straight is))
 
   module _ (Q : RowValue → Type 0) (known : IsDrawn look Q content table) where
     -- the characters are those of the look
@@ -362,3 +362,29 @@ fitting_is_straight visible options records output none characters plain fits ma
     straight visible options records output none characters plain made IsDefaultRow known
     (fitting own (unkept visible options records output none characters plain made) (separated_is_one_column separators options.look characters) made.content _ _ drawing IsDefaultRow known (λ row is. is)
     (fits made.content (drawn_table options records output made text none) drawing.widths made.is_content (separators, ap (λ e. separated_table separators (output_table e options.look made.content)) (expansion options records output made text none)) drawing.arranged))
+
+-- its lines are counted in terminal columns
+pub narrow_lines_have : (P : TableValue → ℕ → Type 0) (visible : Bool) (options : Options) (records : List (List Text)) (output : Text) → NarrowLinesHave P visible options records output
+narrow_lines_have P visible options records output has none characters plain each = by_table has.is_table
+  where
+    look : Look
+    look = options.look
+
+    content : ContentValue
+    content = has.is_output.content
+
+    by_table : IsDrawnTable look content has.table → All (λ line. P has.table (measure line)) (seen_lines visible has.lines)
+    by_table (separators, is) =
+        let Q = IsDefaultRowOf (CharactersFit 1) in
+        let own = separated separators look in
+        let is_expanded = is_expanded_for look content in
+        let unkept = kept_setting (λ l. l.has_sequences) look refl separators false plain.no_sequences in
+        let wide = separated_is_one_column separators look characters in
+        let empty : CharactersFit 1 [] = printable_fits [] refl in
+        let seen = subst (IsSeenTable visible own) (sym is) (seen_table options records content has.is_output.is_content is_expanded separators visible plain.seen) in
+        let texts = each_separated (CharactersFit 1) look separators content (each_content (All (EachLine (CharactersFit 1) look)) options records content has.is_output.is_content each) in
+        let numbers = each_number (CharactersFit 1) (λ text printable few. printable_fits text printable) own (no_markdown separators look none) in
+        let built = table_of_texts (CharactersFit 1) empty own Q (default_rows_of (CharactersFit 1) empty own) content texts (λ at. numbers (at + 1)) is_expanded in
+        let known = subst (IsDrawn own Q content) (sym is) (drawn_table-is look Q content is_expanded separators built) in
+        seen_all own unkept content has.table has.lines has.drawing Q known visible seen (λ line. P has.table (measure line))
+        (has.counts.straight_lines (narrow own unkept wide content has.table has.lines has.drawing known))

@@ -1,5 +1,5 @@
 -- Each style that words can ask for has characters of one terminal column.
-use Rattle.std.proofs.Common.{◌≡◌, true, List, [], ◌∷◌, Option, Some, None, option_map, unwrap_or, refl}
+use Rattle.std.proofs.Common.{◌≡◌, true, List, [], ◌∷◌, Option, Some, None, codes, option_map, unwrap_or, refl, subst, sym}
 use Rattle.std.proofs.lemmas.Bool.{and_parts, cond_both}
 use Rattle.std.specs.List.{find, list_all}
 use Rattle.std.specs.Option.{option_or}
@@ -8,6 +8,12 @@ use Rattle.comfy_parts.specs.Columns.{IsOneColumnStyle, has_frame_characters}
 use Rattle.comfy_parts.specs.Presets.{named_presets, utf8_full}
 use Rattle.comfy_parts.specs.Text.{Text}
 use Rattle.comfy_parts.specs.declared.style.table_style.TableStyle.{TableStyle}
+use Rattle.clap.specs.Words.{first_value}
+use Rattle.comfy_csv_parts.proofs.StyleLemmas.{styles_without_controls}
+use Rattle.comfy_csv_parts.specs.Controls.{IsStyleWithoutControls}
+use Rattle.comfy_csv_parts.specs.Words.{IsAsked}
+use Rattle.comfy_csv_parts.specs.declared.arguments.Asked.{Asked}
+use Rattle.comfy_csv_parts.specs.declared.arguments.Surroundings.{Surroundings}
 use Rattle.comfy_csv_parts.specs.Styles.{is_named, own_styles, style_for, style_within}
 
 -- a style, or `UTF8_FULL` in the place of none, has such characters
@@ -29,3 +35,12 @@ pub styles_are_one_column : (name : Option Text) → IsOneColumnStyle (style_for
 styles_are_one_column None = one_column_characters (style_for None) refl
 styles_are_one_column (Some word) =
     one_column_characters (style_for (Some word)) (first_frame (style_within own_styles word) (style_within named_presets word) (found_frame own_styles word refl) (found_frame named_presets word refl))
+
+-- ---- styles of words
+
+module _ (words : List Text) (surroundings : Surroundings) (asked : Asked) (is : IsAsked words surroundings asked) where
+  pub asked_style_is_one_column : IsOneColumnStyle asked.options.look.style
+  asked_style_is_one_column = subst IsOneColumnStyle (sym is.options.look.style) (styles_are_one_column (first_value is.found (codes "style")))
+
+  pub asked_style_without_controls : IsStyleWithoutControls asked.options.look.style
+  asked_style_without_controls = subst IsStyleWithoutControls (sym is.options.look.style) (styles_without_controls (first_value is.found (codes "style")))

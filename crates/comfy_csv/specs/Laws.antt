@@ -185,6 +185,15 @@ NarrowOutputIsStraight visible options records output =
     → IsOutputOf options records output
     → IsStraightOutput visible options records output
 
+-- and under every width each line is counted in terminal columns then
+abbrev pub NarrowLinesHave :
+    (TableValue → ℕ → Type 0) → Bool → Options → List (List Text) → Text → Type 0
+NarrowLinesHave P visible options records output =
+    (has : EachLineHas P options records output) → options.look.is_markdown ≡ false
+    → IsOneColumnStyle options.look.style → ArePlainLines visible options.look records
+    → EachText (CharactersFit 1) options.look records
+    → All (λ line. P has.table (measure line)) (seen_lines visible has.lines)
+
 -- each character of each text fits its column, for all widths that are arranged for the table
 abbrev pub CharactersFitEachWidth : Options → List (List Text) → Type 0
 CharactersFitEachWidth options records =

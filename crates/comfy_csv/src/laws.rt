@@ -3,7 +3,7 @@
 ghost use Rattle.std.specs.Prelude.{Bool, List, ℕ};
 ghost use Rattle.comfy_parts.specs.Text.{Text};
 ghost use Rattle.comfy_csv.specs.Drawn.{ContentValue};
-ghost use Rattle.comfy_csv.specs.Laws.{AskedOutputHoldsNoControls, FittingOutputIsStraight, InputIsDrawnWithoutControls, IsFilling, IsWithin, MarkdownOutputIsStraight, NarrowOutputIsStraight, OutputFillsWidth, OutputHoldsNoControls, OutputKeepsToWidth, PrintableFieldsStay, PrintableLinesHave, PrintableTextsMakePrintableTable, TableKeepsRows, UnbrokenColumnIsWhole, WholeOutputIsStraight};
+ghost use Rattle.comfy_csv.specs.Laws.{AskedOutputHoldsNoControls, FittingOutputIsStraight, InputIsDrawnWithoutControls, IsFilling, IsWithin, MarkdownOutputIsStraight, NarrowLinesHave, NarrowOutputIsStraight, OutputFillsWidth, OutputHoldsNoControls, OutputKeepsToWidth, PrintableFieldsStay, PrintableLinesHave, PrintableTextsMakePrintableTable, TableKeepsRows, UnbrokenColumnIsWhole, WholeOutputIsStraight};
 ghost use Rattle.comfy_csv.specs.MarkdownLines.{MarkdownGivesRecordsBack};
 ghost use Rattle.comfy_csv.specs.OneOutput.{AskedIsOne, DrawnHoldsNoControls, DrawnIsOne, OutputIsOne, OutputOfIsOne, RecordsAreOne};
 ghost use Rattle.comfy_csv_parts.specs.declared.arguments.Asked.{Asked};
@@ -28,7 +28,8 @@ pub fn tables_keep_their_rows()
 /// paddings and one character for each column. Where the width is filled, it has exactly so many, where there is a column.
 /// So has each line where all fields are printable ASCII: as it is written, where nothing is in bold; or without its
 /// sequences, where no control character stands beside them. Sequences in fields are not kept, and no line feed is in the
-/// style. Where records are expanded, the lines that number them and the one on further records aren't among these lines.
+/// style. In terminal columns each line has so many where no character takes more than one, in a style of such characters.
+/// Where records are expanded, the lines that number them and the one on further records aren't among these lines.
 pub fn outputs_keep_to_a_width()
     ensures dynamic { (w : ℕ) (options : Options) (records : List (List Text)) (output : Text)
         → OutputKeepsToWidth w options records output }
@@ -40,6 +41,12 @@ pub fn outputs_keep_to_a_width()
     ensures each_full_line { (w : ℕ) (visible : Bool)
         (options : Options) (records : List (List Text)) (output : Text)
         → PrintableLinesHave (IsFilling w) visible options records output }
+    ensures each_narrow_line { (w : ℕ) (visible : Bool)
+        (options : Options) (records : List (List Text)) (output : Text)
+        → NarrowLinesHave (IsWithin w) visible options records output }
+    ensures each_full_narrow_line { (w : ℕ) (visible : Bool)
+        (options : Options) (records : List (List Text)) (output : Text)
+        → NarrowLinesHave (IsFilling w) visible options records output }
 {}
 
 /// Where a width has room for the columns of numbers and dates, and for what the others need, none of them is drawn narrower

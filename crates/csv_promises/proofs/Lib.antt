@@ -1,1 +1,5 @@
+pub mod LineLemmas
 pub mod OutputLemmas
+pub mod ResultLemmas
+pub mod StraightLemmas
+mod Trials

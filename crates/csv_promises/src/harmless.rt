@@ -1,13 +1,20 @@
 //! No file speaks to your terminal.
 
-ghost use Rattle.std.specs.Prelude.{IfOk, IfSome};
+ghost use Rattle.std.specs.Prelude.{IfOk, IfSome, string_bytes};
 ghost use Rattle.comfy_csv.specs.Drawn.{IsOutputFor};
 ghost use Rattle.promises.specs.Shown.{IsHarmless};
 
 use comfy_csv::laws::outputs_hold_no_controls;
-use comfy_csv::{CsvError, Options, Surroundings, asked_of, draw};
+use comfy_csv::{CsvError, Options, Surroundings, asked_of, draw, drawing_of};
 use comfy_run::run::{MemorySink, MemorySource};
 use std::alloc::Global;
+
+// No terminal, and neither `COLUMNS` nor `NO_COLOR`.
+const NO_SURROUNDINGS: Surroundings<'static> = Surroundings {
+    is_terminal: false,
+    columns: None,
+    no_color: None,
+};
 
 /// What the program writes for these words and these bytes of a file: nothing where the words ask for raw fields, or for no
 /// drawing, or where it can't be drawn so. Whatever the words, the terminal and the bytes are, it tells a terminal nothing but
@@ -29,8 +36,22 @@ pub fn harmless_output(
     output_for(alloc, input, room, &asked.options).ok()
 }
 
-// A sink that holds the output for an input.
-fn output_for(
+/// What a caller gets as a value for these words and these bytes, for no terminal: nothing where the words ask for raw fields,
+/// or for no drawing, or where it can't be drawn so. It tells a terminal nothing else either.
+pub fn harmless_drawing(alloc: Global, words: &[&str], input: &[u8]) -> Option<String>
+    ensures { IfSome result (λ drawing. IsHarmless (string_bytes drawing)) }
+{
+    outputs_hold_no_controls();
+    let asked = asked_of(alloc, words, NO_SURROUNDINGS).ok()?;
+    let look = asked.options.look;
+    if look.is_raw {
+        return None;
+    }
+    drawing_of(alloc, words, input).ok()
+}
+
+/// A sink that holds the output for an input.
+pub(crate) fn output_for(
     alloc: Global,
     input: &[u8],
     room: usize,

@@ -3,3 +3,4 @@
 #![tactic(auto)]
 
 pub mod harmless;
+pub mod straight;

@@ -1,5 +1,6 @@
 use Rattle.comfy_csv.proofs.LineLemmas.{fills_width, keeps_to_width}
 use Rattle.comfy_csv.proofs.PrintableTableLemmas.{lines_have}
+use Rattle.comfy_csv.proofs.StraightLemmas.{narrow_lines_have}
 use Rattle.comfy_csv.specs.Laws.{IsFilling, IsWithin}
 use Rattle.comfy_csv.proofs.laws.outputs_keep_to_a_width.Goals as goal
 
@@ -14,3 +15,9 @@ returns-clause-each_line c = λ w. lines_have (IsWithin w)
 
 pub returns-clause-each_full_line : goal.returns-clause-each_full_line
 returns-clause-each_full_line c = λ w. lines_have (IsFilling w)
+
+pub returns-clause-each_narrow_line : goal.returns-clause-each_narrow_line
+returns-clause-each_narrow_line c = λ w. narrow_lines_have (IsWithin w)
+
+pub returns-clause-each_full_narrow_line : goal.returns-clause-each_full_narrow_line
+returns-clause-each_full_narrow_line c = λ w. narrow_lines_have (IsFilling w)

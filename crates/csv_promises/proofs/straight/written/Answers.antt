@@ -1,0 +1,13 @@
+use Rattle.csv_promises.proofs.ResultLemmas.{of_ok}
+use Rattle.csv_promises.proofs.straight.written.Goals as goal
+
+pub returns : goal.returns
+returns c =
+    record {
+      is_asked = of_ok _ c.asked_of.result c.in_ok-asked.asked c.in_ok-asked.ensures.value c.asked_of.ensures.ok;
+      tidy = c.if-look.false;
+      unkept = c.if-look-2.false;
+      no_markdown = c.if-look-3.false;
+      are = of_ok _ c.records_for.result c.in_ok-records.records c.in_ok-records.ensures.value c.records_for.ensures;
+      made = of_ok _ c.output_for.result c.in_ok-sink.sink c.in_ok-sink.ensures.value c.output_for.ensures;
+    }

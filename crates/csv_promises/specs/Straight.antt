@@ -1,0 +1,39 @@
+-- Lines that show the same number of terminal columns.
+use Rattle.std.specs.Prelude.{◌≡◌, ◌⊎◌, ◌||◌, ◌≤◌, ℕ, false, List, [], ◌++◌, All, chars, codes, decimal}
+use Rattle.std.specs.Char.{is_control}
+use Rattle.std.specs.List.{list_any}
+use Rattle.comfy_parts.specs.Text.{Text, measure}
+use Rattle.comfy_table.specs.Laws.{AreLinesOf}
+use Rattle.comfy_csv_parts.specs.Cleaning.{turns_direction}
+use Rattle.promises.specs.Shown.{Shows}
+
+-- P holds of each field of each record
+abbrev pub EachField : (Text → Type 0) → List (List Text) → Type 0
+EachField P records = All (All P) records
+
+-- a field has no control character and none that turns the direction of text, so it is drawn as it
+-- is; and it takes at most 65535 terminal columns
+pub record IsPlainField (field : Text) : Type 0 where
+  pub plain : list_any (λ c. is_control c || turns_direction c) (chars field) ≡ false
+  pub short : measure field ≤ 65535
+
+-- `2 of 7`, with what stands before it and behind it
+abbrev pub counted : Text → ℕ → ℕ → Text → Text
+counted before n m behind = (((before ++ decimal n) ++ codes " of ") ++ decimal m) ++ behind
+
+-- a line counts records: above one that is drawn alone, or below all that are drawn
+abbrev pub CountsRecords : Text → Type 0
+CountsRecords line =
+    (n : ℕ) × (m : ℕ)
+    × ((line ≡ counted (codes "record ") n m []) ⊎ (line ≡ counted [] n m (codes " records")))
+
+-- a line shows so many terminal columns
+abbrev pub ShowsColumns : ℕ → Text → Type 0
+ShowsColumns n line = (shown : Text) × Shows line shown × (measure shown ≡ n)
+
+-- all lines of a text show the same number of terminal columns, but those that count records
+pub record IsStraight (text : Text) : Type 0 where
+  pub lines : List Text
+  pub are : AreLinesOf text lines
+  pub columns : ℕ
+  pub show : All (λ line. CountsRecords line ⊎ ShowsColumns columns line) lines

@@ -1,0 +1,81 @@
+//! Straight edges.
+
+ghost use Rattle.std.specs.Prelude.{IfOk, IfSome, map};
+ghost use Rattle.comfy_csv.specs.Drawn.{AreRecordsFor};
+ghost use Rattle.csv_promises.specs.Straight.{EachField, IsPlainField, IsStraight};
+ghost use Rattle.csv_promises.specs.Written.{IsWritten};
+ghost use Rattle.promises.specs.Tables.{HasCharactersWithin};
+
+use crate::harmless::output_for;
+use comfy_csv::laws::{outputs_are_one, outputs_are_straight};
+use comfy_csv::{Asked, CsvError, Options, Records, Surroundings, asked_of, decoded, read_records};
+use comfy_run::run::MemorySink;
+use std::alloc::Global;
+
+/// The records of a file's bytes, and what the program writes of them for these words: nothing where the words ask for raw
+/// fields, for sequences in fields or for Markdown, or for no drawing, or where it can't be drawn so. Where no character of
+/// a field takes more than one terminal column, all lines of the table show the same number of columns, under every width
+/// and height, with a bold header too, and where records are expanded.
+pub fn straight_output(
+    alloc: Global,
+    words: &[&str],
+    surroundings: Surroundings<'_>,
+    input: &[u8],
+    room: usize,
+) -> Option<(Records, MemorySink)>
+    ensures { IfSome result (λ drawn. EachField (HasCharactersWithin 1) drawn.0 → IsStraight drawn.1.bytes) }
+{
+    outputs_are_straight();
+    outputs_are_one();
+    let (_asked, records, sink) = written(alloc, words, surroundings, input, room)?;
+    Some((records, sink))
+}
+
+/// The same for texts of every script: nothing also where a width is kept to, or where rows are cut. Where each field is
+/// drawn as it is and takes at most 65535 terminal columns, all lines of the table show the same number of columns.
+pub fn straight_whole_output(
+    alloc: Global,
+    words: &[&str],
+    surroundings: Surroundings<'_>,
+    input: &[u8],
+    room: usize,
+) -> Option<(Records, MemorySink)>
+    ensures { IfSome result (λ drawn. EachField IsPlainField drawn.0 → IsStraight drawn.1.bytes) }
+{
+    outputs_are_straight();
+    outputs_are_one();
+    let (asked, records, sink) = written(alloc, words, surroundings, input, room)?;
+    if asked.options.look.width.is_some() || asked.options.look.max_height.is_some() {
+        return None;
+    }
+    Some((records, sink))
+}
+
+// What the words ask for, the records of an input, and what is written of them.
+fn written(
+    alloc: Global,
+    words: &[&str],
+    surroundings: Surroundings<'_>,
+    input: &[u8],
+    room: usize,
+) -> Option<(Asked, Records, MemorySink)>
+    ensures { IfSome result (λ w. IsWritten (map (λ x. x.now) words.entry.now) surroundings.entry w.0 input.now w.1 w.2.bytes) }
+{
+    let asked = asked_of(alloc, words, surroundings).ok()?;
+    let look = asked.options.look;
+    if look.is_raw || look.has_sequences || look.is_markdown {
+        return None;
+    }
+    let records = records_for(alloc, input, &asked.options).ok()?;
+    let sink = output_for(alloc, input, room, &asked.options).ok()?;
+    Some((asked, records, sink))
+}
+
+// The records of an input.
+fn records_for(alloc: Global, input: &[u8], options: &Options) -> Result<Records, CsvError>
+    ensures { IfOk result (λ records. AreRecordsFor options.now input.now records) }
+{
+    let bytes = Vec::from_slice(alloc, input)?;
+    let text = decoded(alloc, bytes, options.encoding)?;
+    read_records(alloc, text.as_str(), options)
+}
