@@ -5,3 +5,4 @@ mod devices;
 mod large;
 mod program;
 mod records;
+mod sizes;

@@ -50,65 +50,68 @@ const ROWS: Large = Large {
     ],
 };
 
-// 1,000 columns. In 40 terminal columns each has one.
+// 1,001 columns. In 40 terminal columns each has one.
 const COLUMNS: Large = Large {
     tabs: &[
         ("ab", 1),
-        ("\tab", 999),
+        ("\tab", 1000),
         ("\ncd", 1),
-        ("\tcd", 999),
+        ("\tcd", 1000),
         ("\n", 1),
     ],
     commas: &[
         ("ab", 1),
-        (",ab", 999),
+        (",ab", 1000),
         ("\ncd", 1),
-        (",cd", 999),
+        (",cd", 1000),
         ("\n", 1),
     ],
     drawn: &[
-        ("+----", 1000),
+        ("+----", 1001),
         ("+\n", 1),
-        ("| ab ", 1000),
+        ("| ab ", 1001),
         ("|\n+", 1),
-        ("=", 4999),
+        ("=", 5004),
         ("+\n", 1),
-        ("| cd ", 1000),
+        ("| cd ", 1001),
         ("|\n", 1),
-        ("+----", 1000),
+        ("+----", 1001),
         ("+\n", 1),
     ],
     drawn_in_40: &[
-        ("+---", 1000),
+        ("+---", 1001),
         ("+\n", 1),
-        ("| a ", 1000),
+        ("| a ", 1001),
         ("|\n", 1),
-        ("| b ", 1000),
+        ("| b ", 1001),
         ("|\n+", 1),
-        ("=", 3999),
+        ("=", 4003),
         ("+\n", 1),
-        ("| c ", 1000),
+        ("| c ", 1001),
         ("|\n", 1),
-        ("| d ", 1000),
+        ("| d ", 1001),
         ("|\n", 1),
-        ("+---", 1000),
+        ("+---", 1001),
         ("+\n", 1),
     ],
 };
 
-// A cell of 2,000 text lines, 100 kB.
+// A cell of 21,000 text lines, above 1 MB.
 const FIELD: Large = Large {
     tabs: &[
         ("head\n", 1),
         (
             "word word word word word word word word word word\u{b}",
-            1999,
+            20_999,
         ),
         ("word word word word word word word word word word\n", 1),
     ],
     commas: &[
         ("head\n\"", 1),
-        ("word word word word word word word word word word\n", 1999),
+        (
+            "word word word word word word word word word word\n",
+            20_999,
+        ),
         ("word word word word word word word word word word\"\n", 1),
     ],
     drawn: &[
@@ -117,7 +120,7 @@ const FIELD: Large = Large {
         ("+===================================================+\n", 1),
         (
             "| word word word word word word word word word word |\n",
-            2000,
+            21_000,
         ),
         ("+---------------------------------------------------+\n", 1),
     ],
@@ -127,7 +130,7 @@ const FIELD: Large = Large {
         ("+======================================+\n", 1),
         (
             "| word word word word word word word   |\n| word word word                       |\n",
-            2000,
+            21_000,
         ),
         ("+--------------------------------------+\n", 1),
     ],

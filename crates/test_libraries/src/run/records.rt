@@ -28,10 +28,9 @@ fn refusals_have_their_words(rt: HostRuntime) {
 
 // What reads records between this byte.
 fn between(alloc: Global, delimiter: u8) -> Options {
-    Options {
-        delimiter: Delimiter::Byte(delimiter),
-        ..options(alloc, None, false)
-    }
+    let mut options = options(alloc, None, false);
+    options.delimiter = Delimiter::Byte(delimiter);
+    options
 }
 
 // The bytes of é are 195 and 169, and no byte of a text is 255.
