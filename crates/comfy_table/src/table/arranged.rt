@@ -37,15 +37,10 @@ use std::mem;
 /// // | 8  | rented |
 /// // +----+--------+
 /// ```
+#[derive(Drop)]
 pub struct ArrangedTable<'a> {
     table: &'a Table,
     infos: Vec<ColumnDisplayInfo>,
-}
-
-impl<'a> Drop for ArrangedTable<'a> {
-    fn drop(self) {
-        let ArrangedTable { table: _, infos: _ } = self;
-    }
 }
 
 impl<'a> Model for ArrangedTable<'a> {

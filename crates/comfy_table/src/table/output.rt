@@ -21,14 +21,9 @@ use std::vec;
 /// ```
 /// let top = table.lines()?.next();
 /// ```
+#[derive(Drop)]
 pub struct Lines {
     rest: vec::IntoIter<String>,
-}
-
-impl Drop for Lines {
-    fn drop(self) {
-        let Lines { rest: _ } = self;
-    }
 }
 
 impl Model for Lines {
