@@ -71,7 +71,7 @@ two_columns : measure (codes "ba") ≡ 2
 unfolding wrapping encode
 two_columns = refl
 
--- false: csv_promises::straight::straight_output
+-- false: csv_promises::straight_output, csv_promises::straight_whole_output
 two_widths_are_not_straight : ¬ (IsStraight (codes "ba\na\n"))
 two_widths_are_not_straight is = by_lines (two_lines (codes "ba") (codes "a") is.lines (only_lines (codes "ba\na\n") is.lines is.are))
   where

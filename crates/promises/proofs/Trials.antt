@@ -198,7 +198,7 @@ bell_shows (byte b text shown clear rest) is = let end : text ≡ [] = cc is in 
     nothing_left (sequence code text shown all rest) same = absurd (cc same)
 bell_shows (sequence code text shown all rest) is = absurd (cc is)
 
--- false: promises::harmless_text, csv_promises::harmless_output
+-- false: promises::harmless_text, csv_promises::harmless_output, csv_promises::harmless_drawing
 bell_is_harmful : ¬ (IsHarmless (0x07 ∷ []))
 bell_is_harmful (shown, shows, none) =
     let own : NoCharPasses (λ c. is_control c && not (c == 0x0A)) (0x07 ∷ []) = subst (NoCharPasses (λ c. is_control c && not (c == 0x0A))) (bell_shows shows refl) none in

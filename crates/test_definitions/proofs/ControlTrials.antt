@@ -5,15 +5,16 @@ use Rattle.std.specs.List.{All}
 use Rattle.std.specs.Prelude.{Some, codes, encode_utf8_all}
 use Rattle.std.specs.Str.{NonePass}
 use Rattle.std.proofs.lemmas.Bool.{true≢false}
-use Rattle.std.proofs.lemmas.List.Elements.{All-cons, All-nil}
+use Rattle.std.proofs.lemmas.List.Elements.{All-from_recursion}
 use Rattle.std.proofs.lemmas.Str.{encodes_same}
 use Rattle.comfy_parts.proofs.Computing.{wrapping}
-use Rattle.comfy_parts.specs.CellValue.{CellValue, RowValue}
+use Rattle.comfy_parts.specs.CellValue.{CellValue, ColumnValue}
 use Rattle.comfy_parts.specs.Presets.{ascii_full}
 use Rattle.comfy_parts.specs.VisibleText.{visible_text}
 use Rattle.comfy_table.specs.Laws.{HasNoControl, IsFreeOfControls}
-use Rattle.comfy_table.specs.TableValue.{TableValue}
-use Rattle.test_definitions.proofs.TrialTables.{row_of, rows_of, utf8}
+use Rattle.comfy_parts.specs.declared.style.column.ColumnConstraint.TheVariants.{Hidden}
+use Rattle.comfy_table.specs.TableValue.{TableValue, column_cells, constrained, shown_columns}
+use Rattle.test_definitions.proofs.TrialTables.{rows_of, utf8}
 
 -- a text of these characters is a text of no others
 holds_one : (cs : List ℕ) → (NonePass is_control cs → ⊥) → ¬ (HasNoControl (encode_utf8_all cs))
@@ -49,16 +50,28 @@ clearing_stays = holds_one (codes "\u{1b}[2J") (λ none. true≢false none.0)
 abbrev plain : TableValue
 plain = rows_of ascii_full (("a" ∷ []) ∷ [])
 
-abbrev HasNoneInCells : RowValue → Type 0
-HasNoneInCells row = All (λ (cell : CellValue). All HasNoControl cell.text_lines) row.cells
+abbrev HasNone : CellValue → Type 0
+HasNone cell = All HasNoControl cell.text_lines
 
 plain_is_free : IsFreeOfControls plain
 unfolding wrapping
 plain_is_free =
     record {
-      text_lines = All-cons HasNoneInCells (row_of ("a" ∷ [])) []
-          (All-cons (λ (cell : CellValue). All HasNoControl cell.text_lines) _ [] (All-cons HasNoControl (codes "a") [] (codes "a", refl, (refl, tt)) (All-nil HasNoControl)) (All-nil (λ (cell : CellValue). All HasNoControl cell.text_lines)))
-          (All-nil HasNoneInCells);
+      text_lines =
+          All-from_recursion (λ (p : ℕ × ColumnValue). All HasNone (column_cells plain p.0)) (shown_columns plain)
+          (All-from_recursion HasNone (column_cells plain 0) (All-from_recursion HasNoControl (codes "a" ∷ []) ((codes "a", refl, (refl, tt)), tt), tt), tt);
+      indicator = (0x2026 ∷ [], refl, (refl, tt));
+      characters = refl;
+    }
+
+-- a hidden column, whatever stands in it
+abbrev hiding : TableValue
+hiding = let table : TableValue = rows_of ascii_full (("\u{1b}[2J" ∷ []) ∷ []) in record table { columns = constrained (Hidden ∷ []) table.columns }
+
+hidden_is_free : IsFreeOfControls hiding
+hidden_is_free =
+    record {
+      text_lines = All-from_recursion (λ (p : ℕ × ColumnValue). All HasNone (column_cells hiding p.0)) (shown_columns hiding) tt;
       indicator = (0x2026 ∷ [], refl, (refl, tt));
       characters = refl;
     }

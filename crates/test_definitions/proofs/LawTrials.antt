@@ -177,7 +177,7 @@ accent_takes_two_bytes : ¬ (measure (utf8 "é") ≡ length (utf8 "é"))
 unfolding wrapping
 accent_takes_two_bytes same = let is : ◌≡◌ {A = ℕ} 1 2 = same in omega (arith, is)
 
--- false: comfy_parts::laws::printable_adds_one_column_each
+-- false: comfy_parts::laws::printable_adds_one_column_each, comfy_table::laws::the_ellipsis_adds_one_column
 wide_indicator : ¬ (AddsOneColumnEach (utf8 "年"))
 unfolding wrapping
 wide_indicator adds = let is : ◌≡◌ {A = ℕ} 2 1 = adds [] refl in omega (arith, is)
@@ -321,8 +321,8 @@ escape_in_a_cell : ¬ (IsFreeOfEscapes (rows_of ascii_full (("\u{1b}" ∷ []) �
 unfolding wrapping
 escape_in_a_cell free =
     let cell : CellValue = plain_cell (codes "\u{1b}") in
-    let row = free.text_lines 0 (plain_row (cell ∷ [])) (omega arith) in
-    let is : true ≡ false = row 0 cell (omega arith) 0 [] (omega arith) in
+    let column = free.text_lines 0 (0, new_column 0) (omega arith) in
+    let is : true ≡ false = column 0 cell (omega arith) 0 [] (omega arith) in
     cc is
 
 -- false: comfy_table::laws::drawings_are_one, comfy_table::laws::hidden_columns_tell_nothing

@@ -45,6 +45,7 @@ uneven f n lines are even =
     All-head (λ line. f line ≡ n) (codes "ab") (codes "a" ∷ []) own
     ∙ sym (All-head (λ line. f line ≡ n) (codes "a") [] (All-tail (λ line. f line ≡ n) (codes "ab") (codes "a" ∷ []) own))
 
+-- false: comfy_run::laws::outputs_are_straight
 crooked_is_not_straight : ¬ (IsStraightOutput crooked)
 unfolding wrapping
 crooked_is_not_straight (lines, are, (n, even)) = let same : ◌≡◌ {A = ℕ} 2 1 = uneven measure n lines are even in omega (arith, same)
@@ -62,6 +63,7 @@ counts_four : (n : ℕ) (lines : List Text) → AreLinesOf four lines → AreEve
 unfolding chars
 counts_four n lines are even = All-head (λ line. count line ≡ n) (codes "abcd") [] (subst (AreEven count n) (one_line (codes "abcd") lines (found four lines are)) even)
 
+-- false: comfy_run::laws::outputs_keep_to_a_width
 too_long : ¬ (EachLineHas (λ n. n ≤ 3) four)
 too_long (n, is, lines, are, even) = let same = counts_four n lines are even in omega (arith, same, is)
 

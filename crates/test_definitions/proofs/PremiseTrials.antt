@@ -3,7 +3,7 @@ use Rattle.std.proofs.Common.{◌≡◌, ℕ, true, false, List, [], ◌∷◌, 
 use Rattle.std.specs.List.{All}
 use Rattle.unicode_width.specs.Width.{str_width}
 use Rattle.std.specs.Str.{chars}
-use Rattle.std.proofs.lemmas.List.Elements.{All-cons, All-nil, All-head}
+use Rattle.std.proofs.lemmas.List.Elements.{All-cons, All-from_recursion, All-nil, All-head}
 use Rattle.std.proofs.lemmas.Str.{chars-append}
 use Rattle.comfy_parts.proofs.Computing.{wrapping}
 use Rattle.comfy_parts.proofs.CallerLemmas.{All-every, IsUtf8-printable}
@@ -15,7 +15,7 @@ use Rattle.comfy_parts.specs.declared.style.table_style.TableStyle.{TableStyle}
 use Rattle.comfy_table.specs.Arrangement.{IsArranged}
 use Rattle.comfy_table.specs.Drawing.{drawing, infos_of}
 use Rattle.comfy_table.specs.Laws.{count, line_total, unstyled, IsPrintableTable, IsPrintableCell, AddsOneColumnEachWhereWritten, HasNoEscape, IsFreeOfEscapes}
-use Rattle.comfy_table.specs.TableValue.{TableValue, new_table, column_cells, header_and_rows}
+use Rattle.comfy_table.specs.TableValue.{TableValue, new_table, column_cells, header_and_rows, shown_columns}
 use Rattle.comfy_table.specs.Pieces.{shown_infos}
 use Rattle.comfy_parts.specs.VisibleText.{visible_text}
 
@@ -94,7 +94,9 @@ overlong_lines = refl
 overlong_is_free : IsFreeOfEscapes overlong
 overlong_is_free =
     record {
-      text_lines = All-cons (λ (row : RowValue). All (λ (cell : CellValue). All HasNoEscape cell.text_lines) row.cells) _ [] (All-cons (λ (cell : CellValue). All HasNoEscape cell.text_lines) _ [] lines (All-nil (λ (cell : CellValue). All HasNoEscape cell.text_lines))) (All-nil (λ (row : RowValue). All (λ (cell : CellValue). All HasNoEscape cell.text_lines) row.cells));
+      text_lines =
+          All-from_recursion (λ (p : ℕ × ColumnValue). All (λ (cell : CellValue). All HasNoEscape cell.text_lines) (column_cells overlong p.0)) (shown_columns overlong)
+          (All-from_recursion (λ (cell : CellValue). All HasNoEscape cell.text_lines) (column_cells overlong 0) (lines, tt), tt);
       style = record { indicator = refl; characters = refl };
     }
   where

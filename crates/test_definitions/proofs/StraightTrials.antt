@@ -101,6 +101,7 @@ unfolding wrapping
 family_fits_two = refl
 
 -- U+17D8, the one character that needs three
+-- false: comfy_parts::laws::one_character_takes_three_columns
 khmer_sign_needs_three : map (λ w. characters_fit w (encode_utf8_all (0x17D8 ∷ []))) (2 ∷ 3 ∷ []) ≡ false ∷ true ∷ []
 unfolding wrapping
 khmer_sign_needs_three = refl
