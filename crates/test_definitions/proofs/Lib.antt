@@ -10,6 +10,7 @@ mod InputTrials
 mod MarkdownLineTrials
 mod OutcomeTrials
 mod OutputControlTrials
+mod OutputTrials
 mod PartTrials
 mod PremiseTrials
 mod PresetTrials
