@@ -1,13 +1,16 @@
 -- Texts that the promises refuse.
-use Rattle.std.proofs.Common.{◌≡◌, ◌⊎◌, inl, inr, ◌==◌, ◌+◌, ◌≤◌, ℕ, List, [], ◌∷◌, ◌++◌, arith, codes, decimal, length, length-append, refl, sym, ap, ◌∙◌, subst}
+use Rattle.std.proofs.Common.{◌≡◌, ◌⊎◌, inl, inr, ◌==◌, ◌+◌, ◌≤◌, ℕ, List, [], ◌∷◌, ◌++◌, arith, codes, decimal, length, length-append, refl, sym, ap, ◌∙◌, subst, ◌&&◌, not, true, false}
 use Rattle.std.specs.List.{All, slice_split}
 use Rattle.std.proofs.lemmas.List.Elements.{All-head, All-tail}
+use Rattle.std.specs.Char.{is_control}
+use Rattle.std.specs.Str.{NoCharPasses}
+use Rattle.std.proofs.lemmas.Str.{NoCharPasses-byte}
 use lib.Utf8.{encode}
 use Rattle.comfy_parts.proofs.Computing.{wrapping}
 use Rattle.comfy_parts.specs.Text.{Text, measure}
 use Rattle.comfy_table.proofs.BreakLemmas.{terminated_lines}
 use Rattle.comfy_table.specs.Laws.{AreLinesOf}
-use Rattle.promises.specs.Shown.{Shows}
+use Rattle.promises.specs.Shown.{IsHarmless, Shows}
 use Rattle.promises.specs.Shown.Shows.{nothing, byte, sequence}
 use Rattle.csv_promises.specs.Straight.{CountsRecords, IsStraight, ShowsColumns, counted}
 
@@ -90,3 +93,20 @@ two_widths_are_not_straight is = by_lines (two_lines (codes "ba") (codes "a") is
         let wide : is.columns ≡ 2 = sym first.2 ∙ ap measure (shows_letters first.1 refl) ∙ two_columns in
         let narrow : is.columns ≡ 1 = sym second.2 ∙ ap measure (shows_letter second.1 refl) ∙ one_column in
         absurd (omega (arith, wide, narrow))
+
+-- ---- harmless texts
+
+shows_bell : {text shown : Text} → Shows text shown → text ≡ 0x07 ∷ [] → shown ≡ 0x07 ∷ []
+shows_bell nothing is = is
+shows_bell (byte b text shown clear rest) is =
+    let end : text ≡ [] = cc is in
+    let own : shown ≡ [] = shows_nothing rest end in cc (is, own)
+shows_bell (sequence code text shown all rest) is = absurd (cc is)
+
+-- false: csv_promises::harmless_output, csv_promises::harmless_drawing
+bell_is_harmful : ¬ (IsHarmless (0x07 ∷ []))
+bell_is_harmful (shown, shows, none) =
+    let p = λ (c : ℕ). is_control c && not (c == 0x0A) in
+    let own : NoCharPasses p (0x07 ∷ []) = subst (NoCharPasses p) (shows_bell shows refl) none in
+    let is : true ≡ false = NoCharPasses-byte p (0x07 ∷ []) 0 own (omega arith) (omega arith) in
+    cc is

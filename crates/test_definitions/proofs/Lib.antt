@@ -13,6 +13,7 @@ mod NumberLawTrials
 mod OutcomeTrials
 mod OutputControlTrials
 mod OutputLineTrials
+mod OutputTrials
 mod PartTrials
 mod PremiseTrials
 mod PresetTrials

@@ -1,0 +1,84 @@
+-- Outputs of which the conclusions of laws are false.
+use Rattle.std.proofs.Common.{◌≡◌, ◌==◌, ◌<◌, ◌+◌, ◌≤◌, ℕ, Bool, true, false, not, List, [], ◌∷◌, ◌++◌, None, Some, append-nil, arith, codes, length, map, refl, sym, ap, ◌∙◌, subst}
+use Rattle.std.specs.List.{All, slice_split}
+use Rattle.std.proofs.lemmas.Bool.{true≢false}
+use Rattle.std.proofs.lemmas.List.Elements.{All-head, All-tail}
+use lib.Utf8.{encode}
+use Rattle.comfy_parts.proofs.Computing.{wrapping}
+use Rattle.comfy_parts.specs.Presets.{ascii_full}
+use Rattle.comfy_parts.specs.Text.{Text, measure}
+use Rattle.comfy_table.proofs.BreakLemmas.{terminated_lines}
+use Rattle.comfy_table.specs.Laws.{AreLinesOf}
+use Rattle.comfy_csv_parts.specs.Cleaning.{visible_of}
+use Rattle.comfy_csv_parts.specs.declared.arguments.Asked.{Asked}
+use Rattle.comfy_csv_parts.specs.declared.options.Expansion.TheVariants.{Never}
+use Rattle.comfy_csv_parts.specs.declared.options.Look.{Look}
+use Rattle.comfy_csv_parts.specs.declared.options.Options.{Options}
+use Rattle.comfy_csv_parts.specs.declared.options.RowSeparators.TheVariants.{Styled}
+use Rattle.comfy_csv.specs.Laws.{EachLineHas, HasLines, IsOutputWith, IsStraightOutput, IsWithin, seen_lines}
+use Rattle.comfy_csv.specs.OneOutput.{AreSameAsked, AreSameOptions}
+use Rattle.comfy_table.specs.TableValue.{TableValue}
+
+-- rows are never expanded, and all are drawn
+abbrev look : Look
+look = record { style = ascii_full; separators = Styled; expansion = Never; width = None; fills_width = false; max_height = None; has_bold_header = false; has_sequences = false; keeps_bidi = false; is_raw = false; is_markdown = false }
+
+abbrev drawn_by : Options → Options
+drawn_by options = record options { limit = None; look = look }
+
+-- the lines of an output by these options stand between its line feeds
+lines_of_output : (options : Options) (records : List (List Text)) (output : Text) (lines : List Text) → IsOutputWith (drawn_by options) records output lines → slice_split (λ b. b == 0x0A) output ≡ lines ++ [] ∷ []
+lines_of_output options records output lines is =
+    let are : AreLinesOf is.text lines = subst (λ (b : Bool). HasLines b is.content lines is.text) is.expansion is.has_lines in
+    ap (slice_split (λ b. b == 0x0A)) (is.joined ∙ append-nil is.text ∙ are.joined) ∙ terminated_lines lines are.unbroken
+
+-- two lines are these two
+two_lines : (first second : Text) (lines : List Text) → first ∷ second ∷ [] ∷ [] ≡ lines ++ [] ∷ [] → lines ≡ first ∷ second ∷ []
+two_lines first second [] is = absurd (cc is)
+two_lines first second (a ∷ []) is = absurd (cc is)
+two_lines first second (a ∷ b ∷ []) is = let one : first ≡ a = cc is in let other : second ≡ b = cc is in cc (one, other)
+two_lines first second (a ∷ b ∷ c ∷ more) is = absurd (longer more (cc is))
+  where
+    longer : (more : List Text) → ¬ ([] ∷ [] ≡ c ∷ (more ++ [] ∷ []))
+    longer [] same = cc same
+    longer (d ∷ ds) same = cc same
+
+one_column : (visible : Bool) → measure (visible_of visible (codes "a")) ≡ 1
+unfolding wrapping encode
+one_column true = refl
+one_column false = refl
+
+two_columns : (visible : Bool) → measure (visible_of visible (codes "ab")) ≡ 2
+unfolding wrapping encode
+two_columns true = refl
+two_columns false = refl
+
+-- false: comfy_csv::laws::outputs_are_straight
+two_widths_are_not_straight : (visible : Bool) (options : Options) (records : List (List Text)) → ¬ (IsStraightOutput visible (drawn_by options) records (codes "ab\na\n"))
+two_widths_are_not_straight visible options records is =
+    let are = two_lines (codes "ab") (codes "a") is.lines (lines_of_output options records (codes "ab\na\n") is.lines is.is_output) in
+    let n = is.equally_wide.0 in
+    let Is = λ (line : Text). measure line ≡ n in
+    let first = visible_of visible (codes "ab") in
+    let second = visible_of visible (codes "a") in
+    let all : All Is (first ∷ second ∷ []) = subst (λ (lines : List Text). All Is (seen_lines visible lines)) are is.equally_wide.1 in
+    let wide : n ≡ 2 = sym (All-head Is first (second ∷ []) all) ∙ two_columns visible in
+    let narrow : n ≡ 1 = sym (All-head Is second [] (All-tail Is first (second ∷ []) all)) ∙ one_column visible in
+    absurd (omega (arith, wide, narrow))
+
+-- a text that ends with no line feed has no lines
+unended : (lines : List Text) → ¬ (codes "ab" ∷ [] ≡ lines ++ [] ∷ [])
+unended [] is = cc is
+unended (a ∷ []) is = cc is
+unended (a ∷ b ∷ more) is = cc is
+
+-- false: comfy_csv::laws::outputs_keep_to_a_width
+unended_output_has_no_lines : (P : TableValue → ℕ → Type 0) (options : Options) (records : List (List Text)) → ¬ (EachLineHas P (drawn_by options) records (codes "ab"))
+unended_output_has_no_lines P options records is = unended is.lines (lines_of_output options records (codes "ab") is.lines is.is_output)
+
+-- false: comfy_csv::laws::outputs_are_one
+others_are_not_the_same : (options : Options) → ¬ (AreSameOptions (drawn_by options) (record (drawn_by options) { look = record look { is_raw = true } }))
+others_are_not_the_same options is = true≢false (sym (ap (λ (l : Look). l.is_raw) is.look))
+
+raw_fields_are_not_asked : (asked : Asked) → ¬ (AreSameAsked (record asked { options = drawn_by asked.options }) (record asked { options = record (drawn_by asked.options) { look = record look { is_raw = true } } }))
+raw_fields_are_not_asked asked is = others_are_not_the_same asked.options is.options
