@@ -13,9 +13,10 @@ ghost use Rattle.comfy_csv_parts.specs.declared.options.Options.{Options};
 ghost use Rattle.comfy_table.specs.TableValue.{TableValue};
 
 pub use comfy_csv_parts::laws::{
-    ascii_is_its_own_text, cleaned_fields_hold_no_controls, escaped_texts_are_read_back,
-    lines_are_left_out_as_they_are_counted, records_of_texts_are_texts,
-    styles_for_words_hold_no_controls, texts_in_utf16_are_read_back, unclosed_quotes_stand_alone,
+    ascii_is_its_own_text, cleaned_fields_hold_no_controls, drawn_columns_are_chosen,
+    escaped_texts_are_read_back, lines_are_left_out_as_they_are_counted,
+    numbers_are_made_of_digits, records_of_texts_are_texts, styles_for_words_hold_no_controls,
+    texts_in_utf16_are_read_back, unclosed_quotes_stand_alone,
 };
 
 /// Picking columns loses no row. The table has a row for each record that is drawn, in order, with the fields of the same

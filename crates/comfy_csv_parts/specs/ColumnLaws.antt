@@ -23,7 +23,8 @@ module _ (names : List Text) (count : ℕ) where
   module _ {A : Type 0} where
     -- one of the words does
     abbrev pub IsChosenBy : List (String A) → ℕ → Type 0
-    IsChosenBy words position = Any (λ (word : String A). Chooses (string_bytes word) position) words
+    IsChosenBy words position =
+        Any (λ (word : String A). Chooses (string_bytes word) position) words
 
     -- so does one of the words, or there are none, and the column is there
     abbrev pub IsChosen : List (String A) → ℕ → Type 0

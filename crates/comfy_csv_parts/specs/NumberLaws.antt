@@ -15,7 +15,8 @@ is_around c = list_any (λ other. c == other) (0x65 ∷ 0x45 ∷ 0x28 ∷ 0x29 �
 
 -- a character that may stand in a number: a digit, a sign, a mark, `e`, `E`, a parenthesis, a space, a currency or `%`
 abbrev pub is_listed : ℕ → Bool
-is_listed c = is_ascii_digit c || (is_sign c || (is_mark c || (is_around c || (is_blank c || is_unit c))))
+is_listed c =
+    is_ascii_digit c || (is_sign c || (is_mark c || (is_around c || (is_blank c || is_unit c))))
 
 -- a digit is among these characters, and each of them may stand in a number
 pub record AreOfNumber (characters : List ℕ) : Type 0 where
