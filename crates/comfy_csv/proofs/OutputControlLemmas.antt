@@ -16,6 +16,7 @@ use Rattle.comfy_parts.specs.Columns.{style_characters}
 use Rattle.comfy_parts.specs.Text.{Text, is_printable_ascii}
 use Rattle.comfy_parts.specs.declared.style.table_style.TableStyle.{TableStyle}
 use Rattle.comfy_parts.specs.VisibleText.{visible_text}
+use Rattle.comfy_table.proofs.ShownTextLemmas.{shown_of_all}
 use Rattle.comfy_table.proofs.MeasuredLemmas.{IsRowOf, row_measured}
 use Rattle.comfy_table.specs.Drawing.{terminated_text_of}
 use Rattle.comfy_table.specs.Laws.{AreLinesOf, HasNoBreak, HasNoControl, IsFreeOfControls, IsStyleWithout}
@@ -118,7 +119,7 @@ module _ (look : Look) (is : IsLookWithoutControls look) (content : ContentValue
   free_of_controls : (table : TableValue) → IsDrawn look (IsClearRow look.has_sequences) content table → IsFreeOfControls table
   free_of_controls table known =
       record {
-        text_lines = measured-drawn look (IsClearRow look.has_sequences) content table known (IsRowOf HasNoControl) (clear_measured look.has_sequences);
+        text_lines = shown_of_all HasNoControl table (measured-drawn look (IsClearRow look.has_sequences) content table known (IsRowOf HasNoControl) (clear_measured look.has_sequences));
         indicator = subst HasNoControl (sym (ap (λ (t : TableValue). t.indicator) (drawn-is look (IsClearRow look.has_sequences) content table known))) ellipsis_is_plain;
         characters = subst IsStyleWithoutControls (sym (ap (λ (t : TableValue). t.style) (drawn-is look (IsClearRow look.has_sequences) content table known))) is.style;
       }
