@@ -69,6 +69,7 @@ abbrev hiding : TableValue
 hiding = let table : TableValue = rows_of ascii_full (("\u{1b}[2J" ∷ []) ∷ []) in record table { columns = constrained (Hidden ∷ []) table.columns }
 
 hidden_is_free : IsFreeOfControls hiding
+unfolding wrapping
 hidden_is_free =
     record {
       text_lines = All-from_recursion (λ (p : ℕ × ColumnValue). All HasNone (column_cells hiding p.0)) (shown_columns hiding) tt;

@@ -22,7 +22,7 @@ returns c =
     let lines = drawing_of_infos table arranged.infos in
     let part = drawing_of_infos (with_rows_alone c.args.first c.args.count table) arranged.infos in
     let own = c.parts_have_lines_of_the_table.ensures.lines table arranged.infos c.args.first c.args.count in
-    on_ok_weaker c.push_rows.result
+    on_ok_weaker c.push_rows-2.result
     (λ appended. (
       terminated_text_of part,
       appended ∙ ap (λ (t : TableValue). string_bytes c.args.text.now ++ terminated_text_of (drawing_of_infos (with_rows_alone c.args.first c.args.count t) arranged.infos)) known.of_table,
@@ -34,4 +34,4 @@ returns c =
           (carried (λ line. count line ≤ w) lines part own (All-weaker (λ line. count line ≤ max w (least_total table)) (λ line. count line ≤ w) (λ line narrow. omega (arith, narrow, enough)) lines few))
           (All-cons (λ line. count line ≤ w) [] [] (let none = ap length chars-nil in omega (arith, none)) (All-nil (λ line. count line ≤ w)))),
     ))
-    c.push_rows.ensures.ok
+    c.push_rows-2.ensures.ok
