@@ -1,12 +1,11 @@
 -- The fields of records stand in the lines of their table.
-use Rattle.std.proofs.Common.{◌≡◌, ◌==◌, ◌<◌, ◌≤◌, ℕ, zero, suc, ◌+◌, Bool, true, false, List, [], ◌∷◌, ◌++◌, Option, Some, None, Ok, flat_map, fold, length, map, max, not, refl, sym, ap, ap₂, ◌∙◌, subst, arith, append-nil, slice_index_or, unwrap_or}
-use Rattle.std.specs.List.{All, AllByRecursion, AllZip, enumerate_from, range_with_len, slice_get, slice_split}
-use Rattle.std.specs.Prelude.{if◌then◌else◌, option_to_list}
+use Rattle.std.proofs.Common.{◌≡◌, ◌<◌, ◌≤◌, ℕ, zero, suc, ◌+◌, Bool, true, false, List, [], ◌∷◌, ◌++◌, Option, Some, None, Ok, flat_map, fold, length, map, max, not, refl, sym, ap, ap₂, ◌∙◌, subst, arith, append-nil, slice_index_or, unwrap_or}
+use Rattle.std.specs.List.{All, AllByRecursion, AllZip, enumerate_from, range_with_len, slice_get}
+use Rattle.std.specs.Prelude.{option_to_list}
 use Rattle.std.proofs.lemmas.List.{length-map}
 use Rattle.std.proofs.lemmas.List.Elements.{All-append, All-cons, All-filter, All-head, All-nil, All-tail, All-weaker, recursion_from_All}
 use Rattle.std.proofs.lemmas.List.FromFn.{length-range_with_len}
-use Rattle.std.proofs.lemmas.List.Splits.{slice_split_none}
-use Rattle.comfy_parts.proofs.CallerLemmas.{All-none, IsUtf8-printable, measure-printable, no_fewer_columns}
+use Rattle.comfy_parts.proofs.CallerLemmas.{measure-printable, no_fewer_columns}
 use Rattle.comfy_parts.specs.CellValue.{CellValue, ColumnValue, RowValue, is_hidden_column, plain_cell}
 use Rattle.comfy_parts.specs.Text.{Text, is_printable_ascii}
 use Rattle.comfy_parts.specs.declared.style.table.ContentArrangement.TheVariants.{Disabled}
@@ -15,15 +14,13 @@ use Rattle.comfy_table.specs.Headline.{IsTableDrawing}
 use Rattle.comfy_table.specs.NewTables.{IsShortRow}
 use Rattle.comfy_table.specs.TableValue.{TableValue, header_and_rows, shown_columns, with_row, with_rows}
 use Rattle.csv.specs.Records.{field_at}
-use Rattle.comfy_csv_parts.proofs.CleaningLemmas.{drawn_so, none_replaced}
-use Rattle.comfy_csv_parts.specs.Cells.{cell_for, field_or_blank, field_text, cells_for, header_for, kept_by, row_for, with_weight}
-use Rattle.comfy_csv_parts.specs.Cleaning.{cleaned}
+use Rattle.comfy_csv_parts.specs.Cells.{cell_for, field_or_blank, field_text, cells_for, header_for, row_for, with_weight}
 use Rattle.comfy_csv_parts.specs.Columns.{columns_for, count_of, kept_columns, seen, without}
 use Rattle.comfy_csv_parts.specs.declared.options.DrawnColumn.{DrawnColumn}
 use Rattle.comfy_csv_parts.specs.declared.options.Look.{Look}
 use Rattle.comfy_csv_parts.specs.declared.options.Options.{Options}
 use Rattle.comfy_csv.proofs.BuiltLemmas.{Built, each_content, each_field, made_of}
-use Rattle.comfy_csv.proofs.FieldLemmas.{printable_unbroken}
+use Rattle.comfy_csv.proofs.FieldLemmas.{drawn_in_one_line}
 use Rattle.comfy_csv.proofs.RowLemmas.{chosen, with_rows-rows}
 use Rattle.comfy_csv.proofs.StraightLemmas.{IsShort, empty_is_short, short_rows}
 use Rattle.comfy_csv.proofs.TextTableLemmas.{EachLine, rows_of_texts}
@@ -33,21 +30,6 @@ use Rattle.promises.proofs.KeptLemmas.{stand_later, whole_texts_stand}
 use Rattle.promises.specs.Kept.{ShowsWholeRow, StandIn, text_lines_at}
 use Rattle.promises.specs.Tables.{IsShownWhole, shown}
 use Rattle.csv_promises.specs.Kept.{AsksForNothing, EachHasALine, IsPlainRecord}
-
--- ---- fields
-
--- a printable field is drawn as it is, where it isn't for Markdown
-printable_is_drawn : (look : Look) → look.is_markdown ≡ false → (field : Text) → is_printable_ascii field ≡ true → field_text look field ≡ field
-printable_is_drawn look none field printable = rw none (by_raw look.is_raw)
-  where
-    by_raw : (is_raw : Bool) → (if is_raw then field else cleaned (kept_by look) field) ≡ field
-    by_raw true = refl
-    by_raw false = sym (drawn_so (kept_by look) field (IsUtf8-printable field printable) (none_replaced (kept_by look) field printable))
-
--- so it is the one text line of its cell
-one_text_line : (look : Look) → look.is_markdown ≡ false → (field : Text) → is_printable_ascii field ≡ true → (plain_cell (field_text look field)).text_lines ≡ field ∷ []
-one_text_line look none field printable =
-    ap (slice_split (λ b. b == 0x0A)) (printable_is_drawn look none field printable) ∙ slice_split_none (λ b. b == 0x0A) field (All-none (λ b. b == 0x0A) field (printable_unbroken field printable))
 
 -- ---- lines below each other
 
@@ -160,8 +142,8 @@ module _ (look : Look) (none : look.is_markdown ≡ false) (columns : List Drawn
     texts_are is_bold fields plain room i below =
         let moved : 0 + i ≡ i = omega arith in
         text_at is_bold fields columns 0 i positions (omega (arith, room, below)) ∙ ap (λ (at : ℕ). (plain_cell (field_text look (field_or_blank fields at))).text_lines) moved
-        ∙ each_field (λ field. (plain_cell (field_text look field)).text_lines ≡ field ∷ []) (one_text_line look none [] refl) fields i
-        (All-weaker (λ field. is_printable_ascii field ≡ true) (λ field. (plain_cell (field_text look field)).text_lines ≡ field ∷ []) (one_text_line look none) fields plain.printable)
+        ∙ each_field (λ field. (plain_cell (field_text look field)).text_lines ≡ field ∷ []) (drawn_in_one_line look none [] refl) fields i
+        (All-weaker (λ field. is_printable_ascii field ≡ true) (λ field. (plain_cell (field_text look field)).text_lines ≡ field ∷ []) (drawn_in_one_line look none) fields plain.printable)
 
     module _ (count : ℕ) (enough : length columns ≤ count) where
       header_is : (names : List Text) → IsPlainRecord names → HasRoom (length columns) names → IsRowOf count names (header_for look columns names)
@@ -259,7 +241,7 @@ module _ (options : Options) (records : List (List Text)) (nothing : AsksForNoth
     where
       short_field : (field : Text) → is_printable_ascii field ≡ true → length field ≤ 65535 → EachLine IsShort look field
       short_field field printable few =
-          subst (All IsShort) (sym (one_text_line look nothing.no_markdown field printable)) (All-cons IsShort field [] (rw (measure-printable field printable) few) (All-nil IsShort))
+          subst (All IsShort) (sym (drawn_in_one_line look nothing.no_markdown field printable)) (All-cons IsShort field [] (rw (measure-printable field printable) few) (All-nil IsShort))
 
   known : (content : ContentValue) → content_of options records ≡ Ok content → Built look IsShortRow content (rows_table look content)
   known content is = rows_of_texts IsShort empty_is_short look IsShortRow (short_rows look nothing.uncut) content (each_content (All (EachLine IsShort look)) options records content is short_fields)

@@ -1,4 +1,4 @@
--- Texts that the promises refuse.
+-- Texts and lines that the promises refuse, and records for which a promise is made.
 use Rattle.std.proofs.Common.{◌≡◌, ◌⊎◌, inl, inr, ◌==◌, ◌+◌, ◌<◌, ◌≤◌, ℕ, List, [], None, ◌∷◌, ◌++◌, arith, codes, decimal, length, length-append, refl, sym, ap, ◌∙◌, subst, ◌&&◌, not, true, false}
 use Rattle.std.specs.List.{All, AllByRecursion, slice_split}
 use Rattle.std.proofs.lemmas.List.Elements.{All-from_recursion, All-head, All-tail}
@@ -121,14 +121,15 @@ bell_is_harmful (shown, shows, none) =
 
 -- ---- records
 
--- a table with a header in bold
+-- the look of a table with a header in bold
 abbrev bold : Look
 bold = record { style = utf8_full; separators = Styled; expansion = Auto; width = None; fills_width = false; max_height = None; has_bold_header = true; has_sequences = false; keeps_bidi = false; is_raw = false; is_markdown = false }
 
--- and nothing else, whatever the bytes are
+-- no words choose columns, or leave some out
 abbrev no_words : {X : Type 0} → Vec X → Vec X
 no_words words = record words { len = 0; items = []; ok = (refl, omega arith) }
 
+-- options that ask for a header in bold, and for nothing else of a table
 abbrev asking : Options → Options
 asking options = record options { has_header = true; limit = None; columns = no_words options.columns; dropped = no_words options.dropped; look = bold }
 
