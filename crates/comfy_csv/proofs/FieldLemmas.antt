@@ -60,10 +60,11 @@ marked_stays text printable =
     ap is_printable_ascii (ap (λ (cs : List ℕ). encode_utf8_all (escaped cs)) (chars-IsAscii text (ascii-printable text printable)) ∙ same) ∙ more
 
 -- such a text is one text line of its cell
+whole_line : (text : Text) → is_printable_ascii text ≡ true → (plain_cell text).text_lines ≡ text ∷ []
+whole_line text printable = slice_split_none (λ b. b == 0x0A) text (All-none (λ b. b == 0x0A) text (printable_unbroken text printable))
+
 one_line : (text : Text) → is_printable_ascii text ≡ true → All (λ (line : Text). is_printable_ascii line ≡ true) (plain_cell text).text_lines
-one_line text printable =
-    let whole : (plain_cell text).text_lines ≡ text ∷ [] = slice_split_none (λ b. b == 0x0A) text (All-none (λ b. b == 0x0A) text (printable_unbroken text printable)) in
-    subst (All (λ (line : Text). is_printable_ascii line ≡ true)) (sym whole) (All-cons (λ (line : Text). is_printable_ascii line ≡ true) text [] printable (All-nil (λ (line : Text). is_printable_ascii line ≡ true)))
+one_line text printable = subst (All (λ (line : Text). is_printable_ascii line ≡ true)) (sym (whole_line text printable)) (All-cons (λ (line : Text). is_printable_ascii line ≡ true) text [] printable (All-nil (λ (line : Text). is_printable_ascii line ≡ true)))
 
 -- ---- numbers
 
@@ -107,23 +108,21 @@ fields_stay look field printable = one_line (field_text look field) (by_flags lo
     by_flags false true = printable
     by_flags false false = clean (kept_by look)
 
--- a number is drawn as it is, where it isn't for Markdown
+-- where it isn't for Markdown, such a field is drawn as it is, in one text line
+pub drawn_in_one_line : (look : Look) → look.is_markdown ≡ false → (field : Text) → is_printable_ascii field ≡ true → (plain_cell (field_text look field)).text_lines ≡ field ∷ []
+drawn_in_one_line look none field printable = ap (λ (text : Text). (plain_cell text).text_lines) same ∙ whole_line field printable
+  where
+    by_raw : (is_raw : Bool) → (if is_raw then field else cleaned (kept_by look) field) ≡ field
+    by_raw true = refl
+    by_raw false = sym (drawn_so (kept_by look) field (IsUtf8-printable field printable) (none_replaced (kept_by look) field printable))
+
+    same : field_text look field ≡ field
+    same = rw none (by_raw look.is_raw)
+
+-- so is a number
 pub number_lines : (look : Look) → look.is_markdown ≡ false → (n : ℕ) → All (λ text. (is_printable_ascii text ≡ true) × (length text ≤ 64)) (plain_cell (field_text look (decimal n))).text_lines
 number_lines look none n =
-    subst (λ (text : Text). All Is (plain_cell text).text_lines) (sym same) (subst (All Is) (sym whole) (All-cons Is (decimal n) [] (printable, number_is_short n) (All-nil Is)))
+    subst (All Is) (sym (drawn_in_one_line look none (decimal n) (number_is_printable n))) (All-cons Is (decimal n) [] (number_is_printable n, number_is_short n) (All-nil Is))
   where
     Is : Text → Type 0
     Is text = (is_printable_ascii text ≡ true) × (length text ≤ 64)
-
-    printable : is_printable_ascii (decimal n) ≡ true
-    printable = number_is_printable n
-
-    whole : (plain_cell (decimal n)).text_lines ≡ decimal n ∷ []
-    whole = slice_split_none (λ b. b == 0x0A) (decimal n) (All-none (λ b. b == 0x0A) (decimal n) (none_pass (λ b. b == 0x0A) no_break (decimal n) printable))
-
-    by_raw : (is_raw : Bool) → (if is_raw then decimal n else cleaned (kept_by look) (decimal n)) ≡ decimal n
-    by_raw true = refl
-    by_raw false = sym (drawn_so (kept_by look) (decimal n) (IsUtf8-printable (decimal n) printable) (none_replaced (kept_by look) (decimal n) printable))
-
-    same : field_text look (decimal n) ≡ decimal n
-    same = rw none (by_raw look.is_raw)

@@ -30,7 +30,7 @@ placed names rows ps right left columns None is =
     sym (positions-shown right left rows ps) ∙ ap (map (λ (column : DrawnColumn). column.position)) same
 
 -- the columns that are drawn stand at the chosen positions
-chosen : (names : List Text) (rows : List (List Text)) (positions right left : Result (List ℕ) ColumnFault) (columns : List DrawnColumn)
+pub chosen : (names : List Text) (rows : List (List Text)) (positions right left : Result (List ℕ) ColumnFault) (columns : List DrawnColumn)
     → columns_with names rows positions right left ≡ Ok columns → positions ≡ Ok (map (λ (column : DrawnColumn). column.position) columns)
 chosen names rows (Ok ps) (Ok right) (Ok left) columns is = ap Ok (placed names rows ps right left columns (at_two_sides right left) is)
 chosen names rows (Ok ps) (Ok right) (Err fault) columns is = absurd (cc is)

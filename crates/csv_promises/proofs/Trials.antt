@@ -1,17 +1,25 @@
--- Texts that the promises refuse.
-use Rattle.std.proofs.Common.{◌≡◌, ◌⊎◌, inl, inr, ◌==◌, ◌+◌, ◌≤◌, ℕ, List, [], ◌∷◌, ◌++◌, arith, codes, decimal, length, length-append, refl, sym, ap, ◌∙◌, subst, ◌&&◌, not, true, false}
-use Rattle.std.specs.List.{All, slice_split}
-use Rattle.std.proofs.lemmas.List.Elements.{All-head, All-tail}
+-- Texts and lines that the promises refuse, and records for which a promise is made.
+use Rattle.std.proofs.Common.{◌≡◌, ◌⊎◌, inl, inr, ◌==◌, ◌+◌, ◌<◌, ◌≤◌, ℕ, List, [], None, ◌∷◌, ◌++◌, arith, codes, decimal, length, length-append, refl, sym, ap, ◌∙◌, subst, ◌&&◌, not, true, false}
+use Rattle.std.specs.List.{All, AllByRecursion, slice_split}
+use Rattle.std.proofs.lemmas.List.Elements.{All-from_recursion, All-head, All-tail}
 use Rattle.std.specs.Char.{is_control}
+use Rattle.std.specs.Global.{Vec}
 use Rattle.std.specs.Str.{NoCharPasses}
 use Rattle.std.proofs.lemmas.Str.{NoCharPasses-byte}
 use lib.Utf8.{encode}
 use Rattle.comfy_parts.proofs.Computing.{wrapping}
-use Rattle.comfy_parts.specs.Text.{Text, measure}
+use Rattle.comfy_parts.specs.Presets.{utf8_full}
+use Rattle.comfy_parts.specs.Text.{Text, is_printable_ascii, measure}
 use Rattle.comfy_table.proofs.BreakLemmas.{terminated_lines}
 use Rattle.comfy_table.specs.Laws.{AreLinesOf}
+use Rattle.comfy_csv_parts.specs.declared.options.Expansion.TheVariants.{Auto}
+use Rattle.comfy_csv_parts.specs.declared.options.Look.{Look}
+use Rattle.comfy_csv_parts.specs.declared.options.Options.{Options}
+use Rattle.comfy_csv_parts.specs.declared.options.RowSeparators.TheVariants.{Styled}
+use Rattle.promises.specs.Kept.{StandIn}
 use Rattle.promises.specs.Shown.{IsHarmless, Shows}
 use Rattle.promises.specs.Shown.Shows.{nothing, byte, sequence}
+use Rattle.csv_promises.specs.Kept.{AsksForNothing, EachHasALine, IsPlainRecord}
 use Rattle.csv_promises.specs.Straight.{CountsRecords, IsStraight, ShowsColumns, counted}
 
 -- ---- straight edges
@@ -110,3 +118,60 @@ bell_is_harmful (shown, shows, none) =
     let own : NoCharPasses p (0x07 ∷ []) = subst (NoCharPasses p) (shows_bell shows refl) none in
     let is : true ≡ false = NoCharPasses-byte p (0x07 ∷ []) 0 own (omega arith) (omega arith) in
     cc is
+
+-- ---- records
+
+-- the look of a table with a header in bold
+abbrev bold : Look
+bold = record { style = utf8_full; separators = Styled; expansion = Auto; width = None; fills_width = false; max_height = None; has_bold_header = true; has_sequences = false; keeps_bidi = false; is_raw = false; is_markdown = false }
+
+-- no words choose columns, or leave some out
+abbrev no_words : {X : Type 0} → Vec X → Vec X
+no_words words = record words { len = 0; items = []; ok = (refl, omega arith) }
+
+-- options that ask for a header in bold, and for nothing else of a table
+abbrev asking : Options → Options
+asking options = record options { has_header = true; limit = None; columns = no_words options.columns; dropped = no_words options.dropped; look = bold }
+
+asks_for_nothing : (options : Options) → AsksForNothing (asking options)
+asks_for_nothing options = record { all_records = refl; none_chosen = refl; none_dropped = refl; no_width = refl; uncut = refl; no_markdown = refl; no_sequences = refl }
+
+-- a header, and a record that is shorter
+are_plain : All IsPlainRecord ((codes "day" ∷ codes "text" ∷ []) ∷ (codes "3 mai" ∷ []) ∷ [])
+are_plain = All-from_recursion IsPlainRecord ((codes "day" ∷ codes "text" ∷ []) ∷ (codes "3 mai" ∷ []) ∷ []) (is_plain (codes "day" ∷ codes "text" ∷ []) (omega arith) (refl, (refl, tt)) (omega arith, (omega arith, tt)), (is_plain (codes "3 mai" ∷ []) (omega arith) (refl, tt) (omega arith, tt), tt))
+  where
+    is_plain : (fields : List Text) → 0 < length fields → AllByRecursion (λ field. is_printable_ascii field ≡ true) fields → AllByRecursion (λ field. length field ≤ 65535) fields → IsPlainRecord fields
+    is_plain fields some printable short = record { some_field = some; printable = All-from_recursion (λ field. is_printable_ascii field ≡ true) fields printable; short = All-from_recursion (λ field. length field ≤ 65535) fields short }
+
+-- nothing stands in an empty list
+none_in_nothing : {A : Type 0} (before part behind : List A) (x : A) → ¬ ([] ≡ before ++ ((x ∷ part) ++ behind))
+none_in_nothing [] part behind x is = cc is
+none_in_nothing (b ∷ before) part behind x is = cc is
+
+-- the field at the right stands at the left
+turned_round : (line : Text) → line ≡ codes "ba" → ¬ (StandIn (codes "a" ∷ codes "b" ∷ []) line)
+turned_round line is (before, behind, made, (between, rest, are, end)) = by_before before (sym is ∙ made)
+  where
+    by_before : (before : Text) → ¬ (codes "ba" ≡ before ++ (0x61 ∷ behind))
+    by_before [] same = let letter : ◌≡◌ {A = ℕ} 0x62 0x61 = cc same in absurd (omega (arith, letter))
+    by_before (x ∷ []) same = let gone : [] ≡ behind = cc same in none_in_nothing between [] rest 0x62 (gone ∙ are)
+    by_before (x ∷ y ∷ more) same = none_in_nothing more [] behind 0x61 (let end : [] ≡ more ++ (0x61 ∷ behind) = cc same in end)
+
+-- false: csv_promises::lines_of_records
+fields_are_turned_round : ¬ (EachHasALine ((codes "a" ∷ codes "b" ∷ []) ∷ []) (codes "ba" ∷ []))
+fields_are_turned_round ([], stand, each) = each
+fields_are_turned_round (line ∷ drawn, (before, behind, made, later), (fields, more)) = by_before before made
+  where
+    by_before : (before : List Text) → ¬ (codes "ba" ∷ [] ≡ before ++ (line ∷ behind))
+    by_before [] same = let own : codes "ba" ≡ line = cc same in turned_round line (sym own) fields
+    by_before (x ∷ before) same = none_in_nothing before [] behind line (let end : [] ≡ before ++ (line ∷ behind) = cc same in end)
+
+-- two records share a line
+records_share_a_line : ¬ (EachHasALine ((codes "a" ∷ []) ∷ (codes "b" ∷ []) ∷ []) (codes "ab" ∷ []))
+records_share_a_line ([], stand, each) = each
+records_share_a_line (one ∷ [], stand, each) = each.1
+records_share_a_line (one ∷ other ∷ drawn, (before, behind, made, (between, rest, are, later)), each) = by_before before made
+  where
+    by_before : (before : List Text) → ¬ (codes "ab" ∷ [] ≡ before ++ (one ∷ behind))
+    by_before [] same = let gone : [] ≡ behind = cc same in none_in_nothing between [] rest other (gone ∙ are)
+    by_before (x ∷ before) same = none_in_nothing before [] behind one (let end : [] ≡ before ++ (one ∷ behind) = cc same in end)

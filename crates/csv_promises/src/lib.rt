@@ -3,4 +3,5 @@
 #![tactic(auto)]
 
 pub mod harmless;
+pub mod kept;
 pub mod straight;

@@ -42,7 +42,7 @@ use Rattle.promises.specs.Tables.{IsShownWhole}
 
 module _ {A : Type 0} where
   -- behind something else
-  stand_later : (parts : List (List A)) (front whole : List A) → StandIn parts whole → StandIn parts (front ++ whole)
+  pub stand_later : (parts : List (List A)) (front whole : List A) → StandIn parts whole → StandIn parts (front ++ whole)
   stand_later [] front whole stand = tt
   stand_later (part ∷ parts) front whole (before, behind, is, rest) =
       (front ++ before, behind, ap (λ (t : List A). front ++ t) is ∙ sym (append_assoc front before (part ++ behind)), rest)

@@ -1,0 +1,21 @@
+//! No field is lost.
+
+ghost use Rattle.std.specs.Prelude.{IfOk};
+ghost use Rattle.csv_promises.specs.Kept.{ShowRecords};
+
+use comfy_csv::{CsvError, Options, Records, table_of};
+use comfy_table::Lines;
+use std::alloc::Global;
+
+/// The lines of a table of these records. Where nothing is asked for but a style, a header in bold
+/// or not, raw fields and sides for columns, each record of printable ASCII has a line of its own,
+/// in which its fields stand unchanged. Records may differ in how many fields they have.
+pub fn lines_of_records(
+    alloc: Global,
+    records: Records,
+    options: &Options,
+) -> Result<Lines, CsvError>
+    ensures { IfOk result (λ lines. ShowRecords options.now records lines) }
+{
+    Ok(table_of(alloc, records, options)?.lines()?)
+}
