@@ -6,9 +6,10 @@ use Rattle.comfy_csv_parts.specs.declared.arguments.Asked.{Asked}
 use Rattle.comfy_csv_parts.specs.declared.arguments.Surroundings.{Surroundings}
 use Rattle.comfy_csv.specs.Drawn.{AreRecordsFor, IsOutputFor}
 
--- words ask for a table of cleaned fields in which no sequences are kept; and these are the records of an input, and its output
-pub record IsWritten (words : List Text) (surroundings : Surroundings) (asked : Asked) (input : Text)
-    (records : List (List Text)) (output : Text) : Type 0 where
+-- words ask for a table of cleaned fields in which no sequences are kept; and these are the records
+-- of an input, and its output
+pub record IsWritten (words : List Text) (surroundings : Surroundings) (asked : Asked)
+    (input : Text) (records : List (List Text)) (output : Text) : Type 0 where
   pub is_asked : IsAsked words surroundings asked
   pub tidy : asked.options.look.is_raw ≡ false
   pub unkept : asked.options.look.has_sequences ≡ false

@@ -23,7 +23,8 @@ pub fn straight_output(
     input: &[u8],
     room: usize,
 ) -> Option<(Records, MemorySink)>
-    ensures { IfSome result (λ drawn. EachField (HasCharactersWithin 1) drawn.0 → IsStraight drawn.1.bytes) }
+    ensures { IfSome result (λ drawn.
+        EachField (HasCharactersWithin 1) drawn.0 → IsStraight drawn.1.bytes) }
 {
     outputs_are_straight();
     outputs_are_one();
@@ -59,7 +60,8 @@ fn written(
     input: &[u8],
     room: usize,
 ) -> Option<(Asked, Records, MemorySink)>
-    ensures { IfSome result (λ w. IsWritten (map (λ x. x.now) words.entry.now) surroundings.entry w.0 input.now w.1 w.2.bytes) }
+    ensures { IfSome result (λ w.
+        IsWritten (map (λ x. x.now) words.entry.now) surroundings.entry w.0 input.now w.1 w.2.bytes) }
 {
     let asked = asked_of(alloc, words, surroundings).ok()?;
     let look = asked.options.look;
