@@ -51,7 +51,8 @@ abbrev pub HasLines : Bool → ContentValue → List Text → Text → Type 0
 HasLines false content lines text = AreLinesOf text lines
 HasLines true content lines text =
     (parts : ℕ → List Text) × ((at : ℕ) → All (Contains lines) (parts at)) × All HasNoBreak lines
-    × (text ≡ flat_map (numbered_lines content.count parts) (range_with_len 0 (length content.rows)))
+    × (text
+    ≡ flat_map (numbered_lines content.count parts) (range_with_len 0 (length content.rows)))
 
 -- an output has these lines, before the line on records that aren't drawn
 pub record IsOutputWith (options : Options) (records : List (List Text)) (output : Text) (lines : List Text) : Type 0 where
@@ -109,8 +110,8 @@ pub record IsLookWithoutControls (look : Look) : Type 0 where
   pub cleaned : look.is_raw ≡ false
   pub style : IsStyleWithoutControls look.style
 
--- lines are seen as they are written, where nothing is in bold; or without their sequences, where no
--- control character stands beside these
+-- lines are seen as they are written, where nothing is in bold; or without their sequences, where
+-- no control character stands beside these
 abbrev pub AreSeen : Bool → Look → List (List Text) → Type 0
 AreSeen false look records = look.has_bold_header ≡ false
 AreSeen true look records = IsLookWithoutControls look × All AllText records
@@ -150,9 +151,10 @@ UnbrokenColumnIsWhole w look content has_separators widths i =
 abbrev pub EachText : (Text → Type 0) → Look → List (List Text) → Type 0
 EachText P look records = All (λ (fields : List Text). All (λ (field : Text). All P (plain_cell (field_text look field)).text_lines) fields) records
 
--- the lines of an output, as they are seen, take the same number of terminal columns each; and where
--- that is without their sequences, no control character is visible of them
-pub record IsStraightOutput (visible : Bool) (options : Options) (records : List (List Text)) (output : Text) : Type 0 where
+-- the lines of an output, as they are seen, take the same number of terminal columns each; and
+-- where that is without their sequences, no control character is visible of them
+pub record IsStraightOutput (visible : Bool) (options : Options)
+    (records : List (List Text)) (output : Text) : Type 0 where
   pub lines : List Text
   pub is_output : IsOutputWith options records output lines
   pub equally_wide : AreEquallyWide (seen_lines visible lines)

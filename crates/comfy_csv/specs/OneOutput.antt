@@ -32,8 +32,8 @@ RecordsAreOne options input records others =
 -- two outputs for one input by such options are equal
 abbrev pub OutputIsOne : Options → Options → Text → Text → Text → Type 0
 OutputIsOne options others input output other =
-    AreSameOptions options others → IsOutputFor options input output → IsOutputFor others input other
-    → output ≡ other
+    AreSameOptions options others → IsOutputFor options input output
+    → IsOutputFor others input other → output ≡ other
 
 -- so are two outputs for the same records
 abbrev pub OutputOfIsOne : Options → List (List Text) → Text → Text → Type 0
