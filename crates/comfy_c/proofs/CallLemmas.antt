@@ -18,21 +18,9 @@ module _ (text buffer : Text) where
   pub front-put : nat_le (length text) (length buffer) ≡ true → with_front text buffer ≡ text ++ drop (length text) buffer
   front-put fits = ap (λ is. cond is (text ++ drop (length text) buffer) buffer) fits
 
-  -- one that doesn't fit changes nothing
-  pub front-left : nat_le (length text) (length buffer) ≡ false → with_front text buffer ≡ buffer
-  front-left fits = ap (λ is. cond is (text ++ drop (length text) buffer) buffer) fits
-
   -- what stands at the front is the text
   pub front-taken : nat_le (length text) (length buffer) ≡ true → take (length text) (with_front text buffer) ≡ text
   front-taken fits = ap (take (length text)) (front-put fits) ∙ take_at text _ _ refl
-
-  -- what follows it stays
-  pub behind-front : drop (length text) (with_front text buffer) ≡ drop (length text) buffer
-  behind-front = by_test (nat_le (length text) (length buffer)) refl
-    where
-      by_test : (fits : Bool) → nat_le (length text) (length buffer) ≡ fits → drop (length text) (with_front text buffer) ≡ drop (length text) buffer
-      by_test true fits = ap (drop (length text)) (front-put fits) ∙ drop_at text _ _ refl
-      by_test false fits = ap (drop (length text)) (front-left fits)
 
 module _ (P : Text → Type 0) (bytes buffer : Text) {text after : Text} {needed : ℕ} (counted : needed ≡ length bytes) (put : after ≡ with_front bytes buffer) (same : bytes ≡ text) (so : P text) where
   -- what holds of a text holds of what stands at the front of a buffer that had room for it

@@ -74,12 +74,6 @@ module _ (options : Options) (input : Text) (ended failed : Bool) (whole : ended
   of_input Read why = absurd why
   of_input Write why = absurd why
 
--- an input that has a text, and is to be UTF-8, is it
-utf8_if_wanted : (encoding : Encoding) (input text : Text) → IsTextIn encoding input text → encoding ≡ Utf8 → IsUtf8 input
-utf8_if_wanted Utf8 input text is wanted = is.0
-utf8_if_wanted Cp1252 input text is wanted = absurd (cc wanted)
-utf8_if_wanted Utf16 input text is wanted = absurd (cc wanted)
-
 module _ (options : Options) (input : Text) where
   -- where it has no text
   in_encoding : (encoding : Encoding) (e : CsvError) → encoding_of options.encoding input ≡ encoding → IsRefusedIn encoding input e → IsInputRefusal options input e
@@ -115,41 +109,5 @@ module _ (options : Options) (input : Text) where
   of_decoding e why = in_encoding _ e refl why
 
   module _ (text : Text) (is_text : IsTextFor options input text) where
-    -- where that has no records
-    pub of_records : (e : CsvError) → IsTextWithoutRecords options text e → IsInputRefusal options input e
-    of_records (Unclosed line) why = (text, is_text, why)
-    of_records SplitCharacter why = (text, is_text, why)
-    of_records OutOfMemory why = utf8_if_wanted _ input text is_text
-    of_records Read why = absurd why
-    of_records Write why = absurd why
-    of_records (NotUtf8 line) why = absurd why
-    of_records (NotUtf16 line) why = absurd why
-    of_records (NoColumn name) why = absurd why
-    of_records (TwoSides name) why = absurd why
 
   module _ (records : List (List Text)) (are_records : AreRecordsFor options input records) where
-    -- where columns can't be chosen so
-    pub of_columns : (e : CsvError) → records ≢ [] → IsColumnRefusal e (content_of options records) → IsInputRefusal options input e
-    of_columns (NoColumn name) any why = record { records = records; are_records = are_records; are_any = any; no_content = why }
-    of_columns (TwoSides name) any why = record { records = records; are_records = are_records; are_any = any; no_content = why }
-    of_columns OutOfMemory any why = utf8_if_wanted _ input are_records.text are_records.is_text
-    of_columns Read any why = absurd why
-    of_columns Write any why = absurd why
-    of_columns (NotUtf8 line) any why = absurd why
-    of_columns (NotUtf16 line) any why = absurd why
-    of_columns (Unclosed line) any why = absurd why
-    of_columns SplitCharacter any why = absurd why
-
--- the output of records is that of any
-pub of_any : (options : Options) (records : List (List Text)) (output : Text) → records ≢ [] → IsOutputOf options records output → IsOutputOfAny options records output
-of_any options [] output any is = absurd (any refl)
-of_any options (first ∷ rest) output any is = is
-
-pub of_none : (options : Options) (records : List (List Text)) (output : Text) → records ≡ [] → output ≡ [] → IsOutputOfAny options records output
-of_none options [] output none is = is
-of_none options (first ∷ rest) output none is = absurd (cc none)
-
--- where records were found, their fields are
-pub some_left : (rows : List Row) → (length rows == 0) ≡ false → map fields_of rows ≢ []
-some_left [] none all = absurd (cc none)
-some_left (row ∷ rows) some all = absurd (cc all)

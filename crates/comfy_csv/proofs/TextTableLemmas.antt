@@ -17,11 +17,6 @@ use Rattle.comfy_csv_parts.specs.declared.options.DrawnColumn.{DrawnColumn}
 abbrev pub EachLine : (Text → Type 0) → Look → Text → Type 0
 EachLine P look field = All P (plain_cell (field_text look field)).text_lines
 
--- lines between rows change no field
-pub each_separated : (P : Text → Type 0) (look : Look) (has : Bool) (field : Text) → EachLine P look field → EachLine P (separated has look) field
-each_separated P look true field own = own
-each_separated P look false field own = own
-
 module _ (P : Text → Type 0) (empty : P []) (look : Look) where
   -- a cell's weight changes no text line
   weighted : (is_bold : Bool) (cell : CellValue) → All P cell.text_lines → All P (with_weight is_bold cell).text_lines

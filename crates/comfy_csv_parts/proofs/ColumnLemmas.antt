@@ -81,11 +81,6 @@ module _ (keeps : Bool) (position : ℕ) where
   pub numbers-all : (rows : List (List Text)) → numbers_left false rows ≡ is_number_column (map (seen keeps) rows) position
   numbers-all rows = rw (any-seen is_other_kind rows, any-seen is_number_kind rows) refl
 
-  -- one row less
-  pub number-more : (has_number : Bool) (row : List Text) (rows : List (List Text)) → row_kind row ≡ Number → numbers_left has_number (row ∷ rows) ≡ numbers_left true rows
-  number-more false row rows is = rw is refl
-  number-more true row rows is = rw is refl
-
   pub neutral-more : (has_number : Bool) (row : List Text) (rows : List (List Text)) → row_kind row ≡ Neutral → numbers_left has_number (row ∷ rows) ≡ numbers_left has_number rows
   neutral-more has_number row rows is = rw is refl
 

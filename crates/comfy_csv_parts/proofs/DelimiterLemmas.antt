@@ -60,9 +60,6 @@ boundary_behind (a ∷ b ∷ rest) utf8 = by_ends ((a == 0x0D) && (b == 0x0A)) r
 
 -- ---- ends of a text
 
-pub EndsIn-same : (text : Text) → EndsIn text text
-EndsIn-same text = ([], refl)
-
 pub EndsIn-trans : (text rest end : Text) → EndsIn text rest → EndsIn rest end → EndsIn text end
 EndsIn-trans text rest end (front, is) (more, others) = (front ++ more, is ∙ ap (λ (t : Text). front ++ t) others ∙ sym (append_assoc front more end))
 

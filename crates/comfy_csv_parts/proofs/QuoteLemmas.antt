@@ -137,9 +137,6 @@ module _ (delimiter : ℕ) (text : Text) where
   abbrev pub WalksOutside : ℕ → Type 0
   WalksOutside at = IsOutside (is_opening delimiter text at) (state_at at) ⊎ ClosesAt delimiter text at
 
-  pub begins : WalksOutside 0
-  begins = inl refl
-
   one_more : (at : ℕ) → at < length text → state_at (at + 1) ≡ (step (config_for delimiter true) (state_at at) (slice_index text at)).0
   one_more at within =
       ap (state_after delimiter) (take_more text at 0 within)
@@ -203,14 +200,6 @@ module _ (delimiter : ℕ) (text : Text) where
 
   still_behind : (s : State) → s ≡ st.AfterQuote → is_in_quoted_field s ≡ true
   still_behind s is = rw is refl
-
-  pub quotes_begin : (from : ℕ) → state_at from ≡ st.InQuoted → StaysQuoted delimiter text from from
-  quotes_begin from is = record {
-    goes_on = λ n low high.
-        let same : n ≡ from = omega (arith, low, high) in
-        rw same (still_quoted (state_at from) is);
-    is_open = is;
-  }
 
   goes_on_to : (from to : ℕ) → StaysQuoted delimiter text from to → is_in_quoted_field (state_at (to + 1)) ≡ true
       → (n : ℕ) → from ≤ n → n ≤ to + 1 → is_in_quoted_field (state_at n) ≡ true
@@ -361,32 +350,6 @@ module _ (delimiter : ℕ) (text : Text) where
           sym (ap (drop (length a.before)) a.parts ∙ drop-append_seam a.before one) ∙ ap (λ (m : ℕ). drop m text) same ∙ ap (drop (length b.before)) b.parts ∙ drop-append_seam b.before other
 
 -- ---- a byte-order mark
-
-abbrev pub mark : Text
-mark = 0xEF ∷ 0xBB ∷ 0xBF ∷ []
-
-abbrev empty : Text
-empty = []
-
--- what stands behind it
-pub behind_mark : (text : Text) (is_there : Bool) → starts_with eqb text mark ≡ is_there → strip_bom text ≡ (if is_there then drop 3 text else text)
-unfolding strip_bom
-behind_mark [] is_there is = by_test is_there is
-  where
-    by_test : (b : Bool) → false ≡ b → empty ≡ (if b then drop 3 empty else empty)
-    by_test true is = refl
-    by_test false is = refl
-behind_mark (a ∷ []) true is = absurd (grind (arith, is, tests))
-behind_mark (a ∷ []) false is = refl
-behind_mark (a ∷ b ∷ []) true is = absurd (grind (arith, is, tests))
-behind_mark (a ∷ b ∷ []) false is = refl
-behind_mark (a ∷ b ∷ c ∷ text) is_there is = by_mark (is_bom a b c) refl is_there is
-  where
-    by_mark : (v : Bool) → is_bom a b c ≡ v → (b2 : Bool) → starts_with eqb (a ∷ b ∷ c ∷ text) mark ≡ b2 → (if v then text else a ∷ b ∷ c ∷ text) ≡ (if b2 then text else a ∷ b ∷ c ∷ text)
-    by_mark true has true is = refl
-    by_mark false has false is = refl
-    by_mark true has false is = absurd (grind (arith, has, is, tests))
-    by_mark false has true is = absurd (grind (arith, has, is, tests))
 
 -- how many bytes are passed over
 pub marked : (text : Text) → (n : ℕ) × (strip_bom text ≡ drop n text) × (n ≤ length text) × (n + length (strip_bom text) ≡ length text)

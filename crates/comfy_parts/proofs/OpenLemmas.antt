@@ -22,22 +22,6 @@ pub opened-visible : (ss : List Text) (bs : Text) (ps : List Part) → opened ss
 opened-visible ss [] ps = refl
 opened-visible ss (b ∷ bs) ps = opened-visible ss bs ps
 
--- both ways round
-bytes_eq-comm : (xs ys : Text) → bytes_eq xs ys ≡ bytes_eq ys xs
-bytes_eq-comm [] [] = refl
-bytes_eq-comm [] (y ∷ ys) = refl
-bytes_eq-comm (x ∷ xs) [] = refl
-bytes_eq-comm (x ∷ xs) (y ∷ ys) = ap₂ (λ a b. a && b) (nat_eq_equiv.symm x y) (bytes_eq-comm xs ys)
-
--- a sequence leaves one open where it isn't the reset
-pub is_open-sequence : (ss : List Text) (s : Text) (b : Bool) → b ≡ not (bytes_eq s reset) → b ≡ not (length (opened_by ss (sequence_part s)) == 0)
-is_open-sequence ss s b is =
-    is ∙ ap not (bytes_eq-comm s reset)
-    ∙ elim (bytes_eq reset s) as (λ t. not t ≡ not (length (if t then [] else ss ++ s ∷ []) == 0)) [
-      | true ↦ refl
-      | false ↦ let some : (length (ss ++ s ∷ []) == 0) ≡ false = grind (arith, nat_tests, length-append ss (s ∷ [])) in sym (ap not some)
-    ]
-
 -- ---- what is known of them
 
 -- another sequence than the reset

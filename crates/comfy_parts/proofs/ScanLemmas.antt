@@ -59,15 +59,6 @@ joined_bytes : (ps qs : List Part) (rest : Text) → bytes_of (ps ++ qs) ++ rest
 joined_bytes ps qs rest =
     ap (λ xs. xs ++ rest) (flat_map-append (λ (p : Part). p.bytes) ps qs) ∙ append_assoc (bytes_of ps) (bytes_of qs) rest
 
--- parts before scanned parts
-pub scanned-append : (ps qs : List Part) (rest : Text) → AreScanned ps (bytes_of qs ++ rest) → AreScanned qs rest → AreScanned (ps ++ qs) rest
-scanned-append [] qs rest scanned more = more
-scanned-append (p ∷ ps) qs rest (inl part, scanned) more = (inl part, scanned-append ps qs rest scanned more)
-scanned-append (p ∷ ps) qs rest (inr part, scanned) more = (
-  inr (subst (λ t. IsVisibleBefore t p) (sym (joined_bytes ps qs rest)) part),
-  scanned-append ps qs rest scanned more,
-)
-
 -- the two parts of such a list
 pub scanned-parts : (ps qs : List Part) (rest : Text) → AreScanned (ps ++ qs) rest → AreScanned ps (bytes_of qs ++ rest) × AreScanned qs rest
 scanned-parts [] qs rest scanned = (tt, scanned)

@@ -43,9 +43,6 @@ line-cut w d text utf8 some begins =
       lines = ap (wrapped w d) it.splits ∙ lines ∙ ap₂ (λ a b. a ∷ wrapped w d b) (sym front) (sym back);
     }
 
-pub not_empty : (n : ℕ) (b : Bool) → b ≡ (n == 0) → b ≡ false → 0 < n
-not_empty n b test fails = grind (arith, nat_tests, test, fails)
-
 -- an empty text has no lines
 pub wrapped-empty : (w d : ℕ) (text : Text) (b : Bool) → b ≡ (length text == 0) → b ≡ true → wrapped w d text ≡ []
 unfolding lines_past

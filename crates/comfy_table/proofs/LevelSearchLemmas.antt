@@ -16,16 +16,6 @@ use Rattle.comfy_table.proofs.TakingLemmas.{count_at-shares_of}
 abbrev pub need_at : ℕ → ℕ → ColumnNeeds → ℕ
 need_at level other column = unwrap_or (settled_at (Some level) column) other
 
--- A width of at least 1 that is at most the level and at most the content, where these are at least 1.
-record Settles (level : ℕ) (column : ColumnNeeds) (width : ℕ) : Type 0 where
-  some : 1 ≤ width
-  of_level : width ≤ max 1 level
-  of_content : width ≤ max 1 column.content
-
--- what a level settles is such a width
-settles : (level : ℕ) (column : ColumnNeeds) (width : ℕ) → settled_at (Some level) column ≡ Some width → Settles level column width
-settles level column width is = grind arith
-
 -- what is needed at a level is at most the level
 need_within : (level : ℕ) (column : ColumnNeeds) → 1 ≤ level → need_at level level column ≤ level
 need_within level column one = grind arith

@@ -35,29 +35,3 @@ rows_stay (row ∷ rows) = ap (λ (more : List RowValue). row ∷ more) (rows_st
 -- without custom styling rows are measured as they are
 pub measured_plain : (table : TableValue) → table.custom_styling ≡ false → measured_rows table ≡ header_and_rows table
 measured_plain table plain = measured_rows-is table ∙ ap (λ (custom : Bool). map (row_measured custom) (header_and_rows table)) plain ∙ rows_stay (header_and_rows table)
-
--- texts without ESC are visible as they are
-texts_stay : (texts : List Text) → All HasNoEscape texts → map visible_text texts ≡ texts
-texts_stay [] clear = refl
-texts_stay (text ∷ texts) clear =
-    ap₂ (λ (t : Text) (ts : List Text). t ∷ ts) (visible_text-is text text (Shows-clear text (All-head HasNoEscape text texts clear))) (texts_stay texts (All-tail HasNoEscape text texts clear))
-
-cells_stay : (cells : List CellValue) → All (λ (cell : CellValue). All HasNoEscape cell.text_lines) cells → map visible_cell cells ≡ cells
-cells_stay [] clear = refl
-cells_stay (cell ∷ cells) clear =
-    let own = All-head (λ (c : CellValue). All HasNoEscape c.text_lines) cell cells clear in
-    ap₂ (λ (c : CellValue) (cs : List CellValue). c ∷ cs) (ap (λ (texts : List Text). record cell { text_lines = texts }) (texts_stay cell.text_lines own)) (cells_stay cells (All-tail (λ (c : CellValue). All HasNoEscape c.text_lines) cell cells clear))
-
-visible_rows_stay : (rows : List RowValue) → All (λ (row : RowValue). All (λ (cell : CellValue). All HasNoEscape cell.text_lines) row.cells) rows → map (row_measured true) rows ≡ rows
-visible_rows_stay [] clear = refl
-visible_rows_stay (row ∷ rows) clear =
-    let P : RowValue → Type 0 = λ r. All (λ (c : CellValue). All HasNoEscape c.text_lines) r.cells in
-    ap₂ (λ (r : RowValue) (rs : List RowValue). r ∷ rs) (ap (λ (cells : List CellValue). record row { cells = cells }) (cells_stay row.cells (All-head P row rows clear))) (visible_rows_stay rows (All-tail P row rows clear))
-
--- so rows of such texts are measured as they are, with custom styling too
-pub measured_clear : (table : TableValue) → EachText HasNoEscape table → measured_rows table ≡ header_and_rows table
-measured_clear table clear = measured_rows-is table ∙ by_custom table.custom_styling
-  where
-    by_custom : (custom : Bool) → map (row_measured custom) (header_and_rows table) ≡ header_and_rows table
-    by_custom true = visible_rows_stay (header_and_rows table) clear
-    by_custom false = rows_stay (header_and_rows table)
