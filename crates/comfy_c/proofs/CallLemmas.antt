@@ -1,6 +1,6 @@
 -- What a call returns, and what it makes of the caller's buffer.
-use Rattle.std.proofs.Common.{◌≡◌, ◌∙◌, Bool, true, false, cond, List, ℕ, ◌++◌, ap, ap₂, drop, inl, length, nat_le, refl, subst, sym, take}
-use Rattle.std.proofs.lemmas.List.{drop_at, take_at}
+use Rattle.std.proofs.Common.{◌≡◌, ◌∙◌, true, cond, List, ℕ, ◌++◌, ap, ap₂, drop, inl, length, nat_le, refl, subst, sym, take}
+use Rattle.std.proofs.lemmas.List.{take_at}
 use Rattle.std.proofs.lemmas.Str.{IsUtf8-string_bytes}
 use Rattle.std.specs.Prelude.{IsUtf8, Option, Some}
 use Rattle.comfy_parts.specs.Text.{Text}

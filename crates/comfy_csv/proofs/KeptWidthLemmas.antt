@@ -15,11 +15,11 @@ use Rattle.comfy_table.specs.Dynamic.{Share, Steps, added, all_shares, contents_
 use Rattle.comfy_table.specs.TableValue.{TableValue, column_content_width, shown_columns, table_width}
 use Rattle.comfy_table.specs.Widths.{ColumnNeeds, even_spread, needs_of, part_of, shown_needs}
 use Rattle.comfy_csv.proofs.LineLemmas.{Any, any_built, any_drawn, kept_setting}
-use Rattle.comfy_csv.proofs.SeparatorLemmas.{restyled}
+use Rattle.comfy_csv.proofs.SeparatorLemmas.{restyled, separated}
 use Rattle.comfy_csv.proofs.UnbrokenLemmas.{kept-test}
 use Rattle.comfy_csv.proofs.WholeColumnLemmas.{all_shown}
 use Rattle.comfy_csv.proofs.WholeTableLemmas.{drawn-is, whole_separated}
-use Rattle.comfy_csv.specs.Drawn.{ContentValue, arrangement_for, empty_table, output_table, rows_table, separated, separated_table}
+use Rattle.comfy_csv.specs.Drawn.{ContentValue, arrangement_for, empty_table, output_table, rows_table, separated_table}
 use Rattle.comfy_csv.specs.Laws.{UnbrokenColumnIsWhole}
 use Rattle.comfy_csv.specs.Unbroken.{kept_whole, unbroken_columns, whole_columns, with_whole}
 use Rattle.comfy_csv_parts.specs.declared.options.Look.{Look}

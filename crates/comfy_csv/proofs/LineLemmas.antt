@@ -19,10 +19,10 @@ use Rattle.comfy_table.specs.TableLaws.{shown_contents, wider_total}
 use Rattle.comfy_table.specs.TableValue.{TableValue, table_width}
 use Rattle.comfy_table.specs.Widths.{shown_count}
 use Rattle.comfy_csv.proofs.BuiltLemmas.{Built, built, plain_table}
-use Rattle.comfy_csv.proofs.SeparatorLemmas.{condensed-all}
+use Rattle.comfy_csv.proofs.SeparatorLemmas.{condensed-all, separated}
 use Rattle.comfy_csv.proofs.WholeTableLemmas.{HasRoom, IsDrawn, drawn-is, drawn_table-is, least-fits, unconstrained-drawn, wider-fits}
 use Rattle.comfy_csv_parts.specs.Cells.{row_for}
-use Rattle.comfy_csv.specs.Drawn.{ContentValue, IsOutputOf, IsTableText, IsText, condensed_style, empty_table, is_expanded_for, is_expanded_in, output_table, pairs_of, rows_table, separated, separated_table, table_text}
+use Rattle.comfy_csv.specs.Drawn.{ContentValue, IsOutputOf, IsTableText, IsText, condensed_style, empty_table, is_expanded_for, is_expanded_in, output_table, pairs_of, rows_table, separated_table, table_text}
 use Rattle.comfy_csv.specs.Laws.{EachLineHas, HasLines, IsFilling, IsOutputWith, IsWithin, OutputFillsWidth, OutputKeepsToWidth}
 use Rattle.comfy_csv_parts.specs.declared.options.Look.{Look}
 use Rattle.comfy_csv_parts.specs.declared.options.Options.{Options}

@@ -39,10 +39,10 @@ use Rattle.comfy_csv.proofs.BuiltLemmas.{Built, EachOf, each_content, plain_tabl
 use Rattle.comfy_csv.proofs.FieldLemmas.{number_is_printable, printable_unbroken}
 use Rattle.comfy_csv.proofs.LineLemmas.{drawn, never_expanded, with_lines}
 use Rattle.comfy_csv.proofs.OutputLemmas.{markdown_unbroken}
-use Rattle.comfy_csv.proofs.SeparatorLemmas.{condensed-all}
+use Rattle.comfy_csv.proofs.SeparatorLemmas.{condensed-all, separated}
 use Rattle.comfy_csv.proofs.TextTableLemmas.{EachLine, MakesRows, cells_each, pair_each, rows_of_texts, table_of_texts}
 use Rattle.comfy_csv.proofs.WholeTableLemmas.{IsDrawn, drawn-is, drawn_plain, drawn_table-is, measured-drawn}
-use Rattle.comfy_csv.specs.Drawn.{ContentValue, IsMarkdownText, IsOutputOf, IsOutputOfAny, IsTableText, IsText, below_first, condensed_style, markdown_content, markdown_look, markdown_table, note_for, output_table, record_line, rows_table, separated, separated_table}
+use Rattle.comfy_csv.specs.Drawn.{ContentValue, IsMarkdownText, IsOutputOf, IsOutputOfAny, IsTableText, IsText, below_first, condensed_style, markdown_content, markdown_look, markdown_table, note_for, output_table, record_line, rows_table, separated_table}
 use Rattle.comfy_csv.specs.Laws.{AskedOutputHoldsNoControls, HasLines, InputIsDrawnWithoutControls, IsLookWithoutControls, IsOutputWith, OutputHoldsNoControls}
 
 -- ---- rows

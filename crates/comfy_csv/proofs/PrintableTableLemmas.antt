@@ -19,10 +19,11 @@ use Rattle.comfy_csv.proofs.StraightLemmas.{IsDefaultRowOf, IsSeenTable, default
 use Rattle.comfy_csv.proofs.TextTableLemmas.{EachLine, rows_of_texts, table_of_texts}
 use Rattle.comfy_csv.proofs.WholeColumnLemmas.{IsPaddedColumn}
 use Rattle.comfy_csv.proofs.WholeTableLemmas.{IsDrawn, columns-drawn, drawn-is, drawn_plain, drawn_table-is, rows-drawn}
-use Rattle.comfy_csv.specs.Drawn.{ContentValue, content_of, is_expanded_for, rows_table, separated}
+use Rattle.comfy_csv.specs.Drawn.{ContentValue, content_of, is_expanded_for, rows_table}
 use Rattle.comfy_csv.specs.Laws.{IsDrawnTable, PrintableLinesHave, PrintableTextsMakePrintableTable, seen_lines}
 use Rattle.comfy_csv_parts.specs.declared.options.Look.{Look}
 use Rattle.comfy_csv_parts.specs.declared.options.Options.{Options}
+use Rattle.comfy_csv.proofs.SeparatorLemmas.{separated}
 
 abbrev IsPrintable : Text → Type 0
 IsPrintable text = is_printable_ascii text ≡ true

@@ -1,14 +1,11 @@
 -- What the parts of a call of `draw` ensure, put together.
-use Rattle.std.proofs.Common.{◌≡◌, ◌≢◌, ◌==◌, Bool, true, false, length, map, List, [], ◌∷◌, ◌++◌, Option, Some, Ok, Err, refl}
-use Rattle.std.specs.Str.{IsUtf8}
+use Rattle.std.proofs.Common.{◌≡◌, Bool, true, false, List, [], ◌++◌, Option, Some, Ok, Err, refl}
 use Rattle.comfy_parts.specs.Text.{Text}
-use Rattle.csv.specs.Records.{Row, fields_of}
 use Rattle.comfy_run.specs.Outcome.{IsBeginningOnly, NoDeviceFailed, RunFacts}
-use Rattle.comfy_csv.specs.Drawn.{AreRecordsFor, IsOutputFor, IsOutputOf, IsOutputOfAny, content_of}
+use Rattle.comfy_csv.specs.Drawn.{AreRecordsFor, IsOutputFor}
 use Rattle.comfy_csv.specs.Run.{IsAfter, IsInputRefusal, IsReadFailure, IsRefusal}
-use Rattle.comfy_csv_parts.specs.Columns.{IsColumnRefusal}
-use Rattle.comfy_csv_parts.specs.Encoding.{IsRefusedIn, IsTextIn, encoding_of}
-use Rattle.comfy_csv_parts.specs.Reading.{IsTextFor, IsTextWithoutRecords}
+use Rattle.comfy_csv_parts.specs.Encoding.{IsRefusedIn, encoding_of}
+use Rattle.comfy_csv_parts.specs.Reading.{IsTextFor}
 use Rattle.comfy_csv_parts.specs.declared.encoding.Encoding.{Encoding}
 use Rattle.comfy_csv_parts.specs.declared.encoding.Encoding.TheVariants.{Cp1252, Utf16, Utf8}
 use Rattle.comfy_csv_parts.specs.declared.error.CsvError.{CsvError}

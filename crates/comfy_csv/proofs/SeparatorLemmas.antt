@@ -12,7 +12,12 @@ use Rattle.comfy_csv_parts.specs.Cells.{row_for}
 use Rattle.comfy_csv_parts.specs.declared.options.DrawnColumn.{DrawnColumn}
 use Rattle.comfy_csv_parts.specs.declared.options.Look.{Look}
 use Rattle.comfy_csv.proofs.BuiltLemmas.{plain_table}
-use Rattle.comfy_csv.specs.Drawn.{ContentValue, condensed_style, empty_table, headed_table, pairs_of, separated, separated_table}
+use Rattle.comfy_csv.specs.Drawn.{ContentValue, condensed_style, empty_table, headed_table, pairs_of, separated_table}
+
+-- a look with these lines, or without them
+abbrev pub separated : Bool → Look → Look
+separated true look = look
+separated false look = record look { style = condensed_style look.style }
 
 -- ---- styles
 

@@ -27,13 +27,13 @@ use Rattle.comfy_csv.proofs.FieldLemmas.{number_lines}
 use Rattle.comfy_csv.proofs.LineLemmas.{drawn, drawn_table, expansion, is_table_text, kept_setting, with_lines}
 use Rattle.comfy_csv.proofs.OutputControlLemmas.{free_output}
 use Rattle.comfy_csv.proofs.SeenLemmas.{ellipsis_is_apart, fitting_agree, printable_fits, wider_column}
-use Rattle.comfy_csv.proofs.SeparatorLemmas.{separated_is_one_column}
+use Rattle.comfy_csv.proofs.SeparatorLemmas.{separated_is_one_column, separated}
 use Rattle.comfy_csv.proofs.TextTableLemmas.{EachLine, MakesRows, cells_each, pair_each, table_of_texts}
 use Rattle.comfy_csv.proofs.WholeColumnLemmas.{IsPaddedColumn}
 use Rattle.comfy_csv.proofs.WholeTableLemmas.{IsDrawn, columns-drawn, drawn-is, drawn_table-is, padded-drawn, rows-drawn, unconstrained-drawn}
 use Rattle.comfy_csv_parts.specs.Cells.{cell_for, field_or_blank, field_text, with_weight}
 use Rattle.comfy_csv_parts.specs.Cleaning.{visible_of}
-use Rattle.comfy_csv.specs.Drawn.{ContentValue, IsOutputOf, IsTableText, content_of, empty_table, is_expanded_for, output_table, separated, separated_table}
+use Rattle.comfy_csv.specs.Drawn.{ContentValue, IsOutputOf, IsTableText, content_of, is_expanded_for, output_table, separated_table}
 use Rattle.comfy_csv.specs.Laws.{ArePlainLines, AreSeen, CanBeCut, EachText, FittingOutputIsStraight, IsStraightOutput, IsDrawnTable, NarrowLinesHave, NarrowOutputIsStraight, WholeOutputIsStraight, seen_lines}
 use Rattle.comfy_csv_parts.specs.declared.options.Look.{Look}
 use Rattle.comfy_csv_parts.specs.declared.options.Options.{Options}

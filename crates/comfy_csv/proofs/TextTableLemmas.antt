@@ -9,7 +9,7 @@ use Rattle.comfy_parts.specs.Text.{Text}
 use Rattle.comfy_csv.proofs.BuiltLemmas.{Built, EachOf, blank_drawn, built, built_rows, each_field, each_name, plain_table}
 use Rattle.comfy_csv_parts.specs.Cells.{cell_for, cells_for, field_text, field_or_blank, header_for, pair_for, row_for, with_weight}
 use Rattle.comfy_csv_parts.specs.Columns.{name_at}
-use Rattle.comfy_csv.specs.Drawn.{ContentValue, pairs_of, rows_table, separated}
+use Rattle.comfy_csv.specs.Drawn.{ContentValue, pairs_of, rows_table}
 use Rattle.comfy_csv_parts.specs.declared.options.Look.{Look}
 use Rattle.comfy_csv_parts.specs.declared.options.DrawnColumn.{DrawnColumn}
 

@@ -19,9 +19,9 @@ use Rattle.comfy_table.specs.TableLaws.{wider_total}
 use Rattle.comfy_table.specs.TableValue.{TableValue, max_content_widths, measured_rows, shown_columns}
 use Rattle.comfy_table.specs.Widths.{ColumnNeeds, needs_of, shown_count, shown_needs}
 use Rattle.comfy_csv.proofs.BuiltLemmas.{Built, plain_table}
-use Rattle.comfy_csv.proofs.SeparatorLemmas.{restyled}
+use Rattle.comfy_csv.proofs.SeparatorLemmas.{restyled, separated}
 use Rattle.comfy_csv.proofs.WholeColumnLemmas.{AreNeeds, IsPaddedColumn, all_shown, are_fixed, fixed_or_one, lower-none, needs, padded_columns}
-use Rattle.comfy_csv.specs.Drawn.{ContentValue, condensed_style, empty_table, output_table, rows_table, separated, separated_table}
+use Rattle.comfy_csv.specs.Drawn.{ContentValue, condensed_style, empty_table, output_table, rows_table, separated_table}
 use Rattle.comfy_csv.specs.Unbroken.{framed_width, kept_whole, needed_contents, unbroken_columns, whole_columns, with_whole}
 use Rattle.comfy_csv_parts.specs.declared.options.Look.{Look}
 

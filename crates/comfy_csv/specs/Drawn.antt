@@ -118,11 +118,6 @@ abbrev pub separated_table : Bool → TableValue → TableValue
 separated_table true table = table
 separated_table false table = with_style (condensed_style table.style) table
 
--- a look with these lines, or without them
-abbrev pub separated : Bool → Look → Look
-separated true look = look
-separated false look = record look { style = condensed_style look.style }
-
 -- whether a row of a table is drawn in more than one line
 abbrev pub HasTallRow : TableValue → Bool → Type 0
 HasTallRow table is_tall =

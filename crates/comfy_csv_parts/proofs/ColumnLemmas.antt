@@ -10,7 +10,7 @@ use Rattle.comfy_csv_parts.specs.Cells.{field_or_blank}
 use Rattle.comfy_csv_parts.specs.Cleaning.{visible_of}
 use Rattle.comfy_csv_parts.specs.Columns.{ColumnFault, IsColumnRefusal, first_answer, is_number_column, is_number_kind, is_other_kind, is_text, joined, kind_at, kind_of, missing, positions_of, positions_of_word, seen, two_sided}
 use Rattle.comfy_csv_parts.specs.declared.columns.FieldKind.{FieldKind}
-use Rattle.comfy_csv_parts.specs.declared.columns.FieldKind.TheVariants.{Number, Neutral, Other}
+use Rattle.comfy_csv_parts.specs.declared.columns.FieldKind.TheVariants.{Neutral, Other}
 use Rattle.comfy_csv_parts.specs.declared.error.CsvError.{CsvError}
 use Rattle.comfy_csv_parts.specs.declared.error.CsvError.TheVariants.{Read, Write, NotUtf8, NotUtf16, Unclosed, SplitCharacter, NoColumn, OutOfMemory, TwoSides}
 

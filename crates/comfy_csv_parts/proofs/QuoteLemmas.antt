@@ -1,10 +1,10 @@
 -- A walk from quote to quote finds the one that opens a field which the text's end doesn't close.
-use Rattle.std.proofs.Common.{◌≡◌, ◌≢◌, ◌⊎◌, inl, inr, ◌+◌, ◌-◌, ◌<◌, ◌≤◌, ◌==◌, ◌||◌, ℕ, zero, suc, Bool, true, false, [], ◌∷◌, ◌++◌, ap, arith, drop, eqb, eqb-true, length, length-append, refl, subst, sym, take, tests, ◌∙◌}
+use Rattle.std.proofs.Common.{◌≡◌, ◌≢◌, ◌⊎◌, inl, inr, ◌+◌, ◌-◌, ◌<◌, ◌≤◌, ◌==◌, ◌||◌, ℕ, zero, suc, Bool, true, false, [], ◌∷◌, ◌++◌, ap, arith, drop, eqb-true, length, length-append, refl, subst, sym, take, ◌∙◌}
 use Rattle.std.proofs.Math.Seq.{drop-append_seam, take-add, take-append-add, take-append_seam}
 use Rattle.std.proofs.lemmas.Bool.{cases_lt}
 use Rattle.std.proofs.lemmas.List.{drop-drop, drop_more, get_or-drop, length-drop, length-take-le, take-append-drop, take_all, take_more}
 use Rattle.std.proofs.lemmas.List.Sums.{fold-append}
-use Rattle.std.specs.List.{slice_index, starts_with}
+use Rattle.std.specs.List.{slice_index}
 use Rattle.std.specs.Prelude.{None, Some, if◌then◌else◌}
 use Rattle.memchr.specs.Find.{IsFirstByte, Nowhere, Passes, is_byte}
 use Rattle.comfy_parts.specs.Text.{Text}

@@ -11,9 +11,14 @@ use Rattle.comfy_parts.specs.Text.{Text, measure}
 use Rattle.comfy_parts.specs.VisibleLines.{line_texts, starts_past}
 use Rattle.comfy_parts.specs.VisibleText.{Part, closing, line_text, opened, opened_by, parts, parts_before, parts_from, parts_up_to, reset, visible_bytes, visible_text}
 use Rattle.comfy_parts.specs.Wrapping.{wrapped}
-use Rattle.comfy_parts.specs.Written.{closes_itself}
 use Rattle.comfy_parts.proofs.ScanLemmas.{AreScanned, bytes_of, scan}
 use Rattle.comfy_parts.proofs.WrittenLemmas.{line_text-written}
+
+-- parts that follow visible text, or don't, where a sequence is open, or none: each reset follows visible text and closes a sequence, and none is open at the end
+abbrev pub closes_itself : Bool → Bool → List Part → Bool
+closes_itself is_open follows_visible [] = not is_open
+closes_itself is_open follows_visible (p ∷ ps) =
+    if p.is_sequence then (if bytes_eq reset p.bytes then is_open && (follows_visible && closes_itself false false ps) else closes_itself true false ps) else closes_itself is_open true ps
 
 -- how many bytes of some parts are visible
 abbrev visible_byte_count : List Part → ℕ

@@ -12,12 +12,18 @@ use Rattle.comfy_parts.specs.Text.{Text, IsOnly, begins_with, measure}
 use Rattle.comfy_parts.specs.VisibleLines.{CellLine, line_texts, line_texts_of_text, line_texts_past, starts_of_text, starts_past}
 use Rattle.comfy_parts.specs.VisibleText.{Part, active, closed, closing, line_text, open_after, parts, parts_before, parts_from, parts_up_to, opened, text_between, visible_text}
 use Rattle.comfy_parts.specs.Wrapping.{line_end, lines_of_text, lines_past, part_end, wrapped}
-use Rattle.comfy_parts.specs.Written.{wrapped_positions, written, written_at, written_of_text, written_past}
+use Rattle.comfy_parts.specs.Written.{wrapped_positions, written, written_at, written_of_text}
 use Rattle.comfy_parts.proofs.CursorLemmas.{at, at_further}
 use Rattle.comfy_parts.proofs.LineTextLemmas.{parts-written}
 use Rattle.comfy_parts.proofs.OpenLemmas.{open_after-again, opened-append}
 use Rattle.comfy_parts.proofs.StartLemmas.{IsLineCut, line-cut}
 use Rattle.comfy_parts.proofs.WrappingLemmas.{whole-past_gap, begins_with-delimiter, lines_past-delimiter, lines_past-gap, lines_past-line}
+
+-- for the lines of text lines, where these sequences are open
+abbrev pub written_past : ℕ → ℕ → List Text → List Text → List Text
+written_past w d ss [] = []
+written_past w d ss (text ∷ more) =
+    written_of_text w d (record { sequences = ss; ahead = parts text }) ++ written_past w d (opened ss (parts text)) more
 
 -- ---- positions of lines
 

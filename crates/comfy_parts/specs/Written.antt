@@ -1,10 +1,10 @@
 -- Private: what is written for the lines of a cell with SGR sequences, from a cursor that passes each of its text lines once.
-use Rattle.std.specs.Prelude.{ℕ, Bool, true, false, not, ◌&&◌, ◌==◌, List, [], ◌∷◌, ◌++◌, bytes_eq, map, zip, length, if◌then◌else◌}
+use Rattle.std.specs.Prelude.{ℕ, ◌==◌, List, [], ◌++◌, map, zip, length, if◌then◌else◌}
 use Rattle.std.specs.List.{concat}
 use Rattle.comfy_parts.specs.Cursor.{CursorValue, at_byte, behind_bytes, bytes_up_to, visible_ahead}
 use Rattle.comfy_parts.specs.Text.{Text}
 use Rattle.comfy_parts.specs.VisibleLines.{starts_of_text, starts_past}
-use Rattle.comfy_parts.specs.VisibleText.{Part, opened, closing, parts, reset}
+use Rattle.comfy_parts.specs.VisibleText.{closing}
 use Rattle.comfy_parts.specs.Wrapping.{lines_of_text, wrapped}
 
 -- what is written for a line of so many visible bytes: the open sequences, what the line takes, and a reset where a sequence is open then
@@ -28,15 +28,3 @@ positions_of_text w d text = zip (starts_of_text w d text) (map length (lines_of
 -- for the lines of the text line that a cursor stands before
 abbrev pub written_of_text : ℕ → ℕ → CursorValue → List Text
 written_of_text w d c = written_at c (positions_of_text w d (visible_ahead c))
-
--- for the lines of text lines, where these sequences are open
-abbrev pub written_past : ℕ → ℕ → List Text → List Text → List Text
-written_past w d ss [] = []
-written_past w d ss (text ∷ more) =
-    written_of_text w d (record { sequences = ss; ahead = parts text }) ++ written_past w d (opened ss (parts text)) more
-
--- parts that follow visible text, or don't, where a sequence is open, or none: each reset follows visible text and closes a sequence, and none is open at the end
-abbrev pub closes_itself : Bool → Bool → List Part → Bool
-closes_itself is_open follows_visible [] = not is_open
-closes_itself is_open follows_visible (p ∷ ps) =
-    if p.is_sequence then (if bytes_eq reset p.bytes then is_open && (follows_visible && closes_itself false false ps) else closes_itself true false ps) else closes_itself is_open true ps

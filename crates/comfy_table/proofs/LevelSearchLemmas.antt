@@ -1,5 +1,5 @@
 -- The search for a level: what the columns need at a level grows no more than the room, and where the average no longer passes it the level is found.
-use Rattle.std.proofs.Common.{◌≡◌, ◌<◌, ◌≤◌, ℕ, ◌+◌, ◌-◌, ◌*◌, ◌/◌, Bool, true, false, cond, ◌==◌, List, [], ◌∷◌, length, max, sum_by, Option, Some, None, option_map, is_none, unwrap_or, filter, refl, ap, ◌∙◌, arith, suc-mul, mul_comm, div-mul-le_self}
+use Rattle.std.proofs.Common.{◌≡◌, ◌<◌, ◌≤◌, ℕ, ◌+◌, ◌-◌, ◌*◌, ◌/◌, Bool, true, false, cond, ◌==◌, List, [], ◌∷◌, length, sum_by, Option, Some, None, option_map, is_none, unwrap_or, filter, refl, ap, ◌∙◌, arith, suc-mul, mul_comm, div-mul-le_self}
 use Rattle.std.specs.List.{cons_option}
 use Rattle.std.proofs.lemmas.List.Sums.{sum_by-cons}
 use Rattle.std.proofs.lemmas.Nat.{le-div}

@@ -6,7 +6,11 @@ use Rattle.std.specs.List.{join_by}
 use Rattle.std.specs.Prelude.{if◌then◌else◌}
 use Rattle.comfy_parts.specs.Text.{Text}
 use Rattle.comfy_parts.proofs.CallerLemmas.{join_by-map, join_by_more}
-use Rattle.comfy_table.specs.Gaps.{RowGapsValue, gap_before, gap_line}
+use Rattle.comfy_table.specs.Gaps.{RowGapsValue, gap_line}
+
+-- the gap before the piece at a position
+abbrev pub gap_before : ℕ → RowGapsValue → Text
+gap_before position gaps = if nat_lt 0 position then gaps.junction else gaps.left
 
 module _ {X : Type 0} (gaps : RowGapsValue) (f : X → Text) where
   -- the first pieces, each with the gap before it

@@ -1,5 +1,5 @@
 -- Private: the lines of a row as pieces between gaps.
-use Rattle.std.specs.Prelude.{ℕ, Bool, List, [], ◌++◌, Option, Some, None, map, nat_lt, if◌then◌else◌}
+use Rattle.std.specs.Prelude.{ℕ, Bool, List, [], ◌++◌, Option, Some, None, map, if◌then◌else◌}
 use Rattle.std.specs.List.{join_by}
 use Rattle.comfy_parts.specs.CellValue.{CellValue, ColumnInfo, RowValue}
 use Rattle.comfy_parts.specs.Text.{Text, spaces}
@@ -33,10 +33,6 @@ drawn_character drawn part = if drawn then character part else []
 abbrev pub row_gaps : TableStyle → ContentLineStyle → RowGapsValue
 row_gaps style line =
     record { left = drawn_character (draws_left_border style) line.left; junction = drawn_character (draws_vertical_lines style) line.junction; right = drawn_character (draws_right_border style) line.right }
-
--- the gap before the piece at a position
-abbrev pub gap_before : ℕ → RowGapsValue → Text
-gap_before position gaps = if nat_lt 0 position then gaps.junction else gaps.left
 
 -- a line of these pieces
 abbrev pub gap_line : RowGapsValue → List Text → Text

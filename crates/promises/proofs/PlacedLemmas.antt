@@ -1,15 +1,10 @@
 -- Columns with their positions, and rows as they are measured.
-use Rattle.std.proofs.Common.{◌≡◌, ℕ, ◌+◌, Bool, true, false, cond, List, [], ◌∷◌, ap, ap₂, ◌∙◌, map, refl}
+use Rattle.std.proofs.Common.{◌≡◌, ℕ, ◌+◌, Bool, true, false, cond, List, [], ◌∷◌, ap, ◌∙◌, map, refl}
 use Rattle.std.specs.List.{All, enumerate_from, filter}
 use Rattle.std.proofs.lemmas.List.Elements.{All-cons, All-head, All-nil, All-tail}
-use Rattle.comfy_parts.proofs.CallerLemmas.{Shows-clear, visible_text-is}
-use Rattle.comfy_parts.specs.CellValue.{CellValue, RowValue}
-use Rattle.comfy_parts.specs.Text.{Text}
-use Rattle.comfy_parts.specs.VisibleText.{visible_text}
+use Rattle.comfy_parts.specs.CellValue.{RowValue}
 use Rattle.comfy_table.proofs.MeasuredLemmas.{measured_rows-is, row_measured}
-use Rattle.comfy_table.specs.Laws.{HasNoEscape}
-use Rattle.comfy_table.specs.TableValue.{TableValue, header_and_rows, measured_rows, visible_cell}
-use Rattle.promises.specs.Tables.{EachText}
+use Rattle.comfy_table.specs.TableValue.{TableValue, header_and_rows, measured_rows}
 
 -- what holds of each that passes a test holds of these beside their positions
 pub placed : {A : Type 0} (test : A → Bool) (P : A → Type 0) (n : ℕ) (xs : List A) → All P (filter test xs)

@@ -1,7 +1,7 @@
 use Rattle.std.proofs.Common.{◌≡◌, ◌++◌, [], drop, map, string_bytes}
 use Rattle.comfy_parts.specs.Cursor.{open_at_end}
-use Rattle.comfy_parts.specs.Written.{written_past}
 use Rattle.comfy_parts.proofs.cell.for_tables.written_lines.Given as goal
+use Rattle.comfy_parts.proofs.WrittenLemmas.{written_past}
 
 abbrev pub invariant-loop-position : goal.invariant-loop-position
 invariant-loop-position l =

@@ -1,7 +1,6 @@
 use Rattle.std.proofs.Common.{ap, ◌∙◌}
 use Rattle.comfy_parts.specs.VisibleText.{parts}
-use Rattle.comfy_parts.specs.Written.{closes_itself}
-use Rattle.comfy_parts.proofs.WholeTextLemmas.{closes-visible, written_whole}
+use Rattle.comfy_parts.proofs.WholeTextLemmas.{closes-visible, written_whole, closes_itself}
 use Rattle.comfy_parts.proofs.content_split.sequences.written.is_written_whole.Goals as goal
 
 pub loop-part-preserved-in_default : goal.loop-part-preserved-in_default

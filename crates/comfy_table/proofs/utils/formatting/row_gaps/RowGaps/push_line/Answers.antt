@@ -1,10 +1,10 @@
 use Rattle.std.proofs.Common.{◌≡◌, ◌+◌, ◌<◌, ◌++◌, length, sym, ap, ◌∙◌, arith, append_assoc, string_bytes}
 use Rattle.std.proofs.lemmas.Bool.Decides.{nat_tests}
 use Rattle.comfy_parts.specs.Text.{Text, spaces}
-use Rattle.comfy_table.proofs.RowGapLemmas.{gap_more, joined_all, joined_to}
+use Rattle.comfy_table.proofs.RowGapLemmas.{gap_more, joined_all, joined_to, gap_before}
 use Rattle.comfy_table.proofs.SpaceLemmas.{last-pushed}
 use Rattle.comfy_table.specs.DrawnCells.{piece_at}
-use Rattle.comfy_table.specs.Gaps.{RowGapsValue, gap_before}
+use Rattle.comfy_table.specs.Gaps.{RowGapsValue}
 use Rattle.comfy_table.proofs.utils.formatting.row_gaps.RowGaps.push_line.Goals as goal
 
 pub loop-cell-preserved : goal.loop-cell-preserved

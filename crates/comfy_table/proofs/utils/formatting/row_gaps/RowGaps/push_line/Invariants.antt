@@ -1,8 +1,7 @@
 use Rattle.std.proofs.Common.{◌≡◌, ◌++◌, string_bytes}
 use Rattle.comfy_parts.specs.Text.{spaces}
-use Rattle.comfy_table.proofs.RowGapLemmas.{joined_to}
+use Rattle.comfy_table.proofs.RowGapLemmas.{joined_to, gap_before}
 use Rattle.comfy_table.specs.DrawnCells.{piece_at}
-use Rattle.comfy_table.specs.Gaps.{gap_before}
 use Rattle.comfy_table.proofs.utils.formatting.row_gaps.RowGaps.push_line.Given as goal
 
 abbrev pub invariant-loop-cell : goal.invariant-loop-cell
