@@ -11,14 +11,14 @@ import sys
 import textwrap
 
 TOP = os.path.dirname(os.path.dirname(os.path.realpath(__file__)))
-WORD = r'name: "(.+?)",\s+letter: (?:None|Some\(\'(.)\'\)),\s+kind: Kind::(\w+),\s+value: "(.*?)",\s+help: "((?:[^"\\]|\\.)*)"'
+WORD = r'name: "(.+?)",\s+letter: (?:None|Some\(\'(.)\'\)),\s+kind: Kind::(\w+),\s+value: "(.*?)",\s+help: "((?:[^"\\]|\\[\s\S])*)"'
 
 
 class Word:
     def __init__(self, name, letter, kind, value, help):
         self.letter, self.kind, self.value = letter, kind, value
         self.name = name if kind not in ("File", "Letter") else None
-        self.help = help.replace("\\n", " ")
+        self.help = re.sub(r"\\\n *", "", help).replace("\\n", " ")
 
     def forms(self):
         """How the word is given, as `-w` and `--width`."""

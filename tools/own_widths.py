@@ -83,9 +83,10 @@ def main():
     joining = re.findall(r"\(0x(\w+), 0x(\w+)\)", (folder / "../../specs/Columns.antt").read_text())
     index, words, tail = packed(list(own_widths(kinds(source), joining)))
     parts = [
-        "//! The columns of each character that joins no other, and 3 of each that joins others. tools/own_widths.py writes this.\n",
+        "//! The columns of each character that joins no other, and 3 of each that joins others.\n"
+        "//! tools/own_widths.py writes this.\n",
         table("INDEX", "u8", 2, 16, index),
-        table("WORDS", "u64", 16, 5, words),
+        table("WORDS", "u64", 16, 4, words),
         table("TAIL", "u32", 8, 8, tail),
     ]
     (folder / "own_width").mkdir(exist_ok=True)

@@ -35,18 +35,22 @@ selectors_agree (c ∷ cs) = not (clashes c cs) && selectors_agree cs
 
 -- a text takes at most the terminal columns of its clusters
 abbrev pub ClustersBoundTheMeasure : Text → Type 0
-ClustersBoundTheMeasure text = IsUtf8 text → selectors_agree (chars text) ≡ true → measure text ≤ sum_by measure (clusters text)
+ClustersBoundTheMeasure text =
+    IsUtf8 text → selectors_agree (chars text) ≡ true
+    → measure text ≤ sum_by measure (clusters text)
 
 -- so do its first n clusters, which are the whole clusters at its front
 abbrev pub FrontsBoundTheMeasure : Text → ℕ → Type 0
 FrontsBoundTheMeasure text n =
-    IsUtf8 text → selectors_agree (chars text) ≡ true → measure (concat (take n (clusters text))) ≤ sum_by measure (take n (clusters text))
+    IsUtf8 text → selectors_agree (chars text) ≡ true
+    → measure (concat (take n (clusters text))) ≤ sum_by measure (take n (clusters text))
 
 -- no front of a cluster measures more than two columns more than the cluster
 abbrev pub FrontsOfClustersAreBounded : Text → Type 0
 FrontsOfClustersAreBounded text =
     IsUtf8 text
-    → All (λ (cluster : Text). (front rest : Text) → IsUtf8 front → cluster ≡ front ++ rest → measure front ≤ measure cluster + 2) (clusters text)
+    → All (λ (cluster : Text). (front rest : Text) → IsUtf8 front → cluster ≡ front ++ rest
+    → measure front ≤ measure cluster + 2) (clusters text)
 
 -- and the front of some cluster does
 pub record SomeFrontTakesTwoMore : Type 0 where

@@ -16,7 +16,8 @@ use Rattle.comfy_run.specs.declared.settings.Settings.{Settings}
 
 -- a buffer with a text at its front, where it has room for all of it; else it is as it was
 abbrev pub with_front : Text → Text → Text
-with_front text buffer = if nat_le (length text) (length buffer) then text ++ drop (length text) buffer else buffer
+with_front text buffer =
+    if nat_le (length text) (length buffer) then text ++ drop (length text) buffer else buffer
 
 -- a text was handed to the caller of which P holds
 pub record IsHanded (P : Text → Type 0) (buffer : Text) (after : Text) (needed : ℕ) : Type 0 where
@@ -37,12 +38,16 @@ arrangements = Disabled ∷ Dynamic ∷ DynamicFullWidth ∷ []
 
 -- the settings that three numbers stand for
 abbrev pub settings_for : ℕ → ℕ → ℕ → Option Settings
-settings_for width arrangement style = settings_with (Some (width_of width)) (slice_get arrangements arrangement) (preset_at style)
+settings_for width arrangement style =
+    settings_with (Some (width_of width)) (slice_get arrangements arrangement) (preset_at style)
 
--- with these settings, which are known, the input is text, and the output is text that draws its table
+-- with these settings, which are known, the input is text, and the output is text that draws its
+-- table
 abbrev pub IsDrawnAs : Option Settings → Text → Text → Type 0
 IsDrawnAs None input output = ⊥
-IsDrawnAs (Some settings) input output = IsUtf8 input × IsUtf8 output × IsOutputFor settings.width settings.arrangement settings.style input output
+IsDrawnAs (Some settings) input output =
+    IsUtf8 input × IsUtf8 output × IsOutputFor settings.width settings.arrangement settings.style
+    input output
 
 -- ---- CSV
 
@@ -54,7 +59,8 @@ ended word = word ++ 0 ∷ []
 abbrev pub closed : Text → Text
 closed text = if slice_index text (length text - 1) == 0 then text else ended text
 
--- the words of a call of `csvtable` that a text stands for: its name, and words of which none holds a zero byte; each with its end they are the text, at whose end a zero byte may be missing
+-- the words of a call of `csvtable` that a text stands for: its name, and words of which none holds
+-- a zero byte; each with its end they are the text, at whose end a zero byte may be missing
 pub record IsCommandLine (text : Text) (line : List Text) : Type 0 where
   pub words : List Text
   pub behind_name : line ≡ codes "csvtable" ∷ words
@@ -70,15 +76,19 @@ pub record IsForWords (P : List Text → Type 0) (bytes : Text) : Type 0 where
 
 -- the drawing for words and an input
 abbrev pub IsCsvDrawing : Text → Text → Text → Type 0
-IsCsvDrawing bytes input drawing = IsUtf8 drawing × IsForWords (λ words. IsDrawnFor words input drawing) bytes
+IsCsvDrawing bytes input drawing =
+    IsUtf8 drawing × IsForWords (λ words. IsDrawnFor words input drawing) bytes
 
 -- the line on an input that can't be drawn as words ask
 abbrev pub IsInputMessage : Text → Text → Text → Type 0
-IsInputMessage bytes input message = IsUtf8 message × IsForWords (λ words. IsSaidOfInput words input message) bytes
+IsInputMessage bytes input message =
+    IsUtf8 message × IsForWords (λ words. IsSaidOfInput words input message) bytes
 
 -- the text on words that ask for no drawing, or aren't UTF-8
 abbrev pub IsWordsMessage : Text → Text → Type 0
-IsWordsMessage bytes message = IsUtf8 message × (IsForWords (λ words. IsSaidOfWords words message) bytes ⊎ ¬ (IsUtf8 bytes) × (message ≡ word_not_utf8))
+IsWordsMessage bytes message =
+    IsUtf8 message × (IsForWords (λ words. IsSaidOfWords words message) bytes ⊎ ¬ (IsUtf8 bytes)
+    × (message ≡ word_not_utf8))
 
 -- why there is no drawing
 abbrev pub IsCsvRefusal : Text → Text → Refusal → Type 0

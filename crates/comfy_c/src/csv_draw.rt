@@ -14,22 +14,25 @@ const INPUT_REFUSED: u32 = 2;
 
 const WORDS_REFUSED: u32 = 4;
 
-/// Draws the table of CSV into the caller's buffer, as `csvtable` does for these words and a file of these bytes where
-/// standard output is no terminal, and neither `COLUMNS` nor `NO_COLOR` is set.
+/// Draws the table of CSV into the caller's buffer, as `csvtable` does for these words and a file
+/// of these bytes where standard output is no terminal, and neither `COLUMNS` nor `NO_COLOR` is
+/// set.
 ///
-/// A zero byte ends each word; that of the last one may be missing. No file is opened: a word for one names the input in
-/// messages, and its end may tell what stands between fields.
+/// A zero byte ends each word; that of the last one may be missing. No file is opened: a word for
+/// one names the input in messages, and its end may tell what stands between fields.
 ///
 /// | Returned | Meaning | At the front of the buffer | `needed` |
 /// |---|---|---|---|
 /// | 0 | the input is drawn | the drawing | its length in bytes |
 /// | 1 | the buffer is too small | nothing | the bytes that the drawing takes |
-/// | 2 | the input can't be drawn as the words ask | the line that `csvtable` says | its length in bytes |
+/// | 2 | the input can't be drawn as the words ask | the line that `csvtable` says | its length in
+/// bytes |
 /// | 3 | memory ran out | nothing | unchanged |
-/// | 4 | the words ask for no drawing | what `csvtable` says, help and version too | its length in bytes |
+/// | 4 | the words ask for no drawing | what `csvtable` says, help and version too | its length in
+/// bytes |
 ///
-/// A buffer that is too small for what is said with 2 or 4 is unchanged, as it is with 1 and 3; else it is unchanged
-/// behind what was written.
+/// A buffer that is too small for what is said with 2 or 4 is unchanged, as it is with 1 and 3;
+/// else it is unchanged behind what was written.
 ///
 /// ```
 /// let status = comfy_csv_draw(rt.alloc(), b"a,b\n", b"-w\x0040", &mut output, &mut needed);
@@ -42,11 +45,17 @@ pub extern "C" fn comfy_csv_draw(
     output: &mut [u8],
     needed: &mut usize,
 ) -> u32
-    ensures drawn { result ≡ 0 → (needed.new ≤ length output.old) × IsCsvDrawing words.now input.now (take needed.new output.new) }
-    ensures room_too_small { result ≡ 1 → (length output.old < needed.new) × (drawing : List ℕ) × (needed.new ≡ length drawing) × IsCsvDrawing words.now input.now drawing }
-    ensures input_refused { result ≡ 2 → IsHanded (IsInputMessage words.now input.now) output.old output.new needed.new }
+    ensures drawn { result ≡ 0
+        → (needed.new ≤ length output.old)
+        × IsCsvDrawing words.now input.now (take needed.new output.new) }
+    ensures room_too_small { result ≡ 1
+        → (length output.old < needed.new) × (drawing : List ℕ) × (needed.new ≡ length drawing)
+        × IsCsvDrawing words.now input.now drawing }
+    ensures input_refused { result ≡ 2
+        → IsHanded (IsInputMessage words.now input.now) output.old output.new needed.new }
     ensures out_of_memory { result ≡ 3 → IsUtf8 words.now }
-    ensures words_refused { result ≡ 4 → IsHanded (IsWordsMessage words.now) output.old output.new needed.new }
+    ensures words_refused { result ≡ 4
+        → IsHanded (IsWordsMessage words.now) output.old output.new needed.new }
     ensures no_other { result ≤ 4 }
     ensures rest { drop needed.new output.new ≡ drop needed.new output.old }
     ensures untouched { result ≢ 0 → result ≢ 2 → result ≢ 4 → output.new ≡ output.old }
@@ -78,7 +87,8 @@ pub extern "C" fn comfy_csv_draw(
 
 // The drawing for the words of a text, or why there is none.
 fn drawing_for(alloc: Global, text: &str, input: &[u8]) -> Result<String, Refusal>
-    ensures drawn { IfOk result (λ drawing. IsCsvDrawing text.now input.now (string_bytes drawing)) }
+    ensures drawn { IfOk result (λ drawing.
+        IsCsvDrawing text.now input.now (string_bytes drawing)) }
     ensures refused { IfErr result (λ refusal. IsCsvRefusal text.now input.now refusal) }
 {
     let words = command_line(alloc, text)?;

@@ -1,4 +1,5 @@
-//! Tables for programs in C, and in every language that calls C. `c/comfy_table.h` declares the functions.
+//! Tables for programs in C, and in every language that calls C. `c/comfy_table.h` declares the
+//! functions.
 #![tactic(auto)]
 
 mod csv_draw;

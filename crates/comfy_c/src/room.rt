@@ -11,8 +11,8 @@ pub(crate) const ROOM_TOO_SMALL: u32 = 1;
 
 pub(crate) const OUT_OF_MEMORY: u32 = 3;
 
-/// Copies bytes to the front of the caller's buffer, where it has room for all of them, and tells how many they are.
-/// Returns whether it had.
+/// Copies bytes to the front of the caller's buffer, where it has room for all of them, and tells
+/// how many they are. Returns whether it had.
 pub(crate) fn put(bytes: &[u8], output: &mut [u8], needed: &mut usize) -> bool
     ensures fits { result ≡ nat_le (length bytes.now) (length output.old) }
     ensures needed { needed.new ≡ length bytes.now }

@@ -15,11 +15,12 @@ const NOT_UTF8: u32 = 2;
 
 const UNKNOWN_SETTING: u32 = 4;
 
-/// Draws the table of tab-separated text into the caller's buffer, as `comfy_run::run::drawing_of` draws it.
+/// Draws the table of tab-separated text into the caller's buffer, as `comfy_run::run::drawing_of`
+/// draws it.
 ///
-/// `width` is the table's width in terminal columns, and a number above 65535 stands for none. `arrangement` is 0 for
-/// `Disabled`, 1 for `Dynamic` and 2 for `DynamicFullWidth`. `style` is the position of a preset, as
-/// `presets::by_position` counts them.
+/// `width` is the table's width in terminal columns, and a number above 65535 stands for none.
+/// `arrangement` is 0 for `Disabled`, 1 for `Dynamic` and 2 for `DynamicFullWidth`. `style` is the
+/// position of a preset, as `presets::by_position` counts them.
 ///
 /// | Returned | Meaning | `needed` |
 /// |---|---|---|
@@ -44,8 +45,12 @@ pub extern "C" fn comfy_table_draw(
     output: &mut [u8],
     needed: &mut usize,
 ) -> u32
-    ensures drawn { result ≡ 0 → (needed.new ≤ length output.old) × IsDrawnAs (settings_for width arrangement style) input.now (take needed.new output.new) }
-    ensures room_too_small { result ≡ 1 → (length output.old < needed.new) × (drawing : List ℕ) × (needed.new ≡ length drawing) × IsDrawnAs (settings_for width arrangement style) input.now drawing }
+    ensures drawn { result ≡ 0
+        → (needed.new ≤ length output.old)
+        × IsDrawnAs (settings_for width arrangement style) input.now (take needed.new output.new) }
+    ensures room_too_small { result ≡ 1
+        → (length output.old < needed.new) × (drawing : List ℕ) × (needed.new ≡ length drawing)
+        × IsDrawnAs (settings_for width arrangement style) input.now drawing }
     ensures not_utf8 { result ≡ 2 → ¬ (IsUtf8 input.now) }
     ensures out_of_memory { result ≡ 3 → IsUtf8 input.now }
     ensures unknown_setting { result ≡ 4 → settings_for width arrangement style ≡ None }

@@ -184,7 +184,6 @@ module _ (look : Look) (no_sequences : look.has_sequences ≡ false) (content : 
       (subst (All R) (sym (drawing.unstyled_lines (ap should_style looks ∙ rw plain refl) (ap (λ (t : TableValue). t.custom_styling) looks ∙ no_sequences))) each)
 
 module _ (look : Look) (no_sequences : look.has_sequences ≡ false) (characters : IsOneColumnStyle look.style) (content : ContentValue) (table : TableValue) (lines : List Text) (drawing : IsTableDrawing table lines) where
-
   -- they are equally wide where the table is straight
   equally_wide : (Q : RowValue → Type 0) → IsDrawn look Q content table → (visible : Bool) → IsSeenTable visible look table → IsStraightTable table drawing.widths → AreEquallyWide (seen_lines visible lines)
   equally_wide Q known visible seen is = (line_total table drawing.widths, seen_all look no_sequences content table lines drawing Q known visible seen (λ line. measure line ≡ line_total table drawing.widths) (drawing.straight is))

@@ -42,12 +42,18 @@ encoding_hint (Some encoding) = []
 abbrev pub reason_for : Option Encoding → Option IoErrorKind → CsvError → Text
 reason_for encoding fault err.Read = reading_reason fault
 reason_for encoding fault err.Write = codes "the output can't be written"
-reason_for encoding fault (err.NotUtf8 number) = ((codes "line " ++ decimal number) ++ codes " isn't UTF-8") ++ encoding_hint encoding
-reason_for encoding fault (err.NotUtf16 number) = (codes "line " ++ decimal number) ++ codes " isn't UTF-16"
-reason_for encoding fault (err.Unclosed number) = (codes "a quote that opens in line " ++ decimal number) ++ codes " is never closed; try --no-quotes"
+reason_for encoding fault (err.NotUtf8 number) =
+    ((codes "line " ++ decimal number) ++ codes " isn't UTF-8") ++ encoding_hint encoding
+reason_for encoding fault (err.NotUtf16 number) =
+    (codes "line " ++ decimal number) ++ codes " isn't UTF-16"
+reason_for encoding fault (err.Unclosed number) =
+    (codes "a quote that opens in line " ++ decimal number)
+    ++ codes " is never closed; try --no-quotes"
 reason_for encoding fault err.SplitCharacter = codes "the delimiter splits a character"
 reason_for encoding fault (err.NoColumn name) = codes "no column " ++ shown_name (string_bytes name)
-reason_for encoding fault (err.TwoSides name) = (codes "column " ++ shown_name (string_bytes name)) ++ codes " can't stand at the right and at the left"
+reason_for encoding fault (err.TwoSides name) =
+    (codes "column " ++ shown_name (string_bytes name))
+    ++ codes " can't stand at the right and at the left"
 reason_for encoding fault err.OutOfMemory = codes "out of memory"
 
 -- an error is of the input, so that its message names it
@@ -64,7 +70,8 @@ about false file = codes "csvtable: "
 -- the line on an error
 abbrev pub message_for : Asked → Option IoErrorKind → CsvError → Text
 message_for asked fault e =
-    (about (is_of_input e) (option_map string_bytes asked.file) ++ reason_for asked.options.encoding fault e) ++ codes "\n"
+    (about (is_of_input e) (option_map string_bytes asked.file)
+    ++ reason_for asked.options.encoding fault e) ++ codes "\n"
 
 -- the line where a word isn't UTF-8
 abbrev pub word_not_utf8 : Text
@@ -115,11 +122,14 @@ abbrev pub IsEndOfError : Drawing → CsvError → Bool → Ending → Type 0
 IsEndOfError drawing err.Write true ending = IsSilent 1 ending
 IsEndOfError drawing err.Write false ending = IsLine 1 said.Unwritten ending
 IsEndOfError drawing err.OutOfMemory is_unread ending = IsLine 1 said.OutOfMemory ending
-IsEndOfError drawing e is_unread ending = IsMessage 1 (λ text. text ≡ message_for drawing.asked.now drawing.fault e) ending
+IsEndOfError drawing e is_unread ending =
+    IsMessage 1 (λ text. text ≡ message_for drawing.asked.now drawing.fault e) ending
 
 -- the end of a drawing, by its result
 abbrev pub IsEndOfDrawing : Drawing → Ending → Type 0
-IsEndOfDrawing drawing ending = MatchResult drawing.result (λ _. IsSilent 0 ending) (λ e. IsEndOfError drawing e drawing.is_unread ending)
+IsEndOfDrawing drawing ending =
+    MatchResult drawing.result (λ _. IsSilent 0 ending)
+    (λ e. IsEndOfError drawing e drawing.is_unread ending)
 
 -- no control character but line feeds, and none that turns the direction of text
 abbrev pub IsHarmless : Text → Type 0
@@ -138,7 +148,8 @@ IsEndOfWords kind.DisplayHelp ending = IsHelp ending
 IsEndOfWords kind.DisplayVersion ending = IsHelp ending
 IsEndOfWords _ ending = IsMessage 2 IsHarmless ending
 
--- the end where words couldn't be read, by the kind of fault: one isn't UTF-8, or there is no memory
+-- the end where words couldn't be read, by the kind of fault: one isn't UTF-8, or there is no
+-- memory
 abbrev pub IsEndWithoutWords : IoErrorKind → Ending → Type 0
 IsEndWithoutWords io.InvalidData ending = IsLine 2 said.NotUtf8 ending
 IsEndWithoutWords _ ending = IsLine 1 said.OutOfMemory ending

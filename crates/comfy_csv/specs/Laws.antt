@@ -30,15 +30,22 @@ use Rattle.comfy_csv_parts.specs.declared.options.DrawnColumn.{DrawnColumn}
 
 -- ---- rows
 
--- a row for each record that is drawn, in order, with the fields of the same columns, and these are the chosen ones, less those that are left out
-pub record KeepsRows (options : Options) (records : List (List Text)) (table : TableValue) : Type 0 where
+-- a row for each record that is drawn, in order, with the fields of the same columns, and these are
+-- the chosen ones, less those that are left out
+pub record KeepsRows (options : Options) (records : List (List Text))
+    (table : TableValue) : Type 0 where
   pub columns : List DrawnColumn
   pub rows : table.rows ≡ map (row_for options.look columns) (drawn_rows options records)
   pub as_many : length table.rows ≡ length (drawn_rows options records)
-  pub chosen : kept_columns (unwrap_or (names_of options.has_header records) []) (count_of (unwrap_or (names_of options.has_header records) []) (drawn_rows options records)) options.columns.items options.dropped.items ≡ Ok (map (λ (column : DrawnColumn). column.position) columns)
+  pub chosen :
+      kept_columns (unwrap_or (names_of options.has_header records) [])
+      (count_of (unwrap_or (names_of options.has_header records) []) (drawn_rows options records))
+      options.columns.items options.dropped.items
+      ≡ Ok (map (λ (column : DrawnColumn). column.position) columns)
 
 abbrev pub TableKeepsRows : Options → List (List Text) → TableValue → Type 0
-TableKeepsRows options records table = table_for options records ≡ Ok table → KeepsRows options records table
+TableKeepsRows options records table =
+    table_for options records ≡ Ok table → KeepsRows options records table
 
 -- ---- lines
 
@@ -55,7 +62,8 @@ HasLines true content lines text =
     ≡ flat_map (numbered_lines content.count parts) (range_with_len 0 (length content.rows)))
 
 -- an output has these lines, before the line on records that aren't drawn
-pub record IsOutputWith (options : Options) (records : List (List Text)) (output : Text) (lines : List Text) : Type 0 where
+pub record IsOutputWith (options : Options) (records : List (List Text)) (output : Text)
+    (lines : List Text) : Type 0 where
   pub content : ContentValue
   pub is_content : content_of options records ≡ Ok content
   pub is_expanded : Bool
@@ -64,14 +72,18 @@ pub record IsOutputWith (options : Options) (records : List (List Text)) (output
   pub has_lines : HasLines is_expanded content lines text
   pub joined : output ≡ text ++ note_for options.look.is_markdown options.limit content.count
 
--- the table that is drawn of some records: of their rows or of their fields, with lines between rows or without
+-- the table that is drawn of some records: of their rows or of their fields, with lines between
+-- rows or without
 abbrev pub IsDrawnTable : Look → ContentValue → TableValue → Type 0
-IsDrawnTable look content table = (has_separators : Bool) × (table ≡ separated_table has_separators (output_table (is_expanded_for look content) look content))
+IsDrawnTable look content table =
+    (has_separators : Bool) × (table
+    ≡ separated_table has_separators (output_table (is_expanded_for look content) look content))
 
 -- ---- widths of lines
 
 -- an output has the lines of a drawing, and P holds of their counts
-pub record EachLineHas (P : TableValue → ℕ → Type 0) (options : Options) (records : List (List Text)) (output : Text) : Type 0 where
+pub record EachLineHas (P : TableValue → ℕ → Type 0) (options : Options)
+    (records : List (List Text)) (output : Text) : Type 0 where
   pub lines : List Text
   pub is_output : IsOutputWith options records output lines
   pub table : TableValue
@@ -136,12 +148,16 @@ PrintableLinesHave P visible options records output =
 
 -- ---- numbers and dates
 
--- where a width has room for the columns that aren't broken, none of them is drawn narrower than its content
+-- where a width has room for the columns that aren't broken, none of them is drawn narrower than
+-- its content
 abbrev pub UnbrokenColumnIsWhole : ℕ → Look → ContentValue → Bool → List ℕ → ℕ → Type 0
 UnbrokenColumnIsWhole w look content has_separators widths i =
     look.width ≡ Some w
-    → framed_width (rows_table look content).style (needed_contents (unbroken_columns look.has_sequences content.columns content.rows) (max_content_widths (rows_table look content))) ≤ w
-    → slice_get (unbroken_columns look.has_sequences content.columns content.rows) i ≡ Some true → i < length (rows_table look content).columns
+    → framed_width (rows_table look content).style
+    (needed_contents (unbroken_columns look.has_sequences content.columns content.rows)
+    (max_content_widths (rows_table look content))) ≤ w
+    → slice_get (unbroken_columns look.has_sequences content.columns content.rows) i ≡ Some true
+    → i < length (rows_table look content).columns
     → IsArranged (separated_table has_separators (output_table false look content)) widths
     → column_content_width (rows_table look content) i ≤ slice_index widths i
 
@@ -149,7 +165,9 @@ UnbrokenColumnIsWhole w look content has_separators widths i =
 
 -- P holds of each field as it is drawn, cut at its line feeds
 abbrev pub EachText : (Text → Type 0) → Look → List (List Text) → Type 0
-EachText P look records = All (λ (fields : List Text). All (λ (field : Text). All P (plain_cell (field_text look field)).text_lines) fields) records
+EachText P look records =
+    All (λ (fields : List Text). All
+    (λ (field : Text). All P (plain_cell (field_text look field)).text_lines) fields) records
 
 -- the lines of an output, as they are seen, take the same number of terminal columns each; and
 -- where that is without their sequences, no control character is visible of them
@@ -213,10 +231,13 @@ FittingOutputIsStraight visible options records output =
 
 -- a field of printable ASCII is drawn as such text
 abbrev pub PrintableFieldsStay : Look → Text → Type 0
-PrintableFieldsStay look field = is_printable_ascii field ≡ true → All (λ text. is_printable_ascii text ≡ true) (plain_cell (field_text look field)).text_lines
+PrintableFieldsStay look field =
+    is_printable_ascii field ≡ true
+    → All (λ text. is_printable_ascii text ≡ true) (plain_cell (field_text look field)).text_lines
 
 -- for texts of printable ASCII each line of the table is counted, under every width
-abbrev pub PrintableTextsMakePrintableTable : Options → List (List Text) → TableValue → List ℕ → Type 0
+abbrev pub PrintableTextsMakePrintableTable : Options → List (List Text) → TableValue → List ℕ
+    → Type 0
 PrintableTextsMakePrintableTable options records table widths =
     options.look.has_sequences ≡ false
     → EachText (λ text. is_printable_ascii text ≡ true) options.look records
@@ -227,14 +248,18 @@ PrintableTextsMakePrintableTable options records table widths =
 -- then nothing harmful is visible of an output for records that are text
 abbrev pub OutputHoldsNoControls : Options → List (List Text) → Text → Type 0
 OutputHoldsNoControls options records output =
-    IsLookWithoutControls options.look → All AllText records → IsOutputOf options records output → HasNoStrayControl (visible_text output)
+    IsLookWithoutControls options.look → All AllText records → IsOutputOf options records output
+    → HasNoStrayControl (visible_text output)
 
 -- nor of the output for any input
 abbrev pub InputIsDrawnWithoutControls : Options → Text → Text → Type 0
 InputIsDrawnWithoutControls options input output =
-    IsLookWithoutControls options.look → IsOutputFor options input output → HasNoStrayControl (visible_text output)
+    IsLookWithoutControls options.look → IsOutputFor options input output
+    → HasNoStrayControl (visible_text output)
 
 -- nor of any output that words ask for, unless they ask for raw fields
 abbrev pub AskedOutputHoldsNoControls : List Text → Surroundings → Asked → Text → Text → Type 0
 AskedOutputHoldsNoControls words surroundings asked input output =
-    IsAsked words surroundings asked → asked.options.look.is_raw ≡ false → IsOutputFor asked.options input output → HasNoStrayControl (visible_text output)
+    IsAsked words surroundings asked → asked.options.look.is_raw ≡ false
+    → IsOutputFor asked.options input output
+    → HasNoStrayControl (visible_text output)

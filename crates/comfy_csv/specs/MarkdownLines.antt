@@ -17,11 +17,14 @@ use Rattle.comfy_csv.specs.Laws.{EachText}
 
 -- ---- a line
 
--- the parts of a line that goes on within a part: a bar ends one, unless it stands after a backslash that isn't itself after one
+-- the parts of a line that goes on within a part: a bar ends one, unless it stands after a
+-- backslash that isn't itself after one
 abbrev pub parts_from : Bool → List ℕ → List ℕ → List (List ℕ)
 parts_from is_escaped part [] = part ∷ []
 parts_from is_escaped part (c ∷ rest) =
-    if not is_escaped && (c == 0x7C) then part ∷ parts_from false [] rest else parts_from (not is_escaped && (c == 0x5C)) (part ++ c ∷ []) rest
+    if not is_escaped && (c == 0x7C)
+    then part ∷ parts_from false [] rest
+    else parts_from (not is_escaped && (c == 0x5C)) (part ++ c ∷ []) rest
 
 -- the parts of a line between its bars
 abbrev pub parts_between_bars : List ℕ → List (List ℕ)
@@ -57,17 +60,24 @@ read_field look field = without_outer_spaces (chars (cleaned (kept_for_markdown 
 -- between its outer bars a line has a part for each column, which gives back the record's field
 abbrev pub GivesBack : Look → List DrawnColumn → List Text → Text → Type 0
 GivesBack look columns fields line =
-    map read_part (parts_between_bars (chars line)) ≡ [] ∷ (map (λ (column : DrawnColumn). read_field look (field_or_blank fields column.position)) columns ++ [] ∷ [])
+    map read_part (parts_between_bars (chars line))
+    ≡ [] ∷ (map (λ (column : DrawnColumn).
+    read_field look (field_or_blank fields column.position)) columns ++ [] ∷ [])
 
 -- ---- an output
 
--- an output for Markdown gives back the names, and below its second line each record that is drawn in one line
-pub record GivesRecordsBack (options : Options) (records : List (List Text)) (output : Text) : Type 0 where
+-- an output for Markdown gives back the names, and below its second line each record that is drawn
+-- in one line
+pub record GivesRecordsBack (options : Options) (records : List (List Text))
+    (output : Text) : Type 0 where
   pub content : ContentValue
   pub is_content : content_of options records ≡ Ok content
   pub header : Text
   pub lines : List Text
-  pub is : output ≡ terminated_text_of (header ∷ rule_line content.columns (max_content_widths (markdown_table options.look content)) ∷ lines) ++ note_for true options.limit content.count
+  pub is :
+      output ≡ terminated_text_of (header
+      ∷ rule_line content.columns (max_content_widths (markdown_table options.look content))
+      ∷ lines) ++ note_for true options.limit content.count
   pub unbroken : All HasNoBreak (header ∷ lines)
   pub names : GivesBack options.look content.columns (unwrap_or content.names []) header
   pub rows : AllZip (GivesBack options.look content.columns) content.rows lines
@@ -75,5 +85,7 @@ pub record GivesRecordsBack (options : Options) (records : List (List Text)) (ou
 -- so it does where a column is drawn, for fields of every script up to 65535 terminal columns
 abbrev pub MarkdownGivesRecordsBack : Options → List (List Text) → Text → Type 0
 MarkdownGivesRecordsBack options records output =
-    options.look.is_markdown ≡ true → EachText (λ text. measure text ≤ 65535) options.look records → All AllText records → (made : IsOutputOf options records output) → 0 < length made.content.columns
+    options.look.is_markdown ≡ true → EachText (λ text. measure text ≤ 65535) options.look records
+    → All AllText records → (made : IsOutputOf options records output)
+    → 0 < length made.content.columns
     → GivesRecordsBack options records output

@@ -1,4 +1,5 @@
--- What comes of words and an input, the output going to no terminal: a drawing, or why there is none.
+-- What comes of words and an input, the output going to no terminal: a drawing, or why there is
+-- none.
 use Rattle.std.specs.Prelude.{◌≡◌, ◌≢◌, ◌⊎◌, false, List, None, string_bytes}
 use Rattle.clap.specs.declared.error.kind.ErrorKind.{ErrorKind}
 use Rattle.clap.specs.declared.error.kind.ErrorKind.TheVariants as kind
@@ -45,12 +46,14 @@ IsRefusedFor words input OutOfMemory = Unit {0}
 
 -- the refusal of words for which clap has something to say, by its kind
 abbrev pub IsRefusalByKind : ErrorKind → Refusal → Type 0
-IsRefusalByKind found (Words message) = (found ≢ kind.OutOfMemory) × IsHarmless (string_bytes message)
+IsRefusalByKind found (Words message) =
+    (found ≢ kind.OutOfMemory) × IsHarmless (string_bytes message)
 IsRefusalByKind found (Input message) = ⊥
 IsRefusalByKind found OutOfMemory = Unit {0}
 
 -- the refusal of an input, by the error that it comes of
 abbrev pub IsRefusalOfInput : Asked → CsvError → Refusal → Type 0
 IsRefusalOfInput asked e (Words message) = ⊥
-IsRefusalOfInput asked e (Input message) = (e ≢ err.OutOfMemory) × (string_bytes message ≡ message_for asked None e)
+IsRefusalOfInput asked e (Input message) =
+    (e ≢ err.OutOfMemory) × (string_bytes message ≡ message_for asked None e)
 IsRefusalOfInput asked e OutOfMemory = Unit {0}

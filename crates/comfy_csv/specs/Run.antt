@@ -24,12 +24,18 @@ is_write_fault _ = false
 
 -- what makes an input one that can't be drawn
 abbrev pub IsInputFault : Options → Text → CsvError → Type 0
-IsInputFault options input (NotUtf8 line) = (encoding_of options.encoding input ≡ Utf8) × IsFirstUnread input line
-IsInputFault options input (NotUtf16 line) = (encoding_of options.encoding input ≡ Utf16) × IsFirstUnpaired (utf16_characters input) line
-IsInputFault options input (Unclosed line) = (text : Text) × IsTextFor options input text × HasUnclosedQuote options text line
-IsInputFault options input SplitCharacter = (text : Text) × IsTextFor options input text × HasSplitCharacter options text
-IsInputFault options input (NoColumn name) = HasColumnFault options input (missing (string_bytes name))
-IsInputFault options input (TwoSides name) = HasColumnFault options input (two_sided (string_bytes name))
+IsInputFault options input (NotUtf8 line) =
+    (encoding_of options.encoding input ≡ Utf8) × IsFirstUnread input line
+IsInputFault options input (NotUtf16 line) =
+    (encoding_of options.encoding input ≡ Utf16) × IsFirstUnpaired (utf16_characters input) line
+IsInputFault options input (Unclosed line) =
+    (text : Text) × IsTextFor options input text × HasUnclosedQuote options text line
+IsInputFault options input SplitCharacter =
+    (text : Text) × IsTextFor options input text × HasSplitCharacter options text
+IsInputFault options input (NoColumn name) =
+    HasColumnFault options input (missing (string_bytes name))
+IsInputFault options input (TwoSides name) =
+    HasColumnFault options input (two_sided (string_bytes name))
 IsInputFault options input Read = ⊥
 IsInputFault options input Write = ⊥
 IsInputFault options input OutOfMemory = ⊥
@@ -51,12 +57,16 @@ IsReadFailure _ input ended failed = ⊥
 
 -- why there is nothing to write
 abbrev pub IsRefusal : Options → CsvError → Text → Bool → Bool → Type 0
-IsRefusal options Read input ended failed = (failed ≡ true) × (ended ≡ true → IsUtf8IfWanted options input)
-IsRefusal options OutOfMemory input ended failed = (failed ≡ false) × (ended ≡ true → IsUtf8IfWanted options input)
-IsRefusal options e input ended failed = (failed ≡ false) × (ended ≡ true) × IsInputFault options input e
+IsRefusal options Read input ended failed =
+    (failed ≡ true) × (ended ≡ true → IsUtf8IfWanted options input)
+IsRefusal options OutOfMemory input ended failed =
+    (failed ≡ false) × (ended ≡ true → IsUtf8IfWanted options input)
+IsRefusal options e input ended failed =
+    (failed ≡ false) × (ended ≡ true) × IsInputFault options input e
 
 module _ (options : Options) (facts : RunFacts) where
-  -- an input that was read whole and is to be UTF-8 is it, since any other one has a result of its own
+  -- an input that was read whole and is to be UTF-8 is it, since any other one has a result of its
+  -- own
   abbrev pub IsTextIfWhole : Type 0
   IsTextIfWhole = facts.end_was_read ≡ true → IsUtf8IfWanted options facts.input
 
@@ -73,7 +83,8 @@ module _ (options : Options) (facts : RunFacts) where
     pub nothing_written : facts.written ≡ []
     pub text : IsTextIfWhole
 
-  -- the sink failed and the source didn't, and a beginning of such an output was written, not all of it
+  -- the sink failed and the source didn't, and a beginning of such an output was written, not all
+  -- of it
   pub record IsAfterWrite : Type 0 where
     pub failed : facts.write_failed ≡ true
     pub no_read_failed : facts.read_failed ≡ false

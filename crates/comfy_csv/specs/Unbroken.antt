@@ -12,13 +12,17 @@ use Rattle.comfy_csv_parts.specs.declared.options.DrawnColumn.{DrawnColumn}
 
 -- the width of a line over columns of these contents: borders, contents and paddings
 abbrev pub framed_width : TableStyle → List ℕ → ℕ
-framed_width style contents = border_count style (length contents) + sum_by (λ content. 2 + content) contents
+framed_width style contents =
+    border_count style (length contents) + sum_by (λ content. 2 + content) contents
 
 -- of each drawn column, whether all fields of the rows, as they are seen, are numbers or dates
 abbrev pub unbroken_columns : Bool → List DrawnColumn → List (List Text) → List Bool
-unbroken_columns keeps_sequences columns rows = map (λ (column : DrawnColumn). is_unbroken_column (map (seen keeps_sequences) rows) column.position) columns
+unbroken_columns keeps_sequences columns rows =
+    map (λ (column : DrawnColumn). is_unbroken_column
+    (map (seen keeps_sequences) rows) column.position) columns
 
--- what a column needs of its content: all, or at most eight terminal columns where it may be broken; at least one
+-- what a column needs of its content: all, or at most eight terminal columns where it may be
+-- broken; at least one
 abbrev pub needed_content : Bool → ℕ → ℕ
 needed_content is_unbroken content = max 1 (if is_unbroken then content else min content 8)
 
@@ -26,23 +30,29 @@ needed_content is_unbroken content = max 1 (if is_unbroken then content else min
 abbrev pub needed_contents : List Bool → List ℕ → List ℕ
 needed_contents [] contents = map (needed_content false) contents
 needed_contents (is_unbroken ∷ more) [] = []
-needed_contents (is_unbroken ∷ more) (content ∷ contents) = needed_content is_unbroken content ∷ needed_contents more contents
+needed_contents (is_unbroken ∷ more) (content ∷ contents) =
+    needed_content is_unbroken content ∷ needed_contents more contents
 
 -- a column that is as wide as its content
 abbrev pub whole_column : Bool → ColumnValue → ColumnValue
-whole_column is_unbroken column = if is_unbroken then record column { constraint = Some ContentWidth } else column
+whole_column is_unbroken column =
+    if is_unbroken then record column { constraint = Some ContentWidth } else column
 
 abbrev pub whole_columns : List Bool → List ColumnValue → List ColumnValue
 whole_columns [] columns = columns
 whole_columns (is_unbroken ∷ more) [] = []
-whole_columns (is_unbroken ∷ more) (column ∷ columns) = whole_column is_unbroken column ∷ whole_columns more columns
+whole_columns (is_unbroken ∷ more) (column ∷ columns) =
+    whole_column is_unbroken column ∷ whole_columns more columns
 
 -- a table with such columns
 abbrev pub with_whole : List Bool → TableValue → TableValue
 with_whole unbroken table = record table { columns = whole_columns unbroken table.columns }
 
--- so is a table where a width is kept that has room for all these columns, and for what the others need; else it stays
+-- so is a table where a width is kept that has room for all these columns, and for what the others
+-- need; else it stays
 abbrev pub kept_whole : Option ℕ → List Bool → TableValue → TableValue
 kept_whole None unbroken table = table
 kept_whole (Some width) unbroken table =
-    if nat_le (framed_width table.style (needed_contents unbroken (max_content_widths table))) width then with_whole unbroken table else table
+    if nat_le (framed_width table.style (needed_contents unbroken (max_content_widths table))) width
+    then with_whole unbroken table
+    else table

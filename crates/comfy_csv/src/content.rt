@@ -25,7 +25,12 @@ impl Model for Content {
 
     ghost Value = { ContentValue };
 
-    ghost view = { λ c. record { names = names_of c.has_header c.records; rows = limited c.limit (records_below c.has_header c.records); columns = c.columns.items; count = length (records_below c.has_header c.records) } };
+    ghost view = { λ c. record {
+      names = names_of c.has_header c.records;
+      rows = limited c.limit (records_below c.has_header c.records);
+      columns = c.columns.items;
+      count = length (records_below c.has_header c.records);
+    } };
 }
 
 impl Content {

@@ -12,7 +12,8 @@ use clap::error::{Error, ErrorKind};
 use comfy_csv_parts::{Asked, CsvError, Surroundings, asked_of};
 use std::alloc::{AllocError, Global};
 
-// Where the output goes that a caller gets as a value: to no terminal, whatever the environment says.
+// Where the output goes that a caller gets as a value: to no terminal, whatever the environment
+// says.
 const NO_SURROUNDINGS: Surroundings<'static> = Surroundings {
     is_terminal: false,
     columns: None,
@@ -22,9 +23,11 @@ const NO_SURROUNDINGS: Surroundings<'static> = Surroundings {
 /// Why words and an input have no drawing.
 #[derive(Debug, Drop)]
 pub enum Refusal {
-    /// The words ask for no drawing. The text is what `csvtable` says then; help and the version are such texts.
+    /// The words ask for no drawing. The text is what `csvtable` says then; help and the version
+    /// are such texts.
     Words(String),
-    /// The input can't be drawn as the words ask. The text is the line that `csvtable` writes on standard error.
+    /// The input can't be drawn as the words ask. The text is the line that `csvtable` writes on
+    /// standard error.
     Input(String),
     /// Memory ran out.
     OutOfMemory,
@@ -38,17 +41,21 @@ impl From<AllocError> for Refusal {
     }
 }
 
-/// What `csvtable` writes for these words where the input is these bytes. The first word is the program's name. The
-/// output goes to no terminal, and the environment has neither `COLUMNS` nor `NO_COLOR`.
+/// What `csvtable` writes for these words where the input is these bytes. The first word is the
+/// program's name. The output goes to no terminal, and the environment has neither `COLUMNS` nor
+/// `NO_COLOR`.
 ///
-/// No file is opened: a word for one names the input in messages, and its end may tell what stands between fields.
+/// No file is opened: a word for one names the input in messages, and its end may tell what stands
+/// between fields.
 ///
 /// ```
 /// let drawing = drawing_of(rt.alloc(), &["csvtable", "-s", "grid"], b"name,days\noats,3\n")?;
 /// ```
 pub fn drawing_of<'a>(alloc: Global, words: &'a [&'a str], input: &[u8]) -> Result<String, Refusal>
-    ensures drawn { IfOk result (λ drawing. IsDrawnFor (map (λ w. w.now) words.entry.now) input.now (string_bytes drawing)) }
-    ensures refused { IfErr result (λ refusal. IsRefusedFor (map (λ w. w.now) words.entry.now) input.now refusal) }
+    ensures drawn { IfOk result (λ drawing.
+        IsDrawnFor (map (λ w. w.now) words.entry.now) input.now (string_bytes drawing)) }
+    ensures refused { IfErr result (λ refusal.
+        IsRefusedFor (map (λ w. w.now) words.entry.now) input.now refusal) }
 {
     let asked = match asked_of(alloc, words, NO_SURROUNDINGS) {
         Ok(asked) => asked,

@@ -85,7 +85,8 @@ pub(crate) fn ending_of_drawing(alloc: Global, drawing: &Drawing<'_>) -> Ending
     }
 }
 
-/// How the program ends where clap has something to say: help, the version, or why words aren't known.
+/// How the program ends where clap has something to say: help, the version, or why words aren't
+/// known.
 pub(crate) fn ending_of_words(alloc: Global, error: &Error) -> Ending
     ensures { IsEndOfWords (kind_of error.now) result }
 {
@@ -100,7 +101,8 @@ pub(crate) fn ending_of_words(alloc: Global, error: &Error) -> Ending
     }
 }
 
-/// How the program ends where words couldn't be read: one isn't UTF-8, or there is no memory for them.
+/// How the program ends where words couldn't be read: one isn't UTF-8, or there is no memory for
+/// them.
 pub(crate) fn ending_without_words(kind: io::ErrorKind) -> Ending
     ensures { IsEndWithoutWords kind result }
 {
@@ -166,7 +168,8 @@ fn is_of_input(error: &CsvError) -> bool
 
 // What a message begins with.
 fn about(alloc: Global, is_of_input: bool, file: &Option<String>) -> Result<String, AllocError>
-    ensures { IfOk result (λ text. string_bytes text ≡ about is_of_input (option_map string_bytes file.now)) }
+    ensures { IfOk result (λ text. string_bytes text
+        ≡ about is_of_input (option_map string_bytes file.now)) }
 {
     match file {
         _ if !is_of_input => String::from_str(alloc, "csvtable: "),
@@ -234,7 +237,8 @@ fn encoding_hint(encoding: Option<Encoding>) -> &'static str
     }
 }
 
-/// What clap says, with nothing in it that speaks to the terminal: its text holds words as they were typed.
+/// What clap says, with nothing in it that speaks to the terminal: its text holds words as they
+/// were typed.
 pub(crate) fn text_of_clap(alloc: Global, error: &Error) -> Result<String, AllocError>
     ensures { IfOk result (λ text. IsHarmless (string_bytes text)) }
 {

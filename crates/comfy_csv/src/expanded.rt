@@ -44,7 +44,8 @@ fn least_contents(alloc: Global, contents: &[u16]) -> std::result::Result<Vec<u1
     Ok(least)
 }
 
-/// Where lines between the fields of a record are drawn: none that only tall rows would need, since names part the fields.
+/// Where lines between the fields of a record are drawn: none that only tall rows would need, since
+/// names part the fields.
 pub(crate) fn between_fields(separators: RowSeparators) -> RowSeparators
     ensures { result ≡ separators_in true separators }
 {
@@ -71,7 +72,8 @@ fn push_record(
     arranged: &ArrangedTable<'_>,
     at: usize,
 ) -> Result<()>
-    ensures { OnOk result (string_bytes text.new ≡ string_bytes text.old ++ record_text content.now arranged.now at) }
+    ensures { OnOk result (string_bytes text.new
+        ≡ string_bytes text.old ++ record_text content.now arranged.now at) }
 {
     let fields = content.columns.len();
     // as many rows are in memory, so a `usize` holds this

@@ -1,4 +1,5 @@
-//! What is so of every drawing. Each function does nothing: its clauses are the law, so that a proof of yours can cite it.
+//! What is so of every drawing. Each function does nothing: its clauses are the law, so that a
+//! proof of yours can cite it.
 
 ghost use Rattle.std.specs.Prelude.{Bool, List, ℕ};
 ghost use Rattle.comfy_parts.specs.Text.{Text};
@@ -19,18 +20,21 @@ pub use comfy_csv_parts::laws::{
     texts_in_utf16_are_read_back, unclosed_quotes_stand_alone,
 };
 
-/// Picking columns loses no row. The table has a row for each record that is drawn, in order, with the fields of the same
-/// columns, and these are the chosen ones, less those that are left out.
+/// Picking columns loses no row. The table has a row for each record that is drawn, in order, with
+/// the fields of the same columns, and these are the chosen ones, less those that are left out.
 pub fn tables_keep_their_rows()
-    ensures { (options : Options) (records : List (List Text)) (table : TableValue) → TableKeepsRows options records table }
+    ensures { (options : Options) (records : List (List Text)) (table : TableValue)
+        → TableKeepsRows options records table }
 {}
 
-/// With a width, a frame line of an output that isn't for Markdown has at most as many characters, or as many as borders,
-/// paddings and one character for each column. Where the width is filled, it has exactly so many, where there is a column.
-/// So has each line where all fields are printable ASCII: as it is written, where nothing is in bold; or without its
-/// sequences, where no control character stands beside them. Sequences in fields are not kept, and no line feed is in the
-/// style. In terminal columns each line has so many where no character takes more than one, in a style of such characters.
-/// Where records are expanded, the lines that number them and the one on further records aren't among these lines.
+/// With a width, a frame line of an output that isn't for Markdown has at most as many characters,
+/// or as many as borders, paddings and one character for each column. Where the width is filled, it
+/// has exactly so many, where there is a column. So has each line where all fields are printable
+/// ASCII: as it is written, where nothing is in bold; or without its sequences, where no control
+/// character stands beside them. Sequences in fields are not kept, and no line feed is in the
+/// style. In terminal columns each line has so many where no character takes more than one, in a
+/// style of such characters. Where records are expanded, the lines that number them and the one on
+/// further records aren't among these lines.
 pub fn outputs_keep_to_a_width()
     ensures dynamic { (w : ℕ) (options : Options) (records : List (List Text)) (output : Text)
         → OutputKeepsToWidth w options records output }
@@ -50,28 +54,33 @@ pub fn outputs_keep_to_a_width()
         → NarrowLinesHave (IsFilling w) visible options records output }
 {}
 
-/// Where a width has room for the columns of numbers and dates, and for what the others need, none of them is drawn narrower
-/// than its content, with lines between rows or without.
+/// Where a width has room for the columns of numbers and dates, and for what the others need, none
+/// of them is drawn narrower than its content, with lines between rows or without.
 pub fn numbers_and_dates_are_whole()
-    ensures { (w : ℕ) (look : Look) (content : ContentValue) (has_separators : Bool) (widths : List ℕ) (i : ℕ) → UnbrokenColumnIsWhole w look content has_separators widths i }
+    ensures { (w : ℕ) (look : Look) (content : ContentValue) (has_separators : Bool)
+        (widths : List ℕ) (i : ℕ) → UnbrokenColumnIsWhole w look content has_separators widths i }
 {}
 
-/// Fields of printable ASCII are drawn as such texts. These make a table of printable ASCII, where sequences in fields are
-/// not kept.
+/// Fields of printable ASCII are drawn as such texts. These make a table of printable ASCII, where
+/// sequences in fields are not kept.
 pub fn printable_texts_make_printable_tables()
     ensures fields { (look : Look) (field : Text) → PrintableFieldsStay look field }
-    ensures tables { (options : Options) (records : List (List Text)) (table : TableValue) (widths : List ℕ) → PrintableTextsMakePrintableTable options records table widths }
+    ensures tables { (options : Options) (records : List (List Text)) (table : TableValue)
+        (widths : List ℕ) → PrintableTextsMakePrintableTable options records table widths }
 {}
 
-/// All lines of an output take equally many terminal columns: as they are written, where nothing is in bold; or without
-/// their sequences, where no control character stands beside them, with a bold header too. Lines end at line feeds. Each
-/// character of the style adds one column and none is a line feed, and sequences in fields are not kept.
+/// All lines of an output take equally many terminal columns: as they are written, where nothing is
+/// in bold; or without their sequences, where no control character stands beside them, with a bold
+/// header too. Lines end at line feeds. Each character of the style adds one column and none is a
+/// line feed, and sequences in fields are not kept.
 ///
-/// That is so where no width is kept to, for texts of every script up to 65535 columns; where rows are cut, U+FE01 stands
-/// nowhere directly beside U+FE0E or U+FE0F. It is so under every width where no character takes more than one column, and
-/// where each character of each text fits its column. The tables of expanded records are as wide as each other; the lines
-/// that number them and the one on further records aren't among these lines. An output for Markdown of texts up to 65535
-/// columns is straight, whatever its look asks for besides, and its line below the header is as wide as the others.
+/// That is so where no width is kept to, for texts of every script up to 65535 columns; where rows
+/// are cut, U+FE01 stands nowhere directly beside U+FE0E or U+FE0F. It is so under every width
+/// where no character takes more than one column, and where each character of each text fits its
+/// column. The tables of expanded records are as wide as each other; the lines that number them and
+/// the one on further records aren't among these lines. An output for Markdown of texts up to 65535
+/// columns is straight, whatever its look asks for besides, and its line below the header is as
+/// wide as the others.
 pub fn outputs_are_straight()
     ensures whole { (visible : Bool)
         (options : Options) (records : List (List Text)) (output : Text)
@@ -86,29 +95,36 @@ pub fn outputs_are_straight()
         → FittingOutputIsStraight visible options records output }
 {}
 
-/// Without its SGR sequences an output holds no control character but line feeds, whatever bytes the input has, under every
-/// width, limit and height, in Markdown and in bold. Fields are not left raw, and no character of the style is a control
-/// character; words ask for no such style. ESC stands in those sequences alone. So it is with each drawing that `drawing_of`
-/// returns, which is what a caller from C gets too.
+/// Without its SGR sequences an output holds no control character but line feeds, whatever bytes
+/// the input has, under every width, limit and height, in Markdown and in bold. Fields are not left
+/// raw, and no character of the style is a control character; words ask for no such style. ESC
+/// stands in those sequences alone. So it is with each drawing that `drawing_of` returns, which is
+/// what a caller from C gets too.
 pub fn outputs_hold_no_controls()
-    ensures records { (options : Options) (records : List (List Text)) (output : Text) → OutputHoldsNoControls options records output }
-    ensures input { (options : Options) (input output : Text) → InputIsDrawnWithoutControls options input output }
-    ensures asked { (words : List Text) (surroundings : Surroundings) (asked : Asked) (input output : Text) → AskedOutputHoldsNoControls words surroundings asked input output }
+    ensures records { (options : Options) (records : List (List Text)) (output : Text)
+        → OutputHoldsNoControls options records output }
+    ensures input { (options : Options) (input output : Text)
+        → InputIsDrawnWithoutControls options input output }
+    ensures asked { (words : List Text) (surroundings : Surroundings) (asked : Asked)
+        (input output : Text) → AskedOutputHoldsNoControls words surroundings asked input output }
     ensures drawn { (words : List Text) (asked : Asked) (input drawing : Text)
         → DrawnHoldsNoControls words asked input drawing }
 {}
 
-/// An output for Markdown has one line for the names, the rule below it, and one for each record that is drawn; none holds a
-/// line feed. Cut at its bars, but not at those after a backslash, and with what was escaped read back, such a line gives the
-/// record's fields as they were cleaned, less the spaces around them. A column is drawn, and no field is wider than 65535
-/// terminal columns.
+/// An output for Markdown has one line for the names, the rule below it, and one for each record
+/// that is drawn; none holds a line feed. Cut at its bars, but not at those after a backslash, and
+/// with what was escaped read back, such a line gives the record's fields as they were cleaned,
+/// less the spaces around them. A column is drawn, and no field is wider than 65535 terminal
+/// columns.
 pub fn markdown_lines_give_back_their_fields()
-    ensures { (options : Options) (records : List (List Text)) (output : Text) → MarkdownGivesRecordsBack options records output }
+    ensures { (options : Options) (records : List (List Text)) (output : Text)
+        → MarkdownGivesRecordsBack options records output }
 {}
 
-/// An input has one output: two that are drawn of it by the same options are equal, and so are two for the same records.
-/// The same words ask for one thing where the output goes to the same place, so `drawing_of` has one drawing for them.
-/// Options are the same where their texts are, wherever these are held.
+/// An input has one output: two that are drawn of it by the same options are equal, and so are two
+/// for the same records. The same words ask for one thing where the output goes to the same place,
+/// so `drawing_of` has one drawing for them. Options are the same where their texts are, wherever
+/// these are held.
 pub fn outputs_are_one()
     ensures input { (options others : Options) (input output other : Text)
         → OutputIsOne options others input output other }

@@ -31,7 +31,8 @@ pub(crate) fn output_of(
 }
 
 fn drawn_text(content: Content, look: &Look) -> Result<String>
-    ensures { IfOk result (λ text. IsText look.now.is_markdown look.now content (string_bytes text)) }
+    ensures { IfOk result (λ text. IsText look.now.is_markdown look.now content
+        (string_bytes text)) }
 {
     if look.is_markdown {
         markdown_text(content, look)
@@ -92,7 +93,8 @@ fn markdown_text(content: Content, look: &Look) -> Result<String>
 
 // The header's line, the line below it for columns of these widths, and the lines of the rows.
 fn with_rule(content: &Content, header: &str, widths: &[u16], rows: &str) -> Result<String>
-    ensures { IfOk result (λ text. string_bytes text ≡ header.now ++ 0x0A ∷ (rule_line content.now.columns widths.now ++ 0x0A ∷ rows.now)) }
+    ensures { IfOk result (λ text. string_bytes text
+        ≡ header.now ++ 0x0A ∷ (rule_line content.now.columns widths.now ++ 0x0A ∷ rows.now)) }
 {
     let mut text = String::new(content.alloc);
     text.push_str(header)?;
@@ -109,7 +111,8 @@ fn push_note(
     limit: Option<usize>,
     count: usize,
 ) -> std::result::Result<(), AllocError>
-    ensures { OnOk result (string_bytes output.new ≡ string_bytes output.old ++ note_for is_markdown limit count) }
+    ensures { OnOk result (string_bytes output.new
+        ≡ string_bytes output.old ++ note_for is_markdown limit count) }
 {
     match limit {
         Some(limit) if limit < count => {

@@ -1,5 +1,5 @@
-//! What only asks the system: the words, the streams, the environment and the file. What is made of it stands in `ending`
-//! and in `asked_of`.
+//! What only asks the system: the words, the streams, the environment and the file. What is made of
+//! it stands in `ending` and in `asked_of`.
 
 use crate::ending::{Drawing, Ending, ending_of_drawing, ending_of_words, ending_without_words};
 use crate::transfer::draw;
@@ -12,9 +12,10 @@ use std::io::{IsTerminal, Read};
 use std::process::ExitCode;
 use std::{env, io};
 
-/// Runs the program over the standard streams, with the words after the process's name, and returns its status: 0 where
-/// the drawing was written, 1 with a line on standard error after an error, 2 with a reason where the words aren't known.
-/// Where a pipe has no reader any more, the status is 1, and nothing is said.
+/// Runs the program over the standard streams, with the words after the process's name, and returns
+/// its status: 0 where the drawing was written, 1 with a line on standard error after an error, 2
+/// with a reason where the words aren't known. Where a pipe has no reader any more, the status is
+/// 1, and nothing is said.
 ///
 /// ```
 /// fn main(rt: HostRuntime) -> ExitCode {
@@ -29,7 +30,8 @@ pub fn run_with_arguments(rt: &HostRuntime) -> ExitCode {
     end(rt, &ending)
 }
 
-// Says what there is to say, and ends. Where a message can't be said there is nowhere left to say so; help is an output.
+// Says what there is to say, and ends. Where a message can't be said there is nowhere left to say
+// so; help is an output.
 fn end(rt: &HostRuntime, ending: &Ending) -> ExitCode {
     let text = ending.said.text().as_bytes();
     if ending.is_message {

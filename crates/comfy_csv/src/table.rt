@@ -13,10 +13,11 @@ use comfy_table::presets::ASCII_MARKDOWN;
 use comfy_table::{ContentArrangement, LineStyle, Result, Table, TableStyle};
 use std::alloc::Global;
 
-/// The table of these records, with the columns, rows and looks that are wanted, and all lines of the style. `NoColumn`
-/// has the first word that chooses no column that is there: in the list of columns, then in those of the right and the
-/// left. `TwoSides` has the first column of the right that is at the left too. Where Markdown is wanted its texts alone are
-/// for Markdown; `draw` draws such a table.
+/// The table of these records, with the columns, rows and looks that are wanted, and all lines of
+/// the style. `NoColumn` has the first word that chooses no column that is there: in the list of
+/// columns, then in those of the right and the left. `TwoSides` has the first column of the right
+/// that is at the left too. Where Markdown is wanted its texts alone are for Markdown; `draw` draws
+/// such a table.
 pub fn table_of(
     alloc: Global,
     records: Records,
@@ -58,7 +59,8 @@ impl Content {
     }
 
     fn rows_table_under(&self, names: Option<Record<'_>>, look: &Look) -> Result<Table>
-        ensures { IfOk result (λ table. table ≡ rows_table look.now (record self.now { names = names.entry })) }
+        ensures { IfOk result (λ table. table
+            ≡ rows_table look.now (record self.now { names = names.entry })) }
     {
         let mut table = self.headed_table(names, look)?;
         for row in self.rows() {
@@ -69,7 +71,8 @@ impl Content {
 
     // A table with a header of these names, where there are any.
     fn headed_table(&self, names: Option<Record<'_>>, look: &Look) -> Result<Table>
-        ensures { IfOk result (λ table. table ≡ headed_table look.now self.now.columns names.entry) }
+        ensures { IfOk result (λ table. table
+            ≡ headed_table look.now self.now.columns names.entry) }
     {
         let mut table = empty_table(self.alloc, look);
         if let Some(names) = &names {
@@ -86,7 +89,8 @@ impl Content {
         row: &Record<'_>,
         look: &Look,
     ) -> Result<()>
-        ensures { OnOk result (table.new ≡ with_rows (pairs_of look.now self.now.columns names.now row.now) table.old) }
+        ensures { OnOk result (table.new
+            ≡ with_rows (pairs_of look.now self.now.columns names.now row.now) table.old) }
     {
         for column in &self.columns {
             let name = name_at(self.alloc, names, column.position)?;

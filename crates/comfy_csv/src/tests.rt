@@ -72,7 +72,8 @@ fn a_file_that_can_not_be_read(rt: HostRuntime) {
     }
 }
 
-// So is what is wrong with its bytes; the two lines with a name are those of the page on the program.
+// So is what is wrong with its bytes; the two lines with a name are those of the page on the
+// program.
 #[test]
 fn an_input_that_can_not_be_drawn(rt: HostRuntime) {
     let words = ["csvtable", "bank.csv"];
@@ -141,7 +142,8 @@ fn ending_by<'a>(rt: &(impl Abort + Alloc<A = Global>), words: &'a [&'a str]) ->
     }
 }
 
-// By clap's layout: what the program does, how it is called, its words, and what stands behind them.
+// By clap's layout: what the program does, how it is called, its words, and what stands behind
+// them.
 #[test]
 fn help_is_an_output(rt: HostRuntime) {
     for word in ["-h", "--help"] {
@@ -151,7 +153,8 @@ fn help_is_an_output(rt: HostRuntime) {
         let text = ending.said.text();
         assert!(rt;
             text.starts_with(
-                "Draws the records of a CSV file as a table\n\nUsage: csvtable [OPTIONS] [FILE]\n\nArguments:\n"
+                "Draws the records of a CSV file as a table\n\n\
+                 Usage: csvtable [OPTIONS] [FILE]\n\nArguments:\n"
             )
         );
         assert!(rt; text.contains("\n  -h, --help              Print help\n"));

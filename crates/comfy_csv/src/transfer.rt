@@ -10,13 +10,14 @@ use comfy_csv_parts::{CsvError, Options, decoded, read_records};
 use comfy_run::run::{DeviceFault, ReadError, Sink, Source, read_all, write_all};
 use std::alloc::Global;
 
-/// Reads the whole source, and writes the drawing of the table of its records to the sink, each line followed by a line
-/// feed. Where not all records are drawn, a line says how many there are.
+/// Reads the whole source, and writes the drawing of the table of its records to the sink, each
+/// line followed by a line feed. Where not all records are drawn, a line says how many there are.
 ///
 /// An input without records has an empty output.
 ///
-/// All memory is asked for before the first write. Where the input can't be read, isn't in its encoding or has a quote that
-/// is never closed, columns can't be chosen so, or memory runs out, nothing is written. Where the output can't be written, a beginning of it was.
+/// All memory is asked for before the first write. Where the input can't be read, isn't in its
+/// encoding or has a quote that is never closed, columns can't be chosen so, or memory runs out,
+/// nothing is written. Where the output can't be written, a beginning of it was.
 ///
 /// ```
 /// let mut source = FromReader::new(rt.stdin());
@@ -33,8 +34,20 @@ pub fn draw<R: Source, W: Sink>(
     ensures source { R.has_failed source.new ≡ is_read_fault result }
     ensures sink { W.has_failed sink.old ≡ false → W.has_failed sink.new ≡ is_write_fault result }
     ensures known { Between
-        (record { remaining = R.remaining source.old; end_was_read = R.end_was_read source.old; read_failed = R.has_failed source.old; taken = W.taken sink.old; write_failed = W.has_failed sink.old })
-        (record { remaining = R.remaining source.new; end_was_read = R.end_was_read source.new; read_failed = R.has_failed source.new; taken = W.taken sink.new; write_failed = W.has_failed sink.new })
+        (record {
+          remaining = R.remaining source.old;
+          end_was_read = R.end_was_read source.old;
+          read_failed = R.has_failed source.old;
+          taken = W.taken sink.old;
+          write_failed = W.has_failed sink.old;
+        })
+        (record {
+          remaining = R.remaining source.new;
+          end_was_read = R.end_was_read source.new;
+          read_failed = R.has_failed source.new;
+          taken = W.taken sink.new;
+          write_failed = W.has_failed sink.new;
+        })
         (IsAfter options.now result) }
 {
     let output = output_for(alloc, source, options)?;
@@ -53,8 +66,10 @@ fn output_for<R: Source>(
     ensures ended { OnOk result (R.end_was_read source.new ≡ true) }
     ensures fault { R.has_failed source.new ≡ is_read_fault result }
     ensures no_write { is_write_fault result ≡ false }
-    ensures output { IfOk result (λ output. (input : List ℕ) → R.remaining source.old ≡ Some input → IsOutputFor options.now input (string_bytes output)) }
-    ensures refused { IfErr result (λ e. (input : List ℕ) → R.remaining source.old ≡ Some input → IsRefusal options.now e input (R.end_was_read source.new) (R.has_failed source.new)) }
+    ensures output { IfOk result (λ output. (input : List ℕ) → R.remaining source.old ≡ Some input
+        → IsOutputFor options.now input (string_bytes output)) }
+    ensures refused { IfErr result (λ e. (input : List ℕ) → R.remaining source.old ≡ Some input
+        → IsRefusal options.now e input (R.end_was_read source.new) (R.has_failed source.new)) }
 {
     let input = input_of(alloc, source)?;
     output_of_input(alloc, input, options)
@@ -66,7 +81,8 @@ pub(crate) fn output_of_input(
     input: Vec<u8>,
     options: &Options,
 ) -> Result<String, CsvError>
-    ensures output { IfOk result (λ output. IsOutputFor options.now input.items (string_bytes output)) }
+    ensures output { IfOk result (λ output.
+        IsOutputFor options.now input.items (string_bytes output)) }
     ensures refused { IfErr result (λ e. IsInputRefusal options.now input.items e) }
 {
     let text = decoded(alloc, input, options.encoding)?;
@@ -82,8 +98,10 @@ fn input_of<R: Source>(alloc: Global, source: &mut R) -> Result<Vec<u8>, CsvErro
     ensures ended { OnOk result (R.end_was_read source.new ≡ true) }
     ensures fault { R.has_failed source.new ≡ is_read_fault result }
     ensures no_write { is_write_fault result ≡ false }
-    ensures input { IfOk result (λ bytes. (input : List ℕ) → R.remaining source.old ≡ Some input → bytes.items ≡ input) }
-    ensures refused { IfErr result (λ e. (input : List ℕ) → R.remaining source.old ≡ Some input → IsReadFailure e input (R.end_was_read source.new) (R.has_failed source.new)) }
+    ensures input { IfOk result (λ bytes. (input : List ℕ) → R.remaining source.old ≡ Some input
+        → bytes.items ≡ input) }
+    ensures refused { IfErr result (λ e. (input : List ℕ) → R.remaining source.old ≡ Some input
+        → IsReadFailure e input (R.end_was_read source.new) (R.has_failed source.new)) }
     ensures unread { OnErr result (R.end_was_read source.new ≡ R.end_was_read source.old) }
 {
     match read_all(alloc, source) {

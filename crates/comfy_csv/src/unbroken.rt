@@ -14,10 +14,12 @@ use std::alloc::{AllocError, Global};
 // How many terminal columns of its content another column needs at most.
 const NEEDED_CONTENT: u16 = 8;
 
-/// Lets the columns of numbers and dates be as wide as their contents, where a width is kept that has room for all of them
-/// and for what the other columns need.
+/// Lets the columns of numbers and dates be as wide as their contents, where a width is kept that
+/// has room for all of them and for what the other columns need.
 pub(crate) fn keep_whole(table: &mut Table, content: &Content, look: &Look) -> Result<()>
-    ensures { OnOk result (table.new ≡ kept_whole look.now.width (unbroken_columns look.now.has_sequences content.now.columns content.now.rows) table.old) }
+    ensures { OnOk result (table.new
+        ≡ kept_whole look.now.width
+        (unbroken_columns look.now.has_sequences content.now.columns content.now.rows) table.old) }
 {
     let Some(width) = look.width else {
         return Ok(());
@@ -46,7 +48,8 @@ fn unbroken_columns(
     content: &Content,
     has_sequences: bool,
 ) -> std::result::Result<Vec<bool>, AllocError>
-    ensures { IfOk result (λ unbroken. unbroken.items ≡ unbroken_columns has_sequences content.now.columns content.now.rows) }
+    ensures { IfOk result (λ unbroken. unbroken.items
+        ≡ unbroken_columns has_sequences content.now.columns content.now.rows) }
 {
     let mut unbroken = Vec::with_capacity(content.alloc, content.columns.len())?;
     for column in &content.columns {

@@ -36,16 +36,21 @@ field_text look field =
 
 -- the cell of a field, with this alignment
 abbrev pub cell_for : Look → Option CellAlignment → Text → CellValue
-cell_for look alignment field = record (plain_cell (field_text look field)) { alignment = alignment }
+cell_for look alignment field =
+    record (plain_cell (field_text look field)) { alignment = alignment }
 
 -- a cell, in bold or as it is
 abbrev pub with_weight : Bool → CellValue → CellValue
-with_weight is_bold cell = if is_bold then record cell { attributes = cell.attributes ++ Bold ∷ [] } else cell
+with_weight is_bold cell =
+    if is_bold then record cell { attributes = cell.attributes ++ Bold ∷ [] } else cell
 
 -- a cell for each column
 abbrev pub cells_for : Look → Bool → List DrawnColumn → List Text → RowValue
 cells_for look is_bold columns fields =
-    plain_row (map (λ (column : DrawnColumn). with_weight is_bold (cell_for look column.alignment (field_or_blank fields column.position))) columns)
+    plain_row
+    (map (λ (column : DrawnColumn).
+    with_weight is_bold (cell_for look column.alignment
+    (field_or_blank fields column.position))) columns)
 
 -- the header's row
 abbrev pub header_for : Look → List DrawnColumn → List Text → RowValue
@@ -53,9 +58,12 @@ header_for look columns fields = cells_for look look.has_bold_header columns fie
 
 -- a record's row, cut at the greatest height
 abbrev pub row_for : Look → List DrawnColumn → List Text → RowValue
-row_for look columns fields = record (cells_for look false columns fields) { max_height = option_map (max 1) look.max_height }
+row_for look columns fields =
+    record (cells_for look false columns fields) { max_height = option_map (max 1) look.max_height }
 
--- the row of one field of an expanded record: the name of its column, as bold as a header, and the field
+-- the row of one field of an expanded record: the name of its column, as bold as a header, and the
+-- field
 abbrev pub pair_for : Look → Text → Text → RowValue
 pair_for look name field =
-    record (plain_row (with_weight look.has_bold_header (cell_for look None name) ∷ cell_for look None field ∷ [])) { max_height = option_map (max 1) look.max_height }
+    record (plain_row (with_weight look.has_bold_header (cell_for look None name)
+    ∷ cell_for look None field ∷ [])) { max_height = option_map (max 1) look.max_height }

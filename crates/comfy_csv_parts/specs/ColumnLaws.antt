@@ -36,8 +36,8 @@ module _ (names : List Text) (count : ℕ) where
         AllPairs (λ (one other : String A). (position : ℕ) → Chooses (string_bytes one) position
         → Chooses (string_bytes other) position → ⊥) words
 
-    -- the columns that are chosen by some words and not left out by others; each is there, and stands once where no two
-    -- words choose the same
+    -- the columns that are chosen by some words and not left out by others; each is there, and
+    -- stands once where no two words choose the same
     pub record AreKept (words dropped : List (String A)) (kept : List ℕ) : Type 0 where
       pub there : AreThere count kept
       pub distinct : ChooseApart words → AreDistinct kept

@@ -17,4 +17,5 @@ HasNoStrayControl text = NoCharPasses is_stray_control text
 
 -- no character of the style is a control character
 abbrev pub IsStyleWithoutControls : TableStyle → Type 0
-IsStyleWithoutControls style = list_any (λ (c : Option ℕ). is_control (unwrap_or c 0x20)) (style_characters style) ≡ false
+IsStyleWithoutControls style =
+    list_any (λ (c : Option ℕ). is_control (unwrap_or c 0x20)) (style_characters style) ≡ false

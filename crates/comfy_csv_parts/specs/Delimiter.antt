@@ -45,7 +45,9 @@ EndsIn text end = (front : Text) × (text ≡ front ++ end)
 
 -- where something follows that many lines, so many line breaks stand before it
 abbrev pub LeavesOutLines : ℕ → Text → Type 0
-LeavesOutLines count text = below_lines count text ≢ [] → (front : Text) × (text ≡ front ++ below_lines count text) × (line_breaks front ≡ count)
+LeavesOutLines count text =
+    below_lines count text ≢ []
+    → (front : Text) × (text ≡ front ++ below_lines count text) × (line_breaks front ≡ count)
 
 -- ---- a line that names the delimiter
 
@@ -61,17 +63,22 @@ only_ascii word = option_and_then (λ b. if nat_lt b 128 then Some b else None) 
 
 -- the delimiter that a line `sep=X` names, in letters of either case
 abbrev pub delimiter_in : Text → Option ℕ
-delimiter_in line = if bytes_eq (map to_ascii_lowercase (take 4 line)) (codes "sep=") then only_ascii (drop 4 line) else None
+delimiter_in line =
+    if bytes_eq (map to_ascii_lowercase (take 4 line)) (codes "sep=")
+    then only_ascii (drop 4 line)
+    else None
 
 -- the delimiter that a first line names, behind a byte-order mark too, and what follows that line
 abbrev pub named_delimiter : Text → Option (ℕ × Text)
-named_delimiter text = option_map (λ b. (b, below_line (strip_bom text))) (delimiter_in (first_line (strip_bom text)))
+named_delimiter text =
+    option_map (λ b. (b, below_line (strip_bom text))) (delimiter_in (first_line (strip_bom text)))
 
 -- ---- a delimiter that is found
 
 -- the records that are looked at
 abbrev pub first_records : ℕ → Bool → Text → List (List Text)
-first_records delimiter has_quotes text = records_from (config_for delimiter has_quotes) 10 st.StartRecord (strip_bom text)
+first_records delimiter has_quotes text =
+    records_from (config_for delimiter has_quotes) 10 st.StartRecord (strip_bom text)
 
 -- each record has this number of fields
 abbrev pub have_fields : ℕ → List (List Text) → Bool
@@ -92,14 +99,16 @@ tried_delimiters = 0x09 ∷ 0x3B ∷ 0x2C ∷ 0x7C ∷ []
 
 -- the first of them that parts evenly, else a comma
 abbrev pub found_delimiter : Bool → Text → ℕ
-found_delimiter has_quotes text = unwrap_or (find (parts_evenly has_quotes text) tried_delimiters) 0x2C
+found_delimiter has_quotes text =
+    unwrap_or (find (parts_evenly has_quotes text) tried_delimiters) 0x2C
 
 -- ---- the delimiter of a text
 
 -- the byte between the fields of a text, and what there is of records
 abbrev pub delimited : Delimiter → Bool → Text → ℕ × Text
 delimited (Byte b) has_quotes text = (b, text)
-delimited Auto has_quotes text = unwrap_or (named_delimiter text) (found_delimiter has_quotes text, text)
+delimited Auto has_quotes text =
+    unwrap_or (named_delimiter text) (found_delimiter has_quotes text, text)
 delimited NamedOrTab has_quotes text = unwrap_or (named_delimiter text) (0x09, text)
 
 -- a byte that wasn't asked for is ASCII

@@ -43,7 +43,8 @@ cp1252_from_80 =
 
 -- the character for a byte
 abbrev pub cp1252_character : ℕ → ℕ
-cp1252_character b = if nat_le 0x80 b && nat_lt b 0xA0 then slice_index cp1252_from_80 (b - 0x80) else b
+cp1252_character b =
+    if nat_le 0x80 b && nat_lt b 0xA0 then slice_index cp1252_from_80 (b - 0x80) else b
 
 abbrev pub cp1252_text : Text → Text
 cp1252_text input = encode_utf8_all (map cp1252_character input)
@@ -72,7 +73,8 @@ units order (a ∷ b ∷ rest) = unit order a b ∷ units order rest
 abbrev pub odd_byte : Text → List (Option ℕ)
 odd_byte bytes = if length bytes % 2 == 0 then [] else None ∷ []
 
--- the characters of these bytes, with `None` for each surrogate without a partner and for an odd byte
+-- the characters of these bytes, with `None` for each surrogate without a partner and for an odd
+-- byte
 abbrev pub characters_in : ByteOrder → Text → List (Option ℕ)
 characters_in order bytes = utf16_chars (units order bytes) ++ odd_byte bytes
 
@@ -132,10 +134,12 @@ unit_bytes BigEndian u = to_be_bytes w16 u
 
 -- characters written in UTF-16, behind the byte-order mark
 abbrev pub written_utf16 : ByteOrder → List ℕ → Text
-written_utf16 order characters = flat_map (unit_bytes order) (flat_map encode_utf16 (0xFEFF ∷ characters))
+written_utf16 order characters =
+    flat_map (unit_bytes order) (flat_map encode_utf16 (0xFEFF ∷ characters))
 
 -- characters that are written in UTF-16 are found to be, and are read back
 abbrev pub IsReadBack : ByteOrder → List ℕ → Type 0
 IsReadBack order characters =
     let input = written_utf16 order characters in
-    all_scalars characters ≡ true → (encoding_of None input ≡ Utf16) × IsTextIn Utf16 input (encode_utf8_all characters)
+    all_scalars characters ≡ true
+    → (encoding_of None input ≡ Utf16) × IsTextIn Utf16 input (encode_utf8_all characters)

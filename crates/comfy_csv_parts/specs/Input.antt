@@ -22,7 +22,8 @@ breaks_line after_return b = (b == 0x0D) || ((b == 0x0A) && not after_return)
 -- how many line breaks stand in a text that follows a carriage return, or doesn't
 abbrev pub line_breaks_after : Bool → Text → ℕ
 line_breaks_after after_return [] = 0
-line_breaks_after after_return (b ∷ bs) = (if breaks_line after_return b then 1 else 0) + line_breaks_after (b == 0x0D) bs
+line_breaks_after after_return (b ∷ bs) =
+    (if breaks_line after_return b then 1 else 0) + line_breaks_after (b == 0x0D) bs
 
 abbrev pub line_breaks : Text → ℕ
 line_breaks text = line_breaks_after false text
@@ -50,19 +51,24 @@ IsTextRefusal input OutOfMemory = ⊥
 
 -- ---- records
 
--- how records are read: as csv does without settings, but with this delimiter, and without quotes a quote is a character
+-- how records are read: as csv does without settings, but with this delimiter, and without quotes a
+-- quote is a character
 abbrev pub config_for : ℕ → Bool → Config
-config_for delimiter has_quotes = record default_config { delimiter = delimiter; quoting = has_quotes }
+config_for delimiter has_quotes =
+    record default_config { delimiter = delimiter; quoting = has_quotes }
 
 -- these are the records of an input, and each is UTF-8
-pub record AreRecordsOf (delimiter : ℕ) (has_quotes : Bool) (input : Text) (records : List (List Text)) : Type 0 where
+pub record AreRecordsOf (delimiter : ℕ) (has_quotes : Bool) (input : Text)
+    (records : List (List Text)) : Type 0 where
   pub all : AreRecords (config_for delimiter has_quotes) st.StartRecord (strip_bom input) records
   pub are_text : All AllText records
 
 -- the records of UTF-8 are UTF-8, where the delimiter is ASCII
 abbrev pub RecordsAreText : ℕ → Bool → Text → List (List Text) → Type 0
 RecordsAreText delimiter has_quotes input records =
-    delimiter < 128 → IsUtf8 input → AreRecords (config_for delimiter has_quotes) st.StartRecord (strip_bom input) records → All AllText records
+    delimiter < 128 → IsUtf8 input
+    → AreRecords (config_for delimiter has_quotes) st.StartRecord (strip_bom input) records
+    → All AllText records
 
 -- what is returned for a fault of csv's reader
 abbrev pub IsRecordRefusal : ErrorKind → CsvError → Type 0
@@ -79,7 +85,8 @@ pub record SplitsCharacter (delimiter : ℕ) (has_quotes : Bool) (input : Text) 
   pub before : List (List Text)
   pub state : State
   pub rest : Text
-  pub reached : Reached (config_for delimiter has_quotes) st.StartRecord (strip_bom input) before state rest
+  pub reached :
+      Reached (config_for delimiter has_quotes) st.StartRecord (strip_bom input) before state rest
   pub are_text : All AllText before
   pub next : FoundRecord
   pub is_next : next_record (config_for delimiter has_quotes) state [] [] rest ≡ Some next
@@ -87,7 +94,8 @@ pub record SplitsCharacter (delimiter : ℕ) (has_quotes : Bool) (input : Text) 
 
 -- why a text has no records: the delimiter splits a character, or there is no memory
 abbrev pub IsReadingRefusal : ℕ → Bool → Text → CsvError → Type 0
-IsReadingRefusal delimiter has_quotes input SplitCharacter = SplitsCharacter delimiter has_quotes input
+IsReadingRefusal delimiter has_quotes input SplitCharacter =
+    SplitsCharacter delimiter has_quotes input
 IsReadingRefusal delimiter has_quotes input OutOfMemory = Unit {0}
 IsReadingRefusal delimiter has_quotes input Read = ⊥
 IsReadingRefusal delimiter has_quotes input Write = ⊥

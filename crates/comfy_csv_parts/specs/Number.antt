@@ -54,7 +54,8 @@ before p text = if ends p (chars text) then without_last text else text
 
 -- what stands on both sides of the first place of an ASCII character
 abbrev pub halves : ℕ → Text → Option (Text × Text)
-halves mark text = option_map (λ at. (take at text, drop (at + 1) text)) (position (λ b. b == mark) text)
+halves mark text =
+    option_map (λ at. (take at text, drop (at + 1) text)) (position (λ b. b == mark) text)
 
 -- ---- digits
 
@@ -90,13 +91,16 @@ is_octet text = is_some (number_for 8 text)
 
 -- four of them, parted by points
 abbrev pub is_address : Text → Bool
-is_address text = (length (slice_split (λ b. b == 0x2E) text) == 4) && list_all is_octet (slice_split (λ b. b == 0x2E) text)
+is_address text =
+    (length (slice_split (λ b. b == 0x2E) text) == 4)
+    && list_all is_octet (slice_split (λ b. b == 0x2E) text)
 
 -- ---- numbers
 
 -- digits before a mark and behind it, of which one may be missing
 abbrev pub are_parted_digits : Text → Text → Bool
-are_parted_digits whole rest = list_all is_ascii_digit whole && not ((length whole == 0) && (length rest == 0))
+are_parted_digits whole rest =
+    list_all is_ascii_digit whole && not ((length whole == 0) && (length rest == 0))
 
 abbrev pub has_groups_before : Option (Text × Text) → Bool
 has_groups_before None = false
@@ -105,12 +109,14 @@ has_groups_before (Some (whole, rest)) = has_groups whole
 -- digits behind a decimal mark, and digits or groups before it
 abbrev pub is_fraction : Option (Text × Text) → Bool
 is_fraction None = false
-is_fraction (Some (whole, rest)) = list_all is_ascii_digit rest && (are_parted_digits whole rest || has_groups whole)
+is_fraction (Some (whole, rest)) =
+    list_all is_ascii_digit rest && (are_parted_digits whole rest || has_groups whole)
 
 -- a number without sign, exponent and unit
 abbrev pub is_decimal : Text → Bool
 is_decimal text =
-    (is_digits text || (is_fraction (halves 0x2E text) || is_fraction (halves 0x2C text))) || (has_groups text && not (is_address text))
+    (is_digits text || (is_fraction (halves 0x2E text) || is_fraction (halves 0x2C text)))
+    || (has_groups text && not (is_address text))
 
 -- digits behind a sign, or without one
 abbrev pub is_exponent : Text → Bool
@@ -123,7 +129,8 @@ is_scientific (Some (decimal, exponent)) = is_decimal decimal && is_exponent exp
 
 -- a number without sign and unit
 abbrev pub is_figure : Text → Bool
-is_figure text = is_decimal text || (is_scientific (halves 0x65 text) || is_scientific (halves 0x45 text))
+is_figure text =
+    is_decimal text || (is_scientific (halves 0x65 text) || is_scientific (halves 0x45 text))
 
 -- what stands before a unit at the end, and before a space there
 abbrev pub without_unit : Text → Text
@@ -135,15 +142,22 @@ without_currency text = behind is_blank (without_first text)
 
 -- a number without sign: a currency stands before it, or a unit behind it, or neither
 abbrev pub is_amount : Text → Bool
-is_amount text = if begins is_currency (chars text) then is_figure (without_currency text) else is_figure (without_unit text)
+is_amount text =
+    if begins is_currency (chars text)
+    then is_figure (without_currency text)
+    else is_figure (without_unit text)
 
 -- an amount behind a sign or without one; the sign may also follow the currency
 abbrev pub is_signed : Text → Bool
-is_signed text = is_amount (behind is_sign text) || (begins is_currency (chars text) && is_figure (behind is_sign (without_currency text)))
+is_signed text =
+    is_amount (behind is_sign text)
+    || (begins is_currency (chars text) && is_figure (behind is_sign (without_currency text)))
 
 -- an amount in parentheses
 abbrev pub is_enclosed : Text → Bool
-is_enclosed text = (begins (λ c. c == 0x28) (chars text) && ends (λ c. c == 0x29) (chars text)) && is_amount (without_last (without_first text))
+is_enclosed text =
+    (begins (λ c. c == 0x28) (chars text) && ends (λ c. c == 0x29) (chars text))
+    && is_amount (without_last (without_first text))
 
 -- `0` and a digit are in front: a name, as `0042`
 abbrev pub is_name : Text → Bool
@@ -162,8 +176,11 @@ is_word word text = bytes_eq (map to_ascii_lowercase text) (map to_ascii_lowerca
 
 -- a word for a missing value
 abbrev pub is_missing : Text → Bool
-is_missing text = list_any (λ word. is_word word text) (codes "n/a" ∷ codes "na" ∷ codes "null" ∷ codes "nan" ∷ codes "inf" ∷ [])
+is_missing text =
+    list_any (λ word. is_word word text)
+    (codes "n/a" ∷ codes "na" ∷ codes "null" ∷ codes "nan" ∷ codes "inf" ∷ [])
 
 -- nothing, a hyphen, or a word for a missing value behind a sign or without one
 abbrev pub is_neutral : Text → Bool
-is_neutral text = ((length text == 0) || bytes_eq text (codes "-")) || is_missing (behind is_sign text)
+is_neutral text =
+    ((length text == 0) || bytes_eq text (codes "-")) || is_missing (behind is_sign text)

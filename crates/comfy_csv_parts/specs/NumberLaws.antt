@@ -13,7 +13,8 @@ is_mark c = list_any (λ mark. c == mark) (0x2E ∷ 0x2C ∷ 0x5F ∷ 0x27 ∷ [
 abbrev pub is_around : ℕ → Bool
 is_around c = list_any (λ other. c == other) (0x65 ∷ 0x45 ∷ 0x28 ∷ 0x29 ∷ [])
 
--- a character that may stand in a number: a digit, a sign, a mark, `e`, `E`, a parenthesis, a space, a currency or `%`
+-- a character that may stand in a number: a digit, a sign, a mark, `e`, `E`, a parenthesis, a
+-- space, a currency or `%`
 abbrev pub is_listed : ℕ → Bool
 is_listed c =
     is_ascii_digit c || (is_sign c || (is_mark c || (is_around c || (is_blank c || is_unit c))))

@@ -7,7 +7,9 @@ use Rattle.comfy_parts.specs.Text.{Text}
 
 -- digits alone, of a number of so many bits
 abbrev pub is_numeral : ℕ → Text → Bool
-is_numeral bits word = (list_all is_ascii_digit word && nat_lt 0 (length word)) && nat_lt (digits_value 10 word) (2 ^ bits)
+is_numeral bits word =
+    (list_all is_ascii_digit word && nat_lt 0 (length word))
+    && nat_lt (digits_value 10 word) (2 ^ bits)
 
 -- that number
 abbrev pub number_for : ℕ → Text → Option ℕ

@@ -9,4 +9,5 @@ fields_at fields place = take (place.end - place.start) (drop place.start fields
 
 -- they are all there, and a `usize` counts them
 abbrev pub IsWithin : List Text → Place → Type 0
-IsWithin fields place = (place.start ≤ place.end) × (place.end ≤ length fields) × (place.end < 2 ^ 64)
+IsWithin fields place =
+    (place.start ≤ place.end) × (place.end ≤ length fields) × (place.end < 2 ^ 64)

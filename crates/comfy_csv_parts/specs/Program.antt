@@ -13,7 +13,8 @@ option name letter = record (new_rule name) { long = Some name; short = letter; 
 
 -- one without a value
 abbrev pub flag : Text → Option ℕ → Rule
-flag name letter = record (new_rule name) { long = Some name; short = letter; action = Some SetTrue }
+flag name letter =
+    record (new_rule name) { long = Some name; short = letter; action = Some SetTrue }
 
 -- one without a value that has a letter alone
 abbrev pub letter : Text → ℕ → Rule
@@ -87,9 +88,14 @@ bare rule = (record rule { parser = unnamed rule.parser }, value_names rule.pars
 abbrev pub with_rules : App → List Rule → App
 with_rules app rules = record app { top = record app.top { rules = rules } }
 
--- the program's command without its words: it has a version, and of two equal options the last one counts
+-- the program's command without its words: it has a version, and of two equal options the last one
+-- counts
 abbrev pub wordless : App
-wordless = record (new_app (codes "csvtable")) { top = record (new_app (codes "csvtable")).top { has_version = true; args_override_self = true } }
+wordless =
+    record (new_app (codes "csvtable")) {
+      top = record (new_app (codes "csvtable")).top
+          { has_version = true; args_override_self = true };
+    }
 
 -- a command that reads words as the program does
 pub record IsCsvtable (app : App) : Type 0 where

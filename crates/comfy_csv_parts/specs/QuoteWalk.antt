@@ -15,7 +15,8 @@ is_opening delimiter text (suc before) = ends_field delimiter (slice_index text 
 
 -- quotes that are open at a place of a text are still so at a later one
 pub record StaysQuoted (delimiter : ℕ) (text : Text) (from to : ℕ) : Type 0 where
-  pub goes_on : (n : ℕ) → from ≤ n → n ≤ to → is_in_quoted_field (state_after delimiter (take n text)) ≡ true
+  pub goes_on : (n : ℕ) → from ≤ n → n ≤ to
+      → is_in_quoted_field (state_after delimiter (take n text)) ≡ true
   pub is_open : state_after delimiter (take to text) ≡ st.InQuoted
 
 -- a quote before this place closes quotes, since no other one follows it

@@ -8,7 +8,9 @@ use Rattle.comfy_csv_parts.specs.Input.{config_for}
 
 -- the state of csv's reader after a text
 abbrev pub state_after : ℕ → Text → State
-state_after delimiter text = fold (λ (state : State) (b : ℕ). (step (config_for delimiter true) state b).0) st.StartRecord text
+state_after delimiter text =
+    fold (λ (state : State) (b : ℕ). (step (config_for delimiter true) state b).0) st.StartRecord
+    text
 
 -- a field begins here
 abbrev pub is_field_start : State → Bool
@@ -32,7 +34,8 @@ is_in_quoted_field st.InField = false
 is_in_quoted_field st.InEscape = false
 is_in_quoted_field st.InComment = false
 
--- the rest of a text begins with a quote that opens a field, and the text ends within this field's quotes
+-- the rest of a text begins with a quote that opens a field, and the text ends within this field's
+-- quotes
 pub record IsUnclosed (delimiter : ℕ) (text rest : Text) : Type 0 where
   pub before : Text
   pub parts : text ≡ before ++ rest
@@ -41,5 +44,6 @@ pub record IsUnclosed (delimiter : ℕ) (text rest : Text) : Type 0 where
   -- a field begins at the quote
   pub opens : is_field_start (state_after delimiter before) ≡ true
   -- and wherever one stops behind it, one is still in this field
-  pub goes_on : (n : ℕ) → n ≤ length after → is_in_quoted_field (state_after delimiter (before ++ 0x22 ∷ take n after)) ≡ true
+  pub goes_on : (n : ℕ) → n ≤ length after
+      → is_in_quoted_field (state_after delimiter (before ++ 0x22 ∷ take n after)) ≡ true
   pub is_open : state_after delimiter text ≡ st.InQuoted

@@ -15,14 +15,18 @@ use Rattle.comfy_csv_parts.specs.declared.options.Options.{Options}
 abbrev pub IsTextFor : Options → Text → Text → Type 0
 IsTextFor options input text = IsTextIn (encoding_of options.encoding input) input text
 
--- the byte between the fields of a text, and what holds its records: not the lines that are left out, nor one that names the byte
+-- the byte between the fields of a text, and what holds its records: not the lines that are left
+-- out, nor one that names the byte
 abbrev pub parted : Options → Text → ℕ × Text
 parted options text = delimited options.delimiter options.has_quotes (below_lines options.skip text)
 
 -- these are the records of a text, and where quotes count, it doesn't end within them
-pub record AreRecordsIn (options : Options) (text : Text) (records : List (List Text)) : Type 0 where
-  pub are_records : AreRecordsOf (parted options text).0 options.has_quotes (parted options text).1 records
-  pub is_closed : options.has_quotes ≡ true → state_after (parted options text).0 (strip_bom (parted options text).1) ≢ st.InQuoted
+pub record AreRecordsIn (options : Options) (text : Text) (records : List
+    (List Text)) : Type 0 where
+  pub are_records :
+      AreRecordsOf (parted options text).0 options.has_quotes (parted options text).1 records
+  pub is_closed : options.has_quotes ≡ true
+      → state_after (parted options text).0 (strip_bom (parted options text).1) ≢ st.InQuoted
 
 -- a quote that opens a field in this line of a text is never closed
 pub record HasUnclosedQuote (options : Options) (text : Text) (line : ℕ) : Type 0 where
@@ -30,12 +34,14 @@ pub record HasUnclosedQuote (options : Options) (text : Text) (line : ℕ) : Typ
   pub before : Text
   pub from_quote : Text
   pub parts : text ≡ before ++ from_quote
-  pub is_unclosed : IsUnclosed (parted options text).0 (strip_bom (parted options text).1) from_quote
+  pub is_unclosed :
+      IsUnclosed (parted options text).0 (strip_bom (parted options text).1) from_quote
   pub numbered : line ≡ line_breaks before + 1
 
 -- the delimiter isn't ASCII, and splits a character of a record
 abbrev pub HasSplitCharacter : Options → Text → Type 0
-HasSplitCharacter options text = SplitsCharacter (parted options text).0 options.has_quotes (parted options text).1
+HasSplitCharacter options text =
+    SplitsCharacter (parted options text).0 options.has_quotes (parted options text).1
 
 -- why a text has no records
 abbrev pub IsTextWithoutRecords : Options → Text → CsvError → Type 0

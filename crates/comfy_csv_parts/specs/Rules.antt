@@ -16,11 +16,14 @@ lettered (Some letter) rule = record rule { short = Some letter }
 
 -- what a kind adds to a rule and its names
 abbrev pub with_values : Kind → Rule × List Text → Rule × List Text
-with_values kind.Width known = (record known.0 { parser = Some (vp.Signed (pos 0) (pos 65535)) }, [])
+with_values kind.Width known =
+    (record known.0 { parser = Some (vp.Signed (pos 0) (pos 65535)) }, [])
 with_values kind.Count known = (record known.0 { parser = Some (vp.Unsigned 0 (2 ^ 64 - 1)) }, [])
-with_values kind.Style known = (record known.0 { parser = Some vp.String; ignore_case = true }, style_names)
+with_values kind.Style known =
+    (record known.0 { parser = Some vp.String; ignore_case = true }, style_names)
 with_values kind.When known = (record known.0 { parser = Some vp.String }, whens)
-with_values kind.Encoding known = (record known.0 { parser = Some vp.String; ignore_case = true }, encodings)
+with_values kind.Encoding known =
+    (record known.0 { parser = Some vp.String; ignore_case = true }, encodings)
 with_values _ known = known
 
 -- a word with a value or without one
@@ -31,4 +34,6 @@ of_kind kind.Letter name rule = record rule { action = Some SetTrue }
 of_kind kind name rule = record rule { long = Some name; value_names = 1 }
 
 unfoldable pub rule_for : Word → Rule × List Text
-rule_for word = with_values word.kind (bare (of_kind word.kind word.name.now (lettered word.letter (new_rule word.name.now))))
+rule_for word =
+    with_values word.kind
+    (bare (of_kind word.kind word.name.now (lettered word.letter (new_rule word.name.now))))

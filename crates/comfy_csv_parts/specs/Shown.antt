@@ -4,7 +4,8 @@ use Rattle.std.specs.Str.{encode_utf8_all}
 use Rattle.comfy_parts.specs.Text.{Text}
 use Rattle.comfy_csv_parts.specs.Cleaning.{nothing_kept, shown}
 
--- a character as it is said: U+FFFD for a control character and for one that turns the direction of text, but line feeds where they are kept
+-- a character as it is said: U+FFFD for a control character and for one that turns the direction of
+-- text, but line feeds where they are kept
 abbrev pub shown_in : Bool → ℕ → ℕ
 shown_in keeps_breaks c = if keeps_breaks && (c == 0x0A) then c else shown nothing_kept c
 

@@ -8,8 +8,10 @@ use Rattle.csv.specs.declared.reader.Reader.{Reader}
 use Rattle.csv.specs.declared.reader.Trim.TheVariants as trim
 use Rattle.comfy_csv_parts.specs.Input.{config_for}
 
--- it reads a text, whose fields stand between delimiters, and whose records may differ in their number
-pub record IsStarted (delimiter : ℕ) (has_quotes : Bool) (text : Text) (reader : Reader (Bor Text)) : Type 0 where
+-- it reads a text, whose fields stand between delimiters, and whose records may differ in their
+-- number
+pub record IsStarted (delimiter : ℕ) (has_quotes : Bool) (text : Text)
+    (reader : Reader (Bor Text)) : Type 0 where
   pub trim : reader.trim ≡ trim.None
   pub ready : Ready reader
   pub flexible : is_flexible reader ≡ true

@@ -32,11 +32,13 @@ style_names = map (λ entry. entry.0) own_styles ++ map (λ entry. entry.0) name
 
 -- the style of the first of these names that a word is
 abbrev pub style_within : List (Text × TableStyle) → Text → Option TableStyle
-style_within styles word = option_map (λ entry. entry.1) (find (λ entry. is_named entry.0 word) styles)
+style_within styles word =
+    option_map (λ entry. entry.1) (find (λ entry. is_named entry.0 word) styles)
 
 -- the style of a name
 abbrev pub named_style : Text → TableStyle
-named_style word = unwrap_or (option_or (style_within own_styles word) (style_within named_presets word)) utf8_full
+named_style word =
+    unwrap_or (option_or (style_within own_styles word) (style_within named_presets word)) utf8_full
 
 -- the style that is asked for: that of a name, `rounded` without one
 abbrev pub style_for : Option Text → TableStyle

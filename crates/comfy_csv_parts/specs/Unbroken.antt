@@ -12,8 +12,10 @@ is_of_dates c = is_ascii_digit c || list_any (λ mark. mark == c) (codes "-/:.TZ
 
 -- a number, or such characters alone, as in an empty field; at most 25 characters
 abbrev pub is_unbroken : Text → Bool
-is_unbroken field = nat_le (length (chars field)) 25 && (list_all is_of_dates field || is_number field)
+is_unbroken field =
+    nat_le (length (chars field)) 25 && (list_all is_of_dates field || is_number field)
 
 -- so is each field of a column
 abbrev pub is_unbroken_column : List (List Text) → ℕ → Bool
-is_unbroken_column rows position = list_all (λ fields. is_unbroken (field_or_blank fields position)) rows
+is_unbroken_column rows position =
+    list_all (λ fields. is_unbroken (field_or_blank fields position)) rows

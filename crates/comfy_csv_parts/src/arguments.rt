@@ -69,15 +69,17 @@ pub struct Surroundings<'a> {
     pub no_color: Option<&'a str>,
 }
 
-/// What these words ask for; the first one is the program's name. Help, the version and words that aren't known are
-/// returned as errors, as clap has them, and so are options that exclude each other, and a delimiter that is none. All
-/// that is asked for follows from the values that clap finds for the program's options, and from the surroundings.
+/// What these words ask for; the first one is the program's name. Help, the version and words that
+/// aren't known are returned as errors, as clap has them, and so are options that exclude each
+/// other, and a delimiter that is none. All that is asked for follows from the values that clap
+/// finds for the program's options, and from the surroundings.
 pub fn asked_of<'a>(
     alloc: Global,
     words: &'a [&'a str],
     surroundings: Surroundings<'_>,
 ) -> Result<Asked, Error>
-    ensures ok { IfOk result (λ asked. IsAsked (map (λ w. w.now) words.entry.now) surroundings.entry asked) }
+    ensures ok { IfOk result (λ asked.
+        IsAsked (map (λ w. w.now) words.entry.now) surroundings.entry asked) }
     ensures refused { IfErr result (λ e. IsWordRefusal (map (λ w. w.now) words.entry.now) e) }
 {
     let styles = style_names(alloc)?;
@@ -92,7 +94,8 @@ fn asked_by<'a>(
     surroundings: Surroundings<'_>,
 ) -> Result<Asked, Error>
     requires { IsCsvtable (app_of command.old) }
-    ensures ok { IfOk result (λ asked. IsAsked (map (λ w. w.now) words.entry.now) surroundings.entry asked) }
+    ensures ok { IfOk result (λ asked.
+        IsAsked (map (λ w. w.now) words.entry.now) surroundings.entry asked) }
     ensures refused { IfErr result (λ e. IsWordRefusal (map (λ w. w.now) words.entry.now) e) }
 {
     let matches = command.try_get_matches_from_mut(words)?;
@@ -121,8 +124,10 @@ fn asked_with<'a>(
     surroundings: Surroundings<'_>,
 ) -> Result<Asked, AllocError>
     requires { wanted_delimiter (found_of matches.now) ≡ Some delimiter }
-    ensures options { IfOk result (λ asked. OptionsAreAsked surroundings.entry (found_of matches.now) asked.options) }
-    ensures file { IfOk result (λ asked. option_map string_bytes asked.file ≡ file_for (first_value (found_of matches.now) (codes "file"))) }
+    ensures options { IfOk result (λ asked.
+        OptionsAreAsked surroundings.entry (found_of matches.now) asked.options) }
+    ensures file { IfOk result (λ asked. option_map string_bytes asked.file
+        ≡ file_for (first_value (found_of matches.now) (codes "file"))) }
 {
     Ok(Asked {
         options: options_of(alloc, matches, delimiter, surroundings)?,
@@ -147,7 +152,8 @@ fn are_exclusive<'a>(matches: &ArgMatches<'a>) -> bool
 }
 
 fn is_any_pair_given<'a>(matches: &ArgMatches<'a>, pairs: &[(&str, &str)]) -> bool
-    ensures { result ≡ list_any (λ pair. is_given (found_of matches.now) pair.0.now && is_given (found_of matches.now) pair.1.now) pairs.now }
+    ensures { result ≡ list_any (λ pair. is_given (found_of matches.now) pair.0.now
+        && is_given (found_of matches.now) pair.1.now) pairs.now }
 {
     pairs.iter().any(|(one, other)| is_given(matches, one) && is_given(matches, other))
 }
@@ -183,7 +189,8 @@ fn is_given<'a>(matches: &ArgMatches<'a>, id: &str) -> bool
 
 // The file that a word names; none for standard input.
 fn file_of(alloc: Global, word: Option<&str>) -> Result<Option<String>, AllocError>
-    ensures { IfOk result (λ file. option_map string_bytes file ≡ file_for (option_map (λ w. w.now) word.entry)) }
+    ensures { IfOk result (λ file. option_map string_bytes file
+        ≡ file_for (option_map (λ w. w.now) word.entry)) }
 {
     match word {
         None | Some("-") => Ok(None),
@@ -204,7 +211,8 @@ fn wanted_delimiter<'a>(matches: &ArgMatches<'a>) -> Option<Delimiter>
 
 // What a word asks for, of a file with this name.
 fn delimiter_of(word: Option<&str>, file: Option<&str>) -> Option<Delimiter>
-    ensures { result ≡ delimiter_for (option_map (λ w. w.now) word.entry) (option_map (λ f. f.now) file.entry) }
+    ensures { result ≡ delimiter_for (option_map (λ w. w.now) word.entry)
+        (option_map (λ f. f.now) file.entry) }
 {
     match word {
         None => Some(delimiter_by(file)),
@@ -254,7 +262,8 @@ fn options_of<'a>(
     surroundings: Surroundings<'_>,
 ) -> Result<Options, AllocError>
     requires { wanted_delimiter (found_of matches.now) ≡ Some delimiter }
-    ensures { IfOk result (λ options. OptionsAreAsked surroundings.entry (found_of matches.now) options) }
+    ensures { IfOk result (λ options.
+        OptionsAreAsked surroundings.entry (found_of matches.now) options) }
 {
     Ok(Options {
         encoding: encoding_of(matches.get_str("encoding")),
@@ -299,7 +308,8 @@ fn look_of<'a>(matches: &ArgMatches<'a>, surroundings: Surroundings<'_>) -> Look
 
 // Where lines between rows are drawn.
 fn separators_of(has_rows: bool, has_none: bool, style: Option<&str>) -> RowSeparators
-    ensures { result ≡ separators_for has_rows has_none (option_map (λ name. name.now) style.entry) }
+    ensures { result ≡ separators_for has_rows has_none
+        (option_map (λ name. name.now) style.entry) }
 {
     if has_rows {
         RowSeparators::Styled
@@ -392,7 +402,8 @@ fn wants_color(no_color: Option<&str>) -> bool
 
 // The words of a list; none without a list.
 fn words_of(alloc: Global, list: Option<&str>) -> Result<Vec<String>, AllocError>
-    ensures { IfOk result (λ words. map string_bytes words.items ≡ words_in (option_map (λ l. l.now) list.entry)) }
+    ensures { IfOk result (λ words. map string_bytes words.items
+        ≡ words_in (option_map (λ l. l.now) list.entry)) }
 {
     match list {
         Some(list) => words_between_commas(alloc, list),
@@ -401,7 +412,8 @@ fn words_of(alloc: Global, list: Option<&str>) -> Result<Vec<String>, AllocError
 }
 
 fn words_between_commas(alloc: Global, list: &str) -> Result<Vec<String>, AllocError>
-    ensures { IfOk result (λ words. map string_bytes words.items ≡ slice_split (λ b. b == 0x2C) list.now) }
+    ensures { IfOk result (λ words. map string_bytes words.items
+        ≡ slice_split (λ b. b == 0x2C) list.now) }
 {
     let mut words = Vec::new(alloc);
     for word in list.split(',') {

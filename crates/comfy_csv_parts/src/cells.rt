@@ -36,7 +36,8 @@ pub fn header_of(
     cells_of(alloc, fields, columns, look, look.has_bold_header)
 }
 
-/// The row of one field of a record that is drawn as a table of its own: the name of the field's column, and the field.
+/// The row of one field of a record that is drawn as a table of its own: the name of the field's
+/// column, and the field.
 pub fn pair_of(alloc: Global, name: &str, field: &str, look: &Look) -> Result<Row>
     ensures { IfOk result (λ row. row ≡ pair_for look.now name.now field.now) }
 {
@@ -48,7 +49,9 @@ pub fn pair_of(alloc: Global, name: &str, field: &str, look: &Look) -> Result<Ro
 
 // A row with the greatest height that is wanted.
 fn cut(mut row: Row, look: &Look) -> Row
-    ensures { result ≡ record row { max_height = option_or (option_map (max 1) look.now.max_height) row.max_height } }
+    ensures { result ≡ record row {
+      max_height = option_or (option_map (max 1) look.now.max_height) row.max_height;
+    } }
 {
     if let Some(lines) = look.max_height {
         row.max_height(lines);
@@ -82,7 +85,8 @@ fn cell_of(
     look: &Look,
     is_bold: bool,
 ) -> Result<Cell>
-    ensures { IfOk result (λ cell. cell ≡ with_weight is_bold (cell_for look.now alignment field.now)) }
+    ensures { IfOk result (λ cell. cell
+        ≡ with_weight is_bold (cell_for look.now alignment field.now)) }
 {
     let cell = Cell::new_owned(alloc, field_text(alloc, field, look)?)?;
     let cell = match alignment {

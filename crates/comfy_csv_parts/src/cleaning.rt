@@ -1,5 +1,5 @@
-//! Texts without control characters, and without those that turn the direction of text, so that each character stands
-//! where it is counted.
+//! Texts without control characters, and without those that turn the direction of text, so that
+//! each character stands where it is counted.
 
 ghost use Rattle.std.specs.Prelude.{◌≡◌, ◌∷◌, [], IfNone, IfOk, IfSome, OnOk, chars, if◌then◌else◌, not, string_bytes};
 ghost use Rattle.std.specs.Iterator.{YieldsFirstBy, item_count};
@@ -22,13 +22,15 @@ const STOP: usize = 4;
 pub struct Kept {
     /// Whether SGR sequences are. They take no terminal columns.
     pub sequences: bool,
-    /// Whether characters that turn the direction of text are: U+202A to U+202E, and U+2066 to U+2069.
+    /// Whether characters that turn the direction of text are: U+202A to U+202E, and U+2066 to
+    /// U+2069.
     pub directions: bool,
 }
 
-/// A field as it is drawn. A TAB becomes spaces up to the next multiple of four terminal columns, by what is visible of
-/// its line since the last TAB. A line feed, a carriage return, or both in this order reversed, are one line feed. Every
-/// other control character, and each that turns the direction of text, becomes U+FFFD, unless it is kept.
+/// A field as it is drawn. A TAB becomes spaces up to the next multiple of four terminal columns,
+/// by what is visible of its line since the last TAB. A line feed, a carriage return, or both in
+/// this order reversed, are one line feed. Every other control character, and each that turns the
+/// direction of text, becomes U+FFFD, unless it is kept.
 pub fn cleaned(alloc: Global, field: &str, kept: Kept) -> Result<String, AllocError>
     ensures { IfOk result (λ text. string_bytes text ≡ cleaned kept field.now) }
 {
@@ -46,7 +48,8 @@ pub fn cleaned(alloc: Global, field: &str, kept: Kept) -> Result<String, AllocEr
     Ok(cleaner.text)
 }
 
-// Whether no character of a field is replaced. Most fields are printable ASCII, which is seen faster.
+// Whether no character of a field is replaced. Most fields are printable ASCII, which is seen
+// faster.
 fn is_clean(field: &str, kept: Kept) -> bool
     ensures { result ≡ not (list_any (is_replaced kept) (chars field.now)) }
 {
@@ -121,7 +124,8 @@ impl<'a> Iterator for Pieces<'a> {
 
 // The piece at a text's front, and what is after it.
 fn first_piece(text: &str, keeps_sequences: bool) -> Option<(Piece<'_>, &str)>
-    ensures some { IfSome result (λ halves. pieces keeps_sequences (chars text.now) ≡ part_of halves.0 ∷ pieces keeps_sequences (chars halves.1.now)) }
+    ensures some { IfSome result (λ halves. pieces keeps_sequences (chars text.now)
+        ≡ part_of halves.0 ∷ pieces keeps_sequences (chars halves.1.now)) }
     ensures none { IfNone result (pieces keeps_sequences (chars text.now) ≡ []) }
 {
     let len = kept_len(text, keeps_sequences);
@@ -162,7 +166,11 @@ impl Model for Cleaner {
 
     ghost Value = { CleanedText };
 
-    ghost view = { λ c. record { text = string_bytes c.text; seen = string_bytes c.seen; after_return = c.after_return } };
+    ghost view = { λ c. record {
+      text = string_bytes c.text;
+      seen = string_bytes c.seen;
+      after_return = c.after_return;
+    } };
 }
 
 impl Cleaner {

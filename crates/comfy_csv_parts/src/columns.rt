@@ -25,8 +25,10 @@ pub fn columns_of(
     rows: &Rows<'_>,
     options: &Options,
 ) -> Result<Vec<DrawnColumn>, CsvError>
-    ensures ok { IfOk result (λ columns. columns_for options.now names.now rows.now ≡ Ok columns.items) }
-    ensures refused { IfErr result (λ e. IsColumnRefusal e (columns_for options.now names.now rows.now)) }
+    ensures ok { IfOk result (λ columns. columns_for options.now names.now rows.now
+        ≡ Ok columns.items) }
+    ensures refused { IfErr result (λ e.
+        IsColumnRefusal e (columns_for options.now names.now rows.now)) }
 {
     let count = count_of(names, rows);
     let positions = kept_columns(alloc, options, names, count)?;
@@ -86,8 +88,12 @@ fn kept_columns(
     names: &Record<'_>,
     count: usize,
 ) -> Result<Vec<usize>, CsvError>
-    ensures ok { IfOk result (λ positions. kept_columns names.now count options.now.columns.items options.now.dropped.items ≡ Ok positions.items) }
-    ensures refused { IfErr result (λ e. IsColumnRefusal e (kept_columns names.now count options.now.columns.items options.now.dropped.items)) }
+    ensures ok { IfOk result (λ positions.
+        kept_columns names.now count options.now.columns.items options.now.dropped.items
+        ≡ Ok positions.items) }
+    ensures refused { IfErr result (λ e.
+        IsColumnRefusal e (kept_columns names.now count options.now.columns.items
+        options.now.dropped.items)) }
 {
     let chosen = chosen_columns(alloc, options.columns.as_slice(), names, count)?;
     let dropped = positions_of(alloc, options.dropped.as_slice(), names, count)?;
@@ -114,8 +120,10 @@ fn chosen_columns(
     names: &Record<'_>,
     count: usize,
 ) -> Result<Vec<usize>, CsvError>
-    ensures ok { IfOk result (λ positions. chosen_columns names.now count words.now ≡ Ok positions.items) }
-    ensures refused { IfErr result (λ e. IsColumnRefusal e (chosen_columns names.now count words.now)) }
+    ensures ok { IfOk result (λ positions. chosen_columns names.now count words.now
+        ≡ Ok positions.items) }
+    ensures refused { IfErr result (λ e.
+        IsColumnRefusal e (chosen_columns names.now count words.now)) }
 {
     if words.is_empty() {
         Ok(positions_between(alloc, 0, count)?)
@@ -131,8 +139,10 @@ fn positions_of(
     names: &Record<'_>,
     count: usize,
 ) -> Result<Vec<usize>, CsvError>
-    ensures ok { IfOk result (λ positions. positions_of names.now count words.now ≡ Ok positions.items) }
-    ensures refused { IfErr result (λ e. IsColumnRefusal e (positions_of names.now count words.now)) }
+    ensures ok { IfOk result (λ positions. positions_of names.now count words.now
+        ≡ Ok positions.items) }
+    ensures refused { IfErr result (λ e.
+        IsColumnRefusal e (positions_of names.now count words.now)) }
 {
     let mut positions = Vec::new(alloc);
     for word in words {
@@ -149,8 +159,10 @@ fn positions_of_word(
     names: &Record<'_>,
     count: usize,
 ) -> Result<Vec<usize>, CsvError>
-    ensures ok { IfOk result (λ positions. positions_of_word names.now count word.now ≡ Ok positions.items) }
-    ensures refused { IfErr result (λ e. IsColumnRefusal e (positions_of_word names.now count word.now)) }
+    ensures ok { IfOk result (λ positions. positions_of_word names.now count word.now
+        ≡ Ok positions.items) }
+    ensures refused { IfErr result (λ e.
+        IsColumnRefusal e (positions_of_word names.now count word.now)) }
 {
     match columns_chosen(names, count, word) {
         Some((start, end)) => Ok(positions_between(alloc, start, end)?),
@@ -158,8 +170,8 @@ fn positions_of_word(
     }
 }
 
-// The columns that a word chooses, as the position of the first and the one after the last: a single one, else those
-// around a hyphen.
+// The columns that a word chooses, as the position of the first and the one after the last: a
+// single one, else those around a hyphen.
 fn columns_chosen(names: &Record<'_>, count: usize, word: &str) -> Option<(usize, usize)>
     ensures value { result ≡ columns_chosen names.now count word.now }
     ensures ordered { IfSome result (λ ends. ends.0 ≤ ends.1) }
@@ -279,7 +291,8 @@ fn drawn_columns(
     rows: &Rows<'_>,
     has_sequences: bool,
 ) -> Result<Vec<DrawnColumn>, AllocError>
-    ensures { IfOk result (λ columns. columns.items ≡ drawn_columns right.now left.now (map (seen has_sequences) rows.now) positions.now) }
+    ensures { IfOk result (λ columns. columns.items
+        ≡ drawn_columns right.now left.now (map (seen has_sequences) rows.now) positions.now) }
 {
     let mut columns = Vec::with_capacity(alloc, positions.len())?;
     for position in positions {
@@ -301,7 +314,8 @@ fn alignment_of(
     rows: &Rows<'_>,
     has_sequences: bool,
 ) -> Result<Option<CellAlignment>, AllocError>
-    ensures { IfOk result (λ alignment. alignment ≡ alignment_for right.now left.now (map (seen has_sequences) rows.now) position) }
+    ensures { IfOk result (λ alignment. alignment
+        ≡ alignment_for right.now left.now (map (seen has_sequences) rows.now) position) }
 {
     if right.contains(&position) {
         return Ok(Some(CellAlignment::Right));
@@ -323,7 +337,8 @@ fn is_number_column(
     rows: &Rows<'_>,
     has_sequences: bool,
 ) -> Result<bool, AllocError>
-    ensures { IfOk result (λ yes. yes ≡ is_number_column (map (seen has_sequences) rows.now) position) }
+    ensures { IfOk result (λ yes. yes
+        ≡ is_number_column (map (seen has_sequences) rows.now) position) }
 {
     let mut has_number = false;
     for row in rows.iter() {
@@ -365,7 +380,8 @@ pub(crate) fn seen_field<'a>(
     row: &Record<'a>,
     has_sequences: bool,
 ) -> Result<CowStr<'a>, AllocError>
-    ensures { IfOk result (λ field. cow_str_bytes field ≡ field_or_blank (seen has_sequences row.now) position) }
+    ensures { IfOk result (λ field. cow_str_bytes field
+        ≡ field_or_blank (seen has_sequences row.now) position) }
 {
     let field = row.get(position).unwrap_or("");
     if has_sequences {

@@ -21,13 +21,14 @@ pub enum Delimiter {
     NamedOrTab,
 }
 
-/// The byte between the fields of a text, and the text of its records: all of it, or what follows a first line `sep=X`.
+/// The byte between the fields of a text, and the text of its records: all of it, or what follows a
+/// first line `sep=X`.
 ///
-/// Such a line is looked for unless a byte is asked for, also behind a byte-order mark. X is one ASCII character that is
-/// no quote. The letters may be capitals.
+/// Such a line is looked for unless a byte is asked for, also behind a byte-order mark. X is one
+/// ASCII character that is no quote. The letters may be capitals.
 ///
-/// `Auto` takes the first of TAB, `;`, `,` and `|` that gives each of the first ten records one same number of fields,
-/// above 1.
+/// `Auto` takes the first of TAB, `;`, `,` and `|` that gives each of the first ten records one
+/// same number of fields, above 1.
 pub(crate) fn delimited<'a>(
     alloc: Global,
     text: &'a str,
@@ -35,7 +36,8 @@ pub(crate) fn delimited<'a>(
     has_quotes: bool,
 ) -> Result<(u8, &'a str), AllocError>
     ensures byte { IfOk result (λ parts. parts.0 ≡ (delimited delimiter has_quotes text.now).0) }
-    ensures records { IfOk result (λ parts. parts.1.now ≡ (delimited delimiter has_quotes text.now).1) }
+    ensures records { IfOk result (λ parts. parts.1.now
+        ≡ (delimited delimiter has_quotes text.now).1) }
     ensures end { IfOk result (λ parts. EndsIn text.now parts.1.now) }
     ensures ascii { IfOk result (λ parts. IsAsciiUnlessAsked delimiter parts.0) }
 {
@@ -52,8 +54,8 @@ pub(crate) fn delimited<'a>(
     }
 }
 
-/// The text below its first `count` lines, empty where there aren't more. A line ends at a line feed, a carriage return,
-/// or a carriage return with a line feed, also between quotes.
+/// The text below its first `count` lines, empty where there aren't more. A line ends at a line
+/// feed, a carriage return, or a carriage return with a line feed, also between quotes.
 pub(crate) fn below_lines(text: &str, count: usize) -> &str
     ensures below { result.now ≡ below_lines count text.now }
     ensures end { EndsIn text.now result.now }
@@ -153,7 +155,8 @@ fn found_delimiter(alloc: Global, text: &str, has_quotes: bool) -> Result<u8, Al
     Ok(b',')
 }
 
-// The first records have one same number of fields, above 1. Nothing is read behind the first that differs.
+// The first records have one same number of fields, above 1. Nothing is read behind the first that
+// differs.
 fn parts_evenly(
     alloc: Global,
     text: &str,

@@ -16,26 +16,31 @@ use std::marker::Model;
 pub enum Encoding {
     /// UTF-8. A byte-order mark is part of the text.
     Utf8,
-    /// Windows-1252. The five bytes that it leaves open are U+FFFD: 0x81, 0x8D, 0x8F, 0x90 and 0x9D.
+    /// Windows-1252. The five bytes that it leaves open are U+FFFD: 0x81, 0x8D, 0x8F, 0x90 and
+    /// 0x9D.
     Cp1252,
-    /// UTF-16, its bytes in the order that the byte-order mark tells, and little-endian without one. The mark isn't part of
-    /// the text.
+    /// UTF-16, its bytes in the order that the byte-order mark tells, and little-endian without
+    /// one. The mark isn't part of the text.
     Utf16,
 }
 
-/// The text of an input. Where no encoding is asked for, an input that begins with a byte-order mark of UTF-16 is UTF-16,
-/// and any other one UTF-8. An input in UTF-8 becomes its text without a copy.
+/// The text of an input. Where no encoding is asked for, an input that begins with a byte-order
+/// mark of UTF-16 is UTF-16, and any other one UTF-8. An input in UTF-8 becomes its text without a
+/// copy.
 ///
-/// `NotUtf8` and `NotUtf16` have the number of the line where the input stops being one. `NotUtf16` comes of a surrogate
-/// without a partner, and of an odd number of bytes.
+/// `NotUtf8` and `NotUtf16` have the number of the line where the input stops being one. `NotUtf16`
+/// comes of a surrogate without a partner, and of an odd number of bytes.
 pub fn decoded(
     alloc: Global,
     input: Vec<u8>,
     encoding: Option<Encoding>,
 ) -> Result<String, CsvError>
-    ensures text { IfOk result (λ text. IsTextIn (encoding_of encoding input.items) input.items (string_bytes text)) }
-    ensures not_copied { IfOk result (λ text. encoding_of encoding input.items ≡ Encoding.Utf8 → string_vec text ≡ input) }
-    ensures refused { IfErr result (λ e. IsRefusedIn (encoding_of encoding input.items) input.items e) }
+    ensures text { IfOk result (λ text.
+        IsTextIn (encoding_of encoding input.items) input.items (string_bytes text)) }
+    ensures not_copied { IfOk result
+        (λ text. encoding_of encoding input.items ≡ Encoding.Utf8 → string_vec text ≡ input) }
+    ensures refused { IfErr result (λ e.
+        IsRefusedIn (encoding_of encoding input.items) input.items e) }
 {
     match encoding_of(encoding, input.as_slice()) {
         Encoding::Utf8 => utf8_text(input),
@@ -132,7 +137,8 @@ fn without_mark(input: &[u8]) -> &[u8]
 
 // The text in UTF-16.
 fn utf16_text(alloc: Global, input: &[u8]) -> Result<String, CsvError>
-    ensures text { IfOk result (λ text. AreCharactersOf (utf16_characters input.now) (string_bytes text)) }
+    ensures text { IfOk result (λ text.
+        AreCharactersOf (utf16_characters input.now) (string_bytes text)) }
     ensures refused { IfErr result (λ e. IsUtf16Refusal (utf16_characters input.now) e) }
 {
     let bytes = without_mark(input);

@@ -16,12 +16,13 @@ pub enum CsvError {
     /// The sink failed during the call.
     #[error("the output can't be written")]
     Write,
-    /// The input isn't UTF-8: in this line stands the first byte that is no text. The first line has the number 1. A line
-    /// ends at a line feed, a carriage return, or a carriage return with a line feed, also between quotes.
+    /// The input isn't UTF-8: in this line stands the first byte that is no text. The first line
+    /// has the number 1. A line ends at a line feed, a carriage return, or a carriage return with a
+    /// line feed, also between quotes.
     #[error("line {0} isn't UTF-8")]
     NotUtf8(u64),
-    /// The input isn't UTF-16: in this line stands the first surrogate without a partner, or an odd byte at the end. Lines
-    /// are counted as for `NotUtf8`.
+    /// The input isn't UTF-16: in this line stands the first surrogate without a partner, or an odd
+    /// byte at the end. Lines are counted as for `NotUtf8`.
     #[error("line {0} isn't UTF-16")]
     NotUtf16(u64),
     /// A quote that opens a field in this line is never closed. Lines are counted as for `NotUtf8`.
@@ -33,7 +34,8 @@ pub enum CsvError {
     /// A list of columns has this word, and chooses no column that is there.
     #[error("no column {0}")]
     NoColumn(String),
-    /// The column of this name, or of this number where there is no header, is to stand at the right and at the left.
+    /// The column of this name, or of this number where there is no header, is to stand at the
+    /// right and at the left.
     #[error("column {0} can't stand at the right and at the left")]
     TwoSides(String),
     /// There was no memory for the records, their table or its drawing.

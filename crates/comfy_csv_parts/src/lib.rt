@@ -1,5 +1,5 @@
-//! What drawing CSV needs that stands on no table: rules for a field, from an input's bytes to records, from records to
-//! rows, and the words that say how.
+//! What drawing CSV needs that stands on no table: rules for a field, from an input's bytes to
+//! records, from records to rows, and the words that say how.
 #![tactic(auto)]
 
 mod arguments;

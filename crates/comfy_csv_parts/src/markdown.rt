@@ -8,9 +8,9 @@ use crate::options::DrawnColumn;
 use comfy_parts::style::CellAlignment;
 use std::alloc::{AllocError, Global};
 
-/// A text as a cell of a Markdown table, to be read as its characters. A backslash stands before what could begin or end
-/// markup: `|`, `\`, `<`, `&`, `*`, `` ` ``, `[`, `]`, `~`, and `_` where it isn't between two letters or digits. A line
-/// feed is written `<br>`.
+/// A text as a cell of a Markdown table, to be read as its characters. A backslash stands before
+/// what could begin or end markup: `|`, `\`, `<`, `&`, `*`, `` ` ``, `[`, `]`, `~`, and `_` where
+/// it isn't between two letters or digits. A line feed is written `<br>`.
 pub fn escaped(alloc: Global, text: &str) -> Result<String, AllocError>
     ensures { IfOk result (λ t. string_bytes t ≡ encode_utf8_all (escaped (chars text.now))) }
 {
@@ -25,14 +25,16 @@ pub fn escaped(alloc: Global, text: &str) -> Result<String, AllocError>
     Ok(cell)
 }
 
-/// Appends the line below the header, and a line feed: dashes between bars, the last of a column at the right a colon.
-/// The widths are those of the columns without their paddings, in terminal columns.
+/// Appends the line below the header, and a line feed: dashes between bars, the last of a column at
+/// the right a colon. The widths are those of the columns without their paddings, in terminal
+/// columns.
 pub fn push_rule(
     text: &mut String,
     columns: &[DrawnColumn],
     widths: &[u16],
 ) -> Result<(), AllocError>
-    ensures { OnOk result (string_bytes text.new ≡ string_bytes text.old ++ (rule_line columns.now widths.now ++ 0x0A ∷ [])) }
+    ensures { OnOk result (string_bytes text.new
+        ≡ string_bytes text.old ++ (rule_line columns.now widths.now ++ 0x0A ∷ [])) }
 {
     text.push('|')?;
     for (column, width) in columns.iter().zip(widths) {
@@ -43,7 +45,8 @@ pub fn push_rule(
 
 // What a column of this width adds to the line.
 fn push_part(text: &mut String, column: &DrawnColumn, width: u16) -> Result<(), AllocError>
-    ensures { OnOk result (string_bytes text.new ≡ string_bytes text.old ++ rule_part (column.now, width)) }
+    ensures { OnOk result (string_bytes text.new
+        ≡ string_bytes text.old ++ rule_part (column.now, width)) }
 {
     for _ in 0..usize::from(width) + 1 {
         text.push('-')?;
@@ -85,7 +88,8 @@ fn push_escaped(
     c: char,
     after: Option<char>,
 ) -> Result<(), AllocError>
-    ensures { OnOk result (string_bytes cell.new ≡ string_bytes cell.old ++ encode_utf8_all (escaped_character before c after)) }
+    ensures { OnOk result (string_bytes cell.new
+        ≡ string_bytes cell.old ++ encode_utf8_all (escaped_character before c after)) }
 {
     if c == '\n' {
         return cell.push_str("<br>");

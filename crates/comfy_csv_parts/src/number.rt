@@ -11,9 +11,9 @@ use ucd_category::GeneralCategory;
 // The characters that part groups of digits.
 const GROUP_MARKS: [char; 7] = [',', '.', '_', '\'', ' ', '\u{a0}', '\u{202f}'];
 
-/// Whether a field is a number: digits, with a sign, a decimal mark, an exponent and groups of three where it has them, and
-/// with one currency or `%`; or such a number without sign in parentheses. Names such as `0042` are none, nor are dates,
-/// addresses and versions.
+/// Whether a field is a number: digits, with a sign, a decimal mark, an exponent and groups of
+/// three where it has them, and with one currency or `%`; or such a number without sign in
+/// parentheses. Names such as `0042` are none, nor are dates, addresses and versions.
 ///
 /// ```
 /// is_number("-1_000.5e3")
@@ -235,7 +235,8 @@ fn is_decimal(text: &str) -> bool
         || has_groups(text) && !is_address(text)
 }
 
-// Digits behind a decimal mark, and digits or groups before it. Either may be missing, but not both.
+// Digits behind a decimal mark, and digits or groups before it. Either may be missing, but not
+// both.
 fn is_fraction(text: &str, mark: u8) -> bool
     requires { mark < 128 }
     ensures { result ≡ is_fraction (halves mark text.now) }
@@ -343,7 +344,8 @@ pub(crate) fn are_digits(bytes: &[u8]) -> bool
     bytes.iter().all(|byte| byte.is_ascii_digit())
 }
 
-/// Whether a field says nothing of its column: it is empty, a hyphen, or a word for a missing value.
+/// Whether a field says nothing of its column: it is empty, a hyphen, or a word for a missing
+/// value.
 pub(crate) fn is_neutral(field: &str) -> bool
     ensures { result ≡ is_neutral field.now }
 {

@@ -7,24 +7,26 @@ use comfy_parts::style::{CellAlignment, TableStyle};
 /// Which records and columns are drawn, and how.
 #[derive(Debug)]
 pub struct Options {
-    /// How the input is written as bytes. Where that isn't said, an input that begins with a byte-order mark of UTF-16 is
-    /// UTF-16, and any other one UTF-8.
+    /// How the input is written as bytes. Where that isn't said, an input that begins with a
+    /// byte-order mark of UTF-16 is UTF-16, and any other one UTF-8.
     pub encoding: Option<Encoding>,
-    /// How many lines at the input's front are left out. A line ends at a line feed, a carriage return, or both, also between
-    /// quotes.
+    /// How many lines at the input's front are left out. A line ends at a line feed, a carriage
+    /// return, or both, also between quotes.
     pub skip: usize,
     /// What stands between fields.
     pub delimiter: Delimiter,
-    /// Whether quotes around a field aren't part of it. A quote that opens one and is never closed is refused then.
+    /// Whether quotes around a field aren't part of it. A quote that opens one and is never closed
+    /// is refused then.
     pub has_quotes: bool,
     /// Whether the first record is the header.
     pub has_header: bool,
     /// How many records below the header are drawn; all where there is no limit.
     pub limit: Option<usize>,
-    /// The columns in the order in which they are drawn, by words; an empty list stands for all of them. A word is a
-    /// column's number, counted from 1, else its name, else a range around a hyphen. Each end of a range is a number,
-    /// else a name; nothing behind the hyphen stands for the last column. Of several hyphens the first one counts around
-    /// which both ends are there, in order.
+    /// The columns in the order in which they are drawn, by words; an empty list stands for all of
+    /// them. A word is a column's number, counted from 1, else its name, else a range around a
+    /// hyphen. Each end of a range is a number, else a name; nothing behind the hyphen stands for
+    /// the last column. Of several hyphens the first one counts around which both ends are there,
+    /// in order.
     pub columns: Vec<String>,
     /// Columns that aren't drawn, by such words.
     pub dropped: Vec<String>,
@@ -77,8 +79,9 @@ pub struct Look {
     pub keeps_bidi: bool,
     /// Whether control characters, and those that turn the direction of text, are left as they are.
     pub is_raw: bool,
-    /// Whether the table is one for Markdown. Each record is one line then: the frame is Markdown's, no width is kept,
-    /// nothing is cut, bold or expanded, and fields are cleaned, so that no sequence stays.
+    /// Whether the table is one for Markdown. Each record is one line then: the frame is
+    /// Markdown's, no width is kept, nothing is cut, bold or expanded, and fields are cleaned, so
+    /// that no sequence stays.
     pub is_markdown: bool,
 }
 
@@ -96,7 +99,8 @@ pub enum RowSeparators {
 /// When a record is drawn as a table of its own.
 #[derive(Clone, Copy, Debug, PartialEq, Eq)]
 pub enum Expansion {
-    /// Where a width is kept that leaves some columns fewer than four terminal columns and than their contents.
+    /// Where a width is kept that leaves some columns fewer than four terminal columns and than
+    /// their contents.
     Auto,
     /// Always.
     Always,

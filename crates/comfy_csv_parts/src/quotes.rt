@@ -11,10 +11,12 @@ use memchr::memchr;
 
 const QUOTE: u8 = b'"';
 
-/// The place, in bytes from the text's start, of the quote that opens a field which the text's end doesn't close. Where
-/// there is none, csv's reader doesn't end within quotes. As csv does, it passes over a byte-order mark.
+/// The place, in bytes from the text's start, of the quote that opens a field which the text's end
+/// doesn't close. Where there is none, csv's reader doesn't end within quotes. As csv does, it
+/// passes over a byte-order mark.
 pub(crate) fn unclosed_quote(text: &str, delimiter: u8) -> Option<usize>
-    ensures some { IfSome result (λ at. IsUnclosed delimiter (strip_bom text.now) (drop at text.now)) }
+    ensures some { IfSome result (λ at.
+        IsUnclosed delimiter (strip_bom text.now) (drop at text.now)) }
     ensures none { IfNone result (state_after delimiter (strip_bom text.now) ≢ InQuoted) }
 {
     let unmarked = without_mark(text).as_bytes();
@@ -22,8 +24,8 @@ pub(crate) fn unclosed_quote(text: &str, delimiter: u8) -> Option<usize>
     Some(text.len() - unmarked.len() + at)
 }
 
-// The place of the quote that opens a field which the end of these bytes doesn't close. It goes from quote to quote:
-// other bytes neither open nor close quotes.
+// The place of the quote that opens a field which the end of these bytes doesn't close. It goes
+// from quote to quote: other bytes neither open nor close quotes.
 fn unclosed_in(bytes: &[u8], delimiter: u8) -> Option<usize>
     ensures some { IfSome result (λ at. IsUnclosed delimiter bytes.now (drop at bytes.now)) }
     ensures within { IfSome result (λ at. at < length bytes.now) }
@@ -59,13 +61,18 @@ fn ends_field(byte: u8, delimiter: u8) -> bool
     byte == delimiter || byte == b'\r' || byte == b'\n'
 }
 
-// The place behind the quote that closes those which opened before `from`. Two quotes in a row are one of the field's.
+// The place behind the quote that closes those which opened before `from`. Two quotes in a row are
+// one of the field's.
 fn closing_end(bytes: &[u8], from: usize) -> Option<usize>
     requires within { from ≤ length bytes.now }
-    ensures some { IfSome result (λ at. (delimiter : ℕ) → state_after delimiter (take from bytes.now) ≡ InQuoted → ClosesAt delimiter bytes.now at) }
+    ensures some { IfSome result (λ at. (delimiter : ℕ)
+        → state_after delimiter (take from bytes.now) ≡ InQuoted
+        → ClosesAt delimiter bytes.now at) }
     ensures later { IfSome result (λ at. from < at) }
     ensures inside { IfSome result (λ at. at ≤ length bytes.now) }
-    ensures none { IfNone result ((delimiter : ℕ) → state_after delimiter (take from bytes.now) ≡ InQuoted → StaysQuoted delimiter bytes.now from (length bytes.now)) }
+    ensures none { IfNone result ((delimiter : ℕ)
+        → state_after delimiter (take from bytes.now) ≡ InQuoted
+        → StaysQuoted delimiter bytes.now from (length bytes.now)) }
 {
     let mut at = from;
     'quotes: while let Some(ahead) = memchr(QUOTE, &bytes[at..]) {

@@ -12,10 +12,11 @@ use crate::records::{Records, records_of};
 use crate::text::line_after;
 use std::alloc::Global;
 
-/// The records of a text below the lines that are left out. An empty line is no record; `""` is an empty field.
+/// The records of a text below the lines that are left out. An empty line is no record; `""` is an
+/// empty field.
 ///
-/// `Unclosed` has the number of the line, among all of the text, where the quote opens. `SplitCharacter` comes only of a
-/// delimiter that isn't ASCII.
+/// `Unclosed` has the number of the line, among all of the text, where the quote opens.
+/// `SplitCharacter` comes only of a delimiter that isn't ASCII.
 pub fn read_records(alloc: Global, text: &str, options: &Options) -> Result<Records, CsvError>
     ensures all { IfOk result (λ records. AreRecordsIn options.now text.now records) }
     ensures refused { IfErr result (λ e. IsTextWithoutRecords options.now text.now e) }

@@ -12,8 +12,8 @@ use csv::{Error, ErrorKind, Reader, ReaderBuilder, StringRecord};
 use std::alloc::{AllocError, Global};
 use std::marker::Model;
 
-/// The records of a text. However many they are, they lie in two large pieces of memory, which come back when they are
-/// dropped.
+/// The records of a text. However many they are, they lie in two large pieces of memory, which come
+/// back when they are dropped.
 ///
 /// ```
 /// let records = read_records(alloc, "name,days\noats,3\n", &options)?;
@@ -67,7 +67,8 @@ impl Records {
     }
 }
 
-/// Records that stand one behind another: all of a text, or some. As an iterator it gives each of them.
+/// Records that stand one behind another: all of a text, or some. As an iterator it gives each of
+/// them.
 #[derive(Drop)]
 pub struct Rows<'a> {
     fields: &'a StringRecord,
@@ -209,8 +210,9 @@ impl<'a> Record<'a> {
     }
 }
 
-/// What reads the records of a text, whose fields stand between delimiters. Records may have different numbers of fields. A
-/// byte-order mark at the beginning is dropped. Without quotes, a quote is a character of its field.
+/// What reads the records of a text, whose fields stand between delimiters. Records may have
+/// different numbers of fields. A byte-order mark at the beginning is dropped. Without quotes, a
+/// quote is a character of its field.
 pub(crate) fn reader_of(alloc: Global, text: &str, delimiter: u8, has_quotes: bool) -> Reader<&[u8]>
     ensures { IsStarted delimiter has_quotes text.now result }
 {

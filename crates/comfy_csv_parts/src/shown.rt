@@ -13,11 +13,12 @@ const NOTHING_KEPT: Kept = Kept {
     directions: false,
 };
 
-/// A text with U+FFFD for each control character and each that turns the direction of text. Where `keeps_breaks` says so,
-/// line feeds stay.
+/// A text with U+FFFD for each control character and each that turns the direction of text. Where
+/// `keeps_breaks` says so, line feeds stay.
 pub fn shown_text(alloc: Global, text: &str, keeps_breaks: bool) -> Result<String, AllocError>
     ensures value { IfOk result (λ t. string_bytes t ≡ shown_text keeps_breaks text.now) }
-    ensures harmless { IfOk result (λ t. list_any (is_harmful nothing_kept) (chars (string_bytes t)) ≡ false) }
+    ensures harmless { IfOk result (λ t. list_any (is_harmful nothing_kept) (chars (string_bytes t))
+        ≡ false) }
 {
     let mut shown = String::new(alloc);
     for c in text.chars() {

@@ -68,7 +68,8 @@ fn names_of(
     alloc: Global,
     styles: &[(&'static str, TableStyle)],
 ) -> Result<Vec<&'static str>, AllocError>
-    ensures { IfOk result (λ names. map (λ name. name.now) names.items ≡ map (λ entry. entry.0.now) styles.now) }
+    ensures { IfOk result (λ names. map (λ name. name.now) names.items
+        ≡ map (λ entry. entry.0.now) styles.now) }
 {
     let mut names = Vec::with_capacity(alloc, styles.len())?;
     for (name, _) in styles {

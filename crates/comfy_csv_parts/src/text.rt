@@ -6,7 +6,8 @@ ghost use Rattle.comfy_csv_parts.specs.Input.{IsTextRefusal, line_breaks};
 
 use crate::error::CsvError;
 
-/// The input as a text, which takes no memory. `NotUtf8` has the number of the line where it stops being one.
+/// The input as a text, which takes no memory. `NotUtf8` has the number of the line where it stops
+/// being one.
 pub(crate) fn text_of(input: &[u8]) -> Result<&str, CsvError>
     ensures same { IfOk result (λ text. text.now ≡ input.now) }
     ensures is_text { IfOk result (λ _. IsUtf8 input.now) }

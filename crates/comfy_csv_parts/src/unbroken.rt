@@ -13,15 +13,16 @@ use std::alloc::{AllocError, Global};
 // How many characters a field has at most that isn't broken.
 const LONGEST: usize = 25;
 
-/// Whether no field of a column is broken over lines: each is at most 25 characters long, and is empty, a number, or of
-/// digits, `-/:.TZ+` and spaces, as dates and times are.
+/// Whether no field of a column is broken over lines: each is at most 25 characters long, and is
+/// empty, a number, or of digits, `-/:.TZ+` and spaces, as dates and times are.
 pub fn is_unbroken_column(
     alloc: Global,
     position: usize,
     rows: &Rows<'_>,
     has_sequences: bool,
 ) -> Result<bool, AllocError>
-    ensures { IfOk result (λ yes. yes ≡ is_unbroken_column (map (seen has_sequences) rows.now) position) }
+    ensures { IfOk result (λ yes. yes
+        ≡ is_unbroken_column (map (seen has_sequences) rows.now) position) }
 {
     for row in rows.iter() {
         let field = seen_field(alloc, position, &row, has_sequences)?;

@@ -50,7 +50,8 @@ static WORDS: [Word; 25] = [
         letter: Some('d'),
         kind: Kind::Text,
         value: "CHAR",
-        help: "What stands between fields: a character, `tab`, or\n`auto`, which finds it [default: auto]",
+        help: "What stands between fields: a character, `tab`, or\n\
+            `auto`, which finds it [default: auto]",
     },
     Word {
         name: "tabs",
@@ -64,7 +65,8 @@ static WORDS: [Word; 25] = [
         letter: Some('e'),
         kind: Kind::Encoding,
         value: "NAME",
-        help: "How the file is written: utf-8, cp1252 or latin1, or\nutf-16 [default: utf-16 behind its mark, else utf-8]",
+        help: "How the file is written: utf-8, cp1252 or latin1, or\n\
+            utf-16 [default: utf-16 behind its mark, else utf-8]",
     },
     Word {
         name: "no-quotes",
@@ -148,7 +150,8 @@ static WORDS: [Word; 25] = [
         letter: None,
         kind: Kind::When,
         value: "WHEN",
-        help: "Records as names and fields: always, never, or auto,\nwhere columns would be too narrow [default: auto]",
+        help: "Records as names and fields: always, never, or auto,\n\
+            where columns would be too narrow [default: auto]",
     },
     Word {
         name: "style",
@@ -190,7 +193,8 @@ static WORDS: [Word; 25] = [
         letter: None,
         kind: Kind::When,
         value: "WHEN",
-        help: "The header in bold: always, never, or auto, in a\nterminal unless NO_COLOR is set [default: auto]",
+        help: "The header in bold: always, never, or auto, in a\n\
+            terminal unless NO_COLOR is set [default: auto]",
     },
     Word {
         name: "ansi",
@@ -286,9 +290,14 @@ fn with_value<'a>(arg: Arg<'a>, kind: Kind, styles: &'a [&'a str]) -> Arg<'a>
     }
 }
 
-// A word whose value is one of these names, which its help text tells in fewer words than clap would.
+// A word whose value is one of these names, which its help text tells in fewer words than clap
+// would.
 fn with_names<'a>(arg: Arg<'a>, names: &'a [&'a str]) -> Arg<'a>
-    ensures { bare (rule_of result) ≡ (record (bare (rule_of arg.entry)).0 { parser = Some vp.String }, map (λ name. name.now) names.now) }
+    ensures { bare (rule_of result)
+        ≡ (
+          record (bare (rule_of arg.entry)).0 { parser = Some vp.String },
+          map (λ name. name.now) names.now,
+        ) }
 {
     arg.value_parser(names).hide_possible_values(true)
 }

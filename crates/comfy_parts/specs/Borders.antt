@@ -5,15 +5,22 @@ use Rattle.comfy_parts.specs.declared.style.table_style.TableStyle.{TableStyle}
 
 -- the left characters of the six lines of a style
 abbrev pub left_characters : TableStyle → List (Option ℕ)
-left_characters style = style.top_border.left ∷ style.header_lines.left ∷ style.header_separator.left ∷ style.content_lines.left ∷ style.row_separator.left ∷ style.bottom_border.left ∷ []
+left_characters style =
+    style.top_border.left ∷ style.header_lines.left ∷ style.header_separator.left
+    ∷ style.content_lines.left ∷ style.row_separator.left ∷ style.bottom_border.left ∷ []
 
 -- their right characters
 abbrev pub right_characters : TableStyle → List (Option ℕ)
-right_characters style = style.top_border.right ∷ style.header_lines.right ∷ style.header_separator.right ∷ style.content_lines.right ∷ style.row_separator.right ∷ style.bottom_border.right ∷ []
+right_characters style =
+    style.top_border.right ∷ style.header_lines.right ∷ style.header_separator.right
+    ∷ style.content_lines.right ∷ style.row_separator.right ∷ style.bottom_border.right ∷ []
 
 -- their junctions
 abbrev pub junction_characters : TableStyle → List (Option ℕ)
-junction_characters style = style.top_border.junction ∷ style.header_lines.junction ∷ style.header_separator.junction ∷ style.content_lines.junction ∷ style.row_separator.junction ∷ style.bottom_border.junction ∷ []
+junction_characters style =
+    style.top_border.junction ∷ style.header_lines.junction ∷ style.header_separator.junction
+    ∷ style.content_lines.junction ∷ style.row_separator.junction ∷ style.bottom_border.junction
+    ∷ []
 
 -- the left border is drawn if any line has a left character
 abbrev pub draws_left_border : TableStyle → Bool

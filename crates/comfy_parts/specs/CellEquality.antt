@@ -1,4 +1,5 @@
--- What `==` and a hash read of a cell: its value. They are std's tests and writes of the fields, in order, and so have their laws.
+-- What `==` and a hash read of a cell: its value. They are std's tests and writes of the fields, in
+-- order, and so have their laws.
 use Rattle.std.specs.Prelude.{◌≡◌, ◌&&◌, ◌++◌, pos, Bool, true, Option, Some, None, nat_eq}
 use Rattle.std.specs.Cmp.{IsEquivalence, and_equiv, on_equiv, nat_eq_equiv, unsigned_Decides}
 use Rattle.std.specs.Cmp.Lexicographic.{pointwise, pointwise_decides, lists_equiv, options_equiv, nat_list_eq_equiv}
@@ -39,14 +40,21 @@ pub cell_eq_equiv : IsEquivalence cell_eq
 cell_eq_equiv =
     let text_lines = on_equiv (λ (c : CellValue). c.text_lines) (lists_equiv nat_list_eq_equiv) in
     let delimiter = on_equiv (λ (c : CellValue). c.delimiter) (options_equiv nat_eq_equiv) in
-    let alignment = on_equiv (λ (c : CellValue). c.alignment) (options_equiv alignment_equiv.laws-law) in
-    let foreground = on_equiv (λ (c : CellValue). c.foreground) (options_equiv color_equiv.laws-law) in
-    let background = on_equiv (λ (c : CellValue). c.background) (options_equiv color_equiv.laws-law) in
-    let attributes = on_equiv (λ (c : CellValue). c.attributes) (lists_equiv attribute_equiv.laws-law) in
-    and_equiv (and_equiv (and_equiv (and_equiv (and_equiv text_lines delimiter) alignment) foreground) background) attributes
+    let alignment =
+    on_equiv (λ (c : CellValue). c.alignment) (options_equiv alignment_equiv.laws-law) in
+    let foreground =
+    on_equiv (λ (c : CellValue). c.foreground) (options_equiv color_equiv.laws-law) in
+    let background =
+    on_equiv (λ (c : CellValue). c.background) (options_equiv color_equiv.laws-law) in
+    let attributes =
+    on_equiv (λ (c : CellValue). c.attributes) (lists_equiv attribute_equiv.laws-law) in
+    and_equiv
+    (and_equiv (and_equiv (and_equiv (and_equiv text_lines delimiter) alignment) foreground)
+    background) attributes
 
 -- options are fed alike where what they hold is
-options_alike : {K : Type 0} {E : K → K → Bool} {F : K → fed.HashWrites} → EqHashesAlike E F → fed.Alike (option_eq E) (fed.option F)
+options_alike : {K : Type 0} {E : K → K → Bool} {F : K → fed.HashWrites} → EqHashesAlike E F
+    → fed.Alike (option_eq E) (fed.option F)
 options_alike {K} {E} {F} alike = record { fed = by_case }
   where
     by_case : (x y : Option K) → option_eq E x y ≡ true → fed.option F x ≡ fed.option F y
@@ -58,10 +66,21 @@ options_alike {K} {E} {F} alike = record { fed = by_case }
 -- the law of `Hash`
 pub cell_hash_respects_eq : EqHashesAlike cell_eq cell_hash
 cell_hash_respects_eq =
-    let text_lines = fed.on_Alike (λ (c : CellValue). c.text_lines) (fed.items_Alike (fed.same_Alike fed.str (pointwise_decides unsigned_Decides))) in
-    let delimiter = fed.on_Alike (λ (c : CellValue). c.delimiter) (options_alike (fed.same_Alike fed.char unsigned_Decides).fed) in
-    let alignment = fed.on_Alike (λ (c : CellValue). c.alignment) (options_alike alignment_alike.respects_eq-law) in
-    let foreground = fed.on_Alike (λ (c : CellValue). c.foreground) (options_alike color_alike.respects_eq-law) in
-    let background = fed.on_Alike (λ (c : CellValue). c.background) (options_alike color_alike.respects_eq-law) in
-    let attributes = fed.on_Alike (λ (c : CellValue). c.attributes) (fed.items_Alike (record { fed = attribute_alike.respects_eq-law })) in
-    (fed.and-Alike (fed.and-Alike (fed.and-Alike (fed.and-Alike (fed.and-Alike text_lines delimiter) alignment) foreground) background) attributes).fed
+    let text_lines =
+    fed.on_Alike (λ (c : CellValue). c.text_lines)
+    (fed.items_Alike (fed.same_Alike fed.str (pointwise_decides unsigned_Decides))) in
+    let delimiter =
+    fed.on_Alike (λ (c : CellValue). c.delimiter)
+    (options_alike (fed.same_Alike fed.char unsigned_Decides).fed) in
+    let alignment =
+    fed.on_Alike (λ (c : CellValue). c.alignment) (options_alike alignment_alike.respects_eq-law) in
+    let foreground =
+    fed.on_Alike (λ (c : CellValue). c.foreground) (options_alike color_alike.respects_eq-law) in
+    let background =
+    fed.on_Alike (λ (c : CellValue). c.background) (options_alike color_alike.respects_eq-law) in
+    let attributes =
+    fed.on_Alike (λ (c : CellValue). c.attributes)
+    (fed.items_Alike (record { fed = attribute_alike.respects_eq-law })) in
+    (fed.and-Alike
+    (fed.and-Alike (fed.and-Alike (fed.and-Alike (fed.and-Alike text_lines delimiter) alignment)
+    foreground) background) attributes).fed

@@ -56,7 +56,8 @@ pub record ColumnValue : Type 0 where
 abbrev pub IsColumn : ColumnValue → Type 0
 IsColumn column = IsDelimiter column.delimiter
 
--- what a row is drawn by in one column: the column's settings, the width of its content, and whether it is hidden
+-- what a row is drawn by in one column: the column's settings, the width of its content, and
+-- whether it is hidden
 pub record ColumnInfo : Type 0 where
   pub padding : ℕ × ℕ
   pub delimiter : Option ℕ
@@ -67,7 +68,14 @@ pub record ColumnInfo : Type 0 where
 -- a cell of this text and without settings: its text lines are what stands between the line feeds
 abbrev pub plain_cell : Text → CellValue
 plain_cell text =
-    record { text_lines = slice_split (λ b. b == 0x0A) text; delimiter = None; alignment = None; foreground = None; background = None; attributes = [] }
+    record {
+      text_lines = slice_split (λ b. b == 0x0A) text;
+      delimiter = None;
+      alignment = None;
+      foreground = None;
+      background = None;
+      attributes = [];
+    }
 
 -- the cell of a whole number: what `Display` writes
 abbrev pub number_cell : ℕ → CellValue
@@ -103,11 +111,19 @@ with_max_height h row = record row { max_height = Some (max 1 h) }
 
 -- a new column: padding 1 and 1, and no other setting
 abbrev pub new_column : ℕ → ColumnValue
-new_column index = record { padding = (1, 1); delimiter = None; alignment = None; constraint = None; index = index }
+new_column index =
+    record {
+      padding = (1, 1);
+      delimiter = None;
+      alignment = None;
+      constraint = None;
+      index = index;
+    }
 
 -- default columns are appended until there are n
 abbrev pub columns_grown_to : ℕ → List ColumnValue → List ColumnValue
-columns_grown_to n columns = columns ++ map new_column (range_with_len (length columns) (n - length columns))
+columns_grown_to n columns =
+    columns ++ map new_column (range_with_len (length columns) (n - length columns))
 
 -- the columns are as many as before or n, whichever is more
 abbrev pub NoFewerColumns : ℕ → List ColumnValue → Type 0
@@ -124,12 +140,19 @@ is_hidden_column column = is_hidden_constraint column.constraint
 
 -- how many of these columns are visible
 abbrev pub shown_among : List ColumnValue → ℕ
-shown_among columns = length (filter (λ (column : ColumnValue). not (is_hidden_column column)) columns)
+shown_among columns =
+    length (filter (λ (column : ColumnValue). not (is_hidden_column column)) columns)
 
 -- a column drawn with this content width, at least 1
 abbrev pub info_of : ColumnValue → ℕ → ColumnInfo
 info_of column width =
-    record { padding = column.padding; delimiter = column.delimiter; alignment = column.alignment; content_width = max 1 width; is_hidden = is_hidden_column column }
+    record {
+      padding = column.padding;
+      delimiter = column.delimiter;
+      alignment = column.alignment;
+      content_width = max 1 width;
+      is_hidden = is_hidden_column column;
+    }
 
 -- the whole width of a drawn column: its content and its paddings
 abbrev pub info_width : ColumnInfo → ℕ

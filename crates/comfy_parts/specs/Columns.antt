@@ -1,4 +1,5 @@
--- Terminal columns that texts of every script take: which characters add one wherever they stand, and which words and text lines fit.
+-- Terminal columns that texts of every script take: which characters add one wherever they stand,
+-- and which words and text lines fit.
 use Rattle.std.specs.Prelude.{◌≡◌, ◌≢◌, ◌⊎◌, ℕ, ◌+◌, ◌≤◌, Bool, true, not, ◌&&◌, ◌||◌, ◌==◌, nat_le, chars, List, [], ◌∷◌, ◌++◌, Option, unwrap_or, encode_utf8, All, IsUtf8, map}
 use Rattle.std.specs.Char.{IsScalar}
 use Rattle.std.specs.Int.{is_in_range}
@@ -15,16 +16,20 @@ use Rattle.comfy_parts.specs.declared.style.table_style.TableStyle.{TableStyle}
 
 -- between any two texts the character adds one column
 abbrev pub AddsOneColumn : ℕ → Type 0
-AddsOneColumn c = (front back : Text) → IsUtf8 front → measure (front ++ (encode_utf8 c ++ back)) ≡ measure front + (1 + measure back)
+AddsOneColumn c =
+    (front back : Text) → IsUtf8 front
+    → measure (front ++ (encode_utf8 c ++ back)) ≡ measure front + (1 + measure back)
 
 -- a space does, whatever the texts
 abbrev pub SpaceAddsOneColumn : Text → Text → Type 0
-SpaceAddsOneColumn front back = IsUtf8 front → measure (front ++ 0x20 ∷ back) ≡ measure front + (1 + measure back)
+SpaceAddsOneColumn front back =
+    IsUtf8 front → measure (front ++ 0x20 ∷ back) ≡ measure front + (1 + measure back)
 
 -- a box or block character, `…`, or printable ASCII but for `#`, `*` and the digits
 abbrev pub is_frame_character : ℕ → Bool
 is_frame_character c =
-    (is_in_range 0x2500 0x259F c || (c == 0x2026)) || (is_in_range 0x20 0x7E c && not ((c == 0x23) || ((c == 0x2A) || is_in_range 0x30 0x39 c)))
+    (is_in_range 0x2500 0x259F c || (c == 0x2026))
+    || (is_in_range 0x20 0x7E c && not ((c == 0x23) || ((c == 0x2A) || is_in_range 0x30 0x39 c)))
 
 -- each of these does
 abbrev pub FrameCharactersAddOneColumn : ℕ → Type 0
@@ -47,12 +52,16 @@ IsOneColumn c = AddsOneColumn (unwrap_or c 0x20)
 -- the characters of a style, line by line; a line that holds contents has no fill
 abbrev pub style_characters : TableStyle → List (Option ℕ)
 style_characters style =
-    style.top_border.left ∷ style.top_border.fill ∷ style.top_border.junction ∷ style.top_border.right
+    style.top_border.left ∷ style.top_border.fill ∷ style.top_border.junction
+    ∷ style.top_border.right
     ∷ style.header_lines.left ∷ style.header_lines.junction ∷ style.header_lines.right
-    ∷ style.header_separator.left ∷ style.header_separator.fill ∷ style.header_separator.junction ∷ style.header_separator.right
+    ∷ style.header_separator.left ∷ style.header_separator.fill ∷ style.header_separator.junction
+    ∷ style.header_separator.right
     ∷ style.content_lines.left ∷ style.content_lines.junction ∷ style.content_lines.right
-    ∷ style.row_separator.left ∷ style.row_separator.fill ∷ style.row_separator.junction ∷ style.row_separator.right
-    ∷ style.bottom_border.left ∷ style.bottom_border.fill ∷ style.bottom_border.junction ∷ style.bottom_border.right ∷ []
+    ∷ style.row_separator.left ∷ style.row_separator.fill ∷ style.row_separator.junction
+    ∷ style.row_separator.right
+    ∷ style.bottom_border.left ∷ style.bottom_border.fill ∷ style.bottom_border.junction
+    ∷ style.bottom_border.right ∷ []
 
 -- each of them adds one column
 abbrev pub IsOneColumnStyle : TableStyle → Type 0
@@ -60,7 +69,8 @@ IsOneColumnStyle style = All IsOneColumn (style_characters style)
 
 -- each of them is a box or block character, or such ASCII
 abbrev pub has_frame_characters : TableStyle → Bool
-has_frame_characters style = list_all (λ c. is_frame_character (unwrap_or c 0x20)) (style_characters style)
+has_frame_characters style =
+    list_all (λ c. is_frame_character (unwrap_or c 0x20)) (style_characters style)
 
 -- ---- texts
 
@@ -76,15 +86,20 @@ FrameTextsAreApart c rest = is_frame_character c ≡ true → IsApart (encode_ut
 abbrev pub joining_characters : List Range
 joining_characters =
     -- the struck solidus, Hebrew lamed, Arabic alefs
-    (0x338, 0x338) ∷ (0x5DC, 0x5DC) ∷ (0x622, 0x623) ∷ (0x625, 0x625) ∷ (0x627, 0x627) ∷ (0x671, 0x673) ∷ (0x675, 0x675) ∷ (0x773, 0x774) ∷ (0x870, 0x882)
+    (0x338, 0x338) ∷ (0x5DC, 0x5DC) ∷ (0x622, 0x623) ∷ (0x625, 0x625) ∷ (0x627, 0x627)
+    ∷ (0x671, 0x673) ∷ (0x675, 0x675) ∷ (0x773, 0x774) ∷ (0x870, 0x882)
     -- Khmer letters, Buginese ya, the joiner of emoji, Tifinagh, two Lisu tones, lamed with a dot
-    ∷ (0x1780, 0x17AF) ∷ (0x17D8, 0x17D8) ∷ (0x1A10, 0x1A10) ∷ (0x200D, 0x200D) ∷ (0x2D31, 0x2D6F) ∷ (0xA4FC, 0xA4FD) ∷ (0xFB3C, 0xFB3C)
-    -- variation selectors, an Old Turkic and two Kirat Rai letters, the letters of flags, skin tones
-    ∷ (0xFE00, 0xFE0F) ∷ (0x10C03, 0x10C03) ∷ (0x16D67, 0x16D68) ∷ (0x1F1E6, 0x1F1FF) ∷ (0x1F3FB, 0x1F3FF) ∷ []
+    ∷ (0x1780, 0x17AF) ∷ (0x17D8, 0x17D8) ∷ (0x1A10, 0x1A10) ∷ (0x200D, 0x200D) ∷ (0x2D31, 0x2D6F)
+    ∷ (0xA4FC, 0xA4FD) ∷ (0xFB3C, 0xFB3C)
+    -- variation selectors, an Old Turkic and two Kirat Rai letters, the letters of flags, skin
+    -- tones
+    ∷ (0xFE00, 0xFE0F) ∷ (0x10C03, 0x10C03) ∷ (0x16D67, 0x16D68) ∷ (0x1F1E6, 0x1F1FF)
+    ∷ (0x1F3FB, 0x1F3FF) ∷ []
 
 -- printable ASCII, and from U+00A0 on each other character
 abbrev pub joins_no_other : ℕ → Bool
-joins_no_other c = is_in_range 0x20 0x7E c || (nat_le 0xA0 c && not (in_ranges joining_characters c))
+joins_no_other c =
+    is_in_range 0x20 0x7E c || (nat_le 0xA0 c && not (in_ranges joining_characters c))
 
 -- a text of such characters
 abbrev pub adds_up : Text → Bool
@@ -95,7 +110,8 @@ AddsUp text = adds_up text ≡ true
 
 -- wherever it is divided, its parts add up to its measure
 abbrev pub PartsAddUp : Text → Text → Type 0
-PartsAddUp front back = IsUtf8 front → AddsUp (front ++ back) → measure (front ++ back) ≡ measure front + measure back
+PartsAddUp front back =
+    IsUtf8 front → AddsUp (front ++ back) → measure (front ++ back) ≡ measure front + measure back
 
 -- ---- lines
 
@@ -124,7 +140,9 @@ TextFits w d text = (measure text ≤ w) ⊎ (AddsOneColumn d × All (WordFits w
 
 -- then no line of it is wider than w
 abbrev pub TextLinesFit : ℕ → ℕ → Text → Type 0
-TextLinesFit w d text = IsScalar d → IsUtf8 text → TextFits w d text → All (λ line. measure line ≤ w) (lines_of_text w d text)
+TextLinesFit w d text =
+    IsScalar d → IsUtf8 text → TextFits w d text
+    → All (λ line. measure line ≤ w) (lines_of_text w d text)
 
 -- then no head of it for k terminal columns is wider than k
 abbrev pub HeadFits : ℕ → Text → Type 0
@@ -132,7 +150,8 @@ HeadFits k text = IsUtf8 text → SelectorsAgree text → measure (head k text) 
 
 -- a text of which each character fits the column fits it
 abbrev pub FittingCharactersFit : ℕ → ℕ → Text → Type 0
-FittingCharactersFit w d text = AddsOneColumn d → IsUtf8 text → CharactersFit w text → TextFits w d text
+FittingCharactersFit w d text =
+    AddsOneColumn d → IsUtf8 text → CharactersFit w text → TextFits w d text
 
 -- a text whose characters add up fits each column of two or more
 abbrev pub AddingUpFits : ℕ → ℕ → Text → Type 0
@@ -147,5 +166,6 @@ presets_all = map (λ entry. entry.1) named_presets
 -- by itself, rounded, with solid inner borders, and with both
 abbrev pub IsOneColumnPreset : TableStyle → Type 0
 IsOneColumnPreset style =
-    IsOneColumnStyle style × IsOneColumnStyle (with_rounded_corners style) × IsOneColumnStyle (with_solid_inner_borders style)
+    IsOneColumnStyle style × IsOneColumnStyle (with_rounded_corners style)
+    × IsOneColumnStyle (with_solid_inner_borders style)
     × IsOneColumnStyle (with_rounded_corners (with_solid_inner_borders style))

@@ -1,4 +1,5 @@
--- What `==`, the order and a hash read of attributes, alignments and colours, and what the comparisons promise.
+-- What `==`, the order and a hash read of attributes, alignments and colours, and what the
+-- comparisons promise.
 use Rattle.std.specs.Prelude.{◌≡◌, ◌↔◌, ◌&&◌, ℕ, Bool, true, List, [], ◌∷◌}
 use Rattle.std.specs.Hash.{HashWrites}
 use Rattle.std.specs.Ordering.{is_lt}
@@ -71,15 +72,22 @@ ascends cmp _ = true
 abbrev pub attributes_in_order : List Attribute
 attributes_in_order =
     attribute.Reset ∷ attribute.Bold ∷ attribute.Dim ∷ attribute.Italic ∷ attribute.Underlined
-    ∷ attribute.DoubleUnderlined ∷ attribute.Undercurled ∷ attribute.Underdotted ∷ attribute.Underdashed
-    ∷ attribute.SlowBlink ∷ attribute.RapidBlink ∷ attribute.Reverse ∷ attribute.Hidden ∷ attribute.CrossedOut
-    ∷ attribute.Fraktur ∷ attribute.NoBold ∷ attribute.NormalIntensity ∷ attribute.NoItalic ∷ attribute.NoUnderline
-    ∷ attribute.NoBlink ∷ attribute.NoReverse ∷ attribute.NoHidden ∷ attribute.NotCrossedOut ∷ attribute.Framed
-    ∷ attribute.Encircled ∷ attribute.OverLined ∷ attribute.NotFramedOrEncircled ∷ attribute.NotOverLined ∷ []
+    ∷ attribute.DoubleUnderlined ∷ attribute.Undercurled ∷ attribute.Underdotted
+    ∷ attribute.Underdashed
+    ∷ attribute.SlowBlink ∷ attribute.RapidBlink ∷ attribute.Reverse ∷ attribute.Hidden
+    ∷ attribute.CrossedOut
+    ∷ attribute.Fraktur ∷ attribute.NoBold ∷ attribute.NormalIntensity ∷ attribute.NoItalic
+    ∷ attribute.NoUnderline
+    ∷ attribute.NoBlink ∷ attribute.NoReverse ∷ attribute.NoHidden ∷ attribute.NotCrossedOut
+    ∷ attribute.Framed
+    ∷ attribute.Encircled ∷ attribute.OverLined ∷ attribute.NotFramedOrEncircled
+    ∷ attribute.NotOverLined ∷ []
 
 -- the colours, from the least: those without parts, one by its parts, and one by its number
 abbrev pub colors_in_order : ℕ → ℕ → ℕ → ℕ → List Color
 colors_in_order r g b v =
-    color.Reset ∷ color.Black ∷ color.DarkGrey ∷ color.Red ∷ color.DarkRed ∷ color.Green ∷ color.DarkGreen
-    ∷ color.Yellow ∷ color.DarkYellow ∷ color.Blue ∷ color.DarkBlue ∷ color.Magenta ∷ color.DarkMagenta ∷ color.Cyan
+    color.Reset ∷ color.Black ∷ color.DarkGrey ∷ color.Red ∷ color.DarkRed ∷ color.Green
+    ∷ color.DarkGreen
+    ∷ color.Yellow ∷ color.DarkYellow ∷ color.Blue ∷ color.DarkBlue ∷ color.Magenta
+    ∷ color.DarkMagenta ∷ color.Cyan
     ∷ color.DarkCyan ∷ color.White ∷ color.Grey ∷ color.Rgb r g b ∷ color.AnsiValue v ∷ []

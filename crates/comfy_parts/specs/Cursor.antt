@@ -1,4 +1,5 @@
--- Private: a cursor over the parts of a cell's text lines: what it passes, and the sequences that are open where it stands.
+-- Private: a cursor over the parts of a cell's text lines: what it passes, and the sequences that
+-- are open where it stands.
 use Rattle.std.specs.Prelude.{◌≡◌, ◌<◌, ℕ, zero, suc, Bool, true, false, Option, None, Some, List, [], ◌∷◌, ◌++◌, map, length, flat_map, encode_utf8, if◌then◌else◌}
 use Rattle.comfy_parts.specs.Text.{Text, IsOnly, begins_with}
 use Rattle.comfy_parts.specs.declared.content_split.sequences.TextPart.{TextPart}
@@ -30,7 +31,8 @@ parts_behind zero ps = ps
 parts_behind (suc n) [] = []
 parts_behind (suc n) (p ∷ ps) = parts_behind (if p.is_sequence then suc n else n) ps
 
--- a call of an iterator over parts gave a sequence, or visible bytes, or nothing where no part was left
+-- a call of an iterator over parts gave a sequence, or visible bytes, or nothing where no part was
+-- left
 abbrev pub GivesPart : List Part → Option TextPart → List Part → Type 0
 GivesPart old None new = (old ≡ []) × (new ≡ [])
 GivesPart old (Some (Sequence s)) new = old ≡ sequence_part s.now ∷ new
@@ -38,7 +40,8 @@ GivesPart old (Some (Visible t)) new = (old ≡ map visible_part t.now ++ new) �
 
 -- ---- a cursor
 
--- a cursor in a text line of a cell: the sequences that are open there, and the parts that come next
+-- a cursor in a text line of a cell: the sequences that are open there, and the parts that come
+-- next
 pub record CursorValue : Type 0 where
   pub sequences : List Text
   pub ahead : List Part
@@ -58,11 +61,16 @@ past_sequence c = if begins_with_sequence c.ahead then stepped c c.ahead else c
 
 -- before the visible byte at n of what comes, after the sequences there
 abbrev pub at_byte : ℕ → CursorValue → CursorValue
-at_byte n c = record { sequences = opened c.sequences (parts_before n c.ahead); ahead = parts_from n c.ahead }
+at_byte n c =
+    record { sequences = opened c.sequences (parts_before n c.ahead); ahead = parts_from n c.ahead }
 
 -- after the n-th visible byte, before the sequences there
 abbrev pub behind_bytes : ℕ → CursorValue → CursorValue
-behind_bytes n c = record { sequences = opened c.sequences (parts_up_to n c.ahead); ahead = parts_behind n c.ahead }
+behind_bytes n c =
+    record {
+      sequences = opened c.sequences (parts_up_to n c.ahead);
+      ahead = parts_behind n c.ahead;
+    }
 
 -- the bytes up to there
 abbrev pub bytes_up_to : ℕ → CursorValue → Text
@@ -72,7 +80,8 @@ bytes_up_to n c = flat_map (λ (p : Part). p.bytes) (parts_up_to n c.ahead)
 abbrev pub open_at_end : CursorValue → List Text
 open_at_end c = opened c.sequences c.ahead
 
--- the first cursor stands at the visible byte at n of what comes after the second, apart from sequences there
+-- the first cursor stands at the visible byte at n of what comes after the second, apart from
+-- sequences there
 abbrev pub StandsAt : CursorValue → ℕ → CursorValue → Type 0
 StandsAt new n old = at_byte 0 new ≡ at_byte n old
 

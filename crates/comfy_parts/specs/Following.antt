@@ -4,7 +4,8 @@ use Rattle.std.specs.List.{concat}
 use Rattle.std.specs.Str.{IsCharBoundary}
 use Rattle.comfy_parts.specs.Text.{Text, measure, clusters, head, elements, begins_with}
 
--- what follows an element: a delimiter and a text of these elements, or nothing where there are none
+-- what follows an element: a delimiter and a text of these elements, or nothing where there are
+-- none
 abbrev pub Follow : ℕ → List Text → Text → Type 0
 Follow d [] rest = rest ≡ []
 Follow d (e ∷ es) rest = (more : Text) × (rest ≡ encode_utf8 d ++ more) × (elements d more ≡ e ∷ es)
@@ -24,14 +25,18 @@ pub record IsFirstElement (d : ℕ) (text first behind : Text) : Type 0 where
 
 -- each end of a word that has at least so many bytes is wider than w terminal columns
 abbrev pub IsWideFrom : ℕ → ℕ → Text → Type 0
-IsWideFrom w bytes word = (front tail : Text) → word ≡ front ++ tail → IsUtf8 front → IsUtf8 tail → bytes ≤ length tail → w < measure tail
+IsWideFrom w bytes word =
+    (front tail : Text) → word ≡ front ++ tail → IsUtf8 front → IsUtf8 tail → bytes ≤ length tail
+    → w < measure tail
 
--- the terminal columns of a word: exact where they are at most w, and otherwise the word is wider than w
+-- the terminal columns of a word: exact where they are at most w, and otherwise the word is wider
+-- than w
 pub record AreColumnsUpTo (w columns : ℕ) (word : Text) : Type 0 where
   pub fits : columns ≤ w → columns ≡ measure word
   pub wider : w < columns → w < measure word
 
--- a text at the first character of a line of w terminal columns: its first element has so many bytes and columns, and each of its ends with at least `shown` bytes is wider than the line
+-- a text at the first character of a line of w terminal columns: its first element has so many
+-- bytes and columns, and each of its ends with at least `shown` bytes is wider than the line
 pub record IsAtLine (w d : ℕ) (text : Text) (first columns shown : ℕ) : Type 0 where
   pub narrow : w ≤ 65535
   pub whole : IsUtf8 text
@@ -41,7 +46,8 @@ pub record IsAtLine (w d : ℕ) (text : Text) (first columns shown : ℕ) : Type
   pub columns_are : AreColumnsUpTo w columns (take first text)
   pub wide_from : IsWideFrom w shown (take first text)
 
--- a text with so many bytes at its end that begin with an element of so many bytes and terminal columns
+-- a text with so many bytes at its end that begin with an element of so many bytes and terminal
+-- columns
 pub record IsMeasured (d : ℕ) (text : Text) (left first columns : ℕ) : Type 0 where
   pub front : Text
   pub others : Text
@@ -54,11 +60,13 @@ pub record IsMeasured (d : ℕ) (text : Text) (left first columns : ℕ) : Type 
 -- a text that ends with this one has so many bytes at its end, as above
 abbrev pub IsMeasuredBehind : ℕ → Text → ℕ → ℕ → ℕ → Type 0
 IsMeasuredBehind d text left first columns =
-    (whole : Text) × (before : Text) × (whole ≡ before ++ text) × IsMeasured d whole left first columns
+    (whole : Text) × (before : Text) × (whole ≡ before ++ text)
+    × IsMeasured d whole left first columns
 
 -- behind every text this one adds the terminal columns from the first number to the second
 abbrev pub FillsTo : ℕ → ℕ → Text → Type 0
-FillsTo from to text = (front : Text) → IsUtf8 front → measure (front ++ text) + from ≡ measure front + to
+FillsTo from to text =
+    (front : Text) → IsUtf8 front → measure (front ++ text) + from ≡ measure front + to
 
 -- a text ends with another
 abbrev pub EndsWith : Text → Text → Type 0
@@ -69,7 +77,8 @@ pub record EndsHead (k : ℕ) (text : Text) (bytes : ℕ) : Type 0 where
   pub boundary : IsCharBoundary text bytes
   pub head_is : take bytes text ≡ head k text
 
--- the first cluster of a text that has no room in k terminal columns after those before it: where it begins, its bytes, and by how many columns it is too wide
+-- the first cluster of a text that has no room in k terminal columns after those before it: where
+-- it begins, its bytes, and by how many columns it is too wide
 pub record IsFirstWide (k : ℕ) (text : Text) (at bytes beyond : ℕ) : Type 0 where
   pub before : List Text
   pub cluster : Text

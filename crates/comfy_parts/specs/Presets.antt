@@ -1,4 +1,5 @@
--- The thirteen presets. A part of a style is written as its characters: left, fill, junction and right of a frame line, left, junction and right of a content line; `_` is one that isn't set.
+-- The thirteen presets. A part of a style is written as its characters: left, fill, junction and
+-- right of a frame line, left, junction and right of a content line; `_` is one that isn't set.
 use Rattle.std.specs.Prelude.{ℕ, ◌==◌, List, [], ◌∷◌, Option, Some, None, option_map, find, slice_get, slice_index, codes, bytes_eq, if◌then◌else◌}
 use Prim.Native.String.{String}
 use Rattle.comfy_parts.specs.Text.{Text}
@@ -12,16 +13,34 @@ part c = if c == 0x5F then None else Some c
 
 -- a frame line of these four characters
 abbrev pub line : String → LineStyle
-line s = record { left = part (slice_index (codes s) 0); fill = part (slice_index (codes s) 1); junction = part (slice_index (codes s) 2); right = part (slice_index (codes s) 3) }
+line s =
+    record {
+      left = part (slice_index (codes s) 0);
+      fill = part (slice_index (codes s) 1);
+      junction = part (slice_index (codes s) 2);
+      right = part (slice_index (codes s) 3);
+    }
 
 -- a content line of these three characters
 abbrev pub content : String → ContentLineStyle
-content s = record { left = part (slice_index (codes s) 0); junction = part (slice_index (codes s) 1); right = part (slice_index (codes s) 2) }
+content s =
+    record {
+      left = part (slice_index (codes s) 0);
+      junction = part (slice_index (codes s) 1);
+      right = part (slice_index (codes s) 2);
+    }
 
 -- a style: top border, header lines, header separator, content lines, row separator, bottom border
 abbrev pub style_of : String → String → String → String → String → String → TableStyle
 style_of top header separator body between bottom =
-    record { top_border = line top; header_lines = content header; header_separator = line separator; content_lines = content body; row_separator = line between; bottom_border = line bottom }
+    record {
+      top_border = line top;
+      header_lines = content header;
+      header_separator = line separator;
+      content_lines = content body;
+      row_separator = line between;
+      bottom_border = line bottom;
+    }
 
 -- the style of a new table
 abbrev pub ascii_full : TableStyle

@@ -1,4 +1,5 @@
--- The lines of a cell whose text holds SGR sequences: what is visible of it decides where lines end, and each line resumes and closes the sequences of its part of the cell.
+-- The lines of a cell whose text holds SGR sequences: what is visible of it decides where lines
+-- end, and each line resumes and closes the sequences of its part of the cell.
 use Rattle.std.specs.Prelude.{ℕ, zero, suc, ◌+◌, ◌-◌, List, [], ◌∷◌, ◌++◌, map, length, nat_le, zip, if◌then◌else◌}
 use Rattle.comfy_parts.specs.Text.{Text, measure, begins_with}
 use Rattle.comfy_parts.specs.VisibleText.{visible_text, line_text}
@@ -9,7 +10,8 @@ pub record CellLine : Type 0 where
   pub measured : Text
   pub written : Text
 
--- where a line of a cell begins: in a text line of it, which has earlier ones before it, at this visible byte
+-- where a line of a cell begins: in a text line of it, which has earlier ones before it, at this
+-- visible byte
 pub record LineStart : Type 0 where
   pub earlier : List Text
   pub text : Text
@@ -21,7 +23,8 @@ module _ (w d : ℕ) where
   abbrev pub starts_past : ℕ → ℕ → Text → List ℕ
   starts_past at skip [] = []
   starts_past at zero (b ∷ rest) =
-      (if begins_with d (b ∷ rest) then [] else at ∷ []) ++ starts_past (at + 1) (part_end w d (b ∷ rest) - 1) rest
+      (if begins_with d (b ∷ rest) then [] else at ∷ [])
+      ++ starts_past (at + 1) (part_end w d (b ∷ rest) - 1) rest
   starts_past at (suc skip) (b ∷ rest) = starts_past (at + 1) skip rest
 
   -- a text that fits is one line, which begins at 0
@@ -31,12 +34,16 @@ module _ (w d : ℕ) where
 -- the lines of a text line that follows earlier ones of its cell
 abbrev pub line_texts_of_text : ℕ → ℕ → List Text → Text → List CellLine
 line_texts_of_text w d earlier text =
-    map (λ (p : ℕ × Text). record { measured = p.1; written = line_text earlier text p.0 (length p.1) }) (zip (starts_of_text w d (visible_text text)) (lines_of_text w d (visible_text text)))
+    map (λ (p : ℕ × Text). record {
+      measured = p.1;
+      written = line_text earlier text p.0 (length p.1);
+    }) (zip (starts_of_text w d (visible_text text)) (lines_of_text w d (visible_text text)))
 
 -- the lines of text lines that follow earlier ones: their sequences stay active
 abbrev pub line_texts_past : ℕ → ℕ → List Text → List Text → List CellLine
 line_texts_past w d earlier [] = []
-line_texts_past w d earlier (text ∷ more) = line_texts_of_text w d earlier text ++ line_texts_past w d (earlier ++ text ∷ []) more
+line_texts_past w d earlier (text ∷ more) =
+    line_texts_of_text w d earlier text ++ line_texts_past w d (earlier ++ text ∷ []) more
 
 -- the lines of all text lines of a cell
 abbrev pub line_texts : ℕ → ℕ → List Text → List CellLine
@@ -46,7 +53,8 @@ line_texts w d text_lines = line_texts_past w d [] text_lines
 abbrev pub line_starts_past : ℕ → ℕ → List Text → List Text → List LineStart
 line_starts_past w d earlier [] = []
 line_starts_past w d earlier (text ∷ more) =
-    map (λ (at : ℕ). record { earlier = earlier; text = text; at = at }) (starts_of_text w d (visible_text text)) ++ line_starts_past w d (earlier ++ text ∷ []) more
+    map (λ (at : ℕ). record { earlier = earlier; text = text; at = at })
+    (starts_of_text w d (visible_text text)) ++ line_starts_past w d (earlier ++ text ∷ []) more
 
 -- where the lines of all text lines of a cell begin
 abbrev pub line_starts : ℕ → ℕ → List Text → List LineStart

@@ -1,4 +1,5 @@
--- Private: what is written for the lines of a cell with SGR sequences, from a cursor that passes each of its text lines once.
+-- Private: what is written for the lines of a cell with SGR sequences, from a cursor that passes
+-- each of its text lines once.
 use Rattle.std.specs.Prelude.{ℕ, ◌==◌, List, [], ◌++◌, map, zip, length, if◌then◌else◌}
 use Rattle.std.specs.List.{concat}
 use Rattle.comfy_parts.specs.Cursor.{CursorValue, at_byte, behind_bytes, bytes_up_to, visible_ahead}
@@ -7,7 +8,8 @@ use Rattle.comfy_parts.specs.VisibleLines.{starts_of_text, starts_past}
 use Rattle.comfy_parts.specs.VisibleText.{closing}
 use Rattle.comfy_parts.specs.Wrapping.{lines_of_text, wrapped}
 
--- what is written for a line of so many visible bytes: the open sequences, what the line takes, and a reset where a sequence is open then
+-- what is written for a line of so many visible bytes: the open sequences, what the line takes, and
+-- a reset where a sequence is open then
 abbrev pub written : ℕ → CursorValue → Text
 written len c =
     if len == 0 then []

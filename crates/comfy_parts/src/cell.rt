@@ -32,8 +32,8 @@ pub struct Cell {
     background: Option<Color>,
 }
 
-// A derived drop is opened at each `?` behind which a caller owns the value, one by hand is a call there. So types that
-// callers own have one by hand, where it makes their checks shorter.
+// A derived drop is opened at each `?` behind which a caller owns the value, one by hand is a call
+// there. So types that callers own have one by hand, where it makes their checks shorter.
 impl Drop for Cell {
     fn drop(self) {
         let Cell {
@@ -52,27 +52,37 @@ impl Model for Cell {
 
     ghost Value = { CellValue };
 
-    ghost view = { λ c. record { text_lines = c.text_lines; delimiter = c.delimiter; alignment = c.alignment; foreground = c.foreground; background = c.background; attributes = c.attributes.items } };
+    ghost view = { λ c. record {
+      text_lines = c.text_lines;
+      delimiter = c.delimiter;
+      alignment = c.alignment;
+      foreground = c.foreground;
+      background = c.background;
+      attributes = c.attributes.items;
+    } };
 
     ghost invariant = { λ c. HasTextLines c.text_lines × IsDelimiter c.delimiter };
 }
 
 impl Cell {
-    /// The cell of the text that `content` prints: its text lines are what stands between the line feeds. After running
-    /// out of memory `content` is dropped. An error of its own `Display` is returned as `OutOfMemory` too.
+    /// The cell of the text that `content` prints: its text lines are what stands between the line
+    /// feeds. After running out of memory `content` is dropped. An error of its own `Display` is
+    /// returned as `OutOfMemory` too.
     ///
     /// ```
     /// let cells = [Cell::new(alloc, "rent")?, Cell::new(alloc, 1200)?];
     /// ```
     pub fn new<T: Display + Drop>(alloc: Global, content: T) -> Result<Cell>
-        ensures value { IfOk result (λ cell. IfSome (T.output content) (λ text. cell ≡ plain_cell text)) }
-        ensures content { IfOk result (λ cell. IfSome (T.output content) (λ text. content_of cell ≡ text)) }
+        ensures value { IfOk result
+            (λ cell. IfSome (T.output content) (λ text. cell ≡ plain_cell text)) }
+        ensures content { IfOk result
+            (λ cell. IfSome (T.output content) (λ text. content_of cell ≡ text)) }
     {
         Cell::new_owned(alloc, content.to_string(alloc)?)
     }
 
-    /// The cell of a text: its text lines are what stands between the line feeds. A text without one keeps its `String`,
-    /// and takes no further memory.
+    /// The cell of a text: its text lines are what stands between the line feeds. A text without
+    /// one keeps its `String`, and takes no further memory.
     pub fn new_owned(alloc: Global, text: String) -> Result<Cell>
         ensures value { IfOk result (λ cell. cell ≡ plain_cell (string_bytes text)) }
         ensures content { IfOk result (λ cell. content_of cell ≡ string_bytes text) }
@@ -102,7 +112,8 @@ impl Cell {
         self.text_lines.whole().0
     }
 
-    /// Sets the character at which the cell's texts may break, whatever its column and its table have.
+    /// Sets the character at which the cell's texts may break, whatever its column and its table
+    /// have.
     pub fn set_delimiter(mut self, delimiter: char) -> Cell
         ensures { result ≡ record self { delimiter = Some delimiter } }
     {
@@ -140,34 +151,42 @@ impl Cell {
         self
     }
 
-    /// Adds an attribute after those that the cell has. Attributes are written once each, in a fixed order, however
-    /// often they were added. After running out of memory the cell is dropped.
+    /// Adds an attribute after those that the cell has. Attributes are written once each, in a
+    /// fixed order, however often they were added. After running out of memory the cell is dropped.
     ///
     /// ```
     /// let cell = Cell::new(alloc, "Sum")?.add_attribute(Attribute::Bold)?;
     /// ```
     pub fn add_attribute(self, attribute: Attribute) -> Result<Cell>
-        ensures { IfOk result (λ cell. cell ≡ record self { attributes = self.attributes ++ attribute ∷ [] }) }
+        ensures { IfOk result (λ cell. cell ≡ record self {
+          attributes = self.attributes ++ attribute ∷ [];
+        }) }
     {
         self.with_attributes(&[attribute])
     }
 
-    /// Adds attributes in their order, as `add_attribute` adds one. After running out of memory the cell is dropped.
+    /// Adds attributes in their order, as `add_attribute` adds one. After running out of memory the
+    /// cell is dropped.
     pub fn add_attributes(self, attributes: Vec<Attribute>) -> Result<Cell>
-        ensures { IfOk result (λ cell. cell ≡ record self { attributes = self.attributes ++ attributes.items }) }
+        ensures { IfOk result (λ cell. cell ≡ record self {
+          attributes = self.attributes ++ attributes.items;
+        }) }
     {
         self.with_attributes(attributes.as_slice())
     }
 
     // The cell with attributes after those that it has.
     fn with_attributes(mut self, attributes: &[Attribute]) -> Result<Cell>
-        ensures { IfOk result (λ cell. cell ≡ record self { attributes = self.attributes ++ attributes.now }) }
+        ensures { IfOk result (λ cell. cell ≡ record self {
+          attributes = self.attributes ++ attributes.now;
+        }) }
     {
         self.attributes.extend_from_slice(attributes)?;
         Ok(self)
     }
 
-    /// The character at which the cell's texts may break; none where its column's or its table's is taken.
+    /// The character at which the cell's texts may break; none where its column's or its table's is
+    /// taken.
     pub fn cell_delimiter(&self) -> Option<char>
         ensures { result ≡ self.now.delimiter }
     {
@@ -232,7 +251,8 @@ impl Clone for Cell {
     }
 }
 
-// Two cells are equal where their values are. The widths that are kept beside the text lines follow from these.
+// Two cells are equal where their values are. The widths that are kept beside the text lines follow
+// from these.
 impl PartialEq for Cell {
     ghost eq = { cell_eq };
 

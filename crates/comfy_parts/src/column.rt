@@ -33,9 +33,21 @@ impl Model for Column {
 
     ghost invariant = { λ c. IsDelimiter c.delimiter };
 
-    ghost view = { λ c. record { padding = c.padding; delimiter = c.delimiter; alignment = c.alignment; constraint = c.constraint; index = c.index } };
+    ghost view = { λ c. record {
+      padding = c.padding;
+      delimiter = c.delimiter;
+      alignment = c.alignment;
+      constraint = c.constraint;
+      index = c.index;
+    } };
 
-    ghost inverse = { λ c. record { index = c.index; padding = c.padding; delimiter = c.delimiter; alignment = c.alignment; constraint = c.constraint } };
+    ghost inverse = { λ c. record {
+      index = c.index;
+      padding = c.padding;
+      delimiter = c.delimiter;
+      alignment = c.alignment;
+      constraint = c.constraint;
+    } };
 }
 
 impl Column {
@@ -88,7 +100,8 @@ impl Column {
         matches!(self.constraint, Some(ColumnConstraint::Hidden))
     }
 
-    /// Sets the terminal columns left free to the left and to the right of the contents, in this order.
+    /// Sets the terminal columns left free to the left and to the right of the contents, in this
+    /// order.
     pub fn set_padding(&mut self, padding: (u16, u16)) -> &mut Self
         ensures same_reference { result.ghost_name ≡ self.entry.ghost_name }
         ensures value { result.now ≡ record self.old { padding = padding } }
@@ -105,7 +118,8 @@ impl Column {
         left.saturating_add(right)
     }
 
-    /// Sets the character at which the texts of the column may break, unless a cell has one of its own.
+    /// Sets the character at which the texts of the column may break, unless a cell has one of its
+    /// own.
     pub fn set_delimiter(&mut self, delimiter: char) -> &mut Self
         ensures same_reference { result.ghost_name ≡ self.entry.ghost_name }
         ensures value { result.now ≡ record self.old { delimiter = Some delimiter } }

@@ -43,16 +43,19 @@ pub fn split_line_by_delimiter(alloc: Global, line: &str, delimiter: char) -> Re
     Ok(parts)
 }
 
-/// Wraps a line into lines of the column's content width. Each begins at the first character that is no delimiter, and
-/// only delimiters are left out. It is right for every width, 0 too, and for every text and delimiter.
+/// Wraps a line into lines of the column's content width. Each begins at the first character that
+/// is no delimiter, and only delimiters are left out. It is right for every width, 0 too, and for
+/// every text and delimiter.
 pub fn split_line(
     alloc: Global,
     line: &str,
     info: &ColumnDisplayInfo,
     delimiter: char,
 ) -> Result<Vec<String>>
-    ensures lines { IfOk result (λ v. map string_bytes v.items ≡ wrapped info.now.content_width delimiter line.now) }
-    ensures slices { IfOk result (λ v. IsWrapped info.now.content_width delimiter line.now (map string_bytes v.items)) }
+    ensures lines { IfOk result (λ v. map string_bytes v.items
+        ≡ wrapped info.now.content_width delimiter line.now) }
+    ensures slices { IfOk result (λ v.
+        IsWrapped info.now.content_width delimiter line.now (map string_bytes v.items)) }
 {
     let mut lines = Vec::new(alloc);
     for part in wrapped_lines(line, info, delimiter) {
@@ -68,8 +71,10 @@ pub fn split_line_ref<'a>(
     info: &ColumnDisplayInfo,
     delimiter: char,
 ) -> Result<Vec<&'a str>>
-    ensures lines { IfOk result (λ v. map (λ x. x.now) v.items ≡ wrapped info.now.content_width delimiter line.now) }
-    ensures slices { IfOk result (λ v. IsWrapped info.now.content_width delimiter line.now (map (λ x. x.now) v.items)) }
+    ensures lines { IfOk result (λ v. map (λ x. x.now) v.items
+        ≡ wrapped info.now.content_width delimiter line.now) }
+    ensures slices { IfOk result (λ v.
+        IsWrapped info.now.content_width delimiter line.now (map (λ x. x.now) v.items)) }
     ensures succeeds { wrapped info.now.content_width delimiter line.now ≡ [] → IsOk result }
 {
     let mut lines = Vec::new(alloc);

@@ -14,7 +14,8 @@ use crate::row::Row;
 pub use items::Items;
 use std::alloc::Global;
 
-/// A value that a cell can be made of: a text, a whole number, a truth value, a character, or a cell.
+/// A value that a cell can be made of: a text, a whole number, a truth value, a character, or a
+/// cell.
 ///
 /// ```
 /// let cell = "dock 3".into_cell(alloc)?.fg(Color::Green);
@@ -28,8 +29,9 @@ pub trait IntoCell: Drop {
         ensures { IfOk result (λ cell. cell ≡ cell_of self) };
 }
 
-/// A list that cells can be made of: `Cells`, or a `Vec`, an array, or a tuple of two to eight values that a cell can be made
-/// of. A borrowed `Vec`, array or slice is such a list where its items are `Copy`, as `&str` and numbers are.
+/// A list that cells can be made of: `Cells`, or a `Vec`, an array, or a tuple of two to eight
+/// values that a cell can be made of. A borrowed `Vec`, array or slice is such a list where its
+/// items are `Copy`, as `&str` and numbers are.
 ///
 /// ```
 /// let open = Cell::new(alloc, "open")?.fg(Color::Green);

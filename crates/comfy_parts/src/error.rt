@@ -15,7 +15,8 @@ use thiserror::Error;
 /// ```
 #[derive(Clone, Copy, Debug, PartialEq, Eq, Error)]
 pub enum TableError {
-    /// A request for memory was refused. `Cell::new` also returns this for an error of its value's own `Display`.
+    /// A request for memory was refused. `Cell::new` also returns this for an error of its value's
+    /// own `Display`.
     #[error("out of memory")]
     OutOfMemory,
 }
@@ -36,5 +37,6 @@ impl<T: Drop> From<AllocFailed<T>> for TableError {
     }
 }
 
-/// The result of a call that takes memory. With another error it is std's: `use comfy_table::*` takes no `Result` away.
+/// The result of a call that takes memory. With another error it is std's: `use comfy_table::*`
+/// takes no `Result` away.
 pub type Result<T, E = TableError> = std::result::Result<T, E>;

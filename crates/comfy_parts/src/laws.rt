@@ -1,7 +1,7 @@
-//! What wrapping promises beyond its definition, and what comparisons do. Each function does nothing: its clauses are
-//! the law.
-//! The lines of which they speak are those that `split_line` returns, for every text, width `w` in terminal columns and
-//! delimiter `d`. "In printable ASCII" means that text and delimiter are, and that the width is at least 1.
+//! What wrapping promises beyond its definition, and what comparisons do. Each function does
+//! nothing: its clauses are the law. The lines of which they speak are those that `split_line`
+//! returns, for every text, width `w` in terminal columns and delimiter `d`. "In printable ASCII"
+//! means that text and delimiter are, and that the width is at least 1.
 
 ghost use Rattle.std.specs.Prelude.{◌≡◌, All, true, ℕ, List, []};
 ghost use Rattle.std.specs.Char.{IsScalar};
@@ -13,72 +13,86 @@ ghost use Rattle.comfy_parts.specs.Laws.{ActiveIsResumed, ClosedTextsLeaveNone, 
 ghost use Rattle.comfy_parts.specs.Text.{Text};
 ghost use Rattle.comfy_parts.specs.Wrapping.{IsWrapped};
 
-/// Every text has wrapped lines, and only one list of lines is that: slices of the text that leave out delimiters alone.
+/// Every text has wrapped lines, and only one list of lines is that: slices of the text that leave
+/// out delimiters alone.
 pub fn wrapped_lines_are_one_list()
     ensures one { (w d : ℕ) (text : Text) (lines : List Text) → WrappedIsOne w d text lines }
     ensures some { (w d : ℕ) (text : Text) → WrappedIsWrapped w d text }
 {}
 
-/// Where a line ends, the text ends, or a delimiter follows, or the element there is wider than a line.
+/// Where a line ends, the text ends, or a delimiter follows, or the element there is wider than a
+/// line.
 pub fn narrow_elements_stay_whole()
-    ensures { (w d : ℕ) (text : Text) (lines : List Text) → IsScalar d → IsWrapped w d text lines → IsCutOutsideNarrow w d [] text lines }
+    ensures { (w d : ℕ) (text : Text) (lines : List Text) → IsScalar d → IsWrapped w d text lines
+        → IsCutOutsideNarrow w d [] text lines }
 {}
 
 /// In printable ASCII each line fits its width.
 pub fn lines_fit()
-    ensures { (w d : ℕ) (text : Text) (lines : List Text) → IsWrapped w d text lines → LinesFit w d text lines }
+    ensures { (w d : ℕ) (text : Text) (lines : List Text) → IsWrapped w d text lines
+        → LinesFit w d text lines }
 {}
 
 /// In printable ASCII two neighbouring lines fill at least the width of one.
 pub fn neighbours_fill_a_line()
-    ensures { (w d : ℕ) (text : Text) (lines : List Text) → IsWrapped w d text lines → NeighboursFillALine w d text lines }
+    ensures { (w d : ℕ) (text : Text) (lines : List Text) → IsWrapped w d text lines
+        → NeighboursFillALine w d text lines }
 {}
 
-/// In printable ASCII a text of n characters gives at most 2 q + 1 lines, where q is n / w, rounded down.
+/// In printable ASCII a text of n characters gives at most 2 q + 1 lines, where q is n / w, rounded
+/// down.
 pub fn lines_are_few()
-    ensures { (w d : ℕ) (text : Text) (lines : List Text) → IsWrapped w d text lines → LinesAreFew w d text lines }
+    ensures { (w d : ℕ) (text : Text) (lines : List Text) → IsWrapped w d text lines
+        → LinesAreFew w d text lines }
 {}
 
 /// In printable ASCII a line that ends inside an element fills its width.
 pub fn cut_lines_are_full()
-    ensures { (w d : ℕ) (text : Text) (lines : List Text) → IsWrapped w d text lines → CutLinesAreFull w d text lines }
+    ensures { (w d : ℕ) (text : Text) (lines : List Text) → IsWrapped w d text lines
+        → CutLinesAreFull w d text lines }
 {}
 
-/// In printable ASCII, where each element fits a line, no division into lines that fit and cut no element has fewer
-/// lines.
+/// In printable ASCII, where each element fits a line, no division into lines that fit and cut no
+/// element has fewer lines.
 pub fn lines_are_fewest()
-    ensures { (w d : ℕ) (text : Text) (lines : List Text) → IsWrapped w d text lines → LinesAreFewest w d text lines }
+    ensures { (w d : ℕ) (text : Text) (lines : List Text) → IsWrapped w d text lines
+        → LinesAreFewest w d text lines }
 {}
 
-/// The head that `split_long_word` returns is the longest front of whole grapheme clusters within its terminal columns.
+/// The head that `split_long_word` returns is the longest front of whole grapheme clusters within
+/// its terminal columns.
 pub fn head_is_longest()
     ensures { (k : ℕ) (text : Text) → HeadIsLongest k text }
 {}
 
-/// Between any two texts, of every script, a space adds one terminal column. So do box and block characters, `…`, and
-/// printable ASCII but for `#`, `*` and the digits. No text joins one that begins with such a character.
+/// Between any two texts, of every script, a space adds one terminal column. So do box and block
+/// characters, `…`, and printable ASCII but for `#`, `*` and the digits. No text joins one that
+/// begins with such a character.
 pub fn spaces_and_borders_add_one_column()
     ensures space { (front back : Text) → SpaceAddsOneColumn front back }
     ensures border { (c : ℕ) → FrameCharactersAddOneColumn c }
     ensures apart { (c : ℕ) (rest : Text) → FrameTextsAreApart c rest }
 {}
 
-/// By itself U+17D8 takes three terminal columns, and every other character at most two. So `characters_fit(text, 2)` asks
-/// for no more than that U+17D8 stands nowhere and U+FE01 nowhere directly beside U+FE0E or U+FE0F.
+/// By itself U+17D8 takes three terminal columns, and every other character at most two. So
+/// `characters_fit(text, 2)` asks for no more than that U+17D8 stands nowhere and U+FE01 nowhere
+/// directly beside U+FE0E or U+FE0F.
 pub fn one_character_takes_three_columns()
     ensures three { OneCharacterTakesThree }
     ensures others { (c : ℕ) → TakesTwoAtMost c }
 {}
 
-/// The characters of all presets add one terminal column, with either modifier of a style and with both.
+/// The characters of all presets add one terminal column, with either modifier of a style and with
+/// both.
 pub fn presets_have_columns_of_one()
     ensures { All IsOneColumnPreset presets_all }
 {}
 
-/// Where each word of a text fits its width, or each character of the word does, each line fits. U+FE01 stands nowhere
-/// directly beside U+FE0E or U+FE0F there, and the delimiter adds one terminal column. A head never measures more than its
-/// terminal columns. A text where `adds_up` says yes fits each width of at least 2, and wherever it is divided, its parts
-/// add up to its width.
+/// Where each word of a text fits its width, or each character of the word does, each line fits.
+/// U+FE01 stands nowhere directly beside U+FE0E or U+FE0F there, and the delimiter adds one
+/// terminal column. A head never measures more than its terminal columns. A text where `adds_up`
+/// says yes fits each width of at least 2, and wherever it is divided, its parts add up to its
+/// width.
 pub fn lines_of_every_script_fit()
     ensures lines { (w d : ℕ) (text : Text) → TextLinesFit w d text }
     ensures characters { (w d : ℕ) (text : Text) → FittingCharactersFit w d text }
@@ -93,24 +107,27 @@ pub fn printable_measures_its_length()
     ensures clusters { (text : Text) → PrintableClustersAreCharacters text }
 {}
 
-/// After any printable ASCII text, a printable ASCII indicator adds one terminal column for each of its characters.
+/// After any printable ASCII text, a printable ASCII indicator adds one terminal column for each of
+/// its characters.
 pub fn printable_adds_one_column_each()
     ensures { (indicator : Text) → PrintableAddsOneColumnEach indicator }
 {}
 
-/// The lines of a cell, one after another, have all characters of its text lines, in order, but for delimiters.
+/// The lines of a cell, one after another, have all characters of its text lines, in order, but for
+/// delimiters.
 pub fn lines_keep_the_text()
     ensures { (w d : ℕ) (text_lines : List Text) → LinesKeepTheText w d text_lines }
 {}
 
-/// What is visible of a text: a sequence at its front is taken out, any other first byte stays, and so on after it.
+/// What is visible of a text: a sequence at its front is taken out, any other first byte stays, and
+/// so on after it.
 pub fn sequences_are_taken_out_in_one_pass()
     ensures sequence { (code rest : Text) → SequencesAreTakenOut code rest }
     ensures visible { (b : ℕ) (rest : Text) → OtherBytesAreVisible b rest }
 {}
 
-/// The lines of a cell with sequences are those of its visible texts, and the sequences taken out of what is written for
-/// a line, the line is left.
+/// The lines of a cell with sequences are those of its visible texts, and the sequences taken out
+/// of what is written for a line, the line is left.
 pub fn sequences_count_nothing()
     ensures lines { (w d : ℕ) (text_lines : List Text) → LinesAreVisible w d text_lines }
     ensures written { (w d : ℕ) (text_lines : List Text) → SequencesLeaveTheLines w d text_lines }
@@ -122,9 +139,11 @@ pub fn lines_leave_no_sequence_open()
     ensures cut { (text : Text) → ClosedTextsLeaveNone text }
 {}
 
-/// Before each visible character of a line the sequences are open that are active there in its cell.
+/// Before each visible character of a line the sequences are open that are active there in its
+/// cell.
 pub fn active_sequences_are_resumed()
-    ensures text { (earlier : List Text) (text : Text) (start len k : ℕ) → ActiveIsResumed earlier text start len k }
+    ensures text { (earlier : List Text) (text : Text) (start len k : ℕ)
+        → ActiveIsResumed earlier text start len k }
     ensures lines { (w d : ℕ) (text_lines : List Text) → LinesAreResumed w d text_lines }
 {}
 
@@ -134,8 +153,8 @@ pub fn cells_are_equal_by_their_values()
     ensures hash { EqHashesAlike cell_eq cell_hash }
 {}
 
-/// `==` tells attributes apart, and so does their order, which is total, transitive and that of their declaration. Equal
-/// attributes hash alike.
+/// `==` tells attributes apart, and so does their order, which is total, transitive and that of
+/// their declaration. Equal attributes hash alike.
 pub fn attributes_are_ordered()
     ensures eq { EqIsSame attribute_eq }
     ensures equal { EqualIsSame attribute_cmp }
@@ -144,8 +163,8 @@ pub fn attributes_are_ordered()
     ensures hash { EqHashesAlike attribute_eq attribute_hash }
 {}
 
-/// `==` tells colours apart, and so does their order, which is total, transitive and that of their declaration. Equal
-/// colours hash alike.
+/// `==` tells colours apart, and so does their order, which is total, transitive and that of their
+/// declaration. Equal colours hash alike.
 pub fn colors_are_ordered()
     ensures eq { EqIsSame color_eq }
     ensures equal { EqualIsSame color_cmp }

@@ -1,7 +1,8 @@
 //! The parts of a table: styles, cells, rows, columns, and the cutting of texts into lines.
 //!
-//! The functions of `laws`, and `presets_are_as_tabled`, have empty bodies and do nothing when they run. A clause has to
-//! stand on a function to be proved, and a caller's proof gains it by a call: theirs are laws that no other call carries.
+//! The functions of `laws`, and `presets_are_as_tabled`, have empty bodies and do nothing when they
+//! run. A clause has to stand on a function to be proved, and a caller's proof gains it by a call:
+//! theirs are laws that no other call carries.
 #![tactic(auto)]
 
 pub mod cell;

@@ -69,8 +69,8 @@ impl Row {
         }
     }
 
-    /// Appends a cell, and returns the row for further calls. After `OutOfMemory` the row is unchanged and the cell is
-    /// dropped; a caller's own proof can use that of `try_add_cell` only.
+    /// Appends a cell, and returns the row for further calls. After `OutOfMemory` the row is
+    /// unchanged and the cell is dropped; a caller's own proof can use that of `try_add_cell` only.
     pub fn add_cell(&mut self, cell: Cell) -> Result<&mut Self>
         ensures* err { sem 𝓛 (RowStaysIfErr self.entry result) }
         ensures same_reference { IfOk result (λ row. row.ghost_name ≡ self.entry.ghost_name) }
@@ -82,27 +82,30 @@ impl Row {
     // `add_cell`, with the reference in a struct: so its clause on `OutOfMemory` can be proved.
     fn with_cell_added(&mut self, cell: Cell) -> Result<RowReference<'_>>
         ensures* err { sem 𝓛 (RowStaysIfErr self.entry (reference_of result)) }
-        ensures same_reference { IfOk (reference_of result) (λ row. row.ghost_name ≡ self.entry.ghost_name) }
+        ensures same_reference { IfOk (reference_of result)
+            (λ row. row.ghost_name ≡ self.entry.ghost_name) }
         ensures added { IfOk (reference_of result) (λ row. row.now ≡ with_cell cell self.old) }
     {
         self.try_add_cell(cell)?;
         Ok(RowReference { row: self })
     }
 
-    /// Appends a cell, for callers that go on with the row after `OutOfMemory`: then it is unchanged and the cell is
-    /// dropped, and the caller's own proof can use that.
+    /// Appends a cell, for callers that go on with the row after `OutOfMemory`: then it is
+    /// unchanged and the cell is dropped, and the caller's own proof can use that.
     pub fn try_add_cell(&mut self, cell: Cell) -> Result<()>
         ensures ok { OnOk result (self.new ≡ with_cell cell self.old) }
         ensures err { OnErr result (self.new ≡ self.old) }
     {
-        // Read for the clause `is_cell` alone: a cell that was looked at is known to keep what every cell keeps.
+        // Read for the clause `is_cell` alone: a cell that was looked at is known to keep what
+        // every cell keeps.
         let _ = cell.text_lines();
         self.cells.push(cell)?;
         Ok(())
     }
 
-    /// Sets how many lines of each cell are drawn at the most; 0 counts as 1. Of a cell with more lines the first ones are
-    /// drawn, and the last of these ends with the table's truncation indicator, unless that is wider than the column.
+    /// Sets how many lines of each cell are drawn at the most; 0 counts as 1. Of a cell with more
+    /// lines the first ones are drawn, and the last of these ends with the table's truncation
+    /// indicator, unless that is wider than the column.
     ///
     /// ```
     /// let mut row = ["17", "rented\nreturned\nrented"].into_row(alloc)?;

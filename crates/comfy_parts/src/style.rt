@@ -1,4 +1,5 @@
-//! How a table looks: its frame, and how the contents of its cells stand. Nothing here takes memory.
+//! How a table looks: its frame, and how the contents of its cells stand. Nothing here takes
+//! memory.
 
 pub mod attribute;
 pub mod cell;

@@ -11,13 +11,16 @@ use Rattle.comfy_parts.specs.declared.style.table.ContentArrangement.TheVariants
 use Rattle.comfy_parts.specs.declared.style.table_style.TableStyle.{TableStyle}
 use Rattle.comfy_run.specs.declared.settings.Settings.{Settings}
 
--- the settings of the program without arguments: no width, contents alone decide, and the first preset
+-- the settings of the program without arguments: no width, contents alone decide, and the first
+-- preset
 abbrev pub default_settings : Settings
 default_settings = record { width = None; arrangement = Disabled; style = ascii_full }
 
 -- one to five digits, of a number that is at most 65535
 abbrev pub is_short_number : Text → Bool
-is_short_number word = list_all is_ascii_digit word && nat_lt 0 (length word) && nat_le (length word) 5 && nat_le (digits_value 10 word) 65535
+is_short_number word =
+    list_all is_ascii_digit word && nat_lt 0 (length word) && nat_le (length word) 5
+    && nat_le (digits_value 10 word) 65535
 
 -- such a number
 abbrev pub number_for : Text → Option ℕ
@@ -29,17 +32,24 @@ width_for word = if bytes_eq word (codes "-") then Some None else option_map Som
 
 -- the arrangements by their words
 abbrev pub arrangement_for : Text → Option ContentArrangement
-arrangement_for = beside ((codes "disabled", Disabled) ∷ (codes "dynamic", Dynamic) ∷ (codes "full", DynamicFullWidth) ∷ [])
+arrangement_for =
+    beside ((codes "disabled", Disabled) ∷ (codes "dynamic", Dynamic)
+    ∷ (codes "full", DynamicFullWidth) ∷ [])
 
 -- the settings of these parts, where each of them is known
-abbrev pub settings_with : Option (Option ℕ) → Option ContentArrangement → Option TableStyle → Option Settings
-settings_with (Some width) (Some arrangement) (Some style) = Some (record { width = width; arrangement = arrangement; style = style })
+abbrev pub settings_with : Option (Option ℕ) → Option ContentArrangement → Option TableStyle
+    → Option Settings
+settings_with (Some width) (Some arrangement) (Some style) =
+    Some (record { width = width; arrangement = arrangement; style = style })
 settings_with _ _ _ = None
 
--- the settings that the words ask for: a width, an arrangement and a style, of which the last ones may be missing
+-- the settings that the words ask for: a width, an arrangement and a style, of which the last ones
+-- may be missing
 abbrev pub settings_for : List (Bor Text) → Option Settings
 settings_for [] = Some default_settings
 settings_for (width ∷ []) = settings_with (width_for width.now) (Some Disabled) (Some ascii_full)
-settings_for (width ∷ arrangement ∷ []) = settings_with (width_for width.now) (arrangement_for arrangement.now) (Some ascii_full)
-settings_for (width ∷ arrangement ∷ style ∷ []) = settings_with (width_for width.now) (arrangement_for arrangement.now) (preset_named style.now)
+settings_for (width ∷ arrangement ∷ []) =
+    settings_with (width_for width.now) (arrangement_for arrangement.now) (Some ascii_full)
+settings_for (width ∷ arrangement ∷ style ∷ []) =
+    settings_with (width_for width.now) (arrangement_for arrangement.now) (preset_named style.now)
 settings_for _ = None

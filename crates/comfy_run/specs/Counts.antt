@@ -27,12 +27,14 @@ EachLineHas P output =
     (n : ℕ) × P n × (drawn : List Text) × AreLinesOf output drawn
     × All (λ line. count line ≡ n) drawn
 
-module _ (width : Option ℕ) (arrangement : ContentArrangement) (style : TableStyle) (input : Text) where
+module _ (width : Option ℕ) (arrangement : ContentArrangement) (style : TableStyle)
+    (input : Text) where
   -- the table of an input
   abbrev table : TableValue
   table = input_table width arrangement style input
 
-  -- it has the width, arrangement and style that were passed; no column has a constraint, and nothing is styled
+  -- it has the width, arrangement and style that were passed; no column has a constraint, and
+  -- nothing is styled
   pub record HasSettings : Type 0 where
     pub width_is : table_width table ≡ width
     pub arrangement_is : table.arrangement ≡ arrangement

@@ -11,7 +11,8 @@ is_end (Err _) room = false
 abbrev pub is_due : Bool → ℕ → Bool
 is_due failed fails_at = failed || (fails_at == 1)
 
--- a source over memory: the bytes that are left, none once the end was read; which call from now on fails, 0 for no call; whether it has failed
+-- a source over memory: the bytes that are left, none once the end was read; which call from now on
+-- fails, 0 for no call; whether it has failed
 pub record MemorySourceValue : Type 0 where
   pub rest : Option Text
   pub fails_at : ℕ
@@ -24,13 +25,16 @@ left_in source = unwrap_or source.rest []
 -- what is left after a call for this many bytes
 abbrev pub rest_after : Option Text → ℕ → Option Text
 rest_after None room = None
-rest_after (Some left) room = if (length left == 0) && nat_lt 0 room then None else Some (drop (min (length left) room) left)
+rest_after (Some left) room =
+    if (length left == 0) && nat_lt 0 room then None else Some (drop (min (length left) room) left)
 
 -- the source after a call for this many bytes that didn't fail
 abbrev pub after_reading : ℕ → MemorySourceValue → MemorySourceValue
-after_reading room source = record source { rest = rest_after source.rest room; fails_at = source.fails_at - 1 }
+after_reading room source =
+    record source { rest = rest_after source.rest room; fails_at = source.fails_at - 1 }
 
--- a sink in memory: the bytes that it has taken, how many it has room for in all, which call from now on fails, 0 for no call; whether it has failed
+-- a sink in memory: the bytes that it has taken, how many it has room for in all, which call from
+-- now on fails, 0 for no call; whether it has failed
 pub record MemorySinkValue : Type 0 where
   pub bytes : Text
   pub room : ℕ
@@ -48,4 +52,7 @@ is_full_for piece sink = nat_lt 0 (length piece) && (fitting piece sink == 0)
 -- the sink after a call with this piece that didn't fail
 abbrev pub after_writing : Text → MemorySinkValue → MemorySinkValue
 after_writing piece sink =
-    record sink { bytes = sink.bytes ++ take (fitting piece sink) piece; fails_at = sink.fails_at - 1 }
+    record sink {
+      bytes = sink.bytes ++ take (fitting piece sink) piece;
+      fails_at = sink.fails_at - 1;
+    }

@@ -3,10 +3,15 @@ use Rattle.std.specs.Prelude.{◌≡◌, true, List, ℕ, [], Option, Some, None
 use Rattle.comfy_run.specs.Device.{MemorySourceValue, left_in}
 
 -- of no rest nothing is left
-pub nothing_left : (rest : Option (List ℕ)) (fails_at : ℕ) (failed : _) → is_none rest ≡ true → (left : List ℕ) → Some (left_in (record { rest = rest; fails_at = fails_at; failed = failed })) ≡ Some left → left ≡ []
+pub nothing_left : (rest : Option (List ℕ)) (fails_at : ℕ) (failed : _) → is_none rest ≡ true
+    → (left : List ℕ)
+    → Some (left_in (record { rest = rest; fails_at = fails_at; failed = failed })) ≡ Some left
+    → left ≡ []
 nothing_left None fails_at failed ended left e = cc
 nothing_left (Some bytes) fails_at failed ended left e = absurd (cc)
 
 -- after the end there is no byte
-pub none_is_left_in_memory : (s : MemorySourceValue) → is_none s.rest ≡ true → (left : List ℕ) → Some (left_in s) ≡ Some left → left ≡ []
+pub none_is_left_in_memory : (s : MemorySourceValue) → is_none s.rest ≡ true → (left : List ℕ)
+    → Some (left_in s) ≡ Some left
+    → left ≡ []
 none_is_left_in_memory s ended left e = nothing_left s.rest s.fails_at s.failed ended left e

@@ -1,4 +1,5 @@
--- The table that an input text stands for: a line for the header, a line for each row, and a TAB between cells.
+-- The table that an input text stands for: a line for the header, a line for each row, and a TAB
+-- between cells.
 use Rattle.std.specs.Prelude.{ℕ, List, [], ◌∷◌, Option, fold}
 use Rattle.std.specs.Str.Lines.{lines}
 use Rattle.comfy_parts.specs.Text.{Text}
@@ -12,13 +13,18 @@ use Rattle.comfy_run.specs.Rows.{row_of_line}
 abbrev pub table_of_lines : TableValue → List Text → TableValue
 table_of_lines table [] = table
 table_of_lines table (first ∷ others) =
-    fold (λ (t : TableValue) (line : Text). with_row (row_of_line line) t) (with_header (row_of_line first) table) others
+    fold (λ (t : TableValue) (line : Text). with_row (row_of_line line) t)
+    (with_header (row_of_line first) table) others
 
--- the table of an input under these settings; a carriage return before a line feed is no part of a line, and an empty last piece is no line
+-- the table of an input under these settings; a carriage return before a line feed is no part of a
+-- line, and an empty last piece is no line
 abbrev pub input_table : Option ℕ → ContentArrangement → TableStyle → Text → TableValue
 input_table width arrangement style text =
-    table_of_lines (record (new_table style) { set_width = width; arrangement = arrangement }) (lines text)
+    table_of_lines (record (new_table style) { set_width = width; arrangement = arrangement })
+    (lines text)
 
--- the bytes written for an input: a drawing of its table, with all that a drawing promises, each line followed by a line feed
+-- the bytes written for an input: a drawing of its table, with all that a drawing promises, each
+-- line followed by a line feed
 abbrev pub IsOutputFor : Option ℕ → ContentArrangement → TableStyle → Text → Text → Type 0
-IsOutputFor width arrangement style text output = IsTerminatedTextOf (input_table width arrangement style text) output
+IsOutputFor width arrangement style text output =
+    IsTerminatedTextOf (input_table width arrangement style text) output

@@ -5,7 +5,8 @@ use Rattle.comfy_parts.specs.declared.style.table.ContentArrangement.{ContentArr
 use Rattle.comfy_parts.specs.declared.style.table_style.TableStyle.{TableStyle}
 use Rattle.comfy_run.specs.Input.{IsOutputFor}
 
--- what happened in a call: all bytes of the source, whether its end was seen, the bytes that were written, and whether the reader and the writer failed
+-- what happened in a call: all bytes of the source, whether its end was seen, the bytes that were
+-- written, and whether the reader and the writer failed
 pub record RunFacts : Type 0 where
   pub input : Text
   pub end_was_read : Bool
@@ -24,7 +25,8 @@ pub record NoDeviceFailed (facts : RunFacts) : Type 0 where
   pub no_read_failed : facts.read_failed ≡ false
   pub no_write_failed : facts.write_failed ≡ false
 
-module _ (width : Option ℕ) (arrangement : ContentArrangement) (style : TableStyle) (facts : RunFacts) where
+module _ (width : Option ℕ) (arrangement : ContentArrangement) (style : TableStyle)
+    (facts : RunFacts) where
   -- the whole input was read, and is UTF-8
   pub record HasText : Type 0 where
     pub whole : facts.end_was_read ≡ true
@@ -34,7 +36,8 @@ module _ (width : Option ℕ) (arrangement : ContentArrangement) (style : TableS
   abbrev pub IsTextIfWhole : Type 0
   IsTextIfWhole = facts.end_was_read ≡ true → IsUtf8 facts.input
 
-  -- Ok: the whole input was read, exactly a drawing of its table was written, and no call of a device failed
+  -- Ok: the whole input was read, exactly a drawing of its table was written, and no call of a
+  -- device failed
   pub record IsAfterOk : Type 0 where
     pub no_device_failed : NoDeviceFailed facts
     pub has_text : HasText
@@ -47,7 +50,8 @@ module _ (width : Option ℕ) (arrangement : ContentArrangement) (style : TableS
     pub nothing_written : facts.written ≡ []
     pub text : IsTextIfWhole
 
-  -- the output can't be written: the writer failed and the reader didn't, and a beginning of such a drawing was written, not all of it
+  -- the output can't be written: the writer failed and the reader didn't, and a beginning of such a
+  -- drawing was written, not all of it
   pub record IsAfterWrite : Type 0 where
     pub failed : facts.write_failed ≡ true
     pub no_read_failed : facts.read_failed ≡ false

@@ -29,4 +29,6 @@ report_of (Err error) = error_line error
 -- a sink took the text, or a beginning of it where it failed
 abbrev pub Reports : Text → Option Text → Option Text → Bool → Type 0
 Reports text old new failed =
-    (had : Text) → old ≡ Some had → (part : Text) × (rest : Text) × (new ≡ Some (had ++ part)) × (text ≡ part ++ rest) × (failed ≡ false → rest ≡ [])
+    (had : Text) → old ≡ Some had
+    → (part : Text) × (rest : Text) × (new ≡ Some (had ++ part)) × (text ≡ part ++ rest)
+    × (failed ≡ false → rest ≡ [])

@@ -10,7 +10,8 @@ break_of b = if b == 0x0B then 0x0A else b
 
 -- a line's cells
 abbrev pub cells_of_line : Text → List CellValue
-cells_of_line line = map (λ (cell : Text). plain_cell (map break_of cell)) (slice_split (λ b. b == 0x09) line)
+cells_of_line line =
+    map (λ (cell : Text). plain_cell (map break_of cell)) (slice_split (λ b. b == 0x09) line)
 
 -- a line's row
 abbrev pub row_of_line : Text → RowValue

@@ -16,7 +16,9 @@ use Rattle.comfy_table.specs.Straight.{EachCell}
 
 -- P holds of each text line of each cell of an input
 abbrev pub EachText : (Text → Type 0) → Text → Type 0
-EachText P input = All (λ (line : Text). All (λ (cell : CellValue). All P cell.text_lines) (cells_of_line line)) (lines input)
+EachText P input =
+    All (λ (line : Text). All (λ (cell : CellValue). All P cell.text_lines) (cells_of_line line))
+    (lines input)
 
 -- the lines of the output are equally wide
 abbrev pub IsStraightOutput : Text → Type 0
@@ -31,7 +33,8 @@ pub record IsStraightStyle (style : TableStyle) : Type 0 where
   pub columns : IsOneColumnStyle style
   pub unbroken : IsStyleWithout 0x0A style
 
-module _ (width : Option ℕ) (arrangement : ContentArrangement) (style : TableStyle) (input output : Text) where
+module _ (width : Option ℕ) (arrangement : ContentArrangement) (style : TableStyle)
+    (input output : Text) where
   -- where no width is kept to, for texts of every script
   abbrev pub WholeOutputIsStraight : Type 0
   WholeOutputIsStraight =

@@ -26,6 +26,8 @@ abbrev pub left_before : Bool → Option (List ℕ) → Option (List ℕ)
 left_before ended known = if ended then Some [] else known
 
 -- after the end there is no byte
-pub none_is_left : (ended : Bool) (known : Option (List ℕ)) → ended ≡ true → (left : List ℕ) → left_before ended known ≡ Some left → left ≡ []
+pub none_is_left : (ended : Bool) (known : Option (List ℕ)) → ended ≡ true → (left : List ℕ)
+    → left_before ended known ≡ Some left
+    → left ≡ []
 none_is_left true known is left e = cc
 none_is_left false known is left e = absurd (cc)

@@ -30,7 +30,8 @@ pub fn settings_of(args: &[&str]) -> Option<Settings>
     })
 }
 
-// The width that a word asks for, which is none for a hyphen. Other words ask for nothing that is known.
+// The width that a word asks for, which is none for a hyphen. Other words ask for nothing that is
+// known.
 fn width_of(word: &str) -> Option<Option<u16>>
     ensures { result ≡ width_for word.now }
 {

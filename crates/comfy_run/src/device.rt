@@ -3,7 +3,8 @@
 ghost use Rattle.std.specs.Prelude.{◌≡◌, ◌<◌, ◌≤◌, ◌++◌, ◌||◌, List, ℕ, Bool, true, length, take, drop, is_err, IfOk, OnErr, Option, Some, []};
 ghost use Rattle.comfy_run.specs.Device.{is_end};
 
-/// A call of a device failed. It is returned exactly where the device has failed, and then by every later call.
+/// A call of a device failed. It is returned exactly where the device has failed, and then by every
+/// later call.
 #[derive(Clone, Copy, Debug, PartialEq, Eq)]
 pub struct DeviceFault;
 
@@ -24,12 +25,19 @@ pub trait Source {
         ensures bound { IfOk result (λ count. count ≤ length buffer.old) }
         ensures fault { has_failed self.new ≡ is_err result }
         ensures stays_failed { has_failed self.old ≡ true → has_failed self.new ≡ true }
-        ensures bytes { IfOk result (λ count. (left : List ℕ) → remaining self.old ≡ Some left → (take count buffer.new ≡ take count left) × (remaining self.new ≡ Some (drop count left))) }
-        ensures end { IfOk result (λ count. count ≡ 0 → 0 < length buffer.old → (left : List ℕ) → remaining self.old ≡ Some left → left ≡ []) }
-        ensures end_read { end_was_read self.new ≡ (end_was_read self.old || is_end result (length buffer.old)) };
+        ensures bytes { IfOk result
+            (λ count. (left : List ℕ) → remaining self.old ≡ Some left
+            → (take count buffer.new ≡ take count left)
+            × (remaining self.new ≡ Some (drop count left))) }
+        ensures end { IfOk result (λ count. count ≡ 0 → 0 < length buffer.old → (left : List ℕ)
+            → remaining self.old ≡ Some left
+            → left ≡ []) }
+        ensures end_read { end_was_read self.new
+            ≡ (end_was_read self.old || is_end result (length buffer.old)) };
 
     // after the end there is no byte
-    ghost ended: { (s : Self) → end_was_read s ≡ true → (left : List ℕ) → remaining s ≡ Some left → left ≡ [] };
+    ghost ended: { (s : Self) → end_was_read s ≡ true → (left : List ℕ) → remaining s ≡ Some left
+        → left ≡ [] };
 }
 
 /// Where bytes go to.
@@ -47,6 +55,9 @@ pub trait Sink {
         ensures some { IfOk result (λ count. 0 < length piece.now → 0 < count) }
         ensures fault { has_failed self.new ≡ is_err result }
         ensures stays_failed { has_failed self.old ≡ true → has_failed self.new ≡ true }
-        ensures bytes { IfOk result (λ count. (had : List ℕ) → taken self.old ≡ Some had → taken self.new ≡ Some (had ++ take count piece.now)) }
-        ensures refused { OnErr result ((had : List ℕ) → taken self.old ≡ Some had → taken self.new ≡ Some had) };
+        ensures bytes { IfOk result
+            (λ count. (had : List ℕ) → taken self.old ≡ Some had
+            → taken self.new ≡ Some (had ++ take count piece.now)) }
+        ensures refused { OnErr result
+            ((had : List ℕ) → taken self.old ≡ Some had → taken self.new ≡ Some had) };
 }

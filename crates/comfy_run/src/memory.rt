@@ -26,12 +26,16 @@ impl<'a> Model for MemorySource<'a> {
 
     ghost Value = { MemorySourceValue };
 
-    ghost view = { λ s. record { rest = option_copied s.rest; fails_at = s.fails_at; failed = s.failed } };
+    ghost view = { λ s. record {
+      rest = option_copied s.rest;
+      fails_at = s.fails_at;
+      failed = s.failed;
+    } };
 }
 
 impl<'a> MemorySource<'a> {
-    /// A source of these bytes, which gives as many as fit the buffer. The call of the number `fails_at` fails, counted
-    /// from 1; with 0 none does.
+    /// A source of these bytes, which gives as many as fit the buffer. The call of the number
+    /// `fails_at` fails, counted from 1; with 0 none does.
     pub fn new(bytes: &'a [u8], fails_at: u64) -> MemorySource<'a>
         ensures { result ≡ record { rest = Some bytes.now; fails_at = fails_at; failed = false } }
     {
@@ -55,8 +59,10 @@ impl Source for MemorySource<'_> {
     fn read(&mut self, buffer: &mut [u8]) -> Result<usize, DeviceFault>
         ensures fails { is_err result ≡ is_due self.old.failed self.old.fails_at }
         ensures failed { OnErr result (self.new ≡ record self.old { failed = true }) }
-        ensures count { IfOk result (λ count. count ≡ min (length (left_in self.old)) (length buffer.old)) }
-        ensures given { IfOk result (λ count. buffer.new ≡ take count (left_in self.old) ++ drop count buffer.old) }
+        ensures count { IfOk result
+            (λ count. count ≡ min (length (left_in self.old)) (length buffer.old)) }
+        ensures given { IfOk result
+            (λ count. buffer.new ≡ take count (left_in self.old) ++ drop count buffer.old) }
         ensures after { OnOk result (self.new ≡ after_reading (length buffer.old) self.old) }
     {
         if self.failed || self.fails_at == 1 {
@@ -98,17 +104,28 @@ impl Model for MemorySink {
 
     ghost Value = { MemorySinkValue };
 
-    ghost view = { λ s. record { bytes = s.bytes.items; room = s.room; fails_at = s.fails_at; failed = s.failed } };
+    ghost view = { λ s. record {
+      bytes = s.bytes.items;
+      room = s.room;
+      fails_at = s.fails_at;
+      failed = s.failed;
+    } };
 
     ghost invariant = { λ s. (vec_len s.bytes ≤ s.room) × (s.room ≤ vec_capacity s.bytes) };
 }
 
 impl MemorySink {
-    /// An empty sink with room for this many bytes, which is taken here: no later call takes memory.
-    /// It takes as many bytes of a piece as have room, and fails where the piece isn't empty and no
-    /// room is left. The call of the number `fails_at` fails too, counted from 1; with 0 no call does for that.
+    /// An empty sink with room for this many bytes, which is taken here: no later call takes
+    /// memory. It takes as many bytes of a piece as have room, and fails where the piece isn't
+    /// empty and no room is left. The call of the number `fails_at` fails too, counted from 1; with
+    /// 0 no call does for that.
     pub fn new(alloc: Global, room: usize, fails_at: u64) -> comfy_parts::Result<MemorySink>
-        ensures { IfOk result (λ s. s ≡ record { bytes = []; room = room; fails_at = fails_at; failed = false }) }
+        ensures { IfOk result (λ s. s ≡ record {
+          bytes = [];
+          room = room;
+          fails_at = fails_at;
+          failed = false;
+        }) }
     {
         Ok(MemorySink {
             bytes: Vec::with_capacity(alloc, room)?,
@@ -132,7 +149,8 @@ impl Sink for MemorySink {
     ghost has_failed = { λ s. s.failed };
 
     fn write(&mut self, piece: &[u8]) -> Result<usize, DeviceFault>
-        ensures fails { is_err result ≡ (is_due self.old.failed self.old.fails_at || is_full_for piece.now self.old) }
+        ensures fails { is_err result
+            ≡ (is_due self.old.failed self.old.fails_at || is_full_for piece.now self.old) }
         ensures failed { OnErr result (self.new ≡ record self.old { failed = true }) }
         ensures count { IfOk result (λ count. count ≡ fitting piece.now self.old) }
         ensures after { OnOk result (self.new ≡ after_writing piece.now self.old) }

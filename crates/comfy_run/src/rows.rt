@@ -15,8 +15,9 @@ const BREAK: char = '\u{b}';
 // How many bytes are looked at together.
 const BLOCK: usize = 16;
 
-/// The row of a line, whose cells stand between TABs; U+000B inside a cell is a line break. Its list has room for `count`
-/// cells at first, so that lines with as many cells as the one before take no more memory than they need.
+/// The row of a line, whose cells stand between TABs; U+000B inside a cell is a line break. Its
+/// list has room for `count` cells at first, so that lines with as many cells as the one before
+/// take no more memory than they need.
 pub fn row_of(alloc: Global, line: &str, count: usize) -> Result<Row>
     ensures { IfOk result (λ row. row ≡ row_of_line line.now) }
 {
@@ -37,7 +38,8 @@ pub fn row_of(alloc: Global, line: &str, count: usize) -> Result<Row>
 // How many bytes stand before the first TAB, and whether there may be breaks among them.
 fn first_part(bytes: &[u8]) -> (usize, bool)
     ensures part { IsFirstPart bytes.now result.0 }
-    ensures breaks { result.1 ≡ false → map break_of (take result.0 bytes.now) ≡ take result.0 bytes.now }
+    ensures breaks { result.1 ≡ false
+        → map break_of (take result.0 bytes.now) ≡ take result.0 bytes.now }
 {
     let clear = clear_run(bytes);
     let mut len = clear;
@@ -58,8 +60,8 @@ fn clear_run(bytes: &[u8]) -> usize
     run
 }
 
-// How many bytes at the front stand in whole blocks without a control character. The bytes of a block are looked at without
-// a test between them, which is faster in long texts.
+// How many bytes at the front stand in whole blocks without a control character. The bytes of a
+// block are looked at without a test between them, which is faster in long texts.
 fn clear_blocks(bytes: &[u8]) -> usize
     ensures { IsClearFront bytes.now result }
 {
@@ -82,7 +84,8 @@ fn has_control(bytes: &[u8]) -> bool
 
 // The cell of what stands between TABs, with its breaks as line feeds where it may have any.
 fn cell_of(alloc: Global, part: &str, has_breaks: bool) -> Result<Cell>
-    ensures { IfOk result (λ cell. cell ≡ plain_cell (if has_breaks then map break_of part.now else part.now)) }
+    ensures { IfOk result (λ cell. cell
+        ≡ plain_cell (if has_breaks then map break_of part.now else part.now)) }
 {
     let text = if has_breaks {
         with_line_feeds(alloc, part)?

@@ -15,8 +15,8 @@ use comfy_parts::style::{ContentArrangement, TableStyle};
 pub struct Settings {
     /// The width of the table in terminal columns; none where none is kept.
     pub width: Option<u16>,
-    /// How the widths of the columns are found. The dynamic arrangements keep to the width, and are as `Disabled` without
-    /// one.
+    /// How the widths of the columns are found. The dynamic arrangements keep to the width, and are
+    /// as `Disabled` without one.
     pub arrangement: ContentArrangement,
     /// The characters of the frame.
     pub style: TableStyle,

@@ -49,7 +49,10 @@ impl<R: Read> FromReader<R> {
     fn kept(&mut self, said: io::Result<usize>, room: usize) -> Result<usize, DeviceFault>
         ensures count { IfOk result (λ count. said ≡ Ok count) }
         ensures fault { is_err result ≡ is_err said }
-        ensures after { self.new ≡ record self.old { fault = fault_after said self.old.fault; ended = self.old.ended || is_end said room } }
+        ensures after { self.new ≡ record self.old {
+          fault = fault_after said self.old.fault;
+          ended = self.old.ended || is_end said room;
+        } }
     {
         match said {
             Ok(count) => {
@@ -127,8 +130,12 @@ impl<W: Write> ToWriter<W> {
     fn kept(&mut self, said: io::Result<usize>, bytes: usize) -> Result<usize, DeviceFault>
         ensures count { IfOk result (λ count. said ≡ Ok count) }
         ensures fault { is_err result ≡ (is_err said || is_end said bytes) }
-        ensures after { self.new ≡ record self.old { failed = self.old.failed || (is_err said || is_end said bytes); unread = self.new.unread } }
-        ensures unread { IfErr said (λ error. self.new.unread ≡ true ↔ error_kind error ≡ ErrorKind.BrokenPipe) }
+        ensures after { self.new ≡ record self.old {
+          failed = self.old.failed || (is_err said || is_end said bytes);
+          unread = self.new.unread;
+        } }
+        ensures unread { IfErr said
+            (λ error. self.new.unread ≡ true ↔ error_kind error ≡ ErrorKind.BrokenPipe) }
         ensures read { IfOk said (λ _. self.new.unread ≡ self.old.unread) }
     {
         match said {

@@ -32,7 +32,8 @@ impl From<AllocError> for ReadError {
 pub fn read_all<R: Source>(alloc: Global, source: &mut R) -> Result<Vec<u8>, ReadError>
     ensures ended { OnOk result (R.end_was_read source.new ≡ true) }
     ensures fault { R.has_failed source.new ≡ is_source_fault result }
-    ensures input { IfOk result (λ bytes. (input : List ℕ) → R.remaining source.old ≡ Some input → bytes.items ≡ input) }
+    ensures input { IfOk result (λ bytes. (input : List ℕ) → R.remaining source.old ≡ Some input
+        → bytes.items ≡ input) }
     ensures unread { OnErr result (R.end_was_read source.new ≡ R.end_was_read source.old) }
 {
     let mut bytes = Vec::new(alloc);
@@ -48,12 +49,17 @@ pub fn read_all<R: Source>(alloc: Global, source: &mut R) -> Result<Vec<u8>, Rea
     }
 }
 
-/// Writes the whole piece. Where the sink fails, a beginning of the piece was written, not all of it.
+/// Writes the whole piece. Where the sink fails, a beginning of the piece was written, not all of
+/// it.
 pub fn write_all<W: Sink>(sink: &mut W, piece: &[u8]) -> Result<(), DeviceFault>
-    ensures written { OnOk result ((had : List ℕ) → W.taken sink.old ≡ Some had → W.taken sink.new ≡ Some (had ++ piece.now)) }
+    ensures written { OnOk result ((had : List ℕ) → W.taken sink.old ≡ Some had
+        → W.taken sink.new ≡ Some (had ++ piece.now)) }
     ensures no_fault { OnOk result (W.has_failed sink.old ≡ false → W.has_failed sink.new ≡ false) }
     ensures fault { OnErr result (W.has_failed sink.new ≡ true) }
-    ensures beginning { OnErr result ((had : List ℕ) → W.taken sink.old ≡ Some had → (part : List ℕ) × (W.taken sink.new ≡ Some (had ++ part)) × IsBeginningOnly part piece.now) }
+    ensures beginning { OnErr result
+        ((had : List ℕ) → W.taken sink.old ≡ Some had
+        → (part : List ℕ) × (W.taken sink.new ≡ Some (had ++ part))
+        × IsBeginningOnly part piece.now) }
 {
     let mut rest = piece;
     while !rest.is_empty() {

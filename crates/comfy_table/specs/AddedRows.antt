@@ -1,4 +1,5 @@
--- What is one in all drawings of a table, and what a row that is added at the end of a table leaves as it was.
+-- What is one in all drawings of a table, and what a row that is added at the end of a table leaves
+-- as it was.
 use Rattle.std.specs.Prelude.{◌≡◌, ℕ, ◌≤◌, List, [], ◌++◌, None, Some, length, nat_lt, slice_get, if◌then◌else◌}
 use Rattle.comfy_parts.specs.CellValue.{CellValue, ColumnInfo, RowValue}
 use Rattle.comfy_parts.specs.Text.{Text}
@@ -9,13 +10,15 @@ use Rattle.comfy_table.specs.TableValue.{TableValue, cell_content_width, column_
 
 -- a table has one drawing
 abbrev pub DrawingIsOne : TableValue → List Text → List Text → Type 0
-DrawingIsOne table lines others = IsDrawingOf table lines → IsDrawingOf table others → lines ≡ others
+DrawingIsOne table lines others =
+    IsDrawingOf table lines → IsDrawingOf table others → lines ≡ others
 
 module _ (table : TableValue) (infos : List ColumnInfo) where
   -- the lines of a drawing above its bottom border
   abbrev pub lines_above_bottom : List Text
   lines_above_bottom =
-      optional_frame_line table.style table.style.top_border (whole_widths infos) ++ (drawn_header table infos table.header ++ drawn_rows table infos table.rows)
+      optional_frame_line table.style table.style.top_border (whole_widths infos)
+      ++ (drawn_header table infos table.header ++ drawn_rows table infos table.rows)
 
   -- the bottom border, where there is one
   abbrev pub bottom_lines : List Text
@@ -24,7 +27,9 @@ module _ (table : TableValue) (infos : List ColumnInfo) where
   -- the lines that a further row adds: the row separator where a row stands before it, and its own
   abbrev pub added_lines : RowValue → List Text
   added_lines row =
-      (if nat_lt 0 (length table.rows) then optional_frame_line table.style table.style.row_separator (whole_widths infos) else []) ++ drawn_row table infos table.style.content_lines row
+      (if nat_lt 0 (length table.rows)
+      then optional_frame_line table.style table.style.row_separator (whole_widths infos)
+      else []) ++ drawn_row table infos table.style.content_lines row
 
 -- each cell of the row has a column
 abbrev pub HasColumnsFor : TableValue → RowValue → Type 0
@@ -33,20 +38,28 @@ HasColumnsFor table row = length row.cells ≤ length table.columns
 -- each cell of the row is at most as wide as the content of its column
 abbrev pub IsWithinContents : TableValue → RowValue → Type 0
 IsWithinContents table row =
-    (i : ℕ) (cell : CellValue) → slice_get row.cells i ≡ Some cell → cell_content_width (measured_cell table cell) ≤ column_content_width table i
+    (i : ℕ) (cell : CellValue) → slice_get row.cells i ≡ Some cell
+    → cell_content_width (measured_cell table cell) ≤ column_content_width table i
 
 -- the second lines are the first ones, with those that the row adds above the bottom border
 abbrev pub AddsBelow : TableValue → RowValue → List ℕ → List Text → List Text → Type 0
 AddsBelow table row widths lines others =
-    (lines ≡ lines_above_bottom table (infos_of table widths) ++ bottom_lines table (infos_of table widths))
-    × (others ≡ lines_above_bottom table (infos_of table widths) ++ (added_lines table (infos_of table widths) row ++ bottom_lines table (infos_of table widths)))
+    (lines ≡ lines_above_bottom table (infos_of table widths)
+    ++ bottom_lines table (infos_of table widths))
+    × (others ≡ lines_above_bottom table (infos_of table widths)
+    ++ (added_lines table (infos_of table widths) row
+    ++ bottom_lines table (infos_of table widths)))
 
 -- so it is over the same widths
 abbrev pub RowIsAddedBelow : TableValue → RowValue → List ℕ → Type 0
-RowIsAddedBelow table row widths = HasColumnsFor table row → AddsBelow table row widths (drawing table widths) (drawing (with_row row table) widths)
+RowIsAddedBelow table row widths =
+    HasColumnsFor table row
+    → AddsBelow table row widths (drawing table widths) (drawing (with_row row table) widths)
 
 -- and of all drawings, where no width is kept and no column gets wider
 abbrev pub ShownLinesStay : TableValue → RowValue → List Text → List Text → Type 0
 ShownLinesStay table row lines others =
-    width_kept table.arrangement (table_width table) ≡ None → HasColumnsFor table row → IsWithinContents table row
-    → IsDrawingOf table lines → IsDrawingOf (with_row row table) others → (widths : List ℕ) × AddsBelow table row widths lines others
+    width_kept table.arrangement (table_width table) ≡ None → HasColumnsFor table row
+    → IsWithinContents table row
+    → IsDrawingOf table lines → IsDrawingOf (with_row row table) others
+    → (widths : List ℕ) × AddsBelow table row widths lines others

@@ -4,7 +4,8 @@ use Rattle.std.specs.List.{enumerate_from}
 use Rattle.comfy_parts.specs.CellValue.{ColumnValue, is_hidden_column}
 use Rattle.comfy_table.specs.TableValue.{TableValue, column_content_width}
 
--- the given widths go to the shown columns, in list order, and 1 where there are no more; a hidden column has its content's
+-- the given widths go to the shown columns, in list order, and 1 where there are no more; a hidden
+-- column has its content's
 abbrev pub given_in_order : TableValue → List ℕ → List (ℕ × ColumnValue) → List ℕ
 given_in_order table widths [] = []
 given_in_order table widths (p ∷ columns) =

@@ -28,7 +28,8 @@ room_beside_borders table w = w - border_count table.style (shown_count table)
 
 -- the hidden columns, each with its position
 abbrev pub hidden_columns : TableValue → List (ℕ × ColumnValue)
-hidden_columns table = filter (λ (p : ℕ × ColumnValue). is_hidden_column p.1) (enumerate_from 0 table.columns)
+hidden_columns table =
+    filter (λ (p : ℕ × ColumnValue). is_hidden_column p.1) (enumerate_from 0 table.columns)
 
 -- the widths at the positions of these columns
 abbrev pub widths_at : List ℕ → List (ℕ × ColumnValue) → List ℕ
@@ -37,19 +38,24 @@ widths_at widths columns = map (λ (p : ℕ × ColumnValue). slice_index widths 
 -- the content widths of the shown columns: by content alone where no width is kept, else dynamic
 abbrev pub AreShownWidths : TableValue → List ℕ → Type 0
 AreShownWidths table widths =
-    MatchOption (width_kept table.arrangement (table_width table)) (widths ≡ map (disabled_width table) (shown_columns table))
-    (λ w. IsDynamic (room_beside_borders table w) (shown_needs table) (is_full_width table.arrangement) widths)
+    MatchOption (width_kept table.arrangement (table_width table))
+    (widths ≡ map (disabled_width table) (shown_columns table))
+    (λ w. IsDynamic (room_beside_borders table w) (shown_needs table)
+    (is_full_width table.arrangement) widths)
 
 -- one content width for each column, in list order; a hidden column has its content's
 pub record IsArranged (table : TableValue) (widths : List ℕ) : Type 0 where
   pub one_for_each : length widths ≡ length table.columns
-  pub hidden_widths : widths_at widths (hidden_columns table) ≡ map (λ (p : ℕ × ColumnValue). max 1 (column_content_width table p.0)) (hidden_columns table)
+  pub hidden_widths : widths_at widths (hidden_columns table)
+      ≡ map (λ (p : ℕ × ColumnValue). max 1 (column_content_width table p.0)) (hidden_columns table)
   pub shown_widths : AreShownWidths table (widths_at widths (shown_columns table))
 
 -- the columns with their widths, as they are drawn
 abbrev pub AreInfosOf : TableValue → List ColumnInfo → Type 0
-AreInfosOf table infos = (widths : List ℕ) × IsArranged table widths × (infos ≡ infos_of table widths)
+AreInfosOf table infos =
+    (widths : List ℕ) × IsArranged table widths × (infos ≡ infos_of table widths)
 
 -- the lines are the drawing of the table over its widths
 abbrev pub IsDrawingOf : TableValue → List Text → Type 0
-IsDrawingOf table lines = (widths : List ℕ) × IsArranged table widths × (lines ≡ drawing table widths)
+IsDrawingOf table lines =
+    (widths : List ℕ) × IsArranged table widths × (lines ≡ drawing table widths)

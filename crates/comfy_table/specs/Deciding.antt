@@ -13,7 +13,14 @@ use Rattle.comfy_table.specs.declared.utils.arrangement.dynamic.needs.WidthNeeds
 -- what the width of a shown column depends on, as it is kept beside the column
 abbrev pub needs_in : TableValue → WidthNeeds → ColumnNeeds
 needs_in table v =
-    record { content = v.content; padding = column_padding v.column.now; fixed = v.fixed; lower = v.lower; upper = v.upper; longest = longest_line table v.position v.column.now.delimiter }
+    record {
+      content = v.content;
+      padding = column_padding v.column.now;
+      fixed = v.fixed;
+      lower = v.lower;
+      upper = v.upper;
+      longest = longest_line table v.position v.column.now.delimiter;
+    }
 
 -- what the widths of all shown columns depend on, in list order
 abbrev pub all_needs : TableValue → List WidthNeeds → List ColumnNeeds
@@ -37,7 +44,8 @@ average_room budget = budget.room / undecided_count budget.widths.items
 
 -- the widths once these shares are taken
 abbrev pub with_shares : List Share → List (Option ℕ) → List (Option ℕ)
-with_shares shares widths = fold (λ (ws : List (Option ℕ)) (t : Share). slice_set ws t.0 (Some t.1)) widths shares
+with_shares shares widths =
+    fold (λ (ws : List (Option ℕ)) (t : Share). slice_set ws t.0 (Some t.1)) widths shares
 
 -- these shares are taken, and no others
 pub record HasTaken (shares : List Share) (old new : Budget) : Type 0 where
@@ -52,11 +60,14 @@ width_by_rule Shrunk average column = shrunk_at average column
 -- the width by a rule of the column at a position, where it is undecided
 abbrev pub width_at : Rule → ℕ → List ColumnNeeds → List (Option ℕ) → ℕ → Option ℕ
 width_at rule average needs widths position =
-    if is_undecided widths position then option_and_then (width_by_rule rule average) (slice_get needs position) else None
+    if is_undecided widths position
+    then option_and_then (width_by_rule rule average) (slice_get needs position)
+    else None
 
 -- what a column at its position takes by a rule, once some are taken
 abbrev pub offer_by_rule : Rule → ℕ → List Placed → List Share → Placed → Option ℕ
-offer_by_rule rule room candidates taken p = width_by_rule rule ((room - total taken) / length (without_shares taken candidates)) p.1
+offer_by_rule rule room candidates taken p =
+    width_by_rule rule ((room - total taken) / length (without_shares taken candidates)) p.1
 
 -- the position after one of n, going round
 abbrev pub position_after : ℕ → ℕ → ℕ
@@ -65,7 +76,8 @@ position_after n position = if nat_lt (position + 1) n then position + 1 else 0
 -- columns have taken their widths by a rule, in turn, until none took one
 abbrev pub HasTakenInTurn : Rule → List ColumnNeeds → Budget → Budget → Type 0
 HasTakenInTurn rule needs old new =
-    (order : List Share) × IsTakenInOrder (undecided_among needs old.widths.items) (offer_by_rule rule old.room (undecided_among needs old.widths.items)) order
+    (order : List Share) × IsTakenInOrder (undecided_among needs old.widths.items)
+    (offer_by_rule rule old.room (undecided_among needs old.widths.items)) order
     × HasTaken order old new
 
 -- the columns that a level settles have their widths
@@ -87,18 +99,24 @@ filled (None ∷ widths) parts = slice_index_or parts 0 0 ∷ filled widths (dro
 -- the undecided columns share the room evenly, at least one terminal column each
 abbrev pub shared_evenly : Budget → List ℕ
 shared_evenly budget =
-    filled budget.widths.items (even_spread (max budget.room (undecided_count budget.widths.items)) (undecided_count budget.widths.items))
+    filled budget.widths.items (even_spread (max budget.room (undecided_count budget.widths.items))
+    (undecided_count budget.widths.items))
 
 -- all widths, with the room spread over them
 abbrev pub with_room_spread : Budget → List ℕ
-with_room_spread budget = added (decided budget.widths.items) (even_spread budget.room (length budget.widths.items))
+with_room_spread budget =
+    added (decided budget.widths.items) (even_spread budget.room (length budget.widths.items))
 
--- the content widths at the end: the undecided columns share the room; with full width and no such column all do
+-- the content widths at the end: the undecided columns share the room; with full width and no such
+-- column all do
 abbrev pub final_widths : Bool → Budget → List ℕ
 final_widths full budget =
-    if full && (undecided_count budget.widths.items == 0) then with_room_spread budget else shared_evenly budget
+    if full && (undecided_count budget.widths.items == 0)
+    then with_room_spread budget
+    else shared_evenly budget
 
--- the widths and the room are numbers of at most sixteen bits, also where the room is added to a width
+-- the widths and the room are numbers of at most sixteen bits, also where the room is added to a
+-- width
 pub record HasRoomToSpread (budget : Budget) : Type 0 where
   pub room : budget.room ≤ 65535
   pub each : All (λ w. 0 < budget.room → w + budget.room ≤ 65535) (decided budget.widths.items)

@@ -7,7 +7,8 @@ use Rattle.comfy_table.specs.Widths.{disabled_width}
 
 -- the width of the column at a position: a hidden one has its content's
 abbrev pub width_by_content : TableValue → ℕ × ColumnValue → ℕ
-width_by_content table p = if is_hidden_column p.1 then max 1 (column_content_width table p.0) else disabled_width table p
+width_by_content table p =
+    if is_hidden_column p.1 then max 1 (column_content_width table p.0) else disabled_width table p
 
 -- the widths of all columns, in list order
 abbrev pub widths_by_content : TableValue → List ℕ

@@ -26,18 +26,22 @@ module _ (table : TableValue) (infos : List ColumnInfo) where
   abbrev pub drawn_header : Option RowValue → List Text
   drawn_header None = []
   drawn_header (Some header) =
-      drawn_row table.style.header_lines header ++ optional_frame_line table.style table.style.header_separator (whole_widths infos)
+      drawn_row table.style.header_lines header
+      ++ optional_frame_line table.style table.style.header_separator (whole_widths infos)
 
   -- the rows' lines, with the row separator between each two rows
   abbrev pub drawn_rows : List RowValue → List Text
   drawn_rows rows =
-      join_by (drawn_row table.style.content_lines) (optional_frame_line table.style table.style.row_separator (whole_widths infos)) rows
+      join_by (drawn_row table.style.content_lines)
+      (optional_frame_line table.style table.style.row_separator (whole_widths infos)) rows
 
   -- top border, header, rows, bottom border
   abbrev pub drawing_of_infos : List Text
   drawing_of_infos =
       optional_frame_line table.style table.style.top_border (whole_widths infos)
-      ++ (drawn_header table.header ++ (drawn_rows table.rows ++ optional_frame_line table.style table.style.bottom_border (whole_widths infos)))
+      ++ (drawn_header table.header
+      ++ (drawn_rows table.rows ++ optional_frame_line table.style table.style.bottom_border
+      (whole_widths infos)))
 
 -- the drawing of a table whose columns have these content widths, in list order
 abbrev pub drawing : TableValue → List ℕ → List Text

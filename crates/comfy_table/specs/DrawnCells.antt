@@ -16,7 +16,10 @@ pub record DrawnCell : Type 0 where
 
 -- where a table writes the styles of its cells
 abbrev pub styles_of : TableValue → Styles
-styles_of table = if should_style table then (if table.style_text_only then RoundTexts else RoundPieces) else Nowhere
+styles_of table =
+    if should_style table
+    then (if table.style_text_only then RoundTexts else RoundPieces)
+    else Nowhere
 
 -- the piece of a line, with styles written there
 abbrev pub piece_with : Styles → CellValue → ColumnInfo → DrawnLine → Text

@@ -21,4 +21,5 @@ drawn_text line = drawn_line (as_measured line)
 abbrev pub with_texts : List DrawnLine → List Text → List DrawnLine
 with_texts [] texts = []
 with_texts (line ∷ lines) [] = line ∷ lines
-with_texts (line ∷ lines) (text ∷ texts) = record { columns = line.columns; written = text } ∷ with_texts lines texts
+with_texts (line ∷ lines) (text ∷ texts) =
+    record { columns = line.columns; written = text } ∷ with_texts lines texts

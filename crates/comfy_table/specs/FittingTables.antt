@@ -12,8 +12,10 @@ use Rattle.comfy_table.specs.TableValue.{TableValue}
 abbrev pub CharactersFitColumn : RowValue → ColumnInfo → CellValue → Type 0
 CharactersFitColumn row info cell = All (CharactersFit info.content_width) cell.text_lines
 
--- and its delimiter adds one column; where its row has a greatest height, no text joins the indicator
-pub record FitsByCharacters (table : TableValue) (row : RowValue) (info : ColumnInfo) (cell : CellValue) : Type 0 where
+-- and its delimiter adds one column; where its row has a greatest height, no text joins the
+-- indicator
+pub record FitsByCharacters (table : TableValue) (row : RowValue) (info : ColumnInfo)
+    (cell : CellValue) : Type 0 where
   pub characters : CharactersFitColumn row info cell
   pub delimiter : AddsOneColumn (cell_delimiter table info.delimiter cell)
   pub indicator : (row.max_height ≡ None) ⊎ IsApart table.indicator
@@ -21,5 +23,6 @@ pub record FitsByCharacters (table : TableValue) (row : RowValue) (info : Column
 -- such a table is straight, where each character of the style adds one column and no texts touch
 abbrev pub FittingTablesAreStraight : TableValue → List Text → Type 0
 FittingTablesAreStraight table lines =
-    (drawing : IsTableDrawing table lines) → IsOneColumnStyle table.style → TextsStandApart table → EachCell (FitsByCharacters table) table drawing.widths
+    (drawing : IsTableDrawing table lines) → IsOneColumnStyle table.style → TextsStandApart table
+    → EachCell (FitsByCharacters table) table drawing.widths
     → IsStraightTable table drawing.widths

@@ -7,10 +7,12 @@ use Rattle.comfy_parts.specs.declared.style.table_style.ContentLineStyle.{Conten
 use Rattle.comfy_parts.specs.declared.style.table_style.LineStyle.{LineStyle}
 use Rattle.comfy_parts.specs.declared.style.table_style.TableStyle.{TableStyle}
 
--- the border characters of a line over n columns: left, right, and one between each two columns with vertical lines
+-- the border characters of a line over n columns: left, right, and one between each two columns
+-- with vertical lines
 abbrev pub border_count : TableStyle → ℕ → ℕ
 border_count style n =
-    (if draws_left_border style then 1 else 0) + (if draws_right_border style then 1 else 0) + (if draws_vertical_lines style then n - 1 else 0)
+    (if draws_left_border style then 1 else 0) + (if draws_right_border style then 1 else 0)
+    + (if draws_vertical_lines style then n - 1 else 0)
 
 -- that count as `count_border_columns` returns it: at most the greatest `usize`
 abbrev pub saturated_border_count : TableStyle → ℕ → ℕ
@@ -20,11 +22,13 @@ saturated_border_count style n = min (2 ^ 64 - 1) (border_count style n)
 abbrev pub character : Option ℕ → Text
 character c = encode_utf8 (unwrap_or c 0x20)
 
--- pieces side by side: junctions between them where vertical lines are drawn, and the drawn side borders at the ends
+-- pieces side by side: junctions between them where vertical lines are drawn, and the drawn side
+-- borders at the ends
 abbrev pub between_borders : TableStyle → Option ℕ → Option ℕ → Option ℕ → List Text → Text
 between_borders style left junction right pieces =
     (if draws_left_border style then character left else [])
-    ++ (join_by (λ (piece : Text). piece) (if draws_vertical_lines style then character junction else []) pieces
+    ++ (join_by (λ (piece : Text). piece)
+    (if draws_vertical_lines style then character junction else []) pieces
     ++ (if draws_right_border style then character right else []))
 
 -- a line of content
@@ -33,12 +37,16 @@ content_line style line pieces = between_borders style line.left line.junction l
 
 -- a line of the frame over columns of these whole widths
 abbrev pub frame_line : TableStyle → LineStyle → List ℕ → Text
-frame_line style line widths = between_borders style line.left line.junction line.right (map (λ (width : ℕ). repeat width (character line.fill)) widths)
+frame_line style line widths =
+    between_borders style line.left line.junction line.right
+    (map (λ (width : ℕ). repeat width (character line.fill)) widths)
 
 -- a line of the frame is drawn if any of its four parts is set
 abbrev pub is_drawn : LineStyle → Bool
-is_drawn line = is_some line.left || (is_some line.fill || (is_some line.junction || is_some line.right))
+is_drawn line =
+    is_some line.left || (is_some line.fill || (is_some line.junction || is_some line.right))
 
 -- the line, where it is drawn
 abbrev pub optional_frame_line : TableStyle → LineStyle → List ℕ → List Text
-optional_frame_line style line widths = if is_drawn line then frame_line style line widths ∷ [] else []
+optional_frame_line style line widths =
+    if is_drawn line then frame_line style line widths ∷ [] else []

@@ -32,11 +32,16 @@ drawn_character drawn part = if drawn then character part else []
 -- the gaps of the drawn borders of a line
 abbrev pub row_gaps : TableStyle → ContentLineStyle → RowGapsValue
 row_gaps style line =
-    record { left = drawn_character (draws_left_border style) line.left; junction = drawn_character (draws_vertical_lines style) line.junction; right = drawn_character (draws_right_border style) line.right }
+    record {
+      left = drawn_character (draws_left_border style) line.left;
+      junction = drawn_character (draws_vertical_lines style) line.junction;
+      right = drawn_character (draws_right_border style) line.right;
+    }
 
 -- a line of these pieces
 abbrev pub gap_line : RowGapsValue → List Text → Text
-gap_line gaps pieces = gaps.left ++ (join_by (λ (piece : Text). piece) gaps.junction pieces ++ gaps.right)
+gap_line gaps pieces =
+    gaps.left ++ (join_by (λ (piece : Text). piece) gaps.junction pieces ++ gaps.right)
 
 -- the lines of a row
 abbrev pub row_between : RowGapsValue → TableValue → List ColumnInfo → RowValue → List Text

@@ -9,9 +9,12 @@ use Rattle.comfy_table.specs.TableValue.{TableValue}
 abbrev pub is_shown : ColumnValue → Bool
 is_shown column = not (is_hidden_column column)
 
--- of what stands beside columns, that beside the shown ones; what stands beyond the columns goes too
+-- of what stands beside columns, that beside the shown ones; what stands beyond the columns goes
+-- too
 abbrev pub beside_shown : {X : Type 0} → List ColumnValue → List X → List X
-beside_shown {X} columns xs = map (λ (p : ColumnValue × X). p.1) (filter (λ (p : ColumnValue × X). is_shown p.0) (zip columns xs))
+beside_shown {X} columns xs =
+    map (λ (p : ColumnValue × X). p.1)
+    (filter (λ (p : ColumnValue × X). is_shown p.0) (zip columns xs))
 
 -- a row keeps the cells of shown columns, and its greatest height
 abbrev pub shown_row : List ColumnValue → RowValue → RowValue
@@ -20,12 +23,20 @@ shown_row columns row = record row { cells = beside_shown columns row.cells }
 -- a table without its hidden columns and their cells
 abbrev pub without_hidden : TableValue → TableValue
 without_hidden table =
-    record table { columns = filter is_shown table.columns; header = option_map (shown_row table.columns) table.header; rows = map (shown_row table.columns) table.rows }
+    record table {
+      columns = filter is_shown table.columns;
+      header = option_map (shown_row table.columns) table.header;
+      rows = map (shown_row table.columns) table.rows;
+    }
 
 -- the lines are the drawing of the one where they are that of the other
 abbrev pub IsDrawnWithoutHidden : TableValue → List Text → Type 0
-IsDrawnWithoutHidden table lines = (IsDrawingOf table lines → IsDrawingOf (without_hidden table) lines) × (IsDrawingOf (without_hidden table) lines → IsDrawingOf table lines)
+IsDrawnWithoutHidden table lines =
+    (IsDrawingOf table lines → IsDrawingOf (without_hidden table) lines)
+    × (IsDrawingOf (without_hidden table) lines → IsDrawingOf table lines)
 
 -- tables that are the same but for hidden columns have the same drawing
 abbrev pub HiddenColumnsTellNothing : TableValue → TableValue → List Text → List Text → Type 0
-HiddenColumnsTellNothing table other lines others = without_hidden table ≡ without_hidden other → IsDrawingOf table lines → IsDrawingOf other others → lines ≡ others
+HiddenColumnsTellNothing table other lines others =
+    without_hidden table ≡ without_hidden other → IsDrawingOf table lines → IsDrawingOf other others
+    → lines ≡ others

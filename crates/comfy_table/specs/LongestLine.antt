@@ -12,4 +12,6 @@ text_longest_line w d text = greatest (map measure (lines_of_text w d text))
 
 -- the longest line of a cell in a column
 abbrev pub cell_longest_line : TableValue → ColumnInfo → CellValue → ℕ
-cell_longest_line table info cell = greatest (map (text_longest_line info.content_width (cell_delimiter table info.delimiter cell)) cell.text_lines)
+cell_longest_line table info cell =
+    greatest (map (text_longest_line info.content_width (cell_delimiter table info.delimiter cell))
+    cell.text_lines)

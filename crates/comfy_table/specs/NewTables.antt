@@ -1,4 +1,5 @@
--- Tables to which nothing but a style, a header and rows was given: the widths of their lines, and the sequences in them.
+-- Tables to which nothing but a style, a header and rows was given: the widths of their lines, and
+-- the sequences in them.
 use Rattle.std.specs.Prelude.{◌≡◌, ℕ, ◌≤◌, List, None, All, true}
 use Rattle.comfy_parts.specs.CellValue.{CellValue, RowValue}
 use Rattle.comfy_parts.specs.Columns.{IsOneColumnStyle}
@@ -11,7 +12,8 @@ use Rattle.comfy_table.specs.TableValue.{new_table, with_header, with_rows}
 -- a row without a greatest height, whose text lines have at most 65535 terminal columns
 pub record IsShortRow (row : RowValue) : Type 0 where
   pub uncut : row.max_height ≡ None
-  pub short : All (λ (cell : CellValue). All (λ line. measure line ≤ 65535) cell.text_lines) row.cells
+  pub short :
+      All (λ (cell : CellValue). All (λ line. measure line ≤ 65535) cell.text_lines) row.cells
 
 -- all lines have the same number of terminal columns
 abbrev pub AreEquallyWide : List Text → Type 0
@@ -20,9 +22,15 @@ AreEquallyWide lines = (n : ℕ) × All (λ line. measure line ≡ n) lines
 -- so have the lines of a new table of such rows, for texts of every script
 abbrev pub NewTablesAreStraight : TableStyle → RowValue → List RowValue → List Text → Type 0
 NewTablesAreStraight style header rows lines =
-    IsOneColumnStyle style → IsShortRow header → All IsShortRow rows → IsTableDrawing (with_rows rows (with_header header (new_table style))) lines → AreEquallyWide lines
+    IsOneColumnStyle style → IsShortRow header → All IsShortRow rows
+    → IsTableDrawing (with_rows rows (with_header header (new_table style))) lines
+    → AreEquallyWide lines
 
--- with custom styling, no line of a new table of any rows leaves a sequence open, in a style without ESC
+-- with custom styling, no line of a new table of any rows leaves a sequence open, in a style
+-- without ESC
 abbrev pub NewTablesLeaveNoneOpen : TableStyle → RowValue → List RowValue → List Text → Type 0
 NewTablesLeaveNoneOpen style header rows lines =
-    IsStyleWithout 0x1B style → IsTableDrawing (record (with_rows rows (with_header header (new_table style))) { custom_styling = true }) lines → All LeavesNoneOpen lines
+    IsStyleWithout 0x1B style
+    → IsTableDrawing (record (with_rows rows (with_header header (new_table style)))
+    { custom_styling = true }) lines
+    → All LeavesNoneOpen lines

@@ -1,4 +1,5 @@
--- Private: the drawn lines of a table as they are kept: each as a text of its own, or all in one text.
+-- Private: the drawn lines of a table as they are kept: each as a text of its own, or all in one
+-- text.
 use Rattle.std.specs.Prelude.{◌≡◌, List, [], ◌∷◌, ◌++◌, flat_map, length, take}
 use Rattle.std.specs.Str.{trim_end}
 use Rattle.comfy_parts.specs.CellValue.{ColumnInfo}
@@ -32,7 +33,10 @@ new_output form = record { form = form; lines = []; text = [] }
 -- an output with these lines after its own
 abbrev pub with_lines : List Text → OutputValue → OutputValue
 with_lines more output =
-    record output { lines = output.lines ++ lines_in_list output.form more; text = output.text ++ flat_map (line_in_text output.form) more }
+    record output {
+      lines = output.lines ++ lines_in_list output.form more;
+      text = output.text ++ flat_map (line_in_text output.form) more;
+    }
 
 -- the text begins with this one
 abbrev pub BeginsWith : Text → Text → Type 0

@@ -1,4 +1,5 @@
--- A table whose widths are found, and its parts: some of its rows, drawn at the widths of the whole.
+-- A table whose widths are found, and its parts: some of its rows, drawn at the widths of the
+-- whole.
 use Rattle.std.specs.Prelude.{◌≡◌, ◌≤◌, ℕ, List, All, Contains, drop, length, map, take}
 use Rattle.comfy_parts.specs.CellValue.{ColumnInfo}
 use Rattle.comfy_parts.specs.Text.{Text}
@@ -29,7 +30,8 @@ with_rows_alone first count table = with_other_rows (take count (drop first tabl
 
 -- a part: the lines of these rows, with header and borders, at the widths of the whole table
 abbrev pub part_lines : ArrangedValue → ℕ → ℕ → List Text
-part_lines arranged first count = drawing_of_infos (with_rows_alone first count arranged.table) arranged.infos
+part_lines arranged first count =
+    drawing_of_infos (with_rows_alone first count arranged.table) arranged.infos
 
 -- as it is printed
 abbrev pub part_text : ArrangedValue → ℕ → ℕ → Text
@@ -38,11 +40,13 @@ part_text arranged first count = terminated_text_of (part_lines arranged first c
 -- each line of a part is a line of the table
 abbrev pub PartHasLinesOfTable : TableValue → List ColumnInfo → ℕ → ℕ → Type 0
 PartHasLinesOfTable table infos first count =
-    All (Contains (drawing_of_infos table infos)) (drawing_of_infos (with_rows_alone first count table) infos)
+    All (Contains (drawing_of_infos table infos))
+    (drawing_of_infos (with_rows_alone first count table) infos)
 
 -- a part without styling is that part of the table without styling
 abbrev pub PartIsUnstyled : TableValue → ℕ → ℕ → Type 0
-PartIsUnstyled table first count = unstyled (with_rows_alone first count table) ≡ with_rows_alone first count (unstyled table)
+PartIsUnstyled table first count =
+    unstyled (with_rows_alone first count table) ≡ with_rows_alone first count (unstyled table)
 
 -- all rows make the whole table
 abbrev pub AllRowsAreTheTable : TableValue → ℕ → Type 0

@@ -5,7 +5,8 @@ use Rattle.std.specs.Fn.{FnReturns}
 use denote.Param.Members.{Shared}
 
 -- asked with this number and a reference to the value, f may return this
-pub record Answers {F T : Type 0} (g : Shared F (ℕ × (Bor T × Unit {0})) Bool) (f : F) (count : ℕ) (value : T) (answer : Bool) : Type 0 where
+pub record Answers {F T : Type 0} (g : Shared F (ℕ × (Bor T × Unit {0})) Bool) (f : F) (count : ℕ)
+    (value : T) (answer : Bool) : Type 0 where
   pub shown : Bor T
   pub shows : shown.now ≡ value
   pub says : FnReturns g f (count, (shown, tt)) answer

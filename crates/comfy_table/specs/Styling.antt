@@ -12,7 +12,8 @@ use Rattle.comfy_parts.specs.declared.style.color.Color.TheVariants as colors
 abbrev pub sequence : Text → Text
 sequence code = codes "\u{1b}[" ++ (code ++ codes "m")
 
--- how a colour is written after `38;` or `48;`: by its number of sixteen or of 256, or by its three parts
+-- how a colour is written after `38;` or `48;`: by its number of sixteen or of 256, or by its three
+-- parts
 abbrev pub color_code : Color → Text
 color_code colors.Reset = []
 color_code colors.Black = codes "5;0"
@@ -32,7 +33,8 @@ color_code colors.Magenta = codes "5;13"
 color_code colors.Cyan = codes "5;14"
 color_code colors.White = codes "5;15"
 color_code (colors.AnsiValue v) = codes "5;" ++ decimal v
-color_code (colors.Rgb r g b) = codes "2;" ++ (decimal r ++ (codes ";" ++ (decimal g ++ (codes ";" ++ decimal b))))
+color_code (colors.Rgb r g b) =
+    codes "2;" ++ (decimal r ++ (codes ";" ++ (decimal g ++ (codes ";" ++ decimal b))))
 
 -- the code of a foreground
 abbrev pub foreground_code : Color → Text
@@ -78,15 +80,26 @@ attribute_code attributes.NotOverLined = codes "55"
 -- all attributes, in the order in which they are written
 abbrev pub all_attributes : List Attribute
 all_attributes =
-    attributes.Reset ∷ attributes.Bold ∷ attributes.Dim ∷ attributes.Italic ∷ attributes.Underlined ∷ attributes.DoubleUnderlined ∷ attributes.Undercurled ∷ attributes.Underdotted ∷ attributes.Underdashed ∷ attributes.SlowBlink ∷ attributes.RapidBlink ∷ attributes.Reverse ∷ attributes.Hidden ∷ attributes.CrossedOut ∷ attributes.Fraktur ∷ attributes.NoBold ∷ attributes.NormalIntensity ∷ attributes.NoItalic ∷ attributes.NoUnderline ∷ attributes.NoBlink ∷ attributes.NoReverse ∷ attributes.NoHidden ∷ attributes.NotCrossedOut ∷ attributes.Framed ∷ attributes.Encircled ∷ attributes.OverLined ∷ attributes.NotFramedOrEncircled ∷ attributes.NotOverLined ∷ []
+    attributes.Reset ∷ attributes.Bold ∷ attributes.Dim ∷ attributes.Italic ∷ attributes.Underlined
+    ∷ attributes.DoubleUnderlined ∷ attributes.Undercurled ∷ attributes.Underdotted
+    ∷ attributes.Underdashed ∷ attributes.SlowBlink ∷ attributes.RapidBlink ∷ attributes.Reverse
+    ∷ attributes.Hidden ∷ attributes.CrossedOut ∷ attributes.Fraktur ∷ attributes.NoBold
+    ∷ attributes.NormalIntensity ∷ attributes.NoItalic ∷ attributes.NoUnderline ∷ attributes.NoBlink
+    ∷ attributes.NoReverse ∷ attributes.NoHidden ∷ attributes.NotCrossedOut ∷ attributes.Framed
+    ∷ attributes.Encircled ∷ attributes.OverLined ∷ attributes.NotFramedOrEncircled
+    ∷ attributes.NotOverLined ∷ []
 
 -- whether the attribute is in the list; no two attributes share a code
 abbrev pub has_attribute : List Attribute → Attribute → Bool
-has_attribute given a = list_any (λ (b : Attribute). bytes_eq (attribute_code a) (attribute_code b)) given
+has_attribute given a =
+    list_any (λ (b : Attribute). bytes_eq (attribute_code a) (attribute_code b)) given
 
--- the sequences of these attributes, each once and in the order of all attributes, however often and in whatever order they were given
+-- the sequences of these attributes, each once and in the order of all attributes, however often
+-- and in whatever order they were given
 abbrev pub attribute_sequences : List Attribute → Text
-attribute_sequences given = flat_map (λ (a : Attribute). sequence (attribute_code a)) (filter (has_attribute given) all_attributes)
+attribute_sequences given =
+    flat_map (λ (a : Attribute). sequence (attribute_code a))
+    (filter (has_attribute given) all_attributes)
 
 -- the sequence of a colour, where there is one
 abbrev pub optional_sequence : (Color → Text) → Option Color → Text
@@ -95,18 +108,24 @@ optional_sequence code (Some color) = sequence (code color)
 
 -- what stands before a styled text: background, foreground, attributes
 abbrev pub style_begin : CellValue → Text
-style_begin cell = optional_sequence background_code cell.background ++ (optional_sequence foreground_code cell.foreground ++ attribute_sequences cell.attributes)
+style_begin cell =
+    optional_sequence background_code cell.background
+    ++ (optional_sequence foreground_code cell.foreground ++ attribute_sequences cell.attributes)
 
 -- without an attribute: `49` for a background, and then `39` for a foreground
 abbrev pub style_end_without_attributes : Option Color → Option Color → Text
 style_end_without_attributes background foreground =
-    (if is_some background then sequence (codes "49") else []) ++ (if is_some foreground then sequence (codes "39") else [])
+    (if is_some background then sequence (codes "49") else [])
+    ++ (if is_some foreground then sequence (codes "39") else [])
 
 -- what stands after a styled text: `0` where the cell has an attribute
 abbrev pub style_end : CellValue → Text
 style_end cell =
-    if length cell.attributes == 0 then style_end_without_attributes cell.background cell.foreground else sequence (codes "0")
+    if length cell.attributes == 0
+    then style_end_without_attributes cell.background cell.foreground
+    else sequence (codes "0")
 
--- a text between the sequences of a cell's colours and attributes; a cell without any leaves it as it is
+-- a text between the sequences of a cell's colours and attributes; a cell without any leaves it as
+-- it is
 abbrev pub styled : CellValue → Text → Text
 styled cell text = style_begin cell ++ (text ++ style_end cell)

@@ -1,4 +1,5 @@
--- The laws of frame lines and of dynamic widths, said of whole tables. Each is a statement at given values: `widths` are the content widths of all columns, w is the table's width.
+-- The laws of frame lines and of dynamic widths, said of whole tables. Each is a statement at given
+-- values: `widths` are the content widths of all columns, w is the table's width.
 use Rattle.std.specs.Prelude.{◌≡◌, ℕ, ◌+◌, ◌<◌, ◌≤◌, true, false, List, Some, map, length, max, min, sum, sum_by, nat_lt, All}
 use Rattle.std.specs.List.{AllZip, list_any}
 use Rattle.comfy_parts.specs.CellValue.{CellValue, ColumnValue}
@@ -27,45 +28,59 @@ shown_contents table widths = widths_at widths (shown_columns table)
 abbrev pub FrameCounts : TableValue → List ℕ → LineStyle → Type 0
 FrameCounts table widths line =
     length widths ≡ length table.columns
-    → count (frame_line table.style line (whole_widths (infos_of table widths))) ≡ line_total table widths
+    → count (frame_line table.style line (whole_widths (infos_of table widths)))
+    ≡ line_total table widths
 
--- under `Dynamic` a frame line keeps to the width, or to borders, paddings and one terminal column for each shown column
+-- under `Dynamic` a frame line keeps to the width, or to borders, paddings and one terminal column
+-- for each shown column
 abbrev pub FrameKeepsToWidth : TableValue → ℕ → List ℕ → LineStyle → Type 0
 FrameKeepsToWidth table w widths line =
-    NoConstraints table → table.arrangement ≡ Dynamic → table_width table ≡ Some w → IsArranged table widths
-    → count (frame_line table.style line (whole_widths (infos_of table widths))) ≤ max w (least_total table)
+    NoConstraints table → table.arrangement ≡ Dynamic → table_width table ≡ Some w
+    → IsArranged table widths
+    → count (frame_line table.style line (whole_widths (infos_of table widths)))
+    ≤ max w (least_total table)
 
 -- under `DynamicFullWidth` it has exactly that many characters, where a column is shown
 abbrev pub FrameFillsWidth : TableValue → ℕ → List ℕ → LineStyle → Type 0
 FrameFillsWidth table w widths line =
-    NoConstraints table → table.arrangement ≡ DynamicFullWidth → table_width table ≡ Some w → 0 < shown_count table → IsArranged table widths
-    → count (frame_line table.style line (whole_widths (infos_of table widths))) ≡ max w (least_total table)
+    NoConstraints table → table.arrangement ≡ DynamicFullWidth → table_width table ≡ Some w
+    → 0 < shown_count table
+    → IsArranged table widths
+    → count (frame_line table.style line (whole_widths (infos_of table widths)))
+    ≡ max w (least_total table)
 
 -- ---- totals under every constraint
 
--- borders, the whole widths of the fixed and lower columns, and the paddings and one terminal column of each other shown column
+-- borders, the whole widths of the fixed and lower columns, and the paddings and one terminal
+-- column of each other shown column
 abbrev pub wider_total : TableValue → Steps → ℕ
-wider_total table steps = border_count table.style (shown_count table) + least_with_steps (shown_needs table) steps
+wider_total table steps =
+    border_count table.style (shown_count table) + least_with_steps (shown_needs table) steps
 
 -- under `Dynamic` a line keeps to the width, or to this total of the steps that led to the widths
 abbrev pub KeepsToWiderTotal : TableValue → ℕ → List ℕ → Type 0
 KeepsToWiderTotal table w widths =
     table.arrangement ≡ Dynamic → table_width table ≡ Some w → IsArranged table widths
-    → (steps : Steps) × IsArrangedBy (room_beside_borders table w) (shown_needs table) false steps (shown_contents table widths)
+    → (steps : Steps) × IsArrangedBy (room_beside_borders table w) (shown_needs table) false steps
+    (shown_contents table widths)
     × (line_total table widths ≤ max w (wider_total table steps))
 
--- under `DynamicFullWidth` a line keeps to the width, or to this total, also where no column is shown
+-- under `DynamicFullWidth` a line keeps to the width, or to this total, also where no column is
+-- shown
 abbrev pub KeepsToWiderTotalInFull : TableValue → ℕ → List ℕ → Type 0
 KeepsToWiderTotalInFull table w widths =
     table.arrangement ≡ DynamicFullWidth → table_width table ≡ Some w → IsArranged table widths
-    → (steps : Steps) × IsArrangedBy (room_beside_borders table w) (shown_needs table) true steps (shown_contents table widths)
+    → (steps : Steps) × IsArrangedBy (room_beside_borders table w) (shown_needs table) true steps
+    (shown_contents table widths)
     × (line_total table widths ≤ max w (wider_total table steps))
 
 -- and it has exactly that many characters, where a column is shown
 abbrev pub FillsWiderTotal : TableValue → ℕ → List ℕ → Type 0
 FillsWiderTotal table w widths =
-    table.arrangement ≡ DynamicFullWidth → table_width table ≡ Some w → 0 < shown_count table → IsArranged table widths
-    → (steps : Steps) × IsArrangedBy (room_beside_borders table w) (shown_needs table) true steps (shown_contents table widths)
+    table.arrangement ≡ DynamicFullWidth → table_width table ≡ Some w → 0 < shown_count table
+    → IsArranged table widths
+    → (steps : Steps) × IsArrangedBy (room_beside_borders table w) (shown_needs table) true steps
+    (shown_contents table widths)
     × (line_total table widths ≡ max w (wider_total table steps))
 
 -- ---- widths without constraints
@@ -73,47 +88,71 @@ FillsWiderTotal table w widths =
 -- under `Dynamic` the shown columns keep to a level
 abbrev pub TableIsLevelled : TableValue → ℕ → List ℕ → Type 0
 TableIsLevelled table w widths =
-    NoConstraints table → table.arrangement ≡ Dynamic → table_width table ≡ Some w → 0 < shown_count table → IsArranged table widths
+    NoConstraints table → table.arrangement ≡ Dynamic → table_width table ≡ Some w
+    → 0 < shown_count table
+    → IsArranged table widths
     → IsLevelled (room_beside_borders table w) (shown_needs table) (shown_contents table widths)
 
 -- under `DynamicFullWidth` they fill the room too
 abbrev pub TableIsFull : TableValue → ℕ → List ℕ → Type 0
 TableIsFull table w widths =
-    NoConstraints table → table.arrangement ≡ DynamicFullWidth → table_width table ≡ Some w → 0 < shown_count table → IsArranged table widths
+    NoConstraints table → table.arrangement ≡ DynamicFullWidth → table_width table ≡ Some w
+    → 0 < shown_count table
+    → IsArranged table widths
     → IsFull (room_beside_borders table w) (shown_needs table) (shown_contents table widths)
 
--- under `Dynamic` every shown column gets its content, where all of them fit with borders and paddings
+-- under `Dynamic` every shown column gets its content, where all of them fit with borders and
+-- paddings
 abbrev pub TableKeepsContents : TableValue → ℕ → List ℕ → Type 0
 TableKeepsContents table w widths =
-    NoConstraints table → table.arrangement ≡ Dynamic → table_width table ≡ Some w → IsArranged table widths
-    → border_count table.style (shown_count table) + sum_by (λ (column : ColumnNeeds). max 1 column.content + column.padding) (shown_needs table) ≤ w
-    → shown_contents table widths ≡ map (λ (column : ColumnNeeds). max 1 column.content) (shown_needs table)
+    NoConstraints table → table.arrangement ≡ Dynamic → table_width table ≡ Some w
+    → IsArranged table widths
+    → border_count table.style (shown_count table)
+    + sum_by (λ (column : ColumnNeeds). max 1 column.content + column.padding) (shown_needs table)
+    ≤ w
+    → shown_contents table widths ≡ map (λ (column : ColumnNeeds). max 1 column.content)
+    (shown_needs table)
 
--- under `Dynamic` the level is the best: where a column doesn't fit, no contents within the room give each shown column its content or one more than the level
+-- under `Dynamic` the level is the best: where a column doesn't fit, no contents within the room
+-- give each shown column its content or one more than the level
 abbrev pub TableLevelIsBest : TableValue → ℕ → ℕ → List ℕ → Type 0
 TableLevelIsBest table w level widths =
-    NoConstraints table → table.arrangement ≡ Dynamic → table_width table ≡ Some w → IsArranged table widths
+    NoConstraints table → table.arrangement ≡ Dynamic → table_width table ≡ Some w
+    → IsArranged table widths
     → shown_count table ≤ content_room (room_beside_borders table w) (shown_needs table)
-    → IsLevelledAt (room_beside_borders table w) (shown_needs table) level (shown_contents table widths)
+    → IsLevelledAt (room_beside_borders table w) (shown_needs table) level
+    (shown_contents table widths)
     → list_any (λ (column : ColumnNeeds). nat_lt level column.content) (shown_needs table) ≡ true
-    → (contents : List ℕ) → sum contents ≤ content_room (room_beside_borders table w) (shown_needs table)
-    → ¬ (AllZip (λ (column : ColumnNeeds) content. min (max 1 column.content) (level + 1) ≤ content) (shown_needs table) contents)
+    → (contents : List ℕ)
+    → sum contents ≤ content_room (room_beside_borders table w) (shown_needs table)
+    → ¬ (AllZip (λ (column : ColumnNeeds) content. min (max 1 column.content) (level + 1) ≤ content)
+    (shown_needs table) contents)
 
 -- ---- widths of printable ASCII
 
--- under `Dynamic` and without constraints no shown column is more than three terminal columns wider than its content; a content counts at most 65535, so a wider table could give a column more
+-- under `Dynamic` and without constraints no shown column is more than three terminal columns wider
+-- than its content; a content counts at most 65535, so a wider table could give a column more
 abbrev pub IsAtMostThreeOver : TableValue → ℕ → List ℕ → Type 0
 IsAtMostThreeOver table w widths =
-    w ≤ 65535 → NoConstraints table → HasPrintableCells table → table.arrangement ≡ Dynamic → table_width table ≡ Some w → IsArranged table widths
-    → AllZip (λ (column : ColumnNeeds) width. width ≤ column.content + 3) (shown_needs table) (shown_contents table widths)
+    w ≤ 65535 → NoConstraints table → HasPrintableCells table → table.arrangement ≡ Dynamic
+    → table_width table ≡ Some w
+    → IsArranged table widths
+    → AllZip (λ (column : ColumnNeeds) width. width ≤ column.content + 3) (shown_needs table)
+    (shown_contents table widths)
 
--- the lines of a cell's text lines at a narrower width are those at b, each but for at most one delimiter after it
+-- the lines of a cell's text lines at a narrower width are those at b, each but for at most one
+-- delimiter after it
 abbrev pub ShrinkingKeepsLinesOf : ℕ → ℕ → ℕ → CellValue → Type 0
 ShrinkingKeepsLinesOf narrower b d cell =
-    All (λ (text : Text). AllZip (SameButOneDelimiter d) (lines_of_text narrower d text) (lines_of_text b d text)) cell.text_lines
+    All (λ (text : Text). AllZip (SameButOneDelimiter d) (lines_of_text narrower d text)
+    (lines_of_text b d text)) cell.text_lines
 
--- where the longest line of a column at b leaves three terminal columns of b free, all its cells keep their lines at the width of that line
+-- where the longest line of a column at b leaves three terminal columns of b free, all its cells
+-- keep their lines at the width of that line
 abbrev pub ShrinkingKeepsCells : TableValue → ℕ × ColumnValue → ℕ → Type 0
 ShrinkingKeepsCells table p b =
-    All (IsPrintableCell table p.1.delimiter) (column_cells table p.0) → longest_line table p.0 p.1.delimiter b + 3 ≤ b
-    → All (λ (cell : CellValue). ShrinkingKeepsLinesOf (max 1 (longest_line table p.0 p.1.delimiter b)) b (cell_delimiter table p.1.delimiter cell) cell) (column_cells table p.0)
+    All (IsPrintableCell table p.1.delimiter) (column_cells table p.0)
+    → longest_line table p.0 p.1.delimiter b + 3 ≤ b
+    → All (λ (cell : CellValue). ShrinkingKeepsLinesOf
+    (max 1 (longest_line table p.0 p.1.delimiter b)) b
+    (cell_delimiter table p.1.delimiter cell) cell) (column_cells table p.0)

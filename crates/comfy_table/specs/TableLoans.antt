@@ -17,12 +17,17 @@ abbrev pub TableStaysIfErr : {E : Type 0} → MutBor TableValue → Result (MutB
 TableStaysIfErr t r = LendsIfOk table.the_row table.the_row t r (λ x. x) t.now
 
 -- where the call failed, the table has some first rows of these, and not all
-abbrev pub TableHasFirstRowsIfErr : {E : Type 0} → List RowValue → MutBor TableValue → Result (MutBor TableValue) E → Fml
-TableHasFirstRowsIfErr rows t r = RestsIfErr table.the_row t (λ x. x.ghost_name) r (IsWithRowsBeforeOne rows t.now)
+abbrev pub TableHasFirstRowsIfErr : {E : Type 0} → List RowValue → MutBor TableValue
+    → Result (MutBor TableValue) E
+    → Fml
+TableHasFirstRowsIfErr rows t r =
+    RestsIfErr table.the_row t (λ x. x.ghost_name) r (IsWithRowsBeforeOne rows t.now)
 
 -- the column at i is the last one written, and nothing else changes
 abbrev pub LendsColumn : MutBor TableValue → ℕ → Option (MutBor ColumnValue) → Fml
-LendsColumn t i r = LendsIf table.the_row column.the_row t r (λ c. record t.now { columns = slice_set t.now.columns i c }) t.now
+LendsColumn t i r =
+    LendsIf table.the_row column.the_row t r
+    (λ c. record t.now { columns = slice_set t.now.columns i c }) t.now
 
 -- the style is the last one written, and nothing else changes
 abbrev pub LendsStyle : MutBor TableValue → MutBor TableStyle → Fml
@@ -31,13 +36,19 @@ LendsStyle t r = Lends table.the_row style.the_row t r (λ s. record t.now { sty
 -- the columns are the last ones written, and nothing else changes
 abbrev pub LendsColumns : MutBor TableValue → IterMut ColumnValue → Fml
 LendsColumns t it =
-    follows table.the_row (Array column.the_row 0) t.ghost_name (iter_mut_name it) (λ (cs : List ColumnValue). record t.now { columns = refill (length t.now.columns) t.now.columns cs })
+    follows table.the_row (Array column.the_row 0) t.ghost_name (iter_mut_name it)
+    (λ (cs : List ColumnValue). record t.now {
+      columns = refill (length t.now.columns) t.now.columns cs;
+    })
 
 -- the row at i is the last one written, and nothing else changes
 abbrev pub LendsRow : MutBor TableValue → ℕ → Option (MutBor RowValue) → Fml
-LendsRow t i r = LendsIf table.the_row row.the_row t r (λ c. record t.now { rows = slice_set t.now.rows i c }) t.now
+LendsRow t i r =
+    LendsIf table.the_row row.the_row t r
+    (λ c. record t.now { rows = slice_set t.now.rows i c }) t.now
 
 -- the rows are the last ones written, and nothing else changes
 abbrev pub LendsRows : MutBor TableValue → IterMut RowValue → Fml
 LendsRows t it =
-    follows table.the_row (Array row.the_row 0) t.ghost_name (iter_mut_name it) (λ (rs : List RowValue). record t.now { rows = refill (length t.now.rows) t.now.rows rs })
+    follows table.the_row (Array row.the_row 0) t.ghost_name (iter_mut_name it)
+    (λ (rs : List RowValue). record t.now { rows = refill (length t.now.rows) t.now.rows rs })

@@ -43,15 +43,35 @@ indicator_of (Some set) = string_bytes set
 -- a new table with this style: nothing in it
 abbrev pub new_table : TableStyle → TableValue
 new_table style =
-    record { columns = []; header = None; rows = []; style = style; arrangement = Disabled; delimiter = None; indicator = ellipsis; set_width = None; terminal = no_terminal; no_tty = false; use_stderr = false; enforce_styling = false; style_text_only = false; custom_styling = false }
+    record {
+      columns = [];
+      header = None;
+      rows = [];
+      style = style;
+      arrangement = Disabled;
+      delimiter = None;
+      indicator = ellipsis;
+      set_width = None;
+      terminal = no_terminal;
+      no_tty = false;
+      use_stderr = false;
+      enforce_styling = false;
+      style_text_only = false;
+      custom_styling = false;
+    }
 
 -- the header is replaced, and the columns grow to its cells
 abbrev pub with_header : RowValue → TableValue → TableValue
-with_header row table = record table { header = Some row; columns = columns_grown_to (length row.cells) table.columns }
+with_header row table =
+    record table { header = Some row; columns = columns_grown_to (length row.cells) table.columns }
 
 -- a row is appended, and the columns grow to its cells
 abbrev pub with_row : RowValue → TableValue → TableValue
-with_row row table = record table { rows = table.rows ++ row ∷ []; columns = columns_grown_to (length row.cells) table.columns }
+with_row row table =
+    record table {
+      rows = table.rows ++ row ∷ [];
+      columns = columns_grown_to (length row.cells) table.columns;
+    }
 
 -- rows are appended one after another
 abbrev pub with_rows : List RowValue → TableValue → TableValue
@@ -82,17 +102,21 @@ greatest_cell_count rows = greatest (map (λ (row : RowValue). length row.cells)
 
 -- the columns grow to the cells of each row
 abbrev pub discovered : TableValue → TableValue
-discovered table = record table { columns = columns_grown_to (greatest_cell_count table.rows) table.columns }
+discovered table =
+    record table { columns = columns_grown_to (greatest_cell_count table.rows) table.columns }
 
 -- each cell of a row has a column
 abbrev pub AllCellsHaveColumns : TableValue → Type 0
-AllCellsHaveColumns table = All (λ (row : RowValue). length row.cells ≤ length table.columns) table.rows
+AllCellsHaveColumns table =
+    All (λ (row : RowValue). length row.cells ≤ length table.columns) table.rows
 
--- the i-th constraint goes to the i-th column: superfluous ones are ignored, and further columns keep theirs
+-- the i-th constraint goes to the i-th column: superfluous ones are ignored, and further columns
+-- keep theirs
 abbrev pub constrained : List ColumnConstraint → List ColumnValue → List ColumnValue
 constrained [] columns = columns
 constrained (constraint ∷ more) [] = []
-constrained (constraint ∷ more) (column ∷ columns) = record column { constraint = Some constraint } ∷ constrained more columns
+constrained (constraint ∷ more) (column ∷ columns) =
+    record column { constraint = Some constraint } ∷ constrained more columns
 
 -- the cell at position i of each of these rows, where there is one
 abbrev pub cells_at : List RowValue → ℕ → List (Option CellValue)
@@ -104,11 +128,16 @@ cells_by_row table i = cells_at table.rows i
 
 -- the header's cell at a position, none where there is no header, and then that of each row
 abbrev pub cells_with_header : TableValue → ℕ → List (Option CellValue)
-cells_with_header table i = option_and_then (λ (row : RowValue). slice_get row.cells i) table.header ∷ cells_by_row table i
+cells_with_header table i =
+    option_and_then (λ (row : RowValue). slice_get row.cells i) table.header ∷ cells_by_row table i
 
--- the output is a terminal: never after `force_no_tty`, else what the terminal's facts say of the output in use
+-- the output is a terminal: never after `force_no_tty`, else what the terminal's facts say of the
+-- output in use
 abbrev pub is_tty : TableValue → Bool
-is_tty table = not table.no_tty && (if table.use_stderr then table.terminal.stderr_is_tty else table.terminal.stdout_is_tty)
+is_tty table =
+    not table.no_tty && (if table.use_stderr
+    then table.terminal.stderr_is_tty
+    else table.terminal.stdout_is_tty)
 
 -- the set width, else the terminal's where the output is one
 abbrev pub width_or_terminal : Option ℕ → Bool → Option ℕ → Option ℕ
@@ -133,18 +162,28 @@ visible_row row = record row { cells = map visible_cell row.cells }
 
 -- a cell as its widths, line ends and cuts are found: with custom styling by what is visible of it
 abbrev pub measured_cell : TableValue → CellValue → CellValue
-measured_cell table cell = record cell { text_lines = if table.custom_styling then map visible_text cell.text_lines else cell.text_lines }
+measured_cell table cell =
+    record cell {
+      text_lines =
+          if table.custom_styling then map visible_text cell.text_lines else cell.text_lines;
+    }
 
--- a table as its widths, line ends and cuts are found, which then has no custom styling: what joins where a sequence was taken out isn't looked at again
+-- a table as its widths, line ends and cuts are found, which then has no custom styling: what joins
+-- where a sequence was taken out isn't looked at again
 abbrev pub measured_table : TableValue → TableValue
 measured_table table =
-    record table { header = if table.custom_styling then option_map visible_row table.header else table.header; rows = if table.custom_styling then map visible_row table.rows else table.rows; custom_styling = false }
+    record table {
+      header = if table.custom_styling then option_map visible_row table.header else table.header;
+      rows = if table.custom_styling then map visible_row table.rows else table.rows;
+      custom_styling = false;
+    }
 
 -- its header, if there is one, and its rows
 abbrev pub measured_rows : TableValue → List RowValue
 measured_rows table = header_and_rows (measured_table table)
 
--- the cells at position i of the header and the rows as they are measured, from the top; a row without one is passed over
+-- the cells at position i of the header and the rows as they are measured, from the top; a row
+-- without one is passed over
 abbrev pub column_cells : TableValue → ℕ → List CellValue
 column_cells table i = filter_map (λ (row : RowValue). slice_get row.cells i) (measured_rows table)
 
@@ -158,8 +197,10 @@ column_content_width table i = greatest (map cell_content_width (column_cells ta
 
 -- the content of each column, in list order
 abbrev pub max_content_widths : TableValue → List ℕ
-max_content_widths table = map (column_content_width table) (range_with_len 0 (length table.columns))
+max_content_widths table =
+    map (column_content_width table) (range_with_len 0 (length table.columns))
 
 -- the shown columns, each with its position
 abbrev pub shown_columns : TableValue → List (ℕ × ColumnValue)
-shown_columns table = filter (λ (p : ℕ × ColumnValue). not (is_hidden_column p.1)) (enumerate_from 0 table.columns)
+shown_columns table =
+    filter (λ (p : ℕ × ColumnValue). not (is_hidden_column p.1)) (enumerate_from 0 table.columns)

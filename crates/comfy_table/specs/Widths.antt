@@ -1,4 +1,5 @@
--- The widths of columns: fixed ones, those without a known table width, and what the dynamic widths are asked from.
+-- The widths of columns: fixed ones, those without a known table width, and what the dynamic widths
+-- are asked from.
 use Rattle.std.specs.Prelude.{ℕ, ◌+◌, ◌-◌, ◌*◌, ◌/◌, ◌%◌, List, Option, Some, None, unwrap_or, option_map, map, length, nat_lt, nat_le, max, min, if◌then◌else◌}
 use Rattle.std.specs.List.{range_with_len}
 use Rattle.comfy_parts.specs.CellValue.{ColumnValue, column_padding}
@@ -10,7 +11,8 @@ use Rattle.comfy_table.specs.Frame.{border_count}
 use Rattle.comfy_table.specs.Lines.{longest_line}
 use Rattle.comfy_table.specs.TableValue.{TableValue, table_width, column_content_width, shown_columns}
 
--- the part at an index of an even spread of x over k: x / k, and one more for each of the first x mod k
+-- the part at an index of an even spread of x over k: x / k, and one more for each of the first x
+-- mod k
 abbrev pub part_of : ℕ → ℕ → ℕ → ℕ
 part_of x k j = x / k + (if nat_lt j (x % k) then 1 else 0)
 
@@ -30,7 +32,8 @@ percentage_of (Some w) borders p = Some (min p 100 * (w - borders) / 100)
 -- a width over n shown columns: a fixed one is itself, a percentage needs a known table width
 abbrev pub resolved_width : TableValue → ℕ → Width → Option ℕ
 resolved_width table n (Fixed x) = Some x
-resolved_width table n (Percentage p) = percentage_of (table_width table) (border_count table.style n) p
+resolved_width table n (Percentage p) =
+    percentage_of (table_width table) (border_count table.style n) p
 
 -- the resolved lower boundary of a constraint, if it has one
 abbrev pub lower_boundary : TableValue → ℕ → Option ColumnConstraint → Option ℕ
@@ -51,28 +54,36 @@ without_padding padding x = max 1 (x - padding)
 -- a lower boundary that the content with its padding does not pass is taken at once
 abbrev pub fixed_by_boundary : ℕ → ℕ → Option ℕ → Option ℕ
 fixed_by_boundary content padding None = None
-fixed_by_boundary content padding (Some l) = if nat_le (content + padding) l then Some (without_padding padding l) else None
+fixed_by_boundary content padding (Some l) =
+    if nat_le (content + padding) l then Some (without_padding padding l) else None
 
--- the fixed width of a column: its content's, its resolved absolute width, or its resolved lower boundary
+-- the fixed width of a column: its content's, its resolved absolute width, or its resolved lower
+-- boundary
 abbrev pub fixed_by_constraint : TableValue → ℕ → ℕ → ℕ → Option ColumnConstraint → Option ℕ
 fixed_by_constraint table n content padding (Some ContentWidth) = Some (max 1 content)
-fixed_by_constraint table n content padding (Some (Absolute x)) = option_map (without_padding padding) (resolved_width table n x)
-fixed_by_constraint table n content padding constraint = fixed_by_boundary content padding (lower_boundary table n constraint)
+fixed_by_constraint table n content padding (Some (Absolute x)) =
+    option_map (without_padding padding) (resolved_width table n x)
+fixed_by_constraint table n content padding constraint =
+    fixed_by_boundary content padding (lower_boundary table n constraint)
 
 -- the fixed width of a shown column, where it has one
 abbrev pub fixed_width : TableValue → ℕ × ColumnValue → Option ℕ
 fixed_width table p =
-    fixed_by_constraint table (shown_count table) (column_content_width table p.0) (column_padding p.1) p.1.constraint
+    fixed_by_constraint table (shown_count table) (column_content_width table p.0)
+    (column_padding p.1) p.1.constraint
 
 -- the content, but the upper boundary less the paddings where that boundary is below the content
 abbrev pub capped_content : ℕ → ℕ → Option ℕ → ℕ
 capped_content content padding None = max 1 content
-capped_content content padding (Some u) = if nat_lt u content then without_padding padding u else max 1 content
+capped_content content padding (Some u) =
+    if nat_lt u content then without_padding padding u else max 1 content
 
 -- the width of a shown column that is arranged by its content alone
 abbrev pub disabled_width : TableValue → ℕ × ColumnValue → ℕ
 disabled_width table p =
-    unwrap_or (fixed_width table p) (capped_content (column_content_width table p.0) (column_padding p.1) (upper_boundary table (shown_count table) p.1.constraint))
+    unwrap_or (fixed_width table p)
+    (capped_content (column_content_width table p.0) (column_padding p.1)
+    (upper_boundary table (shown_count table) p.1.constraint))
 
 -- what a dynamic width of a shown column depends on
 pub record ColumnNeeds : Type 0 where
@@ -90,7 +101,14 @@ pub record ColumnNeeds : Type 0 where
 -- the needs of a shown column
 abbrev pub needs_of : TableValue → ℕ × ColumnValue → ColumnNeeds
 needs_of table p =
-    record { content = column_content_width table p.0; padding = column_padding p.1; fixed = fixed_width table p; lower = lower_boundary table (shown_count table) p.1.constraint; upper = upper_boundary table (shown_count table) p.1.constraint; longest = longest_line table p.0 p.1.delimiter }
+    record {
+      content = column_content_width table p.0;
+      padding = column_padding p.1;
+      fixed = fixed_width table p;
+      lower = lower_boundary table (shown_count table) p.1.constraint;
+      upper = upper_boundary table (shown_count table) p.1.constraint;
+      longest = longest_line table p.0 p.1.delimiter;
+    }
 
 -- the needs of the shown columns, in list order
 abbrev pub shown_needs : TableValue → List ColumnNeeds

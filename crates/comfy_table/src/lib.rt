@@ -1,7 +1,8 @@
 //! Tables drawn as text: built from cells, arranged, and framed.
 //!
-//! The functions of `laws` have empty bodies and do nothing when they run. A clause has to stand on a function to be
-//! proved, and a caller's proof gains it by a call: theirs are laws that no other call carries.
+//! The functions of `laws` have empty bodies and do nothing when they run. A clause has to stand on
+//! a function to be proved, and a caller's proof gains it by a call: theirs are laws that no other
+//! call carries.
 #![tactic(auto)]
 
 pub mod laws;

@@ -88,7 +88,22 @@ impl Model for Table {
     // a delimiter is a character
     ghost invariant = { λ t. IsDelimiter t.delimiter };
 
-    ghost view = { λ t. record { columns = t.columns.items; header = t.header; rows = t.rows.items; style = t.style; arrangement = t.arrangement; delimiter = t.delimiter; indicator = indicator_of t.indicator; set_width = t.set_width; terminal = t.terminal; no_tty = t.no_tty; use_stderr = t.use_stderr; enforce_styling = t.enforce_styling; style_text_only = t.style_text_only; custom_styling = t.custom_styling } };
+    ghost view = { λ t. record {
+      columns = t.columns.items;
+      header = t.header;
+      rows = t.rows.items;
+      style = t.style;
+      arrangement = t.arrangement;
+      delimiter = t.delimiter;
+      indicator = indicator_of t.indicator;
+      set_width = t.set_width;
+      terminal = t.terminal;
+      no_tty = t.no_tty;
+      use_stderr = t.use_stderr;
+      enforce_styling = t.enforce_styling;
+      style_text_only = t.style_text_only;
+      custom_styling = t.custom_styling;
+    } };
 }
 
 impl Table {
@@ -114,9 +129,9 @@ impl Table {
         }
     }
 
-    /// Replaces the header, and appends default columns until there are as many as its cells. Returns the table for
-    /// further calls. After `OutOfMemory` the table is unchanged and the new header is dropped; a caller's own proof can
-    /// use that of `try_set_header` only.
+    /// Replaces the header, and appends default columns until there are as many as its cells.
+    /// Returns the table for further calls. After `OutOfMemory` the table is unchanged and the new
+    /// header is dropped; a caller's own proof can use that of `try_set_header` only.
     ///
     /// ```
     /// table
@@ -131,9 +146,9 @@ impl Table {
         into_reference(self.with_header_set(row))
     }
 
-    /// Appends a row, and default columns until there are as many as its cells. Returns the table for further calls. After
-    /// `OutOfMemory` the table is unchanged and the row is dropped; a caller's own proof can use that of `try_add_row`
-    /// only.
+    /// Appends a row, and default columns until there are as many as its cells. Returns the table
+    /// for further calls. After `OutOfMemory` the table is unchanged and the row is dropped; a
+    /// caller's own proof can use that of `try_add_row` only.
     ///
     /// ```
     /// table.add_row(["17", "dock 3"])?.add_row((18u32, "rented"))?;
@@ -146,9 +161,9 @@ impl Table {
         into_reference(self.with_row_added(row))
     }
 
-    /// Replaces the header, and appends default columns until there are as many as its cells. This is for callers that go
-    /// on with the table after `OutOfMemory`: then it is unchanged and the new header is dropped, and the caller's own
-    /// proof can use that.
+    /// Replaces the header, and appends default columns until there are as many as its cells. This
+    /// is for callers that go on with the table after `OutOfMemory`: then it is unchanged and the
+    /// new header is dropped, and the caller's own proof can use that.
     pub fn try_set_header<T: IntoRow>(&mut self, row: T) -> Result<()>
         ensures ok { OnOk result (self.new ≡ with_header (T.row_of row) self.old) }
         ensures err { OnErr result (self.new ≡ self.old) }
@@ -159,8 +174,9 @@ impl Table {
         Ok(())
     }
 
-    /// Appends a row, and default columns until there are as many as its cells. This is for callers that go on with the
-    /// table after `OutOfMemory`: then it is unchanged and the row is dropped, and the caller's own proof can use that.
+    /// Appends a row, and default columns until there are as many as its cells. This is for callers
+    /// that go on with the table after `OutOfMemory`: then it is unchanged and the row is dropped,
+    /// and the caller's own proof can use that.
     pub fn try_add_row<T: IntoRow>(&mut self, row: T) -> Result<()>
         ensures ok { OnOk result (self.new ≡ with_row (T.row_of row) self.old) }
         ensures err { OnErr result (self.new ≡ self.old) }
@@ -176,8 +192,10 @@ impl Table {
     // `set_header` with the reference in a struct: so its clause on `OutOfMemory` can be proved.
     fn with_header_set<T: IntoRow>(&mut self, row: T) -> Result<TableReference<'_>>
         ensures* err { sem 𝓛 (TableStaysIfErr self.entry (reference_of result)) }
-        ensures same_reference { IfOk (reference_of result) (λ table. table.ghost_name ≡ self.entry.ghost_name) }
-        ensures set { IfOk (reference_of result) (λ table. table.now ≡ with_header (T.row_of row) self.old) }
+        ensures same_reference { IfOk (reference_of result)
+            (λ table. table.ghost_name ≡ self.entry.ghost_name) }
+        ensures set { IfOk (reference_of result)
+            (λ table. table.now ≡ with_header (T.row_of row) self.old) }
     {
         self.try_set_header(row)?;
         Ok(TableReference { table: self })
@@ -186,8 +204,10 @@ impl Table {
     // `add_row` with the reference in a struct: so its clause on `OutOfMemory` can be proved.
     fn with_row_added<T: IntoRow>(&mut self, row: T) -> Result<TableReference<'_>>
         ensures* err { sem 𝓛 (TableStaysIfErr self.entry (reference_of result)) }
-        ensures same_reference { IfOk (reference_of result) (λ table. table.ghost_name ≡ self.entry.ghost_name) }
-        ensures added { IfOk (reference_of result) (λ table. table.now ≡ with_row (T.row_of row) self.old) }
+        ensures same_reference { IfOk (reference_of result)
+            (λ table. table.ghost_name ≡ self.entry.ghost_name) }
+        ensures added { IfOk (reference_of result)
+            (λ table. table.now ≡ with_row (T.row_of row) self.old) }
     {
         self.try_add_row(row)?;
         Ok(TableReference { table: self })

@@ -30,7 +30,8 @@ pub fn build_table(table: &Table) -> Result<Lines>
 
 // The drawing of a table as a whole.
 pub(crate) fn drawn(table: &Table, form: OutputForm) -> Result<Output>
-    ensures { IfOk result (λ output. (lines : List Text) × IsTableDrawing table.now lines × (output ≡ with_lines lines (new_output form))) }
+    ensures { IfOk result (λ output. (lines : List Text) × IsTableDrawing table.now lines
+        × (output ≡ with_lines lines (new_output form))) }
 {
     let arranged = ArrangedTable::new(table)?;
     let mut output = Output::new(*table.columns.allocator(), form);

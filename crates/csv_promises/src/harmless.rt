@@ -16,9 +16,10 @@ const NO_SURROUNDINGS: Surroundings<'static> = Surroundings {
     no_color: None,
 };
 
-/// What the program writes for these words and these bytes of a file: nothing where the words ask for raw fields, or for no
-/// drawing, or where it can't be drawn so. Whatever the words, the terminal and the bytes are, it tells a terminal nothing but
-/// characters, line ends, colours and attributes.
+/// What the program writes for these words and these bytes of a file: nothing where the words ask
+/// for raw fields, or for no drawing, or where it can't be drawn so. Whatever the words, the
+/// terminal and the bytes are, it tells a terminal nothing but characters, line ends, colours and
+/// attributes.
 pub fn harmless_output(
     alloc: Global,
     words: &[&str],
@@ -36,8 +37,9 @@ pub fn harmless_output(
     output_for(alloc, input, room, &asked.options).ok()
 }
 
-/// What a caller gets as a value for these words and these bytes, for no terminal: nothing where the words ask for raw fields,
-/// or for no drawing, or where it can't be drawn so. It tells a terminal nothing else either.
+/// What a caller gets as a value for these words and these bytes, for no terminal: nothing where
+/// the words ask for raw fields, or for no drawing, or where it can't be drawn so. It tells a
+/// terminal nothing else either.
 pub fn harmless_drawing(alloc: Global, words: &[&str], input: &[u8]) -> Option<String>
     ensures { IfSome result (λ drawing. IsHarmless (string_bytes drawing)) }
 {

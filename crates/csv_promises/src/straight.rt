@@ -12,10 +12,11 @@ use comfy_csv::{Asked, CsvError, Options, Records, Surroundings, asked_of, decod
 use comfy_run::run::MemorySink;
 use std::alloc::Global;
 
-/// The records of a file's bytes, and what the program writes of them for these words: nothing where the words ask for raw
-/// fields, for sequences in fields or for Markdown, or for no drawing, or where it can't be drawn so. Where no character of
-/// a field takes more than one terminal column, all lines of the table show the same number of columns, under every width
-/// and height, with a bold header too, and where records are expanded.
+/// The records of a file's bytes, and what the program writes of them for these words: nothing
+/// where the words ask for raw fields, for sequences in fields or for Markdown, or for no drawing,
+/// or where it can't be drawn so. Where no character of a field takes more than one terminal
+/// column, all lines of the table show the same number of columns, under every width and height,
+/// with a bold header too, and where records are expanded.
 pub fn straight_output(
     alloc: Global,
     words: &[&str],
@@ -32,8 +33,9 @@ pub fn straight_output(
     Some((records, sink))
 }
 
-/// The same for texts of every script: nothing also where a width is kept to, or where rows are cut. Where each field is
-/// drawn as it is and takes at most 65535 terminal columns, all lines of the table show the same number of columns.
+/// The same for texts of every script: nothing also where a width is kept to, or where rows are
+/// cut. Where each field is drawn as it is and takes at most 65535 terminal columns, all lines of
+/// the table show the same number of columns.
 pub fn straight_whole_output(
     alloc: Global,
     words: &[&str],
@@ -61,7 +63,8 @@ fn written(
     room: usize,
 ) -> Option<(Asked, Records, MemorySink)>
     ensures { IfSome result (λ w.
-        IsWritten (map (λ x. x.now) words.entry.now) surroundings.entry w.0 input.now w.1 w.2.bytes) }
+        IsWritten (map (λ x. x.now) words.entry.now) surroundings.entry w.0 input.now w.1
+        w.2.bytes) }
 {
     let asked = asked_of(alloc, words, surroundings).ok()?;
     let look = asked.options.look;

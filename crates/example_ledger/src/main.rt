@@ -1,4 +1,5 @@
-//! Draws a ledger: titles above the columns, amounts at the right, long texts wrapped, and the sum at the end.
+//! Draws a ledger: titles above the columns, amounts at the right, long texts wrapped, and the sum
+//! at the end.
 #![tactic(auto)]
 
 use comfy_table::presets::UTF8_FULL;

@@ -1,7 +1,9 @@
-//! Prints what a run of tests gave: PASS and FAIL in colours, times at the right, and long messages cut at three lines.
+//! Prints what a run of tests gave: PASS and FAIL in colours, times at the right, and long messages
+//! cut at three lines.
 //!
-//! The report is as wide as COLUMNS says, and has colours where it is printed on a terminal and NO_COLOR isn't set. Its
-//! arguments say otherwise: `color` or `plain`, and then one or more widths, at each of which the report is printed.
+//! The report is as wide as COLUMNS says, and has colours where it is printed on a terminal and
+//! NO_COLOR isn't set. Its arguments say otherwise: `color` or `plain`, and then one or more
+//! widths, at each of which the report is printed.
 #![tactic(auto)]
 
 mod report;
@@ -27,7 +29,8 @@ const TESTS: &[Test] = &[
         name: "store::crash",
         millis: 61_007,
         failure: Some(
-            "17 records wanted, 16 found: the second of two writes is lost although the log was flushed before it (src/log.rs:214)",
+            "17 records wanted, 16 found: the second of two writes is lost although \
+             the log was flushed before it (src/log.rs:214)",
         ),
     },
     Test {

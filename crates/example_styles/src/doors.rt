@@ -9,13 +9,15 @@ use std::io::IsTerminal;
 // names and states
 const DOORS: &[(&str, &str)] = &[("front", "open"), ("cellar", "ajar")];
 
-/// Prints the states of two doors: first with whole cells in colours and attributes, then with their texts alone.
+/// Prints the states of two doors: first with whole cells in colours and attributes, then with
+/// their texts alone.
 pub fn print_doors(rt: &HostRuntime, doors: &mut Table) -> anyhow::Result<()> {
     fill(doors, rt.alloc())?;
-    // Colours are written where the output is a terminal, and nowhere else: this is the line to copy.
+    // Colours are written where the output is a terminal, and nowhere else: this is the line to
+    // copy.
     doors.set_terminal(terminal(rt));
-    // This writes them wherever the output goes. It stands here since the stored output of this example, which is no
-    // terminal, has to show them. Leave it out of a program of your own.
+    // This writes them wherever the output goes. It stands here since the stored output of this
+    // example, which is no terminal, has to show them. Leave it out of a program of your own.
     doors.enforce_styling();
     print(rt, doors)?;
     doors.style_text_only();

@@ -1,6 +1,6 @@
-//! Shows styles side by side: a small table in four presets, with rounded corners, and with solid inner borders. Then
-//! colours and attributes: round whole cells, and round their texts alone. At last columns that share a width, and
-//! constraints.
+//! Shows styles side by side: a small table in four presets, with rounded corners, and with solid
+//! inner borders. Then colours and attributes: round whole cells, and round their texts alone. At
+//! last columns that share a width, and constraints.
 #![tactic(auto)]
 
 mod books;

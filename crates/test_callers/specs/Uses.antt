@@ -21,11 +21,14 @@ use Rattle.test_callers.specs.declared.uses.items.NumberRows.{NumberRows}
 abbrev pub HasFrameOf : ℕ → TableValue → List Text → Type 0
 HasFrameOf n table lines =
     (widths : List ℕ) × (lines ≡ drawing table widths)
-    × ((line : LineStyle) → count (frame_line table.style line (whole_widths (infos_of table widths))) ≡ n)
+    × ((line : LineStyle)
+    → count (frame_line table.style line (whole_widths (infos_of table widths))) ≡ n)
 
 -- a table of a header and a row that keeps to a width
 abbrev pub table_within : ℕ → RowValue → RowValue → TableValue
-table_within w header row = with_row row (with_header header (record (new_table ascii_full) { set_width = Some w; arrangement = Dynamic }))
+table_within w header row =
+    with_row row (with_header header
+    (record (new_table ascii_full) { set_width = Some w; arrangement = Dynamic }))
 
 -- a new table of a header and a row
 abbrev pub table_of_two : RowValue → RowValue → TableValue
@@ -34,44 +37,60 @@ table_of_two header row = with_row row (with_header header (new_table ascii_full
 -- no line of the text has more than w characters, where the table is plain and w is enough for it
 abbrev pub IsPrintedWithin : ℕ → TableValue → Text → Type 0
 IsPrintedWithin w table text =
-    NoConstraints table → ((widths : List ℕ) → IsPrintableTable table widths) → least_total table ≤ w → All (λ line. count line ≤ w) (slice_split (λ b. b == 0x0A) text)
+    NoConstraints table → ((widths : List ℕ) → IsPrintableTable table widths)
+    → least_total table ≤ w
+    → All (λ line. count line ≤ w) (slice_split (λ b. b == 0x0A) text)
 
--- a page is appended, no line of which has more than w characters, where the table without styling and line feeds of its own keeps to w, is plain, and w is enough for it
+-- a page is appended, no line of which has more than w characters, where the table without styling
+-- and line feeds of its own keeps to w, is plain, and w is enough for it
 abbrev pub AppendsPageWithin : TableValue → Text → Text → Type 0
 AppendsPageWithin table old new =
     (page : Text) × (new ≡ old ++ page)
-    × ((w : ℕ) → table.arrangement ≡ Dynamic → table_width table ≡ Some w → should_style table ≡ false → table.custom_styling ≡ false → HasUnbrokenStyle table → IsPrintedWithin w table page)
+    × ((w : ℕ) → table.arrangement ≡ Dynamic → table_width table ≡ Some w
+    → should_style table ≡ false → table.custom_styling ≡ false → HasUnbrokenStyle table
+    → IsPrintedWithin w table page)
 
 -- a table of two texts, of which the first one is hidden
 abbrev pub with_hidden : Text → Text → TableValue
 with_hidden hidden text =
-    let table : TableValue = with_row (plain_row (plain_cell hidden ∷ plain_cell text ∷ [])) (new_table ascii_full) in
+    let table : TableValue =
+    with_row (plain_row (plain_cell hidden ∷ plain_cell text ∷ [])) (new_table ascii_full) in
     record table { columns = constrained (Hidden ∷ []) table.columns }
 
 -- a table of one text that keeps to a width
 abbrev pub text_within : ℕ → Text → TableValue
-text_within w text = with_row (plain_row (plain_cell text ∷ [])) (record (new_table ascii_full) { set_width = Some w; arrangement = Dynamic })
+text_within w text =
+    with_row (plain_row (plain_cell text ∷ []))
+    (record (new_table ascii_full) { set_width = Some w; arrangement = Dynamic })
 
 -- what is visible of the lines of that text in a new column of content width w
 abbrev pub lines_of_one : TableValue → ℕ → Text → List Text
 lines_of_one table w text =
-    map (λ (line : CellLine). line.measured) (row_cell_lines table (plain_row (plain_cell text ∷ [])) (info_of (new_column 0) w) (plain_cell text))
+    map (λ (line : CellLine). line.measured)
+    (row_cell_lines table (plain_row (plain_cell text ∷ [])) (info_of (new_column 0) w)
+    (plain_cell text))
 
--- the lines are a drawing of the table in which the lines of the text, one after another, have all its characters, in order, but for spaces and line feeds
+-- the lines are a drawing of the table in which the lines of the text, one after another, have all
+-- its characters, in order, but for spaces and line feeds
 abbrev pub IsDrawnWhole : TableValue → Text → List Text → Type 0
 IsDrawnWhole table text lines =
     (w : ℕ) × (lines ≡ drawing table (w ∷ []))
-    × (characters_without 0x20 (concat (lines_of_one table w text)) ≡ characters_without 0x20 (concat (slice_split (λ b. b == 0x0A) text)))
+    × (characters_without 0x20 (concat (lines_of_one table w text))
+    ≡ characters_without 0x20 (concat (slice_split (λ b. b == 0x0A) text)))
 
 -- the lines are a drawing of the table without colours and attributes
 abbrev pub IsUnstyledDrawing : TableValue → List Text → Type 0
 IsUnstyledDrawing table lines = (widths : List ℕ) × (lines ≡ drawing (unstyled table) widths)
 
--- the lines are a drawing of the table, whose rows and header have cells for which P holds in each shown column
-abbrev pub IsDrawnWithCells : (RowValue → ColumnInfo → CellValue → Type 0) → TableValue → List Text → Type 0
+-- the lines are a drawing of the table, whose rows and header have cells for which P holds in each
+-- shown column
+abbrev pub IsDrawnWithCells : (RowValue → ColumnInfo → CellValue → Type 0) → TableValue → List Text
+    → Type 0
 IsDrawnWithCells P table lines =
     (widths : List ℕ) × (lines ≡ drawing table widths)
-    × All (λ (row : RowValue). All (λ (p : ℕ × ColumnInfo). (cell : CellValue) → slice_get row.cells p.0 ≡ Some cell → P row p.1 cell) (shown_infos (infos_of table widths))) (header_and_rows table)
+    × All (λ (row : RowValue). All (λ (p : ℕ × ColumnInfo). (cell : CellValue)
+    → slice_get row.cells p.0 ≡ Some cell
+    → P row p.1 cell) (shown_infos (infos_of table widths))) (header_and_rows table)
 
 -- the rows that the iterator still gives: each number that is left, in a list of its own
 abbrev pub rows_left : NumberRows → List (List ℕ)

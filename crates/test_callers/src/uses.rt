@@ -1,4 +1,5 @@
-//! Short functions as a caller writes them, each with a claim of its own that the contracts below carry.
+//! Short functions as a caller writes them, each with a claim of its own that the contracts below
+//! carry.
 
 ghost use Rattle.std.specs.Prelude.{◌≡◌, ◌<◌, [], ◌∷◌, IfOk, None, OnErr, OnOk, Some, false, if◌then◌else◌, max, string_bytes};
 ghost use Rattle.comfy_parts.specs.CellValue.{number_cell, plain_cell, plain_row, with_cell};
@@ -29,14 +30,16 @@ use std::alloc::Global;
 
 /// A row of two texts.
 pub fn pair(alloc: Global, first: &str, second: &str) -> comfy_table::Result<Row>
-    ensures { IfOk result (λ row. row ≡ plain_row (plain_cell first.now ∷ plain_cell second.now ∷ [])) }
+    ensures { IfOk result (λ row. row
+        ≡ plain_row (plain_cell first.now ∷ plain_cell second.now ∷ [])) }
 {
     [first, second].into_row(alloc)
 }
 
 /// A row of a name and a number.
 pub fn counted(alloc: Global, name: String, count: u64) -> comfy_table::Result<Row>
-    ensures { IfOk result (λ row. row ≡ plain_row (plain_cell (string_bytes name) ∷ number_cell count ∷ [])) }
+    ensures { IfOk result (λ row. row
+        ≡ plain_row (plain_cell (string_bytes name) ∷ number_cell count ∷ [])) }
 {
     let mut row = Row::new(alloc);
     row.add_cell(Cell::new_owned(alloc, name)?)?
@@ -46,13 +49,15 @@ pub fn counted(alloc: Global, name: String, count: u64) -> comfy_table::Result<R
 
 /// Adds a row of two texts. After `OutOfMemory` the table is unchanged.
 pub fn add_pair(table: &mut Table, first: &str, second: &str) -> comfy_table::Result<()>
-    ensures added { OnOk result (table.new ≡ with_row (plain_row (plain_cell first.now ∷ plain_cell second.now ∷ [])) table.old) }
+    ensures added { OnOk result (table.new
+        ≡ with_row (plain_row (plain_cell first.now ∷ plain_cell second.now ∷ [])) table.old) }
     ensures unchanged { OnErr result (table.new ≡ table.old) }
 {
     table.try_add_row([first, second])
 }
 
-/// Appends a text to a row where there is memory for it, and says whether there was. The row is unchanged otherwise.
+/// Appends a text to a row where there is memory for it, and says whether there was. The row is
+/// unchanged otherwise.
 pub fn appended(alloc: Global, row: &mut Row, text: &str) -> bool
     ensures { row.new ≡ (if result then with_cell (plain_cell text.now) row.old else row.old) }
 {
@@ -64,19 +69,24 @@ pub fn appended(alloc: Global, row: &mut Row, text: &str) -> bool
 
 /// The drawing of a header and one row.
 pub fn drawn(alloc: Global, header: Row, row: Row) -> comfy_table::Result<Lines>
-    ensures { IfOk result (λ lines. IsDrawingOf (with_row row (with_header header (new_table ascii_full))) lines) }
+    ensures { IfOk result (λ lines.
+        IsDrawingOf (with_row row (with_header header (new_table ascii_full))) lines) }
 {
     let mut table = Table::new(alloc);
     table.set_header(header)?.add_row(row)?;
     table.lines()
 }
 
-/// Draws a table over a whole width. Where a column is shown and none of the visible ones has a constraint, each frame
-/// line has as many characters as the width, or as borders, paddings and one character for each shown column, whichever
-/// is more.
+/// Draws a table over a whole width. Where a column is shown and none of the visible ones has a
+/// constraint, each frame line has as many characters as the width, or as borders, paddings and one
+/// character for each shown column, whichever is more.
 pub fn drawn_over_width(table: &mut Table, width: u16) -> comfy_table::Result<Lines>
-    ensures set { table.new ≡ record table.old { set_width = Some width; arrangement = ContentArrangement.DynamicFullWidth } }
-    ensures frame { IfOk result (λ lines. 0 < shown_count table.old → NoConstraints table.old → HasFrameOf (max width (least_total table.old)) table.new lines) }
+    ensures set { table.new ≡ record table.old {
+      set_width = Some width;
+      arrangement = ContentArrangement.DynamicFullWidth;
+    } }
+    ensures frame { IfOk result (λ lines. 0 < shown_count table.old → NoConstraints table.old
+        → HasFrameOf (max width (least_total table.old)) table.new lines) }
 {
     table
         .set_width(width)
@@ -84,17 +94,20 @@ pub fn drawn_over_width(table: &mut Table, width: u16) -> comfy_table::Result<Li
     table.lines()
 }
 
-/// The drawing of a table. Where neither colours and attributes are written nor sequences inside cells are looked for, it
-/// is the drawing without them.
+/// The drawing of a table. Where neither colours and attributes are written nor sequences inside
+/// cells are looked for, it is the drawing without them.
 pub fn drawn_unstyled(table: &Table) -> comfy_table::Result<Lines>
-    ensures { IfOk result (λ lines. should_style table.now ≡ false → table.now.custom_styling ≡ false → IsUnstyledDrawing table.now lines) }
+    ensures { IfOk result (λ lines. should_style table.now ≡ false
+        → table.now.custom_styling ≡ false
+        → IsUnstyledDrawing table.now lines) }
 {
     table.lines()
 }
 
 /// A sink that holds the output for an input, both in memory.
 pub fn output_for(alloc: Global, input: &[u8], room: usize) -> Result<MemorySink, RunError>
-    ensures { IfOk result (λ sink. IsOutputFor None ContentArrangement.Disabled ascii_full input.now sink.bytes) }
+    ensures { IfOk result (λ sink. IsOutputFor None ContentArrangement.Disabled ascii_full input.now
+        sink.bytes) }
 {
     let mut source = MemorySource::new(input, 0);
     let mut sink = MemorySink::new(alloc, room, 0)?;

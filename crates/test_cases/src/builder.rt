@@ -1,4 +1,5 @@
-//! A case's table, built line by line through the public surface. A call that is new gets its words here.
+//! A case's table, built line by line through the public surface. A call that is new gets its words
+//! here.
 
 use crate::fault::{Fault, Result};
 use crate::request::{Request, request_of};

@@ -57,7 +57,8 @@ impl Case {
         }
     }
 
-    /// Whether a line asks for nothing, or for nothing any more since an earlier line couldn't be read.
+    /// Whether a line asks for nothing, or for nothing any more since an earlier line couldn't be
+    /// read.
     pub fn passes_over(&self, line: &str) -> bool {
         self.unread.is_some() || line.is_empty() || line.starts_with('#')
     }

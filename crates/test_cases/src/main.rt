@@ -1,5 +1,6 @@
-//! Reads cases from standard input, draws each one's table and compares. A case with a line that can't be read is
-//! counted by itself. Status 1 where a case failed or couldn't be read, or where there was no case.
+//! Reads cases from standard input, draws each one's table and compares. A case with a line that
+//! can't be read is counted by itself. Status 1 where a case failed or couldn't be read, or where
+//! there was no case.
 #![tactic(auto)]
 
 mod builder;

@@ -32,7 +32,8 @@ pub fn text(alloc: Global, word: &str) -> Result<String> {
         } else {
             push_escaped(&mut text, part)?;
         }
-        // no part between two backslashes: both stand for one, and what is behind them is as it is written
+        // no part between two backslashes: both stand for one, and what is behind them is as it is
+        // written
         is_as_written = !is_as_written && part.is_empty();
     }
     Ok(text)

@@ -25,8 +25,8 @@ impl Trial {
         }
     }
 
-    /// Does what a line asks for, unless an earlier line couldn't be read. Only running out of memory is returned as an
-    /// error.
+    /// Does what a line asks for, unless an earlier line couldn't be read. Only running out of
+    /// memory is returned as an error.
     pub fn take(&mut self, number: u64, line: &str) -> Result<()> {
         if self.case.passes_over(line) {
             return Ok(());

@@ -6,8 +6,12 @@ use Rattle.comfy_csv.specs.Drawn.{IsOutputFor, IsOutputOf}
 use Rattle.comfy_csv.specs.Laws.{EachText}
 use Rattle.comfy_csv.specs.MarkdownLines.{GivesRecordsBack}
 
--- the records of an input are given back by its output, where no field is too wide and a column is drawn
+-- the records of an input are given back by its output, where no field is too wide and a column is
+-- drawn
 abbrev pub GivesInputBack : Options → Text → Text → Type 0
 GivesInputBack options input output =
     (made : IsOutputFor options input output)
-    × ((drawn : IsOutputOf options made.records output) → EachText (λ text. measure text ≤ 65535) options.look made.records → 0 < length drawn.content.columns → GivesRecordsBack options made.records output)
+    × ((drawn : IsOutputOf options made.records output)
+    → EachText (λ text. measure text ≤ 65535) options.look made.records
+    → 0 < length drawn.content.columns
+    → GivesRecordsBack options made.records output)

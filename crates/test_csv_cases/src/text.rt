@@ -2,7 +2,8 @@
 
 use std::alloc::AllocError;
 
-/// Adds what a word stands for, in which `\n`, `\t`, `\r`, `\e`, `\a` and `\\` stand for characters.
+/// Adds what a word stands for, in which `\n`, `\t`, `\r`, `\e`, `\a` and `\\` stand for
+/// characters.
 pub fn push_text(text: &mut String, word: &str) -> Result<(), AllocError> {
     let mut is_escaped = false;
     for c in word.chars() {

@@ -38,35 +38,38 @@ pub fn output_for(
     Ok(sink)
 }
 
-/// The same, for a terminal. Where fields are cleaned and the style holds no control character, nothing but line feeds and
-/// SGR sequences speaks to it, whatever bytes the input has.
+/// The same, for a terminal. Where fields are cleaned and the style holds no control character,
+/// nothing but line feeds and SGR sequences speaks to it, whatever bytes the input has.
 pub fn output_for_terminal(
     alloc: Global,
     input: &[u8],
     room: usize,
     options: &Options,
 ) -> Result<MemorySink, CsvError>
-    ensures { IfOk result (λ sink. IsLookWithoutControls options.now.look → HasNoStrayControl (visible_text sink.bytes)) }
+    ensures { IfOk result (λ sink. IsLookWithoutControls options.now.look
+        → HasNoStrayControl (visible_text sink.bytes)) }
 {
     outputs_hold_no_controls();
     output_for(alloc, input, room, options)
 }
 
-/// The same for Markdown. Where a column is drawn and no field is wider than 65535 terminal columns, each record that is
-/// drawn is one line, from which its fields can be read back.
+/// The same for Markdown. Where a column is drawn and no field is wider than 65535 terminal
+/// columns, each record that is drawn is one line, from which its fields can be read back.
 pub fn output_for_markdown(
     alloc: Global,
     input: &[u8],
     room: usize,
     options: &Options,
 ) -> Result<MemorySink, CsvError>
-    ensures { IfOk result (λ sink. options.now.look.is_markdown ≡ true → GivesInputBack options.now input.now sink.bytes) }
+    ensures { IfOk result (λ sink. options.now.look.is_markdown ≡ true
+        → GivesInputBack options.now input.now sink.bytes) }
 {
     markdown_lines_give_back_their_fields();
     output_for(alloc, input, room, options)
 }
 
-/// The same for what words ask for, unless that is raw fields. Then, and after every error, there is none.
+/// The same for what words ask for, unless that is raw fields. Then, and after every error, there
+/// is none.
 pub fn output_for_words(
     alloc: Global,
     input: &[u8],
@@ -84,9 +87,11 @@ pub fn output_for_words(
     output_for(alloc, input, room, &asked.options).ok()
 }
 
-/// A field in which no control character stands but line feeds, and none that turns the direction of text.
+/// A field in which no control character stands but line feeds, and none that turns the direction
+/// of text.
 pub fn plain_field(alloc: Global, field: &str) -> Result<String, AllocError>
-    ensures { IfOk result (λ text. list_any (is_harmful nothing_kept) (chars (string_bytes text)) ≡ false) }
+    ensures { IfOk result (λ text. list_any (is_harmful nothing_kept) (chars (string_bytes text))
+        ≡ false) }
 {
     cleaned_fields_hold_no_controls();
     cleaned(alloc, field, NOTHING_KEPT)

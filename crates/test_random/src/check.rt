@@ -118,7 +118,8 @@ fn is_drawn_alike(alloc: Global, visible: &Sample, drawing: &Drawing) -> Result<
     Ok(visible.contents.has_formed || other.has_counts_of(drawing))
 }
 
-/// Whether a frame line of so many characters keeps to the set width, where no constraint says otherwise.
+/// Whether a frame line of so many characters keeps to the set width, where no constraint says
+/// otherwise.
 pub fn keeps_to_width(table: &Table, count: usize) -> bool {
     let Some(width) = table.width() else {
         return true;

@@ -102,8 +102,8 @@ fn with_settings(rng: &mut Pcg32, cell: Cell, kind: Kind) -> Cell {
     cell.set_alignment(alignment(rng))
 }
 
-/// Changes the settings of some columns. In three tables of four none has a constraint but that it is hidden. Now and then
-/// the first two stand in each other's place, with labels that say nothing.
+/// Changes the settings of some columns. In three tables of four none has a constraint but that it
+/// is hidden. Now and then the first two stand in each other's place, with labels that say nothing.
 pub fn change_columns(rng: &mut Pcg32, columns: &mut [Column], kind: Kind) {
     let is_free = !once_in(rng, 4);
     for column in columns.iter_mut() {

@@ -39,7 +39,8 @@ fn has_control_in_row(alloc: Global, knows_sequences: bool, row: &Row) -> Result
     Ok(false)
 }
 
-// whether a control character other than a line feed is seen in a text, whose sequences are seen where they aren't known
+// whether a control character other than a line feed is seen in a text, whose sequences are seen
+// where they aren't known
 fn has_control(alloc: Global, knows_sequences: bool, text: &str) -> Result<bool> {
     let mut scan = Scan::new(alloc, knows_sequences);
     scan.read(text)?;

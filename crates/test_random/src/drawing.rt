@@ -30,7 +30,8 @@ pub struct Drawing {
 }
 
 impl Drawing {
-    /// No line was read yet. Sequences are read as such where they are known, and else as characters.
+    /// No line was read yet. Sequences are read as such where they are known, and else as
+    /// characters.
     pub fn new(alloc: Global, knows_sequences: bool) -> Drawing {
         Drawing {
             frame_counts: Vec::new(alloc),
@@ -77,7 +78,8 @@ impl Drawing {
     }
 }
 
-/// What a line of a row has between its side borders, cut at the junctions: the piece of the shown column at a place.
+/// What a line of a row has between its side borders, cut at the junctions: the piece of the shown
+/// column at a place.
 pub fn piece_at(line: &str, place: usize) -> &str {
     let line = line.strip_prefix(BORDER).unwrap_or(line);
     let line = line.strip_suffix(BORDER).unwrap_or(line);

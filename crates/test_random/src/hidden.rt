@@ -6,7 +6,8 @@ use std::alloc::Global;
 // higher and wider than a random text
 const OTHER: &str = "another text\nof\nfour\nlines";
 
-/// Whether a table is drawn as before where other cells stand in its hidden columns, and beyond its columns.
+/// Whether a table is drawn as before where other cells stand in its hidden columns, and beyond its
+/// columns.
 pub fn hidden_columns_tell_nothing(alloc: Global, table: &Table) -> Result<bool> {
     let other = with_others(alloc, table)?;
     let lines = table.to_text()?;

@@ -13,13 +13,14 @@ pub struct Reader {
     knows_sequences: bool,
     drawn: Scan,
     wanted: Scan,
-    /// Whether the cells of each row that was read have the characters of their texts, in order and but for spaces and
-    /// delimiters, each under the same sequences.
+    /// Whether the cells of each row that was read have the characters of their texts, in order and
+    /// but for spaces and delimiters, each under the same sequences.
     pub are_kept: bool,
 }
 
 impl Reader {
-    /// No row was read yet of a table with this delimiter, whose setting for sequences is on where they are known.
+    /// No row was read yet of a table with this delimiter, whose setting for sequences is on where
+    /// they are known.
     pub fn new(alloc: Global, delimiter: char, knows_sequences: bool) -> Reader {
         Reader {
             delimiter,
@@ -74,7 +75,8 @@ impl Reader {
         Ok(())
     }
 
-    // reads a cell's text, which was drawn whole, or up to some place where the row's height is limited
+    // reads a cell's text, which was drawn whole, or up to some place where the row's height is
+    // limited
     fn read_text(&mut self, cell: &Cell, is_limited: bool) -> Result<()> {
         let content = cell.content()?;
         self.wanted.read(content.as_str())?;
@@ -92,8 +94,8 @@ fn delimiter_of(delimiter: char, column: &Column, cell: &Cell) -> char {
         .unwrap_or(delimiter)
 }
 
-// the lines of a row that hold nothing but its texts: where sequences are taken out, the last line may end in a cut,
-// whose characters can form others
+// the lines of a row that hold nothing but its texts: where sequences are taken out, the last line
+// may end in a cut, whose characters can form others
 fn lines_to_compare<'a>(
     knows_sequences: bool,
     row: &Row,

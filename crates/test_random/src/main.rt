@@ -1,7 +1,8 @@
-//! Draws random tables of awkward texts, and looks at each drawing from outside. With each of them it draws another one of
-//! many scripts, whose edges have to be straight where its characters fit their columns. How many others are crooked is
-//! printed too: it is no fault. Standard input holds `SEED COUNT`: the same seed gives the same tables. Each fault is printed
-//! with the number of its table. Status 1 where there is one.
+//! Draws random tables of awkward texts, and looks at each drawing from outside. With each of them
+//! it draws another one of many scripts, whose edges have to be straight where its characters fit
+//! their columns. How many others are crooked is printed too: it is no fault. Standard input holds
+//! `SEED COUNT`: the same seed gives the same tables. Each fault is printed with the number of its
+//! table. Status 1 where there is one.
 #![tactic(auto)]
 
 mod check;
@@ -72,8 +73,8 @@ fn counted(counts: Counts, has_fault: bool, is_crooked: bool) -> Counts {
     }
 }
 
-// what is wrong with the next sample, or else with the next table of many scripts, and whether that one is crooked where
-// nothing is promised
+// what is wrong with the next sample, or else with the next table of many scripts, and whether that
+// one is crooked where nothing is promised
 fn next_found(alloc: Global, rng: &mut Pcg32) -> Result<(Option<&'static str>, bool)> {
     let of_sample = fault_of_sample(alloc, rng)?;
     let edges = straight::next_edges(alloc, rng)?;

@@ -32,7 +32,8 @@ impl Sample {
         Sample::new(alloc, &mut self.numbers.clone()?, true)
     }
 
-    /// A table of up to five rows and four columns, with texts without their sequences where these are only to be visible.
+    /// A table of up to five rows and four columns, with texts without their sequences where these
+    /// are only to be visible.
     pub fn new(alloc: Global, rng: &mut Pcg32, is_visible: bool) -> Result<Sample> {
         let numbers = rng.clone()?;
         let mut sample = Sample::without_rows(alloc, numbers, Contents::new(rng, is_visible));

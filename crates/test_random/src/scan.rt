@@ -1,4 +1,5 @@
-//! What is visible of a text, read from outside: its characters, and the sequences that are open before each.
+//! What is visible of a text, read from outside: its characters, and the sequences that are open
+//! before each.
 
 use comfy_table::Result;
 use std::alloc::Global;
@@ -14,8 +15,8 @@ pub struct Scan {
     delimiter: char,
     // the parameters of the sequences that are open
     open: String,
-    /// The characters but for spaces, line feeds, delimiters and the indicator of a cut, each after the sequences that are
-    /// open before it.
+    /// The characters but for spaces, line feeds, delimiters and the indicator of a cut, each after
+    /// the sequences that are open before it.
     pub found: String,
     /// All characters that were visible.
     pub visible: String,
@@ -71,7 +72,8 @@ impl Scan {
         self.open.clear();
     }
 
-    // reads the sequence or the character at a text's front, if there is one, and returns what is after it
+    // reads the sequence or the character at a text's front, if there is one, and returns what is
+    // after it
     fn read_front<'a>(&mut self, text: &'a str) -> Result<&'a str> {
         if self.knows_sequences
             && let Some((parameters, behind)) = sequence_of(text)

@@ -7,8 +7,9 @@ use rand::RngExt;
 use rand_pcg::Pcg32;
 use std::alloc::Global;
 
-// words whose characters join no other: Chinese, Japanese, Korean, Latin with marks, Greek, Cyrillic, Arabic without an
-// alef, Hebrew without a lamed, Devanagari, Thai, Georgian, emoji that stand by themselves, and printable ASCII
+// words whose characters join no other: Chinese, Japanese, Korean, Latin with marks, Greek,
+// Cyrillic, Arabic without an alef, Hebrew without a lamed, Devanagari, Thai, Georgian, emoji that
+// stand by themselves, and printable ASCII
 const WORDS: [&str; 24] = [
     "年度报告",
     "東京タワー",
@@ -36,8 +37,9 @@ const WORDS: [&str; 24] = [
     "word",
 ];
 
-// words whose characters join others: Arabic with alefs, Hebrew with a lamed, Khmer, Tifinagh, Buginese, Lisu, Old Turkic,
-// Kirat Rai, a struck letter, families, runs of one to seven halves of flags, skin tones, keycaps, selectors, U+00A0
+// words whose characters join others: Arabic with alefs, Hebrew with a lamed, Khmer, Tifinagh,
+// Buginese, Lisu, Old Turkic, Kirat Rai, a struck letter, families, runs of one to seven halves of
+// flags, skin tones, keycaps, selectors, U+00A0
 const JOINED: [&str; 48] = [
     "كتاب",
     "السلام",
@@ -89,8 +91,8 @@ const JOINED: [&str; 48] = [
     "\u{338}",
 ];
 
-// what is no word: parts of words above, joiners, selectors, parts of Hangul, control characters, and U+FE01 directly beside
-// U+FE0E and U+FE0F, in each order
+// what is no word: parts of words above, joiners, selectors, parts of Hangul, control characters,
+// and U+FE01 directly beside U+FE0E and U+FE0F, in each order
 const WILD: [&str; 46] = [
     "🇩",
     "🏽",

@@ -2,8 +2,8 @@
 
 use comfy_table::{ContentArrangement, Result, Table};
 
-/// Whether the lines above the bottom border stay where the first row is added once more. That is promised where no width
-/// is kept and each cell of the row has a column.
+/// Whether the lines above the bottom border stay where the first row is added once more. That is
+/// promised where no width is kept and each cell of the row has a column.
 pub fn shown_lines_stay(table: &Table) -> Result<bool> {
     let Some(row) = table.row(0) else {
         return Ok(true);

@@ -1,4 +1,5 @@
-//! Random tables of many scripts, whose edges have to be straight in terminal columns wherever that is promised.
+//! Random tables of many scripts, whose edges have to be straight in terminal columns wherever that
+//! is promised.
 
 mod promise;
 mod random;
@@ -24,8 +25,8 @@ pub struct Edges {
     pub are_crooked: bool,
 }
 
-/// What is found of the edges of the next random table. They are promised to be straight where it is as wide as its texts,
-/// which may be any, and where each character fits its column.
+/// What is found of the edges of the next random table. They are promised to be straight where it
+/// is as wide as its texts, which may be any, and where each character fits its column.
 pub fn next_edges(alloc: Global, rng: &mut Pcg32) -> Result<Edges> {
     let mut table = Table::new(alloc);
     edges_in(alloc, rng, &mut table)

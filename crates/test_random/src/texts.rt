@@ -6,7 +6,8 @@ use rand::seq::IndexedRandom;
 use rand_pcg::Pcg32;
 use std::alloc::Global;
 
-// letters, spaces, wide characters, marks, joiners, flags, conjuncts, escape sequences and control characters
+// letters, spaces, wide characters, marks, joiners, flags, conjuncts, escape sequences and control
+// characters
 const PIECES: [&str; 28] = [
     "a",
     "bc",

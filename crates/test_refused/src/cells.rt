@@ -1,4 +1,5 @@
-//! The calls of a cell. They own it or only read it, so after a refusal there is nothing to look at.
+//! The calls of a cell. They own it or only read it, so after a refusal there is nothing to look
+//! at.
 
 use crate::outcome::{Outcome, succeeded};
 use comfy_table::{Attribute, Cell, Result};

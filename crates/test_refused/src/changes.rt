@@ -1,4 +1,5 @@
-//! The calls that change a table. All but those that add several rows leave it as it was where they are refused.
+//! The calls that change a table. All but those that add several rows leave it as it was where they
+//! are refused.
 
 use crate::comparison::difference;
 use crate::fixtures::fill_full;

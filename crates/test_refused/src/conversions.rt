@@ -1,4 +1,5 @@
-//! The conversions of values that own memory, or are copied by parts. They are dropped when they are refused.
+//! The conversions of values that own memory, or are copied by parts. They are dropped when they
+//! are refused.
 
 use crate::outcome::{Outcome, succeeded};
 use comfy_table::{Cell, IntoCell, IntoCells, IntoRow, Result};

@@ -1,8 +1,9 @@
-//! Makes each call that standard input names, one a line, and prints what came of it. Where the call was refused its
-//! memory, it looks at what stands then. Of a call that adds several rows it says on standard error how many are kept.
+//! Makes each call that standard input names, one a line, and prints what came of it. Where the
+//! call was refused its memory, it looks at what stands then. Of a call that adds several rows it
+//! says on standard error how many are kept.
 //!
-//! Status 1 where something is not as promised, or no call has a name. Status 3, with nothing printed, where memory was
-//! refused outside of the calls: then this run says nothing of them.
+//! Status 1 where something is not as promised, or no call has a name. Status 3, with nothing
+//! printed, where memory was refused outside of the calls: then this run says nothing of them.
 #![tactic(auto)]
 
 mod borrowing;

@@ -1,4 +1,5 @@
-//! The calls that add several rows: where they are refused, the rows before the refused one are there.
+//! The calls that add several rows: where they are refused, the rows before the refused one are
+//! there.
 
 use crate::comparison::difference;
 use crate::outcome::Outcome;

@@ -1,5 +1,6 @@
-//! What a table reads of its cells to draw them: the widths of their text lines, what is visible of these, and what is
-//! written for their lines. It is public for the crate of tables, and whoever calls that needs none of it.
+//! What a table reads of its cells to draw them: the widths of their text lines, what is visible of
+//! these, and what is written for their lines. It is public for the crate of tables, and whoever
+//! calls that needs none of it.
 
 ghost use Rattle.std.specs.Prelude.{◌≡◌, [], IfOk, if◌then◌else◌, length, map, string_bytes, true};
 ghost use Rattle.std.specs.List.{list_any};
@@ -11,11 +12,15 @@ use crate::cell::Cell;
 use crate::content_split::{ColumnDisplayInfo, Cursor, push_lines};
 use crate::error::Result;
 
-/// The text lines, in order, and the terminal columns that each takes. Without sequences they are what is visible of the
-/// text lines. Both were found when the cell was made.
+/// The text lines, in order, and the terminal columns that each takes. Without sequences they are
+/// what is visible of the text lines. Both were found when the cell was made.
 pub fn measured_lines(cell: &Cell, without_sequences: bool) -> (&[String], &[usize])
-    ensures texts { map string_bytes result.0.now ≡ (if without_sequences then map visible_text cell.now.text_lines else cell.now.text_lines) }
-    ensures widths { result.1.now ≡ map measure (if without_sequences then map visible_text cell.now.text_lines else cell.now.text_lines) }
+    ensures texts { map string_bytes result.0.now
+        ≡ (if without_sequences
+        then map visible_text cell.now.text_lines
+        else cell.now.text_lines) }
+    ensures widths { result.1.now ≡ map measure
+        (if without_sequences then map visible_text cell.now.text_lines else cell.now.text_lines) }
 {
     if without_sequences {
         cell.text_lines.visible()
@@ -31,21 +36,25 @@ pub fn has_escape(cell: &Cell) -> bool
     cell.text_lines.has_escape()
 }
 
-/// Whether a text line is written as it is where it is a cell's only line and SGR sequences count nothing. This is found
-/// faster than a copy is made.
+/// Whether a text line is written as it is where it is a cell's only line and SGR sequences count
+/// nothing. This is found faster than a copy is made.
 pub fn is_written_whole(text: &str) -> bool
     ensures { result ≡ true → line_text [] text.now 0 (length (visible_text text.now)) ≡ text.now }
 {
     crate::content_split::is_written_whole(text)
 }
 
-/// The texts that are written for the lines of the cell in a column where SGR sequences count nothing, from the top.
+/// The texts that are written for the lines of the cell in a column where SGR sequences count
+/// nothing, from the top.
 ///
-/// The lines themselves are those of `measured_lines` without sequences, wrapped at the column's content width. A
-/// line's text begins with the sequences that are active there, keeps those between its visible characters, and ends
-/// with `ESC[0m` where one is open then. Sequences of earlier text lines stay active.
+/// The lines themselves are those of `measured_lines` without sequences, wrapped at the column's
+/// content width. A line's text begins with the sequences that are active there, keeps those
+/// between its visible characters, and ends with `ESC[0m` where one is open then. Sequences of
+/// earlier text lines stay active.
 pub fn written_lines(cell: &Cell, info: &ColumnDisplayInfo, delimiter: char) -> Result<Vec<String>>
-    ensures { IfOk result (λ texts. map string_bytes texts.items ≡ map (λ (line : CellLine). line.written) (line_texts info.now.content_width delimiter cell.now.text_lines)) }
+    ensures { IfOk result (λ texts. map string_bytes texts.items
+        ≡ map (λ (line : CellLine). line.written)
+        (line_texts info.now.content_width delimiter cell.now.text_lines)) }
 {
     let alloc = *cell.attributes.allocator();
     let texts = cell.text_lines();

@@ -27,8 +27,8 @@ enum Kept {
     Several(Box<Several>),
 }
 
-// Text lines, and what is visible of them where ESC stands in one. A table asks for the visible ones again and again, and
-// each time without memory, so they are kept.
+// Text lines, and what is visible of them where ESC stands in one. A table asks for the visible
+// ones again and again, and each time without memory, so they are kept.
 #[derive(Drop)]
 struct Several {
     whole: Texts,
@@ -60,7 +60,8 @@ impl Model for TextLines {
 }
 
 impl TextLines {
-    // What stands between the line feeds of a text. A text that is one text line is kept, and not copied.
+    // What stands between the line feeds of a text. A text that is one text line is kept, and not
+    // copied.
     pub(crate) fn of_text(alloc: Global, text: String) -> Result<TextLines>
         ensures value { IfOk result (λ lines. lines ≡ (plain_cell (string_bytes text)).text_lines) }
         ensures text_lines { IfOk result HasTextLines }
@@ -127,7 +128,8 @@ impl TextLines {
 impl Texts {
     // What stands between the line feeds of a text.
     fn of_text(alloc: Global, text: String) -> Result<Texts>
-        ensures texts { IfOk result (λ lines. texts_of lines ≡ slice_split (λ b. b == 0x0A) (string_bytes text)) }
+        ensures texts { IfOk result
+            (λ lines. texts_of lines ≡ slice_split (λ b. b == 0x0A) (string_bytes text)) }
         ensures widths { IfOk result (λ lines. widths_of lines ≡ map measure (texts_of lines)) }
     {
         if !text.contains('\n') {
@@ -189,7 +191,8 @@ impl Texts {
 }
 
 fn visible_lines(alloc: Global, lines: &[String]) -> Result<Texts>
-    ensures texts { IfOk result (λ visible. texts_of visible ≡ map visible_text (map string_bytes lines.now)) }
+    ensures texts { IfOk result (λ visible. texts_of visible
+        ≡ map visible_text (map string_bytes lines.now)) }
     ensures widths { IfOk result (λ visible. widths_of visible ≡ map measure (texts_of visible)) }
 {
     let mut texts = Vec::new(alloc);
@@ -216,8 +219,8 @@ fn clear_width(text: &str) -> Option<usize>
     Some(measure_text_width(text))
 }
 
-// Whether a text is one text line without ESC. Most texts show it by one look at their bytes: they have no control
-// character at all.
+// Whether a text is one text line without ESC. Most texts show it by one look at their bytes: they
+// have no control character at all.
 fn is_clear_line(text: &str) -> bool
     ensures unbroken { result ≡ true → list_any (λ b. b == 0x0A) text.now ≡ false }
     ensures clear { result ≡ true → has_escape text.now ≡ false }
@@ -257,7 +260,8 @@ impl Clone for TextLines {
 impl Clone for Several {
     ghost use Rattle.comfy_parts.specs.TextLines.{AreMeasured};
 
-    ghost is_clone = { λ source copy. (texts_of copy.whole ≡ texts_of source.whole) × (AreMeasured source.whole source.visible → AreMeasured copy.whole copy.visible) };
+    ghost is_clone = { λ source copy. (texts_of copy.whole ≡ texts_of source.whole)
+        × (AreMeasured source.whole source.visible → AreMeasured copy.whole copy.visible) };
 
     fn clone(&self) -> std::result::Result<Several, AllocError> {
         let whole = self.whole.clone()?;
@@ -270,7 +274,8 @@ impl Clone for Several {
 }
 
 impl Clone for Texts {
-    ghost is_clone = { λ source copy. (texts_of copy ≡ texts_of source) × (widths_of copy ≡ widths_of source) };
+    ghost is_clone = { λ source copy. (texts_of copy ≡ texts_of source)
+        × (widths_of copy ≡ widths_of source) };
 
     fn clone(&self) -> std::result::Result<Texts, AllocError> {
         match self {

@@ -17,12 +17,13 @@ use std::marker::Model;
 pub struct ColumnDisplayInfo {
     /// The terminal columns left free to the left and to the right of the content.
     pub padding: (u16, u16),
-    /// The character at which the texts of the column may break, unless a cell has one of its own; with none the
-    /// table's is taken.
+    /// The character at which the texts of the column may break, unless a cell has one of its own;
+    /// with none the table's is taken.
     pub delimiter: Option<char>,
     /// The terminal columns that the content has.
     pub content_width: u16,
-    /// Where the texts of the column stand, unless a cell has an alignment of its own; with none at the left.
+    /// Where the texts of the column stand, unless a cell has an alignment of its own; with none at
+    /// the left.
     pub cell_alignment: Option<CellAlignment>,
     is_hidden: bool,
 }
@@ -32,13 +33,26 @@ impl Model for ColumnDisplayInfo {
 
     ghost Value = { ColumnInfo };
 
-    ghost view = { λ i. record { padding = i.padding; delimiter = i.delimiter; alignment = i.cell_alignment; content_width = i.content_width; is_hidden = i.is_hidden } };
+    ghost view = { λ i. record {
+      padding = i.padding;
+      delimiter = i.delimiter;
+      alignment = i.cell_alignment;
+      content_width = i.content_width;
+      is_hidden = i.is_hidden;
+    } };
 
-    ghost inverse = { λ i. record { padding = i.padding; delimiter = i.delimiter; content_width = i.content_width; cell_alignment = i.alignment; is_hidden = i.is_hidden } };
+    ghost inverse = { λ i. record {
+      padding = i.padding;
+      delimiter = i.delimiter;
+      content_width = i.content_width;
+      cell_alignment = i.alignment;
+      is_hidden = i.is_hidden;
+    } };
 }
 
 impl ColumnDisplayInfo {
-    /// The settings of a column, with this many terminal columns for its content. A width of 0 becomes 1.
+    /// The settings of a column, with this many terminal columns for its content. A width of 0
+    /// becomes 1.
     pub fn new(column: &Column, content_width: u16) -> ColumnDisplayInfo
         ensures { result ≡ info_of column.now content_width }
     {

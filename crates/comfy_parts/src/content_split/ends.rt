@@ -1,4 +1,5 @@
-//! Where the lines of a wrapped text begin and end. An end is a number of bytes from a text's front.
+//! Where the lines of a wrapped text begin and end. An end is a number of bytes from a text's
+//! front.
 
 ghost use Rattle.std.specs.Prelude.{◌≡◌, IfSome, ℕ, ◌+◌, ◌*◌, ◌==◌, ◌≤◌, List, length, take, drop, true, false};
 ghost use Rattle.std.specs.List.{list_any};
@@ -43,7 +44,8 @@ pub fn measured_element(text: &str, delimiter: char) -> (&str, &str, usize)
     ensures columns { result.2 ≡ measure result.0.now }
     ensures bound { result.2 ≤ 2 * length result.0.now }
 {
-    // Where printable ASCII goes on to a delimiter or to the end, one walk over its bytes serves for both.
+    // Where printable ASCII goes on to a delimiter or to the end, one walk over its bytes serves
+    // for both.
     let (word, behind) = text.split_at(printable_run(text.as_bytes(), delimiter));
     if ends_element(behind, delimiter) {
         return (word, behind, word.len());
@@ -101,8 +103,9 @@ pub struct Taken {
     pub measured: Option<Measured>,
 }
 
-/// What the line takes that begins at the text's front. The text's first element has `first` bytes and takes `columns`
-/// terminal columns; where it is wider than a line, any number above the line's width is passed for `columns`.
+/// What the line takes that begins at the text's front. The text's first element has `first` bytes
+/// and takes `columns` terminal columns; where it is wider than a line, any number above the line's
+/// width is passed for `columns`.
 pub(crate) fn line_end(
     text: &str,
     first: usize,
@@ -111,12 +114,14 @@ pub(crate) fn line_end(
     delimiter: char,
 ) -> Taken
     requires boundary { IsCharBoundary text.now first }
-    requires element { IsFirstElement delimiter text.now (take first text.now) (drop first text.now) }
+    requires element { IsFirstElement delimiter text.now (take first text.now)
+        (drop first text.now) }
     requires columns { AreColumnsUpTo width columns (take first text.now) }
     requires narrow { width ≤ 65535 }
     ensures end { result.bytes ≡ line_end width delimiter text.now }
     ensures columns { IfSome result.columns (λ n. n ≡ measure (take result.bytes text.now)) }
-    ensures measured { IfSome result.measured (λ m. IsMeasured delimiter text.now m.left m.first m.columns) }
+    ensures measured { IfSome result.measured
+        (λ m. IsMeasured delimiter text.now m.left m.first m.columns) }
 {
     let (word, behind) = text.split_at(first);
     if columns > width {
@@ -139,7 +144,8 @@ pub(crate) fn line_end(
     }
 }
 
-// The bytes of a word that is wider than a line which the line takes: its head, or at least its first character.
+// The bytes of a word that is wider than a line which the line takes: its head, or at least its
+// first character.
 fn end_within(word: &str, width: usize) -> usize
     ensures { result ≡ length (head_or_first width word.now) }
 {
@@ -153,14 +159,17 @@ fn end_within(word: &str, width: usize) -> usize
     }
 }
 
-// What a line takes after its first element, which fills so many terminal columns. The line's columns are counted as those
-// of a delimiter that adds one between any texts.
+// What a line takes after its first element, which fills so many terminal columns. The line's
+// columns are counted as those of a delimiter that adds one between any texts.
 fn taken_behind(first: usize, behind: &str, width: usize, delimiter: char) -> Taken
     requires narrow { width ≤ 65535 }
-    ensures value { (es : List Text) → Follow delimiter es behind.now → result.bytes ≡ bytes_taken width delimiter first es }
+    ensures value { (es : List Text) → Follow delimiter es behind.now
+        → result.bytes ≡ bytes_taken width delimiter first es }
     ensures bound { result.bytes ≤ length behind.now + 4 }
-    ensures columns { IfSome result.columns (λ n. AddsOneColumn delimiter → FillsTo first n (take result.bytes behind.now)) }
-    ensures measured { IfSome result.measured (λ m. IsMeasured delimiter behind.now m.left m.first m.columns) }
+    ensures columns { IfSome result.columns
+        (λ n. AddsOneColumn delimiter → FillsTo first n (take result.bytes behind.now)) }
+    ensures measured { IfSome result.measured
+        (λ m. IsMeasured delimiter behind.now m.left m.first m.columns) }
 {
     let mut filled = first;
     let mut rest = behind;
@@ -192,8 +201,8 @@ fn taken_behind(first: usize, behind: &str, width: usize, delimiter: char) -> Ta
     }
 }
 
-// The bytes that a line takes of the next element, which takes so many terminal columns and has no room as a whole, and
-// of the delimiter before it.
+// The bytes that a line takes of the next element, which takes so many terminal columns and has no
+// room as a whole, and of the delimiter before it.
 fn part_of_next(next: &str, columns: usize, filled: usize, width: usize, delimiter: char) -> usize
     requires columns { columns ≡ measure next.now }
     requires narrow { filled ≤ 65535 }

@@ -7,10 +7,11 @@ ghost use Rattle.comfy_parts.specs.Columns.{character_fits, characters_fit};
 
 use super::width::char_width;
 
-/// Whether each character of the text, by itself, takes at most so many terminal columns, and U+FE01 stands nowhere
-/// directly beside U+FE0E or U+FE0F. Such a text is sure to fit a column of this width, in every script: wrapped at a
-/// delimiter that adds one column, none of its lines is wider. Two columns are enough for every character but U+17D8, which
-/// takes three. The second text here is two ideographs, which one column can't hold.
+/// Whether each character of the text, by itself, takes at most so many terminal columns, and
+/// U+FE01 stands nowhere directly beside U+FE0E or U+FE0F. Such a text is sure to fit a column of
+/// this width, in every script: wrapped at a delimiter that adds one column, none of its lines is
+/// wider. Two columns are enough for every character but U+17D8, which takes three. The second text
+/// here is two ideographs, which one column can't hold.
 ///
 /// ```
 /// let is_so = characters_fit("كتاب 👨‍👩‍👧", 2) && !characters_fit("年度", 1);

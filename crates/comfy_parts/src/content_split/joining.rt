@@ -5,12 +5,13 @@ ghost use Rattle.comfy_parts.specs.Columns.{AddsOneColumn, adds_up, is_frame_cha
 
 use crate::content_split::own_width::own_width;
 
-/// Whether the character adds one terminal column between any two texts, of every script. So do box and block characters,
-/// `…`, and printable ASCII but for `#`, `*` and the digits, which a variation selector after them makes wide. Of every other
-/// character this says no, though some of them do too.
+/// Whether the character adds one terminal column between any two texts, of every script. So do box
+/// and block characters, `…`, and printable ASCII but for `#`, `*` and the digits, which a
+/// variation selector after them makes wide. Of every other character this says no, though some of
+/// them do too.
 ///
-/// It is one of the things that a straight right edge asks for: of the characters of a style, of delimiters, and of the
-/// first character of an indicator.
+/// It is one of the things that a straight right edge asks for: of the characters of a style, of
+/// delimiters, and of the first character of an indicator.
 #[tactic(auto, using(crate::proofs::FrameCharacterLemmas::frame_adds))]
 pub fn adds_one_column(character: char) -> bool
     ensures test { result ≡ is_frame_character character }
@@ -30,10 +31,11 @@ fn is_frame_character(character: char) -> bool
     }
 }
 
-/// Whether no character of the text is one that joins others, so that the widths of its characters add up to its width.
-/// Texts in Chinese, Japanese, Korean, Greek, Cyrillic, in Latin letters with accents and in most other scripts are such,
-/// and so are emoji without a joiner, a variation selector or a skin tone. An Arabic alef, a Hebrew lamed and Khmer letters
-/// join others. Of a text with one of these this says no, though its widths may still add up. So it does of a control
+/// Whether no character of the text is one that joins others, so that the widths of its characters
+/// add up to its width. Texts in Chinese, Japanese, Korean, Greek, Cyrillic, in Latin letters with
+/// accents and in most other scripts are such, and so are emoji without a joiner, a variation
+/// selector or a skin tone. An Arabic alef, a Hebrew lamed and Khmer letters join others. Of a text
+/// with one of these this says no, though its widths may still add up. So it does of a control
 /// character. The second text here has three emoji and two joiners, which are drawn as one.
 ///
 /// ```

@@ -14,10 +14,12 @@ use crate::content_split::printable::{printable_line_end, printable_longest_line
 use crate::content_split::width::{is_printable, measure_text_width, wide_end};
 use std::marker::Model;
 
-// A text of so many bytes for each column of a line may begin with a word that isn't worth measuring whole.
+// A text of so many bytes for each column of a line may begin with a word that isn't worth
+// measuring whole.
 const FAR: usize = 32;
 
-/// The lines of a wrapped text that are still to come, in order. Each is borrowed from the text, and none takes memory.
+/// The lines of a wrapped text that are still to come, in order. Each is borrowed from the text,
+/// and none takes memory.
 #[derive(Drop)]
 pub struct WrappedLines<'a> {
     // the text from the first character of the next line on
@@ -43,7 +45,8 @@ struct Element {
     len: usize,
     // its columns; where it is wider than a line, any number above the line's width
     columns: usize,
-    // how many bytes of its end show that it is wider than a line; more than it has where this isn't known
+    // how many bytes of its end show that it is wider than a line; more than it has where this
+    // isn't known
     wide: usize,
 }
 
@@ -59,7 +62,8 @@ impl<'a> Model for WrappedLines<'a> {
     ghost invariant = { λ s. IsAtNext s.next s.width s.delimiter s.rest.now };
 }
 
-/// The lines of a text that is wrapped at the column's content width, one after another. They are those of `split_line`.
+/// The lines of a text that is wrapped at the column's content width, one after another. They are
+/// those of `split_line`.
 #[inline(always)]
 pub fn wrapped_lines<'a>(
     line: &'a str,
@@ -91,7 +95,8 @@ fn split_printable_line(text: &str, width: usize, delimiter: char) -> (&str, &st
     requires printable { IsPrintable width delimiter text.now }
     requires begins { begins_with delimiter text.now ≡ false }
     requires some { 0 < length text.now }
-    ensures lines { wrapped width delimiter text.now ≡ result.0.now ∷ wrapped width delimiter result.1.now }
+    ensures lines { wrapped width delimiter text.now
+        ≡ result.0.now ∷ wrapped width delimiter result.1.now }
     ensures columns { length result.0.now ≡ measure result.0.now }
     ensures printable { IsPrintable width delimiter result.1.now }
     ensures begins { begins_with delimiter result.1.now ≡ false }
@@ -101,8 +106,8 @@ fn split_printable_line(text: &str, width: usize, delimiter: char) -> (&str, &st
     (line, line_start(behind, delimiter))
 }
 
-// The lines of a text after the delimiters at its front. Where it begins with a measured element that fits a line, that isn't
-// measured again.
+// The lines of a text after the delimiters at its front. Where it begins with a measured element
+// that fits a line, that isn't measured again.
 fn lines_behind<'a>(
     text: &'a str,
     width: usize,
@@ -110,7 +115,8 @@ fn lines_behind<'a>(
     measured: Option<Measured>,
 ) -> WrappedLines<'a>
     requires narrow { width ≤ 65535 }
-    requires measured { IfSome measured (λ m. IsMeasuredBehind delimiter text.now m.left m.first m.columns) }
+    requires measured { IfSome measured
+        (λ m. IsMeasuredBehind delimiter text.now m.left m.first m.columns) }
     ensures { result ≡ wrapped width delimiter text.now }
 {
     let rest = line_start(text, delimiter);
@@ -148,8 +154,8 @@ fn lines_from<'a>(rest: &'a str, next: Next, width: usize, delimiter: char) -> W
     }
 }
 
-// The line at the front of a text that begins with this element, its terminal columns where they are known, and the lines
-// after it.
+// The line at the front of a text that begins with this element, its terminal columns where they
+// are known, and the lines after it.
 fn split_at_element<'a>(
     rest: &'a str,
     element: Element,
@@ -176,8 +182,8 @@ fn split_at_element<'a>(
 }
 
 impl<'a> WrappedLines<'a> {
-    /// The next line, and the terminal columns that it takes. Neither printable ASCII is measured again nor a line of whole
-    /// words, if its delimiter adds one column wherever it stands.
+    /// The next line, and the terminal columns that it takes. Neither printable ASCII is measured
+    /// again nor a line of whole words, if its delimiter adds one column wherever it stands.
     #[inline(always)]
     pub fn next_measured(&mut self) -> Option<(&'a str, usize)>
         ensures ended { result ≡ None → self.old ≡ [] }
@@ -197,7 +203,8 @@ impl<'a> WrappedLines<'a> {
     fn next_line(&mut self) -> Option<(&'a str, Option<usize>)>
         ensures ended { result ≡ None → (self.old ≡ []) × (self.new ≡ []) }
         ensures line { IfSome result (λ line. self.old ≡ line.0.now ∷ self.new) }
-        ensures columns { IfSome result (λ line. IfSome line.1 (λ columns. columns ≡ measure line.0.now)) }
+        ensures columns { IfSome result
+            (λ line. IfSome line.1 (λ columns. columns ≡ measure line.0.now)) }
     {
         if self.rest.is_empty() {
             return None;
@@ -250,7 +257,8 @@ impl<'a> Iterator for WrappedLines<'a> {
     }
 }
 
-// The columns of a word, or more than a line has where the bytes of its end show that it is wider. Then it isn't measured.
+// The columns of a word, or more than a line has where the bytes of its end show that it is wider.
+// Then it isn't measured.
 fn columns_up_to(word: &str, wide: usize, width: usize) -> usize
     requires wide { IsWideFrom width wide word.now }
     requires narrow { width ≤ 65535 }

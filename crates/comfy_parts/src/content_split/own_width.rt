@@ -15,7 +15,8 @@ const JOINS: u32 = 3;
 pub fn own_width(character: char) -> Option<usize>
     ensures { result ≡ own_width character }
 {
-    // Most characters are printable ASCII or ideographs. Tests of their own keep these from being looked up.
+    // Most characters are printable ASCII or ideographs. Tests of their own keep these from being
+    // looked up.
     if character <= '~' {
         return if character < ' ' { None } else { Some(1) };
     }

@@ -1,5 +1,5 @@
-//! Where lines of printable ASCII end. Each byte takes a terminal column, so an end is looked for from a line's last column
-//! backwards.
+//! Where lines of printable ASCII end. Each byte takes a terminal column, so an end is looked for
+//! from a line's last column backwards.
 
 ghost use Rattle.std.specs.Prelude.{◌≡◌, ◌<◌, ◌≤◌, ◌+◌, ◌-◌, ◌==◌, ◌∷◌, List, drop, false, length, map, max, nat_lt, take};
 ghost use Rattle.std.specs.List.{list_any, slice_index, slice_split};
@@ -7,7 +7,8 @@ ghost use Rattle.comfy_parts.specs.Laws.{IsPrintable};
 ghost use Rattle.comfy_parts.specs.Text.{Text, begins_with, greatest, measure};
 ghost use Rattle.comfy_parts.specs.Wrapping.{line_end, wrapped};
 
-/// The terminal columns of the longest line that printable ASCII is wrapped into. No line is made for it.
+/// The terminal columns of the longest line that printable ASCII is wrapped into. No line is made
+/// for it.
 pub fn printable_longest_line(text: &[u8], width: usize, delimiter: char) -> usize
     requires printable { IsPrintable width delimiter text.now }
     ensures { result ≡ greatest (map measure (wrapped width delimiter text.now)) }
@@ -28,7 +29,8 @@ fn part_at_front(text: &[u8], width: usize, delimiter: char) -> (usize, usize)
     requires some { 0 < length text.now }
     ensures some { 0 < result.0 }
     ensures bound { result.0 ≤ length text.now }
-    ensures longest { greatest (map measure (wrapped width delimiter text.now)) ≡ max result.1 (greatest (map measure (wrapped width delimiter (drop result.0 text.now)))) }
+    ensures longest { greatest (map measure (wrapped width delimiter text.now))
+        ≡ max result.1 (greatest (map measure (wrapped width delimiter (drop result.0 text.now)))) }
 {
     if u32::from(text[0]) == u32::from(delimiter) {
         return (1, 0);
@@ -62,7 +64,8 @@ pub fn printable_line_end(text: &[u8], width: usize, delimiter: char) -> usize
     end
 }
 
-// The end of a line that the text fills, or that a delimiter follows: without a delimiter in its last column.
+// The end of a line that the text fills, or that a delimiter follows: without a delimiter in its
+// last column.
 fn last_column(text: &[u8], width: usize, delimiter: char) -> usize
     requires printable { IsPrintable width delimiter text.now }
     requires begins { begins_with delimiter text.now ≡ false }
@@ -76,13 +79,15 @@ fn last_column(text: &[u8], width: usize, delimiter: char) -> usize
     width
 }
 
-// The last position up to the width at which a delimiter stands, or the text ends; 0 where there is none.
+// The last position up to the width at which a delimiter stands, or the text ends; 0 where there is
+// none.
 fn last_break(text: &[u8], width: usize, delimiter: char) -> usize
     requires { width ≤ length text.now }
     ensures bound { result ≤ width }
     ensures at_end { width ≡ length text.now → result ≡ width }
     ensures found { width < length text.now → 0 < result → slice_index text.now result ≡ delimiter }
-    ensures clear { list_any (λ c. c == delimiter) (take (width - result) (drop (result + 1) text.now)) ≡ false }
+    ensures clear { list_any (λ c. c == delimiter)
+        (take (width - result) (drop (result + 1) text.now)) ≡ false }
 {
     let mut at = width;
     if at == text.len() {
@@ -96,7 +101,9 @@ fn last_break(text: &[u8], width: usize, delimiter: char) -> usize
 
 // Whether more bytes than a line has columns stand before the first delimiter.
 fn begins_with_long_part(text: &[u8], width: usize, delimiter: char) -> bool
-    ensures { (part : Text) (parts : List Text) → slice_split (λ c. c == delimiter) text.now ≡ part ∷ parts → result ≡ nat_lt width (length part) }
+    ensures { (part : Text) (parts : List Text)
+        → slice_split (λ c. c == delimiter) text.now ≡ part ∷ parts
+        → result ≡ nat_lt width (length part) }
 {
     let mut run = 0;
     while run < text.len() && run <= width && u32::from(text[run]) != u32::from(delimiter) {

@@ -64,7 +64,8 @@ impl<'a> Iterator for TextParts<'a> {
     }
 }
 
-/// What is visible of a text: the text without its SGR sequences. What joins where one was taken out isn't looked at again.
+/// What is visible of a text: the text without its SGR sequences. What joins where one was taken
+/// out isn't looked at again.
 pub fn visible_text(alloc: Global, text: &str) -> Result<String>
     ensures { IfOk result (λ visible. string_bytes visible ≡ visible_text text.now) }
 {
@@ -92,7 +93,8 @@ pub fn leaves_sequence_open(text: &str) -> bool
 
 /// The sequence at a text's front, and what is after it.
 pub(crate) fn split_sequence(text: &str) -> Option<(&str, &str)>
-    ensures some { IfSome result (λ halves. parts text.now ≡ sequence_part halves.0.now ∷ parts halves.1.now) }
+    ensures some { IfSome result (λ halves. parts text.now
+        ≡ sequence_part halves.0.now ∷ parts halves.1.now) }
     ensures whole { IfSome result (λ halves. IsUtf8 halves.1.now) }
     ensures none { IfNone result (sequence_len text.now ≡ 0) }
 {
@@ -103,7 +105,8 @@ pub(crate) fn split_sequence(text: &str) -> Option<(&str, &str)>
     Some(text.split_at(len))
 }
 
-/// Visible text up to the next ESC, at most so many bytes, and what is after it. The text begins with no sequence.
+/// Visible text up to the next ESC, at most so many bytes, and what is after it. The text begins
+/// with no sequence.
 pub(crate) fn split_visible(text: &str, most: usize) -> (&str, &str)
     requires none { sequence_len text.now ≡ 0 }
     requires fits { most ≤ length text.now → IsUtf8 (take most (visible_text text.now)) }
@@ -112,7 +115,8 @@ pub(crate) fn split_visible(text: &str, most: usize) -> (&str, &str)
     ensures whole_behind { IsUtf8 result.1.now }
     ensures within { length result.0.now ≤ most }
     ensures some { 0 < most → 0 < length text.now → 0 < length result.0.now }
-    ensures next { length result.0.now < most → 0 < length result.1.now → slice_index result.1.now 0 ≡ 0x1b }
+    ensures next { length result.0.now < most → 0 < length result.1.now
+        → slice_index result.1.now 0 ≡ 0x1b }
 {
     let bytes = text.as_bytes();
     let end = bytes.len().min(most);

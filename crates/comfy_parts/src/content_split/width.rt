@@ -10,8 +10,8 @@ use unicode_width::UnicodeWidthStr;
 // How many bytes more or less aren't looked for.
 const CLOSE: usize = 8;
 
-/// The terminal columns that a text takes, by the Unicode rules for terminals. They are at most two for each of its
-/// bytes.
+/// The terminal columns that a text takes, by the Unicode rules for terminals. They are at most two
+/// for each of its bytes.
 pub fn measure_text_width(text: &str) -> usize
     ensures value { result ≡ measure text.now }
     ensures bound { result ≤ 2 * length text.now }
@@ -41,8 +41,8 @@ fn summed_columns(text: &str) -> Option<usize>
 pub fn is_printable(bytes: &[u8]) -> bool
     ensures { result ≡ is_printable_ascii bytes.now }
 {
-    // Text in another script shows it at its first byte. Otherwise all bytes are looked at without a test between them,
-    // which is faster on long texts.
+    // Text in another script shows it at its first byte. Otherwise all bytes are looked at without
+    // a test between them, which is faster on long texts.
     if !bytes.is_empty() && bytes[0] > 0x7e {
         return false;
     }
@@ -54,8 +54,8 @@ pub fn is_printable(bytes: &[u8]) -> bool
     highest <= 0x7e - 0x20
 }
 
-/// How many bytes of a word's end show that the word is wider than these columns: each end of the word with at least so
-/// many bytes is wider. Where none shows it, more bytes than the word has.
+/// How many bytes of a word's end show that the word is wider than these columns: each end of the
+/// word with at least so many bytes is wider. Where none shows it, more bytes than the word has.
 pub fn wide_end(word: &str, columns: usize) -> usize
     ensures { IsWideFrom columns result word.now }
 {
@@ -73,7 +73,8 @@ pub fn wide_end(word: &str, columns: usize) -> usize
     wide
 }
 
-// The first of the ends that double by which the word is known to be wide; more bytes than it has where none is.
+// The first of the ends that double by which the word is known to be wide; more bytes than it has
+// where none is.
 fn first_wide_end(word: &str, columns: usize) -> usize
     ensures { IsWideFrom columns result word.now }
 {
@@ -92,8 +93,8 @@ fn first_wide_end(word: &str, columns: usize) -> usize
     }
 }
 
-// What stands before an end takes at most one of its columns away, so an end that is wider than one column more shows that
-// the whole is wide.
+// What stands before an end takes at most one of its columns away, so an end that is wider than one
+// column more shows that the whole is wide.
 fn shows_wide(end: &str, columns: usize) -> bool
     ensures { result ≡ nat_lt (columns + 1) (measure end.now) }
 {

@@ -8,9 +8,9 @@ ghost use Rattle.comfy_parts.specs.ItemsGiven.{array_gives, vec_gives};
 
 use std::vec;
 
-/// Values in order that come to an end, as `Table::add_rows` and `Table::set_constraints` take them: a `Vec`, an array, or
-/// the iterator that a `Vec` makes. For an iterator of your own, say in an `impl` which items it gives, as the crate
-/// `test_callers` does in `src/uses/items.rt`.
+/// Values in order that come to an end, as `Table::add_rows` and `Table::set_constraints` take
+/// them: a `Vec`, an array, or the iterator that a `Vec` makes. For an iterator of your own, say in
+/// an `impl` which items it gives, as the crate `test_callers` does in `src/uses/items.rt`.
 ///
 /// ```
 /// let constraints = [ColumnConstraint::ContentWidth, ColumnConstraint::Hidden];
@@ -21,23 +21,37 @@ pub trait Items: IntoIterator {
     ghost items_of: { Self → List Self.Item };
 
     // the iterator gives these values, and ends
-    ghost gives_items: { (values : Self) (from : Self.IntoIter) → Self.into_iter_gives values from → GivesAll Self.IntoIter.can_next Self.IntoIter.next_gives Self.IntoIter.remaining from (items_of values) };
+    ghost gives_items: { (values : Self) (from : Self.IntoIter) → Self.into_iter_gives values from
+        → GivesAll Self.IntoIter.can_next Self.IntoIter.next_gives Self.IntoIter.remaining from
+        (items_of values) };
 }
 
 impl<T: Drop> Items for Vec<T> {
     ghost items_of = { λ values. values.items };
 
-    ghost gives_items = { λ values from made. record { may_be_asked = tt; ends = tt; in_order = vec_gives from values.items made.0 } };
+    ghost gives_items = { λ values from made. record {
+      may_be_asked = tt;
+      ends = tt;
+      in_order = vec_gives from values.items made.0;
+    } };
 }
 
 impl<T: Drop> Items for vec::IntoIter<T> {
     ghost items_of = { λ values. into_iter_items values };
 
-    ghost gives_items = { λ values from made. record { may_be_asked = tt; ends = tt; in_order = vec_gives from (into_iter_items values) (ap into_iter_items made) } };
+    ghost gives_items = { λ values from made. record {
+      may_be_asked = tt;
+      ends = tt;
+      in_order = vec_gives from (into_iter_items values) (ap into_iter_items made);
+    } };
 }
 
 impl<T: Drop, const N: usize> Items for [T; N] {
     ghost items_of = { λ values. values };
 
-    ghost gives_items = { λ values from made. record { may_be_asked = tt; ends = tt; in_order = array_gives from values made.0 } };
+    ghost gives_items = { λ values from made. record {
+      may_be_asked = tt;
+      ends = tt;
+      in_order = array_gives from values made.0;
+    } };
 }

@@ -1,4 +1,5 @@
-//! Tuples as cells: values of several types in one row. Each tuple is the shorter one before it, and one more cell.
+//! Tuples as cells: values of several types in one row. Each tuple is the shorter one before it,
+//! and one more cell.
 
 ghost use Rattle.std.specs.Prelude.{[], ◌∷◌};
 
@@ -17,7 +18,8 @@ impl<A: IntoCell, B: IntoCell> IntoCells for (A, B) {
 }
 
 impl<A: IntoCell, B: IntoCell, C: IntoCell> IntoCells for (A, B, C) {
-    ghost cells_of = { λ values. A.cell_of values.0 ∷ B.cell_of values.1 ∷ C.cell_of values.2 ∷ [] };
+    ghost cells_of = { λ values. A.cell_of values.0 ∷ B.cell_of values.1 ∷ C.cell_of values.2
+        ∷ [] };
 
     fn into_cells(self, alloc: Global) -> Result<Cells> {
         let (a, b, c) = self;
@@ -26,7 +28,8 @@ impl<A: IntoCell, B: IntoCell, C: IntoCell> IntoCells for (A, B, C) {
 }
 
 impl<A: IntoCell, B: IntoCell, C: IntoCell, D: IntoCell> IntoCells for (A, B, C, D) {
-    ghost cells_of = { λ values. A.cell_of values.0 ∷ B.cell_of values.1 ∷ C.cell_of values.2 ∷ D.cell_of values.3 ∷ [] };
+    ghost cells_of = { λ values. A.cell_of values.0 ∷ B.cell_of values.1 ∷ C.cell_of values.2
+        ∷ D.cell_of values.3 ∷ [] };
 
     fn into_cells(self, alloc: Global) -> Result<Cells> {
         let (a, b, c, d) = self;
@@ -36,7 +39,8 @@ impl<A: IntoCell, B: IntoCell, C: IntoCell, D: IntoCell> IntoCells for (A, B, C,
 
 impl<A: IntoCell, B: IntoCell, C: IntoCell, D: IntoCell, E: IntoCell> IntoCells
     for (A, B, C, D, E) {
-    ghost cells_of = { λ values. A.cell_of values.0 ∷ B.cell_of values.1 ∷ C.cell_of values.2 ∷ D.cell_of values.3 ∷ E.cell_of values.4 ∷ [] };
+    ghost cells_of = { λ values. A.cell_of values.0 ∷ B.cell_of values.1 ∷ C.cell_of values.2
+        ∷ D.cell_of values.3 ∷ E.cell_of values.4 ∷ [] };
 
     fn into_cells(self, alloc: Global) -> Result<Cells> {
         let (a, b, c, d, e) = self;
@@ -46,7 +50,8 @@ impl<A: IntoCell, B: IntoCell, C: IntoCell, D: IntoCell, E: IntoCell> IntoCells
 
 impl<A: IntoCell, B: IntoCell, C: IntoCell, D: IntoCell, E: IntoCell, F: IntoCell> IntoCells
     for (A, B, C, D, E, F) {
-    ghost cells_of = { λ values. A.cell_of values.0 ∷ B.cell_of values.1 ∷ C.cell_of values.2 ∷ D.cell_of values.3 ∷ E.cell_of values.4 ∷ F.cell_of values.5 ∷ [] };
+    ghost cells_of = { λ values. A.cell_of values.0 ∷ B.cell_of values.1 ∷ C.cell_of values.2
+        ∷ D.cell_of values.3 ∷ E.cell_of values.4 ∷ F.cell_of values.5 ∷ [] };
 
     fn into_cells(self, alloc: Global) -> Result<Cells> {
         let (a, b, c, d, e, f) = self;
@@ -63,7 +68,8 @@ impl<
     F: IntoCell,
     G: IntoCell,
 > IntoCells for (A, B, C, D, E, F, G) {
-    ghost cells_of = { λ values. A.cell_of values.0 ∷ B.cell_of values.1 ∷ C.cell_of values.2 ∷ D.cell_of values.3 ∷ E.cell_of values.4 ∷ F.cell_of values.5 ∷ G.cell_of values.6 ∷ [] };
+    ghost cells_of = { λ values. A.cell_of values.0 ∷ B.cell_of values.1 ∷ C.cell_of values.2
+        ∷ D.cell_of values.3 ∷ E.cell_of values.4 ∷ F.cell_of values.5 ∷ G.cell_of values.6 ∷ [] };
 
     fn into_cells(self, alloc: Global) -> Result<Cells> {
         let (a, b, c, d, e, f, g) = self;
@@ -81,7 +87,9 @@ impl<
     G: IntoCell,
     H: IntoCell,
 > IntoCells for (A, B, C, D, E, F, G, H) {
-    ghost cells_of = { λ values. A.cell_of values.0 ∷ B.cell_of values.1 ∷ C.cell_of values.2 ∷ D.cell_of values.3 ∷ E.cell_of values.4 ∷ F.cell_of values.5 ∷ G.cell_of values.6 ∷ H.cell_of values.7 ∷ [] };
+    ghost cells_of = { λ values. A.cell_of values.0 ∷ B.cell_of values.1 ∷ C.cell_of values.2
+        ∷ D.cell_of values.3 ∷ E.cell_of values.4 ∷ F.cell_of values.5 ∷ G.cell_of values.6
+        ∷ H.cell_of values.7 ∷ [] };
 
     fn into_cells(self, alloc: Global) -> Result<Cells> {
         let (a, b, c, d, e, f, g, h) = self;

@@ -1,6 +1,7 @@
 //! What a terminal does to a text beside colouring it.
 
-/// An attribute of a text in a terminal. Without the sequences that it writes, the second line here is `| Sum |`.
+/// An attribute of a text in a terminal. Without the sequences that it writes, the second line here
+/// is `| Sum |`.
 ///
 /// ```
 /// let mut table = Table::new(alloc);

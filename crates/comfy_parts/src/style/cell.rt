@@ -23,6 +23,7 @@ pub enum CellAlignment {
     Left,
     /// At the right.
     Right,
-    /// In the middle. Where an odd number of terminal columns is free, one more of them is at the left.
+    /// In the middle. Where an odd number of terminal columns is free, one more of them is at the
+    /// left.
     Center,
 }

@@ -1,6 +1,7 @@
 //! The colours of a terminal.
 
-/// A colour of a terminal: the terminal's own, one of sixteen, one by its three parts, or one of 256.
+/// A colour of a terminal: the terminal's own, one of sixteen, one by its three parts, or one of
+/// 256.
 ///
 /// ```
 /// let late = Cell::new(alloc, "late")?.fg(Color::Black).bg(Color::Yellow);

@@ -9,8 +9,8 @@
 pub enum Width {
     /// That many terminal columns.
     Fixed(u16),
-    /// That many percent, at most 100, of the table's width without its borders. Where the table's width isn't known, this
-    /// is as if it weren't there.
+    /// That many percent, at most 100, of the table's width without its borders. Where the table's
+    /// width isn't known, this is as if it weren't there.
     Percentage(u16),
 }
 
@@ -37,12 +37,14 @@ pub enum ColumnConstraint {
     Hidden,
     /// The column is exactly as wide as its content and its paddings.
     ContentWidth,
-    /// The column has this width, or that of its paddings and one terminal column where that is more.
+    /// The column has this width, or that of its paddings and one terminal column where that is
+    /// more.
     Absolute(Width),
     /// The column is at least this wide, where the arrangement allows it.
     LowerBoundary(Width),
     /// The column is at most this wide, where the arrangement allows it.
     UpperBoundary(Width),
-    /// The column is at least as wide as `lower` and at most as wide as `upper`, where the arrangement allows it.
+    /// The column is at least as wide as `lower` and at most as wide as `upper`, where the
+    /// arrangement allows it.
     Boundaries { lower: Width, upper: Width },
 }

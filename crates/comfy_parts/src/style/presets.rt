@@ -187,7 +187,8 @@ pub const ASCII_FULL: TableStyle = TableStyle {
     bottom_border: ASCII_BORDER,
 };
 
-/// Outer borders, lines between columns and the header's separator, of ASCII characters; no lines between rows.
+/// Outer borders, lines between columns and the header's separator, of ASCII characters; no lines
+/// between rows.
 ///
 /// ```text
 /// +-------+-------+
@@ -355,7 +356,8 @@ pub const UTF8_FULL: TableStyle = TableStyle {
     },
 };
 
-/// Outer borders, lines between columns and the header's separator, of box drawing characters; no lines between rows.
+/// Outer borders, lines between columns and the header's separator, of box drawing characters; no
+/// lines between rows.
 ///
 /// ```text
 /// ┌───────┬───────┐
@@ -492,8 +494,8 @@ pub const NOTHING: TableStyle = TableStyle {
     bottom_border: NO_LINE,
 };
 
-/// All presets with their names, which are those of their constants. A preset keeps its position, so that programs in
-/// other languages can name it by a number.
+/// All presets with their names, which are those of their constants. A preset keeps its position,
+/// so that programs in other languages can name it by a number.
 pub static ALL: [(&str, TableStyle); 13] = [
     ("ASCII_FULL", ASCII_FULL),
     ("ASCII_FULL_CONDENSED", ASCII_FULL_CONDENSED),
@@ -526,8 +528,8 @@ pub fn by_name(name: &str) -> Option<TableStyle>
     None
 }
 
-/// The preset at this position of `ALL`, counted from 0: `ASCII_FULL` comes first, `NOTHING` last. At a greater position
-/// there is none.
+/// The preset at this position of `ALL`, counted from 0: `ASCII_FULL` comes first, `NOTHING` last.
+/// At a greater position there is none.
 ///
 /// ```
 /// let is_so = by_position(7) == Some(UTF8_FULL);
@@ -543,13 +545,15 @@ pub fn by_position(position: usize) -> Option<TableStyle>
     }
 }
 
-/// Each preset has the characters of its definition in `specs/Presets`. The function does nothing: its clauses say so.
+/// Each preset has the characters of its definition in `specs/Presets`. The function does nothing:
+/// its clauses say so.
 pub fn presets_are_as_tabled()
     ensures of_ascii_full { ASCII_FULL ≡ ascii_full }
     ensures of_ascii_full_condensed { ASCII_FULL_CONDENSED ≡ ascii_full_condensed }
     ensures of_ascii_no_borders { ASCII_NO_BORDERS ≡ ascii_no_borders }
     ensures of_ascii_borders_only { ASCII_BORDERS_ONLY ≡ ascii_borders_only }
-    ensures of_ascii_borders_only_condensed { ASCII_BORDERS_ONLY_CONDENSED ≡ ascii_borders_only_condensed }
+    ensures of_ascii_borders_only_condensed { ASCII_BORDERS_ONLY_CONDENSED
+        ≡ ascii_borders_only_condensed }
     ensures of_ascii_horizontal_only { ASCII_HORIZONTAL_ONLY ≡ ascii_horizontal_only }
     ensures of_ascii_markdown { ASCII_MARKDOWN ≡ ascii_markdown }
     ensures of_utf8_full { UTF8_FULL ≡ utf8_full }

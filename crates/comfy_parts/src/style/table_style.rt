@@ -11,8 +11,8 @@ use crate::content_split::adds_one_column;
 
 /// A horizontal line of the frame. With no part set it isn't drawn.
 ///
-/// A fill that isn't set is spaces. A left, right or junction character that isn't set is a space where another line of
-/// the style has one, and takes no room where none has.
+/// A fill that isn't set is spaces. A left, right or junction character that isn't set is a space
+/// where another line of the style has one, and takes no room where none has.
 ///
 /// ```text
 /// ├╌╌╌╌╌╌╌╌┼╌╌╌╌╌╌╌╌┤
@@ -39,7 +39,12 @@ pub struct LineStyle {
 impl LineStyle {
     /// A line with all four parts set.
     pub fn new(left: char, fill: char, junction: char, right: char) -> LineStyle
-        ensures { result ≡ record { left = Some left; fill = Some fill; junction = Some junction; right = Some right } }
+        ensures { result ≡ record {
+          left = Some left;
+          fill = Some fill;
+          junction = Some junction;
+          right = Some right;
+        } }
     {
         LineStyle {
             left: Some(left),
@@ -99,8 +104,8 @@ impl LineStyle {
 
 /// A line that holds contents.
 ///
-/// A character that isn't set is a space where a horizontal line of the style has one at this place, and takes no room
-/// where none has.
+/// A character that isn't set is a space where a horizontal line of the style has one at this
+/// place, and takes no room where none has.
 ///
 /// ```text
 /// │ Hello  ┆ there  │
@@ -125,7 +130,11 @@ pub struct ContentLineStyle {
 impl ContentLineStyle {
     /// A line with all three parts set.
     pub fn new(left: char, junction: char, right: char) -> ContentLineStyle
-        ensures { result ≡ record { left = Some left; junction = Some junction; right = Some right } }
+        ensures { result ≡ record {
+          left = Some left;
+          junction = Some junction;
+          right = Some right;
+        } }
     {
         ContentLineStyle::none()
             .left(left)
@@ -324,8 +333,9 @@ impl TableStyle {
             || self.bottom_border.junction.is_some()
     }
 
-    /// Whether each of its characters adds one terminal column between any texts, as `adds_one_column` tells. All presets
-    /// say yes, rounded or with solid inner borders too. It is one of the three things that straight right edges ask for.
+    /// Whether each of its characters adds one terminal column between any texts, as
+    /// `adds_one_column` tells. All presets say yes, rounded or with solid inner borders too. It is
+    /// one of the three things that straight right edges ask for.
     pub fn is_one_column(&self) -> bool
         ensures test { result ≡ has_frame_characters self.now }
         ensures adds { result ≡ true → IsOneColumnStyle self.now }

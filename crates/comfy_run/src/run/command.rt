@@ -24,12 +24,13 @@ const MISUSED: u8 = 2;
 /// Draws the table of the source, as the words after the program's name ask for, and returns the
 /// status that the program ends with.
 ///
-/// The words are `[WIDTH|- [disabled|dynamic|full [STYLE]]]`: the table's width, or a hyphen for none,
-/// the arrangement of its columns, and the name of a preset.
+/// The words are `[WIDTH|- [disabled|dynamic|full [STYLE]]]`: the table's width, or a hyphen for
+/// none, the arrangement of its columns, and the name of a preset.
 ///
-/// The status is 0 where all was read and written, and no device failed; then `messages` is left as it was. It is 1 after an error,
-/// and 2 where the words ask for nothing that is known; the source isn't read then. A line written to
-/// `messages` says which it was. A fault of `messages` changes no status.
+/// The status is 0 where all was read and written, and no device failed; then `messages` is left as
+/// it was. It is 1 after an error, and 2 where the words ask for nothing that is known; the source
+/// isn't read then. A line written to `messages` says which it was. A fault of `messages` changes
+/// no status.
 pub fn program<R: Source, W: Sink, F: Sink>(
     alloc: Global,
     args: &[&str],
@@ -37,14 +38,35 @@ pub fn program<R: Source, W: Sink, F: Sink>(
     sink: &mut W,
     messages: &mut F,
 ) -> u8
-    ensures misused { settings_for args.now ≡ None → (result ≡ 2) × (source.new ≡ source.old) × (sink.new ≡ sink.old) × Reports usage_line (F.taken messages.old) (F.taken messages.new) (F.has_failed messages.new) }
-    ensures ran { (settings : Settings) → settings_for args.now ≡ Some settings → (answer : Result (Unit {0}) RunError) × (result ≡ status_of answer) × Reports (report_of answer) (F.taken messages.old) (F.taken messages.new) (F.has_failed messages.new)
-        × (R.has_failed source.new ≡ is_read_fault answer) × (W.has_failed sink.old ≡ false → W.has_failed sink.new ≡ is_write_fault answer)
+    ensures misused { settings_for args.now ≡ None
+        → (result ≡ 2) × (source.new ≡ source.old) × (sink.new ≡ sink.old)
+        × Reports usage_line (F.taken messages.old) (F.taken messages.new)
+        (F.has_failed messages.new) }
+    ensures ran { (settings : Settings) → settings_for args.now ≡ Some settings
+        → (answer : Result (Unit {0}) RunError) × (result ≡ status_of answer)
+        × Reports (report_of answer) (F.taken messages.old) (F.taken messages.new)
+        (F.has_failed messages.new)
+        × (R.has_failed source.new ≡ is_read_fault answer)
+        × (W.has_failed sink.old ≡ false → W.has_failed sink.new ≡ is_write_fault answer)
         × Between
-        (record { remaining = R.remaining source.old; end_was_read = R.end_was_read source.old; read_failed = R.has_failed source.old; taken = W.taken sink.old; write_failed = W.has_failed sink.old })
-        (record { remaining = R.remaining source.new; end_was_read = R.end_was_read source.new; read_failed = R.has_failed source.new; taken = W.taken sink.new; write_failed = W.has_failed sink.new })
+        (record {
+          remaining = R.remaining source.old;
+          end_was_read = R.end_was_read source.old;
+          read_failed = R.has_failed source.old;
+          taken = W.taken sink.old;
+          write_failed = W.has_failed sink.old;
+        })
+        (record {
+          remaining = R.remaining source.new;
+          end_was_read = R.end_was_read source.new;
+          read_failed = R.has_failed source.new;
+          taken = W.taken sink.new;
+          write_failed = W.has_failed sink.new;
+        })
         (IsAfter settings answer) }
-    ensures done { result ≡ 0 → (R.end_was_read source.new ≡ true) × (R.has_failed source.new ≡ false) × (W.has_failed sink.old ≡ false → W.has_failed sink.new ≡ false) }
+    ensures done { result ≡ 0
+        → (R.end_was_read source.new ≡ true) × (R.has_failed source.new ≡ false)
+        × (W.has_failed sink.old ≡ false → W.has_failed sink.new ≡ false) }
     ensures silent { result ≡ 0 → messages.new ≡ messages.old }
 {
     let Some(settings) = settings_of(args) else {
@@ -74,7 +96,8 @@ fn line_for(error: RunError) -> &'static str
 
 // Writes a line. Where that fails there is nowhere left to report it.
 fn report<F: Sink>(messages: &mut F, line: &str)
-    ensures { Reports line.now (F.taken messages.old) (F.taken messages.new) (F.has_failed messages.new) }
+    ensures { Reports line.now (F.taken messages.old) (F.taken messages.new)
+        (F.has_failed messages.new) }
 {
     let _ = write_all(messages, line.as_bytes());
 }

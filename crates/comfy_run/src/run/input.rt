@@ -12,7 +12,8 @@ use std::alloc::Global;
 /// The table of a text, with the settings that are wanted. A carriage return before a line
 /// feed is no part of a line, and an empty last piece is no line.
 pub fn table_of(alloc: Global, text: &str, settings: Settings) -> Result<Table>
-    ensures { IfOk result (λ table. table ≡ input_table settings.width settings.arrangement settings.style text.now) }
+    ensures { IfOk result (λ table. table
+        ≡ input_table settings.width settings.arrangement settings.style text.now) }
 {
     let mut table = empty_table(alloc, settings);
     let mut lines = text.lines();
@@ -32,7 +33,8 @@ pub fn table_of(alloc: Global, text: &str, settings: Settings) -> Result<Table>
 
 // A table without rows that has the settings.
 fn empty_table(alloc: Global, settings: Settings) -> Table
-    ensures { result ≡ record (new_table settings.style) { set_width = settings.width; arrangement = settings.arrangement } }
+    ensures { result ≡ record (new_table settings.style)
+        { set_width = settings.width; arrangement = settings.arrangement } }
 {
     let mut table = Table::new(alloc);
     table

@@ -11,9 +11,9 @@ use std::{env, io};
 // Stands for a word that isn't text: the program knows no such word.
 const NO_TEXT: &str = "\u{fffd}";
 
-/// Runs `program` over the standard streams, with the words after the process's name, and returns its status. A word that
-/// isn't text is one that the program doesn't know. Where no memory is found for the words, the status is 1, and nothing
-/// is read.
+/// Runs `program` over the standard streams, with the words after the process's name, and returns
+/// its status. A word that isn't text is one that the program doesn't know. Where no memory is
+/// found for the words, the status is 1, and nothing is read.
 ///
 /// ```
 /// fn main(rt: HostRuntime) -> ExitCode {

@@ -17,10 +17,11 @@ use std::alloc::Global;
 /// All memory is asked for before the first write. Where the input can't be read, isn't UTF-8 or
 /// memory runs out, nothing is written. Where the output can't be written, a beginning of it was.
 ///
-/// The result says which device failed: `Read` comes only where a call of the source failed, `Write`
-/// only where a call of the sink failed. After `Ok` and every other error, no call of either failed;
-/// after `Ok` the end of the source was read. That holds of all devices, the standard streams among
-/// them. Which bytes were read and written is said of devices whose bytes are known.
+/// The result says which device failed: `Read` comes only where a call of the source failed,
+/// `Write` only where a call of the sink failed. After `Ok` and every other error, no call of
+/// either failed; after `Ok` the end of the source was read. That holds of all devices, the
+/// standard streams among them. Which bytes were read and written is said of devices whose bytes
+/// are known.
 ///
 /// ```
 /// let mut source = FromReader::new(rt.stdin());
@@ -37,8 +38,20 @@ pub fn run<R: Source, W: Sink>(
     ensures source { R.has_failed source.new ≡ is_read_fault result }
     ensures sink { W.has_failed sink.old ≡ false → W.has_failed sink.new ≡ is_write_fault result }
     ensures known { Between
-        (record { remaining = R.remaining source.old; end_was_read = R.end_was_read source.old; read_failed = R.has_failed source.old; taken = W.taken sink.old; write_failed = W.has_failed sink.old })
-        (record { remaining = R.remaining source.new; end_was_read = R.end_was_read source.new; read_failed = R.has_failed source.new; taken = W.taken sink.new; write_failed = W.has_failed sink.new })
+        (record {
+          remaining = R.remaining source.old;
+          end_was_read = R.end_was_read source.old;
+          read_failed = R.has_failed source.old;
+          taken = W.taken sink.old;
+          write_failed = W.has_failed sink.old;
+        })
+        (record {
+          remaining = R.remaining source.new;
+          end_was_read = R.end_was_read source.new;
+          read_failed = R.has_failed source.new;
+          taken = W.taken sink.new;
+          write_failed = W.has_failed sink.new;
+        })
         (IsAfter settings result) }
 {
     let output = output_for(alloc, source, settings)?;
@@ -57,8 +70,11 @@ fn output_for<R: Source>(
     ensures ended { OnOk result (R.end_was_read source.new ≡ true) }
     ensures fault { R.has_failed source.new ≡ is_read_fault result }
     ensures no_write { is_write_fault result ≡ false }
-    ensures output { IfOk result (λ output. (input : List ℕ) → R.remaining source.old ≡ Some input → IsUtf8 input × IsOutputFor settings.width settings.arrangement settings.style input (string_bytes output)) }
-    ensures refused { IfErr result (λ e. (input : List ℕ) → R.remaining source.old ≡ Some input → IsRefusal e input (R.end_was_read source.new) (R.has_failed source.new)) }
+    ensures output { IfOk result (λ output. (input : List ℕ) → R.remaining source.old ≡ Some input
+        → IsUtf8 input × IsOutputFor settings.width settings.arrangement settings.style input
+        (string_bytes output)) }
+    ensures refused { IfErr result (λ e. (input : List ℕ) → R.remaining source.old ≡ Some input
+        → IsRefusal e input (R.end_was_read source.new) (R.has_failed source.new)) }
 {
     let input = read_all(alloc, source)?;
     let Ok(text) = simdutf8::compat::from_utf8(input.as_slice()) else {
@@ -68,14 +84,17 @@ fn output_for<R: Source>(
     Ok(output)
 }
 
-/// The drawing of the table that a text stands for, each line followed by a line feed: what `run` writes for this input.
-/// The text's first line is the header, the others are rows, and cells stand between TABs.
+/// The drawing of the table that a text stands for, each line followed by a line feed: what `run`
+/// writes for this input. The text's first line is the header, the others are rows, and cells stand
+/// between TABs.
 ///
 /// ```
 /// let drawing = drawing_of(rt.alloc(), "name\tdays\noats\t3\n", settings)?;
 /// ```
 pub fn drawing_of(alloc: Global, text: &str, settings: Settings) -> comfy_table::Result<String>
-    ensures { IfOk result (λ output. IsOutputFor settings.width settings.arrangement settings.style text.now (string_bytes output)) }
+    ensures { IfOk result (λ output.
+        IsOutputFor settings.width settings.arrangement settings.style text.now
+        (string_bytes output)) }
 {
     table_of(alloc, text, settings)?.to_terminated_text()
 }

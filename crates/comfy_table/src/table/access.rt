@@ -40,8 +40,8 @@ impl Table {
         self.columns.get(index)
     }
 
-    /// The column at a position, counted from 0, to be changed; none past the last. What is written through it changes
-    /// that column, and nothing else of the table.
+    /// The column at a position, counted from 0, to be changed; none past the last. What is written
+    /// through it changes that column, and nothing else of the table.
     ///
     /// ```
     /// if let Some(column) = table.column_mut(1) {
@@ -51,7 +51,8 @@ impl Table {
     pub fn column_mut(&mut self, index: usize) -> Option<&mut Column>
         ensures* lent { sem 𝓛 (LendsColumn self.entry index result) }
         ensures found { IsSome result ↔ (index < length self.old.columns) }
-        ensures value { IfSome result (λ column. column.now ≡ slice_index_or self.old.columns index column.now) }
+        ensures value { IfSome result
+            (λ column. column.now ≡ slice_index_or self.old.columns index column.now) }
     {
         self.columns.get_mut(index)
     }
@@ -64,8 +65,8 @@ impl Table {
         self.columns.iter()
     }
 
-    /// The columns in order, to be changed. What is written through them changes these columns, and nothing else of the
-    /// table.
+    /// The columns in order, to be changed. What is written through them changes these columns, and
+    /// nothing else of the table.
     pub fn column_iter_mut(&mut self) -> slice::IterMut<'_, Column>
         ensures* lent { sem 𝓛 (LendsColumns self.entry result) }
         ensures rest { iter_mut_rest result ≡ self.old.columns }
@@ -81,12 +82,14 @@ impl Table {
         self.rows.get(index)
     }
 
-    /// The row at a position, counted from 0 and without the header, to be changed; none past the last. What is written
-    /// through it changes that row, and nothing else of the table: a cell past the last column isn't drawn.
+    /// The row at a position, counted from 0 and without the header, to be changed; none past the
+    /// last. What is written through it changes that row, and nothing else of the table: a cell
+    /// past the last column isn't drawn.
     pub fn row_mut(&mut self, index: usize) -> Option<&mut Row>
         ensures* lent { sem 𝓛 (LendsRow self.entry index result) }
         ensures found { IsSome result ↔ (index < length self.old.rows) }
-        ensures value { IfSome result (λ row. row.now ≡ slice_index_or self.old.rows index row.now) }
+        ensures value { IfSome result
+            (λ row. row.now ≡ slice_index_or self.old.rows index row.now) }
     {
         self.rows.get_mut(index)
     }
@@ -99,8 +102,8 @@ impl Table {
         self.rows.iter()
     }
 
-    /// The rows in order and without the header, to be changed. What is written through them changes these rows, and
-    /// nothing else of the table: a cell past the last column isn't drawn.
+    /// The rows in order and without the header, to be changed. What is written through them
+    /// changes these rows, and nothing else of the table: a cell past the last column isn't drawn.
     pub fn row_iter_mut(&mut self) -> slice::IterMut<'_, Row>
         ensures* lent { sem 𝓛 (LendsRows self.entry result) }
         ensures rest { iter_mut_rest result ≡ self.old.rows }

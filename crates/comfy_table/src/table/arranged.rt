@@ -15,8 +15,9 @@ use comfy_parts::{Result, Row};
 use std::marker::Model;
 use std::mem;
 
-/// A table whose widths are found. It is drawn in parts, each some of its rows with header and borders, all at the widths
-/// of the whole table: pages of a large table, or records under each other. `Table::arranged` makes it.
+/// A table whose widths are found. It is drawn in parts, each some of its rows with header and
+/// borders, all at the widths of the whole table: pages of a large table, or records under each
+/// other. `Table::arranged` makes it.
 ///
 /// Each line of a part is a line of the whole drawing: `laws::parts_have_lines_of_the_table`.
 ///
@@ -72,7 +73,8 @@ impl<'a> ArrangedTable<'a> {
         Ok(ArrangedTable { table, infos })
     }
 
-    /// How many lines each row is drawn in, in order; 0 where no column is shown. The header's aren't among them.
+    /// How many lines each row is drawn in, in order; 0 where no column is shown. The header's
+    /// aren't among them.
     ///
     /// ```
     /// let heights = table.arranged()?.row_heights()?;
@@ -83,16 +85,17 @@ impl<'a> ArrangedTable<'a> {
         row_heights(self.table, self.infos.as_slice())
     }
 
-    /// Appends a part: the drawing of the table with `count` of its rows alone, from the one at position `first` on. Each
-    /// line is followed by a line feed. Rows beyond the last are none, so a part may have no row, but a header and borders.
-    /// After `OutOfMemory` the text is as it was.
+    /// Appends a part: the drawing of the table with `count` of its rows alone, from the one at
+    /// position `first` on. Each line is followed by a line feed. Rows beyond the last are none, so
+    /// a part may have no row, but a header and borders. After `OutOfMemory` the text is as it was.
     ///
     /// ```
     /// let mut page = String::new(alloc);
     /// table.arranged()?.push_rows(&mut page, 40, 20)?;
     /// ```
     pub fn push_rows(&self, text: &mut String, first: usize, count: usize) -> Result<()>
-        ensures ok { OnOk result (string_bytes text.new ≡ string_bytes text.old ++ part_text self.now first count) }
+        ensures ok { OnOk result (string_bytes text.new
+            ≡ string_bytes text.old ++ part_text self.now first count) }
         ensures err { OnErr result (string_bytes text.new ≡ string_bytes text.old) }
     {
         let table = self.table;
@@ -108,10 +111,12 @@ impl<'a> ArrangedTable<'a> {
         drawn
     }
 
-    /// Appends the lines of the table with these rows alone. After `OutOfMemory` the text of the output begins with what it
-    /// was.
+    /// Appends the lines of the table with these rows alone. After `OutOfMemory` the text of the
+    /// output begins with what it was.
     pub(crate) fn draw(&self, rows: &[Row], output: &mut Output) -> Result<()>
-        ensures ok { OnOk result (output.new ≡ with_lines (drawing_of_infos (with_other_rows rows.now self.now.table) self.now.infos) output.old) }
+        ensures ok { OnOk result (output.new
+            ≡ with_lines (drawing_of_infos (with_other_rows rows.now self.now.table) self.now.infos)
+            output.old) }
         ensures err { OnErr result (BeginsWith output.new.text output.old.text) }
     {
         draw(self.table, self.infos.as_slice(), rows, output)

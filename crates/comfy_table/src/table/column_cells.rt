@@ -8,8 +8,8 @@ use crate::table::Table;
 use comfy_parts::{Cell, Row};
 use std::marker::Model;
 
-/// The cells of one column, one item for each row, and none where a row has no such cell. `Table::column_cells_iter` and
-/// `Table::column_cells_with_header_iter` make it.
+/// The cells of one column, one item for each row, and none where a row has no such cell.
+/// `Table::column_cells_iter` and `Table::column_cells_with_header_iter` make it.
 ///
 /// ```
 /// if let Some(Some(cell)) = table.column_cells_iter(1).next() {
@@ -31,12 +31,13 @@ impl<'a> Model for ColumnCellIter<'a> {
 
     ghost Value = { List (Option CellValue) };
 
-    ghost view = { λ s. option_to_list (option_map option_copied s.first) ++ cells_at s.rows.now s.position };
+    ghost view = { λ s. option_to_list (option_map option_copied s.first)
+        ++ cells_at s.rows.now s.position };
 }
 
 impl Table {
-    /// The cells of the column at a position, one item for each row and none where the row has no such cell. The header's
-    /// isn't among them.
+    /// The cells of the column at a position, one item for each row and none where the row has no
+    /// such cell. The header's isn't among them.
     pub fn column_cells_iter(&self, position: usize) -> ColumnCellIter<'_>
         ensures { result ≡ cells_by_row self.now position }
     {
@@ -47,8 +48,8 @@ impl Table {
         }
     }
 
-    /// The cells of the column at a position, first that of the header and then one item for each row; none where there is
-    /// no header, or where it or the row has no such cell.
+    /// The cells of the column at a position, first that of the header and then one item for each
+    /// row; none where there is no header, or where it or the row has no such cell.
     pub fn column_cells_with_header_iter(&self, position: usize) -> ColumnCellIter<'_>
         ensures { result ≡ cells_with_header self.now position }
     {

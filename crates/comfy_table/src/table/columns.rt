@@ -10,40 +10,46 @@ use comfy_parts::{Column, Items, Result, Row};
 use std::mem;
 
 impl Table {
-    /// Sets the constraints of the columns: the first item is that of the first column, and so on. Items past the last
-    /// column are ignored, so the columns have to be there: add the header and the rows before. Columns past the last item
-    /// keep what they have.
+    /// Sets the constraints of the columns: the first item is that of the first column, and so on.
+    /// Items past the last column are ignored, so the columns have to be there: add the header and
+    /// the rows before. Columns past the last item keep what they have.
     pub fn set_constraints<I>(&mut self, constraints: I) -> &mut Self
     where
         I: Items<Item = ColumnConstraint>,
         I::IntoIter: Drop,
         ensures same_reference { result.ghost_name ≡ self.entry.ghost_name }
-        ensures value { result.now ≡ record self.old { columns = constrained (I.items_of constraints) self.old.columns } }
+        ensures value { result.now ≡ record self.old {
+          columns = constrained (I.items_of constraints) self.old.columns;
+        } }
     {
         set_each(self.columns.as_mut_slice(), constraints);
         self
     }
 
-    /// Appends default columns until there are as many as each row has cells. The calls that add rows do this themselves;
-    /// it serves after cells were added to a row through `row_mut` or `row_iter_mut`. After `OutOfMemory` the table is
-    /// unchanged. Where no column is missing it takes no memory and succeeds.
+    /// Appends default columns until there are as many as each row has cells. The calls that add
+    /// rows do this themselves; it serves after cells were added to a row through `row_mut` or
+    /// `row_iter_mut`. After `OutOfMemory` the table is unchanged. Where no column is missing it
+    /// takes no memory and succeeds.
     pub fn discover_columns(&mut self) -> Result<()>
         ensures ok { OnOk result (self.new ≡ discovered self.old) }
         ensures every_cell { OnOk result (AllCellsHaveColumns (discovered self.old)) }
         ensures err { OnErr result (self.new ≡ self.old) }
-        ensures succeeds { greatest_cell_count self.old.rows ≤ length self.old.columns → IsOk result }
+        ensures succeeds { greatest_cell_count self.old.rows ≤ length self.old.columns
+            → IsOk result }
     {
         let count = greatest_cell_count(self.rows.as_slice());
         grow_columns(&mut self.columns, count)
     }
 
-    /// The number of columns, once `discover_columns` was called, as this does first. After `OutOfMemory` the table is
-    /// unchanged. Where no column is missing it takes no memory and succeeds.
+    /// The number of columns, once `discover_columns` was called, as this does first. After
+    /// `OutOfMemory` the table is unchanged. Where no column is missing it takes no memory and
+    /// succeeds.
     pub fn column_count(&mut self) -> Result<usize>
         ensures value { IfOk result (λ count. count ≡ length (discovered self.old).columns) }
         ensures ok { OnOk result (self.new ≡ discovered self.old) }
         ensures err { OnErr result (self.new ≡ self.old) }
-        ensures succeeds { greatest_cell_count self.old.rows ≤ length self.old.columns → IsOk result }
+        ensures succeeds { greatest_cell_count self.old.rows ≤ length self.old.columns
+            → IsOk result }
     {
         self.discover_columns()?;
         Ok(self.columns.len())
@@ -66,11 +72,13 @@ where
     }
 }
 
-// Sets the constraint of the column at a position. The column is taken out of the list meanwhile: what a list holds
-// after a builder's call on one of its elements can't be proved.
+// Sets the constraint of the column at a position. The column is taken out of the list meanwhile:
+// what a list holds after a builder's call on one of its elements can't be proved.
 fn set_at(columns: &mut [Column], position: usize, constraint: ColumnConstraint)
     requires { position < length columns.old }
-    ensures { (d : ColumnValue) → columns.new ≡ slice_set columns.old position (record (slice_index_or columns.old position d) { constraint = Some constraint }) }
+    ensures { (d : ColumnValue)
+        → columns.new ≡ slice_set columns.old position
+        (record (slice_index_or columns.old position d) { constraint = Some constraint }) }
 {
     let column = mem::replace(&mut columns[position], Column::new(position));
     columns[position] = with_constraint(column, constraint);

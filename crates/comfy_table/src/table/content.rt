@@ -8,8 +8,9 @@ use crate::table::Table;
 use comfy_parts::for_tables::measured_lines;
 use comfy_parts::{Cell, Result};
 
-/// The greatest measure, in terminal columns, of a text line of the column at a position, over header and rows. Each
-/// cell counts at least 1, a measure above 65535 counts 65535, and a column without a cell gives 0.
+/// The greatest measure, in terminal columns, of a text line of the column at a position, over
+/// header and rows. Each cell counts at least 1, a measure above 65535 counts 65535, and a column
+/// without a cell gives 0.
 pub(crate) fn column_content_width(table: &Table, position: usize) -> u16
     ensures { result ≡ column_content_width table.now position }
 {
@@ -23,18 +24,19 @@ pub(crate) fn column_content_width(table: &Table, position: usize) -> u16
 }
 
 impl Table {
-    // The text lines of a cell as widths, line ends and cuts see them, with custom styling without their sequences, and the
-    // columns that each takes.
+    // The text lines of a cell as widths, line ends and cuts see them, with custom styling without
+    // their sequences, and the columns that each takes.
     pub(crate) fn measured_lines<'a>(&self, cell: &'a Cell) -> (&'a [String], &'a [usize])
-        ensures texts { map string_bytes result.0.now ≡ (measured_cell self.now cell.now).text_lines }
+        ensures texts { map string_bytes result.0.now
+            ≡ (measured_cell self.now cell.now).text_lines }
         ensures widths { result.1.now ≡ map measure (measured_cell self.now cell.now).text_lines }
     {
         measured_lines(cell, self.custom_styling)
     }
 
-    /// For each column, in list order, the greatest measure of a text line over header and rows, in terminal columns. Each
-    /// cell counts at least 1, a measure above 65535 counts 65535, and a column without a cell gives 0. Cells past the
-    /// last column are left out.
+    /// For each column, in list order, the greatest measure of a text line over header and rows, in
+    /// terminal columns. Each cell counts at least 1, a measure above 65535 counts 65535, and a
+    /// column without a cell gives 0. Cells past the last column are left out.
     pub fn column_max_content_widths(&self) -> Result<Vec<u16>>
         ensures { IfOk result (λ widths. widths.items ≡ max_content_widths self.now) }
     {

@@ -12,11 +12,12 @@ use comfy_parts::Result;
 use std::marker::Model;
 use std::vec;
 
-/// The drawn lines of a table that are still to come, from the top. None holds a line feed, where neither the style nor
-/// the truncation indicator does.
+/// The drawn lines of a table that are still to come, from the top. None holds a line feed, where
+/// neither the style nor the truncation indicator does.
 ///
-/// After `custom_styling` none leaves a sequence open, where no cell's own colours are written but beside an attribute,
-/// neither the style nor the indicator holds ESC, and each shown column has a padding at its right.
+/// After `custom_styling` none leaves a sequence open, where no cell's own colours are written but
+/// beside an attribute, neither the style nor the indicator holds ESC, and each shown column has a
+/// padding at its right.
 ///
 /// ```
 /// let top = table.lines()?.next();
@@ -60,18 +61,20 @@ impl Iterator for Lines {
 impl Table {
     /// The drawn lines of the table as it is now, from the top.
     ///
-    /// Where memory is found, these are frame lines and rows of padded pieces, in the order of the drawing. Without colours
-    /// and attributes all of them are equally many terminal columns wide, for texts of every script, where the table is
-    /// straight: `IsStraightTable` has the conditions, which a table that is as wide as its texts meets in all presets. They
-    /// have the same number of characters, where texts and delimiters are printable ASCII and each indicator that is written
-    /// adds one column for each of its characters.
+    /// Where memory is found, these are frame lines and rows of padded pieces, in the order of the
+    /// drawing. Without colours and attributes all of them are equally many terminal columns wide,
+    /// for texts of every script, where the table is straight: `IsStraightTable` has the
+    /// conditions, which a table that is as wide as its texts meets in all presets. They have the
+    /// same number of characters, where texts and delimiters are printable ASCII and each indicator
+    /// that is written adds one column for each of its characters.
     ///
     /// Where the table's width is known, a frame line keeps to it, whatever the texts: under
-    /// `ContentArrangement::Dynamic` it has at most so many characters, and under `DynamicFullWidth` exactly so many, if a
-    /// column is shown. Where the borders, the paddings and one character for each shown column need more than this
-    /// width, what they need stands in its place. A column with a constraint may need more than the one character: where
-    /// its width is fixed or its lower boundary is taken, it needs that width. For printable ASCII this holds for every
-    /// line, without its styles, and for a straight table in terminal columns.
+    /// `ContentArrangement::Dynamic` it has at most so many characters, and under
+    /// `DynamicFullWidth` exactly so many, if a column is shown. Where the borders, the paddings
+    /// and one character for each shown column need more than this width, what they need stands in
+    /// its place. A column with a constraint may need more than the one character: where its width
+    /// is fixed or its lower boundary is taken, it needs that width. For printable ASCII this holds
+    /// for every line, without its styles, and for a straight table in terminal columns.
     ///
     /// ```
     /// let mut table = Table::new(alloc);
@@ -90,8 +93,9 @@ impl Table {
         build_table(self)
     }
 
-    /// The drawn lines, joined by line feeds. Where neither the style nor the truncation indicator holds a line feed, the
-    /// lines are what stands between these: `laws::lines_are_found_in_their_texts`.
+    /// The drawn lines, joined by line feeds. Where neither the style nor the truncation indicator
+    /// holds a line feed, the lines are what stands between these:
+    /// `laws::lines_are_found_in_their_texts`.
     ///
     /// ```
     /// let drawing = table.to_text()?;
@@ -115,8 +119,9 @@ impl Table {
         Ok(text)
     }
 
-    /// The drawn lines, each followed by a line feed, as a program prints them. Where neither the style nor the truncation
-    /// indicator holds a line feed, the lines are what stands before each one.
+    /// The drawn lines, each followed by a line feed, as a program prints them. Where neither the
+    /// style nor the truncation indicator holds a line feed, the lines are what stands before each
+    /// one.
     pub fn to_terminated_text(&self) -> Result<String>
         ensures { IfOk result (λ text. IsTerminatedTextOf self.now (string_bytes text)) }
     {

@@ -11,9 +11,10 @@ use crate::table::{Table, TableReference, into_reference};
 use comfy_parts::{IntoRow, Items, Result};
 
 impl Table {
-    /// Appends rows in their order, each as `add_row` does. Returns the table for further calls. After `OutOfMemory` it
-    /// has the rows before the refused one, which is dropped with those after it. A caller's own proof knows only from
-    /// `try_add_rows` that these are the first rows, and not all.
+    /// Appends rows in their order, each as `add_row` does. Returns the table for further calls.
+    /// After `OutOfMemory` it has the rows before the refused one, which is dropped with those
+    /// after it. A caller's own proof knows only from `try_add_rows` that these are the first rows,
+    /// and not all.
     ///
     /// ```
     /// table.add_rows([["17", "dock 3"], ["18", "rented"]])?;
@@ -23,16 +24,19 @@ impl Table {
         I: Items,
         I::Item: IntoRow,
         I::IntoIter: Drop,
-        ensures* err { sem 𝓛 (TableHasFirstRowsIfErr (map I.Item.row_of (I.items_of rows)) self.entry result) }
+        ensures* err { sem 𝓛 (TableHasFirstRowsIfErr
+            (map I.Item.row_of (I.items_of rows)) self.entry result) }
         ensures same_reference { IfOk result (λ table. table.ghost_name ≡ self.entry.ghost_name) }
-        ensures added { IfOk result (λ table. table.now ≡ with_rows (map I.Item.row_of (I.items_of rows)) self.old) }
+        ensures added { IfOk result
+            (λ table. table.now ≡ with_rows (map I.Item.row_of (I.items_of rows)) self.old) }
     {
         into_reference(self.with_rows_added(rows))
     }
 
-    /// Asks the predicate once, with the number of rows and the row. On yes it appends the row as `add_row` does; on no it
-    /// changes nothing and takes no memory, and the row is dropped. Returns the table for further calls. After
-    /// `OutOfMemory` the table is unchanged; a caller's own proof can use that of `try_add_row_if` only.
+    /// Asks the predicate once, with the number of rows and the row. On yes it appends the row as
+    /// `add_row` does; on no it changes nothing and takes no memory, and the row is dropped.
+    /// Returns the table for further calls. After `OutOfMemory` the table is unchanged; a caller's
+    /// own proof can use that of `try_add_row_if` only.
     pub fn add_row_if<P, T>(&mut self, predicate: P, row: T) -> Result<&mut Self>
     where
         P: Fn(usize, &T) -> bool + Drop,
@@ -40,16 +44,20 @@ impl Table {
         requires { P.IsAlwaysCallable predicate }
         ensures* err { sem 𝓛 (TableStaysIfErr self.entry result) }
         ensures same_reference { IfOk result (λ table. table.ghost_name ≡ self.entry.ghost_name) }
-        ensures asked { IfOk result (λ table. (yes : Bool) × Answers P.Fn predicate (length self.old.rows) row yes × (table.now ≡ (if yes then with_row (T.row_of row) self.old else self.old))) }
-        ensures refused_on_yes { OnErr result (Answers P.Fn predicate (length self.old.rows) row true) }
+        ensures asked { IfOk result
+            (λ table. (yes : Bool) × Answers P.Fn predicate (length self.old.rows) row yes
+            × (table.now ≡ (if yes then with_row (T.row_of row) self.old else self.old))) }
+        ensures refused_on_yes { OnErr result
+            (Answers P.Fn predicate (length self.old.rows) row true) }
     {
         into_reference(self.with_row_added_if(predicate, row))
     }
 
-    /// Asks the predicate once, with the number of rows and the new rows. On yes it appends them as `add_rows` does; on no
-    /// it changes nothing and takes no memory, and they are dropped. Returns the table for further calls. After
-    /// `OutOfMemory` it has the rows before the refused one. A caller's own proof knows only from `try_add_rows_if` that
-    /// these are the first rows, and not all.
+    /// Asks the predicate once, with the number of rows and the new rows. On yes it appends them as
+    /// `add_rows` does; on no it changes nothing and takes no memory, and they are dropped. Returns
+    /// the table for further calls. After `OutOfMemory` it has the rows before the refused one. A
+    /// caller's own proof knows only from `try_add_rows_if` that these are the first rows, and not
+    /// all.
     pub fn add_rows_if<P, I>(&mut self, predicate: P, rows: I) -> Result<&mut Self>
     where
         P: Fn(usize, &I) -> bool + Drop,
@@ -57,24 +65,33 @@ impl Table {
         I::Item: IntoRow,
         I::IntoIter: Drop,
         requires { P.IsAlwaysCallable predicate }
-        ensures* err { sem 𝓛 (TableHasFirstRowsIfErr (map I.Item.row_of (I.items_of rows)) self.entry result) }
+        ensures* err { sem 𝓛 (TableHasFirstRowsIfErr
+            (map I.Item.row_of (I.items_of rows)) self.entry result) }
         ensures same_reference { IfOk result (λ table. table.ghost_name ≡ self.entry.ghost_name) }
-        ensures asked { IfOk result (λ table. (yes : Bool) × Answers P.Fn predicate (length self.old.rows) rows yes × (table.now ≡ (if yes then with_rows (map I.Item.row_of (I.items_of rows)) self.old else self.old))) }
-        ensures refused_on_yes { OnErr result (Answers P.Fn predicate (length self.old.rows) rows true) }
+        ensures asked { IfOk result
+            (λ table. (yes : Bool) × Answers P.Fn predicate (length self.old.rows) rows yes
+            × (table.now ≡ (if yes
+            then with_rows (map I.Item.row_of (I.items_of rows)) self.old
+            else self.old))) }
+        ensures refused_on_yes { OnErr result
+            (Answers P.Fn predicate (length self.old.rows) rows true) }
     {
         into_reference(self.with_rows_added_if(predicate, rows))
     }
 
-    /// Appends rows in their order, each as `add_row` does. This is for callers that go on with the table after
-    /// `OutOfMemory`. Then it has the rows before the refused one, with the columns that these made. The caller's own
-    /// proof can use that these are the first rows, not all, and no other.
+    /// Appends rows in their order, each as `add_row` does. This is for callers that go on with the
+    /// table after `OutOfMemory`. Then it has the rows before the refused one, with the columns
+    /// that these made. The caller's own proof can use that these are the first rows, not all, and
+    /// no other.
     pub fn try_add_rows<I>(&mut self, rows: I) -> Result<()>
     where
         I: Items,
         I::Item: IntoRow,
         I::IntoIter: Drop,
-        ensures ok { OnOk result (self.new ≡ with_rows (map I.Item.row_of (I.items_of rows)) self.old) }
-        ensures err { OnErr result (IsWithRowsBeforeOne (map I.Item.row_of (I.items_of rows)) self.old self.new) }
+        ensures ok { OnOk result (self.new
+            ≡ with_rows (map I.Item.row_of (I.items_of rows)) self.old) }
+        ensures err { OnErr result (IsWithRowsBeforeOne
+            (map I.Item.row_of (I.items_of rows)) self.old self.new) }
     {
         for row in rows {
             self.try_add_row(row)?;
@@ -82,16 +99,19 @@ impl Table {
         Ok(())
     }
 
-    /// Asks the predicate once, with the number of rows and the row, and appends the row on yes. This is for callers that
-    /// go on with the table after `OutOfMemory`, which comes on yes alone: then the table is unchanged, and the caller's
-    /// own proof can use that.
+    /// Asks the predicate once, with the number of rows and the row, and appends the row on yes.
+    /// This is for callers that go on with the table after `OutOfMemory`, which comes on yes alone:
+    /// then the table is unchanged, and the caller's own proof can use that.
     pub fn try_add_row_if<P, T>(&mut self, predicate: P, row: T) -> Result<()>
     where
         P: Fn(usize, &T) -> bool + Drop,
         T: IntoRow,
         requires { P.IsAlwaysCallable predicate }
-        ensures ok { OnOk result ((yes : Bool) × Answers P.Fn predicate (length self.old.rows) row yes × (self.new ≡ (if yes then with_row (T.row_of row) self.old else self.old))) }
-        ensures err { OnErr result (Answers P.Fn predicate (length self.old.rows) row true × (self.new ≡ self.old)) }
+        ensures ok { OnOk result ((yes : Bool)
+            × Answers P.Fn predicate (length self.old.rows) row yes
+            × (self.new ≡ (if yes then with_row (T.row_of row) self.old else self.old))) }
+        ensures err { OnErr result (Answers P.Fn predicate (length self.old.rows) row true
+            × (self.new ≡ self.old)) }
     {
         if !self.answer_of(&predicate, &row) {
             return Ok(());
@@ -99,9 +119,10 @@ impl Table {
         self.try_add_row(row)
     }
 
-    /// Asks the predicate once, with the number of rows and the new rows, and appends them on yes. This is for callers that
-    /// go on with the table after `OutOfMemory`, which comes on yes alone. Then it has the rows before the refused one. The
-    /// caller's own proof can use that these are the first rows, not all, and no other.
+    /// Asks the predicate once, with the number of rows and the new rows, and appends them on yes.
+    /// This is for callers that go on with the table after `OutOfMemory`, which comes on yes alone.
+    /// Then it has the rows before the refused one. The caller's own proof can use that these are
+    /// the first rows, not all, and no other.
     pub fn try_add_rows_if<P, I>(&mut self, predicate: P, rows: I) -> Result<()>
     where
         P: Fn(usize, &I) -> bool + Drop,
@@ -109,8 +130,13 @@ impl Table {
         I::Item: IntoRow,
         I::IntoIter: Drop,
         requires { P.IsAlwaysCallable predicate }
-        ensures ok { OnOk result ((yes : Bool) × Answers P.Fn predicate (length self.old.rows) rows yes × (self.new ≡ (if yes then with_rows (map I.Item.row_of (I.items_of rows)) self.old else self.old))) }
-        ensures err { OnErr result (Answers P.Fn predicate (length self.old.rows) rows true × IsWithRowsBeforeOne (map I.Item.row_of (I.items_of rows)) self.old self.new) }
+        ensures ok { OnOk result ((yes : Bool)
+            × Answers P.Fn predicate (length self.old.rows) rows yes
+            × (self.new ≡ (if yes
+            then with_rows (map I.Item.row_of (I.items_of rows)) self.old
+            else self.old))) }
+        ensures err { OnErr result (Answers P.Fn predicate (length self.old.rows) rows true
+            × IsWithRowsBeforeOne (map I.Item.row_of (I.items_of rows)) self.old self.new) }
     {
         if !self.answer_of(&predicate, &rows) {
             return Ok(());
@@ -134,9 +160,12 @@ impl Table {
         I: Items,
         I::Item: IntoRow,
         I::IntoIter: Drop,
-        ensures* err { sem 𝓛 (TableHasFirstRowsIfErr (map I.Item.row_of (I.items_of rows)) self.entry (reference_of result)) }
-        ensures same_reference { IfOk (reference_of result) (λ table. table.ghost_name ≡ self.entry.ghost_name) }
-        ensures added { IfOk (reference_of result) (λ table. table.now ≡ with_rows (map I.Item.row_of (I.items_of rows)) self.old) }
+        ensures* err { sem 𝓛 (TableHasFirstRowsIfErr
+            (map I.Item.row_of (I.items_of rows)) self.entry (reference_of result)) }
+        ensures same_reference { IfOk (reference_of result)
+            (λ table. table.ghost_name ≡ self.entry.ghost_name) }
+        ensures added { IfOk (reference_of result)
+            (λ table. table.now ≡ with_rows (map I.Item.row_of (I.items_of rows)) self.old) }
     {
         self.try_add_rows(rows)?;
         Ok(TableReference { table: self })
@@ -149,9 +178,13 @@ impl Table {
         T: IntoRow,
         requires { P.IsAlwaysCallable predicate }
         ensures* err { sem 𝓛 (TableStaysIfErr self.entry (reference_of result)) }
-        ensures same_reference { IfOk (reference_of result) (λ table. table.ghost_name ≡ self.entry.ghost_name) }
-        ensures asked { IfOk (reference_of result) (λ table. (yes : Bool) × Answers P.Fn predicate (length self.old.rows) row yes × (table.now ≡ (if yes then with_row (T.row_of row) self.old else self.old))) }
-        ensures refused_on_yes { OnErr (reference_of result) (Answers P.Fn predicate (length self.old.rows) row true) }
+        ensures same_reference { IfOk (reference_of result)
+            (λ table. table.ghost_name ≡ self.entry.ghost_name) }
+        ensures asked { IfOk (reference_of result)
+            (λ table. (yes : Bool) × Answers P.Fn predicate (length self.old.rows) row yes
+            × (table.now ≡ (if yes then with_row (T.row_of row) self.old else self.old))) }
+        ensures refused_on_yes { OnErr (reference_of result)
+            (Answers P.Fn predicate (length self.old.rows) row true) }
     {
         self.try_add_row_if(predicate, row)?;
         Ok(TableReference { table: self })
@@ -165,10 +198,17 @@ impl Table {
         I::Item: IntoRow,
         I::IntoIter: Drop,
         requires { P.IsAlwaysCallable predicate }
-        ensures* err { sem 𝓛 (TableHasFirstRowsIfErr (map I.Item.row_of (I.items_of rows)) self.entry (reference_of result)) }
-        ensures same_reference { IfOk (reference_of result) (λ table. table.ghost_name ≡ self.entry.ghost_name) }
-        ensures asked { IfOk (reference_of result) (λ table. (yes : Bool) × Answers P.Fn predicate (length self.old.rows) rows yes × (table.now ≡ (if yes then with_rows (map I.Item.row_of (I.items_of rows)) self.old else self.old))) }
-        ensures refused_on_yes { OnErr (reference_of result) (Answers P.Fn predicate (length self.old.rows) rows true) }
+        ensures* err { sem 𝓛 (TableHasFirstRowsIfErr
+            (map I.Item.row_of (I.items_of rows)) self.entry (reference_of result)) }
+        ensures same_reference { IfOk (reference_of result)
+            (λ table. table.ghost_name ≡ self.entry.ghost_name) }
+        ensures asked { IfOk (reference_of result)
+            (λ table. (yes : Bool) × Answers P.Fn predicate (length self.old.rows) rows yes
+            × (table.now ≡ (if yes
+            then with_rows (map I.Item.row_of (I.items_of rows)) self.old
+            else self.old))) }
+        ensures refused_on_yes { OnErr (reference_of result)
+            (Answers P.Fn predicate (length self.old.rows) rows true) }
     {
         self.try_add_rows_if(predicate, rows)?;
         Ok(TableReference { table: self })

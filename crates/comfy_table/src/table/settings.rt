@@ -31,7 +31,8 @@ impl Table {
         self.style
     }
 
-    /// The style, to be changed. What is written through it changes the style, and nothing else of the table.
+    /// The style, to be changed. What is written through it changes the style, and nothing else of
+    /// the table.
     pub fn style_mut(&mut self) -> &mut TableStyle
         ensures* lent { sem 𝓛 (LendsStyle self.entry result) }
         ensures value { result.now ≡ self.old.style }
@@ -39,8 +40,8 @@ impl Table {
         &mut self.style
     }
 
-    /// Sets the character at which texts may break, unless their column or cell has one of its own. Without it that is a
-    /// space.
+    /// Sets the character at which texts may break, unless their column or cell has one of its own.
+    /// Without it that is a space.
     pub fn set_delimiter(&mut self, delimiter: char) -> &mut Self
         ensures same_reference { result.ghost_name ≡ self.entry.ghost_name }
         ensures value { result.now ≡ record self.old { delimiter = Some delimiter } }
@@ -49,20 +50,23 @@ impl Table {
         self
     }
 
-    /// Sets the text that stands after a line which `Row::max_height` cuts; a new table has `…`. In a column that is
-    /// narrower than the text none stands there. Returns the table for further calls. After `OutOfMemory` the table is
-    /// unchanged; a caller's own proof can use that of `try_set_truncation_indicator` only.
+    /// Sets the text that stands after a line which `Row::max_height` cuts; a new table has `…`. In
+    /// a column that is narrower than the text none stands there. Returns the table for further
+    /// calls. After `OutOfMemory` the table is unchanged; a caller's own proof can use that of
+    /// `try_set_truncation_indicator` only.
     pub fn set_truncation_indicator(&mut self, indicator: &str) -> Result<&mut Self>
         ensures* err { sem 𝓛 (TableStaysIfErr self.entry result) }
         ensures same_reference { IfOk result (λ table. table.ghost_name ≡ self.entry.ghost_name) }
-        ensures set { IfOk result (λ table. table.now ≡ record self.old { indicator = indicator.now }) }
+        ensures set { IfOk result (λ table. table.now ≡ record self.old {
+          indicator = indicator.now;
+        }) }
     {
         into_reference(self.with_indicator_set(indicator))
     }
 
-    /// Sets the text that stands after a line which `Row::max_height` cuts, as `set_truncation_indicator` does. This is
-    /// for callers that go on with the table after `OutOfMemory`: then it is unchanged, and the caller's own proof can use
-    /// that.
+    /// Sets the text that stands after a line which `Row::max_height` cuts, as
+    /// `set_truncation_indicator` does. This is for callers that go on with the table after
+    /// `OutOfMemory`: then it is unchanged, and the caller's own proof can use that.
     pub fn try_set_truncation_indicator(&mut self, indicator: &str) -> Result<()>
         ensures ok { OnOk result (self.new ≡ record self.old { indicator = indicator.now }) }
         ensures err { OnErr result (self.new ≡ self.old) }
@@ -72,18 +76,21 @@ impl Table {
         Ok(())
     }
 
-    // `set_truncation_indicator` with the reference in a struct: so its clause on `OutOfMemory` can be proved.
+    // `set_truncation_indicator` with the reference in a struct: so its clause on `OutOfMemory` can
+    // be proved.
     fn with_indicator_set<'a>(&'a mut self, indicator: &str) -> Result<TableReference<'a>>
         ensures* err { sem 𝓛 (TableStaysIfErr self.entry (reference_of result)) }
-        ensures same_reference { IfOk (reference_of result) (λ table. table.ghost_name ≡ self.entry.ghost_name) }
-        ensures set { IfOk (reference_of result) (λ table. table.now ≡ record self.old { indicator = indicator.now }) }
+        ensures same_reference { IfOk (reference_of result)
+            (λ table. table.ghost_name ≡ self.entry.ghost_name) }
+        ensures set { IfOk (reference_of result)
+            (λ table. table.now ≡ record self.old { indicator = indicator.now }) }
     {
         self.try_set_truncation_indicator(indicator)?;
         Ok(TableReference { table: self })
     }
 
-    /// Sets how the widths of the columns are found. A new table has `Disabled`. The dynamic arrangements keep to the
-    /// table's width, and are as `Disabled` where none is known.
+    /// Sets how the widths of the columns are found. A new table has `Disabled`. The dynamic
+    /// arrangements keep to the table's width, and are as `Disabled` where none is known.
     pub fn set_content_arrangement(&mut self, arrangement: ContentArrangement) -> &mut Self
         ensures same_reference { result.ghost_name ≡ self.entry.ghost_name }
         ensures value { result.now ≡ record self.old { arrangement = arrangement } }
@@ -99,8 +106,8 @@ impl Table {
         self.arrangement
     }
 
-    /// Sets the width of the table in terminal columns. The dynamic arrangements keep to it, and the percentages of
-    /// constraints are taken of it.
+    /// Sets the width of the table in terminal columns. The dynamic arrangements keep to it, and
+    /// the percentages of constraints are taken of it.
     ///
     /// ```
     /// table
@@ -115,10 +122,11 @@ impl Table {
         self
     }
 
-    /// Has SGR sequences in cells (ESC, `[`, digits, `;` and `:`, then `m`) count nothing. Widths, line ends and cuts are
-    /// then those of the table without them. Each line resumes the sequences that are active where it begins, and ends
-    /// with `ESC[0m` where one is still open. A line that a row's height cuts has none of its text's sequences. No call
-    /// turns this off, and a new table has it off.
+    /// Has SGR sequences in cells (ESC, `[`, digits, `;` and `:`, then `m`) count nothing. Widths,
+    /// line ends and cuts are then those of the table without them. Each line resumes the sequences
+    /// that are active where it begins, and ends with `ESC[0m` where one is still open. A line that
+    /// a row's height cuts has none of its text's sequences. No call turns this off, and a new
+    /// table has it off.
     ///
     /// ```
     /// let mut table = Table::new(alloc);

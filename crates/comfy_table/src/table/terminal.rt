@@ -5,12 +5,13 @@ ghost use Rattle.comfy_table.specs.TableValue.{is_tty, should_style, table_width
 
 use crate::table::Table;
 
-/// Facts about a terminal, as the caller found them. `Table::set_terminal` passes them in. With them colours and attributes
-/// are written where the output is a terminal, and nowhere else, and a table without a width of its own takes the
-/// terminal's.
+/// Facts about a terminal, as the caller found them. `Table::set_terminal` passes them in. With
+/// them colours and attributes are written where the output is a terminal, and nowhere else, and a
+/// table without a width of its own takes the terminal's.
 ///
-/// A program finds them so, where the shell passes on the width in `COLUMNS`. Interactive shells keep it to themselves: a
-/// line like `alias program='COLUMNS=$COLUMNS program'` in the shell's start file passes it on.
+/// A program finds them so, where the shell passes on the width in `COLUMNS`. Interactive shells
+/// keep it to themselves: a line like `alias program='COLUMNS=$COLUMNS program'` in the shell's
+/// start file passes it on.
 ///
 /// ```
 /// use std::env;
@@ -44,8 +45,8 @@ impl Terminal {
 }
 
 impl Table {
-    /// Passes in what is known of the terminal; a new table knows of none. No call asks the terminal itself, so the caller
-    /// looks up these facts, as the example at `Terminal` does.
+    /// Passes in what is known of the terminal; a new table knows of none. No call asks the
+    /// terminal itself, so the caller looks up these facts, as the example at `Terminal` does.
     pub fn set_terminal(&mut self, terminal: Terminal) -> &mut Self
         ensures same_reference { result.ghost_name ≡ self.entry.ghost_name }
         ensures value { result.now ≡ record self.old { terminal = terminal } }
@@ -54,8 +55,9 @@ impl Table {
         self
     }
 
-    /// Has the table drawn as where the output is no terminal, whatever is known of it: the terminal's width isn't taken,
-    /// and without `enforce_styling` no colours and attributes are written.
+    /// Has the table drawn as where the output is no terminal, whatever is known of it: the
+    /// terminal's width isn't taken, and without `enforce_styling` no colours and attributes are
+    /// written.
     pub fn force_no_tty(&mut self) -> &mut Self
         ensures same_reference { result.ghost_name ≡ self.entry.ghost_name }
         ensures value { result.now ≡ record self.old { no_tty = true } }
@@ -73,7 +75,8 @@ impl Table {
         self
     }
 
-    /// Has colours and attributes written, also where the output is no terminal: a file, or the input of another program.
+    /// Has colours and attributes written, also where the output is no terminal: a file, or the
+    /// input of another program.
     pub fn enforce_styling(&mut self) -> &mut Self
         ensures same_reference { result.ghost_name ≡ self.entry.ghost_name }
         ensures value { result.now ≡ record self.old { enforce_styling = true } }
@@ -82,15 +85,16 @@ impl Table {
         self
     }
 
-    /// Has colours and attributes written round the text of a cell alone, and not round its paddings and the spaces beside
-    /// it.
+    /// Has colours and attributes written round the text of a cell alone, and not round its
+    /// paddings and the spaces beside it.
     pub fn style_text_only(&mut self)
         ensures { self.new ≡ record self.old { style_text_only = true } }
     {
         self.style_text_only = true;
     }
 
-    /// The width in terminal columns: the one that was set, else the terminal's where the output is one; none otherwise.
+    /// The width in terminal columns: the one that was set, else the terminal's where the output is
+    /// one; none otherwise.
     pub fn width(&self) -> Option<u16>
         ensures { result ≡ table_width self.now }
     {
@@ -104,7 +108,8 @@ impl Table {
         }
     }
 
-    /// Whether the output is a terminal, by the facts that were passed in. It is looked up anew at each call.
+    /// Whether the output is a terminal, by the facts that were passed in. It is looked up anew at
+    /// each call.
     pub fn is_tty(&self) -> bool
         ensures { result ≡ is_tty self.now }
     {
@@ -118,7 +123,8 @@ impl Table {
         }
     }
 
-    /// Whether colours and attributes are written: after `enforce_styling`, or where the output is a terminal.
+    /// Whether colours and attributes are written: after `enforce_styling`, or where the output is
+    /// a terminal.
     pub fn should_style(&self) -> bool
         ensures { result ≡ should_style self.now }
     {

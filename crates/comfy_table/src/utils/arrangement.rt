@@ -48,10 +48,11 @@ fn kept_width(table: &Table) -> Option<u16>
     }
 }
 
-// Each column with its width: the visible ones get these in list order, and 1 where there are no more; a hidden column
-// has its content's.
+// Each column with its width: the visible ones get these in list order, and 1 where there are no
+// more; a hidden column has its content's.
 fn infos_with(table: &Table, widths: &[u16]) -> Result<Vec<ColumnDisplayInfo>>
-    ensures { IfOk result (λ infos. infos.items ≡ infos_of table.now (all_widths table.now widths.now)) }
+    ensures { IfOk result (λ infos. infos.items
+        ≡ infos_of table.now (all_widths table.now widths.now)) }
 {
     let columns = table.columns.as_slice();
     let mut infos = Vec::new(*table.columns.allocator());
@@ -71,7 +72,8 @@ fn infos_with(table: &Table, widths: &[u16]) -> Result<Vec<ColumnDisplayInfo>>
 
 // Each column with the width that its content and its constraint alone give.
 fn infos_by_content(table: &Table) -> Result<Vec<ColumnDisplayInfo>>
-    ensures { IfOk result (λ infos. infos.items ≡ infos_of table.now (widths_by_content table.now)) }
+    ensures { IfOk result (λ infos. infos.items
+        ≡ infos_of table.now (widths_by_content table.now)) }
 {
     let columns = table.columns.as_slice();
     let visible = count_visible_columns(columns);
@@ -83,7 +85,8 @@ fn infos_by_content(table: &Table) -> Result<Vec<ColumnDisplayInfo>>
     Ok(infos)
 }
 
-// The content width of the column at a position under `Disabled`: a hidden column has its content's.
+// The content width of the column at a position under `Disabled`: a hidden column has its
+// content's.
 fn width_by_content(table: &Table, position: usize, column: &Column, visible: usize) -> u16
     requires { visible ≡ shown_count table.now }
     ensures { result ≡ width_by_content table.now (position, column.now) }

@@ -15,7 +15,14 @@ use std::alloc::Global;
 
 /// A warning: bold red on white, in the middle of its column, and broken at hyphens.
 pub fn warning(alloc: Global, text: &str) -> Result<Cell>
-    ensures { IfOk result (λ cell. cell ≡ record (plain_cell text.now) { delimiter = Some 45; alignment = Some Center; foreground = Some Red; background = Some White; attributes = Bold ∷ [] }) }
+    ensures { IfOk result (λ cell. cell
+        ≡ record (plain_cell text.now) {
+          delimiter = Some 45;
+          alignment = Some Center;
+          foreground = Some Red;
+          background = Some White;
+          attributes = Bold ∷ [];
+        }) }
 {
     Cell::new(alloc, text)?
         .set_delimiter('-')
@@ -50,7 +57,9 @@ pub fn delimited(cell: Cell, delimiter: char) -> Cell
 
 /// Swaps the colours of a cell that has both.
 pub fn swapped(cell: Cell) -> Cell
-    ensures { IfSome cell.foreground (λ text. IfSome cell.background (λ behind. result ≡ record cell { foreground = Some behind; background = Some text })) }
+    ensures { IfSome cell.foreground
+        (λ text. IfSome cell.background
+        (λ behind. result ≡ record cell { foreground = Some behind; background = Some text })) }
 {
     match (cell.foreground(), cell.background()) {
         (Some(text), Some(behind)) => cell.fg(behind).bg(text),
@@ -60,7 +69,9 @@ pub fn swapped(cell: Cell) -> Cell
 
 /// Adds the attributes of another cell after those of a cell.
 pub fn with_attributes_of(alloc: Global, cell: Cell, other: &Cell) -> Result<Cell>
-    ensures { IfOk result (λ both. both ≡ record cell { attributes = cell.attributes ++ other.now.attributes }) }
+    ensures { IfOk result (λ both. both ≡ record cell {
+      attributes = cell.attributes ++ other.now.attributes;
+    }) }
 {
     let mut attributes = Vec::new(alloc);
     attributes.extend_from_slice(other.attributes())?;
@@ -100,7 +111,8 @@ pub fn row_of_cells(alloc: Global, first: Cell, second: Cell) -> Result<Row>
 
 /// A row of values of several types.
 pub fn row_of_several_types(alloc: Global, name: &str, width: u16, is_open: bool) -> Result<Row>
-    ensures { IfOk result (λ row. row ≡ plain_row (plain_cell name.now ∷ number_cell width ∷ bool_cell is_open ∷ [])) }
+    ensures { IfOk result (λ row. row
+        ≡ plain_row (plain_cell name.now ∷ number_cell width ∷ bool_cell is_open ∷ [])) }
 {
     (name, width, is_open).into_row(alloc)
 }

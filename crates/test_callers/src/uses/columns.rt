@@ -19,9 +19,11 @@ use comfy_table::{
 };
 use std::alloc::Global;
 
-/// Sets the header, and returns how many columns there are then: as many as before, or as the header or a row has cells.
+/// Sets the header, and returns how many columns there are then: as many as before, or as the
+/// header or a row has cells.
 pub fn count_with_header(table: &mut Table, header: Row) -> Result<usize>
-    ensures { IfOk result (λ count. count ≡ length (discovered (with_header header table.old)).columns) }
+    ensures { IfOk result (λ count. count
+        ≡ length (discovered (with_header header table.old)).columns) }
 {
     table.set_header(header)?;
     table.column_count()
@@ -38,7 +40,8 @@ pub fn count_discovered(table: &mut Table) -> Result<usize>
 
 /// Sets the header. There are then as many columns as before or as it has cells, whichever is more.
 pub fn widen(table: &mut Table, header: Row) -> Result<()>
-    ensures { OnOk result (length table.new.columns ≡ max (length header.cells) (length table.old.columns)) }
+    ensures { OnOk result (length table.new.columns
+        ≡ max (length header.cells) (length table.old.columns)) }
 {
     columns_only_grow();
     table.try_set_header(header)
@@ -46,7 +49,9 @@ pub fn widen(table: &mut Table, header: Row) -> Result<()>
 
 /// Hides the first column, where there is one, and leaves the others.
 pub fn hide_first(table: &mut Table)
-    ensures { table.new ≡ record table.old { columns = constrained (Hidden ∷ []) table.old.columns } }
+    ensures { table.new ≡ record table.old {
+      columns = constrained (Hidden ∷ []) table.old.columns;
+    } }
 {
     table.set_constraints([ColumnConstraint::Hidden]);
 }
@@ -61,7 +66,8 @@ pub fn drawn_with_hidden(alloc: Global, hidden: &str, text: &str) -> Result<Line
     table.lines()
 }
 
-/// The drawings of a text beside one hidden text and beside another: the same lines, whatever these are.
+/// The drawings of a text beside one hidden text and beside another: the same lines, whatever these
+/// are.
 pub fn drawn_with_either_hidden(
     alloc: Global,
     hidden: &str,
@@ -85,14 +91,20 @@ pub fn cells_in_column(table: &Table, position: usize) -> usize
 
 /// The cell of a column in the header; none where there is no header, or where it has no such cell.
 pub fn title_of(table: &Table, position: usize) -> Option<&Cell>
-    ensures { IfSome table.now.header (λ header. option_copied result ≡ slice_get header.cells position) }
+    ensures { IfSome table.now.header
+        (λ header. option_copied result ≡ slice_get header.cells position) }
 {
     table.column_cells_with_header_iter(position).next()?
 }
 
 /// A column for prices: close to its left neighbour, at the right, and broken at hyphens.
 pub fn price_column(index: usize, width: u16) -> Column
-    ensures { result ≡ record (new_column index) { padding = (0, 1); delimiter = Some 45; constraint = Some (Absolute (Fixed width)); alignment = Some Right } }
+    ensures { result ≡ record (new_column index) {
+      padding = (0, 1);
+      delimiter = Some 45;
+      constraint = Some (Absolute (Fixed width));
+      alignment = Some Right;
+    } }
 {
     let mut column = Column::new(index);
     column
@@ -123,7 +135,8 @@ pub fn copy_padding(from: &Column, to: &mut Column)
     to.set_padding(from.padding());
 }
 
-/// Hides a column and says whether it is hidden, then shows it and says so again. It has no constraint then.
+/// Hides a column and says whether it is hidden, then shows it and says so again. It has no
+/// constraint then.
 pub fn hide_and_show(column: &mut Column) -> (bool, bool)
     ensures said { result ≡ (true, false) }
     ensures shown { column.new ≡ record column.old { constraint = None } }

@@ -25,7 +25,8 @@ use std::alloc::Global;
 
 /// The first line of a drawing; none where nothing is drawn.
 pub fn first_line(table: &Table) -> Result<Option<String>>
-    ensures { IfOk result (λ first. (lines : List Text) × IsDrawingOf table.now lines × (option_map string_bytes first ≡ slice_get lines 0)) }
+    ensures { IfOk result (λ first. (lines : List Text) × IsDrawingOf table.now lines
+        × (option_map string_bytes first ≡ slice_get lines 0)) }
 {
     let mut lines = table.lines()?;
     Ok(lines.next())
@@ -33,14 +34,16 @@ pub fn first_line(table: &Table) -> Result<Option<String>>
 
 /// How many lines a drawing has.
 pub fn drawn_height(table: &Table) -> Result<usize>
-    ensures { IfOk result (λ height. (lines : List Text) × IsDrawingOf table.now lines × (height ≡ length lines)) }
+    ensures { IfOk result (λ height. (lines : List Text) × IsDrawingOf table.now lines
+        × (height ≡ length lines)) }
 {
     Ok(build_table(table)?.count())
 }
 
 /// A title, and the text of a table after it.
 pub fn titled(alloc: Global, title: &str, table: &Table) -> Result<String>
-    ensures { IfOk result (λ text. (drawn : Text) × IsTextOf table.now drawn × (string_bytes text ≡ title.now ++ drawn)) }
+    ensures { IfOk result (λ text. (drawn : Text) × IsTextOf table.now drawn
+        × (string_bytes text ≡ title.now ++ drawn)) }
 {
     let mut text = String::from_str(alloc, title)?;
     text.push_str(table.to_text()?.as_str())?;
@@ -49,7 +52,8 @@ pub fn titled(alloc: Global, title: &str, table: &Table) -> Result<String>
 
 /// A table as it is printed, and after it another one without trailing white space.
 pub fn printed_before(first: &Table, second: &Table) -> Result<String>
-    ensures { IfOk result (λ text. (one other : Text) × IsTerminatedTextOf first.now one × IsTrimmedTextOf second.now other × (string_bytes text ≡ one ++ other)) }
+    ensures { IfOk result (λ text. (one other : Text) × IsTerminatedTextOf first.now one
+        × IsTrimmedTextOf second.now other × (string_bytes text ≡ one ++ other)) }
 {
     let mut text = first.to_terminated_text()?;
     text.push_str(second.trim_fmt()?.as_str())?;
@@ -74,7 +78,8 @@ pub fn formatted_count(table: &Table) -> Result<usize>
 
 /// How many lines a row takes between the others.
 pub fn height_of(table: &Table, row: &Row) -> Result<usize>
-    ensures { IfOk result (λ height. (widths : List ℕ) × IsArranged table.now widths × (height ≡ length (row_lines table.now (infos_of table.now widths) row.now))) }
+    ensures { IfOk result (λ height. (widths : List ℕ) × IsArranged table.now widths
+        × (height ≡ length (row_lines table.now (infos_of table.now widths) row.now))) }
 {
     let infos = arrange_content(table)?;
     Ok(format_row(row, infos.as_slice(), table)?.len())
@@ -94,11 +99,12 @@ pub fn own_delimiter_as_drawn(table: &Table, info: &ColumnDisplayInfo, cell: Cel
     delimiter(&cell.set_delimiter(','), info, table)
 }
 
-/// A header and a row within a width, as a program prints them. Cut at its line feeds the text has no line of more
-/// characters, where the texts are printable ASCII and the width is enough for borders, paddings and one character for each
-/// column.
+/// A header and a row within a width, as a program prints them. Cut at its line feeds the text has
+/// no line of more characters, where the texts are printable ASCII and the width is enough for
+/// borders, paddings and one character for each column.
 pub fn printed_within(alloc: Global, header: Row, row: Row, width: u16) -> Result<String>
-    ensures { IfOk result (λ text. IsPrintedWithin width (table_within width header row) (string_bytes text)) }
+    ensures { IfOk result (λ text. IsPrintedWithin width (table_within width header row)
+        (string_bytes text)) }
 {
     lines_are_found_in_their_texts();
     let mut table = Table::new(alloc);
@@ -110,8 +116,9 @@ pub fn printed_within(alloc: Global, header: Row, row: Row, width: u16) -> Resul
     table.to_terminated_text()
 }
 
-/// A text in a table of its own, drawn within a width. Nothing of it is lost: the lines that it is wrapped into, one after
-/// another, have all its characters, in order, but for spaces and line feeds.
+/// A text in a table of its own, drawn within a width. Nothing of it is lost: the lines that it is
+/// wrapped into, one after another, have all its characters, in order, but for spaces and line
+/// feeds.
 pub fn drawn_whole(alloc: Global, text: &str, width: u16) -> Result<Lines>
     ensures { IfOk result (λ lines. IsDrawnWhole (text_within width text.now) text.now lines) }
 {
@@ -124,10 +131,11 @@ pub fn drawn_whole(alloc: Global, text: &str, width: u16) -> Result<Lines>
     table.lines()
 }
 
-/// A report, as of Chinese names and how often each was met. All its lines are equally many terminal columns wide, whatever
-/// the script.
+/// A report, as of Chinese names and how often each was met. All its lines are equally many
+/// terminal columns wide, whatever the script.
 pub fn report(alloc: Global, header: Row, rows: Vec<Row>) -> Result<Lines>
-    ensures { IfOk result (λ lines. IsShortRow header → All IsShortRow rows.items → AreEquallyWide lines) }
+    ensures { IfOk result (λ lines. IsShortRow header → All IsShortRow rows.items
+        → AreEquallyWide lines) }
 {
     let table = report_table(alloc, header, rows)?;
     new_tables_are_straight();
@@ -136,7 +144,8 @@ pub fn report(alloc: Global, header: Row, rows: Vec<Row>) -> Result<Lines>
 }
 
 fn report_table(alloc: Global, header: Row, rows: Vec<Row>) -> Result<Table>
-    ensures { IfOk result (λ table. table ≡ with_rows rows.items (with_header header (new_table utf8_full))) }
+    ensures { IfOk result (λ table. table
+        ≡ with_rows rows.items (with_header header (new_table utf8_full))) }
 {
     let mut table = Table::new(alloc);
     table

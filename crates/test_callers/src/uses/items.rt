@@ -33,12 +33,19 @@ impl<'a> Iterator for NumberRows<'a> {
 impl<'a> Items for NumberRows<'a> {
     ghost items_of = { rows_left };
 
-    ghost gives_items = { λ numbers from made. record { may_be_asked = tt; ends = tt; in_order = gives_rest (YieldsFirst rows_left) rows_left (λ s t none. ap length none.0) (λ s t number some. some) (rows_left numbers) from (ap rows_left made) } };
+    ghost gives_items = { λ numbers from made. record {
+      may_be_asked = tt;
+      ends = tt;
+      in_order =
+          gives_rest (YieldsFirst rows_left) rows_left (λ s t none. ap length none.0)
+          (λ s t number some. some) (rows_left numbers) from (ap rows_left made);
+    } };
 }
 
 /// Appends a row of one cell for each number.
 pub fn append_numbers(table: &mut Table, numbers: &[u64]) -> Result<()>
-    ensures { OnOk result (table.new ≡ with_rows (map (λ number. plain_row (number_cell number ∷ [])) numbers.now) table.old) }
+    ensures { OnOk result (table.new
+        ≡ with_rows (map (λ number. plain_row (number_cell number ∷ [])) numbers.now) table.old) }
 {
     table.try_add_rows(NumberRows { left: numbers })
 }

@@ -63,13 +63,23 @@ pub fn promised_lines(
     info: &ColumnDisplayInfo,
     delimiter: char,
 ) -> Result<Vec<String>>
-    ensures fit { IfOk result (λ lines. LinesFit info.now.content_width delimiter text.now (map string_bytes lines.items)) }
-    ensures few { IfOk result (λ lines. LinesAreFew info.now.content_width delimiter text.now (map string_bytes lines.items)) }
-    ensures fewest { IfOk result (λ lines. LinesAreFewest info.now.content_width delimiter text.now (map string_bytes lines.items)) }
-    ensures full { IfOk result (λ lines. CutLinesAreFull info.now.content_width delimiter text.now (map string_bytes lines.items)) }
-    ensures filled { IfOk result (λ lines. NeighboursFillALine info.now.content_width delimiter text.now (map string_bytes lines.items)) }
-    ensures whole { IfOk result (λ lines. IsCutOutsideNarrow info.now.content_width delimiter [] text.now (map string_bytes lines.items)) }
-    ensures one { IfOk result (λ lines. (others : List Text) → IsWrapped info.now.content_width delimiter text.now others → others ≡ map string_bytes lines.items) }
+    ensures fit { IfOk result (λ lines.
+        LinesFit info.now.content_width delimiter text.now (map string_bytes lines.items)) }
+    ensures few { IfOk result (λ lines.
+        LinesAreFew info.now.content_width delimiter text.now (map string_bytes lines.items)) }
+    ensures fewest { IfOk result (λ lines.
+        LinesAreFewest info.now.content_width delimiter text.now (map string_bytes lines.items)) }
+    ensures full { IfOk result (λ lines.
+        CutLinesAreFull info.now.content_width delimiter text.now (map string_bytes lines.items)) }
+    ensures filled { IfOk result (λ lines.
+        NeighboursFillALine info.now.content_width delimiter text.now
+        (map string_bytes lines.items)) }
+    ensures whole { IfOk result (λ lines.
+        IsCutOutsideNarrow info.now.content_width delimiter [] text.now
+        (map string_bytes lines.items)) }
+    ensures one { IfOk result (λ lines. (others : List Text)
+        → IsWrapped info.now.content_width delimiter text.now others
+        → others ≡ map string_bytes lines.items) }
 {
     lines_fit();
     lines_are_few();
@@ -81,7 +91,8 @@ pub fn promised_lines(
     split_line(alloc, text, info, delimiter)
 }
 
-/// The front of a text for so many terminal columns. No longer front of whole grapheme clusters fits them.
+/// The front of a text for so many terminal columns. No longer front of whole grapheme clusters
+/// fits them.
 pub fn longest_front(text: &str, columns: usize) -> &str
     ensures { IsLongestHead columns text.now result.now }
 {
@@ -92,7 +103,8 @@ pub fn longest_front(text: &str, columns: usize) -> &str
 
 /// The columns of a table as they are drawn, with what the laws say of their widths.
 pub fn lawful_columns(table: &Table) -> Result<Vec<ColumnDisplayInfo>>
-    ensures { IfOk result (λ infos. (widths : List ℕ) × (infos.items ≡ infos_of table.now widths) × ((w : ℕ) → KeepsTheLaws table.now w widths)) }
+    ensures { IfOk result (λ infos. (widths : List ℕ) × (infos.items ≡ infos_of table.now widths)
+        × ((w : ℕ) → KeepsTheLaws table.now w widths)) }
 {
     frame_lines_have_one_count();
     frame_lines_keep_to_the_width();
@@ -105,7 +117,8 @@ pub fn lawful_columns(table: &Table) -> Result<Vec<ColumnDisplayInfo>>
     arrange_content(table)
 }
 
-/// A text after the sequence that makes it bold. What is visible of it is what is visible of the text.
+/// A text after the sequence that makes it bold. What is visible of it is what is visible of the
+/// text.
 pub fn bold(alloc: Global, text: &str) -> Result<String>
     ensures { IfOk result (λ bold. visible_text (string_bytes bold) ≡ visible_text text.now) }
 {
@@ -119,18 +132,21 @@ pub fn bold(alloc: Global, text: &str) -> Result<String>
 pub fn sequences_are_kept_apart()
     ensures lines { (w d : ℕ) (text_lines : List Text) → LinesAreVisible w d text_lines }
     ensures closed { (text : Text) → ClosedTextsLeaveNone text }
-    ensures resumed { (earlier : List Text) (text : Text) (start len k : ℕ) → ActiveIsResumed earlier text start len k }
+    ensures resumed { (earlier : List Text) (text : Text) (start len k : ℕ)
+        → ActiveIsResumed earlier text start len k }
 {
     sequences_count_nothing();
     lines_leave_no_sequence_open();
     active_sequences_are_resumed();
 }
 
-/// What the laws say of any widths: there is one list of them, and a column that shrinks keeps its lines. An indicator of
-/// printable ASCII adds one terminal column for each of its characters.
+/// What the laws say of any widths: there is one list of them, and a column that shrinks keeps its
+/// lines. An indicator of printable ASCII adds one terminal column for each of its characters.
 pub fn widths_are_one_list()
-    ensures one { (room : ℕ) (columns : List ColumnNeeds) (full : Bool) (widths others : List ℕ) → DynamicIsOne room columns full widths others }
-    ensures kept { (table : TableValue) (p : ℕ × ColumnValue) (b : ℕ) → ShrinkingKeepsCells table p b }
+    ensures one { (room : ℕ) (columns : List ColumnNeeds) (full : Bool) (widths others : List ℕ)
+        → DynamicIsOne room columns full widths others }
+    ensures kept { (table : TableValue) (p : ℕ × ColumnValue) (b : ℕ)
+        → ShrinkingKeepsCells table p b }
     ensures indicator { (indicator : Text) → PrintableAddsOneColumnEach indicator }
 {
     dynamic_widths_are_one_list();

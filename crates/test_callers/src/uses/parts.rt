@@ -10,10 +10,11 @@ ghost use Rattle.test_callers.specs.Uses.{AppendsPageWithin};
 use comfy_table::laws::{lines_are_found_in_their_texts, parts_have_lines_of_the_table};
 use comfy_table::{Result, Table};
 
-/// Appends a page of a table. Cut at its line feeds the page has no line of more characters than the table's width, where
-/// the texts are printable ASCII and the width is enough.
+/// Appends a page of a table. Cut at its line feeds the page has no line of more characters than
+/// the table's width, where the texts are printable ASCII and the width is enough.
 pub fn push_page(table: &Table, text: &mut String, first: usize, count: usize) -> Result<()>
-    ensures { OnOk result (AppendsPageWithin table.now (string_bytes text.old) (string_bytes text.new)) }
+    ensures { OnOk result (AppendsPageWithin table.now (string_bytes text.old)
+        (string_bytes text.new)) }
 {
     parts_have_lines_of_the_table();
     lines_are_found_in_their_texts();
@@ -22,7 +23,8 @@ pub fn push_page(table: &Table, text: &mut String, first: usize, count: usize) -
 
 /// A table in one part: as a program prints it.
 pub fn in_one_part(table: &Table, text: &mut String) -> Result<()>
-    ensures { OnOk result ((part : Text) × IsTerminatedTextOf table.now part × (string_bytes text.new ≡ string_bytes text.old ++ part)) }
+    ensures { OnOk result ((part : Text) × IsTerminatedTextOf table.now part
+        × (string_bytes text.new ≡ string_bytes text.old ++ part)) }
 {
     parts_have_lines_of_the_table();
     table.arranged()?.push_rows(text, 0, table.row_count())
@@ -30,7 +32,9 @@ pub fn in_one_part(table: &Table, text: &mut String) -> Result<()>
 
 /// Whether a row is drawn in more than one line.
 pub fn has_tall_row(table: &Table) -> Result<bool>
-    ensures { IfOk result (λ is_tall. (arranged : ArrangedValue) × IsArrangedTable table.now arranged × (is_tall ≡ list_any (nat_lt 1) (row_heights arranged))) }
+    ensures { IfOk result (λ is_tall. (arranged : ArrangedValue)
+        × IsArrangedTable table.now arranged
+        × (is_tall ≡ list_any (nat_lt 1) (row_heights arranged))) }
 {
     let heights = table.arranged()?.row_heights()?;
     Ok(has_more_than_one(heights.as_slice()))

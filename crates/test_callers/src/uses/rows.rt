@@ -11,16 +11,19 @@ use comfy_table::{Cell, Lines, Result, Row, Table};
 
 /// Appends a row to a table of at most two.
 pub fn append_to_few(table: &mut Table, row: Row) -> Result<()>
-    ensures { OnOk result (table.new ≡ (if nat_lt (length table.old.rows) 3 then with_row row table.old else table.old)) }
+    ensures { OnOk result (table.new
+        ≡ (if nat_lt (length table.old.rows) 3 then with_row row table.old else table.old)) }
 {
     table.add_row_if(|count, _row| count < 3, row)?;
     Ok(())
 }
 
-/// The drawings before and after a row is appended. Where no width is kept and the row widens no column, the second has
-/// the lines of the first, and those of the row above the bottom border.
+/// The drawings before and after a row is appended. Where no width is kept and the row widens no
+/// column, the second has the lines of the first, and those of the row above the bottom border.
 pub fn drawn_with_one_more(table: &mut Table, row: Row) -> Result<(Lines, Lines)>
-    ensures { IfOk result (λ drawn. width_kept table.old.arrangement (table_width table.old) ≡ None → HasColumnsFor table.old row → IsWithinContents table.old row → (widths : List ℕ) × AddsBelow table.old row widths drawn.0 drawn.1) }
+    ensures { IfOk result (λ drawn. width_kept table.old.arrangement (table_width table.old) ≡ None
+        → HasColumnsFor table.old row → IsWithinContents table.old row
+        → (widths : List ℕ) × AddsBelow table.old row widths drawn.0 drawn.1) }
 {
     let before = table.lines()?;
     table.try_add_row(row)?;
@@ -31,7 +34,8 @@ pub fn drawn_with_one_more(table: &mut Table, row: Row) -> Result<(Lines, Lines)
 
 /// Appends a row that has cells. After `OutOfMemory` the table is unchanged.
 pub fn append_unless_empty(table: &mut Table, row: Row) -> Result<()>
-    ensures ok { OnOk result (table.new ≡ (if nat_lt 0 (length row.cells) then with_row row table.old else table.old)) }
+    ensures ok { OnOk result (table.new
+        ≡ (if nat_lt 0 (length row.cells) then with_row row table.old else table.old)) }
     ensures err { OnErr result (table.new ≡ table.old) }
 {
     table.try_add_row_if(|_count, row| row.cell_count() > 0, row)
@@ -39,7 +43,8 @@ pub fn append_unless_empty(table: &mut Table, row: Row) -> Result<()>
 
 /// Gives rows to a table without any.
 pub fn fill(table: &mut Table, rows: Vec<Row>) -> Result<()>
-    ensures { OnOk result (table.new ≡ (if length table.old.rows == 0 then with_rows rows.items table.old else table.old)) }
+    ensures { OnOk result (table.new
+        ≡ (if length table.old.rows == 0 then with_rows rows.items table.old else table.old)) }
 {
     table.add_rows_if(|count, _rows| count == 0, rows)?;
     Ok(())
@@ -47,7 +52,8 @@ pub fn fill(table: &mut Table, rows: Vec<Row>) -> Result<()>
 
 /// Gives rows to a table without any. After `OutOfMemory` it has those before the refused one.
 pub fn fill_as_far_as_possible(table: &mut Table, rows: Vec<Row>) -> Result<()>
-    ensures ok { OnOk result (table.new ≡ (if length table.old.rows == 0 then with_rows rows.items table.old else table.old)) }
+    ensures ok { OnOk result (table.new
+        ≡ (if length table.old.rows == 0 then with_rows rows.items table.old else table.old)) }
     ensures err { OnErr result (IsWithRowsBeforeOne rows.items table.old table.new) }
 {
     table.try_add_rows_if(|count, _rows| count == 0, rows)
@@ -104,7 +110,8 @@ pub fn counts_agree(table: &Table) -> bool
 
 /// How many cells the row at a position has; none past the last row.
 pub fn cells_in_row(table: &Table, position: usize) -> Option<usize>
-    ensures { result ≡ option_map (λ (row : RowValue). length row.cells) (slice_get table.now.rows position) }
+    ensures { result ≡ option_map (λ (row : RowValue). length row.cells)
+        (slice_get table.now.rows position) }
 {
     let row = table.row(position)?;
     Some(row.cell_count())
@@ -120,7 +127,8 @@ pub fn cells_in_header(table: &Table) -> usize
     }
 }
 
-/// Appends a cell to the first row. The columns stay as they are, and so does everything where there is no row.
+/// Appends a cell to the first row. The columns stay as they are, and so does everything where
+/// there is no row.
 pub fn append_to_first(table: &mut Table, cell: Cell) -> Result<()>
     ensures columns { table.new.columns ≡ table.old.columns }
     ensures none { length table.old.rows ≡ 0 → table.new ≡ table.old }

@@ -34,9 +34,17 @@ pub fn asks_for_no_number<R: Source, W: Sink, F: Sink>(
     program(alloc, &["wide"], source, sink, messages)
 }
 
-/// The devices over a reader and a writer. Neither has failed, and the reader's end wasn't read yet.
+/// The devices over a reader and a writer. Neither has failed, and the reader's end wasn't read
+/// yet.
 pub fn devices_over<R: Read, W: Write>(reader: R, writer: W) -> (FromReader<R>, ToWriter<W>)
-    ensures { result ≡ (record { reader = reader; fault = None; ended = false }, record { writer = writer; failed = false; unread = false }) }
+    ensures { result ≡ (
+      record {
+        reader = reader;
+        fault = None;
+        ended = false;
+      },
+      record { writer = writer; failed = false; unread = false },
+    ) }
 {
     (FromReader::new(reader), ToWriter::new(writer))
 }
@@ -55,25 +63,28 @@ pub fn read_once<R: Source>(source: &mut R, buffer: &mut [u8]) -> Result<usize, 
     source.read(buffer)
 }
 
-/// Writes once. Of a sink that says its bytes, it has the front of the piece after those that it had.
+/// Writes once. Of a sink that says its bytes, it has the front of the piece after those that it
+/// had.
 pub fn write_once<W: Sink>(sink: &mut W, piece: &[u8]) -> Result<usize, DeviceFault>
-    ensures { IfOk result (λ count. (had : List ℕ) → W.taken sink.old ≡ Some had → W.taken sink.new ≡ Some (had ++ take count piece.now)) }
+    ensures { IfOk result (λ count. (had : List ℕ) → W.taken sink.old ≡ Some had
+        → W.taken sink.new ≡ Some (had ++ take count piece.now)) }
 {
     sink.write(piece)
 }
 
-/// A sink that holds the output for an input, both in memory. All its lines are equally many terminal columns wide, whatever
-/// the script.
+/// A sink that holds the output for an input, both in memory. All its lines are equally many
+/// terminal columns wide, whatever the script.
 pub fn straight_output_for(alloc: Global, input: &[u8], room: usize) -> Result<MemorySink, RunError>
-    ensures { IfOk result (λ sink. EachText (λ text. measure text ≤ 65535) input.now → IsStraightOutput sink.bytes) }
+    ensures { IfOk result (λ sink. EachText (λ text. measure text ≤ 65535) input.now
+        → IsStraightOutput sink.bytes) }
 {
     outputs_are_straight();
     presets_have_columns_of_one();
     output_for(alloc, input, room)
 }
 
-/// Runs the program over a reader and writers, as the standard streams are. On yes the reader's end was read, and neither
-/// the reader nor the writer has failed.
+/// Runs the program over a reader and writers, as the standard streams are. On yes the reader's end
+/// was read, and neither the reader nor the writer has failed.
 pub fn drew_all<R: Read, W: Write, E: Write>(
     alloc: Global,
     words: &[&str],
@@ -87,15 +98,19 @@ pub fn drew_all<R: Read, W: Write, E: Write>(
     program(alloc, words, source, sink, messages) == 0
 }
 
-/// A sink that holds the output for an input at a width, both in memory. No line of it is longer, where the input is
-/// printable ASCII and the width is enough for borders, paddings and one character in each column.
+/// A sink that holds the output for an input at a width, both in memory. No line of it is longer,
+/// where the input is printable ASCII and the width is enough for borders, paddings and one
+/// character in each column.
 pub fn output_within(
     alloc: Global,
     input: &[u8],
     room: usize,
     width: u16,
 ) -> Result<MemorySink, RunError>
-    ensures { IfOk result (λ sink. IsPrintableInput input.now → least_total (input_table (Some width) ContentArrangement.Dynamic ascii_full input.now) ≤ width → EachLineHas (λ n. n ≤ width) sink.bytes) }
+    ensures { IfOk result (λ sink. IsPrintableInput input.now
+        → least_total (input_table (Some width) ContentArrangement.Dynamic ascii_full input.now)
+        ≤ width
+        → EachLineHas (λ n. n ≤ width) sink.bytes) }
 {
     outputs_keep_to_a_width();
     let mut source = MemorySource::new(input, 0);

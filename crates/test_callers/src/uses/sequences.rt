@@ -18,24 +18,26 @@ use comfy_table::utils::formatting::content_split::ColumnDisplayInfo;
 use comfy_table::{Cell, Lines, Result, Row, Table};
 use std::alloc::Global;
 
-/// Draws a table with the sequences inside its cells. No text that is written for a line of a cell leaves one open. The
-/// lines that aren't cut resume those of the cell, and the others are closed. Where nothing else holds ESC, the drawing
-/// without its sequences is that without styling.
+/// Draws a table with the sequences inside its cells. No text that is written for a line of a cell
+/// leaves one open. The lines that aren't cut resume those of the cell, and the others are closed.
+/// Where nothing else holds ESC, the drawing without its sequences is that without styling.
 pub fn drawn_with_sequences(table: &mut Table) -> Result<Lines>
     ensures set { table.new ≡ record table.old { custom_styling = true } }
     ensures closed { IfOk result (IsDrawnWithCells (NoneIsOpenAtTheEnd table.new) table.new) }
     ensures resumed { IfOk result (IsDrawnWithCells (LinesAreResumedInRow table.new) table.new) }
     ensures cut { IfOk result (IsDrawnWithCells (CutLinesAreClosed table.new) table.new) }
-    ensures visible { IfOk result (λ lines. IsFreeOfEscapes table.new → IsUnstyledDrawing table.new (map visible_text lines)) }
+    ensures visible { IfOk result (λ lines. IsFreeOfEscapes table.new
+        → IsUnstyledDrawing table.new (map visible_text lines)) }
 {
     table.custom_styling();
     table.lines()
 }
 
-/// A header and a row with sequences inside their cells, as a program prints them. Cut at its line feeds the text has no
-/// line that leaves a sequence open.
+/// A header and a row with sequences inside their cells, as a program prints them. Cut at its line
+/// feeds the text has no line that leaves a sequence open.
 pub fn printed_closed(alloc: Global, header: Row, row: Row) -> Result<String>
-    ensures { IfOk result (λ text. All LeavesNoneOpen (slice_split (λ b. b == 10) (string_bytes text))) }
+    ensures { IfOk result (λ text. All LeavesNoneOpen
+        (slice_split (λ b. b == 10) (string_bytes text))) }
 {
     new_tables_leave_no_sequence_open();
     lines_are_found_in_their_texts();
@@ -44,10 +46,11 @@ pub fn printed_closed(alloc: Global, header: Row, row: Row) -> Result<String>
     table.to_terminated_text()
 }
 
-/// A header and a row as a program prints them. Where their texts hold no control character, the text has none but its line
-/// feeds.
+/// A header and a row as a program prints them. Where their texts hold no control character, the
+/// text has none but its line feeds.
 pub fn printed_without_controls(alloc: Global, header: Row, row: Row) -> Result<String>
-    ensures { IfOk result (λ text. IsFreeOfControls (table_of_two header row) → All HasNoControl (slice_split (λ b. b == 10) (string_bytes text))) }
+    ensures { IfOk result (λ text. IsFreeOfControls (table_of_two header row)
+        → All HasNoControl (slice_split (λ b. b == 10) (string_bytes text))) }
 {
     tables_without_controls_have_no_escape();
     lines_are_found_in_their_texts();
@@ -88,7 +91,8 @@ pub fn first_visible_width(cell: &Cell) -> Option<usize>
 /// What is visible of a text line of a cell, copied.
 pub fn visible_line(alloc: Global, cell: &Cell, position: usize) -> Result<String>
     requires { position < length cell.now.text_lines }
-    ensures { IfOk result (λ text. slice_get (map visible_text cell.now.text_lines) position ≡ Some (string_bytes text)) }
+    ensures { IfOk result (λ text. slice_get (map visible_text cell.now.text_lines) position
+        ≡ Some (string_bytes text)) }
 {
     let (texts, _) = measured_lines(cell, true);
     Ok(String::from_str(alloc, texts[position].as_str())?)
@@ -103,7 +107,8 @@ pub fn is_written_as_it_is(cell: &Cell) -> bool
 
 /// How many lines are written for a cell in a column of its own delimiter.
 pub fn written_height(cell: &Cell, info: &ColumnDisplayInfo) -> Result<usize>
-    ensures { IfOk result (λ height. height ≡ length (line_texts info.now.content_width 44 cell.now.text_lines)) }
+    ensures { IfOk result (λ height. height
+        ≡ length (line_texts info.now.content_width 44 cell.now.text_lines)) }
 {
     Ok(written_lines(cell, info, ',')?.len())
 }

@@ -17,7 +17,18 @@ use std::alloc::Global;
 
 /// A table for a terminal of this width, all of whose settings are set.
 pub fn table_for_terminal(alloc: Global, width: u16) -> Result<Table>
-    ensures { IfOk result (λ table. table ≡ record (new_table ascii_markdown) { delimiter = Some 45; indicator = 126 ∷ []; arrangement = Dynamic; set_width = Some width; terminal = record { stdout_is_tty = true; stderr_is_tty = false; width = Some 80 }; no_tty = true; use_stderr = true; enforce_styling = true; style_text_only = true }) }
+    ensures { IfOk result (λ table. table
+        ≡ record (new_table ascii_markdown) {
+          delimiter = Some 45;
+          indicator = 126 ∷ [];
+          arrangement = Dynamic;
+          set_width = Some width;
+          terminal = record { stdout_is_tty = true; stderr_is_tty = false; width = Some 80 };
+          no_tty = true;
+          use_stderr = true;
+          enforce_styling = true;
+          style_text_only = true;
+        }) }
 {
     let mut table = Table::new(alloc);
     table
@@ -46,7 +57,8 @@ pub fn mark_cuts(table: &mut Table, indicator: &str) -> Result<()>
     table.try_set_truncation_indicator(indicator)
 }
 
-/// The width of a terminal, which a new table takes once its facts are passed in. It writes colours then.
+/// The width of a terminal, which a new table takes once its facts are passed in. It writes colours
+/// then.
 pub fn width_of_terminal(alloc: Global, width: u16) -> (Option<u16>, bool)
     ensures { result ≡ (Some width, true) }
 {
@@ -68,7 +80,10 @@ pub fn finds_no_terminal(table: &mut Table) -> bool
 
 /// Gives a table the style and the arrangement of another.
 pub fn draw_alike(from: &Table, to: &mut Table)
-    ensures { to.new ≡ record to.old { style = from.now.style; arrangement = from.now.arrangement } }
+    ensures { to.new ≡ record to.old {
+      style = from.now.style;
+      arrangement = from.now.arrangement;
+    } }
 {
     to.load_style(from.style())
         .set_content_arrangement(from.content_arrangement());
@@ -76,14 +91,24 @@ pub fn draw_alike(from: &Table, to: &mut Table)
 
 /// Draws the top border by equals signs, and leaves the rest of the style.
 pub fn double_top(table: &mut Table)
-    ensures { table.new ≡ record table.old { style = record table.old.style { top_border = record { left = Some 43; fill = Some 61; junction = Some 43; right = Some 43 } } } }
+    ensures { table.new ≡ record table.old {
+      style = record table.old.style {
+        top_border =
+            record { left = Some 43; fill = Some 61; junction = Some 43; right = Some 43 };
+      };
+    } }
 {
     table.style_mut().top_border = LineStyle::new('+', '=', '+', '+');
 }
 
 /// A style with lines below the header and between the columns alone.
 pub fn open_style() -> TableStyle
-    ensures { result ≡ record nothing { header_separator = record { left = None; fill = Some 45; junction = Some 43; right = None }; header_lines = record { left = None; junction = Some 124; right = None }; content_lines = record { left = None; junction = Some 124; right = None } } }
+    ensures { result ≡ record nothing {
+      header_separator =
+          record { left = None; fill = Some 45; junction = Some 43; right = None };
+      header_lines = record { left = None; junction = Some 124; right = None };
+      content_lines = record { left = None; junction = Some 124; right = None };
+    } }
 {
     let line = ContentLineStyle::none().junction('|');
     TableStyle::new()
@@ -94,7 +119,13 @@ pub fn open_style() -> TableStyle
 
 /// A style with borders at both sides alone, set piece by piece.
 pub fn side_style() -> TableStyle
-    ensures { result ≡ record nothing { top_border = record { left = Some 43; fill = None; junction = None; right = Some 43 }; row_separator = record { left = Some 124; fill = None; junction = None; right = Some 124 }; bottom_border = record { left = Some 43; fill = None; junction = None; right = Some 43 }; content_lines = record { left = Some 124; junction = None; right = Some 124 } } }
+    ensures { result ≡ record nothing {
+      top_border = record { left = Some 43; fill = None; junction = None; right = Some 43 };
+      row_separator =
+          record { left = Some 124; fill = None; junction = None; right = Some 124 };
+      bottom_border = record { left = Some 43; fill = None; junction = None; right = Some 43 };
+      content_lines = record { left = Some 124; junction = None; right = Some 124 };
+    } }
 {
     let corners = LineStyle::none().left('+').right('+');
     TableStyle::new()
@@ -104,7 +135,8 @@ pub fn side_style() -> TableStyle
         .content_lines(ContentLineStyle::none().left('|').right('|'))
 }
 
-/// The preset of box characters with round corners and solid lines, each asked for twice, which is as once.
+/// The preset of box characters with round corners and solid lines, each asked for twice, which is
+/// as once.
 pub fn soft_style() -> TableStyle
     ensures { result ≡ with_solid_inner_borders (with_rounded_corners utf8_full) }
 {
@@ -116,7 +148,8 @@ pub fn soft_style() -> TableStyle
         .with_solid_inner_borders()
 }
 
-/// Whether a table and its style agree on what is drawn: at the left, at the right, and between the columns. They do.
+/// Whether a table and its style agree on what is drawn: at the left, at the right, and between the
+/// columns. They do.
 pub fn agrees_with_its_style(table: &Table) -> bool
     ensures { result ≡ true }
 {

@@ -54,14 +54,16 @@ pub fn parts_at_commas(alloc: Global, text: &str) -> Result<usize>
 
 /// How many lines a text takes at a width, in a column of its own. In printable ASCII they are few.
 pub fn height_at(alloc: Global, text: &str, width: u16) -> Result<usize>
-    ensures { IfOk result (λ height. 1 ≤ width → is_printable_ascii text.now ≡ true → height ≤ 2 * (length text.now / width) + 1) }
+    ensures { IfOk result (λ height. 1 ≤ width → is_printable_ascii text.now ≡ true
+        → height ≤ 2 * (length text.now / width) + 1) }
 {
     lines_are_few();
     let info = ColumnDisplayInfo::new(&Column::new(0), width);
     Ok(split_line_ref(alloc, text, &info, ' ')?.len())
 }
 
-/// The first line of a text that is wrapped; none where it has delimiters alone. It takes no memory.
+/// The first line of a text that is wrapped; none where it has delimiters alone. It takes no
+/// memory.
 pub fn first_line_of<'a>(text: &'a str, info: &ColumnDisplayInfo) -> Option<&'a str>
     ensures { option_copied result ≡ slice_get (wrapped info.now.content_width 32 text.now) 0 }
 {
@@ -89,8 +91,8 @@ pub fn whole_width(content: u16) -> Option<usize>
     }
 }
 
-/// Whether a text is sure to fit a column of this width, wrapped at the delimiter: its characters do, and the delimiter
-/// adds one terminal column.
+/// Whether a text is sure to fit a column of this width, wrapped at the delimiter: its characters
+/// do, and the delimiter adds one terminal column.
 pub fn is_sure_to_fit(text: &str, delimiter: char, width: usize) -> bool
     ensures { result ≡ true → TextFits width delimiter text.now }
 {
@@ -98,7 +100,8 @@ pub fn is_sure_to_fit(text: &str, delimiter: char, width: usize) -> bool
     adds_one_column(delimiter) && characters_fit(text, width)
 }
 
-/// The style where its characters are one terminal column wide, else a preset, whose characters are.
+/// The style where its characters are one terminal column wide, else a preset, whose characters
+/// are.
 pub fn straight_style(style: TableStyle) -> TableStyle
     ensures { IsOneColumnStyle result }
 {

@@ -38,7 +38,8 @@ fn most_scripts_add_up(rt: HostRuntime) {
     }
 }
 
-// Each text, a width in terminal columns, and whether each of its characters fits and no two selectors clash.
+// Each text, a width in terminal columns, and whether each of its characters fits and no two
+// selectors clash.
 const FITTING: [(&str, usize, bool); 16] = [
     ("", 0, true),
     ("e\u{301}", 1, true),

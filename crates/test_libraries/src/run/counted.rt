@@ -58,8 +58,8 @@ impl Sink for CountedSink {
     }
 }
 
-// The words and the input of the program, the call at which its output fails, and how often it reads, writes its output
-// and writes a message, and its status.
+// The words and the input of the program, the call at which its output fails, and how often it
+// reads, writes its output and writes a message, and its status.
 type Calls = (
     &'static [&'static str],
     &'static [u8],
@@ -67,8 +67,8 @@ type Calls = (
     (u64, u64, u64, u8),
 );
 
-// One read of a short input and one of its end, one write of all, and no message. The first call of a message is its
-// only one.
+// One read of a short input and one of its end, one write of all, and no message. The first call of
+// a message is its only one.
 const CALLS: [Calls; 5] = [
     (&[], b"a\tb\nc\td\n", 0, (2, 1, 0, 0)),
     (&[], b"", 0, (1, 1, 0, 0)),
@@ -77,7 +77,8 @@ const CALLS: [Calls; 5] = [
     (&["x"], b"a\n", 0, (0, 0, 1, 2)),
 ];
 
-// Runs the program, and returns how often it called its devices, and its status. The message fails at its first call.
+// Runs the program, and returns how often it called its devices, and its status. The message fails
+// at its first call.
 fn calls(
     rt: &(impl Abort + Alloc<A = Global>),
     words: &[&str],

@@ -115,7 +115,8 @@ fn readers_are_read_to_their_end(rt: HostRuntime) {
     assert_run_from(&rt, &mut FromReader::new(INPUT), &Ok(()), SMALL);
 }
 
-// A writer that takes three bytes at a call, and whose call `fails_at` is an error or takes nothing.
+// A writer that takes three bytes at a call, and whose call `fails_at` is an error or takes
+// nothing.
 #[derive(Drop)]
 struct SlowWriter {
     bytes: Vec<u8>,

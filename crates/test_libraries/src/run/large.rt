@@ -1,5 +1,5 @@
-//! Inputs that are long in each direction: no clause says that they must be drawn. What is drawn of them follows from the
-//! rules, since each is one piece many times over.
+//! Inputs that are long in each direction: no clause says that they must be drawn. What is drawn of
+//! them follows from the rules, since each is one piece many times over.
 
 use crate::support::{assert_bytes, sink_of};
 use comfy_csv::{Delimiter, Expansion, Look, Options, RowSeparators, draw};
@@ -12,7 +12,8 @@ use std::process::Abort;
 // A text: pieces, each as often as its number says.
 type Pieces = &'static [(&'static str, usize)];
 
-// A table: its input for `run` and for `draw`, and what is drawn of it without a width and in 40 terminal columns.
+// A table: its input for `run` and for `draw`, and what is drawn of it without a width and in 40
+// terminal columns.
 struct Large {
     tabs: Pieces,
     commas: Pieces,
@@ -29,7 +30,8 @@ const ROWS: Large = Large {
         ("| qwertyuio | abcdefghi | ABCDEFGHI | zxcvbnmas |\n", 1),
         ("+===============================================+\n", 1),
         (
-            "| qwertyuio | abcdefghi | ABCDEFGHI | zxcvbnmas |\n|-----------+-----------+-----------+-----------|\n",
+            "| qwertyuio | abcdefghi | ABCDEFGHI | zxcvbnmas |\n\
+             |-----------+-----------+-----------+-----------|\n",
             4998,
         ),
         ("| qwertyuio | abcdefghi | ABCDEFGHI | zxcvbnmas |\n", 1),
@@ -41,7 +43,9 @@ const ROWS: Large = Large {
         ("| io      | hi      | HI      | mas    |\n", 1),
         ("+======================================+\n", 1),
         (
-            "| qwertyu | abcdefg | ABCDEFG | zxcvbn |\n| io      | hi      | HI      | mas    |\n|---------+---------+---------+--------|\n",
+            "| qwertyu | abcdefg | ABCDEFG | zxcvbn |\n\
+             | io      | hi      | HI      | mas    |\n\
+             |---------+---------+---------+--------|\n",
             4998,
         ),
         ("| qwertyu | abcdefg | ABCDEFG | zxcvbn |\n", 1),
@@ -162,7 +166,9 @@ const SEQUENCES: Large = Large {
         ("| head                                 |\n", 1),
         ("+======================================+\n", 1),
         (
-            "| \u{1b}[31mred\u{1b}[0m \u{1b}[31mred\u{1b}[0m \u{1b}[31mred\u{1b}[0m \u{1b}[31mred\u{1b}[0m \u{1b}[31mred\u{1b}[0m \u{1b}[31mred\u{1b}[0m \u{1b}[31mred\u{1b}[0m \u{1b}[31mred\u{1b}[0m \u{1b}[31mred\u{1b}[0m  |\n",
+            "| \u{1b}[31mred\u{1b}[0m \u{1b}[31mred\u{1b}[0m \u{1b}[31mred\u{1b}[0m \
+             \u{1b}[31mred\u{1b}[0m \u{1b}[31mred\u{1b}[0m \u{1b}[31mred\u{1b}[0m \
+             \u{1b}[31mred\u{1b}[0m \u{1b}[31mred\u{1b}[0m \u{1b}[31mred\u{1b}[0m \x20|\n",
             86,
         ),
         ("+--------------------------------------+\n", 1),
@@ -292,7 +298,8 @@ fn large_records_are_drawn(rt: HostRuntime) {
     }
 }
 
-// 20,000 records of two fields, the second a number: what is drawn of them for Markdown, and of the first one expanded.
+// 20,000 records of two fields, the second a number: what is drawn of them for Markdown, and of the
+// first one expanded.
 const MARKED: Pieces = &[("| a |  b |\n|---|---:|\n", 1), ("| x | 12 |\n", 20_000)];
 
 const EXPANDED: Pieces = &[

@@ -77,13 +77,15 @@ const WIDENED: &str = "\
 +--------------+-------------+
 ";
 
-// The calls at which the source, the sink and the reports of a run fail, and how many bytes it may write.
+// The calls at which the source, the sink and the reports of a run fail, and how many bytes it may
+// write.
 type Faults = (u64, u64, u64, usize);
 
 // Devices that don't fail.
 const SOUND: Faults = (0, 0, 0, 4096);
 
-// The words of a run, its input, the faults of its devices, its status, what it writes, and what it reports.
+// The words of a run, its input, the faults of its devices, its status, what it writes, and what it
+// reports.
 type Ended = (
     &'static [&'static str],
     &'static [u8],
@@ -142,8 +144,8 @@ const DRAWINGS: [Drawn; 15] = [
     ),
     // sequences are left alone
     (&[], b"h\n\x1b[1mab\x1b[0m\n", BOLD),
-    // borders and paddings take 7 of the 30 columns, and the longest texts 10 of the other 23; of the 13 that are left
-    // the first column gets 7 and the second 6
+    // borders and paddings take 7 of the 30 columns, and the longest texts 10 of the other 23; of
+    // the 13 that are left the first column gets 7 and the second 6
     (&["30", "full"], b"Hello\tthere\na\tb\n", WIDENED),
 ];
 

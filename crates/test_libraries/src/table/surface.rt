@@ -1,4 +1,5 @@
-//! Several rows at once, and rows on a condition: that the calls succeed, and how often a predicate is asked.
+//! Several rows at once, and rows on a condition: that the calls succeed, and how often a predicate
+//! is asked.
 
 use crate::support::{assert_drawn, assert_number, row_of};
 use comfy_table::{IntoRow, Items, Row, Table};

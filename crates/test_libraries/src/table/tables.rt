@@ -21,7 +21,8 @@ fn height_of(lines: Lines) -> usize {
     lines.count()
 }
 
-// The table has one row; another row has two lines there, and its second cell lies behind the last column.
+// The table has one row; another row has two lines there, and its second cell lies behind the last
+// column.
 fn assert_formatted(rt: &(impl Abort + Alloc<A = Global>), table: &Table) {
     let infos = arrange_content(table).expect(rt, "memory");
     let content = format_content(table, infos.as_slice()).expect(rt, "memory");

@@ -1,4 +1,5 @@
-//! Whether the characters of a table fit its columns, so that its edges are promised to be straight.
+//! Whether the characters of a table fit its columns, so that its edges are promised to be
+//! straight.
 
 use comfy_table::utils::arrangement::arrange_content;
 use comfy_table::utils::formatting::content_split::{

@@ -11,7 +11,8 @@ use rand::RngExt;
 use rand_pcg::Pcg32;
 use std::alloc::Global;
 
-// the first leaves columns apart where no line stands between them, as the second does; the last leaves them together
+// the first leaves columns apart where no line stands between them, as the second does; the last
+// leaves them together
 const PADDINGS: [(u16, u16); 4] = [(1, 0), (0, 2), (1, 1), (0, 0)];
 
 const CONSTRAINTS: [ColumnConstraint; 4] = [
@@ -27,7 +28,8 @@ pub fn visible_width(alloc: Global, line: &str) -> Result<usize> {
     Ok(measure_text_width(visible.as_str()))
 }
 
-/// Which words a table has: all where it is as wide as its texts, and else often narrow ones, for narrow columns.
+/// Which words a table has: all where it is as wide as its texts, and else often narrow ones, for
+/// narrow columns.
 pub fn words(rng: &mut Pcg32, is_shown_whole: bool) -> Words {
     let have_sequences = once_in(rng, 3);
     Words {
@@ -85,7 +87,8 @@ fn with_looks(rng: &mut Pcg32, cell: Cell) -> Cell {
     }
 }
 
-/// Gives all columns the same padding, which keeps them apart where no line stands between them, and some a constraint.
+/// Gives all columns the same padding, which keeps them apart where no line stands between them,
+/// and some a constraint.
 pub fn set_columns(
     rng: &mut Pcg32,
     columns: &mut [Column],

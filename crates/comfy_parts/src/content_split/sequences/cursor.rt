@@ -1,4 +1,5 @@
-//! A cursor that passes the text lines of a cell once, and knows the SGR sequences that are open where it stands.
+//! A cursor that passes the text lines of a cell once, and knows the SGR sequences that are open
+//! where it stands.
 
 ghost use Rattle.std.specs.Prelude.{◌≡◌, ◌<◌, ◌++◌, [], true, false, map, take, drop, IfOk, IsUtf8, OnOk, string_bytes};
 ghost use Rattle.std.specs.List.{concat};
@@ -28,7 +29,10 @@ impl<'a> Model for Cursor<'a> {
 
     ghost invariant = { λ c. IsUtf8 c.rest.now };
 
-    ghost view = { λ c. record { sequences = map (λ s. s.now) c.sequences.items; ahead = parts c.rest.now } };
+    ghost view = { λ c. record {
+      sequences = map (λ s. s.now) c.sequences.items;
+      ahead = parts c.rest.now;
+    } };
 }
 
 impl<'a> Cursor<'a> {
@@ -42,9 +46,13 @@ impl<'a> Cursor<'a> {
         }
     }
 
-    /// Goes on to the front of the next text line. The sequences stay open that are so at this one's end.
+    /// Goes on to the front of the next text line. The sequences stay open that are so at this
+    /// one's end.
     pub(crate) fn begin(&mut self, text: &'a str) -> Result<()>
-        ensures { OnOk result (self.new ≡ record { sequences = open_at_end self.old; ahead = parts text.now }) }
+        ensures { OnOk result (self.new ≡ record {
+          sequences = open_at_end self.old;
+          ahead = parts text.now;
+        }) }
     {
         for part in TextParts(self.rest) {
             if let TextPart::Sequence(sequence) = part {
@@ -69,9 +77,11 @@ impl<'a> Cursor<'a> {
     /// The text that is written for a line of so many visible bytes, which are passed.
     pub(crate) fn take_line(&mut self, bytes: usize) -> Result<String>
         requires { IsUtf8 (take bytes (visible_ahead self.old)) }
-        ensures written { IfOk result (λ line. string_bytes line ≡ written bytes (at_byte 0 self.old)) }
+        ensures written { IfOk result
+            (λ line. string_bytes line ≡ written bytes (at_byte 0 self.old)) }
         ensures stands { OnOk result (StandsAt self.new bytes self.old) }
-        ensures visible { OnOk result (visible_ahead self.new ≡ drop bytes (visible_ahead self.old)) }
+        ensures visible { OnOk result
+            (visible_ahead self.new ≡ drop bytes (visible_ahead self.old)) }
     {
         if bytes == 0 {
             return Ok(String::new(*self.sequences.allocator()));
@@ -93,12 +103,14 @@ impl<'a> Cursor<'a> {
         Ok(sequences.concat(*self.sequences.allocator())?)
     }
 
-    // Passes so many visible bytes and the sequences before each of them, and gives the text that it passed.
+    // Passes so many visible bytes and the sequences before each of them, and gives the text that
+    // it passed.
     fn take_visible(&mut self, bytes: usize) -> Result<&'a str>
         requires { IsUtf8 (take bytes (visible_ahead self.old)) }
         ensures taken { IfOk result (λ taken. taken.now ≡ bytes_up_to bytes self.old) }
         ensures passed { OnOk result (self.new ≡ behind_bytes bytes self.old) }
-        ensures visible { OnOk result (visible_ahead self.new ≡ drop bytes (visible_ahead self.old)) }
+        ensures visible { OnOk result
+            (visible_ahead self.new ≡ drop bytes (visible_ahead self.old)) }
     {
         let text = self.rest;
         self.pass_visible(bytes)?;
@@ -106,11 +118,13 @@ impl<'a> Cursor<'a> {
         Ok(taken)
     }
 
-    // Passes so many visible bytes and the sequences before each of them, or all of a text that has fewer.
+    // Passes so many visible bytes and the sequences before each of them, or all of a text that has
+    // fewer.
     fn pass_visible(&mut self, bytes: usize) -> Result<()>
         requires { IsUtf8 (take bytes (visible_ahead self.old)) }
         ensures passed { OnOk result (self.new ≡ behind_bytes bytes self.old) }
-        ensures visible { OnOk result (visible_ahead self.new ≡ drop bytes (visible_ahead self.old)) }
+        ensures visible { OnOk result
+            (visible_ahead self.new ≡ drop bytes (visible_ahead self.old)) }
     {
         let mut left = bytes;
         'bytes: while left > 0 {
@@ -150,7 +164,9 @@ impl<'a> Cursor<'a> {
 
     // Adds a sequence to those that are open. A reset closes them.
     fn add(&mut self, sequence: &'a str) -> Result<()>
-        ensures { OnOk result (self.new ≡ record self.old { sequences = opened_by self.old.sequences (sequence_part sequence.now) }) }
+        ensures { OnOk result (self.new ≡ record self.old {
+          sequences = opened_by self.old.sequences (sequence_part sequence.now);
+        }) }
     {
         if sequence == RESET {
             self.sequences.clear();
@@ -163,7 +179,9 @@ impl<'a> Cursor<'a> {
     // Passes the delimiter, where it comes next.
     fn pass_delimiter(&mut self, delimiter: char) -> bool
         requires { begins_with_sequence self.old.ahead ≡ false }
-        ensures passed { result ≡ true → self.old ≡ record self.new { ahead = character_parts delimiter ++ self.new.ahead } }
+        ensures passed { result ≡ true → self.old ≡ record self.new {
+          ahead = character_parts delimiter ++ self.new.ahead;
+        } }
         ensures stays { result ≡ false → self.new ≡ self.old }
         ensures other { result ≡ false → begins_with delimiter (visible_ahead self.old) ≡ false }
     {

@@ -12,8 +12,9 @@ use crate::content_split::sequences::cursor::Cursor;
 use crate::content_split::sequences::{RESET, TextPart, TextParts};
 use crate::error::Result;
 
-/// Appends the texts that are written for the lines of the text line that the cursor stands before. Each resumes the
-/// sequences that are open where it begins, and ends with a reset where one is open then.
+/// Appends the texts that are written for the lines of the text line that the cursor stands before.
+/// Each resumes the sequences that are open where it begins, and ends with a reset where one is
+/// open then.
 pub(crate) fn push_lines(
     lines: &mut Vec<String>,
     cursor: &mut Cursor<'_>,
@@ -24,7 +25,9 @@ pub(crate) fn push_lines(
 ) -> Result<()>
     requires visible { visible.now ≡ visible_ahead cursor.old }
     requires width { width ≡ measure visible.now }
-    ensures lines { OnOk result (map string_bytes lines.new.items ≡ map string_bytes lines.old.items ++ written_of_text info.now.content_width delimiter cursor.old) }
+    ensures lines { OnOk result (map string_bytes lines.new.items
+        ≡ map string_bytes lines.old.items
+        ++ written_of_text info.now.content_width delimiter cursor.old) }
     ensures stays { OnOk result (open_at_end cursor.new ≡ open_at_end cursor.old) }
 {
     if width <= usize::from(info.content_width) {
@@ -43,7 +46,9 @@ fn push_wrapped(
     delimiter: char,
 ) -> Result<()>
     requires { visible.now ≡ visible_ahead cursor.old }
-    ensures lines { OnOk result (map string_bytes lines.new.items ≡ map string_bytes lines.old.items ++ written_at cursor.old (wrapped_positions info.now.content_width delimiter visible.now)) }
+    ensures lines { OnOk result (map string_bytes lines.new.items
+        ≡ map string_bytes lines.old.items
+        ++ written_at cursor.old (wrapped_positions info.now.content_width delimiter visible.now)) }
     ensures stays { OnOk result (open_at_end cursor.new ≡ open_at_end cursor.old) }
 {
     for line in wrapped_lines(visible, info, delimiter) {
@@ -53,8 +58,9 @@ fn push_wrapped(
     Ok(())
 }
 
-/// Whether a text that is a cell's only line is written as it is: each reset in it follows visible text and closes a
-/// sequence, and none is open at its end. Other texts may be written as they are too.
+/// Whether a text that is a cell's only line is written as it is: each reset in it follows visible
+/// text and closes a sequence, and none is open at its end. Other texts may be written as they are
+/// too.
 pub(crate) fn is_written_whole(text: &str) -> bool
     ensures { result ≡ true → line_text [] text.now 0 (length (visible_text text.now)) ≡ text.now }
 {

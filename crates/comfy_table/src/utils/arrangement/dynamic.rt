@@ -1,9 +1,10 @@
 //! Widths under `Dynamic` and `DynamicFullWidth`, where the table's width is known.
 //!
-//! Each step decides some of the columns that are still undecided, and takes their widths from the room that is left. The
-//! average is that room over the number of undecided columns. First come the columns with a fixed width, then lower
-//! boundaries above the average, then upper boundaries and contents that fit, then columns whose lines need less than the
-//! average. The others share what is left.
+//! Each step decides some of the columns that are still undecided, and takes their widths from the
+//! room that is left. The average is that room over the number of undecided columns. First come the
+//! columns with a fixed width, then lower boundaries above the average, then upper boundaries and
+//! contents that fit, then columns whose lines need less than the average. The others share what is
+//! left.
 
 ghost use Rattle.std.specs.Prelude.{◌≡◌, IfOk};
 ghost use Rattle.comfy_table.specs.Arrangement.{is_full_width, room_beside_borders};
@@ -27,7 +28,9 @@ use taking::{Rule, Takers};
 
 // The content widths of the shown columns of a table of this width, in list order.
 pub fn dynamic_widths(table: &Table, width: u16) -> Result<Vec<u16>>
-    ensures { IfOk result (λ widths. IsDynamic (room_beside_borders table.now width) (shown_needs table.now) (is_full_width table.now.arrangement) widths.items) }
+    ensures { IfOk result (λ widths.
+        IsDynamic (room_beside_borders table.now width) (shown_needs table.now)
+        (is_full_width table.now.arrangement) widths.items) }
 {
     let visible = shown_needs(table)?;
     let columns = visible.as_slice();

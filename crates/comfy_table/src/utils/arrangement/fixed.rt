@@ -10,15 +10,16 @@ use crate::utils::arrangement::helper::absolute_width_with_padding;
 use comfy_parts::Column;
 use comfy_parts::style::ColumnConstraint;
 
-// The content width that a column has by its constraint alone: its content's, its absolute width's, or that of a lower
-// boundary which the content with its paddings doesn't pass.
+// The content width that a column has by its constraint alone: its content's, its absolute width's,
+// or that of a lower boundary which the content with its paddings doesn't pass.
 pub fn fixed_width(
     table: &Table,
     column: &Column,
     content: u16,
     shown_columns: usize,
 ) -> Option<u16>
-    ensures { result ≡ fixed_by_constraint table.now shown_columns content (column_padding column.now) column.now.constraint }
+    ensures { result ≡ fixed_by_constraint table.now shown_columns content
+        (column_padding column.now) column.now.constraint }
 {
     let constraint = column.constraint().copied();
     match constraint {

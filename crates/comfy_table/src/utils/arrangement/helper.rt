@@ -9,8 +9,8 @@ ghost use Rattle.comfy_table.specs.Widths.{without_padding};
 use crate::table::Table;
 use comfy_parts::{Cell, Column};
 
-/// The content width, in terminal columns, of a column whose whole width is this: the width less its paddings, at least
-/// 1.
+/// The content width, in terminal columns, of a column whose whole width is this: the width less
+/// its paddings, at least 1.
 pub fn absolute_width_with_padding(column: &Column, width: u16) -> u16
     ensures { result ≡ without_padding (column_padding column.now) width }
 {
@@ -31,7 +31,8 @@ pub fn count_visible_columns(columns: &[Column]) -> usize
     visible
 }
 
-/// The number of border characters of a line over so many shown columns, or the greatest `usize` where there are more.
+/// The number of border characters of a line over so many shown columns, or the greatest `usize`
+/// where there are more.
 pub fn count_border_columns(table: &Table, shown_columns: usize) -> usize
     ensures { result ≡ saturated_border_count table.now.style shown_columns }
 {
@@ -45,8 +46,8 @@ pub fn count_border_columns(table: &Table, shown_columns: usize) -> usize
     (left + right).saturating_add(between)
 }
 
-/// The character at which the texts of a cell may break: its own delimiter, else its column's, else the table's, else a
-/// space.
+/// The character at which the texts of a cell may break: its own delimiter, else its column's, else
+/// the table's, else a space.
 pub fn delimiter(table: &Table, column: &Column, cell: &Cell) -> char
     ensures { result ≡ cell_delimiter table.now column.now.delimiter cell.now }
 {

@@ -11,11 +11,12 @@ use crate::table::Table;
 use comfy_parts::content_split::{ColumnDisplayInfo, wrapped_lines};
 use comfy_parts::{Cell, Result};
 
-/// The terminal columns that the widest line of a table's column takes, over header and rows, where each cell is
-/// wrapped at this content width. Greatest heights of rows cut nothing off. A width of 0 counts as 1, and a position
-/// without a column gives 0. It takes no memory and always succeeds.
+/// The terminal columns that the widest line of a table's column takes, over header and rows, where
+/// each cell is wrapped at this content width. Greatest heights of rows cut nothing off. A width of
+/// 0 counts as 1, and a position without a column gives 0. It takes no memory and always succeeds.
 pub fn longest_line(table: &Table, position: usize, content_width: u16) -> Result<usize>
-    ensures value { IfOk result (λ columns. columns ≡ longest_line_at table.now position content_width) }
+    ensures value { IfOk result (λ columns. columns
+        ≡ longest_line_at table.now position content_width) }
     ensures succeeds { IsOk result }
 {
     match table.columns.get(position) {
@@ -27,16 +28,19 @@ pub fn longest_line(table: &Table, position: usize, content_width: u16) -> Resul
     }
 }
 
-/// The longest line of all cells at a position, in a column with this delimiter and content width. The cells are looked
-/// at until one passes the limit; a result above it may be less than the longest line.
+/// The longest line of all cells at a position, in a column with this delimiter and content width.
+/// The cells are looked at until one passes the limit; a result above it may be less than the
+/// longest line.
 pub fn column_longest_line(
     table: &Table,
     position: usize,
     info: &ColumnDisplayInfo,
     limit: usize,
 ) -> usize
-    ensures at_most { result ≤ longest_line table.now position info.now.delimiter info.now.content_width }
-    ensures exact { result ≤ limit → result ≡ longest_line table.now position info.now.delimiter info.now.content_width }
+    ensures at_most { result ≤ longest_line table.now position info.now.delimiter
+        info.now.content_width }
+    ensures exact { result ≤ limit
+        → result ≡ longest_line table.now position info.now.delimiter info.now.content_width }
 {
     let mut longest = 0;
     for cell in table.column_cells_with_header_iter(position) {

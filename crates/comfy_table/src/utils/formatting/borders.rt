@@ -37,7 +37,9 @@ pub(crate) fn optional_frame_line(
     line: &LineStyle,
     columns: &[ShownColumn],
 ) -> Result<Option<String>>
-    ensures { IfOk result (λ drawn. map string_bytes (option_to_list drawn) ≡ optional_frame_line table.now.style line.now (map (λ (p : ℕ × ColumnInfo). info_width p.1) columns.now)) }
+    ensures { IfOk result (λ drawn. map string_bytes (option_to_list drawn)
+        ≡ optional_frame_line table.now.style line.now
+        (map (λ (p : ℕ × ColumnInfo). info_width p.1) columns.now)) }
 {
     if !is_drawn(line) {
         return Ok(None);
@@ -54,7 +56,9 @@ pub(crate) fn push_frame_line(
     line: &LineStyle,
     columns: &[ShownColumn],
 ) -> Result<()>
-    ensures { OnOk result (string_bytes text.new ≡ string_bytes text.old ++ frame_line table.now.style line.now (map (λ (p : ℕ × ColumnInfo). info_width p.1) columns.now)) }
+    ensures { OnOk result (string_bytes text.new
+        ≡ string_bytes text.old ++ frame_line table.now.style line.now
+        (map (λ (p : ℕ × ColumnInfo). info_width p.1) columns.now)) }
 {
     let vertical = table.style.draws_vertical_lines();
     push_border(text, table.style.draws_left_border(), line.left)?;
@@ -81,7 +85,8 @@ fn needs_junction(vertical: bool, position: usize) -> bool
 
 /// Appends a character of the style, a space for a missing one, where it is drawn.
 pub(crate) fn push_border(text: &mut String, drawn: bool, part: Option<char>) -> Result<()>
-    ensures { OnOk result (string_bytes text.new ≡ string_bytes text.old ++ (if drawn then character part else [])) }
+    ensures { OnOk result (string_bytes text.new
+        ≡ string_bytes text.old ++ (if drawn then character part else [])) }
 {
     if drawn {
         text.push(part.unwrap_or(' '))?;
@@ -91,7 +96,8 @@ pub(crate) fn push_border(text: &mut String, drawn: bool, part: Option<char>) ->
 
 // Appends a character that many times.
 fn push_repeated(text: &mut String, fill: char, count: usize) -> Result<()>
-    ensures { OnOk result (string_bytes text.new ≡ string_bytes text.old ++ repeat count (encode_utf8 fill)) }
+    ensures { OnOk result (string_bytes text.new
+        ≡ string_bytes text.old ++ repeat count (encode_utf8 fill)) }
 {
     for _ in 0..count {
         text.push(fill)?;

@@ -1,4 +1,5 @@
-//! The lines of a cell in its row: its text lines wrapped at the column's width, and cut to the row's height.
+//! The lines of a cell in its row: its text lines wrapped at the column's width, and cut to the
+//! row's height.
 
 ghost use Rattle.std.specs.Prelude.{◌≡◌, ◌++◌, ◌∷◌, ◌&&◌, [], IfOk, IfSome, OnOk, Some, map, option_map, string_bytes};
 ghost use Rattle.std.specs.List.{list_any};
@@ -48,9 +49,12 @@ pub enum CellLines<'a> {
 }
 
 impl<'a> CellLines<'a> {
-    /// A line by its position, counted from 0: the cell, the line's terminal columns, and what is written.
+    /// A line by its position, counted from 0: the cell, the line's terminal columns, and what is
+    /// written.
     pub fn get(&self, position: usize) -> Option<(&Cell, usize, &str)>
-        ensures { option_map (λ line. (line.0.now, record { columns = line.1; written = line.2.now })) result ≡ line_at position (lines_of self.now) }
+        ensures { option_map (λ line.
+            (line.0.now, record { columns = line.1; written = line.2.now })) result
+            ≡ line_at position (lines_of self.now) }
     {
         match self {
             CellLines::Missing => None,
@@ -65,8 +69,8 @@ impl<'a> CellLines<'a> {
     }
 }
 
-/// The lines of a cell in its row. One text line that fits and is written as it is needs no list. Others stand in one of the
-/// spare lists, if there is one.
+/// The lines of a cell in its row. One text line that fits and is written as it is needs no list.
+/// Others stand in one of the spare lists, if there is one.
 pub fn row_cell_lines<'a>(
     table: &Table,
     row: &Row,
@@ -74,7 +78,8 @@ pub fn row_cell_lines<'a>(
     info: &ColumnDisplayInfo,
     spare: &mut Vec<Vec<Line<'a>>>,
 ) -> Result<CellLines<'a>>
-    ensures { IfOk result (λ lines. lines_of lines ≡ Some (cell.now, map drawn_line (row_cell_lines table.now row.now info.now cell.now))) }
+    ensures { IfOk result (λ lines. lines_of lines
+        ≡ Some (cell.now, map drawn_line (row_cell_lines table.now row.now info.now cell.now))) }
 {
     // the clause of a limit says that it is at least 1
     let _limit = row.height_limit();
@@ -100,7 +105,11 @@ fn only_line<'a>(
     cell: &'a Cell,
     info: &ColumnDisplayInfo,
 ) -> Option<(usize, &'a str)>
-    ensures { IfSome result (λ line. record { columns = line.0; written = line.1.now } ∷ [] ≡ map drawn_line (whole_lines table.now.custom_styling info.now.content_width (cell_delimiter table.now info.now.delimiter cell.now) cell.now)) }
+    ensures { IfSome result (λ line. record {
+      columns = line.0;
+      written = line.1.now;
+    } ∷ [] ≡ map drawn_line (whole_lines table.now.custom_styling info.now.content_width
+        (cell_delimiter table.now info.now.delimiter cell.now) cell.now)) }
 {
     let texts = cell.text_lines();
     let (_, widths) = table.measured_lines(cell);
@@ -131,7 +140,8 @@ fn listed_lines<'a>(
     list: Vec<Line<'a>>,
 ) -> Result<Vec<Line<'a>>>
     requires { list.items ≡ [] }
-    ensures { IfOk result (λ lines. lines.items ≡ map drawn_line (row_cell_lines table.now row.now info.now cell.now)) }
+    ensures { IfOk result (λ lines. lines.items
+        ≡ map drawn_line (row_cell_lines table.now row.now info.now cell.now)) }
 {
     let measured = cell_lines(table, cell, info, list)?;
     let height = row.height_limit().unwrap_or(measured.len());
@@ -146,8 +156,8 @@ fn listed_lines<'a>(
     Ok(lines)
 }
 
-// The lines of a cell in a column as they are measured, in an empty list: each text line as it is where it fits, else
-// wrapped.
+// The lines of a cell in a column as they are measured, in an empty list: each text line as it is
+// where it fits, else wrapped.
 fn cell_lines<'a>(
     table: &Table,
     cell: &'a Cell,
@@ -155,7 +165,10 @@ fn cell_lines<'a>(
     mut lines: Vec<Line<'a>>,
 ) -> Result<Vec<Line<'a>>>
     requires { lines.items ≡ [] }
-    ensures { IfOk result (λ lines. lines.items ≡ map drawn_text (cell_lines info.now.content_width (cell_delimiter table.now info.now.delimiter cell.now) (measured_cell table.now cell.now))) }
+    ensures { IfOk result (λ lines. lines.items
+        ≡ map drawn_text (cell_lines info.now.content_width
+        (cell_delimiter table.now info.now.delimiter cell.now)
+        (measured_cell table.now cell.now))) }
 {
     let (texts, widths) = table.measured_lines(cell);
     let delimiter = table.delimiter_of(cell, info.delimiter);
@@ -174,7 +187,9 @@ fn push_lines<'a>(
     delimiter: char,
 ) -> Result<()>
     requires { columns ≡ measure text.now }
-    ensures { OnOk result (lines.new.items ≡ lines.old.items ++ map drawn_text (lines_of_text info.now.content_width delimiter text.now)) }
+    ensures { OnOk result (lines.new.items
+        ≡ lines.old.items ++ map drawn_text
+        (lines_of_text info.now.content_width delimiter text.now)) }
 {
     if columns <= usize::from(info.content_width) {
         let text = CowStr::Borrowed(text);
@@ -191,7 +206,8 @@ fn push_wrapped<'a>(
     info: &ColumnDisplayInfo,
     delimiter: char,
 ) -> Result<()>
-    ensures { OnOk result (lines.new.items ≡ lines.old.items ++ map drawn_text (wrapped info.now.content_width delimiter text.now)) }
+    ensures { OnOk result (lines.new.items
+        ≡ lines.old.items ++ map drawn_text (wrapped info.now.content_width delimiter text.now)) }
 {
     let mut wrapped = wrapped_lines(text, info, delimiter);
     while let Some((line, columns)) = wrapped.next_measured() {
@@ -209,8 +225,12 @@ fn whole_lines<'a>(
     info: &ColumnDisplayInfo,
     measured: Vec<Line<'a>>,
 ) -> Result<Vec<Line<'a>>>
-    requires { measured.items ≡ map drawn_text (cell_lines info.now.content_width (cell_delimiter table.now info.now.delimiter cell.now) (measured_cell table.now cell.now)) }
-    ensures { IfOk result (λ lines. lines.items ≡ map drawn_line (whole_lines table.now.custom_styling info.now.content_width (cell_delimiter table.now info.now.delimiter cell.now) cell.now)) }
+    requires { measured.items ≡ map drawn_text
+        (cell_lines info.now.content_width (cell_delimiter table.now info.now.delimiter cell.now)
+        (measured_cell table.now cell.now)) }
+    ensures { IfOk result (λ lines. lines.items
+        ≡ map drawn_line (whole_lines table.now.custom_styling info.now.content_width
+        (cell_delimiter table.now info.now.delimiter cell.now) cell.now)) }
 {
     if !is_custom_styled(table, cell) {
         return Ok(measured);
@@ -235,7 +255,9 @@ fn with_texts<'a>(mut lines: Vec<Line<'a>>, texts: Vec<String>) -> Vec<Line<'a>>
 
 // The line that is cut, by what is measured of it.
 fn cut_line<'a>(table: &Table, measured: &str, info: &ColumnDisplayInfo) -> Result<Line<'a>>
-    ensures { IfOk result (λ line. line ≡ drawn_line (cut_line table.now.custom_styling info.now.content_width table.now.indicator (as_measured measured.now))) }
+    ensures { IfOk result (λ line. line
+        ≡ drawn_line (cut_line table.now.custom_styling info.now.content_width table.now.indicator
+        (as_measured measured.now))) }
 {
     let mut text = cut_text(table, measured, info)?;
     let columns = measure_text_width(text.as_str());
@@ -248,7 +270,8 @@ fn cut_line<'a>(table: &Table, measured: &str, info: &ColumnDisplayInfo) -> Resu
 
 // The head of a line beside the indicator, and the indicator.
 fn cut_text(table: &Table, line: &str, info: &ColumnDisplayInfo) -> Result<String>
-    ensures { IfOk result (λ text. string_bytes text ≡ cut_text info.now.content_width table.now.indicator line.now) }
+    ensures { IfOk result (λ text. string_bytes text
+        ≡ cut_text info.now.content_width table.now.indicator line.now) }
 {
     let columns = usize::from(info.content_width);
     let indicator = fitting_indicator(table.truncation_indicator(), columns);

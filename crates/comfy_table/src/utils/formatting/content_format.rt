@@ -13,8 +13,8 @@ use comfy_parts::content_split::ColumnDisplayInfo;
 use comfy_parts::{Cell, Result, Row};
 use std::alloc::Global;
 
-/// The lines of a row, from the top, each as its pieces from the left. The i-th info serves the i-th cell, and cells past
-/// the last info are left out.
+/// The lines of a row, from the top, each as its pieces from the left. The i-th info serves the
+/// i-th cell, and cells past the last info are left out.
 ///
 /// ```text
 /// | one   | two | => [[" one   ", " two "],
@@ -25,7 +25,8 @@ pub fn format_row(
     display_infos: &[ColumnDisplayInfo],
     table: &Table,
 ) -> Result<Vec<Vec<String>>>
-    ensures { IfOk result (λ lines. map (λ pieces. map string_bytes pieces.items) lines.items ≡ row_lines table.now display_infos.now row.now) }
+    ensures { IfOk result (λ lines. map (λ pieces. map string_bytes pieces.items) lines.items
+        ≡ row_lines table.now display_infos.now row.now) }
 {
     let alloc = *table.columns.allocator();
     let columns = shown_infos(alloc, display_infos)?;
@@ -40,12 +41,15 @@ pub fn format_row(
     Ok(lines)
 }
 
-/// The lines of the header, if there is one, and then those of each row in order: lists of lines, each as its pieces.
+/// The lines of the header, if there is one, and then those of each row in order: lists of lines,
+/// each as its pieces.
 pub fn format_content(
     table: &Table,
     display_infos: &[ColumnDisplayInfo],
 ) -> Result<Vec<Vec<Vec<String>>>>
-    ensures { IfOk result (λ content. map (λ lines. map (λ pieces. map string_bytes pieces.items) lines.items) content.items ≡ content_lines table.now display_infos.now) }
+    ensures { IfOk result (λ content.
+        map (λ lines. map (λ pieces. map string_bytes pieces.items) lines.items) content.items
+        ≡ content_lines table.now display_infos.now) }
 {
     let mut content = header_content(table, display_infos)?;
     let rows = table.rows.as_slice();
@@ -60,7 +64,9 @@ fn header_content(
     table: &Table,
     display_infos: &[ColumnDisplayInfo],
 ) -> Result<Vec<Vec<Vec<String>>>>
-    ensures { IfOk result (λ content. map (λ lines. map (λ pieces. map string_bytes pieces.items) lines.items) content.items ≡ map (row_lines table.now display_infos.now) (option_to_list table.now.header)) }
+    ensures { IfOk result (λ content.
+        map (λ lines. map (λ pieces. map string_bytes pieces.items) lines.items) content.items
+        ≡ map (row_lines table.now display_infos.now) (option_to_list table.now.header)) }
 {
     let mut content = Vec::new(*table.columns.allocator());
     if let Some(header) = &table.header {
@@ -69,8 +75,8 @@ fn header_content(
     Ok(content)
 }
 
-/// The character at which the texts of a cell may break: its own delimiter, else its column's, else the table's, else a
-/// space.
+/// The character at which the texts of a cell may break: its own delimiter, else its column's, else
+/// the table's, else a space.
 pub fn delimiter(cell: &Cell, info: &ColumnDisplayInfo, table: &Table) -> char
     ensures { result ≡ cell_delimiter table.now info.now.delimiter cell.now }
 {
@@ -80,7 +86,8 @@ pub fn delimiter(cell: &Cell, info: &ColumnDisplayInfo, table: &Table) -> char
 // One line of a row. No gap stands between its pieces.
 fn row_line(alloc: Global, none: &Gap, cells: &[DrawnCell], line: usize) -> Result<Vec<String>>
     requires { none.now ≡ [] }
-    ensures { IfOk result (λ pieces. map string_bytes pieces.items ≡ map (piece_at line) cells.now) }
+    ensures { IfOk result (λ pieces. map string_bytes pieces.items
+        ≡ map (piece_at line) cells.now) }
 {
     let mut pieces = Vec::new(alloc);
     for cell in cells {

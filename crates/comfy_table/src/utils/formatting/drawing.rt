@@ -21,15 +21,17 @@ use comfy_parts::{Result, Row};
 use std::marker::Model;
 use std::mem;
 
-/// Appends the lines of a table with these rows alone, whose columns are drawn by these infos: top border, header, rows,
-/// bottom border. After `OutOfMemory` the text of the output begins with what it was.
+/// Appends the lines of a table with these rows alone, whose columns are drawn by these infos: top
+/// border, header, rows, bottom border. After `OutOfMemory` the text of the output begins with what
+/// it was.
 pub fn draw<'a>(
     table: &'a Table,
     infos: &'a [ColumnDisplayInfo],
     rows: &'a [Row],
     output: &mut Output,
 ) -> Result<()>
-    ensures ok { OnOk result (output.new ≡ with_lines (drawing_of_infos (with_other_rows rows.now table.now) infos.now) output.old) }
+    ensures ok { OnOk result (output.new
+        ≡ with_lines (drawing_of_infos (with_other_rows rows.now table.now) infos.now) output.old) }
     ensures err { OnErr result (BeginsWith output.new.text output.old.text) }
 {
     let mut writer = Writer::new(table, infos, rows)?;
@@ -63,13 +65,18 @@ impl<'a> Model for Writer<'a> {
 
     ghost invariant = { λ w. w.columns.items ≡ shown_infos w.infos.now };
 
-    ghost view = { λ w. record { table = with_other_rows w.rows.now w.table.now; infos = w.infos.now; output = w.output } };
+    ghost view = { λ w. record {
+      table = with_other_rows w.rows.now w.table.now;
+      infos = w.infos.now;
+      output = w.output;
+    } };
 }
 
 impl<'a> Writer<'a> {
     // The output is empty.
     fn new(table: &'a Table, infos: &'a [ColumnDisplayInfo], rows: &'a [Row]) -> Result<Writer<'a>>
-        ensures { IfOk result (λ writer. (writer.table ≡ with_other_rows rows.now table.now) × (writer.infos ≡ infos.now)) }
+        ensures { IfOk result (λ writer. (writer.table ≡ with_other_rows rows.now table.now)
+            × (writer.infos ≡ infos.now)) }
     {
         let alloc = *table.columns.allocator();
         Ok(Writer {
@@ -85,7 +92,8 @@ impl<'a> Writer<'a> {
 
     // All lines.
     fn write(&mut self) -> Result<()>
-        ensures ok { OnOk result (self.new ≡ with_written (drawing_of_infos self.old.table self.old.infos) self.old) }
+        ensures ok { OnOk result (self.new
+            ≡ with_written (drawing_of_infos self.old.table self.old.infos) self.old) }
         ensures err { OnErr result (BeginsWith self.new.output.text self.old.output.text) }
     {
         let table = self.table;
@@ -97,7 +105,9 @@ impl<'a> Writer<'a> {
 
     // A line of the frame, where it is drawn.
     fn write_frame_line(&mut self, style: &LineStyle) -> Result<()>
-        ensures ok { OnOk result (self.new ≡ with_written (optional_frame_line self.old.table.style style.now (whole_widths self.old.infos)) self.old) }
+        ensures ok { OnOk result (self.new
+            ≡ with_written (optional_frame_line self.old.table.style style.now
+            (whole_widths self.old.infos)) self.old) }
         ensures err { OnErr result (BeginsWith self.new.output.text self.old.output.text) }
     {
         if !is_drawn(style) {
@@ -110,7 +120,9 @@ impl<'a> Writer<'a> {
 
     // The header's lines and the header separator, where there is a header.
     fn write_header(&mut self) -> Result<()>
-        ensures ok { OnOk result (self.new ≡ with_written (drawn_header self.old.table self.old.infos self.old.table.header) self.old) }
+        ensures ok { OnOk result (self.new
+            ≡ with_written (drawn_header self.old.table self.old.infos self.old.table.header)
+            self.old) }
         ensures err { OnErr result (BeginsWith self.new.output.text self.old.output.text) }
     {
         let table = self.table;
@@ -122,7 +134,9 @@ impl<'a> Writer<'a> {
 
     // The lines of this header, and the header separator.
     fn write_header_lines(&mut self, header: &'a Row) -> Result<()>
-        ensures ok { OnOk result (self.new ≡ with_written (drawn_header self.old.table self.old.infos (Some header.now)) self.old) }
+        ensures ok { OnOk result (self.new
+            ≡ with_written (drawn_header self.old.table self.old.infos (Some header.now))
+            self.old) }
         ensures err { OnErr result (BeginsWith self.new.output.text self.old.output.text) }
     {
         let table = self.table;
@@ -133,7 +147,9 @@ impl<'a> Writer<'a> {
 
     // The rows' lines, with the row separator between each two rows.
     fn write_rows(&mut self) -> Result<()>
-        ensures ok { OnOk result (self.new ≡ with_written (drawn_rows self.old.table self.old.infos self.old.table.rows) self.old) }
+        ensures ok { OnOk result (self.new
+            ≡ with_written (drawn_rows self.old.table self.old.infos self.old.table.rows)
+            self.old) }
         ensures err { OnErr result (BeginsWith self.new.output.text self.old.output.text) }
     {
         let table = self.table;
@@ -147,7 +163,9 @@ impl<'a> Writer<'a> {
     }
 
     fn write_separated_rows(&mut self, gaps: &RowGaps, separator: &Option<String>) -> Result<()>
-        ensures ok { OnOk result (self.new ≡ with_written (join_by (row_between gaps.now self.old.table self.old.infos) (map string_bytes (option_to_list separator.now)) self.old.table.rows) self.old) }
+        ensures ok { OnOk result (self.new
+            ≡ with_written (join_by (row_between gaps.now self.old.table self.old.infos)
+            (map string_bytes (option_to_list separator.now)) self.old.table.rows) self.old) }
         ensures err { OnErr result (BeginsWith self.new.output.text self.old.output.text) }
     {
         let rows = self.rows;
@@ -160,7 +178,10 @@ impl<'a> Writer<'a> {
 
     // The row separator, before each row but the first.
     fn write_separator(&mut self, separator: &Option<String>, position: usize) -> Result<()>
-        ensures ok { OnOk result (self.new ≡ with_written (if nat_lt 0 position then map string_bytes (option_to_list separator.now) else []) self.old) }
+        ensures ok { OnOk result (self.new
+            ≡ with_written (if nat_lt 0 position
+            then map string_bytes (option_to_list separator.now)
+            else []) self.old) }
         ensures err { OnErr result (BeginsWith self.new.output.text self.old.output.text) }
     {
         if position > 0
@@ -173,7 +194,8 @@ impl<'a> Writer<'a> {
 
     // The lines of a row.
     fn write_row(&mut self, gaps: &RowGaps, row: &'a Row) -> Result<()>
-        ensures ok { OnOk result (self.new ≡ with_written (row_between gaps.now self.old.table self.old.infos row.now) self.old) }
+        ensures ok { OnOk result (self.new
+            ≡ with_written (row_between gaps.now self.old.table self.old.infos row.now) self.old) }
         ensures err { OnErr result (BeginsWith self.new.output.text self.old.output.text) }
     {
         self.row.set(row, self.columns.as_slice(), self.table)?;
@@ -188,7 +210,9 @@ fn push_row(
     gaps: &RowGaps,
     cells: &[DrawnCell],
 ) -> Result<()>
-    ensures ok { OnOk result (output.new ≡ with_lines (map (λ k. gap_line gaps.now (map (piece_at k) cells.now)) (range_with_len 0 (greatest_height cells.now))) output.old) }
+    ensures ok { OnOk result (output.new
+        ≡ with_lines (map (λ k. gap_line gaps.now (map (piece_at k) cells.now))
+        (range_with_len 0 (greatest_height cells.now))) output.old) }
     ensures err { OnErr result (BeginsWith output.new.text output.old.text) }
 {
     for line in 0..greatest_height(cells) {

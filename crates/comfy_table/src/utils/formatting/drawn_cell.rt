@@ -15,7 +15,8 @@ use comfy_parts::{Cell, Result, Row};
 use std::alloc::Global;
 use std::marker::Model;
 
-// For how many lines a list has room at most that is used again, so that a tall cell's memory comes back before the next row.
+// For how many lines a list has room at most that is used again, so that a tall cell's memory comes
+// back before the next row.
 const KEPT_LINES: usize = 256;
 
 /// A cell of a row as a shown column draws it.
@@ -32,7 +33,10 @@ impl<'a> Model for DrawnCell<'a> {
 
     ghost Value = { DrawnCell };
 
-    ghost view = { λ d. record { info = d.info.now; pieces = pieces_of_content d.styles d.info.now (lines_of d.lines) } };
+    ghost view = { λ d. record {
+      info = d.info.now;
+      pieces = pieces_of_content d.styles d.info.now (lines_of d.lines);
+    } };
 }
 
 impl<'a> DrawnCell<'a> {
@@ -66,7 +70,8 @@ impl<'a> DrawnCell<'a> {
     }
 }
 
-/// The cells of a row as its shown columns draw them. One row after another is drawn by it, in the memory of those before.
+/// The cells of a row as its shown columns draw them. One row after another is drawn by it, in the
+/// memory of those before.
 #[derive(Drop)]
 pub struct DrawnRow<'a> {
     cells: Vec<DrawnCell<'a>>,
@@ -142,7 +147,8 @@ pub fn greatest_height(cells: &[DrawnCell]) -> usize
 
 /// How many lines each row of a table is drawn in.
 pub fn row_heights(table: &Table, infos: &[ColumnDisplayInfo]) -> Result<Vec<usize>>
-    ensures { IfOk result (λ heights. heights.items ≡ map (row_height table.now infos.now) table.now.rows) }
+    ensures { IfOk result (λ heights. heights.items
+        ≡ map (row_height table.now infos.now) table.now.rows) }
 {
     let alloc = *table.columns.allocator();
     let columns = shown_infos(alloc, infos)?;
@@ -156,7 +162,8 @@ pub fn row_heights(table: &Table, infos: &[ColumnDisplayInfo]) -> Result<Vec<usi
     Ok(heights)
 }
 
-// A shown column with the cell that stands at its position in a row. Its lines may stand in a spare list.
+// A shown column with the cell that stands at its position in a row. Its lines may stand in a spare
+// list.
 fn drawn_cell<'a>(
     row: &'a Row,
     column: &ShownColumn<'a>,

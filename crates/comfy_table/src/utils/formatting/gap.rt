@@ -28,7 +28,9 @@ impl Model for Gap {
 
     ghost Value = { List ℕ };
 
-    ghost invariant = { λ g. (string_bytes g.text ≡ spaces 64 ++ (drawn_character g.drawn g.part ++ spaces 64)) × (g.border_len ≡ length (drawn_character g.drawn g.part)) };
+    ghost invariant = { λ g. (string_bytes g.text
+        ≡ spaces 64 ++ (drawn_character g.drawn g.part ++ spaces 64))
+        × (g.border_len ≡ length (drawn_character g.drawn g.part)) };
 
     ghost view = { λ g. drawn_character g.drawn g.part };
 }
@@ -54,7 +56,8 @@ impl Gap {
     /// Appends so many spaces, the border, and so many spaces.
     #[inline(always)]
     pub fn push(&self, text: &mut String, before: usize, after: usize) -> Result<()>
-        ensures { OnOk result (string_bytes text.new ≡ string_bytes text.old ++ (spaces before ++ (self.now ++ spaces after))) }
+        ensures { OnOk result (string_bytes text.new
+            ≡ string_bytes text.old ++ (spaces before ++ (self.now ++ spaces after))) }
     {
         let run = run_of_spaces().len();
         if before > run || after > run {
@@ -69,7 +72,8 @@ impl Gap {
     // Appends a gap of more spaces than are copied at once.
     #[inline(never)]
     fn push_long(&self, text: &mut String, before: usize, after: usize) -> Result<()>
-        ensures { OnOk result (string_bytes text.new ≡ string_bytes text.old ++ (spaces before ++ (self.now ++ spaces after))) }
+        ensures { OnOk result (string_bytes text.new
+            ≡ string_bytes text.old ++ (spaces before ++ (self.now ++ spaces after))) }
     {
         push_spaces(text, before)?;
         push_border(text, self.drawn, self.part)?;

@@ -15,7 +15,8 @@ pub enum OutputForm {
     Lines,
     /// All lines stand in one text, each followed by a line feed.
     Joined,
-    /// All lines stand in one text, each without its trailing white space and followed by a line feed.
+    /// All lines stand in one text, each without its trailing white space and followed by a line
+    /// feed.
     Trimmed,
 }
 
@@ -33,7 +34,11 @@ impl Model for Output {
 
     ghost Value = { OutputValue };
 
-    ghost view = { λ o. record { form = o.form; lines = map string_bytes o.lines.items; text = string_bytes o.text } };
+    ghost view = { λ o. record {
+      form = o.form;
+      lines = map string_bytes o.lines.items;
+      text = string_bytes o.text;
+    } };
 }
 
 impl Output {
@@ -48,7 +53,8 @@ impl Output {
         }
     }
 
-    /// An output that goes on with a text, by lines that are each followed by a line feed. It takes no memory.
+    /// An output that goes on with a text, by lines that are each followed by a line feed. It takes
+    /// no memory.
     pub fn after(text: String) -> Output
         ensures { result ≡ record (new_output Joined) { text = string_bytes text } }
     {
@@ -93,7 +99,8 @@ impl Output {
 
 // Appends a line and a line feed.
 fn push_terminated(text: &mut String, line: &str) -> Result<()>
-    ensures ok { OnOk result (string_bytes text.new ≡ string_bytes text.old ++ (line.now ++ 0x0A ∷ [])) }
+    ensures ok { OnOk result (string_bytes text.new
+        ≡ string_bytes text.old ++ (line.now ++ 0x0A ∷ [])) }
     ensures err { OnErr result (BeginsWith (string_bytes text.new) (string_bytes text.old)) }
 {
     text.push_str(line)?;

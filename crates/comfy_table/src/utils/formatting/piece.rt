@@ -41,8 +41,8 @@ impl Styles {
     }
 }
 
-/// A line of a cell as it stands in its column: a text between spaces. Where styles are written, they stand round the whole
-/// piece, or round the text alone.
+/// A line of a cell as it stands in its column: a text between spaces. Where styles are written,
+/// they stand round the whole piece, or round the text alone.
 #[derive(Drop)]
 pub struct Piece<'a> {
     left: usize,
@@ -59,7 +59,8 @@ impl<'a> Model for Piece<'a> {
 
     ghost Value = { Text };
 
-    ghost view = { λ p. spaced (p.left, p.right) (styled_text (option_map (λ s. (s.0.now, s.1)) p.styles) p.text.now) };
+    ghost view = { λ p. spaced (p.left, p.right)
+        (styled_text (option_map (λ s. (s.0.now, s.1)) p.styles) p.text.now) };
 }
 
 impl<'a> Piece<'a> {
@@ -71,7 +72,8 @@ impl<'a> Piece<'a> {
         columns: usize,
         text: &'a str,
     ) -> Piece<'a>
-        ensures { result ≡ piece_with styles cell.now info.now (record { columns = columns; written = text.now }) }
+        ensures { result ≡ piece_with styles cell.now info.now
+            (record { columns = columns; written = text.now }) }
     {
         let (left, right) = spaces_beside(cell, info, columns);
         match styles {
@@ -108,11 +110,12 @@ impl<'a> Piece<'a> {
         }
     }
 
-    /// Appends a gap, with so many spaces before it, and the piece without the spaces at its end. Returns how many these are:
-    /// the next gap takes them.
+    /// Appends a gap, with so many spaces before it, and the piece without the spaces at its end.
+    /// Returns how many these are: the next gap takes them.
     #[inline(always)]
     pub fn push(&self, line: &mut String, gap: &Gap, free: usize) -> Result<usize>
-        ensures { IfOk result (λ right. string_bytes line.new ++ spaces right ≡ string_bytes line.old ++ (spaces free ++ (gap.now ++ self.now))) }
+        ensures { IfOk result (λ right. string_bytes line.new ++ spaces right
+            ≡ string_bytes line.old ++ (spaces free ++ (gap.now ++ self.now))) }
     {
         if let Some((cell, beside)) = self.styles {
             gap.push(line, free, self.left)?;
@@ -137,7 +140,8 @@ fn has_styles(cell: &Cell) -> bool
 // Appends a text between spaces, in the styles of a cell. Most tables write none.
 #[inline(never)]
 fn push_styled(line: &mut String, text: &str, cell: &Cell, beside: (usize, usize)) -> Result<()>
-    ensures { OnOk result (string_bytes line.new ≡ string_bytes line.old ++ styled cell.now (spaced beside text.now)) }
+    ensures { OnOk result (string_bytes line.new
+        ≡ string_bytes line.old ++ styled cell.now (spaced beside text.now)) }
 {
     let (left, right) = beside;
     push_style_begin(line, cell)?;
@@ -147,10 +151,14 @@ fn push_styled(line: &mut String, text: &str, cell: &Cell, beside: (usize, usize
     push_style_end(line, cell)
 }
 
-// The spaces before and after a line of this measure: those that its alignment leaves, and the paddings.
+// The spaces before and after a line of this measure: those that its alignment leaves, and the
+// paddings.
 fn spaces_beside(cell: &Cell, info: &ColumnDisplayInfo, width: usize) -> (usize, usize)
-    ensures left { result.0 ≡ info.now.padding.0 + free_before (cell_alignment cell.now info.now) (info.now.content_width - width) }
-    ensures right { result.1 ≡ info.now.content_width - width - free_before (cell_alignment cell.now info.now) (info.now.content_width - width) + info.now.padding.1 }
+    ensures left { result.0 ≡ info.now.padding.0
+        + free_before (cell_alignment cell.now info.now) (info.now.content_width - width) }
+    ensures right { result.1 ≡ info.now.content_width - width
+        - free_before (cell_alignment cell.now info.now) (info.now.content_width - width)
+        + info.now.padding.1 }
 {
     let free = (info.content_width as usize).saturating_sub(width);
     let before = free_before(cell_alignment(cell, info), free);

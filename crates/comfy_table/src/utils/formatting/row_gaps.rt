@@ -44,7 +44,8 @@ impl RowGaps {
 
     /// Appends what ends a line: so many spaces and the last gap.
     pub fn push_end(&self, text: &mut String, free: usize) -> Result<()>
-        ensures { OnOk result (string_bytes text.new ≡ string_bytes text.old ++ (spaces free ++ self.now.right)) }
+        ensures { OnOk result (string_bytes text.new
+            ≡ string_bytes text.old ++ (spaces free ++ self.now.right)) }
     {
         self.right.push(text, free, 0)
     }
@@ -52,7 +53,8 @@ impl RowGaps {
     /// Appends a line of these cells. Lines of a row are counted from 0.
     #[inline(never)]
     pub fn push_line(&self, text: &mut String, cells: &[DrawnCell], line: usize) -> Result<()>
-        ensures { OnOk result (string_bytes text.new ≡ string_bytes text.old ++ gap_line self.now (map (piece_at line) cells.now)) }
+        ensures { OnOk result (string_bytes text.new
+            ≡ string_bytes text.old ++ gap_line self.now (map (piece_at line) cells.now)) }
     {
         if cells.is_empty() {
             self.left.push(text, 0, 0)?;

@@ -40,8 +40,8 @@ const ALL_ATTRIBUTES: [Attribute; 28] = [
     Attribute::NotOverLined,
 ];
 
-/// Appends what stands before a styled text: background, foreground, attributes. A cell without any leaves the text as it
-/// is.
+/// Appends what stands before a styled text: background, foreground, attributes. A cell without any
+/// leaves the text as it is.
 pub(crate) fn push_style_begin(line: &mut String, cell: &Cell) -> Result<()>
     ensures { OnOk result (string_bytes line.new ≡ string_bytes line.old ++ style_begin cell.now) }
 {
@@ -76,7 +76,8 @@ pub(crate) fn push_reset(line: &mut String) -> Result<()>
 
 // Appends the sequence of a colour, where there is one. Each begins and resets with these.
 fn push_color(line: &mut String, color: Option<Color>, begin: &str, reset: &str) -> Result<()>
-    ensures { OnOk result (string_bytes line.new ≡ string_bytes line.old ++ color_sequence begin.now reset.now color) }
+    ensures { OnOk result (string_bytes line.new
+        ≡ string_bytes line.old ++ color_sequence begin.now reset.now color) }
 {
     let Some(color) = color else {
         return Ok(());
@@ -91,7 +92,8 @@ fn push_color(line: &mut String, color: Option<Color>, begin: &str, reset: &str)
 
 // The sequences of these attributes, each once and in the order of all.
 fn push_attributes(line: &mut String, given: &[Attribute]) -> Result<()>
-    ensures { OnOk result (string_bytes line.new ≡ string_bytes line.old ++ attribute_sequences given.now) }
+    ensures { OnOk result (string_bytes line.new
+        ≡ string_bytes line.old ++ attribute_sequences given.now) }
 {
     // most cells have none, or one
     match given {
@@ -106,7 +108,9 @@ fn push_attributes(line: &mut String, given: &[Attribute]) -> Result<()>
 
 // The sequences of those attributes that were given.
 fn push_given(line: &mut String, attributes: &[Attribute], given: &[Attribute]) -> Result<()>
-    ensures { OnOk result (string_bytes line.new ≡ string_bytes line.old ++ flat_map (λ a. sequence (attribute_code a)) (filter (has_attribute given.now) attributes.now)) }
+    ensures { OnOk result (string_bytes line.new
+        ≡ string_bytes line.old ++ flat_map (λ a. sequence (attribute_code a))
+        (filter (has_attribute given.now) attributes.now)) }
 {
     for attribute in attributes {
         if has_attribute(given, *attribute) {
@@ -122,10 +126,11 @@ fn has_attribute(given: &[Attribute], attribute: Attribute) -> bool
     given.contains(&attribute)
 }
 
-// Appends the code of a colour other than `Reset`, and the `m` that ends its sequence: by its number of sixteen or of 256,
-// or by its three parts.
+// Appends the code of a colour other than `Reset`, and the `m` that ends its sequence: by its
+// number of sixteen or of 256, or by its three parts.
 fn push_color_code(line: &mut String, color: Color) -> Result<()>
-    ensures { OnOk result (string_bytes line.new ≡ string_bytes line.old ++ (color_code color ++ codes "m")) }
+    ensures { OnOk result (string_bytes line.new
+        ≡ string_bytes line.old ++ (color_code color ++ codes "m")) }
 {
     let named = match color {
         Color::Reset => "m",

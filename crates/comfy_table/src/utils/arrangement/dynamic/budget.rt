@@ -21,11 +21,16 @@ pub struct Budget {
 }
 
 impl Budget {
-    // The fixed widths alone, and the room that they, the borders and all paddings leave of the table's width.
+    // The fixed widths alone, and the room that they, the borders and all paddings leave of the
+    // table's width.
     pub fn new(table: &Table, columns: &[WidthNeeds<'_>], width: u16) -> Result<Budget>
         requires { length columns.now ≡ shown_count table.now }
-        ensures widths { IfOk result (λ budget. budget.widths.items ≡ map (λ (c : ColumnNeeds). c.fixed) (all_needs table.now columns.now)) }
-        ensures room { IfOk result (λ budget. budget.room ≡ content_room (room_beside_borders table.now width) (all_needs table.now columns.now)) }
+        ensures widths { IfOk result
+            (λ budget. budget.widths.items
+            ≡ map (λ (c : ColumnNeeds). c.fixed) (all_needs table.now columns.now)) }
+        ensures room { IfOk result (λ budget. budget.room
+            ≡ content_room (room_beside_borders table.now width)
+            (all_needs table.now columns.now)) }
     {
         let borders = count_border_columns(table, columns.len());
         let mut room = usize::from(width).saturating_sub(borders);
@@ -59,8 +64,8 @@ impl Budget {
         count
     }
 
-    // The room that an undecided column has on average, rounded down; 0 where none is undecided. Their number is passed in,
-    // so that a loop needn't count them each time.
+    // The room that an undecided column has on average, rounded down; 0 where none is undecided.
+    // Their number is passed in, so that a loop needn't count them each time.
     pub fn average(&self, undecided: usize) -> usize
         requires { undecided ≡ undecided_count self.now.widths.items }
         ensures { result ≡ average_room self.now }
@@ -68,9 +73,11 @@ impl Budget {
         self.room.checked_div(undecided).unwrap_or(0)
     }
 
-    // Decides the width of the column at a position, and takes it from the room, which never falls below 0.
+    // Decides the width of the column at a position, and takes it from the room, which never falls
+    // below 0.
     pub fn claim(&mut self, position: usize, width: u16)
-        ensures widths { self.new.widths.items ≡ slice_set self.old.widths.items position (Some width) }
+        ensures widths { self.new.widths.items
+            ≡ slice_set self.old.widths.items position (Some width) }
         ensures room { self.new.room ≡ self.old.room - width }
     {
         if let Some(claimed) = self.widths.get_mut(position) {

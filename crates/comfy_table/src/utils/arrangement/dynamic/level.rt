@@ -9,11 +9,12 @@ use super::budget::Budget;
 use super::needs::WidthNeeds;
 use crate::utils::arrangement::helper::absolute_width_with_padding;
 
-// Settles each undecided column whose upper boundary or content is within the level: the average room of the columns that
-// the level leaves. With an average of 0 none is settled.
+// Settles each undecided column whose upper boundary or content is within the level: the average
+// room of the columns that the level leaves. With an average of 0 none is settled.
 pub fn settle(columns: &[WidthNeeds<'_>], budget: &mut Budget)
     requires { length budget.old.widths.items ≡ length columns.now }
-    ensures { (table : TableValue) → HasSettled (all_needs table columns.now) budget.old budget.new }
+    ensures { (table : TableValue)
+        → HasSettled (all_needs table columns.now) budget.old budget.new }
 {
     let average = budget.average(budget.undecided());
     if 0 < average {
@@ -27,7 +28,9 @@ fn level_from(columns: &[WidthNeeds<'_>], budget: &Budget, average: usize) -> us
     requires widths { length budget.now.widths.items ≡ length columns.now }
     requires average { average ≡ average_room budget.now }
     requires some { 0 < average }
-    ensures { (table : TableValue) → IsLevel budget.now.room (undecided_among (all_needs table columns.now) budget.now.widths.items) (Some result) }
+    ensures { (table : TableValue)
+        → IsLevel budget.now.room (undecided_among
+        (all_needs table columns.now) budget.now.widths.items) (Some result) }
 {
     let mut level = average;
     let mut raised = average_beside(columns, budget, level);
@@ -41,7 +44,11 @@ fn level_from(columns: &[WidthNeeds<'_>], budget: &Budget, average: usize) -> us
 // The average room of the undecided columns that a level leaves; 0 where it leaves none.
 fn average_beside(columns: &[WidthNeeds<'_>], budget: &Budget, level: usize) -> usize
     ensures at_most { result ≤ budget.now.room }
-    ensures average { (table : TableValue) → result ≡ average budget.now.room (undecided_among (all_needs table columns.now) budget.now.widths.items) (settled_shares (Some level) (undecided_among (all_needs table columns.now) budget.now.widths.items)) }
+    ensures average { (table : TableValue)
+        → result ≡ average budget.now.room
+        (undecided_among (all_needs table columns.now) budget.now.widths.items)
+        (settled_shares (Some level)
+        (undecided_among (all_needs table columns.now) budget.now.widths.items)) }
 {
     let mut room = budget.room;
     let mut left = 0usize;
@@ -58,7 +65,10 @@ fn average_beside(columns: &[WidthNeeds<'_>], budget: &Budget, level: usize) -> 
 
 // Settles the undecided columns at a level.
 fn settle_at(columns: &[WidthNeeds<'_>], budget: &mut Budget, level: usize)
-    ensures { (table : TableValue) → HasTaken (settled_shares (Some level) (undecided_among (all_needs table columns.now) budget.old.widths.items)) budget.old budget.new }
+    ensures { (table : TableValue)
+        → HasTaken (settled_shares (Some level)
+        (undecided_among (all_needs table columns.now) budget.old.widths.items)) budget.old
+        budget.new }
 {
     for (position, column) in columns.iter().enumerate() {
         if budget.is_undecided(position)
@@ -69,8 +79,8 @@ fn settle_at(columns: &[WidthNeeds<'_>], budget: &mut Budget, level: usize)
     }
 }
 
-// What an undecided column gets at a level: its upper boundary, where the level allows it and the content reaches it, else
-// a content that is at most the level.
+// What an undecided column gets at a level: its upper boundary, where the level allows it and the
+// content reaches it, else a content that is at most the level.
 fn settled_width(column: &WidthNeeds<'_>, level: usize) -> Option<u16>
     ensures { (table : TableValue) → result ≡ settled_at (Some level) (needs_in table column.now) }
 {

@@ -8,8 +8,8 @@ use super::budget::Budget;
 use comfy_parts::Result;
 use std::alloc::Global;
 
-// The widths at the end. The undecided columns share the room, and have at least one terminal column each. Where none is
-// undecided, full width spreads the room over all columns.
+// The widths at the end. The undecided columns share the room, and have at least one terminal
+// column each. Where none is undecided, full width spreads the room over all columns.
 pub fn final_widths(budget: &Budget, full: bool, alloc: Global) -> Result<Vec<u16>>
     requires { HasRoomToSpread budget.now }
     ensures { IfOk result (λ widths. widths.items ≡ final_widths full budget.now) }
@@ -56,7 +56,8 @@ fn widened(budget: &Budget, alloc: Global) -> Result<Vec<u16>>
     Ok(widths)
 }
 
-// The part at an index of so many that share a room evenly: the first parts have one more each, until all is shared.
+// The part at an index of so many that share a room evenly: the first parts have one more each,
+// until all is shared.
 fn even_part(room: usize, count: usize, index: usize) -> u16
     requires some { 0 < count }
     requires fits { room ≤ max 65535 count }

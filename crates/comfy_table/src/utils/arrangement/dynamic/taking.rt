@@ -30,12 +30,13 @@ pub struct Takers<'a> {
 }
 
 impl<'a> Takers<'a> {
-    // Lets the columns take their widths in turn, until none takes one. A width that is taken changes the room, and with it
-    // the average. No column is tried twice at one average.
+    // Lets the columns take their widths in turn, until none takes one. A width that is taken
+    // changes the room, and with it the average. No column is tried twice at one average.
     pub fn take_in_turn(&self, budget: &mut Budget)
         requires widths { length budget.old.widths.items ≡ length self.now.columns.now }
         requires room { budget.old.room ≤ 65535 }
-        ensures { HasTakenInTurn self.now.rule (all_needs self.now.table.now self.now.columns.now) budget.old budget.new }
+        ensures { HasTakenInTurn self.now.rule
+            (all_needs self.now.table.now self.now.columns.now) budget.old budget.new }
     {
         let mut position = 0;
         // how many columns before the position, going round, take nothing at the average
@@ -69,10 +70,12 @@ impl<'a> Takers<'a> {
         }
     }
 
-    // The width that the column at a position takes at this average, where it is undecided and takes one.
+    // The width that the column at a position takes at this average, where it is undecided and
+    // takes one.
     fn width_at(&self, budget: &Budget, position: usize, average: usize) -> Option<u16>
         requires { average ≤ 65535 }
-        ensures { result ≡ width_at self.now.rule average (all_needs self.now.table.now self.now.columns.now) budget.now.widths.items position }
+        ensures { result ≡ width_at self.now.rule average
+            (all_needs self.now.table.now self.now.columns.now) budget.now.widths.items position }
     {
         if !budget.is_undecided(position) {
             return None;
@@ -87,7 +90,8 @@ impl<'a> Takers<'a> {
 
 // What a column takes by its lower boundary, where that is above the average.
 fn lower_width(column: &WidthNeeds<'_>, average: usize) -> Option<u16>
-    ensures { result ≡ lower_of_boundary average (column_padding column.now.column.now) column.now.lower }
+    ensures { result ≡ lower_of_boundary average
+        (column_padding column.now.column.now) column.now.lower }
 {
     match column.lower {
         Some(lower) if average < usize::from(lower) => {
@@ -97,8 +101,8 @@ fn lower_width(column: &WidthNeeds<'_>, average: usize) -> Option<u16>
     }
 }
 
-// What a column shrinks to where it has this average room: its longest line there, if that leaves three or more terminal
-// columns free.
+// What a column shrinks to where it has this average room: its longest line there, if that leaves
+// three or more terminal columns free.
 fn shrunk_width(table: &Table, column: &WidthNeeds<'_>, average: usize) -> Option<u16>
     requires { average ≤ 65535 }
     ensures { result ≡ shrunk_at average (needs_in table.now column.now) }
