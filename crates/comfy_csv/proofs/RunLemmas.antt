@@ -1,7 +1,7 @@
 -- What the parts of a call of `draw` ensure, put together.
 use Rattle.std.proofs.Common.{◌≡◌, Bool, true, false, List, [], ◌++◌, Option, Some, Ok, Err, refl}
 use Rattle.comfy_parts.specs.Text.{Text}
-use Rattle.comfy_run.specs.Outcome.{IsBeginningOnly, NoDeviceFailed, RunFacts}
+use Rattle.devices.specs.Outcome.{IsBeginningOnly, NoDeviceFailed, RunFacts}
 use Rattle.comfy_csv.specs.Drawn.{AreRecordsFor, IsOutputFor}
 use Rattle.comfy_csv.specs.Run.{IsAfter, IsInputRefusal, IsReadFailure, IsRefusal}
 use Rattle.comfy_csv_parts.specs.Encoding.{IsRefusedIn, encoding_of}

@@ -1,7 +1,7 @@
 -- What a call of `draw` ensures, by its result.
 use Rattle.std.specs.Prelude.{◌≡◌, Bool, true, false, [], Result, Ok, Err, IsUtf8, string_bytes}
 use Rattle.comfy_parts.specs.Text.{Text}
-use Rattle.comfy_run.specs.Outcome.{IsBeginningOnly, NoDeviceFailed, RunFacts}
+use Rattle.devices.specs.Outcome.{IsBeginningOnly, NoDeviceFailed, RunFacts}
 use Rattle.comfy_csv.specs.Drawn.{HasColumnFault, IsOutputFor}
 use Rattle.comfy_csv_parts.specs.Columns.{missing, two_sided}
 use Rattle.comfy_csv_parts.specs.Encoding.{IsFirstUnpaired, encoding_of, utf16_characters}

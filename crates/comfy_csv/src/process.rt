@@ -4,7 +4,7 @@
 use crate::ending::{Drawing, Ending, ending_of_drawing, ending_of_words, ending_without_words};
 use crate::transfer::draw;
 use comfy_csv_parts::{Asked, CsvError, Surroundings, asked_of};
-use comfy_run::run::{FromReader, ToWriter, words_of_process, write_all};
+use devices::{FromReader, ToWriter, arguments_of_process, write_all};
 use std::alloc::AllocError;
 use std::env::VarError;
 use std::fs::File;
@@ -23,7 +23,7 @@ use std::{env, io};
 /// }
 /// ```
 pub fn run_with_arguments(rt: &HostRuntime) -> ExitCode {
-    let ending = match words_of_process(rt) {
+    let ending = match arguments_of_process(rt) {
         Ok(words) => run_with_words(rt, words.as_slice()),
         Err(error) => ending_without_words(error.kind()),
     };

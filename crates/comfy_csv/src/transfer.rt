@@ -3,11 +3,11 @@
 ghost use Rattle.std.specs.Prelude.{◌≡◌, List, ℕ, true, false, Some, OnErr, OnOk, IfOk, IfErr, string_bytes};
 ghost use Rattle.comfy_csv.specs.Drawn.{IsOutputFor};
 ghost use Rattle.comfy_csv.specs.Run.{IsAfter, IsInputRefusal, IsReadFailure, IsRefusal, is_read_fault, is_write_fault};
-ghost use Rattle.comfy_run.specs.Run.{Between};
+ghost use Rattle.devices.specs.Outcome.{Between};
 
 use crate::output::output_of;
 use comfy_csv_parts::{CsvError, Options, decoded, read_records};
-use comfy_run::run::{DeviceFault, ReadError, Sink, Source, read_all, write_all};
+use devices::{DeviceFault, ReadError, Sink, Source, read_all, write_all};
 use std::alloc::Global;
 
 /// Reads the whole source, and writes the drawing of the table of its records to the sink, each

@@ -1,6 +1,5 @@
 pub mod ArgumentLemmas
 pub mod CountLemmas
-pub mod DeviceLemmas
 pub mod ProgramLemmas
 pub mod RowLemmas
 pub mod RunLemmas

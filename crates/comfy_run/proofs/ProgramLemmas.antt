@@ -1,7 +1,7 @@
 -- What the program reports, and which settings it runs with.
 use Rattle.std.proofs.Common.{◌≡◌, Bool, true, [], ◌++◌, Option, Some, Result, Ok, Err, OnOk, OnErr, refl, sym, append-nil, ap, subst, ◌∙◌}
 use Rattle.comfy_parts.specs.Text.{Text}
-use Rattle.comfy_run.specs.Outcome.{RunFacts, IsBeginningOnly}
+use Rattle.devices.specs.Outcome.{RunFacts, IsBeginningOnly}
 use Rattle.comfy_run.specs.Program.{Reports}
 use Rattle.comfy_run.specs.Run.{IsAfter}
 use Rattle.comfy_run.specs.declared.error.RunError.{RunError}

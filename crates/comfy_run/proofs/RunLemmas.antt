@@ -4,14 +4,14 @@ use Rattle.std.proofs.lemmas.Str.{IsUtf8-nil}
 use Rattle.std.specs.Str.{IsUtf8}
 use Rattle.comfy_parts.specs.Text.{Text}
 use Rattle.comfy_run.specs.Input.{IsOutputFor}
-use Rattle.comfy_run.specs.Outcome.{IsBeginningOnly}
+use Rattle.devices.specs.Outcome.{IsBeginningOnly}
 use Rattle.comfy_run.specs.Run.{IsAfter, IsRefusal, run_error_of}
-use Rattle.comfy_run.specs.Whole.{is_source_fault}
+use Rattle.devices.specs.Transfer.{is_source_fault}
 use Rattle.comfy_run.specs.declared.error.RunError.{RunError}
 use Rattle.comfy_run.specs.declared.error.RunError.TheVariants.{Read, Write, NotUtf8, Table}
 use Rattle.comfy_run.specs.declared.settings.Settings.{Settings}
-use Rattle.comfy_run.specs.declared.whole.ReadError.{ReadError}
-use Rattle.comfy_run.specs.declared.whole.ReadError.TheVariants.{Source, OutOfMemory}
+use Rattle.devices.specs.declared.transfer.ReadError.{ReadError}
+use Rattle.devices.specs.declared.transfer.ReadError.TheVariants.{Source, OutOfMemory}
 
 -- why there is nothing to write where the source wasn't read: if its end was, nothing was left
 pub of_read : (T : Type 0) (e : ReadError) (input : Text) (ended failed : Bool) → failed ≡ is_source_fault {T = T} (Err e) → (ended ≡ true → input ≡ []) → IsRefusal (run_error_of e) input ended failed

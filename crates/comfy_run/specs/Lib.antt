@@ -1,7 +1,5 @@
 pub mod Arguments
 pub mod Counts
-pub mod Device
-pub mod DeviceLaws
 pub mod Input
 pub mod Outcome
 pub mod Parts
@@ -9,5 +7,3 @@ pub mod Program
 pub mod Rows
 pub mod Run
 pub mod Straight
-pub mod Stream
-pub mod Whole

@@ -1,29 +1,10 @@
 -- What a call of `run` may return, by what happened in it.
-use Rattle.std.specs.Prelude.{◌≡◌, ℕ, ◌<◌, Bool, true, false, [], ◌++◌, Option, length, IsUtf8}
+use Rattle.std.specs.Prelude.{◌≡◌, ℕ, true, false, [], Option, IsUtf8}
 use Rattle.comfy_parts.specs.Text.{Text}
 use Rattle.comfy_parts.specs.declared.style.table.ContentArrangement.{ContentArrangement}
 use Rattle.comfy_parts.specs.declared.style.table_style.TableStyle.{TableStyle}
 use Rattle.comfy_run.specs.Input.{IsOutputFor}
-
--- what happened in a call: all bytes of the source, whether its end was seen, the bytes that were
--- written, and whether the reader and the writer failed
-pub record RunFacts : Type 0 where
-  pub input : Text
-  pub end_was_read : Bool
-  pub written : Text
-  pub read_failed : Bool
-  pub write_failed : Bool
-
--- a beginning of the bytes, not all of them
-pub record IsBeginningOnly (part whole : Text) : Type 0 where
-  pub rest : Text
-  pub joins : whole ≡ part ++ rest
-  pub some_are_missing : 0 < length rest
-
--- neither device failed
-pub record NoDeviceFailed (facts : RunFacts) : Type 0 where
-  pub no_read_failed : facts.read_failed ≡ false
-  pub no_write_failed : facts.write_failed ≡ false
+use Rattle.devices.specs.Outcome.{IsBeginningOnly, NoDeviceFailed, RunFacts}
 
 module _ (width : Option ℕ) (arrangement : ContentArrangement) (style : TableStyle)
     (facts : RunFacts) where

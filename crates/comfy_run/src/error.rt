@@ -5,7 +5,7 @@ ghost use Rattle.comfy_parts.specs.declared.error.TableError.TheVariants.{OutOfM
 ghost use Rattle.comfy_run.specs.Run.{run_error_of};
 ghost use Rattle.comfy_run.specs.declared.error.RunError.TheVariants.{Table};
 
-use crate::whole::ReadError;
+use devices::ReadError;
 use comfy_parts::TableError;
 use std::alloc::AllocError;
 use thiserror::Error;

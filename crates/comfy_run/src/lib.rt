@@ -2,12 +2,8 @@
 #![tactic(auto)]
 
 mod arguments;
-mod device;
 mod error;
 pub mod laws;
-mod memory;
 mod rows;
 pub mod run;
 mod settings;
-mod stream;
-mod whole;

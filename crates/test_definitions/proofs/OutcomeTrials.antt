@@ -9,7 +9,8 @@ use Rattle.comfy_parts.specs.CellValue.{IsColumn, IsRow}
 use Rattle.comfy_run.specs.Input.{IsOutputFor, input_table}
 use Rattle.comfy_table.proofs.HeadlineLemmas.{table_drawing, utf8_indicator}
 use Rattle.comfy_table.specs.TableValue.{KeepsParts, TableValue}
-use Rattle.comfy_run.specs.Outcome.{RunFacts, IsAfterOk, IsAfterRead, IsAfterWrite}
+use Rattle.comfy_run.specs.Outcome.{IsAfterOk, IsAfterRead, IsAfterWrite}
+use Rattle.devices.specs.Outcome.{RunFacts}
 use Rattle.test_definitions.proofs.TrialTables.{at_widths}
 
 -- the table of an empty input

@@ -3,14 +3,14 @@
 ghost use Rattle.std.specs.Prelude.{◌≡◌, None, Some, Result, false, true};
 ghost use Rattle.comfy_run.specs.Arguments.{settings_for};
 ghost use Rattle.comfy_run.specs.Program.{usage_line, error_line, status_of, report_of, Reports};
-ghost use Rattle.comfy_run.specs.Run.{Between, IsAfter, is_read_fault, is_write_fault};
+ghost use Rattle.comfy_run.specs.Run.{IsAfter, is_read_fault, is_write_fault};
+ghost use Rattle.devices.specs.Outcome.{Between};
 ghost use Rattle.comfy_run.specs.declared.settings.Settings.{Settings};
 
 use crate::arguments::settings_of;
-use crate::device::{Sink, Source};
 use crate::error::RunError;
 use crate::run::transfer::run;
-use crate::whole::write_all;
+use devices::{Sink, Source, write_all};
 use comfy_table::TableError;
 use std::alloc::Global;
 

@@ -2,11 +2,11 @@
 
 use crate::error::RunError;
 use crate::run::command::program;
-use crate::stream::{FromReader, ToWriter};
+use devices::{FromReader, ToWriter, arguments_of_process};
 use std::alloc::AllocError;
 use std::io::ErrorKind;
 use std::process::ExitCode;
-use std::{env, io};
+use std::io;
 
 // Stands for a word that isn't text: the program knows no such word.
 const NO_TEXT: &str = "\u{fffd}";
@@ -34,21 +34,12 @@ pub fn run_with_arguments(rt: &HostRuntime) -> ExitCode {
 
 // Runs the program with the words after its name.
 fn run_with_words(rt: &HostRuntime) -> io::Result<ExitCode> {
-    let words = words_of_process(rt)?;
+    let words = arguments_of_process(rt)?;
     let mut behind_name = Vec::new(rt.alloc());
     for word in words.iter().skip(1) {
         behind_name.push(word.as_str())?;
     }
     Ok(run_with(rt, behind_name.as_slice()))
-}
-
-/// The program's name, and the words after it.
-pub fn words_of_process(rt: &HostRuntime) -> io::Result<Vec<String>> {
-    let mut words = Vec::new(rt.alloc());
-    for word in env::args(rt)? {
-        words.push(word)?;
-    }
-    Ok(words)
 }
 
 fn run_with(rt: &HostRuntime, words: &[&str]) -> ExitCode {

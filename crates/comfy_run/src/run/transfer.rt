@@ -2,13 +2,13 @@
 
 ghost use Rattle.std.specs.Prelude.{◌≡◌, List, ℕ, true, false, Some, OnOk, IfOk, IfErr, IsUtf8, string_bytes};
 ghost use Rattle.comfy_run.specs.Input.{IsOutputFor};
-ghost use Rattle.comfy_run.specs.Run.{Between, IsAfter, IsRefusal, is_read_fault, is_write_fault};
+ghost use Rattle.comfy_run.specs.Run.{IsAfter, IsRefusal, is_read_fault, is_write_fault};
+ghost use Rattle.devices.specs.Outcome.{Between};
 
-use crate::device::{DeviceFault, Sink, Source};
 use crate::error::RunError;
 use crate::run::input::table_of;
 use crate::settings::Settings;
-use crate::whole::{read_all, write_all};
+use devices::{DeviceFault, Sink, Source, read_all, write_all};
 use std::alloc::Global;
 
 /// Reads the whole source, and writes the drawing of its table to the sink, each line followed by a

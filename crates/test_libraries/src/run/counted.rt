@@ -1,8 +1,8 @@
 //! Devices that count their calls: nothing is read after the end, and no message follows a success.
 
 ghost use Rattle.std.specs.Prelude.{Some, is_none};
-ghost use Rattle.comfy_run.specs.Device.{left_in};
-ghost use Rattle.comfy_run.specs.DeviceLaws.{none_is_left_in_memory};
+ghost use Rattle.devices.specs.Device.{left_in};
+ghost use Rattle.devices.specs.DeviceLaws.{none_is_left_in_memory};
 
 use crate::support::sink_of;
 use comfy_run::run::{DeviceFault, MemorySink, MemorySource, Sink, Source, program};

@@ -1,6 +1,6 @@
 use Rattle.std.proofs.Common.{Result, Ok, Err, refl}
 use Rattle.comfy_run.proofs.ProgramLemmas.{after_same, nothing_reported, same_settings}
-use Rattle.comfy_run.specs.Outcome.{RunFacts}
+use Rattle.devices.specs.Outcome.{RunFacts}
 use Rattle.comfy_run.specs.declared.error.RunError.{RunError}
 use Rattle.comfy_run.proofs.run.command.program.Goals as goal
 

@@ -1,6 +1,6 @@
 use Rattle.std.proofs.Common.{[], Option, Some, ap, List, ℕ, arith, refl}
 use Rattle.std.specs.Prelude.{unwrap_or}
-use Rattle.comfy_run.specs.Device.{MemorySinkValue, MemorySourceValue, left_in}
+use Rattle.devices.specs.Device.{MemorySinkValue, MemorySourceValue, left_in}
 use Rattle.test_callers.proofs.uses.running.output_within.Goals as goal
 
 pub returns : goal.returns

@@ -6,37 +6,36 @@ use Rattle.std.proofs.lemmas.Bool.Decides.{nat_tests}
 use Rattle.std.proofs.lemmas.Grind.{common_steps}
 use Rattle.std.proofs.lemmas.List.{length-take-le, nil_from_length}
 use Rattle.std.proofs.Math.Seq.{take-append_seam}
-use Rattle.comfy_parts.specs.Text.{Text}
-use Rattle.comfy_run.specs.Device.{MemorySourceValue, left_in, rest_after, after_reading, is_due, is_end}
+use Rattle.devices.specs.Device.{Bytes, MemorySourceValue, left_in, rest_after, after_reading, is_due, is_end}
 
 -- the front of a buffer that was filled from a text
-pub front : (count : ℕ) (text behind : Text) → count ≤ length text → take count (take count text ++ behind) ≡ take count text
+pub front : (count : ℕ) (text behind : Bytes) → count ≤ length text → take count (take count text ++ behind) ≡ take count text
 front count text behind fits =
     let len : length (take count text) ≡ count = length-take-le count text fits in
     ap (λ n. take n (take count text ++ behind)) (sym len) ∙ take-append_seam (take count text) behind
 
 -- what is left after a call
-pub left-after : (rest : Option Text) (room : ℕ) → unwrap_or (rest_after rest room) [] ≡ drop (min (length (unwrap_or rest [])) room) (unwrap_or rest [])
+pub left-after : (rest : Option Bytes) (room : ℕ) → unwrap_or (rest_after rest room) [] ≡ drop (min (length (unwrap_or rest [])) room) (unwrap_or rest [])
 left-after None room = grind (arith, common_steps)
 left-after (Some []) zero = grind (arith, common_steps)
 left-after (Some []) (suc room) = grind (arith, common_steps)
 left-after (Some (x ∷ xs)) room = grind (arith, nat_tests)
 
 -- the end is read by a call that gives nothing where there is room
-pub end-after : (rest : Option Text) (room count : ℕ) → count ≡ min (length (unwrap_or rest [])) room → is_none (rest_after rest room) ≡ (is_none rest || ((count == 0) && nat_lt 0 room))
+pub end-after : (rest : Option Bytes) (room count : ℕ) → count ≡ min (length (unwrap_or rest [])) room → is_none (rest_after rest room) ≡ (is_none rest || ((count == 0) && nat_lt 0 room))
 end-after None room count e = refl
 end-after (Some []) room count e = grind (arith, nat_tests)
 end-after (Some (x ∷ xs)) room count e = grind (arith, nat_tests)
 
 -- the clauses of a call of a source over memory: what it returns, and what it leaves
-pub record IsMemoryRead {E : Type 0} (old new : MemorySourceValue) (was now : Text) (r : Result ℕ E) : Type 0 where
+pub record IsMemoryRead {E : Type 0} (old new : MemorySourceValue) (was now : Bytes) (r : Result ℕ E) : Type 0 where
   pub fails : is_err r ≡ is_due old.failed old.fails_at
   pub failed : OnErr r (new ≡ record old { failed = true })
   pub count : IfOk r (λ n. n ≡ min (length (left_in old)) (length was))
   pub given : IfOk r (λ n. now ≡ take n (left_in old) ++ drop n was)
   pub after : OnOk r (new ≡ after_reading (length was) old)
 
-module _ {E : Type 0} (old new : MemorySourceValue) (was now : Text) where
+module _ {E : Type 0} (old new : MemorySourceValue) (was now : Bytes) where
   pub within : (r : Result ℕ E) → IsMemoryRead old new was now r → IfOk r (λ n. n ≤ length was)
   within (Ok n) h = omega (arith, h.count)
   within (Err e) h = tt
@@ -49,7 +48,7 @@ module _ {E : Type 0} (old new : MemorySourceValue) (was now : Text) where
   stays_failed (Ok n) h had = ap (λ (s : MemorySourceValue). s.failed) h.after ∙ had
   stays_failed (Err e) h had = ap (λ (s : MemorySourceValue). s.failed) h.failed
 
-  pub bytes : (r : Result ℕ E) → IsMemoryRead old new was now r → IfOk r (λ n. (left : Text) → Some (left_in old) ≡ Some left → (take n now ≡ take n left) × (Some (left_in new) ≡ Some (drop n left)))
+  pub bytes : (r : Result ℕ E) → IsMemoryRead old new was now r → IfOk r (λ n. (left : Bytes) → Some (left_in old) ≡ Some left → (take n now ≡ take n left) × (Some (left_in new) ≡ Some (drop n left)))
   bytes (Ok n) h =
       let fits : n ≤ length (left_in old) = omega (arith, h.count) in
       λ left is.
@@ -59,7 +58,7 @@ module _ {E : Type 0} (old new : MemorySourceValue) (was now : Text) where
       )
   bytes (Err e) h = tt
 
-  pub end : (r : Result ℕ E) → IsMemoryRead old new was now r → IfOk r (λ n. n ≡ 0 → 0 < length was → (left : Text) → Some (left_in old) ≡ Some left → left ≡ [])
+  pub end : (r : Result ℕ E) → IsMemoryRead old new was now r → IfOk r (λ n. n ≡ 0 → 0 < length was → (left : Bytes) → Some (left_in old) ≡ Some left → left ≡ [])
   end (Ok n) h = λ none room left is. let same : left_in old ≡ left = cc in sym same ∙ nil_from_length (left_in old) (omega (arith, h.count))
   end (Err e) h = tt
 

@@ -1,7 +1,7 @@
 -- What reading a source to its end returns.
 use Rattle.std.specs.Prelude.{Bool, true, false, Result, Err}
-use Rattle.comfy_run.specs.declared.whole.ReadError.{ReadError}
-use Rattle.comfy_run.specs.declared.whole.ReadError.TheVariants.{Source}
+use Rattle.devices.specs.declared.transfer.ReadError.{ReadError}
+use Rattle.devices.specs.declared.transfer.ReadError.TheVariants.{Source}
 
 -- the result says that the source failed
 abbrev pub is_source_fault : {T : Type 0} → Result T ReadError → Bool

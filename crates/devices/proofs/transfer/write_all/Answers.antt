@@ -1,6 +1,6 @@
 use Rattle.std.proofs.Common.{◌++◌, Some, take, ap, ◌∙◌, append_assoc}
 use Rattle.std.proofs.lemmas.List.{take-append-drop}
-use Rattle.comfy_run.proofs.whole.write_all.Goals as goal
+use Rattle.devices.proofs.transfer.write_all.Goals as goal
 
 pub loop-rest-preserved : goal.loop-rest-preserved
 loop-rest-preserved g c =

@@ -1,8 +1,8 @@
 //! Devices over memory, which fail at a call of choice.
 
 ghost use Rattle.std.specs.Prelude.{◌≡◌, ◌||◌, ◌++◌, true, false, Some, [], IfOk, OnOk, OnErr, is_err, is_none, length, min, take, drop};
-ghost use Rattle.comfy_run.specs.Device.{left_in, is_due, after_reading, is_full_for, fitting, after_writing};
-ghost use Rattle.comfy_run.specs.DeviceLaws.{none_is_left_in_memory};
+ghost use Rattle.devices.specs.Device.{left_in, is_due, after_reading, is_full_for, fitting, after_writing};
+ghost use Rattle.devices.specs.DeviceLaws.{none_is_left_in_memory};
 
 use crate::device::{DeviceFault, Sink, Source};
 use std::alloc::Global;
@@ -22,7 +22,7 @@ pub struct MemorySource<'a> {
 
 impl<'a> Model for MemorySource<'a> {
     ghost use Rattle.std.specs.Prelude.{option_copied};
-    ghost use Rattle.comfy_run.specs.Device.{MemorySourceValue};
+    ghost use Rattle.devices.specs.Device.{MemorySourceValue};
 
     ghost Value = { MemorySourceValue };
 
@@ -100,7 +100,7 @@ pub struct MemorySink {
 
 impl Model for MemorySink {
     ghost use Rattle.std.specs.Prelude.{◌≤◌, vec_len, vec_capacity};
-    ghost use Rattle.comfy_run.specs.Device.{MemorySinkValue};
+    ghost use Rattle.devices.specs.Device.{MemorySinkValue};
 
     ghost Value = { MemorySinkValue };
 

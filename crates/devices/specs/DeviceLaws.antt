@@ -1,6 +1,6 @@
 -- What every source over memory keeps.
 use Rattle.std.specs.Prelude.{◌≡◌, true, List, ℕ, [], Option, Some, None, is_none}
-use Rattle.comfy_run.specs.Device.{MemorySourceValue, left_in}
+use Rattle.devices.specs.Device.{MemorySourceValue, left_in}
 
 -- of no rest nothing is left
 pub nothing_left : (rest : Option (List ℕ)) (fails_at : ℕ) (failed : _) → is_none rest ≡ true

@@ -1,9 +1,9 @@
 //! Whole inputs and outputs: all that a source has left, and all of a piece for a sink.
 
 ghost use Rattle.std.specs.Prelude.{◌≡◌, ◌++◌, List, ℕ, [], true, false, Some, OnOk, OnErr, IfOk, IfErr};
-ghost use Rattle.comfy_run.specs.Outcome.{IsBeginningOnly};
-ghost use Rattle.comfy_run.specs.Whole.{is_source_fault};
-ghost use Rattle.comfy_run.specs.declared.whole.ReadError.TheVariants.{OutOfMemory};
+ghost use Rattle.devices.specs.Outcome.{IsBeginningOnly};
+ghost use Rattle.devices.specs.Transfer.{is_source_fault};
+ghost use Rattle.devices.specs.declared.transfer.ReadError.TheVariants.{OutOfMemory};
 
 use crate::device::{DeviceFault, Sink, Source};
 use std::alloc::{AllocError, Global};

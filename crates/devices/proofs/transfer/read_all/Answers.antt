@@ -1,7 +1,7 @@
 use Rattle.std.proofs.Common.{◌≡◌, ◌++◌, take, drop, rules, ap, ◌∙◌, append_assoc}
 use Rattle.std.proofs.lemmas.List.{take-append-drop}
-use Rattle.comfy_run.proofs.DeviceLemmas.{not-ended}
-use Rattle.comfy_run.proofs.whole.read_all.Goals as goal
+use Rattle.devices.proofs.DeviceLemmas.{not-ended}
+use Rattle.devices.proofs.transfer.read_all.Goals as goal
 
 pub loop-count-preserved : goal.loop-count-preserved
 loop-count-preserved g c =

@@ -2,8 +2,8 @@
 
 ghost use Rattle.std.specs.Prelude.{◌≡◌, ◌||◌, ◌↔◌, IfErr, IfOk, None, Ok, Some, is_err, is_some, false, true};
 ghost use Rattle.std.specs.IoError.{error_kind};
-ghost use Rattle.comfy_run.specs.Device.{is_end};
-ghost use Rattle.comfy_run.specs.Stream.{fault_after, left_before, none_is_left};
+ghost use Rattle.devices.specs.Device.{is_end};
+ghost use Rattle.devices.specs.Stream.{fault_after, left_before, none_is_left};
 
 use crate::device::{DeviceFault, Sink, Source};
 use std::io::{self, ErrorKind, Read, Write};
@@ -19,7 +19,7 @@ pub struct FromReader<R> {
 }
 
 impl<R> Model for FromReader<R> {
-    ghost use Rattle.comfy_run.specs.Stream.{ReaderValue};
+    ghost use Rattle.devices.specs.Stream.{ReaderValue};
 
     ghost Value = { ReaderValue R };
 
@@ -100,7 +100,7 @@ pub struct ToWriter<W> {
 }
 
 impl<W> Model for ToWriter<W> {
-    ghost use Rattle.comfy_run.specs.Stream.{ToWriterValue};
+    ghost use Rattle.devices.specs.Stream.{ToWriterValue};
 
     ghost Value = { ToWriterValue W };
 

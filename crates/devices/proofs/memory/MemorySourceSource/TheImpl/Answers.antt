@@ -1,5 +1,5 @@
-use Rattle.comfy_run.proofs.DeviceLemmas.{IsMemoryRead, within, fault, stays_failed, bytes, end, end_read}
-use Rattle.comfy_run.proofs.memory.MemorySourceSource.TheImpl.Goals as goal
+use Rattle.devices.proofs.DeviceLemmas.{IsMemoryRead, within, fault, stays_failed, bytes, end, end_read}
+use Rattle.devices.proofs.memory.MemorySourceSource.TheImpl.Goals as goal
 
 pub read-tells : goal.read-tells
 read-tells g c =

@@ -1,7 +1,7 @@
 //! Where bytes come from, and where they go to.
 
 ghost use Rattle.std.specs.Prelude.{◌≡◌, ◌<◌, ◌≤◌, ◌++◌, ◌||◌, List, ℕ, Bool, true, length, take, drop, is_err, IfOk, OnErr, Option, Some, []};
-ghost use Rattle.comfy_run.specs.Device.{is_end};
+ghost use Rattle.devices.specs.Device.{is_end};
 
 /// A call of a device failed. It is returned exactly where the device has failed, and then by every
 /// later call.

@@ -1,6 +1,8 @@
 -- What calls of a device return.
-use Rattle.std.specs.Prelude.{ℕ, ◌-◌, ◌==◌, Bool, false, ◌&&◌, ◌||◌, nat_lt, [], ◌++◌, Option, Some, None, Result, Ok, Err, length, take, drop, min, unwrap_or, if◌then◌else◌}
-use Rattle.comfy_parts.specs.Text.{Text}
+use Rattle.std.specs.Prelude.{ℕ, ◌-◌, ◌==◌, Bool, false, ◌&&◌, ◌||◌, nat_lt, List, [], ◌++◌, Option, Some, None, Result, Ok, Err, length, take, drop, min, unwrap_or, if◌then◌else◌}
+
+abbrev pub Bytes : Type 0
+Bytes = List ℕ
 
 -- the result says that the end was read: 0 bytes for a buffer that isn't empty
 abbrev pub is_end : {E : Type 0} → Result ℕ E → ℕ → Bool
@@ -14,16 +16,16 @@ is_due failed fails_at = failed || (fails_at == 1)
 -- a source over memory: the bytes that are left, none once the end was read; which call from now on
 -- fails, 0 for no call; whether it has failed
 pub record MemorySourceValue : Type 0 where
-  pub rest : Option Text
+  pub rest : Option Bytes
   pub fails_at : ℕ
   pub failed : Bool
 
 -- the bytes that are left
-abbrev pub left_in : MemorySourceValue → Text
+abbrev pub left_in : MemorySourceValue → Bytes
 left_in source = unwrap_or source.rest []
 
 -- what is left after a call for this many bytes
-abbrev pub rest_after : Option Text → ℕ → Option Text
+abbrev pub rest_after : Option Bytes → ℕ → Option Bytes
 rest_after None room = None
 rest_after (Some left) room =
     if (length left == 0) && nat_lt 0 room then None else Some (drop (min (length left) room) left)
@@ -36,21 +38,21 @@ after_reading room source =
 -- a sink in memory: the bytes that it has taken, how many it has room for in all, which call from
 -- now on fails, 0 for no call; whether it has failed
 pub record MemorySinkValue : Type 0 where
-  pub bytes : Text
+  pub bytes : Bytes
   pub room : ℕ
   pub fails_at : ℕ
   pub failed : Bool
 
 -- how many bytes of a piece have room
-abbrev pub fitting : Text → MemorySinkValue → ℕ
+abbrev pub fitting : Bytes → MemorySinkValue → ℕ
 fitting piece sink = min (length piece) (sink.room - length sink.bytes)
 
 -- the piece isn't empty, and no room is left
-abbrev pub is_full_for : Text → MemorySinkValue → Bool
+abbrev pub is_full_for : Bytes → MemorySinkValue → Bool
 is_full_for piece sink = nat_lt 0 (length piece) && (fitting piece sink == 0)
 
 -- the sink after a call with this piece that didn't fail
-abbrev pub after_writing : Text → MemorySinkValue → MemorySinkValue
+abbrev pub after_writing : Bytes → MemorySinkValue → MemorySinkValue
 after_writing piece sink =
     record sink {
       bytes = sink.bytes ++ take (fitting piece sink) piece;

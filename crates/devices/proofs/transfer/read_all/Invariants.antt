@@ -1,5 +1,5 @@
 use Rattle.std.proofs.Common.{◌≡◌, ◌++◌, ◌-◌, ◌^◌, List, ℕ, Some, vec_len}
-use Rattle.comfy_run.proofs.whole.read_all.Given as goal
+use Rattle.devices.proofs.transfer.read_all.Given as goal
 
 abbrev pub invariant-loop-count : goal.invariant-loop-count
 invariant-loop-count g l =

@@ -1,0 +1,5 @@
+pub mod Device
+pub mod DeviceLaws
+pub mod Outcome
+pub mod Stream
+pub mod Transfer

@@ -1,0 +1,15 @@
+//! Where bytes come from and where they go to: readers, writers and memory; all that a source has
+//! left, and all of a piece for a sink; a process's arguments.
+#![tactic(auto)]
+
+mod device;
+mod memory;
+mod process;
+mod stream;
+mod transfer;
+
+pub use device::{DeviceFault, Sink, Source};
+pub use memory::{MemorySink, MemorySource};
+pub use process::arguments_of_process;
+pub use stream::{FromReader, ToWriter};
+pub use transfer::{ReadError, read_all, write_all};
