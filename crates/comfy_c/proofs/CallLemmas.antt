@@ -4,9 +4,9 @@ use Rattle.std.proofs.lemmas.List.{take_at}
 use Rattle.std.proofs.lemmas.Str.{IsUtf8-string_bytes}
 use Rattle.std.specs.Prelude.{IsUtf8, Option, Some}
 use Rattle.comfy_parts.specs.Text.{Text}
-use Rattle.comfy_csv.specs.Refusals.{IsRefusedFor}
-use Rattle.comfy_csv.specs.declared.drawing.Refusal.{Refusal}
-use Rattle.comfy_csv.specs.declared.drawing.Refusal.TheVariants.{Words, Input, OutOfMemory}
+use Rattle.csv_command.specs.Refusals.{IsRefusedFor}
+use Rattle.csv_command.specs.declared.drawing.Refusal.{Refusal}
+use Rattle.csv_command.specs.declared.drawing.Refusal.TheVariants.{Words, Input, OutOfMemory}
 use Rattle.comfy_run.specs.Input.{IsOutputFor}
 use Rattle.comfy_run.specs.declared.settings.Settings.{Settings}
 use Rattle.comfy_c.specs.Calls.{IsCommandLine, IsCsvRefusal, IsDrawnAs, IsHanded, with_front}

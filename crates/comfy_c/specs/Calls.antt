@@ -4,10 +4,10 @@ use Rattle.comfy_parts.specs.Presets.{preset_at}
 use Rattle.comfy_parts.specs.Text.{HasNo, Text}
 use Rattle.comfy_parts.specs.declared.style.table.ContentArrangement.{ContentArrangement}
 use Rattle.comfy_parts.specs.declared.style.table.ContentArrangement.TheVariants.{Disabled, Dynamic, DynamicFullWidth}
-use Rattle.comfy_csv.specs.Ending.{word_not_utf8}
-use Rattle.comfy_csv.specs.Refusals.{IsDrawnFor, IsSaidOfInput, IsSaidOfWords}
-use Rattle.comfy_csv.specs.declared.drawing.Refusal.{Refusal}
-use Rattle.comfy_csv.specs.declared.drawing.Refusal.TheVariants.{Words, Input, OutOfMemory}
+use Rattle.csv_command.specs.Ending.{word_not_utf8}
+use Rattle.csv_command.specs.Refusals.{IsDrawnFor, IsSaidOfInput, IsSaidOfWords}
+use Rattle.csv_command.specs.declared.drawing.Refusal.{Refusal}
+use Rattle.csv_command.specs.declared.drawing.Refusal.TheVariants.{Words, Input, OutOfMemory}
 use Rattle.comfy_run.specs.Arguments.{settings_with}
 use Rattle.comfy_run.specs.Input.{IsOutputFor}
 use Rattle.comfy_run.specs.declared.settings.Settings.{Settings}

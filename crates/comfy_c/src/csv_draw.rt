@@ -5,7 +5,7 @@ ghost use Rattle.comfy_c.specs.Calls.{IsHanded, IsCsvDrawing, IsCsvRefusal, IsIn
 
 use crate::room::{DRAWN, OUT_OF_MEMORY, ROOM_TOO_SMALL, put};
 use crate::words::command_line;
-use comfy_csv::{Refusal, WORD_NOT_UTF8, drawing_of};
+use csv_command::{Refusal, WORD_NOT_UTF8, drawing_of};
 use std::alloc::Global;
 
 // What a call returns besides.

@@ -1,5 +1,5 @@
 -- What a call of `run` ensures, by its result.
-use Rattle.std.specs.Prelude.{◌≡◌, Bool, true, false, ◌++◌, Option, Some, Result, Ok, Err, IsUtf8}
+use Rattle.std.specs.Prelude.{◌≡◌, Bool, true, false, Result, Ok, Err, IsUtf8}
 use Rattle.comfy_parts.specs.Text.{Text}
 use Rattle.comfy_parts.specs.declared.error.TableError.TheVariants as memory
 use Rattle.comfy_run.specs.Outcome.{IsAfterOk, IsAfterRead, IsAfterWrite, IsAfterNotUtf8, IsAfterTable}

@@ -10,11 +10,11 @@ use Rattle.comfy_parts.specs.Text.{Text, is_printable_ascii, measure}
 use Rattle.comfy_parts.specs.VisibleText.{visible_text}
 use Rattle.comfy_table.specs.Drawing.{terminated_text_of}
 use Rattle.comfy_table.specs.Laws.{AreLinesOf, HasNoBreak, HasNoControl}
-use Rattle.comfy_csv.proofs.FieldLemmas.{printable_unbroken}
-use Rattle.comfy_csv.proofs.OutputControlLemmas.{counts_are_printable}
-use Rattle.comfy_csv.specs.Drawn.{ContentValue, note_for, record_line}
-use Rattle.comfy_csv.specs.Laws.{HasLines, IsStraightOutput, numbered_lines}
-use Rattle.comfy_csv_parts.specs.declared.options.Options.{Options}
+use Rattle.csv_tables.proofs.FieldLemmas.{printable_unbroken}
+use Rattle.csv_tables.proofs.OutputControlLemmas.{counts_are_printable}
+use Rattle.csv_tables.specs.Drawn.{ContentValue, note_for, record_line}
+use Rattle.csv_tables.specs.Laws.{HasLines, IsStraightOutput, numbered_lines}
+use Rattle.csv_tables.specs.declared.options.Options.{Options}
 use Rattle.promises.proofs.ShownLemmas.{shows_visible}
 use Rattle.csv_promises.specs.Straight.{CountsRecords, IsStraight, ShowsColumns, counted}
 
@@ -115,8 +115,8 @@ straight_text options records output none is =
     let clear = All-of_map HasNoControl visible_text is.lines (is.clear refl) in
     let good : All (λ (line : Text). CountsRecords line ⊎ ShowsColumns columns line) is.lines = λ k default below. inr (shown_line columns _ (clear k default below) (seen k default below)) in
     let whole =
-    both columns made.text (note_for options.look.is_markdown options.limit made.content.count) (table_lines columns made.is_expanded made.content is.lines made.text made.has_lines good)
-    (subst (λ (b : Bool). HasGoodLines columns (note_for b options.limit made.content.count)) (sym none) (note_counts columns options.limit made.content.count)) in
+    both columns made.text (note_for options.look.is_markdown options.selection.limit made.content.count) (table_lines columns made.is_expanded made.content is.lines made.text made.has_lines good)
+    (subst (λ (b : Bool). HasGoodLines columns (note_for b options.selection.limit made.content.count)) (sym none) (note_counts columns options.selection.limit made.content.count)) in
     let own : HasGoodLines columns output = subst (HasGoodLines columns) (sym made.joined) whole in
     record { lines = own.lines; are = own.are; columns = columns; show = own.good }
 

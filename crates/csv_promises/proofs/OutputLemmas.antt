@@ -3,7 +3,7 @@ use Rattle.std.proofs.Common.{suc, length, refl, arith}
 use Rattle.comfy_parts.proofs.CallerLemmas.{none_by_characters}
 use Rattle.comfy_parts.specs.Text.{Text}
 use Rattle.comfy_parts.specs.VisibleText.{visible_text}
-use Rattle.comfy_csv_parts.specs.Controls.{HasNoStrayControl, is_stray_control}
+use Rattle.csv_tables.specs.Controls.{HasNoStrayControl, is_stray_control}
 use Rattle.promises.proofs.ShownLemmas.{shows_visible}
 use Rattle.promises.specs.Shown.{IsHarmless}
 

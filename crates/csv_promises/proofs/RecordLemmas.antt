@@ -14,18 +14,18 @@ use Rattle.comfy_table.specs.Headline.{IsTableDrawing}
 use Rattle.comfy_table.specs.NewTables.{IsShortRow}
 use Rattle.comfy_table.specs.TableValue.{TableValue, header_and_rows, shown_columns, with_row, with_rows}
 use Rattle.csv.specs.Records.{field_at}
-use Rattle.comfy_csv_parts.specs.Cells.{cell_for, field_or_blank, field_text, cells_for, header_for, row_for, with_weight}
-use Rattle.comfy_csv_parts.specs.Columns.{columns_for, count_of, kept_columns, seen, without}
-use Rattle.comfy_csv_parts.specs.declared.options.DrawnColumn.{DrawnColumn}
-use Rattle.comfy_csv_parts.specs.declared.options.Look.{Look}
-use Rattle.comfy_csv_parts.specs.declared.options.Options.{Options}
-use Rattle.comfy_csv.proofs.BuiltLemmas.{Built, each_content, each_field, made_of}
-use Rattle.comfy_csv.proofs.FieldLemmas.{drawn_in_one_line}
-use Rattle.comfy_csv.proofs.RowLemmas.{chosen, with_rows-rows}
-use Rattle.comfy_csv.proofs.StraightLemmas.{IsShort, empty_is_short, short_rows}
-use Rattle.comfy_csv.proofs.TextTableLemmas.{EachLine, rows_of_texts}
-use Rattle.comfy_csv.proofs.WholeColumnLemmas.{all_shown}
-use Rattle.comfy_csv.specs.Drawn.{ContentValue, arrangement_for, content_of, content_with, drawn_rows, empty_table, headed_table, limited, names_of, records_below, rows_table, table_for}
+use Rattle.csv_tables.specs.Cells.{cell_for, field_or_blank, field_text, cells_for, header_for, row_for, with_weight}
+use Rattle.csv_tables.specs.Columns.{columns_for, count_of, kept_columns, seen, without}
+use Rattle.csv_tables.specs.declared.options.DrawnColumn.{DrawnColumn}
+use Rattle.csv_tables.specs.declared.options.Look.{Look}
+use Rattle.csv_tables.specs.declared.options.Options.{Options}
+use Rattle.csv_tables.proofs.BuiltLemmas.{Built, each_content, each_field, made_of}
+use Rattle.csv_tables.proofs.FieldLemmas.{drawn_in_one_line}
+use Rattle.csv_tables.proofs.RowLemmas.{chosen, with_rows-rows}
+use Rattle.csv_tables.proofs.StraightLemmas.{IsShort, empty_is_short, short_rows}
+use Rattle.csv_tables.proofs.TextTableLemmas.{EachLine, rows_of_texts}
+use Rattle.csv_tables.proofs.WholeColumnLemmas.{all_shown}
+use Rattle.csv_tables.specs.Drawn.{ContentValue, arrangement_for, content_of, content_with, drawn_rows, empty_table, headed_table, limited, names_of, records_below, rows_table, table_for}
 use Rattle.promises.proofs.KeptLemmas.{stand_later, whole_texts_stand}
 use Rattle.promises.specs.Kept.{ShowsWholeRow, StandIn, text_lines_at}
 use Rattle.promises.specs.Tables.{IsShownWhole, shown}
@@ -214,7 +214,7 @@ module _ (options : Options) (records : List (List Text)) (nothing : AsksForNoth
   look = options.look
 
   abbrev names : Option (List Text)
-  names = names_of options.has_header records
+  names = names_of options.selection.has_header records
 
   abbrev rows : List (List Text)
   rows = drawn_rows options records
@@ -223,16 +223,16 @@ module _ (options : Options) (records : List (List Text)) (nothing : AsksForNoth
   count = count_of (unwrap_or names []) rows
 
   -- all columns are drawn, in order
-  positions_are : (columns : List DrawnColumn) → kept_columns (unwrap_or names []) count options.columns.items options.dropped.items ≡ Ok (map (λ (column : DrawnColumn). column.position) columns)
+  positions_are : (columns : List DrawnColumn) → kept_columns (unwrap_or names []) count options.selection.columns.items options.selection.dropped.items ≡ Ok (map (λ (column : DrawnColumn). column.position) columns)
       → map (λ (column : DrawnColumn). column.position) columns ≡ range_with_len 0 count
   positions_are columns are =
-      let all : kept_columns (unwrap_or names []) count options.columns.items options.dropped.items ≡ Ok (range_with_len 0 count) =
+      let all : kept_columns (unwrap_or names []) count options.selection.columns.items options.selection.dropped.items ≡ Ok (range_with_len 0 count) =
       ap₂ (λ words dropped. kept_columns (unwrap_or names []) count words dropped) nothing.none_chosen nothing.none_dropped ∙ ap Ok (none_left_out (range_with_len 0 count)) in
       cc (all, are)
 
   -- and all records
   all_drawn : option_to_list names ++ rows ≡ records
-  all_drawn = ap (λ (limit : Option ℕ). option_to_list names ++ limited limit (records_below options.has_header records)) nothing.all_records ∙ all_records options.has_header records
+  all_drawn = ap (λ (limit : Option ℕ). option_to_list names ++ limited limit (records_below options.selection.has_header records)) nothing.all_records ∙ all_records options.selection.has_header records
 
   short_fields : All (All (EachLine IsShort look)) records
   short_fields =

@@ -16,24 +16,24 @@ use Rattle.comfy_parts.specs.Columns.{CharactersFit, IsOneColumnStyle}
 use Rattle.comfy_parts.specs.Text.{Text, measure}
 use Rattle.comfy_table.specs.Laws.{HasNoBreak}
 use Rattle.csv.specs.Records.{AllText}
-use Rattle.comfy_csv_parts.proofs.CleaningLemmas.{drawn_so}
-use Rattle.comfy_csv_parts.specs.Cells.{field_text, kept_by, kept_for_markdown, marked}
-use Rattle.comfy_csv_parts.specs.Cleaning.{cleaned, is_replaced, turns_direction}
-use Rattle.comfy_csv_parts.specs.Controls.{IsStyleWithoutControls}
-use Rattle.comfy_csv_parts.specs.declared.arguments.Asked.{Asked}
-use Rattle.comfy_csv_parts.specs.declared.arguments.Surroundings.{Surroundings}
-use Rattle.comfy_csv_parts.specs.declared.cleaning.Kept.{Kept}
-use Rattle.comfy_csv_parts.specs.declared.options.Look.{Look}
-use Rattle.comfy_csv_parts.specs.declared.options.Options.{Options}
-use Rattle.comfy_csv.proofs.CleanCharacterLemmas.{lines_pass}
-use Rattle.comfy_csv.proofs.OneOutputLemmas.{read_is_one}
-use Rattle.comfy_csv.proofs.OutputControlLemmas.{text_fields, unbroken_without}
-use Rattle.comfy_csv.proofs.MarkdownWidthLemmas.{whole_is_straight}
-use Rattle.comfy_csv.proofs.StraightLemmas.{IsShort, narrow_is_straight}
-use Rattle.comfy_csv.proofs.StyleColumnLemmas.{asked_style_is_one_column, asked_style_without_controls}
-use Rattle.comfy_csv.proofs.TextTableLemmas.{EachLine}
-use Rattle.comfy_csv.specs.Drawn.{IsOutputOf, IsOutputOfAny}
-use Rattle.comfy_csv.specs.Laws.{ArePlainLines, EachText, IsStraightOutput}
+use Rattle.csv_records.proofs.CleaningLemmas.{drawn_so}
+use Rattle.csv_tables.specs.Cells.{field_text, kept_by, kept_for_markdown, marked}
+use Rattle.csv_records.specs.Cleaning.{cleaned, is_replaced, turns_direction}
+use Rattle.csv_tables.specs.Controls.{IsStyleWithoutControls}
+use Rattle.csv_command.specs.declared.arguments.Asked.{Asked}
+use Rattle.csv_command.specs.declared.arguments.Surroundings.{Surroundings}
+use Rattle.csv_records.specs.declared.cleaning.Kept.{Kept}
+use Rattle.csv_tables.specs.declared.options.Look.{Look}
+use Rattle.csv_tables.specs.declared.options.Options.{Options}
+use Rattle.csv_tables.proofs.CleanCharacterLemmas.{lines_pass}
+use Rattle.csv_tables.proofs.OneOutputLemmas.{read_is_one}
+use Rattle.csv_tables.proofs.OutputControlLemmas.{text_fields, unbroken_without}
+use Rattle.csv_tables.proofs.MarkdownWidthLemmas.{whole_is_straight}
+use Rattle.csv_tables.proofs.StraightLemmas.{IsShort, narrow_is_straight}
+use Rattle.csv_command.proofs.StyleColumnLemmas.{asked_style_is_one_column, asked_style_without_controls}
+use Rattle.csv_tables.proofs.TextTableLemmas.{EachLine}
+use Rattle.csv_tables.specs.Drawn.{IsOutputOf, IsOutputOfAny}
+use Rattle.csv_tables.specs.Laws.{ArePlainLines, EachText, IsStraightOutput}
 use Rattle.promises.proofs.FittingLemmas.{text_fits}
 use Rattle.promises.specs.Tables.{HasCharactersWithin}
 use Rattle.csv_promises.proofs.LineLemmas.{nothing_is_straight, straight_text}

@@ -12,10 +12,10 @@ use Rattle.comfy_parts.specs.Presets.{utf8_full}
 use Rattle.comfy_parts.specs.Text.{Text, is_printable_ascii, measure}
 use Rattle.comfy_table.proofs.BreakLemmas.{terminated_lines}
 use Rattle.comfy_table.specs.Laws.{AreLinesOf}
-use Rattle.comfy_csv_parts.specs.declared.options.Expansion.TheVariants.{Auto}
-use Rattle.comfy_csv_parts.specs.declared.options.Look.{Look}
-use Rattle.comfy_csv_parts.specs.declared.options.Options.{Options}
-use Rattle.comfy_csv_parts.specs.declared.options.RowSeparators.TheVariants.{Styled}
+use Rattle.csv_tables.specs.declared.options.Expansion.TheVariants.{Auto}
+use Rattle.csv_tables.specs.declared.options.Look.{Look}
+use Rattle.csv_tables.specs.declared.options.Options.{Options}
+use Rattle.csv_tables.specs.declared.options.RowSeparators.TheVariants.{Styled}
 use Rattle.promises.specs.Kept.{StandIn}
 use Rattle.promises.specs.Shown.{IsHarmless, Shows}
 use Rattle.promises.specs.Shown.Shows.{nothing, byte, sequence}
@@ -131,7 +131,7 @@ no_words words = record words { len = 0; items = []; ok = (refl, omega arith) }
 
 -- options that ask for a header in bold, and for nothing else of a table
 abbrev asking : Options → Options
-asking options = record options { has_header = true; limit = None; columns = no_words options.columns; dropped = no_words options.dropped; look = bold }
+asking options = record options { has_header = true; limit = None; columns = no_words options.selection.columns; dropped = no_words options.selection.dropped; look = bold }
 
 asks_for_nothing : (options : Options) → AsksForNothing (asking options)
 asks_for_nothing options = record { all_records = refl; none_chosen = refl; none_dropped = refl; no_width = refl; uncut = refl; no_markdown = refl; no_sequences = refl }

@@ -2,15 +2,15 @@
 use Rattle.std.specs.Prelude.{◌≡◌, ◌<◌, ◌≤◌, true, false, List, [], ◌∷◌, None, All, length, map}
 use Rattle.std.specs.List.{AllZip}
 use Rattle.comfy_parts.specs.Text.{Text, is_printable_ascii}
-use Rattle.comfy_csv_parts.specs.declared.options.Options.{Options}
+use Rattle.csv_tables.specs.declared.options.Options.{Options}
 use Rattle.promises.specs.Kept.{StandIn}
 
 -- all records and all columns are drawn, nothing keeps to a width or a height, and the table is
 -- neither for Markdown nor for fields with sequences
 pub record AsksForNothing (options : Options) : Type 0 where
-  pub all_records : options.limit ≡ None
-  pub none_chosen : options.columns.items ≡ []
-  pub none_dropped : options.dropped.items ≡ []
+  pub all_records : options.selection.limit ≡ None
+  pub none_chosen : options.selection.columns.items ≡ []
+  pub none_dropped : options.selection.dropped.items ≡ []
   pub no_width : options.look.width ≡ None
   pub uncut : options.look.max_height ≡ None
   pub no_markdown : options.look.is_markdown ≡ false

@@ -4,7 +4,7 @@ use Rattle.std.specs.Char.{is_control}
 use Rattle.std.specs.List.{list_any}
 use Rattle.comfy_parts.specs.Text.{Text, measure}
 use Rattle.comfy_table.specs.Laws.{AreLinesOf}
-use Rattle.comfy_csv_parts.specs.Cleaning.{turns_direction}
+use Rattle.csv_records.specs.Cleaning.{turns_direction}
 use Rattle.promises.specs.Shown.{Shows}
 
 -- P holds of each field of each record

@@ -1,10 +1,11 @@
 -- Private: what is written of an input for words.
 use Rattle.std.specs.Prelude.{◌≡◌, false, List}
 use Rattle.comfy_parts.specs.Text.{Text}
-use Rattle.comfy_csv_parts.specs.Words.{IsAsked}
-use Rattle.comfy_csv_parts.specs.declared.arguments.Asked.{Asked}
-use Rattle.comfy_csv_parts.specs.declared.arguments.Surroundings.{Surroundings}
-use Rattle.comfy_csv.specs.Drawn.{AreRecordsFor, IsOutputFor}
+use Rattle.csv_command.specs.Words.{IsAsked}
+use Rattle.csv_command.specs.declared.arguments.Asked.{Asked}
+use Rattle.csv_command.specs.declared.arguments.Surroundings.{Surroundings}
+use Rattle.csv_records.specs.Reading.{AreRecordsFor}
+use Rattle.csv_tables.specs.Drawn.{IsOutputFor}
 
 -- words ask for a table of cleaned fields in which no sequences are kept; and these are the records
 -- of an input, and its output
@@ -14,5 +15,5 @@ pub record IsWritten (words : List Text) (surroundings : Surroundings) (asked : 
   pub tidy : asked.options.look.is_raw ≡ false
   pub unkept : asked.options.look.has_sequences ≡ false
   pub no_markdown : asked.options.look.is_markdown ≡ false
-  pub are : AreRecordsFor asked.options input records
+  pub are : AreRecordsFor asked.options.input input records
   pub made : IsOutputFor asked.options input output

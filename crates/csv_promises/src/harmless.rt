@@ -1,11 +1,13 @@
 //! No file speaks to your terminal.
 
 ghost use Rattle.std.specs.Prelude.{IfOk, IfSome, string_bytes};
-ghost use Rattle.comfy_csv.specs.Drawn.{IsOutputFor};
+ghost use Rattle.csv_tables.specs.Drawn.{IsOutputFor};
 ghost use Rattle.promises.specs.Shown.{IsHarmless};
 
-use comfy_csv::laws::outputs_hold_no_controls;
-use comfy_csv::{CsvError, Options, Surroundings, asked_of, draw, drawing_of};
+use csv_tables::laws::outputs_hold_no_controls;
+use csv_records::CsvError;
+use csv_tables::{Options, draw};
+use csv_command::{Surroundings, asked_of, drawing_of};
 use comfy_run::run::{MemorySink, MemorySource};
 use std::alloc::Global;
 

@@ -1,14 +1,16 @@
 //! Straight edges.
 
 ghost use Rattle.std.specs.Prelude.{IfOk, IfSome, map};
-ghost use Rattle.comfy_csv.specs.Drawn.{AreRecordsFor};
+ghost use Rattle.csv_records.specs.Reading.{AreRecordsFor};
 ghost use Rattle.csv_promises.specs.Straight.{EachField, IsPlainField, IsStraight};
 ghost use Rattle.csv_promises.specs.Written.{IsWritten};
 ghost use Rattle.promises.specs.Tables.{HasCharactersWithin};
 
 use crate::harmless::output_for;
-use comfy_csv::laws::{outputs_are_one, outputs_are_straight};
-use comfy_csv::{Asked, CsvError, Options, Records, Surroundings, asked_of, decoded, read_records};
+use csv_tables::laws::{outputs_are_one, outputs_are_straight};
+use csv_command::{Asked, Surroundings, asked_of};
+use csv_records::{CsvError, Records, decoded, read_records};
+use csv_tables::Options;
 use comfy_run::run::MemorySink;
 use std::alloc::Global;
 
@@ -78,9 +80,9 @@ fn written(
 
 // The records of an input.
 fn records_for(alloc: Global, input: &[u8], options: &Options) -> Result<Records, CsvError>
-    ensures { IfOk result (λ records. AreRecordsFor options.now input.now records) }
+    ensures { IfOk result (λ records. AreRecordsFor options.now.input input.now records) }
 {
     let bytes = Vec::from_slice(alloc, input)?;
-    let text = decoded(alloc, bytes, options.encoding)?;
+    let text = decoded(alloc, bytes, options.input.encoding)?;
     read_records(alloc, text.as_str(), options)
 }

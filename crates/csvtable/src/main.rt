@@ -1,7 +1,7 @@
 //! Draws the records of a CSV file as a table.
 #![tactic(auto)]
 
-use comfy_csv::run_with_arguments;
+use csv_command::run_with_arguments;
 use std::process::ExitCode;
 
 fn main(rt: HostRuntime) -> ExitCode {

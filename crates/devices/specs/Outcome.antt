@@ -1,5 +1,5 @@
 -- What happens in a run: what its devices tell before it and after it.
-use Rattle.std.specs.Prelude.{◌≡◌, ℕ, ◌<◌, Bool, false, ◌++◌, Option, Some, length}
+use Rattle.std.specs.Prelude.{◌≡◌, ◌<◌, Bool, false, ◌++◌, Option, Some, length}
 use Rattle.devices.specs.Device.{Bytes}
 
 -- what happened in a call: all bytes of the source, whether its end was seen, the bytes that were

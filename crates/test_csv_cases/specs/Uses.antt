@@ -1,10 +1,10 @@
 -- What the callers claim.
 use Rattle.std.specs.Prelude.{◌<◌, ◌≤◌, length}
 use Rattle.comfy_parts.specs.Text.{Text, measure}
-use Rattle.comfy_csv_parts.specs.declared.options.Options.{Options}
-use Rattle.comfy_csv.specs.Drawn.{IsOutputFor, IsOutputOf}
-use Rattle.comfy_csv.specs.Laws.{EachText}
-use Rattle.comfy_csv.specs.MarkdownLines.{GivesRecordsBack}
+use Rattle.csv_tables.specs.declared.options.Options.{Options}
+use Rattle.csv_tables.specs.Drawn.{IsOutputFor, IsOutputOf}
+use Rattle.csv_tables.specs.Laws.{EachText}
+use Rattle.csv_tables.specs.MarkdownLines.{GivesRecordsBack}
 
 -- the records of an input are given back by its output, where no field is too wide and a column is
 -- drawn

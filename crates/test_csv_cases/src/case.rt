@@ -2,7 +2,7 @@
 
 use crate::text::push_text;
 use crate::uses::output_for;
-use comfy_csv::{Asked, Surroundings, asked_of};
+use csv_command::{Asked, Surroundings, asked_of};
 use std::alloc::{AllocError, Global};
 
 // How many bytes an output has at most.

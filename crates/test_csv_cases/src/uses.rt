@@ -3,17 +3,17 @@
 ghost use Rattle.std.specs.Prelude.{◌≡◌, IfOk, IfSome, chars, false, string_bytes, true};
 ghost use Rattle.std.specs.List.{list_any};
 ghost use Rattle.comfy_parts.specs.VisibleText.{visible_text};
-ghost use Rattle.comfy_csv_parts.specs.Cleaning.{is_harmful, nothing_kept};
-ghost use Rattle.comfy_csv_parts.specs.Controls.{HasNoStrayControl};
-ghost use Rattle.comfy_csv.specs.Drawn.{IsOutputFor};
-ghost use Rattle.comfy_csv.specs.Laws.{IsLookWithoutControls};
+ghost use Rattle.csv_records.specs.Cleaning.{is_harmful, nothing_kept};
+ghost use Rattle.csv_tables.specs.Controls.{HasNoStrayControl};
+ghost use Rattle.csv_tables.specs.Drawn.{IsOutputFor};
+ghost use Rattle.csv_tables.specs.Laws.{IsLookWithoutControls};
 ghost use Rattle.test_csv_cases.specs.Uses.{GivesInputBack};
 
-use comfy_csv::laws::{
-    cleaned_fields_hold_no_controls, markdown_lines_give_back_their_fields,
-    outputs_hold_no_controls,
-};
-use comfy_csv::{CsvError, Kept, Options, Surroundings, asked_of, cleaned, draw};
+use csv_records::laws::cleaned_fields_hold_no_controls;
+use csv_tables::laws::{markdown_lines_give_back_their_fields, outputs_hold_no_controls};
+use csv_records::{CsvError, Kept, cleaned};
+use csv_tables::{Options, draw};
+use csv_command::{Surroundings, asked_of};
 use comfy_run::run::{MemorySink, MemorySource};
 use std::alloc::{AllocError, Global};
 

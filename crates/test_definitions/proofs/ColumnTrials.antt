@@ -2,7 +2,7 @@
 use Rattle.std.proofs.Common.{◌≡◌, List, [], ◌∷◌, Ok, Err, codes, map, refl}
 use Prim.Native.String.{String}
 use Rattle.comfy_parts.specs.Text.{Text}
-use Rattle.comfy_csv_parts.specs.Columns.{less, missing, positions_of_word}
+use Rattle.csv_tables.specs.Columns.{less, missing, positions_of_word}
 
 abbrev texts : List String → List Text
 texts words = map (λ (word : String). codes word) words

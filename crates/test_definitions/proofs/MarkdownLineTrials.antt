@@ -6,11 +6,11 @@ use Rattle.std.proofs.lemmas.Bool.{true≢false}
 use Rattle.comfy_parts.proofs.Computing.{wrapping}
 use Rattle.comfy_parts.specs.Presets.{ascii_full}
 use Rattle.csv.specs.Records.{field_at}
-use Rattle.comfy_csv_parts.specs.declared.options.DrawnColumn.{DrawnColumn}
-use Rattle.comfy_csv_parts.specs.declared.options.Expansion.TheVariants.{Never}
-use Rattle.comfy_csv_parts.specs.declared.options.Look.{Look}
-use Rattle.comfy_csv_parts.specs.declared.options.RowSeparators.TheVariants.{Styled}
-use Rattle.comfy_csv.specs.MarkdownLines.{GivesBack, parts_between_bars, read_part, without_outer_spaces}
+use Rattle.csv_tables.specs.declared.options.DrawnColumn.{DrawnColumn}
+use Rattle.csv_tables.specs.declared.options.Expansion.TheVariants.{Never}
+use Rattle.csv_tables.specs.declared.options.Look.{Look}
+use Rattle.csv_tables.specs.declared.options.RowSeparators.TheVariants.{Styled}
+use Rattle.csv_tables.specs.MarkdownLines.{GivesBack, parts_between_bars, read_part, without_outer_spaces}
 
 -- a line as its parts are read
 abbrev read : List ℕ → List (List ℕ)

@@ -3,9 +3,9 @@ use Rattle.std.proofs.Common.{◌≡◌, ℕ, zero, suc, true, false, List, [], 
 use Rattle.std.specs.Str.{chars}
 use Rattle.ucd_category.proofs.Computing.{ucd_category}
 use Rattle.comfy_parts.specs.Text.{Text}
-use Rattle.comfy_csv_parts.specs.ColumnLaws.{AreDistinct, AreKept, AreThere, Chooses, IsChosenBy}
-use Rattle.comfy_csv_parts.specs.Number.{is_number}
-use Rattle.comfy_csv_parts.specs.NumberLaws.{AreOfNumber}
+use Rattle.csv_tables.specs.ColumnLaws.{AreDistinct, AreKept, AreThere, Chooses, IsChosenBy}
+use Rattle.csv_records.specs.Number.{is_number}
+use Rattle.csv_records.specs.NumberLaws.{AreOfNumber}
 
 -- ---- numbers
 

@@ -13,15 +13,15 @@ use Rattle.comfy_parts.specs.declared.style.table_style.TableStyle.{TableStyle}
 use Rattle.comfy_table.specs.Drawing.{drawing, terminated_text_of}
 use Rattle.comfy_table.specs.TableValue.{TableValue, with_header, with_rows}
 use Rattle.csv.specs.Records.{field_at}
-use Rattle.comfy_csv_parts.specs.Cells.{field_text, header_for, row_for}
-use Rattle.comfy_csv_parts.specs.Controls.{HasNoStrayControl, IsStyleWithoutControls, is_stray_control}
-use Rattle.comfy_csv_parts.specs.Styles.{style_for}
-use Rattle.comfy_csv_parts.specs.declared.options.Expansion.TheVariants.{Auto}
-use Rattle.comfy_csv_parts.specs.declared.options.RowSeparators.TheVariants.{Styled}
-use Rattle.comfy_csv_parts.specs.declared.options.DrawnColumn.{DrawnColumn}
-use Rattle.comfy_csv_parts.specs.declared.options.Look.{Look}
-use Rattle.comfy_csv.specs.Drawn.{empty_table}
-use Rattle.comfy_csv.specs.Laws.{IsLookWithoutControls}
+use Rattle.csv_tables.specs.Cells.{field_text, header_for, row_for}
+use Rattle.csv_tables.specs.Controls.{HasNoStrayControl, IsStyleWithoutControls, is_stray_control}
+use Rattle.csv_command.specs.Styles.{style_for}
+use Rattle.csv_tables.specs.declared.options.Expansion.TheVariants.{Auto}
+use Rattle.csv_tables.specs.declared.options.RowSeparators.TheVariants.{Styled}
+use Rattle.csv_tables.specs.declared.options.DrawnColumn.{DrawnColumn}
+use Rattle.csv_tables.specs.declared.options.Look.{Look}
+use Rattle.csv_tables.specs.Drawn.{empty_table}
+use Rattle.csv_tables.specs.Laws.{IsLookWithoutControls}
 use Rattle.test_definitions.proofs.TrialTables.{utf8}
 
 -- ---- texts

@@ -9,14 +9,14 @@ use Rattle.comfy_parts.specs.Presets.{ascii_full}
 use Rattle.comfy_parts.specs.Text.{Text, measure}
 use Rattle.comfy_table.proofs.BreakLemmas.{terminated_lines}
 use Rattle.comfy_table.specs.Laws.{AreLinesOf}
-use Rattle.comfy_csv_parts.specs.Cleaning.{visible_of}
-use Rattle.comfy_csv_parts.specs.declared.arguments.Asked.{Asked}
-use Rattle.comfy_csv_parts.specs.declared.options.Expansion.TheVariants.{Never}
-use Rattle.comfy_csv_parts.specs.declared.options.Look.{Look}
-use Rattle.comfy_csv_parts.specs.declared.options.Options.{Options}
-use Rattle.comfy_csv_parts.specs.declared.options.RowSeparators.TheVariants.{Styled}
-use Rattle.comfy_csv.specs.Laws.{EachLineHas, HasLines, IsOutputWith, IsStraightOutput, IsWithin, seen_lines}
-use Rattle.comfy_csv.specs.OneOutput.{AreSameAsked, AreSameOptions}
+use Rattle.csv_records.specs.Cleaning.{visible_of}
+use Rattle.csv_command.specs.declared.arguments.Asked.{Asked}
+use Rattle.csv_tables.specs.declared.options.Expansion.TheVariants.{Never}
+use Rattle.csv_tables.specs.declared.options.Look.{Look}
+use Rattle.csv_tables.specs.declared.options.Options.{Options}
+use Rattle.csv_tables.specs.declared.options.RowSeparators.TheVariants.{Styled}
+use Rattle.csv_tables.specs.Laws.{EachLineHas, HasLines, IsOutputWith, IsStraightOutput, IsWithin, seen_lines}
+use Rattle.csv_tables.specs.OneOutput.{AreSameAsked, AreSameOptions}
 use Rattle.comfy_table.specs.TableValue.{TableValue}
 
 -- rows are never expanded, and all are drawn

@@ -5,7 +5,7 @@ use Rattle.std.specs.List.{list_all, range_with_len}
 use Rattle.comfy_parts.specs.Text.{Text}
 use Rattle.csv.specs.Reading.{strip_bom}
 use Rattle.csv.specs.declared.parser.State.TheVariants as st
-use Rattle.comfy_csv_parts.specs.Quotes.{IsUnclosed, is_in_quoted_field, state_after}
+use Rattle.csv_records.specs.Quotes.{IsUnclosed, is_in_quoted_field, state_after}
 
 abbrev texts : List String → List Text
 texts words = map (λ (word : String). codes word) words

@@ -9,14 +9,14 @@ use Rattle.csv.specs.Machine.{next_record}
 use Rattle.csv.specs.Reading.{records_from, strip_bom}
 use Rattle.ucd_category.proofs.Computing.{ucd_category}
 use Rattle.comfy_parts.specs.Text.{Text}
-use Rattle.comfy_csv.specs.Ending.{input_name, reading_reason, reason_for}
-use Rattle.comfy_csv_parts.specs.Delimiter.{below_lines, delimited, delimiter_in}
-use Rattle.comfy_csv_parts.specs.Unbroken.{is_unbroken}
-use Rattle.comfy_csv_parts.specs.Words.{delimiter_for, encoding_for}
-use Rattle.comfy_csv_parts.specs.declared.delimiter.Delimiter.{Delimiter}
-use Rattle.comfy_csv_parts.specs.declared.delimiter.Delimiter.TheVariants.{Auto, Byte, NamedOrTab}
-use Rattle.comfy_csv_parts.specs.declared.encoding.Encoding.TheVariants.{Cp1252, Utf16, Utf8}
-use Rattle.comfy_csv_parts.specs.declared.error.CsvError.TheVariants as err
+use Rattle.csv_command.specs.Ending.{input_name, reading_reason, reason_for}
+use Rattle.csv_records.specs.Delimiter.{below_lines, delimited, delimiter_in}
+use Rattle.csv_tables.specs.Unbroken.{is_unbroken}
+use Rattle.csv_command.specs.Words.{delimiter_for, encoding_for}
+use Rattle.csv_records.specs.declared.delimiter.Delimiter.{Delimiter}
+use Rattle.csv_records.specs.declared.delimiter.Delimiter.TheVariants.{Auto, Byte, NamedOrTab}
+use Rattle.csv_records.specs.declared.encoding.Encoding.TheVariants.{Cp1252, Utf16, Utf8}
+use Rattle.csv_records.specs.declared.error.CsvError.TheVariants as err
 
 abbrev texts : List String → List Text
 texts words = map (λ (word : String). codes word) words

@@ -10,27 +10,27 @@ use Rattle.std.specs.Str.{IsUtf8, chars, is_utf8}
 use Rattle.std.proofs.lemmas.Str.{is_utf8-from_IsUtf8}
 use Rattle.ucd_category.proofs.Computing.{ucd_category}
 use Rattle.csv.specs.Records.{AllText, field_at}
-use Rattle.comfy_csv_parts.specs.Cleaning.{after_piece, pieces, start}
-use Rattle.comfy_csv_parts.specs.Input.{line_breaks as line_breaks_of, line_of}
-use Rattle.comfy_csv_parts.specs.declared.cleaning.Kept.{Kept}
-use Rattle.comfy_csv_parts.specs.Columns.{alignment_for, columns_with, missing, position_named, positions_of_word, seen, two_sided}
-use Rattle.comfy_csv.specs.Drawn.{condensed_style, is_expanded_in, least_width, limited, note_for, record_line}
-use Rattle.comfy_csv_parts.specs.Markdown.{rule_line}
-use Rattle.comfy_csv_parts.specs.declared.options.Expansion.TheVariants.{Always, Auto, Never}
+use Rattle.csv_records.specs.Cleaning.{after_piece, pieces, start}
+use Rattle.csv_records.specs.Input.{line_breaks as line_breaks_of, line_of}
+use Rattle.csv_records.specs.declared.cleaning.Kept.{Kept}
+use Rattle.csv_tables.specs.Columns.{alignment_for, columns_with, missing, position_named, positions_of_word, seen, two_sided}
+use Rattle.csv_tables.specs.Drawn.{condensed_style, is_expanded_in, least_width, limited, note_for, record_line}
+use Rattle.csv_tables.specs.Markdown.{rule_line}
+use Rattle.csv_tables.specs.declared.options.Expansion.TheVariants.{Always, Auto, Never}
 use Rattle.comfy_parts.specs.CellValue.{plain_cell, plain_row}
 use Rattle.comfy_parts.specs.Presets.{ascii_full}
 use Rattle.comfy_table.specs.TableValue.{TableValue, new_table, with_rows}
-use Rattle.comfy_csv_parts.specs.Markdown.{escaped, unescaped}
-use Rattle.comfy_csv_parts.specs.Number.{is_neutral, is_number}
+use Rattle.csv_tables.specs.Markdown.{escaped, unescaped}
+use Rattle.csv_records.specs.Number.{is_neutral, is_number}
 use Rattle.clap.proofs.OnLiterals.{clap_on_literals}
 use Rattle.clap.specs.Words.{first_of, matches_of}
-use Rattle.comfy_csv_parts.specs.Program.{csvtable_rules, with_rules, wordless}
-use Rattle.comfy_csv_parts.specs.Words.{file_for, is_bold_for, separators_for, terminal_width, wants_color, width_for, words_in}
-use Rattle.comfy_csv_parts.specs.Numerals.{number_for}
-use Rattle.comfy_csv_parts.specs.Shown.{shown_in}
-use Rattle.comfy_csv_parts.specs.Styles.{style_for}
-use Rattle.comfy_csv_parts.specs.declared.arguments.Surroundings.{Surroundings}
-use Rattle.comfy_csv_parts.specs.declared.options.RowSeparators.TheVariants.{Styled, Needed, Never}
+use Rattle.csv_command.specs.Program.{csvtable_rules, with_rules, wordless}
+use Rattle.csv_command.specs.Words.{file_for, is_bold_for, separators_for, terminal_width, wants_color, width_for, words_in}
+use Rattle.csv_records.specs.Numerals.{number_for}
+use Rattle.csv_records.specs.Shown.{shown_in}
+use Rattle.csv_command.specs.Styles.{style_for}
+use Rattle.csv_command.specs.declared.arguments.Surroundings.{Surroundings}
+use Rattle.csv_tables.specs.declared.options.RowSeparators.TheVariants.{Styled, Needed, Never}
 use Rattle.comfy_parts.specs.Presets.{nothing, utf8_full, utf8_full_condensed}
 use Rattle.comfy_parts.specs.StyleModifiers.{with_rounded_corners}
 

@@ -12,8 +12,7 @@ use Rattle.comfy_parts.specs.Text.{Text}
 use Rattle.comfy_parts.specs.declared.style.column.ColumnConstraint.{ColumnConstraint}
 use Rattle.comfy_parts.specs.declared.style.column.ColumnConstraint.TheVariants.{ContentWidth}
 use Rattle.comfy_table.specs.TableValue.{TableValue, column_content_width, new_table, with_rows}
-use Rattle.comfy_csv_parts.specs.Unbroken.{is_unbroken, is_unbroken_column}
-use Rattle.comfy_csv.specs.Unbroken.{framed_width, kept_whole, needed_contents}
+use Rattle.csv_tables.specs.Unbroken.{framed_width, is_unbroken, is_unbroken_column, kept_whole, needed_contents}
 
 abbrev texts : List String → List Text
 texts words = map (λ (word : String). codes word) words

@@ -6,7 +6,7 @@ use Rattle.clap.specs.Words.{App, IsAmong, Rule, fault_of}
 use Rattle.clap.specs.declared.error.kind.ErrorKind.{ErrorKind}
 use Rattle.clap.specs.declared.error.kind.ErrorKind.TheVariants as kind
 use Rattle.comfy_parts.specs.Text.{Text}
-use Rattle.comfy_csv_parts.specs.Program.{csvtable_rules, with_rules, wordless}
+use Rattle.csv_command.specs.Program.{csvtable_rules, with_rules, wordless}
 
 -- the program's command, whose values may have any name
 abbrev app : App

@@ -2,7 +2,8 @@
 //! them follows from the rules, since each is one piece many times over.
 
 use crate::support::{assert_bytes, sink_of};
-use comfy_csv::{Delimiter, Expansion, Look, Options, RowSeparators, draw};
+use csv_records::Delimiter;
+use csv_tables::{Expansion, Look, Options, RowSeparators, draw};
 use comfy_run::run::{FromReader, MemorySource, Settings, ToWriter, run};
 use comfy_table::ContentArrangement;
 use comfy_table::presets::ASCII_FULL;

@@ -1,7 +1,8 @@
 //! The words of `csvtable`'s errors, delimiters that its words can't ask for, and encodings.
 
 use super::large::options;
-use comfy_csv::{CsvError, Delimiter, Encoding, Options, decoded, read_records, table_of};
+use csv_records::{CsvError, Delimiter, Encoding, decoded, read_records};
+use csv_tables::{Options, table_of};
 use std::alloc::{Alloc, Global};
 use std::process::Abort;
 
@@ -29,7 +30,7 @@ fn refusals_have_their_words(rt: HostRuntime) {
 // What reads records between this byte.
 fn between(alloc: Global, delimiter: u8) -> Options {
     let mut options = options(alloc, None, false);
-    options.delimiter = Delimiter::Byte(delimiter);
+    options.input.delimiter = Delimiter::Byte(delimiter);
     options
 }
 
@@ -61,7 +62,7 @@ fn records_become_a_table(rt: HostRuntime) {
         "| name | days |\n+=============+\n| oats |    3 |\n|------+------|\n| rye  |   14 |";
     assert!(rt; drawing.contains(rows));
     let word = String::from_str(rt.alloc(), "weeks").expect(&rt, "memory");
-    options.columns.push(word).expect(&rt, "memory");
+    options.selection.columns.push(word).expect(&rt, "memory");
     let records = read_records(rt.alloc(), text, &options).expect(&rt, "records");
     let refused = table_of(rt.alloc(), records, &options);
     assert!(rt; matches!(&refused, Err(CsvError::NoColumn(name)) if name.as_str() == "weeks"));

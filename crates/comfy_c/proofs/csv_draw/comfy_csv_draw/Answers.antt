@@ -1,6 +1,6 @@
 use Rattle.std.proofs.Common.{◌≡◌, ◌∙◌, ap, length, rules, string_bytes, subst, sym, tests}
-use Rattle.comfy_csv.specs.declared.drawing.Refusal.{Refusal}
-use Rattle.comfy_csv.specs.declared.drawing.Refusal.TheVariants.{Input}
+use Rattle.csv_command.specs.declared.drawing.Refusal.{Refusal}
+use Rattle.csv_command.specs.declared.drawing.Refusal.TheVariants.{Input}
 use Rattle.comfy_parts.specs.Text.{Text}
 use Rattle.comfy_c.proofs.CallLemmas.{handed, in_front}
 use Rattle.comfy_c.specs.Calls.{IsCsvDrawing, IsCsvRefusal, IsInputMessage}

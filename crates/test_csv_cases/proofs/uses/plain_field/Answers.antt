@@ -1,7 +1,7 @@
 use Rattle.std.proofs.Common.{◌≡◌, ap, chars, false, string_bytes, ◌∙◌}
 use Rattle.std.proofs.lemmas.Result.{IfOk-weaker}
 use Rattle.std.specs.List.{list_any}
-use Rattle.comfy_csv_parts.specs.Cleaning.{cleaned, is_harmful, nothing_kept}
+use Rattle.csv_records.specs.Cleaning.{cleaned, is_harmful, nothing_kept}
 use Rattle.comfy_parts.specs.Text.{Text}
 use Rattle.test_csv_cases.proofs.uses.plain_field.Goals as goal
 

@@ -1,6 +1,0 @@
-use Rattle.std.proofs.Common.{◌≡◌, chars, fold}
-use Rattle.comfy_csv_parts.specs.Cleaning.{after_piece, pieces, start}
-use Rattle.comfy_csv_parts.proofs.cleaning.cleaned.Given as goal
-
-abbrev pub invariant-loop-piece : goal.invariant-loop-piece
-invariant-loop-piece l = fold (after_piece l.kept) l.cleaner l.piece-iterator ≡ fold (after_piece l.kept) start (pieces l.kept.sequences (chars l.field))

@@ -1,6 +1,0 @@
-use Rattle.std.proofs.Common.{arith}
-use Rattle.std.proofs.lemmas.Grind.{common_steps}
-use Rattle.comfy_csv_parts.proofs.columns.drawn_columns.Goals as goal
-
-pub loop-position-preserved : goal.loop-position-preserved
-loop-position-preserved c = grind (arith, common_steps)

@@ -1,6 +1,0 @@
-use Rattle.std.proofs.Common.{◌≡◌, ◌++◌, drop, string_bytes}
-use Rattle.comfy_csv_parts.specs.Encoding.{cp1252_text}
-use Rattle.comfy_csv_parts.proofs.encoding.cp1252_text.Given as goal
-
-abbrev pub invariant-loop-byte : goal.invariant-loop-byte
-invariant-loop-byte l = string_bytes l.text ++ cp1252_text (drop l.byte-index l.input) ≡ cp1252_text l.input

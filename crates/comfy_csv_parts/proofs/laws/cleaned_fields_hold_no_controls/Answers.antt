@@ -1,8 +1,0 @@
-use Rattle.comfy_csv_parts.proofs.ControlLemmas.{cleaned_once, no_controls}
-use Rattle.comfy_csv_parts.proofs.laws.cleaned_fields_hold_no_controls.Goals as goal
-
-pub returns-clause-none : goal.returns-clause-none
-returns-clause-none c = no_controls
-
-pub returns-clause-once : goal.returns-clause-once
-returns-clause-once c = cleaned_once

@@ -1,5 +1,0 @@
-use Rattle.comfy_csv_parts.proofs.StyleLemmas.{styles_without_controls}
-use Rattle.comfy_csv_parts.proofs.laws.styles_for_words_hold_no_controls.Goals as goal
-
-pub returns : goal.returns
-returns c = styles_without_controls

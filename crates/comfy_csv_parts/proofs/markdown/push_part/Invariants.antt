@@ -1,6 +1,0 @@
-use Rattle.std.proofs.Common.{◌≡◌, ◌++◌, string_bytes, codes}
-use Rattle.std.specs.List.{repeat}
-use Rattle.comfy_csv_parts.proofs.markdown.push_part.Given as goal
-
-abbrev pub invariant-loop : goal.invariant-loop
-invariant-loop l = string_bytes l.text ≡ string_bytes l.initial.text ++ repeat l.counter (codes "-")

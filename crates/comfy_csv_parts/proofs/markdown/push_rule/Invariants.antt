@@ -1,6 +1,0 @@
-use Rattle.std.proofs.Common.{◌≡◌, ◌++◌, flat_map, map, string_bytes}
-use Rattle.comfy_csv_parts.specs.Markdown.{rule_part}
-use Rattle.comfy_csv_parts.proofs.markdown.push_rule.Given as goal
-
-abbrev pub invariant-loop-column : goal.invariant-loop-column
-invariant-loop-column l = string_bytes l.text ≡ string_bytes l.initial.text ++ flat_map rule_part (map (λ p. (p.0.now, p.1.now)) l.yielded)

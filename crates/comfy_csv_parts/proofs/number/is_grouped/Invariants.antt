@@ -1,6 +1,0 @@
-use Rattle.std.specs.Str.Iter.{chars_rest}
-use Rattle.comfy_csv_parts.proofs.NumberLemmas.{IsWalked}
-use Rattle.comfy_csv_parts.proofs.number.is_grouped.Given as goal
-
-abbrev pub invariant-loop-c : goal.invariant-loop-c
-invariant-loop-c l = IsWalked l.mark l.text (chars_rest l.c-iterator) l.is_first l.count

@@ -1,0 +1,8 @@
+pub mod NamedStyleLemmas
+pub mod OneAskedLemmas
+pub mod OneParseLemmas
+pub mod ProgramLemmas
+pub mod RefusalLemmas
+pub mod StyleColumnLemmas
+pub mod StyleLemmas
+pub mod ValueLemmas

@@ -1,0 +1,17 @@
+use Rattle.std.proofs.Common.{◌∙◌, not, ap}
+use Rattle.std.specs.Str.Parse.{ParsesUnsigned, ExplainsUnsignedError, HasUnsignedDigitsIfOk}
+use Rattle.csv_command.proofs.ValueLemmas.{of_found}
+use Rattle.csv_command.specs.Words.{words_in}
+use Rattle.csv_command.proofs.arguments.selection_of.Goals as goal
+
+pub returns : goal.returns
+returns c =
+    let limit = of_found 64 _ (λ word r. ParsesUnsigned 64 10 word r × ExplainsUnsignedError 10 word r × HasUnsignedDigitsIfOk word r) (λ word r h. h.0) _ c.get_one.result c.get_one.ensures.none c.get_one.ensures.value in
+    record {
+      header = ap not c.is_given.ensures;
+      limit = limit;
+      columns = c.in_ok-words_of.ensures ∙ ap words_in c.get_str.ensures;
+      dropped = c.in_ok-words_of-2.ensures ∙ ap words_in c.get_str-2.ensures;
+      right = c.in_ok-words_of-3.ensures ∙ ap words_in c.get_str-3.ensures;
+      left = c.in_ok-words_of-4.ensures ∙ ap words_in c.get_str-4.ensures;
+    }

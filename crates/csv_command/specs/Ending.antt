@@ -1,0 +1,155 @@
+-- How the program ends: its status, and what it says.
+use Rattle.std.specs.Prelude.{◌≡◌, ℕ, Bool, true, false, ◌++◌, [], MatchResult, Option, Some, None, chars, codes, decimal, option_map, string_bytes}
+use Rattle.std.specs.List.{list_any}
+use Rattle.std.specs.declared.io.ErrorKind.{ErrorKind as IoErrorKind}
+use Rattle.std.specs.declared.io.ErrorKind.TheVariants as io
+use Rattle.clap.specs.declared.error.kind.ErrorKind.{ErrorKind}
+use Rattle.clap.specs.declared.error.kind.ErrorKind.TheVariants as kind
+use Rattle.comfy_parts.specs.Text.{Text}
+use Rattle.csv_records.specs.Cleaning.{is_harmful, nothing_kept}
+use Rattle.csv_records.specs.Shown.{shown_text}
+use Rattle.csv_command.specs.declared.arguments.Asked.{Asked}
+use Rattle.csv_records.specs.declared.encoding.Encoding.{Encoding}
+use Rattle.csv_records.specs.declared.error.CsvError.{CsvError}
+use Rattle.csv_records.specs.declared.error.CsvError.TheVariants as err
+use Rattle.csv_command.specs.declared.ending.Drawing.{Drawing}
+use Rattle.csv_command.specs.declared.ending.Ending.{Ending}
+use Rattle.csv_command.specs.declared.ending.Said.{Said}
+use Rattle.csv_command.specs.declared.ending.Said.TheVariants as said
+
+-- a name in a message
+abbrev pub shown_name : Text → Text
+shown_name name = shown_text false name
+
+-- the input in a message
+abbrev pub input_name : Option Text → Text
+input_name None = codes "standard input"
+input_name (Some path) = shown_name path
+
+-- why it can't be opened or read, by the kind of the error
+abbrev pub reading_reason : Option IoErrorKind → Text
+reading_reason (Some io.NotFound) = codes "no such file"
+reading_reason (Some io.IsADirectory) = codes "is a directory"
+reading_reason (Some io.PermissionDenied) = codes "permission denied"
+reading_reason _ = codes "can't be read"
+
+-- what helps where no encoding was asked for
+abbrev pub encoding_hint : Option Encoding → Text
+encoding_hint None = codes "; try -e cp1252"
+encoding_hint (Some encoding) = []
+
+-- why there is no drawing
+abbrev pub reason_for : Option Encoding → Option IoErrorKind → CsvError → Text
+reason_for encoding fault err.Read = reading_reason fault
+reason_for encoding fault err.Write = codes "the output can't be written"
+reason_for encoding fault (err.NotUtf8 number) =
+    ((codes "line " ++ decimal number) ++ codes " isn't UTF-8") ++ encoding_hint encoding
+reason_for encoding fault (err.NotUtf16 number) =
+    (codes "line " ++ decimal number) ++ codes " isn't UTF-16"
+reason_for encoding fault (err.Unclosed number) =
+    (codes "a quote that opens in line " ++ decimal number)
+    ++ codes " is never closed; try --no-quotes"
+reason_for encoding fault err.SplitCharacter = codes "the delimiter splits a character"
+reason_for encoding fault (err.NoColumn name) = codes "no column " ++ shown_name (string_bytes name)
+reason_for encoding fault (err.TwoSides name) =
+    (codes "column " ++ shown_name (string_bytes name))
+    ++ codes " can't stand at the right and at the left"
+reason_for encoding fault err.OutOfMemory = codes "out of memory"
+
+-- an error is of the input, so that its message names it
+abbrev pub is_of_input : CsvError → Bool
+is_of_input err.Write = false
+is_of_input err.OutOfMemory = false
+is_of_input _ = true
+
+-- what a message begins with
+abbrev pub about : Bool → Option Text → Text
+about true file = (codes "csvtable: " ++ input_name file) ++ codes ": "
+about false file = codes "csvtable: "
+
+-- the line on an error
+abbrev pub message_for : Asked → Option IoErrorKind → CsvError → Text
+message_for asked fault e =
+    (about (is_of_input e) (option_map string_bytes asked.file)
+    ++ reason_for asked.options.input.encoding fault e) ++ codes "\n"
+
+-- the line where a word isn't UTF-8
+abbrev pub word_not_utf8 : Text
+word_not_utf8 = codes "csvtable: a word isn't UTF-8\n"
+
+-- the line where the output can't be written
+abbrev pub output_unwritten : Text
+output_unwritten = codes "csvtable: the output can't be written\n"
+
+abbrev pub no_memory : Text
+no_memory = codes "csvtable: out of memory\n"
+
+-- what is said
+abbrev pub text_of : Said → Text
+text_of said.Nothing = []
+text_of said.OutOfMemory = no_memory
+text_of said.NotUtf8 = word_not_utf8
+text_of said.Unwritten = output_unwritten
+text_of (said.Text text) = string_bytes text
+
+-- P holds of the text that is said, or there is no memory for it
+abbrev pub Says : (Text → Type 0) → Said → Type 0
+Says P said.Nothing = ⊥
+Says P said.OutOfMemory = Unit {0}
+Says P said.NotUtf8 = ⊥
+Says P said.Unwritten = ⊥
+Says P (said.Text text) = P (string_bytes text)
+
+-- the status is n, and nothing is said
+pub record IsSilent (n : ℕ) (ending : Ending) : Type 0 where
+  pub status : ending.status ≡ n
+  pub silent : ending.said ≡ said.Nothing
+
+-- the status is n, and this line, for which no memory is needed, is said on standard error
+pub record IsLine (n : ℕ) (line : Said) (ending : Ending) : Type 0 where
+  pub status : ending.status ≡ n
+  pub is_message : ending.is_message ≡ true
+  pub said : ending.said ≡ line
+
+-- the status is n, and P holds of what is said on standard error
+pub record IsMessage (n : ℕ) (P : Text → Type 0) (ending : Ending) : Type 0 where
+  pub status : ending.status ≡ n
+  pub is_message : ending.is_message ≡ true
+  pub said : Says P ending.said
+
+-- the end after an error, by whether the reader of the output has ended: then nothing is said
+abbrev pub IsEndOfError : Drawing → CsvError → Bool → Ending → Type 0
+IsEndOfError drawing err.Write true ending = IsSilent 1 ending
+IsEndOfError drawing err.Write false ending = IsLine 1 said.Unwritten ending
+IsEndOfError drawing err.OutOfMemory is_unread ending = IsLine 1 said.OutOfMemory ending
+IsEndOfError drawing e is_unread ending =
+    IsMessage 1 (λ text. text ≡ message_for drawing.asked.now drawing.fault e) ending
+
+-- the end of a drawing, by its result
+abbrev pub IsEndOfDrawing : Drawing → Ending → Type 0
+IsEndOfDrawing drawing ending =
+    MatchResult drawing.result (λ _. IsSilent 0 ending)
+    (λ e. IsEndOfError drawing e drawing.is_unread ending)
+
+-- no control character but line feeds, and none that turns the direction of text
+abbrev pub IsHarmless : Text → Type 0
+IsHarmless text = list_any (is_harmful nothing_kept) (chars text) ≡ false
+
+-- the end where clap prints help or the version
+pub record IsHelp (ending : Ending) : Type 0 where
+  pub status : ending.status ≡ 0
+  pub no_message : ending.is_message ≡ false
+  pub said : Says IsHarmless ending.said
+
+-- the end where clap has something to say, by its kind
+abbrev pub IsEndOfWords : ErrorKind → Ending → Type 0
+IsEndOfWords kind.OutOfMemory ending = IsLine 1 said.OutOfMemory ending
+IsEndOfWords kind.DisplayHelp ending = IsHelp ending
+IsEndOfWords kind.DisplayVersion ending = IsHelp ending
+IsEndOfWords _ ending = IsMessage 2 IsHarmless ending
+
+-- the end where words couldn't be read, by the kind of fault: one isn't UTF-8, or there is no
+-- memory
+abbrev pub IsEndWithoutWords : IoErrorKind → Ending → Type 0
+IsEndWithoutWords io.InvalidData ending = IsLine 2 said.NotUtf8 ending
+IsEndWithoutWords _ ending = IsLine 1 said.OutOfMemory ending

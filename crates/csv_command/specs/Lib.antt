@@ -1,0 +1,7 @@
+pub mod Ending
+pub mod Laws
+pub mod Program
+pub mod Refusals
+pub mod Rules
+pub mod Styles
+pub mod Words

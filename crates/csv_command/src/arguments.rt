@@ -1,0 +1,438 @@
+//! The words after the program's name, and what they ask for.
+
+ghost use Rattle.std.specs.Prelude.{◌≡◌, ◌≢◌, ◌==◌, ◌&&◌, IfOk, IfErr, Some, codes, map, option_map, string_bytes};
+ghost use Rattle.std.specs.List.{list_any, slice_split};
+ghost use Rattle.clap.specs.Words.{app_of, first_value, found_of, kind_of};
+ghost use Rattle.clap.specs.declared.error.kind.ErrorKind.TheVariants.{InvalidValue, OutOfMemory};
+ghost use Rattle.csv_command.specs.Program.{IsCsvtable};
+ghost use Rattle.csv_command.specs.Words.{InputIsAsked, IsAsked, IsWordRefusal, LookIsAsked, OptionsAreAsked, SelectionIsAsked, are_exclusive, delimiter_by, delimiter_for, encoding_for, expansion_for, file_for, has_end, is_bold_for, is_bold_there, is_given, is_markdown_in, separators_for, some_columns, some_width, terminal_width, wanted_delimiter, wants_color, width_for, words_in};
+
+use crate::styles::{is_compact, is_named, style_names, style_of};
+use crate::words::command;
+use clap::error::ErrorKind;
+use clap::parser::ArgMatches;
+use clap::{Command, Error};
+use csv_records::{Delimiter, Encoding, InputOptions, number_of, only_ascii};
+use csv_tables::{Expansion, Look, Options, RowSeparators, Selection};
+use std::alloc::{AllocError, Global};
+
+// The width of a terminal that doesn't say its own.
+const TERMINAL_WIDTH: u16 = 80;
+
+// Options that exclude each other.
+static EXCLUSIVE_OPTIONS: [(&str, &str); 4] = [
+    ("tabs", "delimiter"),
+    ("markdown", "style"),
+    ("rows", "no-rows"),
+    ("all-expanded", "expanded"),
+];
+
+// Options that a table for Markdown excludes.
+static NOT_BESIDE_MARKDOWN: [&str; 7] = [
+    "width",
+    "full",
+    "all-expanded",
+    "expanded",
+    "max-height",
+    "ansi",
+    "raw",
+];
+
+/// What the words ask for.
+#[derive(Debug)]
+pub struct Asked {
+    /// How the records are drawn.
+    pub options: Options,
+    /// The file to read; standard input where there is none.
+    pub file: Option<String>,
+}
+
+impl Drop for Asked {
+    fn drop(self) {
+        let Asked {
+            options: _,
+            file: _,
+        } = self;
+    }
+}
+
+/// What is known of where the output goes.
+#[derive(Clone, Copy, Debug)]
+pub struct Surroundings<'a> {
+    /// Whether standard output is a terminal.
+    pub is_terminal: bool,
+    /// What the environment has as `COLUMNS`, where that is text.
+    pub columns: Option<&'a str>,
+    /// What it has as `NO_COLOR`, where that is text.
+    pub no_color: Option<&'a str>,
+}
+
+/// What these words ask for; the first one is the program's name. Help, the version and words that
+/// aren't known are returned as errors, as clap has them, and so are options that exclude each
+/// other, and a delimiter that is none. All that is asked for follows from the values that clap
+/// finds for the program's options, and from the surroundings.
+pub fn asked_of<'a>(
+    alloc: Global,
+    words: &'a [&'a str],
+    surroundings: Surroundings<'_>,
+) -> Result<Asked, Error>
+    ensures ok { IfOk result (λ asked.
+        IsAsked (map (λ w. w.now) words.entry.now) surroundings.entry asked) }
+    ensures refused { IfErr result (λ e. IsWordRefusal (map (λ w. w.now) words.entry.now) e) }
+{
+    let styles = style_names(alloc)?;
+    let mut command = command(alloc, styles.as_slice())?;
+    asked_by(alloc, &mut command, words, surroundings)
+}
+
+fn asked_by<'a>(
+    alloc: Global,
+    command: &mut Command<'a>,
+    words: &'a [&'a str],
+    surroundings: Surroundings<'_>,
+) -> Result<Asked, Error>
+    requires { IsCsvtable (app_of command.old) }
+    ensures ok { IfOk result (λ asked.
+        IsAsked (map (λ w. w.now) words.entry.now) surroundings.entry asked) }
+    ensures refused { IfErr result (λ e. IsWordRefusal (map (λ w. w.now) words.entry.now) e) }
+{
+    let matches = command.try_get_matches_from_mut(words)?;
+    if are_exclusive(&matches) {
+        return Err(refusal(
+            command,
+            "options that exclude each other:
+  -t and -d, --markdown and --style, --rows and --no-rows, -x and --expanded,
+  and Markdown beside -w, --full, -x, --expanded, -m, --ansi and --raw",
+        ));
+    }
+    match wanted_delimiter(&matches) {
+        Some(delimiter) => Ok(asked_with(alloc, &matches, delimiter, surroundings)?),
+        None => Err(refusal(
+            command,
+            "the delimiter is one ASCII character, `tab` or `auto`; it's no quote and no line end",
+        )),
+    }
+}
+
+// What the matches ask for, the delimiter being known.
+fn asked_with<'a>(
+    alloc: Global,
+    matches: &ArgMatches<'a>,
+    delimiter: Delimiter,
+    surroundings: Surroundings<'_>,
+) -> Result<Asked, AllocError>
+    requires { wanted_delimiter (found_of matches.now) ≡ Some delimiter }
+    ensures options { IfOk result (λ asked.
+        OptionsAreAsked surroundings.entry (found_of matches.now) asked.options) }
+    ensures file { IfOk result (λ asked. option_map string_bytes asked.file
+        ≡ file_for (first_value (found_of matches.now) (codes "file"))) }
+{
+    Ok(Asked {
+        options: options_of(alloc, matches, delimiter, surroundings)?,
+        file: file_of(alloc, matches.get_str("file"))?,
+    })
+}
+
+// The words are refused for this reason.
+fn refusal<'a>(command: &mut Command<'a>, reason: &str) -> Error
+    ensures { (kind_of result ≢ OutOfMemory) → kind_of result ≡ InvalidValue }
+{
+    let said = command.error(ErrorKind::InvalidValue, reason);
+    said.unwrap_or_else(Error::from)
+}
+
+// Whether options were found that exclude each other.
+fn are_exclusive<'a>(matches: &ArgMatches<'a>) -> bool
+    ensures { result ≡ are_exclusive (found_of matches.now) }
+{
+    is_any_pair_given(matches, &EXCLUSIVE_OPTIONS)
+        || is_markdown(matches) && is_any_given(matches, &NOT_BESIDE_MARKDOWN)
+}
+
+fn is_any_pair_given<'a>(matches: &ArgMatches<'a>, pairs: &[(&str, &str)]) -> bool
+    ensures { result ≡ list_any (λ pair. is_given (found_of matches.now) pair.0.now
+        && is_given (found_of matches.now) pair.1.now) pairs.now }
+{
+    pairs.iter().any(|(one, other)| is_given(matches, one) && is_given(matches, other))
+}
+
+fn is_any_given<'a>(matches: &ArgMatches<'a>, ids: &[&str]) -> bool
+    ensures { result ≡ list_any (λ id. is_given (found_of matches.now) id.now) ids.now }
+{
+    ids.iter().any(|id| is_given(matches, id))
+}
+
+// Whether a table for Markdown is asked for.
+fn is_markdown<'a>(matches: &ArgMatches<'a>) -> bool
+    ensures { result ≡ is_markdown_in (found_of matches.now) }
+{
+    if is_given(matches, "markdown") {
+        return true;
+    }
+    match matches.get_str("style") {
+        Some(style) => is_named("markdown", style),
+        None => false,
+    }
+}
+
+// Whether a flag is set, or an option has a value.
+fn is_given<'a>(matches: &ArgMatches<'a>, id: &str) -> bool
+    ensures { result ≡ is_given (found_of matches.now) id.now }
+{
+    match matches.get_str(id) {
+        Some(value) => value != "false",
+        None => false,
+    }
+}
+
+// The file that a word names; none for standard input.
+fn file_of(alloc: Global, word: Option<&str>) -> Result<Option<String>, AllocError>
+    ensures { IfOk result (λ file. option_map string_bytes file
+        ≡ file_for (option_map (λ w. w.now) word.entry)) }
+{
+    match word {
+        None | Some("-") => Ok(None),
+        Some(path) => Ok(Some(String::from_str(alloc, path)?)),
+    }
+}
+
+// What is to stand between fields.
+fn wanted_delimiter<'a>(matches: &ArgMatches<'a>) -> Option<Delimiter>
+    ensures { result ≡ wanted_delimiter (found_of matches.now) }
+{
+    if is_given(matches, "tabs") {
+        Some(Delimiter::Byte(b'\t'))
+    } else {
+        delimiter_of(matches.get_str("delimiter"), matches.get_str("file"))
+    }
+}
+
+// What a word asks for, of a file with this name.
+fn delimiter_of(word: Option<&str>, file: Option<&str>) -> Option<Delimiter>
+    ensures { result ≡ delimiter_for (option_map (λ w. w.now) word.entry)
+        (option_map (λ f. f.now) file.entry) }
+{
+    match word {
+        None => Some(delimiter_by(file)),
+        Some(word) if is_named("auto", word) => Some(delimiter_by(file)),
+        Some(word) if is_named("tab", word) || is_named("\\t", word) => {
+            Some(Delimiter::Byte(b'\t'))
+        }
+        Some(word) => only_ascii(word.as_bytes()).map(Delimiter::Byte),
+    }
+}
+
+// What is taken for a file of this name where no word says more.
+fn delimiter_by(file: Option<&str>) -> Delimiter
+    ensures { result ≡ delimiter_by (option_map (λ f. f.now) file.entry) }
+{
+    match file {
+        Some(path) if has_end(path, ".tsv") || has_end(path, ".tab") => Delimiter::NamedOrTab,
+        _ => Delimiter::Auto,
+    }
+}
+
+// Whether a path ends so, in any case of letters.
+fn has_end(path: &str, end: &str) -> bool
+    ensures { result ≡ has_end end.now path.now }
+{
+    let bytes = path.as_bytes();
+    bytes[bytes.len().saturating_sub(end.len())..].eq_ignore_ascii_case(end.as_bytes())
+}
+
+// The encoding of this name.
+fn encoding_of(name: Option<&str>) -> Option<Encoding>
+    ensures { result ≡ encoding_for (option_map (λ n. n.now) name.entry) }
+{
+    match name {
+        None => None,
+        Some(name) if is_named("utf-8", name) => Some(Encoding::Utf8),
+        Some(name) if is_named("utf-16", name) => Some(Encoding::Utf16),
+        Some(_) => Some(Encoding::Cp1252),
+    }
+}
+
+// What the matches ask for.
+fn options_of<'a>(
+    alloc: Global,
+    matches: &ArgMatches<'a>,
+    delimiter: Delimiter,
+    surroundings: Surroundings<'_>,
+) -> Result<Options, AllocError>
+    requires { wanted_delimiter (found_of matches.now) ≡ Some delimiter }
+    ensures { IfOk result (λ options.
+        OptionsAreAsked surroundings.entry (found_of matches.now) options) }
+{
+    Ok(Options {
+        input: input_of(matches, delimiter),
+        selection: selection_of(alloc, matches)?,
+        look: look_of(matches, surroundings),
+    })
+}
+
+fn input_of<'a>(matches: &ArgMatches<'a>, delimiter: Delimiter) -> InputOptions
+    requires { wanted_delimiter (found_of matches.now) ≡ Some delimiter }
+    ensures { InputIsAsked (found_of matches.now) result }
+{
+    InputOptions {
+        encoding: encoding_of(matches.get_str("encoding")),
+        skip: matches.get_one::<usize>("skip").unwrap_or(0),
+        delimiter,
+        has_quotes: !is_given(matches, "no-quotes"),
+    }
+}
+
+fn selection_of<'a>(alloc: Global, matches: &ArgMatches<'a>) -> Result<Selection, AllocError>
+    ensures { IfOk result (λ selection. SelectionIsAsked (found_of matches.now) selection) }
+{
+    Ok(Selection {
+        has_header: !is_given(matches, "no-header"),
+        limit: matches.get_one::<usize>("limit"),
+        columns: words_of(alloc, matches.get_str("columns"))?,
+        dropped: words_of(alloc, matches.get_str("drop"))?,
+        right: words_of(alloc, matches.get_str("right"))?,
+        left: words_of(alloc, matches.get_str("left"))?,
+    })
+}
+
+fn look_of<'a>(matches: &ArgMatches<'a>, surroundings: Surroundings<'_>) -> Look
+    ensures { LookIsAsked surroundings.entry (found_of matches.now) result }
+{
+    let style = matches.get_str("style");
+    Look {
+        style: style_of(style),
+        separators: separators_of(
+            is_given(matches, "rows"),
+            is_given(matches, "no-rows"),
+            style,
+        ),
+        expansion: expansion_of(
+            is_given(matches, "all-expanded"),
+            matches.get_str("expanded"),
+        ),
+        width: width_of(matches.get_one::<u16>("width"), surroundings),
+        fills_width: is_given(matches, "full"),
+        max_height: matches.get_one::<usize>("max-height"),
+        has_bold_header: is_bold(matches.get_str("color"), surroundings),
+        has_sequences: is_given(matches, "ansi"),
+        keeps_bidi: is_given(matches, "bidi"),
+        is_raw: is_given(matches, "raw"),
+        is_markdown: is_markdown(matches),
+    }
+}
+
+// Where lines between rows are drawn.
+fn separators_of(has_rows: bool, has_none: bool, style: Option<&str>) -> RowSeparators
+    ensures { result ≡ separators_for has_rows has_none
+        (option_map (λ name. name.now) style.entry) }
+{
+    if has_rows {
+        RowSeparators::Styled
+    } else if has_none {
+        RowSeparators::Never
+    } else if is_compact(style) {
+        RowSeparators::Needed
+    } else {
+        RowSeparators::Styled
+    }
+}
+
+// When a record is drawn as a table of its own.
+fn expansion_of(is_always: bool, word: Option<&str>) -> Expansion
+    ensures { result ≡ expansion_for is_always (option_map (λ w. w.now) word.entry) }
+{
+    match word {
+        _ if is_always => Expansion::Always,
+        Some("always") => Expansion::Always,
+        Some("never") => Expansion::Never,
+        _ => Expansion::Auto,
+    }
+}
+
+// The width that was asked for, else that of the terminal; 0 is none.
+fn width_of(asked: Option<u16>, surroundings: Surroundings<'_>) -> Option<u16>
+    ensures { result ≡ width_for asked surroundings.entry }
+{
+    match asked {
+        Some(width) => some_width(width),
+        None if surroundings.is_terminal => Some(terminal_width(surroundings.columns)),
+        None => None,
+    }
+}
+
+fn some_width(width: u16) -> Option<u16>
+    ensures { result ≡ some_width width }
+{
+    if width == 0 { None } else { Some(width) }
+}
+
+// The width of a terminal that has this as `COLUMNS`.
+fn terminal_width(columns: Option<&str>) -> u16
+    ensures { result ≡ terminal_width (option_map (λ c. c.now) columns.entry) }
+{
+    match columns {
+        Some(columns) => number_of(columns)
+            .and_then(some_columns)
+            .unwrap_or(TERMINAL_WIDTH),
+        None => TERMINAL_WIDTH,
+    }
+}
+
+// So many terminal columns, where a width can be so great.
+fn some_columns(columns: usize) -> Option<u16>
+    ensures { result ≡ some_columns columns }
+{
+    if 0 < columns && columns <= 65535 {
+        Some(columns as u16)
+    } else {
+        None
+    }
+}
+
+fn is_bold(word: Option<&str>, surroundings: Surroundings<'_>) -> bool
+    ensures { result ≡ is_bold_for (option_map (λ w. w.now) word.entry) surroundings.entry }
+{
+    match word {
+        Some("always") => true,
+        Some("never") => false,
+        _ => is_bold_there(surroundings),
+    }
+}
+
+// Whether the header is in bold where nothing says when.
+fn is_bold_there(surroundings: Surroundings<'_>) -> bool
+    ensures { result ≡ is_bold_there surroundings.entry }
+{
+    surroundings.is_terminal && wants_color(surroundings.no_color)
+}
+
+fn wants_color(no_color: Option<&str>) -> bool
+    ensures { result ≡ wants_color (option_map (λ n. n.now) no_color.entry) }
+{
+    match no_color {
+        Some(text) => text.is_empty(),
+        None => true,
+    }
+}
+
+// The words of a list; none without a list.
+fn words_of(alloc: Global, list: Option<&str>) -> Result<Vec<String>, AllocError>
+    ensures { IfOk result (λ words. map string_bytes words.items
+        ≡ words_in (option_map (λ l. l.now) list.entry)) }
+{
+    match list {
+        Some(list) => words_between_commas(alloc, list),
+        None => Ok(Vec::new(alloc)),
+    }
+}
+
+fn words_between_commas(alloc: Global, list: &str) -> Result<Vec<String>, AllocError>
+    ensures { IfOk result (λ words. map string_bytes words.items
+        ≡ slice_split (λ b. b == 0x2C) list.now) }
+{
+    let mut words = Vec::new(alloc);
+    for word in list.split(',') {
+        words.push(String::from_str(alloc, word)?)?;
+    }
+    Ok(words)
+}

@@ -1,0 +1,248 @@
+//! How the program ends: its status, and what it says. `process` does what stands here.
+
+ghost use Rattle.std.specs.Prelude.{◌≡◌, IfErr, IfOk, option_map, string_bytes, true};
+ghost use Rattle.clap.specs.Words.{kind_of};
+ghost use Rattle.csv_command.specs.declared.ending.Said.TheVariants.{OutOfMemory, Text};
+ghost use Rattle.csv_command.specs.Ending.{IsEndOfDrawing, IsEndOfWords, IsEndWithoutWords, IsHarmless, IsSilent, about, encoding_hint, is_of_input, message_for, reading_reason, reason_for, text_of};
+
+use crate::arguments::Asked;
+use clap::error::{Error, ErrorKind};
+use csv_records::{CsvError, Encoding, shown_text};
+use std::alloc::{AllocError, Global};
+use std::io;
+
+// The statuses that aren't success.
+const FAILED: u8 = 1;
+
+const MISUSED: u8 = 2;
+
+/// The line where a word isn't UTF-8.
+pub const WORD_NOT_UTF8: &str = "csvtable: a word isn't UTF-8\n";
+
+/// How the program ends.
+#[derive(Drop)]
+pub(crate) struct Ending {
+    /// The status.
+    pub status: u8,
+    /// Whether what is said goes to standard error.
+    pub is_message: bool,
+    /// What is said.
+    pub said: Said,
+}
+
+/// What the program says at its end.
+#[derive(Drop)]
+pub(crate) enum Said {
+    Nothing,
+    OutOfMemory,
+    /// That a word isn't UTF-8.
+    NotUtf8,
+    /// That the output can't be written.
+    Unwritten,
+    Text(String),
+}
+
+impl Said {
+    /// The text that is said.
+    pub(crate) fn text(&self) -> &str
+        ensures { result.now ≡ text_of self.now }
+    {
+        match self {
+            Said::Nothing => "",
+            Said::OutOfMemory => "csvtable: out of memory\n",
+            Said::NotUtf8 => WORD_NOT_UTF8,
+            Said::Unwritten => "csvtable: the output can't be written\n",
+            Said::Text(text) => text.as_str(),
+        }
+    }
+}
+
+/// What came of a drawing.
+#[derive(Drop)]
+pub(crate) struct Drawing<'a> {
+    /// What words asked for.
+    pub asked: &'a Asked,
+    /// Whether it was written.
+    pub result: Result<(), CsvError>,
+    /// With which error the input couldn't be opened or read.
+    pub fault: Option<io::ErrorKind>,
+    /// Whether the reader of the output has ended.
+    pub is_unread: bool,
+}
+
+/// How the program ends after a drawing. Where the reader of the output has ended, nothing is said.
+pub(crate) fn ending_of_drawing(alloc: Global, drawing: &Drawing<'_>) -> Ending
+    ensures { IsEndOfDrawing drawing.now result }
+{
+    match &drawing.result {
+        Ok(()) => silent(0),
+        Err(CsvError::Write) if drawing.is_unread => silent(FAILED),
+        Err(CsvError::Write) => message(FAILED, Said::Unwritten),
+        Err(CsvError::OutOfMemory) => message(FAILED, Said::OutOfMemory),
+        Err(error) => {
+            let text = message_of(alloc, drawing.asked, drawing.fault, error);
+            message(FAILED, said_of(text))
+        }
+    }
+}
+
+/// How the program ends where clap has something to say: help, the version, or why words aren't
+/// known.
+pub(crate) fn ending_of_words(alloc: Global, error: &Error) -> Ending
+    ensures { IsEndOfWords (kind_of error.now) result }
+{
+    match error.kind() {
+        ErrorKind::OutOfMemory => message(FAILED, Said::OutOfMemory),
+        ErrorKind::DisplayHelp | ErrorKind::DisplayVersion => Ending {
+            status: 0,
+            is_message: false,
+            said: said_of(text_of_clap(alloc, error)),
+        },
+        _ => message(MISUSED, said_of(text_of_clap(alloc, error))),
+    }
+}
+
+/// How the program ends where words couldn't be read: one isn't UTF-8, or there is no memory for
+/// them.
+pub(crate) fn ending_without_words(kind: io::ErrorKind) -> Ending
+    ensures { IsEndWithoutWords kind result }
+{
+    match kind {
+        io::ErrorKind::InvalidData => message(MISUSED, Said::NotUtf8),
+        _ => message(FAILED, Said::OutOfMemory),
+    }
+}
+
+fn silent(status: u8) -> Ending
+    ensures { IsSilent status result }
+{
+    Ending {
+        status,
+        is_message: true,
+        said: Said::Nothing,
+    }
+}
+
+fn message(status: u8, said: Said) -> Ending
+    ensures { result ≡ record { status = status; is_message = true; said = said } }
+{
+    Ending {
+        status,
+        is_message: true,
+        said,
+    }
+}
+
+// A text, or that there is no memory for it.
+fn said_of(text: Result<String, AllocError>) -> Said
+    ensures text { IfOk text (λ t. result ≡ Text t) }
+    ensures no_memory { IfErr text (λ _. result ≡ OutOfMemory) }
+{
+    match text {
+        Ok(text) => Said::Text(text),
+        Err(_) => Said::OutOfMemory,
+    }
+}
+
+/// The line on an error. The fault is that of the input where it can't be opened or read.
+pub(crate) fn message_of(
+    alloc: Global,
+    asked: &Asked,
+    fault: Option<io::ErrorKind>,
+    error: &CsvError,
+) -> Result<String, AllocError>
+    ensures { IfOk result (λ text. string_bytes text ≡ message_for asked.now fault error.now) }
+{
+    let mut text = about(alloc, is_of_input(error), &asked.file)?;
+    let reason = reason_of(alloc, asked.options.input.encoding, fault, error)?;
+    text.push_str(reason.as_str())?;
+    text.push('\n')?;
+    Ok(text)
+}
+
+// Whether an error is of the input, so that its message names it.
+fn is_of_input(error: &CsvError) -> bool
+    ensures { result ≡ is_of_input error.now }
+{
+    !matches!(error, CsvError::Write | CsvError::OutOfMemory)
+}
+
+// What a message begins with.
+fn about(alloc: Global, is_of_input: bool, file: &Option<String>) -> Result<String, AllocError>
+    ensures { IfOk result (λ text. string_bytes text
+        ≡ about is_of_input (option_map string_bytes file.now)) }
+{
+    match file {
+        _ if !is_of_input => String::from_str(alloc, "csvtable: "),
+        None => String::from_str(alloc, "csvtable: standard input: "),
+        Some(path) => {
+            let name = shown_text(alloc, path.as_str(), false)?;
+            format!(in alloc; "csvtable: {name}: ")
+        }
+    }
+}
+
+// Why there is no drawing.
+fn reason_of(
+    alloc: Global,
+    encoding: Option<Encoding>,
+    fault: Option<io::ErrorKind>,
+    error: &CsvError,
+) -> Result<String, AllocError>
+    ensures { IfOk result (λ text. string_bytes text ≡ reason_for encoding fault error.now) }
+{
+    match error {
+        CsvError::Read => String::from_str(alloc, reading_reason(fault)),
+        CsvError::Write => String::from_str(alloc, "the output can't be written"),
+        CsvError::NotUtf8(line) => {
+            let mut text = format!(in alloc; "line {line} isn't UTF-8")?;
+            text.push_str(encoding_hint(encoding))?;
+            Ok(text)
+        }
+        CsvError::NotUtf16(line) => format!(in alloc; "line {line} isn't UTF-16"),
+        CsvError::Unclosed(line) => {
+            format!(in alloc; "a quote that opens in line {line} is never closed; try --no-quotes")
+        }
+        CsvError::SplitCharacter => String::from_str(alloc, "the delimiter splits a character"),
+        CsvError::NoColumn(name) => {
+            let name = shown_text(alloc, name.as_str(), false)?;
+            format!(in alloc; "no column {name}")
+        }
+        CsvError::TwoSides(name) => {
+            let name = shown_text(alloc, name.as_str(), false)?;
+            format!(in alloc; "column {name} can't stand at the right and at the left")
+        }
+        CsvError::OutOfMemory => String::from_str(alloc, "out of memory"),
+    }
+}
+
+// Why the input can't be opened or read.
+fn reading_reason(fault: Option<io::ErrorKind>) -> &'static str
+    ensures { result.now ≡ reading_reason fault }
+{
+    match fault {
+        Some(io::ErrorKind::NotFound) => "no such file",
+        Some(io::ErrorKind::IsADirectory) => "is a directory",
+        Some(io::ErrorKind::PermissionDenied) => "permission denied",
+        _ => "can't be read",
+    }
+}
+
+// What helps where no encoding was asked for.
+fn encoding_hint(encoding: Option<Encoding>) -> &'static str
+    ensures { result.now ≡ encoding_hint encoding }
+{
+    match encoding {
+        None => "; try -e cp1252",
+        Some(_) => "",
+    }
+}
+
+/// What clap says, with nothing in it that speaks to the terminal: its text holds words as they
+/// were typed.
+pub(crate) fn text_of_clap(alloc: Global, error: &Error) -> Result<String, AllocError>
+    ensures { IfOk result (λ text. IsHarmless (string_bytes text)) }
+{
+    let text = format!(in alloc; "{error}")?;
+    shown_text(alloc, text.as_str(), true)
+}

@@ -1,0 +1,118 @@
+//! What only asks the system: the words, the streams, the environment and the file. What is made of
+//! it stands in `ending` and in `asked_of`.
+
+use crate::arguments::{Asked, Surroundings, asked_of};
+use crate::ending::{Drawing, Ending, ending_of_drawing, ending_of_words, ending_without_words};
+use csv_records::CsvError;
+use csv_tables::draw;
+use devices::{FromReader, ToWriter, arguments_of_process, write_all};
+use std::alloc::AllocError;
+use std::env::VarError;
+use std::fs::File;
+use std::io::{IsTerminal, Read};
+use std::process::ExitCode;
+use std::{env, io};
+
+/// Runs the program over the standard streams, with the words after the process's name, and returns
+/// its status: 0 where the drawing was written, 1 with a line on standard error after an error, 2
+/// with a reason where the words aren't known. Where a pipe has no reader any more, the status is
+/// 1, and nothing is said.
+///
+/// ```
+/// fn main(rt: HostRuntime) -> ExitCode {
+///     run_with_arguments(&rt)
+/// }
+/// ```
+pub fn run_with_arguments(rt: &HostRuntime) -> ExitCode {
+    let ending = match arguments_of_process(rt) {
+        Ok(words) => run_with_words(rt, words.as_slice()),
+        Err(error) => ending_without_words(error.kind()),
+    };
+    end(rt, &ending)
+}
+
+// Says what there is to say, and ends. Where a message can't be said there is nowhere left to say
+// so; help is an output.
+fn end(rt: &HostRuntime, ending: &Ending) -> ExitCode {
+    let text = ending.said.text().as_bytes();
+    if ending.is_message {
+        let _ = write_all(&mut ToWriter::new(rt.stderr()), text);
+        return ExitCode::from(ending.status);
+    }
+    match write_all(&mut ToWriter::new(rt.stdout()), text) {
+        Ok(()) => ExitCode::from(ending.status),
+        Err(_) => ExitCode::FAILURE,
+    }
+}
+
+fn run_with_words(rt: &HostRuntime, words: &[String]) -> Ending {
+    match asked(rt, words) {
+        Ok(asked) => run(rt, &asked),
+        Err(error) => ending_of_words(rt.alloc(), &error),
+    }
+}
+
+// What the words ask for, here.
+fn asked(rt: &HostRuntime, words: &[String]) -> Result<Asked, clap::Error> {
+    let mut texts = Vec::with_capacity(rt.alloc(), words.len())?;
+    for word in words {
+        texts.push(word.as_str())?;
+    }
+    let columns = variable(rt, "COLUMNS")?;
+    let no_color = variable(rt, "NO_COLOR")?;
+    let surroundings = Surroundings {
+        is_terminal: rt.stdout().is_terminal(),
+        columns: columns.as_ref().map(|text| text.as_str()),
+        no_color: no_color.as_ref().map(|text| text.as_str()),
+    };
+    asked_of(rt.alloc(), texts.as_slice(), surroundings)
+}
+
+// A variable of the environment, where it is set and is text.
+fn variable(rt: &HostRuntime, name: &str) -> Result<Option<String>, AllocError> {
+    match env::var(rt, name) {
+        Ok(value) => Ok(Some(value)),
+        Err(VarError::OutOfMemory) => Err(AllocError),
+        Err(_) => Ok(None),
+    }
+}
+
+// Draws the file, or standard input.
+fn run(rt: &HostRuntime, asked: &Asked) -> Ending {
+    let mut sink = ToWriter::new(rt.stdout());
+    let (result, fault) = drawn(rt, &mut sink, asked);
+    let is_unread = sink.is_unread();
+    ending_of_drawing(
+        rt.alloc(),
+        &Drawing {
+            asked,
+            result,
+            fault,
+            is_unread,
+        },
+    )
+}
+
+// What came of it, and with which error the input couldn't be opened or read.
+type Drawn = (Result<(), CsvError>, Option<io::ErrorKind>);
+
+fn drawn(rt: &HostRuntime, sink: &mut ToWriter<io::Stdout>, asked: &Asked) -> Drawn {
+    let Some(path) = &asked.file else {
+        return drawn_from(rt, rt.stdin(), sink, asked);
+    };
+    match File::open(rt, path.as_str()) {
+        Ok(file) => drawn_from(rt, file, sink, asked),
+        Err(error) => (Err(CsvError::Read), Some(error.kind())),
+    }
+}
+
+fn drawn_from<R: Read + Drop>(
+    rt: &HostRuntime,
+    reader: R,
+    sink: &mut ToWriter<io::Stdout>,
+    asked: &Asked,
+) -> Drawn {
+    let mut source = FromReader::new(reader);
+    let result = draw(rt.alloc(), &mut source, sink, &asked.options);
+    (result, source.fault())
+}

@@ -1,0 +1,17 @@
+pub mod CleaningLemmas
+pub mod ControlLemmas
+pub mod DelimiterLemmas
+pub mod EncodingLawLemmas
+pub mod EncodingLemmas
+pub mod EvenLemmas
+pub mod LineLemmas
+pub mod NumberLawLemmas
+pub mod NumberLemmas
+pub mod NumeralLemmas
+pub mod OneRecordLemmas
+pub mod PieceLemmas
+pub mod PlaceLemmas
+pub mod QuoteLemmas
+pub mod RecordLemmas
+pub mod ShownLemmas
+pub mod TextLemmas

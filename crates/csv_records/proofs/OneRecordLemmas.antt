@@ -1,0 +1,60 @@
+-- An input has one text by the same options, and a text one list of records.
+use Rattle.std.proofs.Common.{◌≡◌, ℕ, List, [], ◌∷◌, Option, Some, None, map, sym, refl, ap, ap₂, ◌∙◌, subst}
+use Rattle.std.specs.Str.{encode_utf8_all}
+use Rattle.comfy_parts.specs.Text.{Text}
+use Rattle.csv.specs.Machine.{Read, next_record}
+use Rattle.csv.specs.Reading.{AreRecords, Reached, strip_bom}
+use Rattle.csv.specs.declared.parser.Config.{Config}
+use Rattle.csv.specs.declared.parser.State.{State}
+use Rattle.csv.specs.declared.parser.State.TheVariants as st
+use Rattle.csv_records.specs.Encoding.{IsTextIn, encoding_of}
+use Rattle.csv_records.specs.Input.{config_for}
+use Rattle.csv_records.specs.Reading.{RecordsAreOne, parted}
+use Rattle.csv_records.specs.declared.encoding.Encoding.{Encoding}
+use Rattle.csv_records.specs.declared.encoding.Encoding.TheVariants.{Cp1252, Utf16, Utf8}
+use Rattle.csv_records.specs.declared.options.InputOptions.{InputOptions}
+
+-- ---- records
+
+-- what is read next is one record, so all that are read are one list
+pub records_are_one : (config : Config) (state : State) (input : Text) (records others : List (List Text)) → AreRecords config state input records → AreRecords config state input others → records ≡ others
+unfolding Reached
+records_are_one config state input [] [] first second = refl
+records_are_one config state input [] (other ∷ others) (end, rest, (same, all), none) (end', rest', (p, is, at, more), none') =
+    absurd (let here : next_record config state [] [] input ≡ None = ap₂ (λ s t. next_record config s [] [] t) same all ∙ none in cc (here, is))
+records_are_one config state input (own ∷ records) [] (end, rest, (p, is, at, more), none) (end', rest', (same, all), none') =
+    absurd (let here : next_record config state [] [] input ≡ None = ap₂ (λ s t. next_record config s [] [] t) same all ∙ none' in cc (here, is))
+records_are_one config state input (own ∷ records) (other ∷ others) (end, rest, (p, is, at, more), none) (end', rest', (q, are, at', more'), none') =
+    let same : p ≡ q = same_read p q (sym is ∙ are) in
+    ap₂ (λ (r : List Text) (rs : List (List Text)). r ∷ rs) (at ∙ ap (λ (r : Read). r.0) same ∙ sym at')
+    (records_are_one config p.1 p.2 records others (end, rest, more, none) (subst (λ (r : Read). AreRecords config r.1 r.2 others) (sym same) (end', rest', more', none')))
+  where
+    same_read : (p q : Read) → Some p ≡ Some q → p ≡ q
+    same_read p q is = cc is
+
+-- ---- texts
+
+some_each : (cs ds : List ℕ) → map Some cs ≡ map Some ds → cs ≡ ds
+some_each [] [] is = refl
+some_each [] (d ∷ ds) is = absurd (cc is)
+some_each (c ∷ cs) [] is = absurd (cc is)
+some_each (c ∷ cs) (d ∷ ds) is =
+    let first : c ≡ d = cc is in
+    let rest : map Some cs ≡ map Some ds = cc is in
+    ap₂ (λ (a : ℕ) (b : List ℕ). a ∷ b) first (some_each cs ds rest)
+
+text_is_one : (encoding : Encoding) (input text other : Text) → IsTextIn encoding input text → IsTextIn encoding input other → text ≡ other
+text_is_one Utf8 input text other first second = first.1 ∙ sym second.1
+text_is_one Cp1252 input text other first second = first ∙ sym second
+text_is_one Utf16 input text other first second =
+    first.spell ∙ ap encode_utf8_all (some_each first.characters second.characters (sym first.are_all ∙ second.are_all)) ∙ sym second.spell
+
+-- ---- records of an input
+
+pub read_is_one : (options : InputOptions) (input : Text) (records others : List (List Text)) → RecordsAreOne options input records others
+read_is_one options input records others first second =
+    records_are_one (config_for (parted options first.text).0 options.has_quotes) st.StartRecord (strip_bom (parted options first.text).1) records others first.are_records.are_records.all
+    (subst (λ (t : Text). AreRecords (config_for (parted options t).0 options.has_quotes) st.StartRecord (strip_bom (parted options t).1) others) (sym same) second.are_records.are_records.all)
+  where
+    same : first.text ≡ second.text
+    same = text_is_one (encoding_of options.encoding input) input first.text second.text first.is_text second.is_text

@@ -1,0 +1,86 @@
+-- One more record behind others.
+use Rattle.std.proofs.Common.{◌≡◌, ◌<◌, ◌≤◌, ◌+◌, ◌-◌, ◌^◌, ◌++◌, ◌∷◌, [], ℕ, zero, suc, All, List, Some, None, unwrap_or, zero-add, ap, ap₂, arith, drop, length, map, refl, sym, take, ◌∙◌}
+use Rattle.std.proofs.Math.Seq.{drop-append_seam, take-length}
+use Rattle.std.proofs.lemmas.List.{drop-append-le, length-append, length-drop, length-take-le, map-append, take-append-le}
+use Rattle.std.proofs.lemmas.List.Elements.{All-append, All-drop}
+use Rattle.comfy_parts.specs.Text.{Text}
+use Rattle.csv.specs.Records.{field_at}
+use Rattle.csv_records.specs.Places.{IsWithin, fields_at}
+use Rattle.csv_records.specs.declared.records.Place.{Place}
+
+module _ (fields more : List Text) where
+  -- a record keeps its fields
+  kept : (place : Place) → IsWithin fields place → fields_at (fields ++ more) place ≡ fields_at fields place
+  kept place within =
+      let start : place.start ≤ length fields = omega (arith, within.0, within.1) in
+      let left : place.end - place.start ≤ length (drop place.start fields) = omega (arith, within.1, length-drop place.start fields) in
+      ap (take (place.end - place.start)) (drop-append-le place.start fields more start) ∙ take-append-le (place.end - place.start) (drop place.start fields) more left
+
+  all_kept : (places : List Place) → All (IsWithin fields) places → map (fields_at (fields ++ more)) places ≡ map (fields_at fields) places
+  all_kept [] within = refl
+  all_kept (place ∷ places) within = ap₂ (λ x xs. x ∷ xs) (kept place (within zero place (omega arith))) (all_kept places (All-drop (IsWithin fields) 1 (place ∷ places) within))
+
+  abbrev pub last_place : Place
+  last_place = record { start = length fields; end = length (fields ++ more) }
+
+  -- and one more has those that were added
+  pub one_more : (places : List Place) → All (IsWithin fields) places → map (fields_at (fields ++ more)) (places ++ last_place ∷ []) ≡ map (fields_at fields) places ++ more ∷ []
+  one_more places within =
+      let own : length (fields ++ more) - length fields ≡ length more = omega (arith, length-append fields more) in
+      let last : fields_at (fields ++ more) last_place ≡ more = ap₂ take own (drop-append_seam fields more) ∙ take-length more in
+      map-append (fields_at (fields ++ more)) places (last_place ∷ []) ∙ ap₂ (λ xs x. xs ++ x ∷ []) (all_kept places within) last
+
+  pub all_within : (places : List Place) → length (fields ++ more) < 2 ^ 64 → All (IsWithin fields) places → All (IsWithin (fields ++ more)) (places ++ last_place ∷ [])
+  all_within places few within = All-append (IsWithin (fields ++ more)) places (last_place ∷ []) still last
+    where
+      size : length (fields ++ more) ≡ length fields + length more
+      size = length-append fields more
+
+      still : All (IsWithin (fields ++ more)) places
+      still k d below = let before = within k d below in (before.0, omega (arith, before.1, size), before.2)
+
+      last : All (IsWithin (fields ++ more)) (last_place ∷ [])
+      last zero d below = (omega (arith, size), omega arith, few)
+      last (suc k) d below = absurd (omega arith)
+
+-- ---- going over a record
+
+-- one more of its fields
+pub one_taken : (fields : List Text) (i : ℕ) (field : Text) → field_at fields i ≡ Some field → take (suc i) fields ≡ take i fields ++ field ∷ []
+unfolding field_at
+one_taken [] i field is = absurd (cc is)
+one_taken (f ∷ fs) zero field is = ap (λ (x : Text). x ∷ []) (ap (λ o. unwrap_or o field) is)
+one_taken (f ∷ fs) (suc i) field is = ap (λ xs. f ∷ xs) (one_taken fs i field is)
+
+-- and none are left
+pub all_taken : (fields : List Text) (i : ℕ) → field_at fields i ≡ None → take i fields ≡ fields
+unfolding field_at
+all_taken [] zero is = refl
+all_taken [] (suc i) is = refl
+all_taken (f ∷ fs) zero is = absurd (cc is)
+all_taken (f ∷ fs) (suc i) is = ap (λ xs. f ∷ xs) (all_taken fs i is)
+
+-- ---- a field of a record
+
+pub size : (fields : List Text) (place : Place) → IsWithin fields place → length (fields_at fields place) ≡ place.end - place.start
+size fields place within =
+    let left : place.end - place.start ≤ length (drop place.start fields) = omega (arith, within.1, length-drop place.start fields) in
+    length-take-le (place.end - place.start) (drop place.start fields) left
+
+field_behind : (n : ℕ) (fields : List Text) (i : ℕ) → field_at (drop n fields) i ≡ field_at fields (n + i)
+unfolding field_at
+field_behind zero fields i = ap (field_at fields) (sym (zero-add i))
+field_behind (suc n) [] i = refl
+field_behind (suc n) (f ∷ fs) i =
+    let one : suc n + i ≡ suc (n + i) = omega arith in
+    field_behind n fs i ∙ ap (field_at (f ∷ fs)) (sym one)
+
+field_before : (n : ℕ) (fields : List Text) (i : ℕ) → i < n → field_at (take n fields) i ≡ field_at fields i
+unfolding field_at
+field_before zero fields i below = absurd (omega (arith, below))
+field_before (suc n) [] i below = refl
+field_before (suc n) (f ∷ fs) zero below = refl
+field_before (suc n) (f ∷ fs) (suc i) below = field_before n fs i (omega (arith, below))
+
+pub field_of_record : (fields : List Text) (place : Place) (i : ℕ) → i < place.end - place.start → field_at fields (place.start + i) ≡ field_at (fields_at fields place) i
+field_of_record fields place i below = sym (field_before (place.end - place.start) (drop place.start fields) i below ∙ field_behind place.start fields i)

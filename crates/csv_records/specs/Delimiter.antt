@@ -1,0 +1,118 @@
+-- What stands between the fields of a text, and where its records begin.
+use Rattle.std.specs.Prelude.{ℕ, zero, suc, ◌≡◌, ◌≢◌, ◌<◌, ◌==◌, ◌&&◌, ◌||◌, nat_lt, Bool, false, List, [], ◌∷◌, ◌++◌, Option, Some, None, bytes_eq, codes, drop, length, map, option_and_then, option_map, take, unwrap_or, if◌then◌else◌}
+use Rattle.std.specs.Char.{to_ascii_lowercase}
+use Rattle.std.specs.List.{find, list_all, position_or_len}
+use Rattle.comfy_parts.specs.Text.{Text}
+use Rattle.csv.specs.Reading.{records_from, strip_bom}
+use Rattle.csv.specs.declared.parser.State.TheVariants as st
+use Rattle.csv_records.specs.Input.{config_for, line_breaks}
+use Rattle.csv_records.specs.declared.delimiter.Delimiter.{Delimiter}
+use Rattle.csv_records.specs.declared.delimiter.Delimiter.TheVariants.{Auto, Byte, NamedOrTab}
+
+-- ---- lines
+
+abbrev pub ends_line : ℕ → Bool
+ends_line b = (b == 0x0A) || (b == 0x0D)
+
+-- how many bytes stand before the first line end
+abbrev pub line_len : Text → ℕ
+line_len text = position_or_len ends_line text
+
+-- how many bytes the line end in front of a text has: a carriage return and a line feed are one
+abbrev pub end_len : Text → ℕ
+end_len [] = 0
+end_len (a ∷ []) = if ends_line a then 1 else 0
+end_len (a ∷ b ∷ rest) = if (a == 0x0D) && (b == 0x0A) then 2 else if ends_line a then 1 else 0
+
+-- the first line, without its end
+abbrev pub first_line : Text → Text
+first_line text = take (line_len text) text
+
+-- what follows the first line and its end
+abbrev pub below_line : Text → Text
+below_line text =
+    let rest = drop (line_len text) text in
+    drop (end_len rest) rest
+
+-- what follows that many lines
+abbrev pub below_lines : ℕ → Text → Text
+below_lines zero text = text
+below_lines (suc count) text = below_lines count (below_line text)
+
+-- a text ends in this way
+abbrev pub EndsIn : Text → Text → Type 0
+EndsIn text end = (front : Text) × (text ≡ front ++ end)
+
+-- where something follows that many lines, so many line breaks stand before it
+abbrev pub LeavesOutLines : ℕ → Text → Type 0
+LeavesOutLines count text =
+    below_lines count text ≢ []
+    → (front : Text) × (text ≡ front ++ below_lines count text) × (line_breaks front ≡ count)
+
+-- ---- a line that names the delimiter
+
+-- a word of one byte, which is neither a quote nor a line end
+abbrev pub only_byte : Text → Option ℕ
+only_byte [] = None
+only_byte (b ∷ []) = if ((b == 0x22) || (b == 0x0A)) || (b == 0x0D) then None else Some b
+only_byte (b ∷ c ∷ rest) = None
+
+-- such a word of ASCII
+abbrev pub only_ascii : Text → Option ℕ
+only_ascii word = option_and_then (λ b. if nat_lt b 128 then Some b else None) (only_byte word)
+
+-- the delimiter that a line `sep=X` names, in letters of either case
+abbrev pub delimiter_in : Text → Option ℕ
+delimiter_in line =
+    if bytes_eq (map to_ascii_lowercase (take 4 line)) (codes "sep=")
+    then only_ascii (drop 4 line)
+    else None
+
+-- the delimiter that a first line names, behind a byte-order mark too, and what follows that line
+abbrev pub named_delimiter : Text → Option (ℕ × Text)
+named_delimiter text =
+    option_map (λ b. (b, below_line (strip_bom text))) (delimiter_in (first_line (strip_bom text)))
+
+-- ---- a delimiter that is found
+
+-- the records that are looked at
+abbrev pub first_records : ℕ → Bool → Text → List (List Text)
+first_records delimiter has_quotes text =
+    records_from (config_for delimiter has_quotes) 10 st.StartRecord (strip_bom text)
+
+-- each record has this number of fields
+abbrev pub have_fields : ℕ → List (List Text) → Bool
+have_fields count records = list_all (λ fields. length fields == count) records
+
+-- there are records, and all have one same number of fields, above 1
+abbrev pub are_even : List (List Text) → Bool
+are_even [] = false
+are_even (first ∷ others) = nat_lt 1 (length first) && have_fields (length first) others
+
+-- a delimiter parts the first records into one same number of fields
+abbrev pub parts_evenly : Bool → Text → ℕ → Bool
+parts_evenly has_quotes text delimiter = are_even (first_records delimiter has_quotes text)
+
+-- TAB, `;`, `,` and `|`, in the order in which they are tried
+abbrev pub tried_delimiters : List ℕ
+tried_delimiters = 0x09 ∷ 0x3B ∷ 0x2C ∷ 0x7C ∷ []
+
+-- the first of them that parts evenly, else a comma
+abbrev pub found_delimiter : Bool → Text → ℕ
+found_delimiter has_quotes text =
+    unwrap_or (find (parts_evenly has_quotes text) tried_delimiters) 0x2C
+
+-- ---- the delimiter of a text
+
+-- the byte between the fields of a text, and what there is of records
+abbrev pub delimited : Delimiter → Bool → Text → ℕ × Text
+delimited (Byte b) has_quotes text = (b, text)
+delimited Auto has_quotes text =
+    unwrap_or (named_delimiter text) (found_delimiter has_quotes text, text)
+delimited NamedOrTab has_quotes text = unwrap_or (named_delimiter text) (0x09, text)
+
+-- a byte that wasn't asked for is ASCII
+abbrev pub IsAsciiUnlessAsked : Delimiter → ℕ → Type 0
+IsAsciiUnlessAsked (Byte b) delimiter = Unit {0}
+IsAsciiUnlessAsked Auto delimiter = delimiter < 128
+IsAsciiUnlessAsked NamedOrTab delimiter = delimiter < 128

@@ -1,0 +1,145 @@
+-- An input's encoding, and the text that its bytes are.
+use Rattle.std.specs.Prelude.{ℕ, ◌≡◌, ◌+◌, ◌-◌, ◌%◌, ◌==◌, ◌&&◌, nat_le, nat_lt, true, List, [], ◌∷◌, ◌++◌, map, drop, length, Option, Some, None, IsUtf8, encode_utf8_all, is_some, if◌then◌else◌, slice_index}
+use Rattle.std.specs.Char.Escape.{encode_utf16}
+use Rattle.std.specs.Char.Utf16.{utf16_chars}
+use Rattle.std.specs.Int.{from_be_bytes, from_le_bytes, to_be_bytes, to_le_bytes, w16}
+use Rattle.std.specs.List.{flat_map}
+use Rattle.std.specs.Option.{unwrap_or}
+use Rattle.std.specs.Str.{IsAscii, all_scalars}
+use Rattle.comfy_parts.specs.Text.{Text}
+use Rattle.csv_records.specs.Input.{IsTextRefusal, line_breaks}
+use Rattle.csv_records.specs.declared.encoding.ByteOrder.{ByteOrder}
+use Rattle.csv_records.specs.declared.encoding.ByteOrder.TheVariants.{BigEndian, LittleEndian}
+use Rattle.csv_records.specs.declared.encoding.Encoding.{Encoding}
+use Rattle.csv_records.specs.declared.encoding.Encoding.TheVariants.{Cp1252, Utf16, Utf8}
+use Rattle.csv_records.specs.declared.error.CsvError.{CsvError}
+use Rattle.csv_records.specs.declared.error.CsvError.TheVariants.{Read, Write, NotUtf8, NotUtf16, Unclosed, SplitCharacter, NoColumn, OutOfMemory, TwoSides}
+
+-- ---- which encoding
+
+-- the order of a unit's two bytes, where a byte-order mark at the front tells it
+abbrev pub marked_order : Text → Option ByteOrder
+marked_order [] = None
+marked_order (a ∷ []) = None
+marked_order (a ∷ b ∷ rest) =
+    if (a == 0xFF) && (b == 0xFE) then Some LittleEndian
+    else if (a == 0xFE) && (b == 0xFF) then Some BigEndian
+    else None
+
+-- the encoding that was asked for, else UTF-16 behind a byte-order mark of UTF-16, else UTF-8
+abbrev pub encoding_of : Option Encoding → Text → Encoding
+encoding_of (Some encoding) input = encoding
+encoding_of None input = if is_some (marked_order input) then Utf16 else Utf8
+
+-- ---- Windows-1252
+
+-- the characters for the bytes from 0x80 to 0x9F, U+FFFD for the five open ones
+abbrev pub cp1252_from_80 : List ℕ
+cp1252_from_80 =
+    0x20AC ∷ 0xFFFD ∷ 0x201A ∷ 0x0192 ∷ 0x201E ∷ 0x2026 ∷ 0x2020 ∷ 0x2021
+    ∷ 0x02C6 ∷ 0x2030 ∷ 0x0160 ∷ 0x2039 ∷ 0x0152 ∷ 0xFFFD ∷ 0x017D ∷ 0xFFFD
+    ∷ 0xFFFD ∷ 0x2018 ∷ 0x2019 ∷ 0x201C ∷ 0x201D ∷ 0x2022 ∷ 0x2013 ∷ 0x2014
+    ∷ 0x02DC ∷ 0x2122 ∷ 0x0161 ∷ 0x203A ∷ 0x0153 ∷ 0xFFFD ∷ 0x017E ∷ 0x0178 ∷ []
+
+-- the character for a byte
+abbrev pub cp1252_character : ℕ → ℕ
+cp1252_character b =
+    if nat_le 0x80 b && nat_lt b 0xA0 then slice_index cp1252_from_80 (b - 0x80) else b
+
+abbrev pub cp1252_text : Text → Text
+cp1252_text input = encode_utf8_all (map cp1252_character input)
+
+-- ---- UTF-16
+
+-- the order of a unit's bytes: without a mark the low one is first
+abbrev pub order_of : Text → ByteOrder
+order_of input = unwrap_or (marked_order input) LittleEndian
+
+-- what follows the mark
+abbrev pub without_mark : Text → Text
+without_mark input = if is_some (marked_order input) then drop 2 input else input
+
+abbrev pub unit : ByteOrder → ℕ → ℕ → ℕ
+unit LittleEndian a b = from_le_bytes w16 (a ∷ b ∷ [])
+unit BigEndian a b = from_be_bytes w16 (a ∷ b ∷ [])
+
+-- the units of bytes; an odd byte at the end is in none
+abbrev pub units : ByteOrder → Text → List ℕ
+units order [] = []
+units order (a ∷ []) = []
+units order (a ∷ b ∷ rest) = unit order a b ∷ units order rest
+
+-- `None` for an odd byte at the end
+abbrev pub odd_byte : Text → List (Option ℕ)
+odd_byte bytes = if length bytes % 2 == 0 then [] else None ∷ []
+
+-- the characters of these bytes, with `None` for each surrogate without a partner and for an odd
+-- byte
+abbrev pub characters_in : ByteOrder → Text → List (Option ℕ)
+characters_in order bytes = utf16_chars (units order bytes) ++ odd_byte bytes
+
+-- those of an input in UTF-16
+abbrev pub utf16_characters : Text → List (Option ℕ)
+utf16_characters input = characters_in (order_of input) (without_mark input)
+
+module _ (read : List (Option ℕ)) where
+  -- all that was read are characters, of this text
+  pub record AreCharactersOf (text : Text) : Type 0 where
+    pub characters : List ℕ
+    pub are_all : read ≡ map Some characters
+    pub spell : text ≡ encode_utf8_all characters
+
+  -- the first that is no character stands in this line
+  pub record IsFirstUnpaired (line : ℕ) : Type 0 where
+    pub before : List ℕ
+    pub after : List (Option ℕ)
+    pub first : read ≡ map Some before ++ (None ∷ after)
+    pub numbered : line ≡ line_breaks (encode_utf8_all before) + 1
+
+  -- why there is no text: one is no character, or there is no memory
+  abbrev pub IsUtf16Refusal : CsvError → Type 0
+  IsUtf16Refusal (NotUtf16 line) = IsFirstUnpaired line
+  IsUtf16Refusal OutOfMemory = Unit {0}
+  IsUtf16Refusal (NotUtf8 line) = ⊥
+  IsUtf16Refusal (Unclosed line) = ⊥
+  IsUtf16Refusal Read = ⊥
+  IsUtf16Refusal Write = ⊥
+  IsUtf16Refusal SplitCharacter = ⊥
+  IsUtf16Refusal (NoColumn name) = ⊥
+  IsUtf16Refusal (TwoSides name) = ⊥
+
+-- ---- the text of an input
+
+-- this is the text of an input in an encoding
+abbrev pub IsTextIn : Encoding → Text → Text → Type 0
+IsTextIn Utf8 input text = IsUtf8 input × (text ≡ input)
+IsTextIn Cp1252 input text = text ≡ cp1252_text input
+IsTextIn Utf16 input text = AreCharactersOf (utf16_characters input) text
+
+-- why an input in an encoding has no text
+abbrev pub IsRefusedIn : Encoding → Text → CsvError → Type 0
+IsRefusedIn Utf8 input e = IsTextRefusal input e
+IsRefusedIn Cp1252 input e = e ≡ OutOfMemory
+IsRefusedIn Utf16 input e = IsUtf16Refusal (utf16_characters input) e
+
+-- ---- laws
+
+-- ASCII is its own text in UTF-8 and in Windows-1252
+abbrev pub IsItsOwnText : Text → Type 0
+IsItsOwnText input = IsAscii input → IsTextIn Utf8 input input × IsTextIn Cp1252 input input
+
+abbrev pub unit_bytes : ByteOrder → ℕ → Text
+unit_bytes LittleEndian u = to_le_bytes w16 u
+unit_bytes BigEndian u = to_be_bytes w16 u
+
+-- characters written in UTF-16, behind the byte-order mark
+abbrev pub written_utf16 : ByteOrder → List ℕ → Text
+written_utf16 order characters =
+    flat_map (unit_bytes order) (flat_map encode_utf16 (0xFEFF ∷ characters))
+
+-- characters that are written in UTF-16 are found to be, and are read back
+abbrev pub IsReadBack : ByteOrder → List ℕ → Type 0
+IsReadBack order characters =
+    let input = written_utf16 order characters in
+    all_scalars characters ≡ true
+    → (encoding_of None input ≡ Utf16) × IsTextIn Utf16 input (encode_utf8_all characters)

@@ -1,0 +1,106 @@
+-- The text of an input, and its records, and why there are none.
+use Rattle.std.specs.Prelude.{ℕ, ◌≡◌, ◌+◌, ◌<◌, ◌≤◌, ◌==◌, ◌&&◌, ◌||◌, not, Bool, false, List, [], ◌∷◌, Some, All, IsUtf8, take, if◌then◌else◌}
+use Rattle.std.specs.Str.Lossy.{utf8_valid_len}
+use Rattle.comfy_parts.specs.Text.{Text}
+use Rattle.csv.specs.Machine.{Read as FoundRecord, next_record}
+use Rattle.csv.specs.Reading.{AreRecords, Reached, default_config, strip_bom}
+use Rattle.csv.specs.Records.{AllText}
+use Rattle.csv.specs.declared.error.ErrorKind.{ErrorKind}
+use Rattle.csv.specs.declared.error.ErrorKind.TheVariants as kind
+use Rattle.csv.specs.declared.parser.Config.{Config}
+use Rattle.csv.specs.declared.parser.State.{State}
+use Rattle.csv.specs.declared.parser.State.TheVariants as st
+use Rattle.csv_records.specs.declared.error.CsvError.{CsvError}
+use Rattle.csv_records.specs.declared.error.CsvError.TheVariants.{Read, Write, NotUtf8, NotUtf16, Unclosed, SplitCharacter, NoColumn, OutOfMemory, TwoSides}
+
+-- ---- text
+
+-- a byte breaks a line: a carriage return, or a line feed that follows none
+abbrev pub breaks_line : Bool → ℕ → Bool
+breaks_line after_return b = (b == 0x0D) || ((b == 0x0A) && not after_return)
+
+-- how many line breaks stand in a text that follows a carriage return, or doesn't
+abbrev pub line_breaks_after : Bool → Text → ℕ
+line_breaks_after after_return [] = 0
+line_breaks_after after_return (b ∷ bs) =
+    (if breaks_line after_return b then 1 else 0) + line_breaks_after (b == 0x0D) bs
+
+abbrev pub line_breaks : Text → ℕ
+line_breaks text = line_breaks_after false text
+
+-- the number of the line in which the byte at this place stands, counted from 1
+abbrev pub line_of : Text → ℕ → ℕ
+line_of input at = line_breaks (take at input) + 1
+
+-- the input isn't UTF-8, and its first byte that is no text stands in this line
+pub record IsFirstUnread (input : Text) (line : ℕ) : Type 0 where
+  pub no_text : ¬ (IsUtf8 input)
+  pub numbered : line ≡ line_of input (utf8_valid_len input)
+
+-- why an input is no text
+abbrev pub IsTextRefusal : Text → CsvError → Type 0
+IsTextRefusal input (NotUtf8 line) = IsFirstUnread input line
+IsTextRefusal input (NotUtf16 line) = ⊥
+IsTextRefusal input (Unclosed line) = ⊥
+IsTextRefusal input Read = ⊥
+IsTextRefusal input Write = ⊥
+IsTextRefusal input SplitCharacter = ⊥
+IsTextRefusal input (NoColumn name) = ⊥
+IsTextRefusal input (TwoSides name) = ⊥
+IsTextRefusal input OutOfMemory = ⊥
+
+-- ---- records
+
+-- how records are read: as csv does without settings, but with this delimiter, and without quotes a
+-- quote is a character
+abbrev pub config_for : ℕ → Bool → Config
+config_for delimiter has_quotes =
+    record default_config { delimiter = delimiter; quoting = has_quotes }
+
+-- these are the records of an input, and each is UTF-8
+pub record AreRecordsOf (delimiter : ℕ) (has_quotes : Bool) (input : Text)
+    (records : List (List Text)) : Type 0 where
+  pub all : AreRecords (config_for delimiter has_quotes) st.StartRecord (strip_bom input) records
+  pub are_text : All AllText records
+
+-- the records of UTF-8 are UTF-8, where the delimiter is ASCII
+abbrev pub RecordsAreText : ℕ → Bool → Text → List (List Text) → Type 0
+RecordsAreText delimiter has_quotes input records =
+    delimiter < 128 → IsUtf8 input
+    → AreRecords (config_for delimiter has_quotes) st.StartRecord (strip_bom input) records
+    → All AllText records
+
+-- what is returned for a fault of csv's reader
+abbrev pub IsRecordRefusal : ErrorKind → CsvError → Type 0
+IsRecordRefusal (kind.Utf8 pos err) e = e ≡ SplitCharacter
+IsRecordRefusal (kind.Io cause) e = e ≡ OutOfMemory
+IsRecordRefusal (kind.UnequalLengths pos expected len) e = e ≡ OutOfMemory
+IsRecordRefusal (kind.Serialize why) e = e ≡ OutOfMemory
+IsRecordRefusal (kind.Deserialize pos err) e = e ≡ OutOfMemory
+IsRecordRefusal kind.OutOfMemory e = e ≡ OutOfMemory
+
+-- the delimiter isn't ASCII, and after records of UTF-8 comes one that isn't UTF-8
+pub record SplitsCharacter (delimiter : ℕ) (has_quotes : Bool) (input : Text) : Type 0 where
+  pub no_ascii : 128 ≤ delimiter
+  pub before : List (List Text)
+  pub state : State
+  pub rest : Text
+  pub reached :
+      Reached (config_for delimiter has_quotes) st.StartRecord (strip_bom input) before state rest
+  pub are_text : All AllText before
+  pub next : FoundRecord
+  pub is_next : next_record (config_for delimiter has_quotes) state [] [] rest ≡ Some next
+  pub is_no_text : ¬ (AllText next.0)
+
+-- why a text has no records: the delimiter splits a character, or there is no memory
+abbrev pub IsReadingRefusal : ℕ → Bool → Text → CsvError → Type 0
+IsReadingRefusal delimiter has_quotes input SplitCharacter =
+    SplitsCharacter delimiter has_quotes input
+IsReadingRefusal delimiter has_quotes input OutOfMemory = Unit {0}
+IsReadingRefusal delimiter has_quotes input Read = ⊥
+IsReadingRefusal delimiter has_quotes input Write = ⊥
+IsReadingRefusal delimiter has_quotes input (NotUtf8 line) = ⊥
+IsReadingRefusal delimiter has_quotes input (NotUtf16 line) = ⊥
+IsReadingRefusal delimiter has_quotes input (Unclosed line) = ⊥
+IsReadingRefusal delimiter has_quotes input (NoColumn name) = ⊥
+IsReadingRefusal delimiter has_quotes input (TwoSides name) = ⊥

@@ -1,0 +1,14 @@
+pub mod Cleaning
+pub mod Delimiter
+pub mod Encoding
+pub mod Input
+pub mod Number
+pub mod NumberLaws
+pub mod Numerals
+pub mod Pieces
+pub mod Places
+pub mod QuoteWalk
+pub mod Quotes
+pub mod Reading
+pub mod Shown
+pub mod Started

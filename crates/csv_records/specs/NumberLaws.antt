@@ -1,0 +1,35 @@
+-- What is so of every number.
+use Rattle.std.specs.Prelude.{◌≡◌, ◌==◌, ◌||◌, ◌++◌, ℕ, Bool, true, IsUtf8, List, [], ◌∷◌, chars, encode_utf8}
+use Rattle.std.specs.Char.{is_ascii_digit}
+use Rattle.std.specs.List.{list_all, list_any}
+use Rattle.comfy_parts.specs.Text.{Text}
+use Rattle.csv_records.specs.Number.{is_blank, is_number, is_sign, is_unit}
+
+-- `.`, `,`, `_` and `'`
+abbrev pub is_mark : ℕ → Bool
+is_mark c = list_any (λ mark. c == mark) (0x2E ∷ 0x2C ∷ 0x5F ∷ 0x27 ∷ [])
+
+-- `e`, `E` and parentheses
+abbrev pub is_around : ℕ → Bool
+is_around c = list_any (λ other. c == other) (0x65 ∷ 0x45 ∷ 0x28 ∷ 0x29 ∷ [])
+
+-- a character that may stand in a number: a digit, a sign, a mark, `e`, `E`, a parenthesis, a
+-- space, a currency or `%`
+abbrev pub is_listed : ℕ → Bool
+is_listed c =
+    is_ascii_digit c || (is_sign c || (is_mark c || (is_around c || (is_blank c || is_unit c))))
+
+-- a digit is among these characters, and each of them may stand in a number
+pub record AreOfNumber (characters : List ℕ) : Type 0 where
+  pub digit : list_any is_ascii_digit characters ≡ true
+  pub listed : list_all is_listed characters ≡ true
+
+-- a number has a digit, and no characters but those
+abbrev pub IsOfDigits : Text → Type 0
+IsOfDigits text = IsUtf8 text → is_number text ≡ true → AreOfNumber (chars text)
+
+-- with one sign at its front a text is a number exactly if it is one with another sign
+abbrev pub SignsAreAlike : ℕ → ℕ → Text → Type 0
+SignsAreAlike sign other text =
+    is_sign sign ≡ true → is_sign other ≡ true → IsUtf8 text
+    → is_number (encode_utf8 sign ++ text) ≡ is_number (encode_utf8 other ++ text)

@@ -1,0 +1,13 @@
+-- Private: where the fields of a record stand among those of all records.
+use Rattle.std.specs.Prelude.{◌-◌, ◌^◌, ◌<◌, ◌≤◌, List, drop, length, take}
+use Rattle.comfy_parts.specs.Text.{Text}
+use Rattle.csv_records.specs.declared.records.Place.{Place}
+
+-- the fields of a record
+abbrev pub fields_at : List Text → Place → List Text
+fields_at fields place = take (place.end - place.start) (drop place.start fields)
+
+-- they are all there, and a `usize` counts them
+abbrev pub IsWithin : List Text → Place → Type 0
+IsWithin fields place =
+    (place.start ≤ place.end) × (place.end ≤ length fields) × (place.end < 2 ^ 64)

@@ -1,0 +1,63 @@
+-- The records of an input, by what is asked for, and why there are none.
+use Rattle.std.specs.Prelude.{ℕ, ◌≡◌, ◌≢◌, ◌+◌, true, List, ◌++◌}
+use Rattle.comfy_parts.specs.Text.{Text}
+use Rattle.csv.specs.Reading.{strip_bom}
+use Rattle.csv.specs.declared.parser.State.TheVariants as st
+use Rattle.csv_records.specs.Delimiter.{below_lines, delimited}
+use Rattle.csv_records.specs.Encoding.{IsTextIn, encoding_of}
+use Rattle.csv_records.specs.Input.{AreRecordsOf, SplitsCharacter, line_breaks}
+use Rattle.csv_records.specs.Quotes.{IsUnclosed, state_after}
+use Rattle.csv_records.specs.declared.error.CsvError.{CsvError}
+use Rattle.csv_records.specs.declared.error.CsvError.TheVariants.{OutOfMemory, SplitCharacter, Unclosed}
+use Rattle.csv_records.specs.declared.options.InputOptions.{InputOptions}
+
+-- an input has this text, in the encoding that is asked for or found
+abbrev pub IsTextFor : InputOptions → Text → Text → Type 0
+IsTextFor options input text = IsTextIn (encoding_of options.encoding input) input text
+
+-- the byte between the fields of a text, and what holds its records: not the lines that are left
+-- out, nor one that names the byte
+abbrev pub parted : InputOptions → Text → ℕ × Text
+parted options text = delimited options.delimiter options.has_quotes (below_lines options.skip text)
+
+-- these are the records of a text, and where quotes count, it doesn't end within them
+pub record AreRecordsIn (options : InputOptions) (text : Text) (records : List
+    (List Text)) : Type 0 where
+  pub are_records :
+      AreRecordsOf (parted options text).0 options.has_quotes (parted options text).1 records
+  pub is_closed : options.has_quotes ≡ true
+      → state_after (parted options text).0 (strip_bom (parted options text).1) ≢ st.InQuoted
+
+-- a quote that opens a field in this line of a text is never closed
+pub record HasUnclosedQuote (options : InputOptions) (text : Text) (line : ℕ) : Type 0 where
+  pub has_quotes : options.has_quotes ≡ true
+  pub before : Text
+  pub from_quote : Text
+  pub parts : text ≡ before ++ from_quote
+  pub is_unclosed :
+      IsUnclosed (parted options text).0 (strip_bom (parted options text).1) from_quote
+  pub numbered : line ≡ line_breaks before + 1
+
+-- the delimiter isn't ASCII, and splits a character of a record
+abbrev pub HasSplitCharacter : InputOptions → Text → Type 0
+HasSplitCharacter options text =
+    SplitsCharacter (parted options text).0 options.has_quotes (parted options text).1
+
+-- why a text has no records
+abbrev pub IsTextWithoutRecords : InputOptions → Text → CsvError → Type 0
+IsTextWithoutRecords options text (Unclosed line) = HasUnclosedQuote options text line
+IsTextWithoutRecords options text SplitCharacter = HasSplitCharacter options text
+IsTextWithoutRecords options text OutOfMemory = Unit {0}
+IsTextWithoutRecords options text _ = ⊥
+
+-- these are the records of an input, in the encoding that is asked for or found
+pub record AreRecordsFor (options : InputOptions) (input : Text) (records : List
+    (List Text)) : Type 0 where
+  pub text : Text
+  pub is_text : IsTextFor options input text
+  pub are_records : AreRecordsIn options text records
+
+-- the records of an input are one list
+abbrev pub RecordsAreOne : InputOptions → Text → List (List Text) → List (List Text) → Type 0
+RecordsAreOne options input records others =
+    AreRecordsFor options input records → AreRecordsFor options input others → records ≡ others

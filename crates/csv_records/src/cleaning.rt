@@ -1,0 +1,241 @@
+//! Texts without control characters, and without those that turn the direction of text, so that
+//! each character stands where it is counted.
+
+ghost use Rattle.std.specs.Prelude.{◌≡◌, ◌∷◌, [], IfNone, IfOk, IfSome, OnOk, chars, if◌then◌else◌, not, string_bytes};
+ghost use Rattle.std.specs.Iterator.{YieldsFirstBy, item_count};
+ghost use Rattle.std.specs.List.{list_any};
+ghost use Rattle.std.specs.Str.{IsCharBoundary};
+ghost use Rattle.comfy_parts.specs.Text.{is_printable_ascii};
+ghost use Rattle.comfy_parts.specs.VisibleText.{sequence_len};
+ghost use Rattle.csv_records.specs.Cleaning.{after_character, after_piece, blanks_after, cleaned, is_replaced, pieces, shown, start, turns_direction};
+ghost use Rattle.csv_records.specs.Pieces.{part_of};
+
+use comfy_parts::content_split::{measure_text_width, sequence_len};
+use std::alloc::{AllocError, Global};
+use std::marker::Model;
+
+// How many terminal columns stand between two stops.
+const STOP: usize = 4;
+
+/// What of a field is left as it is.
+#[derive(Clone, Copy, Debug)]
+pub struct Kept {
+    /// Whether SGR sequences are. They take no terminal columns.
+    pub sequences: bool,
+    /// Whether characters that turn the direction of text are: U+202A to U+202E, and U+2066 to
+    /// U+2069.
+    pub directions: bool,
+}
+
+/// A field as it is drawn. A TAB becomes spaces up to the next multiple of four terminal columns,
+/// by what is visible of its line since the last TAB. A line feed, a carriage return, or both in
+/// this order reversed, are one line feed. Every other control character, and each that turns the
+/// direction of text, becomes U+FFFD, unless it is kept.
+pub fn cleaned(alloc: Global, field: &str, kept: Kept) -> Result<String, AllocError>
+    ensures { IfOk result (λ text. string_bytes text ≡ cleaned kept field.now) }
+{
+    if is_clean(field, kept) {
+        return String::from_str(alloc, field);
+    }
+    let mut cleaner = Cleaner::new(alloc);
+    let pieces = Pieces {
+        rest: field,
+        keeps_sequences: kept.sequences,
+    };
+    for piece in pieces {
+        cleaner.push_piece(piece, kept)?;
+    }
+    Ok(cleaner.text)
+}
+
+// Whether no character of a field is replaced. Most fields are printable ASCII, which is seen
+// faster.
+fn is_clean(field: &str, kept: Kept) -> bool
+    ensures { result ≡ not (list_any (is_replaced kept) (chars field.now)) }
+{
+    is_printable(field.as_bytes()) || !has_replaced(field, kept)
+}
+
+// Whether a character of a field is drawn as another one.
+fn has_replaced(field: &str, kept: Kept) -> bool
+    ensures { result ≡ list_any (is_replaced kept) (chars field.now) }
+{
+    field.chars().any(|c| is_replaced(c, kept))
+}
+
+// Whether these bytes are printable ASCII.
+fn is_printable(bytes: &[u8]) -> bool
+    ensures { result ≡ is_printable_ascii bytes.now }
+{
+    bytes.iter().all(|byte| matches!(byte, b' '..=b'~'))
+}
+
+/// Whether a character is drawn as another one.
+fn is_replaced(c: char, kept: Kept) -> bool
+    ensures { result ≡ is_replaced kept c }
+{
+    c.is_control() || !kept.directions && turns_direction(c)
+}
+
+// Whether a character turns the direction of what follows it.
+fn turns_direction(c: char) -> bool
+    ensures { result ≡ turns_direction c }
+{
+    matches!(c, '\u{202a}'..='\u{202e}' | '\u{2066}'..='\u{2069}')
+}
+
+// A piece of a field.
+#[derive(Clone, Copy)]
+enum Piece<'a> {
+    Sequence(&'a str),
+    Character(char),
+}
+
+// The pieces of a field that are left.
+#[derive(Drop)]
+struct Pieces<'a> {
+    rest: &'a str,
+    keeps_sequences: bool,
+}
+
+impl<'a> Model for Pieces<'a> {
+    ghost use Rattle.std.specs.Prelude.{List, chars};
+    ghost use Rattle.comfy_parts.specs.VisibleText.{Part};
+    ghost use Rattle.csv_records.specs.Cleaning.{pieces};
+
+    ghost Value = { List Part };
+
+    ghost view = { λ p. pieces p.keeps_sequences (chars p.rest.now) };
+}
+
+impl<'a> Iterator for Pieces<'a> {
+    type Item = Piece<'a>;
+
+    ghost next_gives = { YieldsFirstBy part_of (λ left. left) };
+
+    ghost remaining = { item_count (λ left. left) };
+
+    fn next(&mut self) -> Option<Piece<'a>> {
+        let (piece, rest) = first_piece(self.rest, self.keeps_sequences)?;
+        self.rest = rest;
+        Some(piece)
+    }
+}
+
+// The piece at a text's front, and what is after it.
+fn first_piece(text: &str, keeps_sequences: bool) -> Option<(Piece<'_>, &str)>
+    ensures some { IfSome result (λ halves. pieces keeps_sequences (chars text.now)
+        ≡ part_of halves.0 ∷ pieces keeps_sequences (chars halves.1.now)) }
+    ensures none { IfNone result (pieces keeps_sequences (chars text.now) ≡ []) }
+{
+    let len = kept_len(text, keeps_sequences);
+    if len > 0 {
+        let (sequence, rest) = text.split_at(len);
+        return Some((Piece::Sequence(sequence), rest));
+    }
+    let mut characters = text.chars();
+    let c = characters.next()?;
+    Some((Piece::Character(c), characters.as_str()))
+}
+
+// The bytes of the sequence at a text's front where sequences are kept, 0 where there is none.
+fn kept_len(text: &str, keeps_sequences: bool) -> usize
+    ensures value { result ≡ (if keeps_sequences then sequence_len text.now else 0) }
+    ensures boundary { IsCharBoundary text.now result }
+{
+    if keeps_sequences {
+        sequence_len(text)
+    } else {
+        0
+    }
+}
+
+// A text that is being cleaned.
+#[derive(Drop)]
+struct Cleaner {
+    text: String,
+    // what is visible of its last line since the last stop
+    seen: String,
+    // whether the last character was a carriage return
+    after_return: bool,
+}
+
+impl Model for Cleaner {
+    ghost use Rattle.std.specs.Prelude.{string_bytes};
+    ghost use Rattle.csv_records.specs.Cleaning.{CleanedText};
+
+    ghost Value = { CleanedText };
+
+    ghost view = { λ c. record {
+      text = string_bytes c.text;
+      seen = string_bytes c.seen;
+      after_return = c.after_return;
+    } };
+}
+
+impl Cleaner {
+    fn new(alloc: Global) -> Cleaner
+        ensures { result ≡ start }
+    {
+        Cleaner {
+            text: String::new(alloc),
+            seen: String::new(alloc),
+            after_return: false,
+        }
+    }
+
+    // Writes a piece as it is drawn.
+    fn push_piece(&mut self, piece: Piece<'_>, kept: Kept) -> Result<(), AllocError>
+        ensures { OnOk result (self.new ≡ after_piece kept self.old (part_of piece.entry)) }
+    {
+        match piece {
+            Piece::Sequence(sequence) => {
+                self.after_return = false;
+                self.text.push_str(sequence)
+            }
+            Piece::Character(c) => self.push(c, kept),
+        }
+    }
+
+    // Writes a character as it is drawn.
+    fn push(&mut self, c: char, kept: Kept) -> Result<(), AllocError>
+        ensures { OnOk result (self.new ≡ after_character kept self.old c) }
+    {
+        let follows_return = self.after_return;
+        self.after_return = c == '\r';
+        if c == '\n' && follows_return {
+            return Ok(());
+        }
+        if c == '\n' || c == '\r' {
+            self.seen.clear();
+            return self.text.push('\n');
+        }
+        if c == '\t' {
+            let blanks = blanks_after(self.seen.as_str());
+            self.seen.clear();
+            return self.text.push_str(blanks);
+        }
+        let drawn = shown(c, kept);
+        self.seen.push(drawn)?;
+        self.text.push(drawn)
+    }
+}
+
+// The spaces from a text's end to the next stop.
+fn blanks_after(seen: &str) -> &'static str
+    ensures { result.now ≡ blanks_after seen.now }
+{
+    match measure_text_width(seen) % STOP {
+        0 => "    ",
+        1 => "   ",
+        2 => "  ",
+        _ => " ",
+    }
+}
+
+// A character as it is drawn.
+pub(crate) fn shown(c: char, kept: Kept) -> char
+    ensures { result ≡ shown kept c }
+{
+    if is_replaced(c, kept) { '\u{fffd}' } else { c }
+}

@@ -1,0 +1,195 @@
+//! What stands between the fields of a text, and the text below its first lines.
+
+ghost use Rattle.std.specs.Prelude.{◌≡◌, ◌==◌, IfOk, nat_lt, option_map, if◌then◌else◌};
+ghost use Rattle.std.specs.List.{position};
+ghost use Rattle.csv.specs.Reading.{strip_bom};
+ghost use Rattle.csv_records.specs.Delimiter.{EndsIn, IsAsciiUnlessAsked, below_line, below_lines, delimited, delimiter_in, end_len, ends_line, first_line, found_delimiter, line_len, named_delimiter, only_ascii, parts_evenly};
+
+use crate::records::reader_of;
+use crate::text::without_mark;
+use csv::ByteRecord;
+use std::alloc::{AllocError, Global};
+
+/// What stands between the fields of a record.
+#[derive(Clone, Copy, Debug)]
+pub enum Delimiter {
+    /// This byte.
+    Byte(u8),
+    /// What a first line `sep=X` names, else what parts the first records evenly, else a comma.
+    Auto,
+    /// What a first line `sep=X` names, else TAB.
+    NamedOrTab,
+}
+
+/// The byte between the fields of a text, and the text of its records: all of it, or what follows a
+/// first line `sep=X`.
+///
+/// Such a line is looked for unless a byte is asked for, also behind a byte-order mark. X is one
+/// ASCII character that is no quote. The letters may be capitals.
+///
+/// `Auto` takes the first of TAB, `;`, `,` and `|` that gives each of the first ten records one
+/// same number of fields, above 1.
+pub(crate) fn delimited<'a>(
+    alloc: Global,
+    text: &'a str,
+    delimiter: Delimiter,
+    has_quotes: bool,
+) -> Result<(u8, &'a str), AllocError>
+    ensures byte { IfOk result (λ parts. parts.0 ≡ (delimited delimiter has_quotes text.now).0) }
+    ensures records { IfOk result (λ parts. parts.1.now
+        ≡ (delimited delimiter has_quotes text.now).1) }
+    ensures end { IfOk result (λ parts. EndsIn text.now parts.1.now) }
+    ensures ascii { IfOk result (λ parts. IsAsciiUnlessAsked delimiter parts.0) }
+{
+    match delimiter {
+        Delimiter::Byte(byte) => Ok((byte, text)),
+        Delimiter::Auto => match named_delimiter(text) {
+            Some(parts) => Ok(parts),
+            None => Ok((found_delimiter(alloc, text, has_quotes)?, text)),
+        },
+        Delimiter::NamedOrTab => match named_delimiter(text) {
+            Some(parts) => Ok(parts),
+            None => Ok((b'\t', text)),
+        },
+    }
+}
+
+/// The text below its first `count` lines, empty where there aren't more. A line ends at a line
+/// feed, a carriage return, or a carriage return with a line feed, also between quotes.
+pub(crate) fn below_lines(text: &str, count: usize) -> &str
+    ensures below { result.now ≡ below_lines count text.now }
+    ensures end { EndsIn text.now result.now }
+{
+    let mut rest = text;
+    for _ in 0..count {
+        if rest.is_empty() {
+            break;
+        }
+        (_, rest) = split_line(rest);
+    }
+    rest
+}
+
+// The first line without its end, and what follows that end.
+fn split_line(text: &str) -> (&str, &str)
+    ensures line { result.0.now ≡ first_line text.now }
+    ensures below { result.1.now ≡ below_line text.now }
+{
+    let (line, rest) = text.split_at(line_len(text.as_bytes()));
+    (line, rest.split_at(end_len(rest.as_bytes())).1)
+}
+
+// How many bytes stand before the first line end.
+fn line_len(bytes: &[u8]) -> usize
+    ensures { result ≡ line_len bytes.now }
+{
+    line_end(bytes).unwrap_or(bytes.len())
+}
+
+// The place of the first line end.
+fn line_end(bytes: &[u8]) -> Option<usize>
+    ensures { result ≡ position ends_line bytes.now }
+{
+    bytes
+        .iter()
+        .position(|byte| *byte == b'\n' || *byte == b'\r')
+}
+
+// How many bytes the line end in front has.
+fn end_len(bytes: &[u8]) -> usize
+    ensures { result ≡ end_len bytes.now }
+{
+    match bytes {
+        [b'\r', b'\n', ..] => 2,
+        [b'\r' | b'\n', ..] => 1,
+        _ => 0,
+    }
+}
+
+// The delimiter that a first line names, and what follows that line.
+fn named_delimiter(text: &str) -> Option<(u8, &str)>
+    ensures { option_map (λ parts. (parts.0, parts.1.now)) result ≡ named_delimiter text.now }
+{
+    let (line, below) = split_line(without_mark(text));
+    Some((delimiter_in(line.as_bytes())?, below))
+}
+
+// The delimiter that a line names.
+fn delimiter_in(line: &[u8]) -> Option<u8>
+    ensures { result ≡ delimiter_in line.now }
+{
+    let (word, name) = line.split_at_checked(4)?;
+    if word.eq_ignore_ascii_case(b"sep=") {
+        only_ascii(name)
+    } else {
+        None
+    }
+}
+
+// The ASCII character that is all of a word, where it may stand between fields.
+pub fn only_ascii(word: &[u8]) -> Option<u8>
+    ensures { result ≡ only_ascii word.now }
+{
+    match word {
+        [b'"' | b'\n' | b'\r' | 0x80..] => None,
+        [byte] => Some(*byte),
+        _ => None,
+    }
+}
+
+// The delimiters that are tried, in this order.
+const TRIED: [u8; 4] = [b'\t', b';', b',', b'|'];
+
+// How many records are looked at.
+const FIRST_RECORDS: usize = 10;
+
+// The first of them that parts the records evenly, else a comma.
+fn found_delimiter(alloc: Global, text: &str, has_quotes: bool) -> Result<u8, AllocError>
+    ensures { IfOk result (λ delimiter. delimiter ≡ found_delimiter has_quotes text.now) }
+{
+    for delimiter in TRIED {
+        if parts_evenly(alloc, text, has_quotes, delimiter)? {
+            return Ok(delimiter);
+        }
+    }
+    Ok(b',')
+}
+
+// The first records have one same number of fields, above 1. Nothing is read behind the first that
+// differs.
+fn parts_evenly(
+    alloc: Global,
+    text: &str,
+    has_quotes: bool,
+    delimiter: u8,
+) -> Result<bool, AllocError>
+    ensures { IfOk result (λ is_so. is_so ≡ parts_evenly has_quotes text.now delimiter) }
+{
+    let mut reader = reader_of(alloc, text, delimiter, has_quotes);
+    let mut record = ByteRecord::new(alloc);
+    let mut fields = 0;
+    for _ in 0..FIRST_RECORDS {
+        let Ok(is_found) = reader.read_byte_record(&mut record) else {
+            return Err(AllocError);
+        };
+        if !is_found {
+            break;
+        }
+        if !may_follow(fields, record.len()) {
+            return Ok(false);
+        }
+        fields = record.len();
+    }
+    Ok(fields > 0)
+}
+
+// A record of so many fields may follow records of `before` fields each; 0 stands for no record.
+fn may_follow(before: usize, fields: usize) -> bool
+    ensures { result ≡ (if before == 0 then nat_lt 1 fields else (fields == before)) }
+{
+    if before == 0 {
+        fields > 1
+    } else {
+        fields == before
+    }
+}

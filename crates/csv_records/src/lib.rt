@@ -1,0 +1,28 @@
+//! From bytes to records of fields, and what a field is: encodings, delimiters, quotes, cleaning and
+//! numbers.
+#![tactic(auto)]
+
+mod cleaning;
+mod delimiter;
+mod encoding;
+mod error;
+pub mod laws;
+mod number;
+mod numerals;
+mod options;
+mod quotes;
+mod reading;
+mod records;
+mod shown;
+mod text;
+
+pub use cleaning::{Kept, cleaned};
+pub use delimiter::{Delimiter, only_ascii};
+pub use encoding::{Encoding, decoded};
+pub use error::CsvError;
+pub use number::{is_neutral, is_number};
+pub use numerals::number_of;
+pub use options::InputOptions;
+pub use reading::read_records;
+pub use records::{Record, Records, Rows};
+pub use shown::shown_text;

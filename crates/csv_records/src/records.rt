@@ -1,0 +1,277 @@
+//! The records of a text.
+
+ghost use Rattle.std.specs.Prelude.{◌≡◌, ◌<◌, ◌==◌, ◌-◌, ◌^◌, ◌++◌, [], IfErr, IfOk, IfSome, OnOk, drop, length, option_map, slice_get, take};
+ghost use Rattle.std.specs.Iterator.{YieldsFirstBy, item_count};
+ghost use Rattle.csv.specs.Reading.{error_kind};
+ghost use Rattle.csv.specs.Records.{field_at, fields_of};
+ghost use Rattle.csv_records.specs.Input.{AreRecordsOf, IsReadingRefusal, IsRecordRefusal};
+ghost use Rattle.csv_records.specs.Started.{IsStarted};
+
+use crate::error::CsvError;
+use csv::{Error, ErrorKind, Reader, ReaderBuilder, StringRecord};
+use std::alloc::{AllocError, Global};
+use std::marker::Model;
+
+/// The records of a text. However many they are, they lie in two large pieces of memory, which come
+/// back when they are dropped.
+///
+/// ```
+/// let records = read_records(alloc, "name,days\noats,3\n", &options)?;
+/// let below = records.rows().rows_behind(1);
+/// // one record, whose field at position 1 is 3
+/// ```
+pub struct Records {
+    // the fields of all records, one behind another
+    fields: StringRecord,
+    places: Vec<Place>,
+}
+
+// Where the fields of a record stand among those of all: from the first position up to the second.
+#[derive(Clone, Copy)]
+struct Place {
+    start: usize,
+    end: usize,
+}
+
+impl Drop for Records {
+    fn drop(self) {
+        let Records {
+            fields: _,
+            places: _,
+        } = self;
+    }
+}
+
+impl Model for Records {
+    ghost use Rattle.std.specs.Prelude.{All, List, length, map};
+    ghost use Rattle.csv.specs.Records.{fields_of};
+    ghost use Rattle.comfy_parts.specs.Text.{Text};
+    ghost use Rattle.csv_records.specs.Places.{IsWithin, fields_at};
+
+    ghost Value = { List (List Text) };
+
+    ghost invariant = { λ r. All (IsWithin (fields_of r.fields)) r.places.items };
+
+    ghost view = { λ r. map (fields_at (fields_of r.fields)) r.places.items };
+}
+
+impl Records {
+    /// All of them, in their order.
+    pub fn rows(&self) -> Rows<'_>
+        ensures { result ≡ self.now }
+    {
+        Rows {
+            fields: &self.fields,
+            places: self.places.as_slice(),
+        }
+    }
+}
+
+/// Records that stand one behind another: all of a text, or some. As an iterator it gives each of
+/// them.
+#[derive(Drop)]
+pub struct Rows<'a> {
+    fields: &'a StringRecord,
+    places: &'a [Place],
+}
+
+impl<'a> Model for Rows<'a> {
+    ghost use Rattle.std.specs.Prelude.{All, List, length, map};
+    ghost use Rattle.csv.specs.Records.{fields_of};
+    ghost use Rattle.comfy_parts.specs.Text.{Text};
+    ghost use Rattle.csv_records.specs.Places.{IsWithin, fields_at};
+
+    ghost Value = { List (List Text) };
+
+    ghost invariant = { λ r. All (IsWithin (fields_of r.fields.now)) r.places.now };
+
+    ghost view = { λ r. map (fields_at (fields_of r.fields.now)) r.places.now };
+}
+
+impl<'a> Rows<'a> {
+    /// How many there are.
+    pub fn len(&self) -> usize
+        ensures { result ≡ length self.now }
+    {
+        self.places.len()
+    }
+
+    /// Whether there are none.
+    pub fn is_empty(&self) -> bool
+        ensures { result ≡ (length self.now == 0) }
+    {
+        self.places.is_empty()
+    }
+
+    /// The same records, to go over them.
+    pub fn iter(&self) -> Rows<'a>
+        ensures { result ≡ self.now }
+    {
+        Rows {
+            fields: self.fields,
+            places: self.places,
+        }
+    }
+
+    /// The records behind so many.
+    pub fn rows_behind(&self, count: usize) -> Rows<'a>
+        ensures { result ≡ drop count self.now }
+    {
+        let (_, places) = self.places.split_at(count.min(self.places.len()));
+        let fields = self.fields;
+        Rows { fields, places }
+    }
+
+    /// The first records, at most so many.
+    pub fn first_rows(&self, count: usize) -> Rows<'a>
+        ensures { result ≡ take count self.now }
+    {
+        let (places, _) = self.places.split_at(count.min(self.places.len()));
+        let fields = self.fields;
+        Rows { fields, places }
+    }
+
+    /// The first record, where there is one.
+    pub fn first(&self) -> Option<Record<'a>>
+        ensures { result ≡ slice_get self.now 0 }
+    {
+        let place = self.places.first()?;
+        Some(Record {
+            fields: self.fields,
+            place: *place,
+        })
+    }
+
+    /// A record without fields.
+    pub fn blank(&self) -> Record<'a>
+        ensures { result ≡ [] }
+    {
+        let place = Place { start: 0, end: 0 };
+        let fields = self.fields;
+        Record { fields, place }
+    }
+}
+
+impl<'a> Iterator for Rows<'a> {
+    type Item = Record<'a>;
+
+    ghost next_gives = { YieldsFirstBy (λ r. r) (λ rows. rows) };
+
+    ghost remaining = { item_count (λ rows. rows) };
+
+    fn next(&mut self) -> Option<Record<'a>> {
+        let (place, places) = self.places.split_first()?;
+        self.places = places;
+        Some(Record {
+            fields: self.fields,
+            place: *place,
+        })
+    }
+}
+
+/// A record. It lends its fields.
+#[derive(Drop)]
+pub struct Record<'a> {
+    fields: &'a StringRecord,
+    place: Place,
+}
+
+impl<'a> Model for Record<'a> {
+    ghost use Rattle.std.specs.Prelude.{List};
+    ghost use Rattle.csv.specs.Records.{fields_of};
+    ghost use Rattle.comfy_parts.specs.Text.{Text};
+    ghost use Rattle.csv_records.specs.Places.{IsWithin, fields_at};
+
+    ghost Value = { List Text };
+
+    ghost invariant = { λ r. IsWithin (fields_of r.fields.now) r.place };
+
+    ghost view = { λ r. fields_at (fields_of r.fields.now) r.place };
+}
+
+impl<'a> Record<'a> {
+    /// How many fields there are.
+    pub fn len(&self) -> usize
+        ensures { result ≡ length self.now }
+    {
+        self.place.end - self.place.start
+    }
+
+    /// The field at a position, which is counted from 0; none behind the last.
+    pub fn get(&self, position: usize) -> Option<&'a str>
+        ensures place { IfSome result (λ f. position < 2 ^ 64 - 1) }
+        ensures value { option_map (λ s. s.now) result ≡ field_at self.now position }
+    {
+        if position < self.len() {
+            self.fields.get(self.place.start + position)
+        } else {
+            None
+        }
+    }
+}
+
+/// What reads the records of a text, whose fields stand between delimiters. Records may have
+/// different numbers of fields. A byte-order mark at the beginning is dropped. Without quotes, a
+/// quote is a character of its field.
+pub(crate) fn reader_of(alloc: Global, text: &str, delimiter: u8, has_quotes: bool) -> Reader<&[u8]>
+    ensures { IsStarted delimiter has_quotes text.now result }
+{
+    ReaderBuilder::new()
+        .delimiter(delimiter)
+        .quoting(has_quotes)
+        .has_headers(false)
+        .flexible(true)
+        .from_reader(alloc, text.as_bytes())
+}
+
+/// All records of a text.
+///
+/// `SplitCharacter` comes only of a delimiter that isn't ASCII.
+pub(crate) fn records_of(
+    alloc: Global,
+    text: &str,
+    delimiter: u8,
+    has_quotes: bool,
+) -> Result<Records, CsvError>
+    ensures all { IfOk result (λ records. AreRecordsOf delimiter has_quotes text.now records) }
+    ensures refused { IfErr result (λ e. IsReadingRefusal delimiter has_quotes text.now e) }
+{
+    let mut reader = reader_of(alloc, text, delimiter, has_quotes);
+    let mut fields = StringRecord::new(alloc);
+    let mut places = Vec::new(alloc);
+    let mut record = StringRecord::new(alloc);
+    // No memory holds so many records.
+    for _ in 0..u64::MAX {
+        match reader.read_record(&mut record) {
+            Ok(true) => {
+                let start = fields.len();
+                push_fields(&mut fields, &record)?;
+                let end = fields.len();
+                places.push(Place { start, end })?;
+            }
+            Ok(false) => return Ok(Records { fields, places }),
+            Err(error) => return Err(refusal_of(&error)),
+        }
+    }
+    Err(CsvError::OutOfMemory)
+}
+
+// Appends the fields of a record to others.
+fn push_fields(fields: &mut StringRecord, more: &StringRecord) -> Result<(), AllocError>
+    ensures { OnOk result (fields_of fields.new ≡ fields_of fields.old ++ fields_of more.now) }
+{
+    for field in more.iter() {
+        fields.push_field(field)?;
+    }
+    Ok(())
+}
+
+// Why no further record was read. A reader of bytes in memory has no fault of its own.
+fn refusal_of(error: &Error) -> CsvError
+    ensures { IsRecordRefusal (error_kind error.now) result }
+{
+    match error.kind() {
+        ErrorKind::Utf8 { .. } => CsvError::SplitCharacter,
+        _ => CsvError::OutOfMemory,
+    }
+}

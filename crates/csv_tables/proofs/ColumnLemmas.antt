@@ -1,0 +1,96 @@
+-- Choices of columns, one after another.
+use Rattle.std.proofs.Common.{◌≡◌, ◌<◌, ◌+◌, ◌-◌, ◌&&◌, ◌||◌, not, ℕ, Bool, true, false, zero, suc, List, [], ◌∷◌, Option, Some, Result, Ok, Err, String, bytes_eq, drop, get_or, length, map, string_bytes, take, refl, sym, ap, arith}
+use Rattle.std.proofs.lemmas.List.Folds.{fold_stuck}
+use Rattle.std.specs.List.{list_any, position_from, range_with_len}
+use Rattle.std.specs.Option.{option_or}
+use Rattle.std.specs.Str.{chars}
+use Rattle.comfy_parts.specs.Text.{Text}
+use Rattle.csv.specs.Records.{field_at}
+use Rattle.csv_tables.specs.Cells.{field_or_blank}
+use Rattle.csv_records.specs.Cleaning.{visible_of}
+use Rattle.csv_tables.specs.Columns.{ColumnFault, IsColumnRefusal, first_answer, is_number_column, is_number_kind, is_other_kind, is_text, joined, kind_at, kind_of, missing, positions_of, positions_of_word, seen, two_sided}
+use Rattle.csv_tables.specs.declared.columns.FieldKind.{FieldKind}
+use Rattle.csv_tables.specs.declared.columns.FieldKind.TheVariants.{Neutral, Other}
+use Rattle.csv_records.specs.declared.error.CsvError.{CsvError}
+use Rattle.csv_records.specs.declared.error.CsvError.TheVariants.{Read, Write, NotUtf8, NotUtf16, Unclosed, SplitCharacter, NoColumn, OutOfMemory, TwoSides}
+
+then_fault : (found more : Result (List ℕ) ColumnFault) (xs : List ℕ) (fault : ColumnFault) → found ≡ Ok xs → more ≡ Err fault → joined found more ≡ Err fault
+then_fault found more xs fault before at_fault = rw (before, at_fault) refl
+
+module _ {A : Type 0} (names : List Text) (count : ℕ) (words : List (String A)) (i : ℕ) (d : String A) (xs : List ℕ) where
+  -- the fault of the first word that chooses nothing is that of all
+  stopped : (fault : ColumnFault) → i < length words → positions_of names count (take i words) ≡ Ok xs
+      → positions_of_word names count (string_bytes (get_or words i d)) ≡ Err fault → positions_of names count words ≡ Err fault
+  stopped fault within before at_fault =
+      sym (fold_stuck (λ (found : Result (List ℕ) ColumnFault) (word : String A). joined found (positions_of_word names count (string_bytes word))) (Err fault) (λ x. refl) (Ok []) words i d within (then_fault (positions_of names count (take i words)) _ xs fault before at_fault))
+
+  pub refused_word : (e : CsvError) → i < length words → positions_of names count (take i words) ≡ Ok xs
+      → IsColumnRefusal e (positions_of_word names count (string_bytes (get_or words i d))) → IsColumnRefusal e (positions_of names count words)
+  refused_word (NoColumn name) within before at_fault = stopped (missing (string_bytes name)) within before at_fault
+  refused_word (TwoSides name) within before at_fault = stopped (two_sided (string_bytes name)) within before at_fault
+  refused_word OutOfMemory within before at_fault = tt
+  refused_word Read within before at_fault = absurd at_fault
+  refused_word Write within before at_fault = absurd at_fault
+  refused_word (NotUtf8 number) within before at_fault = absurd at_fault
+  refused_word (NotUtf16 number) within before at_fault = absurd at_fault
+  refused_word (Unclosed number) within before at_fault = absurd at_fault
+  refused_word SplitCharacter within before at_fault = absurd at_fault
+
+module _ (name : Text) (n : ℕ) where
+  -- the field at a position is the first that is looked at from there on
+  pub found_at : (fields : List Text) (i : ℕ) → is_text name (field_at fields i) ≡ true → position_from (λ field. bytes_eq field name) n (drop i fields) ≡ Some n
+  unfolding field_at
+  found_at [] i is = absurd (cc)
+  found_at (f ∷ fs) zero is = rw is refl
+  found_at (f ∷ fs) (suc i) is = found_at fs i is
+
+  pub not_at : (fields : List Text) (i : ℕ) → is_text name (field_at fields i) ≡ false → position_from (λ field. bytes_eq field name) n (drop i fields) ≡ position_from (λ field. bytes_eq field name) (n + 1) (drop (suc i) fields)
+  unfolding field_at
+  not_at [] zero is = refl
+  not_at [] (suc i) is = refl
+  not_at (f ∷ fs) zero is = rw is refl
+  not_at (f ∷ fs) (suc i) is = not_at fs i is
+
+-- an empty field is no number
+pub kind-empty : (field : Text) → length field ≡ 0 → Neutral ≡ kind_of field
+unfolding chars
+kind-empty [] none = refl
+kind-empty (b ∷ bs) none = absurd (omega (arith, none))
+
+-- what is seen of the field at a position
+pub seen_at : (keeps : Bool) (fields : List Text) (position : ℕ) → field_or_blank (seen keeps fields) position ≡ visible_of keeps (field_or_blank fields position)
+unfolding field_at
+seen_at false [] position = refl
+seen_at true [] position = refl
+seen_at keeps (f ∷ fs) zero = refl
+seen_at keeps (f ∷ fs) (suc n) = seen_at keeps fs n
+
+-- whether the rows that are left make a column of numbers, where a number was seen before them or not
+module _ (keeps : Bool) (position : ℕ) where
+  abbrev pub row_kind : List Text → FieldKind
+  row_kind row = kind_at position (seen keeps row)
+
+  abbrev pub numbers_left : Bool → List (List Text) → Bool
+  numbers_left has_number rows =
+      not (list_any (λ (row : List Text). is_other_kind (row_kind row)) rows) && (has_number || list_any (λ (row : List Text). is_number_kind (row_kind row)) rows)
+
+  any-seen : (p : FieldKind → Bool) (rows : List (List Text)) → list_any (λ fields. p (kind_at position fields)) (map (seen keeps) rows) ≡ list_any (λ (row : List Text). p (row_kind row)) rows
+  any-seen p [] = refl
+  any-seen p (row ∷ rows) = ap (λ b. p (row_kind row) || b) (any-seen p rows)
+
+  pub numbers-all : (rows : List (List Text)) → numbers_left false rows ≡ is_number_column (map (seen keeps) rows) position
+  numbers-all rows = rw (any-seen is_other_kind rows, any-seen is_number_kind rows) refl
+
+  pub neutral-more : (has_number : Bool) (row : List Text) (rows : List (List Text)) → row_kind row ≡ Neutral → numbers_left has_number (row ∷ rows) ≡ numbers_left has_number rows
+  neutral-more has_number row rows is = rw is refl
+
+  pub other-stops : (has_number : Bool) (row : List Text) (rows : List (List Text)) → row_kind row ≡ Other → numbers_left has_number (row ∷ rows) ≡ false
+  other-stops has_number row rows is = rw is refl
+
+  pub none-left : (has_number : Bool) → numbers_left has_number [] ≡ has_number
+  none-left true = refl
+  none-left false = refl
+
+-- the first answer to the numbers that are left, by the next of them
+pub next_answer : {A : Type 0} (f : ℕ → Option A) (i n : ℕ) → i < n → first_answer f (range_with_len i (n - i)) ≡ option_or (f i) (first_answer f (range_with_len (i + 1) (n - (i + 1))))
+next_answer f i n below = let one : n - i ≡ suc (n - (i + 1)) = omega arith in rw one refl

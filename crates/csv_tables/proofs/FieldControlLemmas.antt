@@ -1,0 +1,63 @@
+-- Nothing harmful is visible of a field as it is drawn.
+use Rattle.std.proofs.Common.{◌≡◌, ℕ, Bool, true, false, List, [], ◌∷◌, arith, chars, refl, subst, sym, ◌==◌, ◌&&◌, ◌||◌, not}
+use Rattle.std.proofs.lemmas.Bool.{or_parts}
+use Rattle.std.proofs.lemmas.Str.{encodes-chars}
+use Rattle.std.specs.Char.{is_control}
+use Rattle.std.specs.List.{list_any}
+use Rattle.std.specs.Prelude.{if◌then◌else◌}
+use Rattle.std.specs.Str.{IsUtf8, NonePass}
+use Rattle.comfy_parts.proofs.CallerLemmas.{Shows-clear, none_by_characters, visible_text-is, visible_text-whole}
+use Rattle.comfy_parts.specs.Text.{Text}
+use Rattle.csv_records.proofs.ControlLemmas.{cleaned_whole, no_controls}
+use Rattle.csv_tables.proofs.MarkedLemmas.{marked-harmless}
+use Rattle.csv_tables.specs.Cells.{field_text, kept_by, kept_for_markdown, marked}
+use Rattle.csv_records.specs.Cleaning.{cleaned, is_harmful, turns_direction, visible_of}
+use Rattle.csv_tables.specs.Controls.{HasNoStrayControl, is_stray_control}
+use Rattle.csv_records.specs.declared.cleaning.Kept.{Kept}
+use Rattle.csv_tables.specs.declared.options.Look.{Look}
+
+visible_whole : (keeps : Bool) (text : Text) → IsUtf8 text → IsUtf8 (visible_of keeps text)
+visible_whole true text utf8 = visible_text-whole text utf8
+visible_whole false text utf8 = utf8
+
+-- where nothing harmful stands in a text, nothing harmful is visible of it
+pub visible-harmless : (keeps : Bool) (text : Text) → HasNoStrayControl text → HasNoStrayControl (visible_of keeps text)
+visible-harmless true text none =
+    subst HasNoStrayControl (sym (visible_text-is text text (Shows-clear text (none_by_characters is_stray_control 0x1B (omega arith) refl text none)))) none
+visible-harmless false text none = none
+
+-- what isn't harmful is no such control character
+stray : (kept : Kept) (c : ℕ) → is_harmful kept c ≡ false → is_stray_control c ≡ false
+stray kept c harmless = by_tests (is_control c) (c == 0x0A) (not kept.directions && turns_direction c) harmless
+  where
+    by_tests : (control feed turns : Bool) → (control || turns) && not feed ≡ false → control && not feed ≡ false
+    by_tests true feed turns none = none
+    by_tests false feed turns none = refl
+
+none_stray : (kept : Kept) (cs : List ℕ) → list_any (is_harmful kept) cs ≡ false → NonePass is_stray_control cs
+none_stray kept [] none = tt
+none_stray kept (c ∷ cs) none =
+    let each = or_parts (is_harmful kept c) (list_any (is_harmful kept) cs) none in
+    (stray kept c each.0, none_stray kept cs each.1)
+
+pub field-harmless : (look : Look) (field : Text) → look.is_raw ≡ false → IsUtf8 field → HasNoStrayControl (visible_of look.has_sequences (field_text look field))
+field-harmless look field tidy utf8 = rw tidy (by_markdown look.is_markdown)
+  where
+    keeps : Bool
+    keeps = look.has_sequences
+
+    text : Text
+    text = cleaned (kept_by look) field
+
+    whole : IsUtf8 text
+    whole = cleaned_whole (kept_by look) field utf8
+
+    bare : Text
+    bare = cleaned (kept_for_markdown look) field
+
+    escaped : HasNoStrayControl (marked bare)
+    escaped = marked-harmless bare (none_stray (kept_for_markdown look) (chars bare) (no_controls (kept_for_markdown look) field utf8))
+
+    by_markdown : (is_markdown : Bool) → HasNoStrayControl (visible_of keeps (if is_markdown then marked bare else text))
+    by_markdown true = visible-harmless keeps (marked bare) escaped
+    by_markdown false = (chars (visible_of keeps text), encodes-chars (visible_of keeps text) (visible_whole keeps text whole), none_stray (kept_by look) (chars (visible_of keeps text)) (no_controls (kept_by look) field utf8))

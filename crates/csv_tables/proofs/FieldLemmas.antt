@@ -1,0 +1,128 @@
+-- Fields of printable ASCII are drawn as printable ASCII.
+use Rattle.std.proofs.Common.{◌≡◌, ℕ, zero, suc, ◌+◌, ◌≤◌, ◌/◌, ◌%◌, ◌==◌, ◌&&◌, decimal, length, Bool, true, false, List, [], ◌∷◌, Option, Some, None, slice_get, All, arith, encode_utf8_all, refl, sym, ap, ap₂, ◌∙◌, subst, tests}
+use Rattle.std.specs.Int.{is_in_range}
+use Rattle.std.specs.Fmt.{digit_glyph, digits, digits_onto}
+use Rattle.std.specs.List.{list_all, list_any}
+use Rattle.std.specs.Prelude.{if◌then◌else◌}
+use Rattle.std.proofs.lemmas.Bool.{and_parts}
+use Rattle.std.proofs.lemmas.List.Elements.{All-cons, All-nil}
+use Rattle.std.proofs.lemmas.List.Folds.{list_all-append}
+use Rattle.std.proofs.lemmas.List.Splits.{slice_split_none}
+use Rattle.std.proofs.lemmas.Str.{chars-IsAscii, encodes-IsAscii}
+use Rattle.comfy_parts.proofs.CallerLemmas.{All-none, IsUtf8-printable, ascii-printable}
+use Rattle.comfy_parts.specs.CellValue.{plain_cell}
+use Rattle.comfy_parts.specs.Text.{Text, is_printable_ascii}
+use Rattle.comfy_parts.specs.VisibleText.{is_parameter}
+use Rattle.comfy_table.proofs.StyledLemmas.{decimal-parameters}
+use Rattle.comfy_table.specs.Laws.{HasNoBreak}
+use Rattle.csv_records.proofs.CleaningLemmas.{drawn_so, none_replaced}
+use Rattle.csv_tables.specs.Cells.{field_text, kept_by, kept_for_markdown, marked}
+use Rattle.csv_records.specs.Cleaning.{cleaned}
+use Rattle.csv_tables.specs.Laws.{PrintableFieldsStay}
+use Rattle.csv_tables.specs.Markdown.{escaped, escaped_after, escaped_character, is_special}
+use Rattle.csv_records.specs.declared.cleaning.Kept.{Kept}
+use Rattle.csv_tables.specs.declared.options.Look.{Look}
+
+abbrev is_printable : ℕ → Bool
+is_printable = is_in_range 0x20 0x7E
+
+-- what no printable character passes, no byte of such a text does
+none_pass : (p : ℕ → Bool) → ((c : ℕ) → is_printable c ≡ true → p c ≡ false) → (text : Text) → is_printable_ascii text ≡ true → list_any p text ≡ false
+none_pass p none [] printable = refl
+none_pass p none (c ∷ cs) printable =
+    let parts = and_parts (is_printable c) (is_printable_ascii cs) printable in
+    rw (none c parts.0) (none_pass p none cs parts.1)
+
+no_break : (c : ℕ) → is_printable c ≡ true → (c == 0x0A) ≡ false
+no_break c printable = grind (arith, tests)
+
+-- so no line feed is in such a text
+pub printable_unbroken : (text : Text) → is_printable_ascii text ≡ true → HasNoBreak text
+printable_unbroken text printable = none_pass (λ b. b == 0x0A) no_break text printable
+
+character_stays : (before : Option ℕ) (c : ℕ) (after : Option ℕ) → is_printable c ≡ true → is_printable_ascii (escaped_character before c after) ≡ true
+character_stays before c after printable = rw (no_break c printable) (by_test (is_special before c after))
+  where
+    by_test : (b : Bool) → is_printable_ascii (if b then 0x5C ∷ c ∷ [] else c ∷ []) ≡ true
+    by_test true = rw printable refl
+    by_test false = rw printable refl
+
+escaped_stays : (before : Option ℕ) (text : Text) → is_printable_ascii text ≡ true → is_printable_ascii (escaped_after before text) ≡ true
+escaped_stays before [] printable = refl
+escaped_stays before (c ∷ cs) printable =
+    let parts = and_parts (is_printable c) (is_printable_ascii cs) printable in
+    list_all-append is_printable (escaped_character before c (slice_get cs 0)) (escaped_after (Some c) cs) ∙ ap₂ (λ a b. a && b) (character_stays before c (slice_get cs 0) parts.0) (escaped_stays (Some c) cs parts.1)
+
+marked_stays : (text : Text) → is_printable_ascii text ≡ true → is_printable_ascii (marked text) ≡ true
+marked_stays text printable =
+    let more = escaped_stays None text printable in
+    let same : encode_utf8_all (escaped text) ≡ escaped text = encodes-IsAscii (escaped text) (ascii-printable (escaped text) more) in
+    ap is_printable_ascii (ap (λ (cs : List ℕ). encode_utf8_all (escaped cs)) (chars-IsAscii text (ascii-printable text printable)) ∙ same) ∙ more
+
+-- such a text is one text line of its cell
+whole_line : (text : Text) → is_printable_ascii text ≡ true → (plain_cell text).text_lines ≡ text ∷ []
+whole_line text printable = slice_split_none (λ b. b == 0x0A) text (All-none (λ b. b == 0x0A) text (printable_unbroken text printable))
+
+one_line : (text : Text) → is_printable_ascii text ≡ true → All (λ (line : Text). is_printable_ascii line ≡ true) (plain_cell text).text_lines
+one_line text printable = subst (All (λ (line : Text). is_printable_ascii line ≡ true)) (sym (whole_line text printable)) (All-cons (λ (line : Text). is_printable_ascii line ≡ true) text [] printable (All-nil (λ (line : Text). is_printable_ascii line ≡ true)))
+
+-- ---- numbers
+
+-- a number is printable
+parameter_is_printable : (c : ℕ) → is_parameter c ≡ true → is_printable c ≡ true
+parameter_is_printable c is = grind (arith, tests)
+
+parameters_are_printable : (code : Text) → list_all is_parameter code ≡ true → is_printable_ascii code ≡ true
+parameters_are_printable [] all = refl
+parameters_are_printable (c ∷ cs) all =
+    let both = and_parts (is_parameter c) (list_all is_parameter cs) all in
+    ap₂ (λ a b. a && b) (parameter_is_printable c both.0) (parameters_are_printable cs both.1)
+
+pub number_is_printable : (n : ℕ) → is_printable_ascii (decimal n) ≡ true
+number_is_printable n = parameters_are_printable (decimal n) (decimal-parameters n)
+
+-- it has at most 64 digits
+digits_are_few : (k n : ℕ) (acc : Text) → length (digits_onto k 10 false n acc) ≤ k + length acc
+digits_are_few zero n acc = omega arith
+digits_are_few (suc k) n acc = by_test (n / 10 == 0) (digits_are_few k (n / 10) (digit_glyph false (n % 10) ∷ acc))
+  where
+    by_test : (b : Bool) → length (digits_onto k 10 false (n / 10) (digit_glyph false (n % 10) ∷ acc)) ≤ k + length (digit_glyph false (n % 10) ∷ acc)
+        → length (if b then digit_glyph false (n % 10) ∷ acc else digits_onto k 10 false (n / 10) (digit_glyph false (n % 10) ∷ acc)) ≤ suc k + length acc
+    by_test true rest = omega arith
+    by_test false rest = omega (arith, rest)
+
+pub number_is_short : (n : ℕ) → length (decimal n) ≤ 64
+unfolding digits
+number_is_short n = let few = digits_are_few 64 n [] in omega (arith, few)
+
+-- ---- fields
+
+pub fields_stay : (look : Look) (field : Text) → PrintableFieldsStay look field
+fields_stay look field printable = one_line (field_text look field) (by_flags look.is_markdown look.is_raw)
+  where
+    clean : (kept : Kept) → is_printable_ascii (cleaned kept field) ≡ true
+    clean kept = ap is_printable_ascii (sym (drawn_so kept field (IsUtf8-printable field printable) (none_replaced kept field printable))) ∙ printable
+
+    by_flags : (is_markdown is_raw : Bool) → is_printable_ascii (if is_markdown then marked (cleaned (kept_for_markdown look) field) else if is_raw then field else cleaned (kept_by look) field) ≡ true
+    by_flags true is_raw = marked_stays (cleaned (kept_for_markdown look) field) (clean (kept_for_markdown look))
+    by_flags false true = printable
+    by_flags false false = clean (kept_by look)
+
+-- where it isn't for Markdown, such a field is drawn as it is, in one text line
+pub drawn_in_one_line : (look : Look) → look.is_markdown ≡ false → (field : Text) → is_printable_ascii field ≡ true → (plain_cell (field_text look field)).text_lines ≡ field ∷ []
+drawn_in_one_line look none field printable = ap (λ (text : Text). (plain_cell text).text_lines) same ∙ whole_line field printable
+  where
+    by_raw : (is_raw : Bool) → (if is_raw then field else cleaned (kept_by look) field) ≡ field
+    by_raw true = refl
+    by_raw false = sym (drawn_so (kept_by look) field (IsUtf8-printable field printable) (none_replaced (kept_by look) field printable))
+
+    same : field_text look field ≡ field
+    same = rw none (by_raw look.is_raw)
+
+-- so is a number
+pub number_lines : (look : Look) → look.is_markdown ≡ false → (n : ℕ) → All (λ text. (is_printable_ascii text ≡ true) × (length text ≤ 64)) (plain_cell (field_text look (decimal n))).text_lines
+number_lines look none n =
+    subst (All Is) (sym (drawn_in_one_line look none (decimal n) (number_is_printable n))) (All-cons Is (decimal n) [] (number_is_printable n, number_is_short n) (All-nil Is))
+  where
+    Is : Text → Type 0
+    Is text = (is_printable_ascii text ≡ true) × (length text ≤ 64)

@@ -1,0 +1,169 @@
+-- Columns that are as wide as their contents are drawn no narrower.
+use Rattle.std.proofs.Common.{◌≡◌, ◌==◌, ◌≤◌, ◌<◌, ◌&&◌, ℕ, zero, suc, ◌+◌, Bool, true, false, cond, List, [], ◌∷◌, ◌++◌, Option, Some, None, find, length, map, max, option_map, slice_index, unwrap_or, refl, sym, ap, ◌∙◌, subst, arith}
+use Rattle.std.specs.List.{AllByRecursion, cons_option, enumerate_from, slice_get}
+use Rattle.std.specs.Prelude.{if◌then◌else◌}
+use Rattle.std.proofs.lemmas.Bool.{eq-eqb, le-leb, ne_eqb}
+use Rattle.std.proofs.lemmas.List.FromFn.{length-map-range_with_len}
+use Rattle.std.proofs.lemmas.List.Elements.{recursion_from_All}
+use Rattle.comfy_parts.proofs.CallerLemmas.{index-places}
+use Rattle.comfy_parts.specs.CellValue.{ColumnValue}
+use Rattle.comfy_table.proofs.BudgetLemmas.{length-contents_after}
+use Rattle.comfy_table.proofs.BuiltTableLemmas.{IsNewColumn}
+use Rattle.comfy_table.proofs.DrawnWidthLemmas.{dynamic_widths}
+use Rattle.comfy_table.specs.Arrangement.{IsArranged, is_full_width, room_beside_borders, width_kept, widths_at}
+use Rattle.comfy_table.specs.Dynamic.{Share, Steps, added, all_shares, contents_after, even_columns, fixed_shares, room_left, share_at, widened}
+use Rattle.comfy_table.specs.TableValue.{TableValue, column_content_width, shown_columns, table_width}
+use Rattle.comfy_table.specs.Widths.{ColumnNeeds, even_spread, needs_of, part_of, shown_needs}
+use Rattle.csv_tables.proofs.LineLemmas.{Any, any_built, any_drawn, kept_setting}
+use Rattle.csv_tables.proofs.SeparatorLemmas.{restyled, separated}
+use Rattle.csv_tables.proofs.UnbrokenLemmas.{kept-test}
+use Rattle.csv_tables.proofs.WholeColumnLemmas.{all_shown}
+use Rattle.csv_tables.proofs.WholeTableLemmas.{drawn-is, whole_separated}
+use Rattle.csv_tables.specs.Drawn.{ContentValue, arrangement_for, empty_table, output_table, rows_table, separated_table}
+use Rattle.csv_tables.specs.Laws.{UnbrokenColumnIsWhole}
+use Rattle.csv_tables.specs.Unbroken.{kept_whole, unbroken_columns, whole_columns, with_whole}
+use Rattle.csv_tables.specs.declared.options.Look.{Look}
+
+-- the column at a place has this fixed width
+abbrev pub IsFixedAt : List ColumnNeeds → ℕ → ℕ → Type 0
+IsFixedAt columns k x = (need : ColumnNeeds) × (slice_get columns k ≡ Some need) × (need.fixed ≡ Some x)
+
+-- so it has that share
+fixed_share : (columns : List ColumnNeeds) (n k x : ℕ) (rest : List Share) → IsFixedAt columns k x → share_at (fixed_shares (enumerate_from n columns) ++ rest) (n + k) ≡ x
+fixed_share [] n k x rest at = absurd (cc at.1)
+fixed_share (c ∷ cs) n zero x rest at =
+    let own : c ≡ at.0 = cc at.1 in
+    let fixed : c.fixed ≡ Some x = ap (λ (need : ColumnNeeds). need.fixed) own ∙ at.2 in
+    let others = fixed_shares (enumerate_from (n + 1) cs) in
+    let shares : fixed_shares (enumerate_from n (c ∷ cs)) ≡ (n, x) ∷ others = ap (λ (o : Option ℕ). cons_option (option_map (λ (width : ℕ). (n, width)) o) others) fixed in
+    ap (λ (ts : List Share). share_at (ts ++ rest) (n + 0)) shares
+    ∙ ap (λ (b : Bool). unwrap_or (option_map (λ (s : Share). s.1) (cond b (Some (n, x)) (find (λ (s : Share). s.0 == n + 0) (others ++ rest)))) 0) (eq-eqb n (n + 0) (omega arith))
+fixed_share (c ∷ cs) n (suc k) x rest at = by_fixed c.fixed refl (fixed_share cs (n + 1) k x rest at)
+  where
+    others : List Share
+    others = fixed_shares (enumerate_from (n + 1) cs)
+
+    place : n + suc k ≡ (n + 1) + k
+    place = omega arith
+
+    by_fixed : (o : Option ℕ) → c.fixed ≡ o → share_at (others ++ rest) ((n + 1) + k) ≡ x → share_at (fixed_shares (enumerate_from n (c ∷ cs)) ++ rest) (n + suc k) ≡ x
+    by_fixed None is more =
+        let shares : fixed_shares (enumerate_from n (c ∷ cs)) ≡ others = ap (λ (o : Option ℕ). cons_option (option_map (λ (width : ℕ). (n, width)) o) others) is in
+        ap (λ (ts : List Share). share_at (ts ++ rest) (n + suc k)) shares ∙ ap (share_at (others ++ rest)) place ∙ more
+    by_fixed (Some y) is more =
+        let shares : fixed_shares (enumerate_from n (c ∷ cs)) ≡ (n, y) ∷ others = ap (λ (o : Option ℕ). cons_option (option_map (λ (width : ℕ). (n, width)) o) others) is in
+        ap (λ (ts : List Share). share_at (ts ++ rest) (n + suc k)) shares
+        ∙ ap (λ (b : Bool). unwrap_or (option_map (λ (s : Share). s.1) (cond b (Some (n, y)) (find (λ (s : Share). s.0 == n + suc k) (others ++ rest)))) 0) (ne_eqb n (n + suc k) (λ same. absurd (omega (arith, same))))
+        ∙ ap (share_at (others ++ rest)) place ∙ more
+
+-- what is added makes no width less
+le-added : (xs ys : List ℕ) (k : ℕ) → length xs ≤ length ys → slice_index xs k ≤ slice_index (added xs ys) k
+le-added [] ys k long = omega arith
+le-added (x ∷ xs) [] k long = absurd (omega (arith, long))
+le-added (x ∷ xs) (y ∷ ys) zero long = omega arith
+le-added (x ∷ xs) (y ∷ ys) (suc k) long = le-added xs ys k (omega (arith, long))
+
+inside : (columns : List ColumnNeeds) (k : ℕ) (need : ColumnNeeds) → slice_get columns k ≡ Some need → k < length columns
+inside [] k need at = absurd (cc at)
+inside (c ∷ cs) zero need at = omega arith
+inside (c ∷ cs) (suc k) need at = let more = inside cs k need at in omega (arith, more)
+
+-- so a fixed width is drawn no narrower
+pub fixed_is_kept : (room : ℕ) (columns : List ColumnNeeds) (full : Bool) (steps : Steps) (k x : ℕ) → IsFixedAt columns k x → x ≤ slice_index (widened room columns full steps) k
+fixed_is_kept room columns full steps k x at = by_test (full && (length (even_columns room columns steps) == 0))
+  where
+    share : share_at (all_shares room columns steps) (0 + k) ≡ x
+    share = fixed_share columns 0 k x _ at
+
+    content : slice_index (contents_after room columns steps) k ≡ x
+    content = index-places (share_at (all_shares room columns steps)) 0 columns k 0 (inside columns k at.0 at.1) ∙ share
+
+    by_test : (b : Bool) → x ≤ slice_index (if b then added (contents_after room columns steps) (even_spread (room_left room columns steps) (length columns)) else contents_after room columns steps) k
+    by_test false = omega (arith, content)
+    by_test true =
+        let long = length-map-range_with_len (part_of (room_left room columns steps) (length columns)) 0 (length columns) in
+        let more = le-added (contents_after room columns steps) (even_spread (room_left room columns steps) (length columns)) k (omega (arith, long, length-contents_after room columns steps)) in
+        omega (arith, content, more)
+
+-- ---- columns of a table
+
+-- the column at a place is as wide as its content
+whole_need : (table : TableValue) (whole : List Bool) (columns : List ColumnValue) (n i : ℕ) → slice_get whole i ≡ Some true → i < length columns
+    → IsFixedAt (map (needs_of table) (enumerate_from n (whole_columns whole columns))) i (max 1 (column_content_width table (n + i)))
+whole_need table [] columns n i is below = absurd (cc is)
+whole_need table (b ∷ bs) [] n i is below = absurd (omega (arith, below))
+whole_need table (false ∷ bs) (c ∷ cs) n zero is below = absurd (cc is)
+whole_need table (true ∷ bs) (c ∷ cs) n zero is below = let place : n ≡ n + 0 = omega arith in (_, refl, ap (λ (j : ℕ). Some (max 1 (column_content_width table j))) place)
+whole_need table (b ∷ bs) (c ∷ cs) n (suc i) is below =
+    let place : (n + 1) + i ≡ n + suc i = omega arith in
+    subst (λ (j : ℕ). IsFixedAt (map (needs_of table) (enumerate_from (n + 1) (whole_columns bs cs))) i (max 1 (column_content_width table j))) place (whole_need table bs cs (n + 1) i is (omega (arith, below)))
+
+same_length : (whole : List Bool) (columns : List ColumnValue) → length (whole_columns whole columns) ≡ length columns
+same_length [] columns = refl
+same_length (b ∷ bs) [] = refl
+same_length (b ∷ bs) (c ∷ cs) = ap suc (same_length bs cs)
+
+module _ (table : TableValue) (new : AllByRecursion IsNewColumn table.columns) (whole : List Bool) (w : ℕ) (widths : List ℕ) (i : ℕ) where
+  abbrev with : TableValue
+  with = with_whole whole table
+
+  pub whole_is_kept : width_kept with.arrangement (Some w) ≡ Some w → table_width with ≡ Some w → slice_get whole i ≡ Some true → i < length table.columns → IsArranged with widths → column_content_width table i ≤ slice_index widths i
+  whole_is_kept kept known is below arranged =
+      let columns = whole_columns whole table.columns in
+      let all = all_shown whole table.columns new in
+      let found = dynamic_widths with with.arrangement w widths kept refl known arranged in
+      let fixed = subst (λ (ps : List (ℕ × ColumnValue)). IsFixedAt (map (needs_of with) ps) i (max 1 (column_content_width with (0 + i)))) (sym all) (whole_need with whole table.columns 0 i is below) in
+      let room = room_beside_borders with w in
+      let full = is_full_width with.arrangement in
+      let wide : max 1 (column_content_width with (0 + i)) ≤ slice_index (widened room (shown_needs with) full found.0) i = fixed_is_kept room (shown_needs with) full found.0 i (max 1 (column_content_width with (0 + i))) fixed in
+      let place : 0 + i ≡ i = omega arith in
+      let drawn : slice_index (widths_at widths (shown_columns with)) i ≡ slice_index widths i =
+      ap (λ (ps : List (ℕ × ColumnValue)). slice_index (widths_at widths ps) i) all ∙ index-places (slice_index widths) 0 columns i 0 (omega (arith, below, same_length whole table.columns)) ∙ ap (slice_index widths) place in
+      let own : slice_index (widened room (shown_needs with) full found.0) i ≡ slice_index widths i = ap (λ (xs : List ℕ). slice_index xs i) (sym found.1.widths_are) ∙ drawn in
+      let content : column_content_width with (0 + i) ≡ column_content_width table i = ap (column_content_width table) place in
+      omega (arith, wide, own, content)
+
+kept_arrangement : (w : ℕ) (fills : Bool) → width_kept (arrangement_for (Some w) fills) (Some w) ≡ Some w
+kept_arrangement w true = refl
+kept_arrangement w false = refl
+
+-- so are numbers and dates
+pub unbroken_is_whole : (w : ℕ) (look : Look) (content : ContentValue) (has : Bool) (widths : List ℕ) (i : ℕ) → UnbrokenColumnIsWhole w look content has widths i
+unbroken_is_whole w look content has widths i wide fits is below arranged =
+    subst (λ n. n ≤ slice_index widths i) (by_content has)
+    (whole_is_kept (separated_table has rows) new whole w widths i (subst (λ (t : TableValue). width_kept t.arrangement (Some w) ≡ Some w) same kept) (subst (λ (t : TableValue). table_width t ≡ Some w) same known) is (by_length has) (subst (λ (t : TableValue). IsArranged t widths) same arranged))
+  where
+    rows : TableValue
+    rows = rows_table look content
+
+    whole : List Bool
+    whole = unbroken_columns look.has_sequences content.columns content.rows
+
+    drawn : TableValue
+    drawn = separated_table has (output_table false look content)
+
+    same : drawn ≡ with_whole whole (separated_table has rows)
+    same = ap (separated_table has) (ap (λ o. kept_whole o whole rows) wide ∙ kept-test w whole rows true (le-leb _ _ fits)) ∙ whole_separated has whole rows
+
+    looks : drawn ≡ record (empty_table (separated has look)) { columns = drawn.columns; header = drawn.header; rows = drawn.rows }
+    looks = drawn-is (separated has look) Any content drawn (any_drawn look content false has)
+
+    wide_look : (separated has look).width ≡ Some w
+    wide_look = kept_setting (λ l. l.width) look refl has (Some w) wide
+
+    kept : width_kept drawn.arrangement (Some w) ≡ Some w
+    kept = ap (λ (t : TableValue). width_kept t.arrangement (Some w)) looks ∙ ap (λ o. width_kept (arrangement_for o (separated has look).fills_width) (Some w)) wide_look ∙ kept_arrangement w (separated has look).fills_width
+
+    known : table_width drawn ≡ Some w
+    known = ap table_width looks ∙ rw wide_look refl
+
+    new : AllByRecursion IsNewColumn (separated_table has rows).columns
+    new = subst (λ (t : TableValue). AllByRecursion IsNewColumn t.columns) (restyled look content false has) (recursion_from_All IsNewColumn _ (any_built false (separated has look) content).columns)
+
+    by_content : (b : Bool) → column_content_width (separated_table b rows) i ≡ column_content_width rows i
+    by_content true = refl
+    by_content false = refl
+
+    by_length : (b : Bool) → i < length (separated_table b rows).columns
+    by_length true = below
+    by_length false = below

@@ -1,0 +1,199 @@
+-- The lines of an output, and how many characters they have.
+use Rattle.std.proofs.Common.{◌≡◌, ◌==◌, ◌≤◌, ◌<◌, ◌⊎◌, inl, inr, max, arith, not, ◌&&◌, ℕ, ◌*◌, Bool, true, false, List, [], ◌∷◌, ◌++◌, ◌+◌, Option, Some, append-nil, ap₂, flat_map, length, map, unwrap_or, refl, ap, sym, ◌∙◌, subst}
+use Rattle.std.specs.List.{All, list_any, range_with_len}
+use Rattle.std.proofs.lemmas.Grind.{flat_map-append}
+use Rattle.std.proofs.lemmas.List.Folds.{flat_map-map, list_any_none}
+use Rattle.std.proofs.lemmas.List.Elements.{All-weaker}
+use Rattle.std.proofs.lemmas.List.FromFn.{map-range_with_len_more}
+use Rattle.comfy_parts.proofs.CallerLemmas.{All-every, All-none}
+use Rattle.comfy_parts.specs.CellValue.{RowValue}
+use Rattle.comfy_parts.specs.Columns.{style_characters}
+use Rattle.comfy_parts.specs.Text.{Text, measure}
+use Rattle.comfy_parts.specs.declared.style.table.ContentArrangement.TheVariants.{Dynamic, DynamicFullWidth}
+use Rattle.comfy_table.proofs.PartLemmas.{all_rows_are_the_table, part_has_lines_of_table}
+use Rattle.comfy_table.specs.Drawing.{drawing, drawing_of_infos, terminated_text_of}
+use Rattle.comfy_table.specs.Headline.{EachLineCounts, IsTableDrawing}
+use Rattle.comfy_table.specs.Laws.{HasNoBreak, IsStyleWithout, count, least_total, unstyled}
+use Rattle.comfy_table.specs.Parts.{ArrangedValue, part_lines}
+use Rattle.comfy_table.specs.TableLaws.{shown_contents, wider_total}
+use Rattle.comfy_table.specs.TableValue.{TableValue, table_width}
+use Rattle.comfy_table.specs.Widths.{shown_count}
+use Rattle.csv_tables.proofs.BuiltLemmas.{Built, built, plain_table}
+use Rattle.csv_tables.proofs.SeparatorLemmas.{condensed-all, separated}
+use Rattle.csv_tables.proofs.WholeTableLemmas.{HasRoom, IsDrawn, drawn-is, drawn_table-is, least-fits, unconstrained-drawn, wider-fits}
+use Rattle.csv_tables.specs.Cells.{row_for}
+use Rattle.csv_tables.specs.Drawn.{ContentValue, IsOutputOf, IsTableText, IsText, condensed_style, empty_table, is_expanded_for, is_expanded_in, output_table, pairs_of, rows_table, separated_table, table_text}
+use Rattle.csv_tables.specs.Laws.{EachLineHas, HasLines, IsFilling, IsOutputWith, IsWithin, OutputFillsWidth, OutputKeepsToWidth}
+use Rattle.csv_tables.specs.declared.options.Look.{Look}
+use Rattle.csv_tables.specs.declared.options.Options.{Options}
+
+abbrev pub Any : RowValue → Type 0
+Any row = Unit {0}
+
+-- a table of records, whatever its rows
+pub any_built : (is_expanded : Bool) (look : Look) (content : ContentValue) → Built look Any content (plain_table is_expanded look content)
+any_built is_expanded look content =
+    built look Any content is_expanded (λ n is. tt) (All-every (λ fields. Any (row_for look content.columns fields)) content.rows (λ fields. tt))
+    (All-every (λ fields. All Any (pairs_of look content.columns (unwrap_or content.names []) fields)) content.rows (λ fields. All-every Any (pairs_of look content.columns (unwrap_or content.names []) fields) (λ row. tt)))
+
+-- the drawn table is so built
+pub any_drawn : (look : Look) (content : ContentValue) (is_expanded has : Bool) → IsDrawn (separated has look) Any content (separated_table has (output_table is_expanded look content))
+any_drawn look content is_expanded has = drawn_table-is look Any content is_expanded has (any_built is_expanded (separated has look) content)
+
+-- no line of it holds a line feed, where none is in the style
+unbroken_style : (has : Bool) (look : Look) → IsStyleWithout 0x0A look.style → IsStyleWithout 0x0A (separated has look).style
+unbroken_style true look none = none
+unbroken_style false look none =
+    list_any_none is_break (style_characters (condensed_style look.style))
+    (condensed-all (λ c. is_break c ≡ false) refl look.style (All-none is_break (style_characters look.style) none))
+  where
+    is_break : Option ℕ → Bool
+    is_break c = unwrap_or c 0x20 == 0x0A
+
+pub unbroken_lines : (look : Look) (content : ContentValue) (is_expanded has : Bool) (lines : List Text) → IsStyleWithout 0x0A look.style
+    → IsTableDrawing (separated_table has (output_table is_expanded look content)) lines → All HasNoBreak lines
+unbroken_lines look content is_expanded has lines none drawing =
+    let looks = drawn-is (separated has look) Any content (separated_table has (output_table is_expanded look content)) (any_drawn look content is_expanded has) in
+    drawing.without_breaks
+    (record {
+      indicator = ap (λ (t : TableValue). list_any (λ b. b == 0x0A) t.indicator) looks;
+      characters = subst (IsStyleWithout 0x0A) (sym (ap (λ (t : TableValue). t.style) looks)) (unbroken_style has look none);
+    })
+
+-- ---- the lines of an output
+
+-- one place more
+pub one_place_more : {A : Type 0} (f : ℕ → List A) (n : ℕ) → flat_map f (range_with_len 0 (n + 1)) ≡ flat_map f (range_with_len 0 n) ++ f n
+one_place_more f n =
+    sym (flat_map-map f (λ x. x) (range_with_len 0 (n + 1))) ∙ ap (flat_map f) (map-range_with_len_more (λ x. x) 0 n n (omega arith))
+    ∙ flat_map-append f (map (λ x. x) (range_with_len 0 n)) (n ∷ []) ∙ ap₂ (λ a b. a ++ b) (flat_map-map f (λ x. x) (range_with_len 0 n)) (append-nil (f n))
+
+-- the lines of the whole table are those of its text
+pub drawn_lines : (is_expanded : Bool) (content : ContentValue) (arranged : ArrangedValue) → All HasNoBreak (drawing_of_infos arranged.table arranged.infos)
+    → HasLines is_expanded content (drawing_of_infos arranged.table arranged.infos) (table_text is_expanded content arranged)
+drawn_lines false content arranged unbroken =
+    record {
+      joined = ap (λ (t : TableValue). terminated_text_of (drawing_of_infos t arranged.infos)) (all_rows_are_the_table arranged.table (length arranged.table.rows) (omega arith));
+      unbroken = unbroken;
+    }
+drawn_lines true content arranged unbroken = (
+  (λ at. part_lines arranged (at * length content.columns) (length content.columns)),
+  (λ at. part_has_lines_of_table arranged.table arranged.infos (at * length content.columns) (length content.columns)),
+  unbroken,
+  refl,
+)
+
+-- an output that isn't for Markdown is the text of a table
+pub is_table_text : (options : Options) (records : List (List Text)) (output : Text) (made : IsOutputOf options records output) → options.look.is_markdown ≡ false → IsTableText options.look made.content made.text
+is_table_text options records output made none = subst (λ b. IsText b options.look made.content made.text) none made.is_text
+
+-- records for Markdown are never expanded
+pub never_expanded : (look : Look) (content : ContentValue) → look.is_markdown ≡ true → false ≡ is_expanded_for look content
+never_expanded look content is = ap (λ b. not b && is_expanded_in look.expansion look.width (rows_table look content)) (sym is)
+
+module _ (options : Options) (records : List (List Text)) (output : Text) (made : IsOutputOf options records output) (text : IsTableText options.look made.content made.text) (none : options.look.is_markdown ≡ false) where
+  abbrev pub drawn_table : TableValue
+  drawn_table = separated_table text.drawn.has_separators (output_table text.is_expanded options.look made.content)
+
+  abbrev pub drawn : List Text
+  drawn = drawing_of_infos drawn_table text.drawn.arranged.infos
+
+  -- it is expanded where its look asks for it
+  pub expansion : text.is_expanded ≡ is_expanded_for options.look made.content
+  expansion = text.expansion ∙ ap (λ b. not b && is_expanded_in options.look.expansion options.look.width (rows_table options.look made.content)) (sym none)
+
+  module _ (style : IsStyleWithout 0x0A options.look.style) where
+    pub unbroken : All HasNoBreak drawn
+    unbroken = unbroken_lines options.look made.content text.is_expanded text.drawn.has_separators drawn style text.drawn.is_arranged.headline
+
+    abbrev pub with_lines : IsOutputWith options records output drawn
+    with_lines =
+        record {
+          content = made.content;
+          is_content = made.is_content;
+          is_expanded = text.is_expanded;
+          expansion = expansion;
+          text = made.text;
+          has_lines = of_table (sym text.drawn.is_arranged.of_table) made.text text.drawn.is;
+          joined = made.joined;
+        }
+      where
+        of_table : drawn_table ≡ text.drawn.arranged.table → (t : Text) → t ≡ table_text text.is_expanded made.content text.drawn.arranged
+            → HasLines text.is_expanded made.content drawn t
+        of_table same t is =
+            subst (λ (u : TableValue). HasLines text.is_expanded made.content (drawing_of_infos u text.drawn.arranged.infos) t) (sym same)
+            (subst (HasLines text.is_expanded made.content (drawing_of_infos text.drawn.arranged.table text.drawn.arranged.infos)) (sym is)
+            (drawn_lines text.is_expanded made.content text.drawn.arranged (subst (λ (u : TableValue). All HasNoBreak (drawing_of_infos u text.drawn.arranged.infos)) same unbroken)))
+
+    has_lines : (P : TableValue → ℕ → Type 0) → EachLineCounts (P drawn_table) drawn_table text.drawn.is_arranged.headline.widths → EachLineHas P options records output
+    has_lines P counts =
+        record { lines = drawn; is_output = with_lines; table = drawn_table; is_table = (text.drawn.has_separators, ap (λ e. separated_table text.drawn.has_separators (output_table e options.look made.content)) expansion); drawing = text.drawn.is_arranged.headline; counts = counts }
+
+-- ---- widths
+
+-- what follows for each count
+weaker_counts : (P R : ℕ → Type 0) (table : TableValue) (widths : List ℕ) → ((n : ℕ) → P n → R n) → EachLineCounts P table widths → EachLineCounts R table widths
+weaker_counts P R table widths gives counts =
+    record {
+      frame_lines = λ line. gives _ (counts.frame_lines line);
+      printable_lines = λ is. All-weaker (λ line. P (count line)) (λ line. R (count line)) (λ line. gives (count line)) (drawing (unstyled table) widths) (counts.printable_lines is);
+      straight_lines = λ is. All-weaker (λ line. P (measure line)) (λ line. R (measure line)) (λ line. gives (measure line)) (drawing (unstyled table) widths) (counts.straight_lines is);
+    }
+
+module _ (w : ℕ) (look : Look) (content : ContentValue) (table : TableValue) (known : IsDrawn look Any content table) (lines : List Text) (drawn : IsTableDrawing table lines) (wide : look.width ≡ Some w) where
+  looks : table ≡ record (empty_table look) { columns = table.columns; header = table.header; rows = table.rows }
+  looks = drawn-is look Any content table known
+
+  keeps : look.fills_width ≡ false → EachLineCounts (IsWithin w table) table drawn.widths
+  keeps kept = by_room (known.room w wide)
+    where
+      dynamic : table.arrangement ≡ Dynamic
+      dynamic = ap (λ (t : TableValue). t.arrangement) looks ∙ rw (wide, kept) refl
+
+      width : table_width table ≡ Some w
+      width = ap table_width looks ∙ rw wide refl
+
+      by_room : (known.whole ≡ []) ⊎ HasRoom w table → EachLineCounts (IsWithin w table) table drawn.widths
+      by_room (inl none) = drawn.keeps_to_width w (unconstrained-drawn look Any content table known none) dynamic width
+      by_room (inr room) =
+          let found = drawn.keeps_to_wider_total w dynamic width in
+          let fits = wider-fits w table room false found.0 (shown_contents table drawn.widths) found.1 in
+          weaker_counts (λ n. n ≤ max w (wider_total table found.0)) (IsWithin w table) table drawn.widths (λ n is. omega (arith, is, fits)) found.2
+
+  fills : look.fills_width ≡ true → EachLineCounts (IsFilling w table) table drawn.widths
+  fills filled = record { frame_lines = λ line some. (exact some).frame_lines line; printable_lines = λ is k default below some. (exact some).printable_lines is k default below; straight_lines = λ is k default below some. (exact some).straight_lines is k default below }
+    where
+      full : table.arrangement ≡ DynamicFullWidth
+      full = ap (λ (t : TableValue). t.arrangement) looks ∙ rw (wide, filled) refl
+
+      width : table_width table ≡ Some w
+      width = ap table_width looks ∙ rw wide refl
+
+      by_room : (known.whole ≡ []) ⊎ HasRoom w table → 0 < shown_count table → EachLineCounts (λ n. n ≡ max w (least_total table)) table drawn.widths
+      by_room (inl none) some = drawn.fills_width w (unconstrained-drawn look Any content table known none) full width some
+      by_room (inr room) some =
+          let found = drawn.fills_wider_total w full width some in
+          let fits = wider-fits w table room true found.0 (shown_contents table drawn.widths) found.1 in
+          weaker_counts (λ n. n ≡ max w (wider_total table found.0)) (λ n. n ≡ max w (least_total table)) table drawn.widths (λ n is. omega (arith, is, fits, least-fits w table room)) found.2
+
+      exact : 0 < shown_count table → EachLineCounts (λ n. n ≡ max w (least_total table)) table drawn.widths
+      exact = by_room (known.room w wide)
+
+-- a look with lines between rows or without them keeps its other settings
+pub kept_setting : {A : Type 0} (of : Look → A) (look : Look) → of (separated true look) ≡ of (separated false look) → (has : Bool) (a : A) → of look ≡ a → of (separated has look) ≡ a
+kept_setting of look same true a is = is
+kept_setting of look same false a is = sym same ∙ is
+
+pub keeps_to_width : (w : ℕ) (options : Options) (records : List (List Text)) (output : Text) → OutputKeepsToWidth w options records output
+keeps_to_width w options records output none wide kept plain style made =
+    let text = is_table_text options records output made none in
+    let look = options.look in
+    has_lines options records output made text none style (IsWithin w)
+    (keeps w (separated text.drawn.has_separators look) made.content _ (any_drawn look made.content text.is_expanded text.drawn.has_separators) _ text.drawn.is_arranged.headline (kept_setting (λ l. l.width) look refl text.drawn.has_separators (Some w) wide) (kept_setting (λ l. l.fills_width) look refl text.drawn.has_separators false kept))
+
+pub fills_width : (w : ℕ) (options : Options) (records : List (List Text)) (output : Text) → OutputFillsWidth w options records output
+fills_width w options records output none wide filled plain style made =
+    let text = is_table_text options records output made none in
+    let look = options.look in
+    has_lines options records output made text none style (IsFilling w)
+    (fills w (separated text.drawn.has_separators look) made.content _ (any_drawn look made.content text.is_expanded text.drawn.has_separators) _ text.drawn.is_arranged.headline (kept_setting (λ l. l.width) look refl text.drawn.has_separators (Some w) wide) (kept_setting (λ l. l.fills_width) look refl text.drawn.has_separators true filled))

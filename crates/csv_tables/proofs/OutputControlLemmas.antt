@@ -1,0 +1,345 @@
+-- Nothing harmful is visible of an output: its fields, its style, its indicator and its last line hold no control character.
+use Rattle.std.proofs.Common.{◌≡◌, ◌<◌, ◌==◌, ◌&&◌, ℕ, zero, suc, ◌+◌, Bool, true, false, List, [], ◌∷◌, ◌++◌, Contains, Option, Some, None, arith, codes, decimal, flat_map, length, nat_lt, refl, unwrap_or, sym, ap, ap₂, ◌∙◌, subst, tests, append_assoc, append-nil, zip}
+use Rattle.std.proofs.lemmas.Bool.{and_parts, or_parts}
+use Rattle.std.proofs.lemmas.List.Folds.{list_all-append, list_any_none}
+use Rattle.std.proofs.lemmas.List.Elements.{All-cons, All-contains, All-head, All-map, All-nil, All-tail, All-weaker}
+use Rattle.std.proofs.lemmas.Str.{NoCharPasses-append, NoCharPasses-nil, encode_ascii}
+use Rattle.std.specs.Char.{is_control}
+use Rattle.std.specs.Int.{is_in_range}
+use Rattle.std.specs.List.{All, list_any, range_with_len, repeat}
+use Rattle.std.specs.Prelude.{if◌then◌else◌}
+use Rattle.std.specs.Str.{IsUtf8, NonePass}
+use lib.Utf8.{encode}
+use Rattle.comfy_parts.proofs.CallerLemmas.{IsUtf8-printable, Shows-byte, Shows-visible, none_by_characters, unlike}
+use Rattle.comfy_parts.specs.CellValue.{CellValue, RowValue}
+use Rattle.comfy_parts.specs.Columns.{style_characters}
+use Rattle.comfy_parts.specs.Text.{Text, is_printable_ascii}
+use Rattle.comfy_parts.specs.declared.style.table_style.TableStyle.{TableStyle}
+use Rattle.comfy_parts.specs.VisibleText.{visible_text}
+use Rattle.comfy_table.proofs.ShownTextLemmas.{shown_of_all}
+use Rattle.comfy_table.proofs.MeasuredLemmas.{IsRowOf, row_measured}
+use Rattle.comfy_table.specs.Drawing.{terminated_text_of}
+use Rattle.comfy_table.specs.Laws.{AreLinesOf, HasNoBreak, HasNoControl, IsFreeOfControls, IsStyleWithout}
+use Rattle.comfy_table.specs.TableValue.{TableValue, ellipsis, max_content_widths, visible_cell}
+use Rattle.csv.specs.Records.{AllText}
+use Rattle.csv_tables.proofs.FieldControlLemmas.{field-harmless}
+use Rattle.csv_tables.proofs.TextLineLemmas.{lines_without_controls}
+use Rattle.csv_tables.specs.Cells.{field_text}
+use Rattle.csv_records.specs.Cleaning.{visible_of}
+use Rattle.csv_tables.specs.Controls.{HasNoStrayControl, IsStyleWithoutControls, is_stray_control}
+use Rattle.csv_tables.specs.Markdown.{is_right, rule_line, rule_part}
+use Rattle.csv_tables.specs.declared.options.DrawnColumn.{DrawnColumn}
+use Rattle.csv_tables.specs.declared.options.Look.{Look}
+use Rattle.csv_tables.specs.declared.options.Options.{Options}
+use Rattle.csv_tables.proofs.BuiltLemmas.{Built, EachOf, each_content, plain_table}
+use Rattle.csv_tables.proofs.FieldLemmas.{number_is_printable, printable_unbroken}
+use Rattle.csv_tables.proofs.LineLemmas.{drawn, never_expanded, with_lines}
+use Rattle.csv_tables.proofs.OutputLemmas.{markdown_unbroken}
+use Rattle.csv_tables.proofs.SeparatorLemmas.{condensed-all, separated}
+use Rattle.csv_tables.proofs.TextTableLemmas.{EachLine, MakesRows, cells_each, pair_each, rows_of_texts, table_of_texts}
+use Rattle.csv_tables.proofs.WholeTableLemmas.{IsDrawn, drawn-is, drawn_plain, drawn_table-is, measured-drawn}
+use Rattle.csv_tables.specs.Drawn.{ContentValue, IsMarkdownText, IsOutputOf, IsOutputOfAny, IsTableText, IsText, below_first, condensed_style, markdown_content, markdown_look, markdown_table, note_for, output_table, record_line, rows_table, separated_table}
+use Rattle.csv_tables.specs.Laws.{HasLines, InputIsDrawnWithoutControls, IsLookWithoutControls, IsOutputWith, OutputHoldsNoControls}
+
+-- ---- rows
+
+-- no control character is visible of a text line
+abbrev IsClearLine : Bool → Text → Type 0
+IsClearLine keeps line = HasNoControl (visible_of keeps line)
+
+-- nor of any in a row
+abbrev IsClearRow : Bool → RowValue → Type 0
+IsClearRow keeps row = All (λ (cell : CellValue). All (IsClearLine keeps) cell.text_lines) row.cells
+
+pub text_fields : (fields : List Text) → AllText fields → All IsUtf8 fields
+unfolding AllText
+text_fields [] text = All-nil IsUtf8
+text_fields (field ∷ fields) text = All-cons IsUtf8 field fields text.0 (text_fields fields text.1)
+
+empty_line : (keeps : Bool) → IsClearLine keeps []
+empty_line true = NoCharPasses-nil is_control
+empty_line false = NoCharPasses-nil is_control
+
+clear_rows : (look : Look) → MakesRows (IsClearLine look.has_sequences) (empty_line look.has_sequences) look (IsClearRow look.has_sequences)
+clear_rows look =
+    let keeps = look.has_sequences in
+    record {
+      header = λ columns fields each. cells_each (IsClearLine keeps) (empty_line keeps) look look.has_bold_header columns fields each;
+      row = λ columns fields each. cells_each (IsClearLine keeps) (empty_line keeps) look false columns fields each;
+      pair = λ name field own other. pair_each (IsClearLine keeps) (empty_line keeps) look name field own other;
+    }
+
+clear_field : (look : Look) → look.is_raw ≡ false → (field : Text) → IsUtf8 field → EachLine (IsClearLine look.has_sequences) look field
+clear_field look tidy field utf8 = lines_without_controls look.has_sequences (field_text look field) (field-harmless look field tidy utf8)
+
+clear_fields : (look : Look) → look.is_raw ≡ false → (fields : List Text) → AllText fields → All (EachLine (IsClearLine look.has_sequences) look) fields
+clear_fields look tidy fields text = All-weaker IsUtf8 (EachLine (IsClearLine look.has_sequences) look) (clear_field look tidy) fields (text_fields fields text)
+
+-- such a row holds none as it is measured
+clear_measured : (keeps : Bool) (row : RowValue) → IsClearRow keeps row → IsRowOf HasNoControl (row_measured keeps row)
+clear_measured true row own =
+    All-map (λ (cell : CellValue). All HasNoControl cell.text_lines) visible_cell row.cells
+    (All-weaker (λ (cell : CellValue). All (IsClearLine true) cell.text_lines) (λ (cell : CellValue). All HasNoControl (visible_cell cell).text_lines) (λ cell. All-map HasNoControl visible_text cell.text_lines) row.cells own)
+clear_measured false row own = own
+
+-- ---- the table
+
+none_each : (p : Option ℕ → Bool) (cs : List (Option ℕ)) → list_any p cs ≡ false → All (λ c. p c ≡ false) cs
+none_each p [] none = All-nil (λ c. p c ≡ false)
+none_each p (c ∷ cs) none =
+    let each = or_parts (p c) (list_any p cs) none in
+    All-cons (λ x. p x ≡ false) c cs each.0 (none_each p cs each.1)
+
+condensed_without : (style : TableStyle) → IsStyleWithoutControls style → IsStyleWithoutControls (condensed_style style)
+condensed_without style none =
+    let p = λ (c : Option ℕ). is_control (unwrap_or c 0x20) in
+    list_any_none p (style_characters (condensed_style style)) (condensed-all (λ c. p c ≡ false) refl style (none_each p (style_characters style) none))
+
+ellipsis_is_plain : HasNoControl ellipsis
+unfolding encode
+ellipsis_is_plain = (0x2026 ∷ [], refl, (refl, tt))
+
+-- a style without control characters has no line feed
+pub unbroken_without : (style : TableStyle) → IsStyleWithoutControls style → IsStyleWithout 0x0A style
+unbroken_without style none =
+    list_any_none (λ (c : Option ℕ). unwrap_or c 0x20 == 0x0A) (style_characters style)
+    (All-weaker (λ (c : Option ℕ). is_control (unwrap_or c 0x20) ≡ false) (λ (c : Option ℕ). (unwrap_or c 0x20 == 0x0A) ≡ false)
+    (λ c fails. unlike is_control (unwrap_or c 0x20) 0x0A refl (λ _. fails)) (style_characters style)
+    (none_each (λ c. is_control (unwrap_or c 0x20)) (style_characters style) none))
+
+separated_without : (has : Bool) (look : Look) → IsLookWithoutControls look → IsLookWithoutControls (separated has look)
+separated_without true look is = is
+separated_without false look is = record { cleaned = is.cleaned; style = condensed_without look.style is.style }
+
+module _ (look : Look) (is : IsLookWithoutControls look) (content : ContentValue) (text : EachOf AllText content) where
+  free_of_controls : (table : TableValue) → IsDrawn look (IsClearRow look.has_sequences) content table → IsFreeOfControls table
+  free_of_controls table known =
+      record {
+        text_lines = shown_of_all HasNoControl table (measured-drawn look (IsClearRow look.has_sequences) content table known (IsRowOf HasNoControl) (clear_measured look.has_sequences));
+        indicator = subst HasNoControl (sym (ap (λ (t : TableValue). t.indicator) (drawn-is look (IsClearRow look.has_sequences) content table known))) ellipsis_is_plain;
+        characters = subst IsStyleWithoutControls (sym (ap (λ (t : TableValue). t.style) (drawn-is look (IsClearRow look.has_sequences) content table known))) is.style;
+      }
+
+  each : EachOf (All (EachLine (IsClearLine look.has_sequences) look)) content
+  each =
+      record {
+        names = λ names at. clear_fields look is.cleaned names (text.names names at);
+        rows = All-weaker AllText (All (EachLine (IsClearLine look.has_sequences) look)) (clear_fields look is.cleaned) content.rows text.rows;
+      }
+
+  pub free_rows : IsFreeOfControls (rows_table look content)
+  free_rows = free_of_controls (rows_table look content) (drawn_plain look (IsClearRow look.has_sequences) content (rows_table look content) (rows_of_texts (IsClearLine look.has_sequences) (empty_line look.has_sequences) look (IsClearRow look.has_sequences) (clear_rows look) content each))
+
+  built_output : (is_expanded : Bool) → Built look (IsClearRow look.has_sequences) content (plain_table is_expanded look content)
+  built_output is_expanded =
+      table_of_texts (IsClearLine look.has_sequences) (empty_line look.has_sequences) look (IsClearRow look.has_sequences) (clear_rows look) content each
+      (λ at. clear_field look is.cleaned (decimal (at + 1)) (IsUtf8-printable (decimal (at + 1)) (number_is_printable (at + 1)))) is_expanded
+
+pub free_output : (look : Look) → IsLookWithoutControls look → (content : ContentValue) → EachOf AllText content → (is_expanded has : Bool) → IsFreeOfControls (separated_table has (output_table is_expanded look content))
+free_output look is content text is_expanded has =
+    let own = separated has look in
+    let clear = separated_without has look is in
+    let known = drawn_table-is look (IsClearRow own.has_sequences) content is_expanded has (built_output own clear content text is_expanded) in
+    free_of_controls own clear content text (separated_table has (output_table is_expanded look content)) known
+
+-- ---- lines and the last line
+
+weaker : (cs : List ℕ) → NonePass is_control cs → NonePass is_stray_control cs
+weaker [] none = tt
+weaker (c ∷ cs) (own, more) = (rw own refl, weaker cs more)
+
+line_feed : HasNoStrayControl (0x0A ∷ [])
+unfolding encode
+line_feed = (0x0A ∷ [], refl, (refl, tt))
+
+-- a line of which no control character is visible, a line feed, and what follows
+after_line : (line rest : Text) → HasNoControl (visible_text line) → HasNoStrayControl (visible_text rest) → HasNoStrayControl (visible_text (line ++ 0x0A ∷ rest))
+after_line line rest none more =
+    let clear = none_by_characters is_control 0x1B (omega arith) refl (visible_text line) none in
+    let shown : visible_text (line ++ 0x0A ∷ rest) ≡ visible_text line ++ 0x0A ∷ visible_text rest =
+    (Shows-visible line clear).shows (0x0A ∷ rest) ∙ ap (λ (t : Text). visible_text line ++ t) ((Shows-byte 0x0A refl).shows rest) in
+    subst HasNoStrayControl (sym shown)
+    (NoCharPasses-append is_stray_control (visible_text line) (0x0A ∷ visible_text rest) (none.0, none.1, weaker none.0 none.2) (NoCharPasses-append is_stray_control (0x0A ∷ []) (visible_text rest) line_feed more))
+
+after_lines : (lines : List Text) (rest : Text) → All (λ line. HasNoControl (visible_text line)) lines → HasNoStrayControl (visible_text rest) → HasNoStrayControl (visible_text (terminated_text_of lines ++ rest))
+after_lines [] rest none more = more
+after_lines (line ∷ lines) rest none more =
+    let joined : (line ++ 0x0A ∷ []) ++ (terminated_text_of lines ++ rest) ≡ line ++ 0x0A ∷ (terminated_text_of lines ++ rest) = append_assoc line (0x0A ∷ []) (terminated_text_of lines ++ rest) in
+    subst (λ (t : Text). HasNoStrayControl (visible_text t)) (sym (append_assoc (line ++ 0x0A ∷ []) (terminated_text_of lines) rest ∙ joined))
+    (after_line line (terminated_text_of lines ++ rest) (All-head (λ (l : Text). HasNoControl (visible_text l)) line lines none)
+    (after_lines lines rest (All-tail (λ (l : Text). HasNoControl (visible_text l)) line lines none) more))
+
+-- ---- lines of our own
+
+-- a printable character is ASCII and no control character
+printable_is_plain : (c : ℕ) → is_in_range 0x20 0x7E c ≡ true → (c < 128) × (is_control c ≡ false) × ((c == 0x1B) ≡ false)
+printable_is_plain c is = (grind (arith, tests), grind (arith, tests), grind (arith, tests))
+
+printable_is_clear : (text : Text) → is_printable_ascii text ≡ true → HasNoControl text
+printable_is_clear [] all = NoCharPasses-nil is_control
+printable_is_clear (c ∷ cs) all =
+    let both = and_parts (is_in_range 0x20 0x7E c) (is_printable_ascii cs) all in
+    let own = printable_is_plain c both.0 in
+    NoCharPasses-append is_control (c ∷ []) cs (c ∷ [], append-nil _ ∙ encode_ascii c own.0, (own.1, tt)) (printable_is_clear cs both.1)
+
+-- it is seen as it is
+shown_before : (text rest : Text) → is_printable_ascii text ≡ true → visible_text (text ++ rest) ≡ text ++ visible_text rest
+shown_before [] rest all = refl
+shown_before (c ∷ cs) rest all =
+    let both = and_parts (is_in_range 0x20 0x7E c) (is_printable_ascii cs) all in
+    (Shows-byte c (printable_is_plain c both.0).2).shows (cs ++ rest) ∙ ap (λ (t : Text). c ∷ t) (shown_before cs rest both.1)
+
+pub printable_is_seen : (text : Text) → is_printable_ascii text ≡ true → visible_text text ≡ text
+printable_is_seen text all = ap visible_text (sym (append-nil text)) ∙ shown_before text [] all ∙ append-nil text
+
+-- a printable line, a line feed, and what follows
+after_printable : (line rest : Text) → is_printable_ascii line ≡ true → HasNoStrayControl (visible_text rest) → HasNoStrayControl (visible_text (line ++ 0x0A ∷ rest))
+after_printable line rest all more = after_line line rest (subst HasNoControl (sym (printable_is_seen line all)) (printable_is_clear line all)) more
+
+both_printable : (xs ys : Text) → is_printable_ascii xs ≡ true → is_printable_ascii ys ≡ true → is_printable_ascii (xs ++ ys) ≡ true
+both_printable xs ys one other = list_all-append (is_in_range 0x20 0x7E) xs ys ∙ ap₂ (λ a b. a && b) one other
+
+-- `n of m`, and what stands around it
+pub counts_are_printable : (before after : Text) (n m : ℕ) → is_printable_ascii before ≡ true → is_printable_ascii after ≡ true → is_printable_ascii ((((before ++ decimal n) ++ codes " of ") ++ decimal m) ++ after) ≡ true
+counts_are_printable before after n m first last =
+    both_printable (((before ++ decimal n) ++ codes " of ") ++ decimal m) after
+    (both_printable ((before ++ decimal n) ++ codes " of ") (decimal m) (both_printable (before ++ decimal n) (codes " of ") (both_printable before (decimal n) first (number_is_printable n)) refl) (number_is_printable m)) last
+
+after_record_line : (n m : ℕ) (rest : Text) → HasNoStrayControl (visible_text rest) → HasNoStrayControl (visible_text (record_line n m ++ rest))
+after_record_line n m rest more =
+    let line = ((codes "record " ++ decimal n) ++ codes " of ") ++ decimal m in
+    subst (λ (t : Text). HasNoStrayControl (visible_text t)) (sym (append_assoc line (codes "\n") rest))
+    (after_printable line rest (subst (λ (t : Text). is_printable_ascii t ≡ true) (append-nil line) (counts_are_printable (codes "record ") [] n m refl refl)) more)
+
+-- the line on records that aren't drawn
+note_is_seen : (is_markdown : Bool) (limit : Option ℕ) (count : ℕ) → HasNoStrayControl (visible_text (note_for is_markdown limit count))
+note_is_seen is_markdown None count = NoCharPasses-nil is_stray_control
+note_is_seen is_markdown (Some limit) count = by_test (nat_lt limit count)
+  where
+    note : Text
+    note = ((decimal limit ++ codes " of ") ++ decimal count) ++ codes " records"
+
+    seen : HasNoStrayControl (visible_text (((decimal limit ++ codes " of ") ++ decimal count) ++ codes " records\n"))
+    seen =
+        subst (λ (t : Text). HasNoStrayControl (visible_text t)) (append_assoc ((decimal limit ++ codes " of ") ++ decimal count) (codes " records") (0x0A ∷ []))
+        (after_printable note [] (counts_are_printable [] (codes " records") limit count refl refl) (NoCharPasses-nil is_stray_control))
+
+    by_markdown : (b : Bool) → HasNoStrayControl (visible_text ((if b then codes "\n" else []) ++ (((decimal limit ++ codes " of ") ++ decimal count) ++ codes " records\n")))
+    by_markdown true = after_printable [] (((decimal limit ++ codes " of ") ++ decimal count) ++ codes " records\n") refl seen
+    by_markdown false = seen
+
+    by_test : (b : Bool) → HasNoStrayControl (visible_text (if b then (if is_markdown then codes "\n" else []) ++ (((decimal limit ++ codes " of ") ++ decimal count) ++ codes " records\n") else []))
+    by_test true = by_markdown is_markdown
+    by_test false = NoCharPasses-nil is_stray_control
+
+-- ---- outputs
+
+abbrev IsClear : Text → Type 0
+IsClear line = HasNoControl (visible_text line)
+
+-- a text of such lines, and what follows
+after_text : (is_expanded : Bool) (content : ContentValue) (lines : List Text) (text rest : Text) → HasLines is_expanded content lines text → All IsClear lines → HasNoStrayControl (visible_text rest) → HasNoStrayControl (visible_text (text ++ rest))
+after_text false content lines text rest are none more = subst (λ (t : Text). HasNoStrayControl (visible_text (t ++ rest))) (sym are.joined) (after_lines lines rest none more)
+after_text true content lines text rest (parts, within, unbroken, is) none more =
+    subst (λ (t : Text). HasNoStrayControl (visible_text (t ++ rest))) (sym is) (records (range_with_len 0 (length content.rows)))
+  where
+    one : ℕ → Text
+    one at = record_line (at + 1) content.count ++ terminated_text_of (parts at)
+
+    records : (places : List ℕ) → HasNoStrayControl (visible_text (flat_map one places ++ rest))
+    records [] = more
+    records (at ∷ places) =
+        let line = record_line (at + 1) content.count in
+        let part = terminated_text_of (parts at) in
+        subst (λ (t : Text). HasNoStrayControl (visible_text t)) (sym (append_assoc (one at) (flat_map one places) rest ∙ append_assoc line part (flat_map one places ++ rest)))
+        (after_record_line (at + 1) content.count (part ++ (flat_map one places ++ rest))
+        (after_lines (parts at) (flat_map one places ++ rest) (All-weaker (Contains lines) IsClear (λ l in_lines. All-contains IsClear lines l none in_lines) (parts at) (within at)) (records places)))
+
+-- an output of such lines
+output_of_clear : (options : Options) (records : List (List Text)) (output : Text) (lines : List Text) → IsOutputWith options records output lines → All IsClear lines → HasNoStrayControl (visible_text output)
+output_of_clear options records output lines made none =
+    subst (λ (t : Text). HasNoStrayControl (visible_text t)) (sym made.joined)
+    (after_text made.is_expanded made.content lines made.text _ made.has_lines none (note_is_seen options.look.is_markdown options.selection.limit made.content.count))
+
+-- the line below a header for Markdown is clear
+part_is_printable : (column : DrawnColumn) (width : ℕ) → is_printable_ascii (rule_part (column, width)) ≡ true
+part_is_printable column width = both_printable (repeat (width + 1) (codes "-")) _ (dashes (width + 1)) (by_side (is_right column.alignment))
+  where
+    dashes : (n : ℕ) → is_printable_ascii (repeat n (codes "-")) ≡ true
+    dashes zero = refl
+    dashes (suc n) = dashes n
+
+    by_side : (b : Bool) → is_printable_ascii (if b then codes ":|" else codes "-|") ≡ true
+    by_side true = refl
+    by_side false = refl
+
+pub rule_is_printable : (columns : List DrawnColumn) (widths : List ℕ) → is_printable_ascii (rule_line columns widths) ≡ true
+rule_is_printable columns widths = parts columns widths
+  where
+    parts : (columns : List DrawnColumn) (widths : List ℕ) → is_printable_ascii (flat_map rule_part (zip columns widths)) ≡ true
+    parts [] widths = refl
+    parts (column ∷ columns) [] = refl
+    parts (column ∷ columns) (width ∷ widths) = both_printable (rule_part (column, width)) (flat_map rule_part (zip columns widths)) (part_is_printable column width) (parts columns widths)
+
+-- no control character is visible of that line
+pub rule_is_clear : (columns : List DrawnColumn) (widths : List ℕ) → HasNoControl (visible_text (rule_line columns widths))
+rule_is_clear columns widths =
+    let printable = rule_is_printable columns widths in
+    subst HasNoControl (sym (printable_is_seen (rule_line columns widths) printable)) (printable_is_clear (rule_line columns widths) printable)
+
+pub each_below_first : (P : Text → Type 0) (line : Text) (lines : List Text) → P line → All P lines → All P (below_first line lines)
+each_below_first P line [] own each = each
+each_below_first P line (first ∷ rest) own each = All-cons P first (line ∷ rest) (All-head P first rest each) (All-cons P line rest own (All-tail P first rest each))
+
+-- the lines of a text for Markdown
+pub markdown_lines_of : (look : Look) (content : ContentValue) (text : Text) (drawn : IsMarkdownText look content text)
+    → AreLinesOf text (below_first (rule_line content.columns (max_content_widths (markdown_table look content))) drawn.lines)
+markdown_lines_of look content text drawn =
+    let rule = rule_line content.columns (max_content_widths (markdown_table look content)) in
+    record {
+      joined = drawn.is;
+      unbroken = each_below_first HasNoBreak rule drawn.lines (printable_unbroken rule (rule_is_printable content.columns _)) (drawn.drawing.without_breaks (markdown_unbroken look content));
+    }
+
+-- it has names, be they blank
+pub titled : (content : ContentValue) → EachOf AllText content → EachOf AllText (markdown_content content)
+unfolding AllText
+titled content own = record { names = λ names is. by_names content.names own.names names is; rows = own.rows }
+  where
+    by_names : (known : Option (List Text)) → ((n : List Text) → known ≡ Some n → AllText n) → (names : List Text) → Some (unwrap_or known []) ≡ Some names → AllText names
+    by_names None own names is = let same : [] ≡ names = cc is in subst AllText same tt
+    by_names (Some n) own names is = let same : n ≡ names = cc is in subst AllText same (own n refl)
+
+-- and no control character
+pub free_markdown : (look : Look) → look.is_raw ≡ false → (content : ContentValue) → EachOf AllText content → IsFreeOfControls (markdown_table look content)
+free_markdown look cleaned content text = free_rows (markdown_look look) (record { cleaned = cleaned; style = refl }) (markdown_content content) (titled content text)
+
+markdown_is_clear : (options : Options) (records : List (List Text)) (output : Text) → IsLookWithoutControls options.look → All AllText records → (made : IsOutputOf options records output) → IsMarkdownText options.look made.content made.text → options.look.is_markdown ≡ true → HasNoStrayControl (visible_text output)
+markdown_is_clear options records output look text made drawn is =
+    let rule = rule_line made.content.columns (max_content_widths (markdown_table options.look made.content)) in
+    let own = each_content AllText options records made.content made.is_content text in
+    output_of_clear options records output (below_first rule drawn.lines) (record { content = made.content; is_content = made.is_content; is_expanded = false; expansion = never_expanded options.look made.content is; text = made.text; has_lines = markdown_lines_of options.look made.content made.text drawn; joined = made.joined })
+    (each_below_first IsClear rule drawn.lines (rule_is_clear made.content.columns _)
+    (drawn.drawing.without_controls (free_markdown options.look look.cleaned made.content own)))
+
+table_is_clear : (options : Options) (records : List (List Text)) (output : Text) → IsLookWithoutControls options.look → All AllText records → (made : IsOutputOf options records output) → IsTableText options.look made.content made.text → options.look.is_markdown ≡ false → HasNoStrayControl (visible_text output)
+table_is_clear options records output look text made drawn_text none =
+    let has = drawn_text.drawn.has_separators in
+    let own = each_content AllText options records made.content made.is_content text in
+    output_of_clear options records output (drawn options records output made drawn_text none) (with_lines options records output made drawn_text none (unbroken_without options.look.style look.style))
+    (drawn_text.drawn.is_arranged.headline.without_controls (free_output options.look look made.content own drawn_text.is_expanded has))
+
+pub output_without_controls : (options : Options) (records : List (List Text)) (output : Text) → OutputHoldsNoControls options records output
+output_without_controls options records output look text made = by_markdown options.look.is_markdown refl made.is_text
+  where
+    by_markdown : (b : Bool) → options.look.is_markdown ≡ b → IsText b options.look made.content made.text → HasNoStrayControl (visible_text output)
+    by_markdown true is drawn = markdown_is_clear options records output look text made drawn is
+    by_markdown false none drawn = table_is_clear options records output look text made drawn none
+
+-- records of an input are text
+pub input_without_controls : (options : Options) (input output : Text) → InputIsDrawnWithoutControls options input output
+input_without_controls options input output look made = any made.records made.are_records.are_records.are_records.are_text made.is_output
+  where
+    any : (records : List (List Text)) → All AllText records → IsOutputOfAny options records output → HasNoStrayControl (visible_text output)
+    any [] text is = rw is (NoCharPasses-nil is_stray_control)
+    any (first ∷ rest) text is = output_without_controls options (first ∷ rest) output look text is

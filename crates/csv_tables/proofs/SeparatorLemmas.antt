@@ -1,0 +1,57 @@
+-- Tables with the lines between their rows, and without them.
+use Rattle.std.proofs.Common.{◌≡◌, ℕ, Bool, true, false, List, [], ◌∷◌, Option, Some, None, flat_map, map, drop, take, refl, sym, ap, unwrap_or, ◌∙◌}
+use Rattle.std.specs.List.{All}
+use Rattle.std.proofs.lemmas.List.Elements.{All-append, All-cons, All-drop, All-take}
+use Rattle.comfy_parts.proofs.CallerLemmas.{frame_adds}
+use Rattle.comfy_parts.specs.CellValue.{RowValue}
+use Rattle.comfy_parts.specs.Columns.{IsOneColumn, IsOneColumnStyle, style_characters}
+use Rattle.comfy_parts.specs.Text.{Text}
+use Rattle.comfy_parts.specs.declared.style.table_style.TableStyle.{TableStyle}
+use Rattle.comfy_table.specs.TableValue.{TableValue, with_row, with_rows}
+use Rattle.csv_tables.specs.Cells.{row_for}
+use Rattle.csv_tables.specs.declared.options.DrawnColumn.{DrawnColumn}
+use Rattle.csv_tables.specs.declared.options.Look.{Look}
+use Rattle.csv_tables.proofs.BuiltLemmas.{plain_table}
+use Rattle.csv_tables.specs.Drawn.{ContentValue, condensed_style, empty_table, headed_table, pairs_of, separated_table}
+
+-- a look with these lines, or without them
+abbrev pub separated : Bool → Look → Look
+separated true look = look
+separated false look = record look { style = condensed_style look.style }
+
+-- ---- styles
+
+-- a style without lines between rows has the other characters of the style alone
+pub condensed-all : (P : Option ℕ → Type 0) → P None → (style : TableStyle) → All P (style_characters style) → All P (style_characters (condensed_style style))
+condensed-all P none style all =
+    let cs = style_characters style in
+    All-append P (take 14 cs) (None ∷ None ∷ None ∷ None ∷ drop 18 cs) (All-take P 14 cs all)
+    (All-cons P None (None ∷ None ∷ None ∷ drop 18 cs) none
+    (All-cons P None (None ∷ None ∷ drop 18 cs) none
+    (All-cons P None (None ∷ drop 18 cs) none
+    (All-cons P None (drop 18 cs) none (All-drop P 18 cs all)))))
+
+-- its characters are as wide
+pub separated_is_one_column : (has : Bool) (look : Look) → IsOneColumnStyle look.style → IsOneColumnStyle (separated has look).style
+separated_is_one_column true look all = all
+separated_is_one_column false look all = condensed-all IsOneColumn (frame_adds 0x20 refl) look.style all
+
+-- ---- tables
+
+-- lines between rows can be left out before rows are appended
+condensed-rows : (rows : List RowValue) (table : TableValue) → separated_table false (with_rows rows table) ≡ with_rows rows (separated_table false table)
+condensed-rows [] table = refl
+condensed-rows (row ∷ rows) table = condensed-rows rows (with_row row table)
+
+module _ (look : Look) (content : ContentValue) where
+  condensed-headed : (columns : List DrawnColumn) (names : Option (List Text)) → separated_table false (headed_table look columns names) ≡ headed_table (separated false look) columns names
+  condensed-headed columns None = refl
+  condensed-headed columns (Some names) = refl
+
+  -- the table of some records, with the lines or without them, is that of the look for it
+  pub restyled : (is_expanded has : Bool) → plain_table is_expanded (separated has look) content ≡ separated_table has (plain_table is_expanded look content)
+  restyled is_expanded true = refl
+  restyled true false = sym (condensed-rows (flat_map (pairs_of look content.columns (unwrap_or content.names [])) content.rows) (empty_table look))
+  restyled false false =
+      let rows = map (row_for look content.columns) content.rows in
+      sym (condensed-rows rows (headed_table look content.columns content.names) ∙ ap (with_rows rows) (condensed-headed content.columns content.names))

@@ -1,0 +1,387 @@
+-- What is visible of the lines of an output is equally wide.
+use Rattle.std.proofs.Common.{◌≡◌, ℕ, ◌≤◌, ◌+◌, ◌⊎◌, Bool, true, false, List, [], ◌∷◌, Option, Some, None, Ok, All, arith, decimal, inl, inr, length, map, max, option_map, slice_index_or, unwrap_or, ap, refl, subst, sym, ◌∙◌}
+use Rattle.std.proofs.lemmas.List.Elements.{All-cons, All-map, All-nil, All-weaker}
+use Rattle.std.proofs.lemmas.Str.{chars-nil}
+use Rattle.cluster_width.specs.ClusterSums.{selectors_agree}
+use Rattle.comfy_parts.proofs.CallerLemmas.{All-at, All-every, frame_adds, measure-nil, measure-printable}
+use Rattle.comfy_parts.specs.CellValue.{CellValue, ColumnInfo, ColumnValue, RowValue, plain_cell}
+use Rattle.comfy_parts.specs.Columns.{AddsOneColumn, CharactersFit, IsApart, IsOneColumnStyle, SelectorsAgree}
+use Rattle.comfy_parts.specs.Text.{Text, is_printable_ascii, measure}
+use Rattle.comfy_parts.specs.VisibleText.{visible_text}
+use Rattle.comfy_table.proofs.ControlLemmas.{free_of_escapes}
+use Rattle.comfy_table.proofs.FittingTableLemmas.{fitting_tables_are_straight}
+use Rattle.comfy_table.proofs.InfoLemmas.{infos-known}
+use Rattle.comfy_table.proofs.WholeTableLemmas.{whole_lines_fit}
+use Rattle.comfy_table.specs.Arrangement.{width_kept}
+use Rattle.comfy_table.specs.Drawing.{drawing as drawn_over, infos_of}
+use Rattle.comfy_table.specs.FittingTables.{CharactersFitColumn, FitsByCharacters}
+use Rattle.comfy_table.specs.Headline.{IsTableDrawing}
+use Rattle.comfy_table.specs.Laws.{HasNoControl, IsFreeOfControls, line_total, unstyled}
+use Rattle.comfy_table.specs.Lines.{cell_delimiter}
+use Rattle.comfy_table.specs.NewTables.{AreEquallyWide, IsShortRow}
+use Rattle.comfy_table.specs.Pieces.{shown_infos}
+use Rattle.comfy_table.specs.Straight.{EachCell, IsStraightTable, TextsFit}
+use Rattle.comfy_table.specs.TableValue.{TableValue, measured_rows, should_style, table_width}
+use Rattle.csv_tables.proofs.BuiltLemmas.{EachOf, each_content}
+use Rattle.csv_tables.proofs.FieldLemmas.{number_lines}
+use Rattle.csv_tables.proofs.LineLemmas.{drawn, drawn_table, expansion, is_table_text, kept_setting, with_lines}
+use Rattle.csv_tables.proofs.OutputControlLemmas.{free_output}
+use Rattle.csv_tables.proofs.SeenLemmas.{ellipsis_is_apart, fitting_agree, printable_fits, wider_column}
+use Rattle.csv_tables.proofs.SeparatorLemmas.{separated_is_one_column, separated}
+use Rattle.csv_tables.proofs.TextTableLemmas.{EachLine, MakesRows, cells_each, pair_each, table_of_texts}
+use Rattle.csv_tables.proofs.WholeColumnLemmas.{IsPaddedColumn}
+use Rattle.csv_tables.proofs.WholeTableLemmas.{IsDrawn, columns-drawn, drawn-is, drawn_table-is, padded-drawn, rows-drawn, unconstrained-drawn}
+use Rattle.csv_tables.specs.Cells.{cell_for, field_or_blank, field_text, with_weight}
+use Rattle.csv_records.specs.Cleaning.{visible_of}
+use Rattle.csv_tables.specs.Drawn.{ContentValue, IsOutputOf, IsTableText, content_of, is_expanded_for, output_table, separated_table}
+use Rattle.csv_tables.specs.Laws.{ArePlainLines, AreSeen, CanBeCut, EachText, FittingOutputIsStraight, IsStraightOutput, IsDrawnTable, NarrowLinesHave, NarrowOutputIsStraight, WholeOutputIsStraight, seen_lines}
+use Rattle.csv_tables.specs.declared.options.Look.{Look}
+use Rattle.csv_tables.specs.declared.options.Options.{Options}
+use Rattle.csv_tables.specs.declared.options.DrawnColumn.{DrawnColumn}
+use Rattle.csv.specs.Records.{AllText}
+
+-- ---- texts
+
+abbrev pub IsShort : Text → Type 0
+IsShort text = measure text ≤ 65535
+
+pub empty_is_short : IsShort []
+empty_is_short = rw measure-nil (omega arith)
+
+-- a short text, whose selectors agree where texts are cut
+abbrev IsWholeText : Option ℕ → Text → Type 0
+IsWholeText limit text = IsShort text × ((limit ≡ None) ⊎ SelectorsAgree text)
+
+empty_is_whole : (limit : Option ℕ) → IsWholeText limit []
+empty_is_whole limit = (empty_is_short, inr (ap selectors_agree chars-nil))
+
+-- any text
+abbrev pub IsAny : Text → Type 0
+IsAny text = Unit {0}
+
+pub any_line : (look : Look) (field : Text) → EachLine IsAny look field
+any_line look field = All-every IsAny (plain_cell (field_text look field)).text_lines (λ line. tt)
+
+any_content : (look : Look) (content : ContentValue) → EachOf (All (EachLine IsAny look)) content
+any_content look content =
+    record { names = λ names is. All-every (EachLine IsAny look) names (any_line look); rows = All-every (All (EachLine IsAny look)) content.rows (λ fields. All-every (EachLine IsAny look) fields (any_line look)) }
+
+-- what printable ASCII of at most 64 characters meets, a number does
+each_number : (P : Text → Type 0) → ((text : Text) → is_printable_ascii text ≡ true → length text ≤ 64 → P text) → (look : Look) → look.is_markdown ≡ false → (n : ℕ) → EachLine P look (decimal n)
+each_number P gives look none n = All-weaker (λ text. (is_printable_ascii text ≡ true) × (length text ≤ 64)) P (λ text is. gives text is.0 is.1) _ (number_lines look none n)
+
+short_printable : (text : Text) → is_printable_ascii text ≡ true → length text ≤ 64 → IsShort text
+short_printable text printable few = rw (measure-printable text printable) (omega (arith, few))
+
+whole_printable : (limit : Option ℕ) (text : Text) → is_printable_ascii text ≡ true → length text ≤ 64 → IsWholeText limit text
+whole_printable limit text printable few = (short_printable text printable few, inr (fitting_agree 1 text (printable_fits text printable)))
+
+-- ---- rows
+
+pub short_rows : (look : Look) → look.max_height ≡ None → MakesRows IsShort empty_is_short look IsShortRow
+short_rows look uncut =
+    record {
+      header = λ columns fields each. record { uncut = refl; short = cells_each IsShort empty_is_short look look.has_bold_header columns fields each };
+      row = λ columns fields each. record { uncut = rw uncut refl; short = cells_each IsShort empty_is_short look false columns fields each };
+      pair = λ name field own other. record { uncut = rw uncut refl; short = pair_each IsShort empty_is_short look name field own other };
+    }
+
+abbrev EachCellText : (Text → Type 0) → RowValue → Type 0
+EachCellText P row = All (λ (cell : CellValue). All P cell.text_lines) row.cells
+
+-- a row of short texts, whose selectors agree where it has a greatest height
+record IsWholeRow (row : RowValue) : Type 0 where
+  short : EachCellText IsShort row
+  agree : (h : ℕ) → row.max_height ≡ Some h → EachCellText SelectorsAgree row
+
+each_cell : (P R : Text → Type 0) → ((text : Text) → P text → R text) → (cells : List CellValue) → All (λ (cell : CellValue). All P cell.text_lines) cells → All (λ (cell : CellValue). All R cell.text_lines) cells
+each_cell P R gives = All-weaker (λ (cell : CellValue). All P cell.text_lines) (λ (cell : CellValue). All R cell.text_lines) (λ cell. All-weaker P R gives cell.text_lines)
+
+whole_rows : (limit : Option ℕ) (look : Look) → look.max_height ≡ limit → MakesRows (IsWholeText limit) (empty_is_whole limit) look IsWholeRow
+whole_rows limit look same =
+    let Whole = IsWholeText limit in
+    let empty = empty_is_whole limit in
+    record {
+      header = λ columns fields each. made _ (cells_each Whole empty look look.has_bold_header columns fields each) (λ h tall. absurd (cc tall));
+      row = λ columns fields each. made _ (cells_each Whole empty look false columns fields each) limited;
+      pair = λ name field own other. made _ (pair_each Whole empty look name field own other) limited;
+    }
+  where
+    -- a limit is known where a row has a greatest height
+    limited : (h : ℕ) → option_map (max 1) look.max_height ≡ Some h → (text : Text) → IsWholeText limit text → SelectorsAgree text
+    limited h tall text (short, inr agrees) = agrees
+    limited h tall text (short, inl none) = let gone : option_map (max 1) look.max_height ≡ None = ap (option_map (max 1)) (same ∙ none) in absurd (cc (gone, tall))
+
+    made : (row : RowValue) → EachCellText (IsWholeText limit) row → ((h : ℕ) → row.max_height ≡ Some h → (text : Text) → IsWholeText limit text → SelectorsAgree text) → IsWholeRow row
+    made row each agrees =
+        record {
+          short = each_cell (IsWholeText limit) IsShort (λ text own. own.0) row.cells each;
+          agree = λ h tall. each_cell (IsWholeText limit) SelectorsAgree (agrees h tall) row.cells each;
+        }
+
+-- a row whose cells have no delimiter of their own
+abbrev pub IsDefaultRow : RowValue → Type 0
+IsDefaultRow row = All (λ (cell : CellValue). cell.delimiter ≡ None) row.cells
+
+weighted : (is_bold : Bool) (cell : CellValue) → cell.delimiter ≡ None → (with_weight is_bold cell).delimiter ≡ None
+weighted true cell none = none
+weighted false cell none = none
+
+undelimited : (is_bold : Bool) (look : Look) (columns : List DrawnColumn) (fields : List Text)
+    → All (λ (cell : CellValue). cell.delimiter ≡ None) (map (λ (column : DrawnColumn). with_weight is_bold (cell_for look column.alignment (field_or_blank fields column.position))) columns)
+undelimited is_bold look columns fields =
+    All-map (λ (cell : CellValue). cell.delimiter ≡ None) (λ (column : DrawnColumn). with_weight is_bold (cell_for look column.alignment (field_or_blank fields column.position))) columns
+    (All-every (λ (column : DrawnColumn). (with_weight is_bold (cell_for look column.alignment (field_or_blank fields column.position))).delimiter ≡ None) columns
+    (λ column. weighted is_bold (cell_for look column.alignment (field_or_blank fields column.position)) refl))
+
+pub default_rows : (look : Look) → MakesRows IsAny tt look IsDefaultRow
+default_rows look =
+    record {
+      header = λ columns fields each. undelimited look.has_bold_header look columns fields;
+      row = λ columns fields each. undelimited false look columns fields;
+      pair = λ name field own other. both name field;
+    }
+  where
+    both : (name field : Text) → All (λ (cell : CellValue). cell.delimiter ≡ None) (with_weight look.has_bold_header (cell_for look None name) ∷ cell_for look None field ∷ [])
+    both name field =
+        All-cons (λ (cell : CellValue). cell.delimiter ≡ None) (with_weight look.has_bold_header (cell_for look None name)) (cell_for look None field ∷ []) (weighted look.has_bold_header (cell_for look None name) refl)
+        (All-cons (λ (cell : CellValue). cell.delimiter ≡ None) (cell_for look None field) [] refl (All-nil (λ (cell : CellValue). cell.delimiter ≡ None)))
+
+-- such a row of texts of which P holds
+pub record IsDefaultRowOf (P : Text → Type 0) (row : RowValue) : Type 0 where
+  pub no_delimiters : IsDefaultRow row
+  pub each : EachCellText P row
+
+pub default_rows_of : (P : Text → Type 0) (empty : P []) (look : Look) → MakesRows P empty look (IsDefaultRowOf P)
+default_rows_of P empty look =
+    let default = default_rows look in
+    let any = λ (fields : List Text). All-every (EachLine IsAny look) fields (any_line look) in
+    record {
+      header = λ columns fields each. record { no_delimiters = default.header columns fields (any fields); each = cells_each P empty look look.has_bold_header columns fields each };
+      row = λ columns fields each. record { no_delimiters = default.row columns fields (any fields); each = cells_each P empty look false columns fields each };
+      pair = λ name field own other. record { no_delimiters = default.pair name field (any_line look name) (any_line look field); each = pair_each P empty look name field own other };
+    }
+
+-- ---- tables
+
+-- nothing is in bold, or no control character stands beside sequences
+abbrev pub IsSeenTable : Bool → Look → TableValue → Type 0
+IsSeenTable false look table = look.has_bold_header ≡ false
+IsSeenTable true look table = IsFreeOfControls table
+
+-- no control character is visible of the lines of such a table
+pub clear_lines : (visible : Bool) (look : Look) (table : TableValue) (lines : List Text) → IsTableDrawing table lines → IsSeenTable visible look table → visible ≡ true → All HasNoControl (seen_lines visible lines)
+clear_lines true look table lines drawing free is = All-map HasNoControl visible_text lines (drawing.without_controls free)
+clear_lines false look table lines drawing plain is = absurd (cc is)
+
+module _ (look : Look) (no_sequences : look.has_sequences ≡ false) (content : ContentValue) (table : TableValue) (lines : List Text) (drawing : IsTableDrawing table lines) where
+  -- what holds of the lines without styling holds of the lines as they are seen
+  pub seen_all : (Q : RowValue → Type 0) → IsDrawn look Q content table → (visible : Bool) → IsSeenTable visible look table → (R : Text → Type 0) → All R (drawn_over (unstyled table) drawing.widths) → All R (seen_lines visible lines)
+  seen_all Q known true free R each = subst (All R) (sym (drawing.without_sequences (free_of_escapes table free))) each
+  seen_all Q known false plain R each =
+      let looks = drawn-is look Q content table known in
+      All-map R (visible_of false) lines
+      (subst (All R) (sym (drawing.unstyled_lines (ap should_style looks ∙ rw plain refl) (ap (λ (t : TableValue). t.custom_styling) looks ∙ no_sequences))) each)
+
+module _ (look : Look) (no_sequences : look.has_sequences ≡ false) (characters : IsOneColumnStyle look.style) (content : ContentValue) (table : TableValue) (lines : List Text) (drawing : IsTableDrawing table lines) where
+  -- they are equally wide where the table is straight
+  equally_wide : (Q : RowValue → Type 0) → IsDrawn look Q content table → (visible : Bool) → IsSeenTable visible look table → IsStraightTable table drawing.widths → AreEquallyWide (seen_lines visible lines)
+  equally_wide Q known visible seen is = (line_total table drawing.widths, seen_all look no_sequences content table lines drawing Q known visible seen (λ line. measure line ≡ line_total table drawing.widths) (drawing.straight is))
+
+  module _ (Q : RowValue → Type 0) (known : IsDrawn look Q content table) where
+    -- the characters are those of the look
+    characters_known : IsOneColumnStyle table.style
+    characters_known = subst IsOneColumnStyle (sym (ap (λ (t : TableValue). t.style) (drawn-is look Q content table known))) characters
+
+    -- and the indicator is that of a new table
+    apart_indicator : IsApart table.indicator
+    apart_indicator = subst IsApart (sym (ap (λ (t : TableValue). t.indicator) (drawn-is look Q content table known))) ellipsis_is_apart
+
+    -- a table whose characters fit its columns is straight
+    fitting : ((row : RowValue) → Q row → IsDefaultRow row) → EachCell CharactersFitColumn table drawing.widths → IsStraightTable table drawing.widths
+    fitting gives each = fitting_tables_are_straight table lines drawing characters_known (inr (inl (padded-drawn look Q content table known))) fits
+      where
+        fits : EachCell (FitsByCharacters table) table drawing.widths
+        fits k default under j other below cell found =
+            let row = slice_index_or (measured_rows table) k default in
+            let p = slice_index_or (shown_infos (infos_of table drawing.widths)) j other in
+            let of_row = gives row (rows-drawn look Q content table known no_sequences k default under) in
+            let of_cell = All-at (λ (c : CellValue). c.delimiter ≡ None) row.cells p.0 cell of_row found in
+            let of_column : p.1.delimiter ≡ None =
+            infos-known table drawing.widths (λ (q : ℕ × ColumnValue). IsPaddedColumn q.1) (λ (q : ℕ × ColumnInfo). q.1.delimiter ≡ None) drawing.arranged.one_for_each (columns-drawn look Q content table known) (λ i column w own. own.no_delimiter) j other below in
+            let space : cell_delimiter table p.1.delimiter cell ≡ 0x20 =
+            ap (λ o. unwrap_or o (unwrap_or p.1.delimiter (unwrap_or table.delimiter 0x20))) of_cell ∙ ap (λ o. unwrap_or o (unwrap_or table.delimiter 0x20)) of_column
+            ∙ ap (λ (t : TableValue). unwrap_or t.delimiter 0x20) (drawn-is look Q content table known) in
+            record {
+              characters = each k default under j other below cell found;
+              delimiter = subst AddsOneColumn (sym space) (frame_adds 0x20 refl);
+              indicator = inr apart_indicator;
+            }
+
+  -- so is one whose characters take one column each
+  narrow : IsDrawn look (IsDefaultRowOf (CharactersFit 1)) content table → IsStraightTable table drawing.widths
+  narrow known = fitting (IsDefaultRowOf (CharactersFit 1)) known (λ row own. own.no_delimiters) each
+    where
+      some_room : All (λ (p : ℕ × ColumnInfo). 1 ≤ p.1.content_width) (shown_infos (infos_of table drawing.widths))
+      some_room = infos-known table drawing.widths (λ (p : ℕ × ColumnValue). Unit {0}) (λ (p : ℕ × ColumnInfo). 1 ≤ p.1.content_width) drawing.arranged.one_for_each (λ k default below. tt) (λ i column w any. omega arith)
+
+      each : EachCell CharactersFitColumn table drawing.widths
+      each k default under j other below cell found =
+          let row = slice_index_or (measured_rows table) k default in
+          let p = slice_index_or (shown_infos (infos_of table drawing.widths)) j other in
+          let of_row = rows-drawn look (IsDefaultRowOf (CharactersFit 1)) content table known no_sequences k default under in
+          All-weaker (CharactersFit 1) (CharactersFit p.1.content_width) (wider_column 1 p.1.content_width (some_room j other below)) cell.text_lines
+          (All-at (λ (c : CellValue). All (CharactersFit 1) c.text_lines) row.cells p.0 cell of_row.each found)
+
+  -- and one that keeps to no width, of short texts
+  whole : IsDrawn look IsWholeRow content table → look.width ≡ None → IsStraightTable table drawing.widths
+  whole known no_width =
+      record { characters = characters_known IsWholeRow known; apart = inr (inl (padded-drawn look IsWholeRow content table known)); fits = inr (inl fits) }
+    where
+      rows : All IsWholeRow (measured_rows table)
+      rows = rows-drawn look IsWholeRow content table known no_sequences
+
+      kept : width_kept table.arrangement (table_width table) ≡ None
+      kept = ap (λ (t : TableValue). width_kept t.arrangement (table_width t)) (drawn-is look IsWholeRow content table known) ∙ rw no_width refl
+
+      short : All (EachCellText IsShort) (measured_rows table)
+      short = All-weaker IsWholeRow (EachCellText IsShort) (λ row own. own.short) (measured_rows table) rows
+
+      fits : EachCell (TextsFit table) table drawing.widths
+      fits k default under j other below cell found =
+          let row = slice_index_or (measured_rows table) k default in
+          let p = slice_index_or (shown_infos (infos_of table drawing.widths)) j other in
+          record {
+            fit = λ i text inside.
+                inl (whole_lines_fit table drawing.widths kept (unconstrained-drawn look IsWholeRow content table known (known.no_width no_width)) short drawing.arranged k default under j other below cell found i text inside);
+            cut = λ h tall more. (All-at (λ (c : CellValue). All SelectorsAgree c.text_lines) row.cells p.0 cell ((rows k default under).agree h tall) found, apart_indicator IsWholeRow known);
+          }
+
+-- ---- outputs
+
+-- texts of one kind make contents of that kind, with lines between rows or without
+each_separated : (P : Text → Type 0) (look : Look) (has : Bool) (content : ContentValue) → EachOf (All (EachLine P look)) content → EachOf (All (EachLine P (separated has look))) content
+each_separated P look true content each = each
+each_separated P look false content each = each
+
+no_markdown : (has : Bool) (look : Look) → look.is_markdown ≡ false → (separated has look).is_markdown ≡ false
+no_markdown true look none = none
+no_markdown false look none = none
+
+-- the drawn table is seen as its lines are
+pub seen_table : (options : Options) (records : List (List Text)) (content : ContentValue) → content_of options records ≡ Ok content → (is_expanded has visible : Bool) → AreSeen visible options.look records
+    → IsSeenTable visible (separated has options.look) (separated_table has (output_table is_expanded options.look content))
+seen_table options records content is is_expanded true false plain = plain
+seen_table options records content is is_expanded false false plain = plain
+seen_table options records content is is_expanded has true (clear, text) = free_output options.look clear content (each_content AllText options records content is text) is_expanded has
+
+-- short texts, whose selectors agree where texts are cut
+whole_texts : (look : Look) (records : List (List Text)) → EachText IsShort look records → CanBeCut look records → EachText (IsWholeText look.max_height) look records
+whole_texts look records short (inl uncut) k fields under j field below i text inside = (short k fields under j field below i text inside, inl uncut)
+whole_texts look records short (inr agree) k fields under j field below i text inside = (short k fields under j field below i text inside, inr (agree k fields under j field below i text inside))
+
+module _ (visible : Bool) (options : Options) (records : List (List Text)) (output : Text) (none : options.look.is_markdown ≡ false) (characters : IsOneColumnStyle options.look.style) (plain : ArePlainLines visible options.look records) (made : IsOutputOf options records output) where
+  abbrev look : Look
+  look = options.look
+
+  abbrev text : IsTableText look made.content made.text
+  text = is_table_text options records output made none
+
+  abbrev has : Bool
+  has = text.drawn.has_separators
+
+  abbrev own : Look
+  own = separated has look
+
+  abbrev table : TableValue
+  table = drawn_table options records output made text none
+
+  abbrev lines : List Text
+  lines = drawn options records output made text none
+
+  abbrev headline : IsTableDrawing table lines
+  headline = text.drawn.is_arranged.headline
+
+  unkept : own.has_sequences ≡ false
+  unkept = kept_setting (λ l. l.has_sequences) look refl has false plain.no_sequences
+
+  seen : IsSeenTable visible own table
+  seen = seen_table options records made.content made.is_content text.is_expanded has visible plain.seen
+
+  -- the drawn table, of rows of which Q holds
+  of_texts : (P : Text → Type 0) (empty : P []) (Q : RowValue → Type 0) → MakesRows P empty own Q → EachText P look records → ((n : ℕ) → EachLine P own (decimal n)) → IsDrawn own Q made.content table
+  of_texts P empty Q makes each numbers =
+      drawn_table-is look Q made.content text.is_expanded has
+      (table_of_texts P empty own Q makes made.content (each_separated P look has made.content (each_content (All (EachLine P look)) options records made.content made.is_content each)) (λ at. numbers (at + 1)) text.is_expanded)
+
+  -- the output is straight where its table is
+  straight : (Q : RowValue → Type 0) → IsDrawn own Q made.content table → IsStraightTable table headline.widths → IsStraightOutput visible options records output
+  straight Q known is =
+      record {
+        lines = lines;
+        is_output = with_lines options records output made text none plain.unbroken;
+        equally_wide = equally_wide own unkept (separated_is_one_column has look characters) made.content table lines headline Q known visible seen is;
+        clear = clear_lines visible own table lines headline seen;
+      }
+
+pub rows_are_straight : (visible : Bool) (options : Options) (records : List (List Text)) (output : Text) → options.look.is_markdown ≡ false → WholeOutputIsStraight visible options records output
+rows_are_straight visible options records output none characters plain no_width cut short made =
+    let separators = has visible options records output none characters plain made in
+    let limit = options.look.max_height in
+    let own = separated separators options.look in
+    let known =
+    of_texts visible options records output none characters plain made (IsWholeText limit) (empty_is_whole limit) IsWholeRow (whole_rows limit own (kept_setting (λ l. l.max_height) options.look refl separators limit refl))
+    (whole_texts options.look records short cut) (each_number (IsWholeText limit) (whole_printable limit) own (no_markdown separators options.look none)) in
+    straight visible options records output none characters plain made IsWholeRow known
+    (whole own (unkept visible options records output none characters plain made) (separated_is_one_column separators options.look characters) made.content _ _ (headline visible options records output none characters plain made) known
+    (kept_setting (λ l. l.width) options.look refl separators None no_width))
+
+pub narrow_is_straight : (visible : Bool) (options : Options) (records : List (List Text)) (output : Text) → NarrowOutputIsStraight visible options records output
+narrow_is_straight visible options records output none characters plain each made =
+    let separators = has visible options records output none characters plain made in
+    let own = separated separators options.look in
+    let empty : CharactersFit 1 [] = printable_fits [] refl in
+    let known =
+    of_texts visible options records output none characters plain made (CharactersFit 1) empty (IsDefaultRowOf (CharactersFit 1)) (default_rows_of (CharactersFit 1) empty own) each
+    (each_number (CharactersFit 1) (λ text printable few. printable_fits text printable) own (no_markdown separators options.look none)) in
+    straight visible options records output none characters plain made (IsDefaultRowOf (CharactersFit 1)) known
+    (narrow own (unkept visible options records output none characters plain made) (separated_is_one_column separators options.look characters) made.content _ _ (headline visible options records output none characters plain made) known)
+
+pub fitting_is_straight : (visible : Bool) (options : Options) (records : List (List Text)) (output : Text) → FittingOutputIsStraight visible options records output
+fitting_is_straight visible options records output none characters plain fits made =
+    let separators = has visible options records output none characters plain made in
+    let own = separated separators options.look in
+    let drawing = headline visible options records output none characters plain made in
+    let text = is_table_text options records output made none in
+    let known =
+    drawn_table-is options.look IsDefaultRow made.content text.is_expanded separators
+    (table_of_texts IsAny tt own IsDefaultRow (default_rows own) made.content (any_content own made.content) (λ at. any_line own (decimal (at + 1))) text.is_expanded) in
+    straight visible options records output none characters plain made IsDefaultRow known
+    (fitting own (unkept visible options records output none characters plain made) (separated_is_one_column separators options.look characters) made.content _ _ drawing IsDefaultRow known (λ row is. is)
+    (fits made.content (drawn_table options records output made text none) drawing.widths made.is_content (separators, ap (λ e. separated_table separators (output_table e options.look made.content)) (expansion options records output made text none)) drawing.arranged))
+
+-- its lines are counted in terminal columns
+pub narrow_lines_have : (P : TableValue → ℕ → Type 0) (visible : Bool) (options : Options) (records : List (List Text)) (output : Text) → NarrowLinesHave P visible options records output
+narrow_lines_have P visible options records output has none characters plain each = by_table has.is_table
+  where
+    look : Look
+    look = options.look
+
+    content : ContentValue
+    content = has.is_output.content
+
+    by_table : IsDrawnTable look content has.table → All (λ line. P has.table (measure line)) (seen_lines visible has.lines)
+    by_table (separators, is) =
+        let Q = IsDefaultRowOf (CharactersFit 1) in
+        let own = separated separators look in
+        let is_expanded = is_expanded_for look content in
+        let unkept = kept_setting (λ l. l.has_sequences) look refl separators false plain.no_sequences in
+        let wide = separated_is_one_column separators look characters in
+        let empty : CharactersFit 1 [] = printable_fits [] refl in
+        let seen = subst (IsSeenTable visible own) (sym is) (seen_table options records content has.is_output.is_content is_expanded separators visible plain.seen) in
+        let texts = each_separated (CharactersFit 1) look separators content (each_content (All (EachLine (CharactersFit 1) look)) options records content has.is_output.is_content each) in
+        let numbers = each_number (CharactersFit 1) (λ text printable few. printable_fits text printable) own (no_markdown separators look none) in
+        let built = table_of_texts (CharactersFit 1) empty own Q (default_rows_of (CharactersFit 1) empty own) content texts (λ at. numbers (at + 1)) is_expanded in
+        let known = subst (IsDrawn own Q content) (sym is) (drawn_table-is look Q content is_expanded separators built) in
+        seen_all own unkept content has.table has.lines has.drawing Q known visible seen (λ line. P has.table (measure line))
+        (has.counts.straight_lines (narrow own unkept wide content has.table has.lines has.drawing known))

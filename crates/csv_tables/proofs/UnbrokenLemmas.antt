@@ -1,0 +1,87 @@
+-- Lists of columns and of what they need, one column after another.
+use Rattle.std.proofs.Common.{◌≡◌, ◌<◌, ◌≤◌, ◌+◌, ℕ, zero, suc, Bool, true, false, List, [], ◌∷◌, ◌++◌, Option, Some, None, get_or, length, nat_le, set, take, unwrap_or, refl, ap, add-one, arith}
+use Rattle.std.specs.List.{list_any, slice_get}
+use Rattle.std.specs.Prelude.{if◌then◌else◌}
+use Rattle.comfy_parts.specs.CellValue.{ColumnValue}
+use Rattle.comfy_table.specs.TableValue.{TableValue, max_content_widths}
+use Rattle.csv_tables.specs.Unbroken.{framed_width, kept_whole, needed_content, needed_contents, whole_column, whole_columns, with_whole}
+use Rattle.csv_tables.specs.WholeAt.{whole_at}
+
+-- one content more
+needed-more : (unbroken : List Bool) (contents : List ℕ) (i content : ℕ) → i < length contents → content ≡ get_or contents i 0
+    → needed_contents unbroken (take (suc i) contents) ≡ needed_contents unbroken (take i contents) ++ needed_content (unwrap_or (slice_get unbroken i) false) content ∷ []
+needed-more unbroken [] i content below is = absurd (omega (arith, below))
+needed-more [] (c ∷ cs) zero content below is = rw is refl
+needed-more (b ∷ bs) (c ∷ cs) zero content below is = rw is (by_rest bs)
+  where
+    by_rest : (bs : List Bool) → needed_content b c ∷ needed_contents bs [] ≡ needed_content b c ∷ []
+    by_rest [] = refl
+    by_rest (x ∷ xs) = refl
+needed-more [] (c ∷ cs) (suc i) content below is = ap (λ (xs : List ℕ). needed_content false c ∷ xs) (needed-more [] cs i content (omega (arith, below)) is)
+needed-more (b ∷ bs) (c ∷ cs) (suc i) content below is = ap (λ (xs : List ℕ). needed_content b c ∷ xs) (needed-more bs cs i content (omega (arith, below)) is)
+
+-- one column more
+whole-more : (unbroken : List Bool) (i : ℕ) (columns : List ColumnValue) → i < length unbroken → get_or unbroken i false ≡ true → whole_columns (take (suc i) unbroken) columns ≡ whole_at i (whole_columns (take i unbroken) columns)
+whole-more [] i columns below is = absurd (omega (arith, below))
+whole-more (b ∷ bs) zero [] below is = refl
+whole-more (b ∷ bs) zero (c ∷ cs) below is = rw is refl
+whole-more (b ∷ bs) (suc i) [] below is = refl
+whole-more (b ∷ bs) (suc i) (c ∷ cs) below is = ap (λ (xs : List ColumnValue). whole_column b c ∷ xs) (whole-more bs i cs (omega (arith, below)) is)
+
+broken-more : (unbroken : List Bool) (i : ℕ) (columns : List ColumnValue) → i < length unbroken → get_or unbroken i false ≡ false → whole_columns (take (suc i) unbroken) columns ≡ whole_columns (take i unbroken) columns
+broken-more [] i columns below is = absurd (omega (arith, below))
+broken-more (b ∷ bs) zero [] below is = refl
+broken-more (b ∷ bs) zero (c ∷ cs) below is = rw is refl
+broken-more (b ∷ bs) (suc i) [] below is = refl
+broken-more (b ∷ bs) (suc i) (c ∷ cs) below is = ap (λ (xs : List ColumnValue). whole_column b c ∷ xs) (broken-more bs i cs (omega (arith, below)) is)
+
+-- a column is replaced
+pub whole_at-set : (columns : List ColumnValue) (i : ℕ) (default : ColumnValue) → i < length columns → set columns i (whole_column true (get_or columns i default)) ≡ whole_at i columns
+whole_at-set [] i default below = absurd (omega (arith, below))
+whole_at-set (c ∷ cs) zero default below = refl
+whole_at-set (c ∷ cs) (suc i) default below = ap (λ (xs : List ColumnValue). c ∷ xs) (whole_at-set cs i default (omega (arith, below)))
+
+-- or there is none
+pub whole_at-past : (columns : List ColumnValue) (i : ℕ) → length columns ≤ i → whole_at i columns ≡ columns
+whole_at-past [] i past = refl
+whole_at-past (c ∷ cs) zero past = absurd (omega (arith, past))
+whole_at-past (c ∷ cs) (suc i) past = ap (λ (xs : List ColumnValue). c ∷ xs) (whole_at-past cs i (omega (arith, past)))
+
+-- no contents
+pub needed-none : (unbroken : List Bool) → needed_contents unbroken [] ≡ []
+needed-none [] = refl
+needed-none (b ∷ bs) = refl
+
+-- the same at the next place
+pub needed-next : (unbroken : List Bool) (contents : List ℕ) (i content : ℕ) → i < length contents → content ≡ get_or contents i 0
+    → needed_contents unbroken (take (i + 1) contents) ≡ needed_contents unbroken (take i contents) ++ needed_content (unwrap_or (slice_get unbroken i) false) content ∷ []
+needed-next unbroken contents i content below is = rw add-one (needed-more unbroken contents i content below is)
+
+pub whole-next : (unbroken : List Bool) (i : ℕ) (columns : List ColumnValue) → i < length unbroken → get_or unbroken i false ≡ true → whole_columns (take (i + 1) unbroken) columns ≡ whole_at i (whole_columns (take i unbroken) columns)
+whole-next unbroken i columns below is = rw add-one (whole-more unbroken i columns below is)
+
+pub broken-next : (unbroken : List Bool) (i : ℕ) (columns : List ColumnValue) → i < length unbroken → get_or unbroken i false ≡ false → whole_columns (take (i + 1) unbroken) columns ≡ whole_columns (take i unbroken) columns
+broken-next unbroken i columns below is = rw add-one (broken-more unbroken i columns below is)
+
+-- ---- tables
+
+-- whether there is room
+pub kept-test : (width : ℕ) (unbroken : List Bool) (table : TableValue) (b : Bool) → nat_le (framed_width table.style (needed_contents unbroken (max_content_widths table))) width ≡ b
+    → kept_whole (Some width) unbroken table ≡ (if b then with_whole unbroken table else table)
+kept-test width unbroken table b is = ap (λ b. if b then with_whole unbroken table else table) is
+
+-- where no column is to be whole, all stay
+no_column : (unbroken : List Bool) (columns : List ColumnValue) → list_any (λ is_unbroken. is_unbroken) unbroken ≡ false → whole_columns unbroken columns ≡ columns
+no_column [] columns none = refl
+no_column (b ∷ bs) [] none = refl
+no_column (true ∷ bs) (c ∷ cs) none = absurd (cc none)
+no_column (false ∷ bs) (c ∷ cs) none = ap (λ (xs : List ColumnValue). c ∷ xs) (no_column bs cs none)
+
+-- so the table does, at every width
+pub kept-none : (width : Option ℕ) (unbroken : List Bool) (table : TableValue) → list_any (λ is_unbroken. is_unbroken) unbroken ≡ false → kept_whole width unbroken table ≡ table
+kept-none None unbroken table none = refl
+kept-none (Some w) unbroken table none = by_test (nat_le (framed_width table.style (needed_contents unbroken (max_content_widths table))) w)
+  where
+    by_test : (b : Bool) → (if b then with_whole unbroken table else table) ≡ table
+    by_test true = ap (λ cs. record table { columns = cs }) (no_column unbroken table.columns none)
+    by_test false = refl

@@ -1,0 +1,137 @@
+-- Columns that are as wide as their contents, and the room that they need.
+use Rattle.std.proofs.Common.{◌≡◌, ◌≤◌, ℕ, suc, ◌+◌, Bool, true, false, not, List, [], ◌∷◌, Option, Some, None, filter, is_none, length, map, option_map, sum_by, unwrap_or, refl, sym, ap, subst, arith}
+use Rattle.std.specs.List.{AllByRecursion, cons_option, enumerate_from, range_with_len}
+use Rattle.std.proofs.lemmas.List.Sums.{sum_by-cons}
+use Rattle.comfy_parts.proofs.CallerLemmas.{every-filter, every-places, filter_all}
+use Rattle.comfy_parts.specs.CellValue.{ColumnValue, column_padding, is_hidden_column, is_hidden_constraint}
+use Rattle.comfy_table.proofs.BuiltTableLemmas.{IsNewColumn}
+use Rattle.comfy_table.proofs.ShareLemmas.{without_shares-nil}
+use Rattle.comfy_table.proofs.TakingLemmas.{next_taken-where}
+use Rattle.comfy_table.specs.Dynamic.{IsTakenAfter, Placed, Share, average, content_room, fixed_shares, lower_of_boundary, lower_offer, places_of, total, undecided}
+use Rattle.comfy_table.specs.TableValue.{TableValue, column_content_width}
+use Rattle.comfy_table.specs.Widths.{ColumnNeeds, fixed_by_constraint, lower_boundary, needs_of, shown_count}
+use Rattle.csv_tables.specs.Unbroken.{needed_content, needed_contents, whole_column, whole_columns}
+
+-- ---- what columns need
+
+abbrev HasNoLower : ColumnNeeds → Type 0
+HasNoLower column = column.lower ≡ None
+
+-- no column takes a lower boundary where none has one
+pub lower-none : (room : ℕ) (columns : List ColumnNeeds) → AllByRecursion HasNoLower columns → (order : List Share) → IsTakenAfter (undecided room columns) (lower_offer (content_room room columns) (undecided room columns)) 0 [] order → order ≡ []
+lower-none room columns none [] goes = refl
+lower-none room columns none (t ∷ more) goes =
+    let free = every-filter (λ (p : Placed). HasNoLower p.1) (λ (p : Placed). is_none p.1.fixed) (places_of columns) (every-places HasNoLower 0 columns none) in
+    let left = subst (AllByRecursion (λ (p : Placed). HasNoLower p.1)) (sym (without_shares-nil (undecided room columns))) free in
+    let next = next_taken-where (undecided room columns) (lower_offer (content_room room columns) (undecided room columns)) (λ (p : Placed). HasNoLower p.1) 0 [] t left goes.0 in
+    let nothing = ap (lower_of_boundary (average (content_room room columns) (undecided room columns) []) next.column.padding) next.left in
+    absurd (cc (nothing, next.offered))
+
+-- a fixed width, or one terminal column
+abbrev pub fixed_or_one : ColumnNeeds → ℕ
+fixed_or_one column = unwrap_or column.fixed 1
+
+-- the fixed widths, and one terminal column for each other column
+pub record AreFixed (n : ℕ) (columns : List ColumnNeeds) : Type 0 where
+  pub no_more : length (fixed_shares (enumerate_from n columns)) ≤ length columns
+  pub widths : total (fixed_shares (enumerate_from n columns)) + length columns ≡ sum_by fixed_or_one columns + length (fixed_shares (enumerate_from n columns))
+
+pub are_fixed : (n : ℕ) (columns : List ColumnNeeds) → AreFixed n columns
+are_fixed n [] = record { no_more = omega arith; widths = refl }
+are_fixed n (column ∷ more) = by_fixed column.fixed refl (are_fixed (n + 1) more)
+  where
+    rest : List Share
+    rest = fixed_shares (enumerate_from (n + 1) more)
+
+    by_fixed : (o : Option ℕ) → column.fixed ≡ o → AreFixed (n + 1) more → AreFixed n (column ∷ more)
+    by_fixed None is own =
+        let shares : fixed_shares (enumerate_from n (column ∷ more)) ≡ rest = ap (λ (o : Option ℕ). cons_option (option_map (λ (width : ℕ). (n, width)) o) rest) is in
+        let one : fixed_or_one column ≡ 1 = ap (λ (o : Option ℕ). unwrap_or o 1) is in
+        let sums = sum_by-cons fixed_or_one column more in
+        record { no_more = rw shares (omega (arith, own.no_more)); widths = rw shares (omega (arith, own.widths, sums, one)) }
+    by_fixed (Some width) is own =
+        let shares : fixed_shares (enumerate_from n (column ∷ more)) ≡ (n, width) ∷ rest = ap (λ (o : Option ℕ). cons_option (option_map (λ (width : ℕ). (n, width)) o) rest) is in
+        let one : fixed_or_one column ≡ width = ap (λ (o : Option ℕ). unwrap_or o 1) is in
+        let sums = sum_by-cons fixed_or_one column more in
+        let shared = sum_by-cons (λ (t : Share). t.1) (n, width) rest in
+        record { no_more = rw shares (omega (arith, own.no_more)); widths = rw shares (omega (arith, own.widths, sums, one, shared)) }
+
+-- these columns need no more than their paddings and these contents, and no less than one terminal column each
+pub record AreNeeds (columns : List ColumnNeeds) (contents : List ℕ) : Type 0 where
+  pub count : length columns ≡ length contents
+  pub room : sum_by (λ (column : ColumnNeeds). column.padding) columns + sum_by fixed_or_one columns ≤ sum_by (λ content. 2 + content) contents
+  pub least : length columns ≤ sum_by fixed_or_one columns
+  pub no_lower : AllByRecursion HasNoLower columns
+
+record IsNeed (column : ColumnNeeds) (content : ℕ) : Type 0 where
+  padding : column.padding ≡ 2
+  least : 1 ≤ fixed_or_one column
+  most : fixed_or_one column ≤ content
+  no_lower : HasNoLower column
+
+needs-cons : (column : ColumnNeeds) (content : ℕ) (columns : List ColumnNeeds) (contents : List ℕ) → IsNeed column content → AreNeeds columns contents → AreNeeds (column ∷ columns) (content ∷ contents)
+needs-cons column content columns contents own more =
+    let paddings = sum_by-cons (λ (c : ColumnNeeds). c.padding) column columns in
+    let fixed = sum_by-cons fixed_or_one column columns in
+    let all = sum_by-cons (λ (n : ℕ). 2 + n) content contents in
+    record {
+      count = ap suc more.count;
+      room = omega (arith, paddings, fixed, all, own.padding, own.most, more.room);
+      least = omega (arith, fixed, own.least, more.least);
+      no_lower = (own.no_lower, more.no_lower);
+    }
+
+-- ---- columns of a table
+
+module _ (table : TableValue) where
+  -- a column that is as wide as its content, or a new one
+  need : (is_whole : Bool) (i : ℕ) (column : ColumnValue) → IsNewColumn column → IsNeed (needs_of table (i, whole_column is_whole column)) (needed_content is_whole (column_content_width table i))
+  need true i column new =
+      let one : column.padding.0 ≡ 1 = ap (λ (x : ℕ × ℕ). x.0) new.padding in
+      let other : column.padding.1 ≡ 1 = ap (λ (x : ℕ × ℕ). x.1) new.padding in
+      record { padding = omega (arith, one, other); least = omega arith; most = omega arith; no_lower = refl }
+  need false i column new =
+      let one : column.padding.0 ≡ 1 = ap (λ (x : ℕ × ℕ). x.0) new.padding in
+      let other : column.padding.1 ≡ 1 = ap (λ (x : ℕ × ℕ). x.1) new.padding in
+      let free : fixed_or_one (needs_of table (i, column)) ≡ 1 = ap (λ c. unwrap_or (fixed_by_constraint table (shown_count table) (column_content_width table i) (column_padding column) c) 1) new.no_constraint in
+      record { padding = omega (arith, one, other); least = omega (arith, free); most = omega (arith, free); no_lower = ap (lower_boundary table (shown_count table)) new.no_constraint }
+
+  pub needs : (whole : List Bool) (columns : List ColumnValue) (n : ℕ) → AllByRecursion IsNewColumn columns
+      → AreNeeds (map (needs_of table) (enumerate_from n (whole_columns whole columns))) (needed_contents whole (map (column_content_width table) (range_with_len n (length columns))))
+  needs [] [] n new = record { count = refl; room = omega arith; least = omega arith; no_lower = tt }
+  needs [] (column ∷ columns) n new = needs-cons _ _ _ _ (need false n column new.0) (needs [] columns (n + 1) new.1)
+  needs (is_whole ∷ more) [] n new = record { count = refl; room = omega arith; least = omega arith; no_lower = tt }
+  needs (is_whole ∷ more) (column ∷ columns) n new = needs-cons _ _ _ _ (need is_whole n column new.0) (needs more columns (n + 1) new.1)
+
+-- none of them is hidden
+shown : (is_whole : Bool) (column : ColumnValue) → IsNewColumn column → not (is_hidden_column (whole_column is_whole column)) ≡ true
+shown true column new = refl
+shown false column new = ap (λ c. not (is_hidden_constraint c)) new.no_constraint
+
+each_shown : (whole : List Bool) (columns : List ColumnValue) → AllByRecursion IsNewColumn columns → AllByRecursion (λ (column : ColumnValue). not (is_hidden_column column) ≡ true) (whole_columns whole columns)
+each_shown [] [] new = tt
+each_shown [] (column ∷ columns) new = (shown false column new.0, each_shown [] columns new.1)
+each_shown (is_whole ∷ more) [] new = tt
+each_shown (is_whole ∷ more) (column ∷ columns) new = (shown is_whole column new.0, each_shown more columns new.1)
+
+-- so all of them are shown
+pub all_shown : (whole : List Bool) (columns : List ColumnValue) → AllByRecursion IsNewColumn columns
+    → filter (λ (p : ℕ × ColumnValue). not (is_hidden_column p.1)) (enumerate_from 0 (whole_columns whole columns)) ≡ enumerate_from 0 (whole_columns whole columns)
+all_shown whole columns new =
+    filter_all (λ (p : ℕ × ColumnValue). not (is_hidden_column p.1)) (enumerate_from 0 (whole_columns whole columns))
+    (every-places (λ (column : ColumnValue). not (is_hidden_column column) ≡ true) 0 (whole_columns whole columns) (each_shown whole columns new))
+
+-- their paddings and their delimiter are those of new columns
+pub record IsPaddedColumn (column : ColumnValue) : Type 0 where
+  pub padding : column.padding ≡ (1, 1)
+  pub no_delimiter : column.delimiter ≡ None
+
+padded_column : (is_whole : Bool) (column : ColumnValue) → IsNewColumn column → IsPaddedColumn (whole_column is_whole column)
+padded_column true column new = record { padding = new.padding; no_delimiter = new.no_delimiter }
+padded_column false column new = record { padding = new.padding; no_delimiter = new.no_delimiter }
+
+pub padded_columns : (whole : List Bool) (columns : List ColumnValue) → AllByRecursion IsNewColumn columns → AllByRecursion IsPaddedColumn (whole_columns whole columns)
+padded_columns [] [] new = tt
+padded_columns [] (column ∷ columns) new = (padded_column false column new.0, padded_columns [] columns new.1)
+padded_columns (is_whole ∷ more) [] new = tt
+padded_columns (is_whole ∷ more) (column ∷ columns) new = (padded_column is_whole column new.0, padded_columns more columns new.1)

@@ -1,0 +1,188 @@
+-- Tables that are drawn: some of their columns are as wide as their contents, where there is room for them.
+use Rattle.std.proofs.Common.{◌≡◌, ◌≤◌, ◌⊎◌, ◌||◌, ℕ, ◌+◌, ◌-◌, inl, inr, Bool, true, false, not, List, [], Option, Some, None, is_some, length, map, nat_le, sum_by, refl, sym, ap, ◌∙◌, subst, arith}
+use Rattle.std.specs.Prelude.{if◌then◌else◌}
+use Rattle.std.specs.List.{All, AllByRecursion}
+use Rattle.std.proofs.lemmas.Bool.{leb-true}
+use Rattle.std.proofs.lemmas.List.{length-map}
+use Rattle.std.proofs.lemmas.List.Elements.{All-filter, All-from_recursion, All-weaker, recursion_from_All}
+use Rattle.comfy_parts.proofs.CallerLemmas.{every-places}
+use Rattle.comfy_parts.specs.CellValue.{ColumnValue, RowValue, is_hidden_column}
+use Rattle.comfy_parts.specs.declared.style.table_style.TableStyle.{TableStyle}
+use Rattle.comfy_table.proofs.BuiltTableLemmas.{IsNewColumn, measured_known, rows_known, unconstrained}
+use Rattle.comfy_table.proofs.DrawnWidthLemmas.{paddings_of_needs}
+use Rattle.comfy_table.proofs.MeasuredLemmas.{row_measured}
+use Rattle.comfy_table.specs.Arrangement.{room_beside_borders}
+use Rattle.comfy_table.specs.Dynamic.{Steps, IsArrangedBy, total}
+use Rattle.comfy_table.specs.Frame.{border_count}
+use Rattle.comfy_table.specs.Laws.{NoConstraints, least_total}
+use Rattle.comfy_table.specs.TableLaws.{wider_total}
+use Rattle.comfy_table.specs.TableValue.{TableValue, max_content_widths, measured_rows, shown_columns}
+use Rattle.comfy_table.specs.Widths.{ColumnNeeds, needs_of, shown_count, shown_needs}
+use Rattle.csv_tables.proofs.BuiltLemmas.{Built, plain_table}
+use Rattle.csv_tables.proofs.SeparatorLemmas.{restyled, separated}
+use Rattle.csv_tables.proofs.WholeColumnLemmas.{AreNeeds, IsPaddedColumn, all_shown, are_fixed, fixed_or_one, lower-none, needs, padded_columns}
+use Rattle.csv_tables.specs.Drawn.{ContentValue, condensed_style, empty_table, output_table, rows_table, separated_table}
+use Rattle.csv_tables.specs.Unbroken.{framed_width, kept_whole, needed_contents, unbroken_columns, whole_columns, with_whole}
+use Rattle.csv_tables.specs.declared.options.Look.{Look}
+
+-- ---- room
+
+-- a width has room for the fixed widths of a table, and for one terminal column of each other column
+pub record HasRoom (w : ℕ) (table : TableValue) : Type 0 where
+  pub contents : List ℕ
+  pub needs : AreNeeds (shown_needs table) contents
+  pub fits : framed_width table.style contents ≤ w
+
+module _ (w : ℕ) (table : TableValue) (room : HasRoom w table) where
+  count : shown_count table ≡ length room.contents
+  count = sym (length-map (shown_columns table) (needs_of table)) ∙ room.needs.count
+
+  framed : border_count table.style (shown_count table) + (sum_by (λ (column : ColumnNeeds). column.padding) (shown_needs table) + sum_by fixed_or_one (shown_needs table)) ≤ w
+  framed = rw count (omega (arith, room.fits, room.needs.room))
+
+  -- so it has room for one terminal column of each column
+  pub least-fits : least_total table ≤ w
+  least-fits = omega (arith, framed, room.needs.least, paddings_of_needs table (shown_columns table), length-map (shown_columns table) (needs_of table))
+
+  -- and no column takes more than it needs
+  pub wider-fits : (full : Bool) (steps : Steps) (widths : List ℕ) → IsArrangedBy (room_beside_borders table w) (shown_needs table) full steps widths → wider_total table steps ≤ w
+  wider-fits full steps widths arranged =
+      let none = lower-none (room_beside_borders table w) (shown_needs table) room.needs.no_lower steps.lower arranged.lower_taken in
+      let fixed = are_fixed 0 (shown_needs table) in
+      omega (arith, framed, fixed.no_more, fixed.widths, ap total none, ap length none)
+
+-- columns that are new, or as wide as their contents, need no more than that
+pub room_for : (w : ℕ) (whole : List Bool) (table : TableValue) → AllByRecursion IsNewColumn table.columns → framed_width table.style (needed_contents whole (max_content_widths table)) ≤ w → HasRoom w (with_whole whole table)
+room_for w whole table new fits =
+    record {
+      contents = needed_contents whole (max_content_widths table);
+      needs = subst (λ (ps : List (ℕ × ColumnValue)). AreNeeds (map (needs_of (with_whole whole table)) ps) (needed_contents whole (max_content_widths table))) (sym (all_shown whole table.columns new)) (needs (with_whole whole table) whole table.columns 0 new);
+      fits = fits;
+    }
+
+-- ---- lines between rows
+
+-- a border is drawn where one of six lines has it
+fewer : (x : ℕ) (a b c d e f : Bool) → (if a || (b || (c || (d || (false || (f || false))))) then x else 0) ≤ (if a || (b || (c || (d || (e || (f || false))))) then x else 0)
+fewer x true b c d e f = omega arith
+fewer x false true c d e f = omega arith
+fewer x false false true d e f = omega arith
+fewer x false false false true e f = omega arith
+fewer x false false false false true true = omega arith
+fewer x false false false false true false = omega arith
+fewer x false false false false false f = omega arith
+
+-- without lines between rows there are no more borders
+fewer_borders : (style : TableStyle) (n : ℕ) → border_count (condensed_style style) n ≤ border_count style n
+fewer_borders style n =
+    let left = fewer 1 (is_some style.top_border.left) (is_some style.header_lines.left) (is_some style.header_separator.left) (is_some style.content_lines.left) (is_some style.row_separator.left) (is_some style.bottom_border.left) in
+    let right = fewer 1 (is_some style.top_border.right) (is_some style.header_lines.right) (is_some style.header_separator.right) (is_some style.content_lines.right) (is_some style.row_separator.right) (is_some style.bottom_border.right) in
+    let between = fewer (n - 1) (is_some style.top_border.junction) (is_some style.header_lines.junction) (is_some style.header_separator.junction) (is_some style.content_lines.junction) (is_some style.row_separator.junction) (is_some style.bottom_border.junction) in
+    omega (arith, left, right, between)
+
+still_fits : (w : ℕ) (has : Bool) (table : TableValue) (whole : List Bool) → framed_width table.style (needed_contents whole (max_content_widths table)) ≤ w
+    → framed_width (separated_table has table).style (needed_contents whole (max_content_widths (separated_table has table))) ≤ w
+still_fits w true table whole fits = fits
+still_fits w false table whole fits = omega (arith, fits, fewer_borders table.style (length (needed_contents whole (max_content_widths table))))
+
+pub whole_separated : (has : Bool) (whole : List Bool) (table : TableValue) → separated_table has (with_whole whole table) ≡ with_whole whole (separated_table has table)
+whole_separated true whole table = refl
+whole_separated false whole table = refl
+
+-- ---- tables that are drawn
+
+module _ (look : Look) (Q : RowValue → Type 0) (content : ContentValue) where
+  -- a table that is built of rows that Q holds of, some of whose columns are as wide as their contents
+  pub record IsDrawn (table : TableValue) : Type 0 where
+    pub plain : TableValue
+    pub known : Built look Q content plain
+    pub whole : List Bool
+    pub is_whole : table ≡ with_whole whole plain
+    pub no_width : look.width ≡ None → whole ≡ []
+    pub room : (w : ℕ) → look.width ≡ Some w → (whole ≡ []) ⊎ HasRoom w table
+
+  -- one without such columns
+  pub drawn_plain : (table : TableValue) → Built look Q content table → IsDrawn table
+  drawn_plain table known = record { plain = table; known = known; whole = []; is_whole = refl; no_width = λ is. refl; room = λ w is. inl refl }
+
+  module _ (table : TableValue) (drawn : IsDrawn table) where
+    -- it looks as is wanted
+    pub drawn-is : table ≡ record (empty_table look) { columns = table.columns; header = table.header; rows = table.rows }
+    drawn-is =
+        subst (λ (t : TableValue). t ≡ record (empty_table look) { columns = t.columns; header = t.header; rows = t.rows }) (sym drawn.is_whole)
+        (ap (λ (t : TableValue). record t { columns = whole_columns drawn.whole drawn.plain.columns }) drawn.known.is)
+
+    -- its rows are those
+    pub measured-drawn : (R : RowValue → Type 0) → ((row : RowValue) → Q row → R (row_measured look.has_sequences row)) → All R (measured_rows table)
+    measured-drawn R gives = subst (All R) (sym (ap measured_rows drawn.is_whole)) (measured_known (empty_table look) Q drawn.plain drawn.known R gives)
+
+    pub rows-drawn : look.has_sequences ≡ false → All Q (measured_rows table)
+    rows-drawn none = subst (All Q) (sym (ap measured_rows drawn.is_whole)) (rows_known (empty_table look) Q drawn.plain drawn.known none)
+
+    -- its columns have paddings, and no delimiter
+    pub columns-drawn : All (λ (p : ℕ × ColumnValue). IsPaddedColumn p.1) (shown_columns table)
+    columns-drawn =
+        let each = padded_columns drawn.whole drawn.plain.columns (recursion_from_All IsNewColumn drawn.plain.columns drawn.known.columns) in
+        subst (λ (t : TableValue). All (λ (p : ℕ × ColumnValue). IsPaddedColumn p.1) (shown_columns t)) (sym drawn.is_whole)
+        (All-filter (λ (p : ℕ × ColumnValue). not (is_hidden_column p.1)) (λ (p : ℕ × ColumnValue). IsPaddedColumn p.1) _
+        (All-from_recursion (λ (p : ℕ × ColumnValue). IsPaddedColumn p.1) _ (every-places IsPaddedColumn 0 (whole_columns drawn.whole drawn.plain.columns) each)))
+
+    pub padded-drawn : All (λ (p : ℕ × ColumnValue). 1 ≤ p.1.padding.0) (shown_columns table)
+    padded-drawn =
+        All-weaker (λ (p : ℕ × ColumnValue). IsPaddedColumn p.1) (λ (p : ℕ × ColumnValue). 1 ≤ p.1.padding.0)
+        (λ p own. let one : p.1.padding.0 ≡ 1 = ap (λ (x : ℕ × ℕ). x.0) own.padding in omega (arith, one)) (shown_columns table) columns-drawn
+
+    -- and no constraint, where none is as wide as its content
+    pub unconstrained-drawn : drawn.whole ≡ [] → NoConstraints table
+    unconstrained-drawn none =
+        subst NoConstraints (sym (drawn.is_whole ∙ ap (λ (whole : List Bool). with_whole whole drawn.plain) none)) (unconstrained (empty_table look) Q drawn.plain drawn.known)
+
+-- the table that is drawn of some records
+pub drawn_table-is : (look : Look) (Q : RowValue → Type 0) (content : ContentValue) (is_expanded has : Bool) → Built (separated has look) Q content (plain_table is_expanded (separated has look) content)
+    → IsDrawn (separated has look) Q content (separated_table has (output_table is_expanded look content))
+drawn_table-is look Q content true has known = subst (IsDrawn (separated has look) Q content) (restyled look content true has) (drawn_plain (separated has look) Q content _ known)
+drawn_table-is look Q content false has known = by_width look.width refl
+  where
+    rows : TableValue
+    rows = rows_table look content
+
+    plain : TableValue
+    plain = rows_table (separated has look) content
+
+    whole : List Bool
+    whole = unbroken_columns look.has_sequences content.columns content.rows
+
+    same : plain ≡ separated_table has rows
+    same = restyled look content false has
+
+    own : IsDrawn (separated has look) Q content (separated_table has rows)
+    own = subst (IsDrawn (separated has look) Q content) same (drawn_plain (separated has look) Q content plain known)
+
+    new : AllByRecursion IsNewColumn (separated_table has rows).columns
+    new = subst (λ (t : TableValue). AllByRecursion IsNewColumn t.columns) same (recursion_from_All IsNewColumn plain.columns known.columns)
+
+    with_room : (w : ℕ) → framed_width rows.style (needed_contents whole (max_content_widths rows)) ≤ w → HasRoom w (separated_table has (with_whole whole rows))
+    with_room w fits = subst (HasRoom w) (sym (whole_separated has whole rows)) (room_for w whole (separated_table has rows) new (still_fits w has rows whole fits))
+
+    by_width : (o : Option ℕ) → look.width ≡ o → IsDrawn (separated has look) Q content (separated_table has (kept_whole o whole rows))
+    by_width None is = own
+    by_width (Some w) is = by_test (nat_le (framed_width rows.style (needed_contents whole (max_content_widths rows))) w) refl
+      where
+        by_test : (b : Bool) → nat_le (framed_width rows.style (needed_contents whole (max_content_widths rows))) w ≡ b → IsDrawn (separated has look) Q content (separated_table has (if b then with_whole whole rows else rows))
+        by_test false test = own
+        by_test true test =
+            record {
+              plain = plain;
+              known = known;
+              whole = whole;
+              is_whole = whole_separated has whole rows ∙ ap (with_whole whole) (sym same);
+              no_width = λ none. absurd (cc (kept has none, is));
+              room = λ v wide. inr (subst (λ n. HasRoom n (separated_table has (with_whole whole rows))) (same_width v wide) (with_room w (leb-true _ w test)));
+            }
+          where
+            kept : (b : Bool) → {o : Option ℕ} → (separated b look).width ≡ o → look.width ≡ o
+            kept true wide = wide
+            kept false wide = wide
+
+            same_width : (v : ℕ) → (separated has look).width ≡ Some v → w ≡ v
+            same_width v wide = cc (kept has wide, is)

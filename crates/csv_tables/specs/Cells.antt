@@ -1,0 +1,69 @@
+-- The cells and rows of records.
+use Rattle.std.specs.Prelude.{ℕ, Bool, false, List, [], ◌∷◌, ◌++◌, Option, None, chars, map, option_map, unwrap_or, max, if◌then◌else◌}
+use Rattle.std.specs.Str.{encode_utf8_all}
+use Rattle.comfy_parts.specs.CellValue.{CellValue, RowValue, plain_cell, plain_row}
+use Rattle.comfy_parts.specs.Text.{Text}
+use Rattle.comfy_parts.specs.declared.style.attribute.Attribute.TheVariants.{Bold}
+use Rattle.comfy_parts.specs.declared.style.cell.CellAlignment.{CellAlignment}
+use Rattle.csv.specs.Records.{field_at}
+use Rattle.csv_records.specs.Cleaning.{cleaned}
+use Rattle.csv_tables.specs.Markdown.{escaped}
+use Rattle.csv_records.specs.declared.cleaning.Kept.{Kept}
+use Rattle.csv_tables.specs.declared.options.Look.{Look}
+use Rattle.csv_tables.specs.declared.options.DrawnColumn.{DrawnColumn}
+
+-- a field of a record, empty where it is missing
+abbrev pub field_or_blank : List Text → ℕ → Text
+field_or_blank fields position = unwrap_or (field_at fields position) []
+
+-- a text for a Markdown table
+abbrev pub marked : Text → Text
+marked text = encode_utf8_all (escaped (chars text))
+
+-- what of a field a look leaves as it is; for Markdown no sequences
+abbrev pub kept_by : Look → Kept
+kept_by look = record { sequences = look.has_sequences; directions = look.keeps_bidi }
+
+abbrev pub kept_for_markdown : Look → Kept
+kept_for_markdown look = record { sequences = false; directions = look.keeps_bidi }
+
+-- a field as its cell has it: left raw, or cleaned; for Markdown it is cleaned and escaped
+abbrev pub field_text : Look → Text → Text
+field_text look field =
+    if look.is_markdown then marked (cleaned (kept_for_markdown look) field)
+    else if look.is_raw then field
+    else cleaned (kept_by look) field
+
+-- the cell of a field, with this alignment
+abbrev pub cell_for : Look → Option CellAlignment → Text → CellValue
+cell_for look alignment field =
+    record (plain_cell (field_text look field)) { alignment = alignment }
+
+-- a cell, in bold or as it is
+abbrev pub with_weight : Bool → CellValue → CellValue
+with_weight is_bold cell =
+    if is_bold then record cell { attributes = cell.attributes ++ Bold ∷ [] } else cell
+
+-- a cell for each column
+abbrev pub cells_for : Look → Bool → List DrawnColumn → List Text → RowValue
+cells_for look is_bold columns fields =
+    plain_row
+    (map (λ (column : DrawnColumn).
+    with_weight is_bold (cell_for look column.alignment
+    (field_or_blank fields column.position))) columns)
+
+-- the header's row
+abbrev pub header_for : Look → List DrawnColumn → List Text → RowValue
+header_for look columns fields = cells_for look look.has_bold_header columns fields
+
+-- a record's row, cut at the greatest height
+abbrev pub row_for : Look → List DrawnColumn → List Text → RowValue
+row_for look columns fields =
+    record (cells_for look false columns fields) { max_height = option_map (max 1) look.max_height }
+
+-- the row of one field of an expanded record: the name of its column, as bold as a header, and the
+-- field
+abbrev pub pair_for : Look → Text → Text → RowValue
+pair_for look name field =
+    record (plain_row (with_weight look.has_bold_header (cell_for look None name)
+    ∷ cell_for look None field ∷ [])) { max_height = option_map (max 1) look.max_height }

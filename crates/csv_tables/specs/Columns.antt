@@ -1,0 +1,231 @@
+-- Which columns are drawn, and how their cells are aligned.
+use Rattle.std.specs.Prelude.{ℕ, Bool, true, false, ◌≡◌, ◌+◌, ◌-◌, ◌==◌, ◌&&◌, nat_le, nat_lt, not, List, [], ◌∷◌, ◌++◌, Option, Some, None, Result, Ok, Err, String, bytes_eq, decimal, drop, find, fold, get_or, length, map, max, ok_or, option_map, string_bytes, take, unwrap_or, if◌then◌else◌}
+use Rattle.std.specs.Option.{option_or}
+use Rattle.std.specs.List.{filter, list_any, position_from, range_with_len}
+use Rattle.comfy_parts.specs.Text.{Text}
+use Rattle.comfy_parts.specs.declared.style.cell.CellAlignment.{CellAlignment}
+use Rattle.comfy_parts.specs.declared.style.cell.CellAlignment.TheVariants.{Left, Right}
+use Rattle.csv.specs.Records.{field_at}
+use Rattle.csv_tables.specs.Cells.{field_or_blank}
+use Rattle.csv_records.specs.Cleaning.{visible_of}
+use Rattle.csv_records.specs.Number.{is_neutral, is_number}
+use Rattle.csv_records.specs.Numerals.{number_for}
+use Rattle.csv_tables.specs.declared.columns.FieldKind.{FieldKind}
+use Rattle.csv_tables.specs.declared.columns.FieldKind.TheVariants.{Number, Neutral, Other}
+use Rattle.csv_records.specs.declared.error.CsvError.{CsvError}
+use Rattle.csv_records.specs.declared.error.CsvError.TheVariants.{Read, Write, NotUtf8, NotUtf16, Unclosed, SplitCharacter, NoColumn, OutOfMemory, TwoSides}
+use Rattle.csv_tables.specs.declared.options.Options.{Options}
+use Rattle.csv_tables.specs.declared.options.DrawnColumn.{DrawnColumn}
+
+-- the greatest number of fields of the names and the rows
+abbrev pub count_of : List Text → List (List Text) → ℕ
+count_of names rows =
+    fold (λ (n : ℕ) (fields : List Text). max n (length fields)) (length names) rows
+
+-- the position of the first field that is this text
+abbrev pub position_named : Text → List Text → Option ℕ
+position_named name names = position_from (λ field. bytes_eq field name) 0 names
+
+-- a field is there, and is this text
+abbrev pub is_text : Text → Option Text → Bool
+is_text name None = false
+is_text name (Some field) = bytes_eq field name
+
+-- why columns can't be drawn: a word chooses nothing that is there, or a column is to stand at two
+-- sides
+pub record ColumnFault : Type 0 where
+  pub is_missing : Bool
+  pub name : Text
+
+abbrev pub missing : Text → ColumnFault
+missing name = record { is_missing = true; name = name }
+
+abbrev pub two_sided : Text → ColumnFault
+two_sided name = record { is_missing = false; name = name }
+
+-- the column of a number, counted from 1, where it is there
+abbrev pub numbered : ℕ → ℕ → Option ℕ
+numbered count number = if nat_lt 0 number && nat_le number count then Some (number - 1) else None
+
+-- the position of a column: that of its number, else the first of its name
+abbrev pub column_by : List Text → ℕ → Text → Option ℕ → Option ℕ
+column_by names count word (Some number) = numbered count number
+column_by names count word None = position_named word names
+
+abbrev pub column_of : List Text → ℕ → Text → Option ℕ
+column_of names count word = column_by names count word (number_for 64 word)
+
+-- the position after the last column of a range, by what stands behind its hyphen: with nothing
+-- there, it goes on to the last of all
+abbrev pub end_of : List Text → ℕ → Text → Option ℕ
+end_of names count word =
+    if length word == 0
+    then Some count
+    else option_map (λ (position : ℕ). position + 1) (column_of names count word)
+
+-- from one position on, before another, where both are known and in order
+abbrev pub rising : Option ℕ → Option ℕ → Option (ℕ × ℕ)
+rising (Some start) (Some end) = if nat_lt start end then Some (start, end) else None
+rising (Some start) None = None
+rising None end = None
+
+-- the columns around a hyphen that stands at a place of a word, where both ends are there, in order
+abbrev pub range_at : List Text → ℕ → Text → ℕ → Option (ℕ × ℕ)
+range_at names count word at =
+    if get_or word at 0 == 0x2D
+    then rising (column_of names count (take at word)) (end_of names count (drop (at + 1) word))
+    else None
+
+-- the first answer to some numbers
+abbrev pub first_answer : {A : Type 0} → (ℕ → Option A) → List ℕ → Option A
+first_answer f [] = None
+first_answer f (n ∷ ns) = option_or (f n) (first_answer f ns)
+
+-- the columns around the first such hyphen
+abbrev pub range_of : List Text → ℕ → Text → Option (ℕ × ℕ)
+range_of names count word =
+    first_answer (range_at names count word) (range_with_len 0 (length word))
+
+-- a single column, else those of a range, as the position of the first and the one after the last
+abbrev pub single_or : Option ℕ → Option (ℕ × ℕ) → Option (ℕ × ℕ)
+single_or (Some position) range = Some (position, position + 1)
+single_or None range = range
+
+-- the columns that a word chooses
+abbrev pub columns_chosen : List Text → ℕ → Text → Option (ℕ × ℕ)
+columns_chosen names count word = single_or (column_of names count word) (range_of names count word)
+
+-- the positions from one on, before another
+abbrev pub positions_between : ℕ × ℕ → List ℕ
+positions_between ends = range_with_len ends.0 (ends.1 - ends.0)
+
+-- the positions that a word chooses
+abbrev pub positions_of_word : List Text → ℕ → Text → Result (List ℕ) ColumnFault
+positions_of_word names count word =
+    ok_or (option_map positions_between (columns_chosen names count word)) (missing word)
+
+-- one list after another, or the first fault
+abbrev pub joined : Result (List ℕ) ColumnFault → Result (List ℕ) ColumnFault
+    → Result (List ℕ) ColumnFault
+joined (Ok xs) (Ok ys) = Ok (xs ++ ys)
+joined (Ok xs) (Err fault) = Err fault
+joined (Err fault) ys = Err fault
+
+-- the positions that some words choose, in their order
+abbrev pub positions_of : {A : Type 0} → List Text → ℕ → List (String A)
+    → Result (List ℕ) ColumnFault
+positions_of {A} names count words =
+    fold (λ (found : Result (List ℕ) ColumnFault) (word : String A).
+    joined found (positions_of_word names count (string_bytes word))) (Ok []) words
+
+-- the chosen columns: all where none is chosen
+abbrev pub chosen_columns : {A : Type 0} → List Text → ℕ → List (String A)
+    → Result (List ℕ) ColumnFault
+chosen_columns names count words =
+    if length words == 0 then Ok (range_with_len 0 count) else positions_of names count words
+
+-- the positions of one list that aren't in another
+abbrev pub without : List ℕ → List ℕ → List ℕ
+without positions dropped =
+    filter (λ position. not (list_any (λ other. other == position) dropped)) positions
+
+-- these, or the first fault
+abbrev pub less : Result (List ℕ) ColumnFault → Result (List ℕ) ColumnFault
+    → Result (List ℕ) ColumnFault
+less (Ok positions) (Ok dropped) = Ok (without positions dropped)
+less (Ok positions) (Err fault) = Err fault
+less (Err fault) dropped = Err fault
+
+-- those of the columns that are drawn: the chosen ones, less those that are left out
+abbrev pub kept_columns : {A : Type 0} → List Text → ℕ → List (String A) → List (String A)
+    → Result (List ℕ) ColumnFault
+kept_columns names count words dropped =
+    less (chosen_columns names count words) (positions_of names count dropped)
+
+-- what is seen of a record's fields: where sequences are kept, they aren't
+abbrev pub seen : Bool → List Text → List Text
+seen keeps_sequences fields = map (visible_of keeps_sequences) fields
+
+-- what a field says of its column; a number says more than being neutral
+abbrev pub kind_of : Text → FieldKind
+kind_of field = if is_number field then Number else if is_neutral field then Neutral else Other
+
+-- so of the field of a record at a position
+abbrev pub kind_at : ℕ → List Text → FieldKind
+kind_at position fields = kind_of (field_or_blank fields position)
+
+abbrev pub is_number_kind : FieldKind → Bool
+is_number_kind Number = true
+is_number_kind Neutral = false
+is_number_kind Other = false
+
+abbrev pub is_other_kind : FieldKind → Bool
+is_other_kind Number = false
+is_other_kind Neutral = false
+is_other_kind Other = true
+
+-- each field of a column is a number or neutral, and some field is a number
+abbrev pub is_number_column : List (List Text) → ℕ → Bool
+is_number_column rows position =
+    not (list_any (λ fields. is_other_kind (kind_at position fields)) rows)
+    && list_any (λ fields. is_number_kind (kind_at position fields)) rows
+
+-- the alignment of a column: that which was chosen for it, else at the right where its fields are
+-- numbers
+abbrev pub alignment_for : List ℕ → List ℕ → List (List Text) → ℕ → Option CellAlignment
+alignment_for right left rows position =
+    if list_any (λ p. p == position) right then Some Right
+    else if list_any (λ p. p == position) left then Some Left
+    else if is_number_column rows position then Some Right
+    else None
+
+-- the columns at these positions
+abbrev pub drawn_columns : List ℕ → List ℕ → List (List Text) → List ℕ → List DrawnColumn
+drawn_columns right left rows positions =
+    map (λ (p : ℕ). record { position = p; alignment = alignment_for right left rows p }) positions
+
+-- the name of the column at a position, or its number where there is no header
+abbrev pub name_at : List Text → ℕ → Text
+name_at names position = unwrap_or (field_at names position) (decimal (position + 1))
+
+-- the first column at the right that is at the left too
+abbrev pub at_two_sides : List ℕ → List ℕ → Option ℕ
+at_two_sides right left = find (λ p. list_any (λ q. q == p) left) right
+
+-- the columns, unless one is to stand at two sides; the rows are as they are seen
+abbrev pub placed_columns : List Text → List (List Text) → List ℕ → List ℕ → List ℕ → Option ℕ
+    → Result (List DrawnColumn) ColumnFault
+placed_columns names rows positions right left (Some position) =
+    Err (two_sided (name_at names position))
+placed_columns names rows positions right left None = Ok (drawn_columns right left rows positions)
+
+-- the columns that are drawn, or the first fault: in the lists that choose and leave out columns,
+-- then in that of the right, then in that of the left, then between these two
+abbrev pub columns_with : List Text → List (List Text) → Result (List ℕ) ColumnFault
+    → Result (List ℕ) ColumnFault → Result (List ℕ) ColumnFault
+    → Result (List DrawnColumn) ColumnFault
+columns_with names rows (Ok positions) (Ok right) (Ok left) =
+    placed_columns names rows positions right left (at_two_sides right left)
+columns_with names rows (Ok positions) (Ok right) (Err fault) = Err fault
+columns_with names rows (Ok positions) (Err fault) left = Err fault
+columns_with names rows (Err fault) right left = Err fault
+
+abbrev pub columns_for : Options → List Text → List (List Text)
+    → Result (List DrawnColumn) ColumnFault
+columns_for options names rows =
+    columns_with names (map (seen options.look.has_sequences) rows)
+    (kept_columns names (count_of names rows) options.selection.columns.items options.selection.dropped.items)
+    (positions_of names (count_of names rows) options.selection.right.items)
+    (positions_of names (count_of names rows) options.selection.left.items)
+
+-- why there are no columns: a fault of the lists, or there is no memory
+abbrev pub IsColumnRefusal : {A : Type 0} → CsvError → Result A ColumnFault → Type 0
+IsColumnRefusal (NoColumn name) columns = columns ≡ Err (missing (string_bytes name))
+IsColumnRefusal (TwoSides name) columns = columns ≡ Err (two_sided (string_bytes name))
+IsColumnRefusal OutOfMemory columns = Unit {0}
+IsColumnRefusal Read columns = ⊥
+IsColumnRefusal Write columns = ⊥
+IsColumnRefusal (NotUtf8 line) columns = ⊥
+IsColumnRefusal (NotUtf16 line) columns = ⊥
+IsColumnRefusal (Unclosed line) columns = ⊥
+IsColumnRefusal SplitCharacter columns = ⊥

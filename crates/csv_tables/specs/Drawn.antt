@@ -1,0 +1,304 @@
+-- What is drawn of some records, and what is written of it.
+use Rattle.std.specs.Prelude.{ℕ, ◌+◌, ◌*◌, Bool, true, false, not, ◌&&◌, ◌≡◌, ◌≢◌, nat_lt, min, List, [], ◌∷◌, ◌++◌, Option, Some, None, Result, Ok, Err, codes, decimal, drop, flat_map, length, map, slice_get, take, unwrap_or, if◌then◌else◌}
+use Rattle.std.specs.List.{list_any, range_with_len}
+use Rattle.comfy_parts.specs.CellValue.{RowValue}
+use Rattle.comfy_parts.specs.Presets.{ascii_markdown}
+use Rattle.comfy_parts.specs.Text.{Text}
+use Rattle.comfy_parts.specs.declared.style.table.ContentArrangement.{ContentArrangement}
+use Rattle.comfy_parts.specs.declared.style.table.ContentArrangement.TheVariants.{Disabled, Dynamic, DynamicFullWidth}
+use Rattle.comfy_parts.specs.declared.style.table_style.TableStyle.{TableStyle}
+use Rattle.comfy_table.specs.Arrangement.{IsArranged}
+use Rattle.comfy_table.specs.Drawing.{infos_of, terminated_text_of}
+use Rattle.comfy_table.specs.Headline.{IsTableDrawing}
+use Rattle.comfy_table.specs.Parts.{ArrangedValue, IsArrangedTable, part_text}
+use Rattle.comfy_table.specs.Pieces.{row_height}
+use Rattle.comfy_table.specs.TableValue.{TableValue, max_content_widths, new_table, with_header, with_rows}
+use Rattle.csv_tables.specs.Cells.{field_or_blank, header_for, pair_for, row_for}
+use Rattle.csv_tables.specs.Columns.{ColumnFault, columns_for, name_at}
+use Rattle.csv_records.specs.Reading.{AreRecordsFor}
+use Rattle.csv_tables.specs.Markdown.{rule_line}
+use Rattle.csv_tables.specs.declared.options.Expansion.{Expansion}
+use Rattle.csv_tables.specs.declared.options.Expansion.TheVariants.{Always, Auto, Never as NeverExpanded}
+use Rattle.csv_tables.specs.declared.options.Look.{Look}
+use Rattle.csv_tables.specs.declared.options.Options.{Options}
+use Rattle.csv_tables.specs.declared.options.RowSeparators.{RowSeparators}
+use Rattle.csv_tables.specs.declared.options.RowSeparators.TheVariants.{Styled, Needed, Never}
+use Rattle.csv_tables.specs.declared.options.DrawnColumn.{DrawnColumn}
+use Rattle.csv_tables.specs.Unbroken.{framed_width, kept_whole, unbroken_columns}
+
+-- ---- records
+
+-- the first rows, as many as are drawn
+abbrev pub limited : {A : Type 0} → Option ℕ → List A → List A
+limited None rows = rows
+limited (Some count) rows = take count rows
+
+-- the fields of the header, where there is one
+abbrev pub names_of : Bool → List (List Text) → Option (List Text)
+names_of has_header records = if has_header then slice_get records 0 else None
+
+-- the records below the header
+abbrev pub records_below : Bool → List (List Text) → List (List Text)
+records_below has_header records = if has_header then drop 1 records else records
+
+-- what is drawn of some records: names, where there are any, rows, and columns of them; and how
+-- many records stand below the header
+pub record ContentValue : Type 0 where
+  pub names : Option (List Text)
+  pub rows : List (List Text)
+  pub columns : List DrawnColumn
+  pub count : ℕ
+
+-- what is made of a value, where there is one
+abbrev pub ok_map : {A B E : Type 0} → (A → B) → Result A E → Result B E
+ok_map f (Ok x) = Ok (f x)
+ok_map f (Err e) = Err e
+
+abbrev pub drawn_rows : Options → List (List Text) → List (List Text)
+drawn_rows options records = limited options.selection.limit (records_below options.selection.has_header records)
+
+abbrev pub content_with : Options → List (List Text) → List DrawnColumn → ContentValue
+content_with options records columns =
+    record {
+      names = names_of options.selection.has_header records;
+      rows = drawn_rows options records;
+      columns = columns;
+      count = length (records_below options.selection.has_header records);
+    }
+
+-- what is drawn of some records, or a fault of the columns
+abbrev pub content_of : Options → List (List Text) → Result ContentValue ColumnFault
+content_of options records =
+    ok_map (content_with options records)
+    (columns_for options (unwrap_or (names_of options.selection.has_header records) [])
+    (drawn_rows options records))
+
+-- ---- tables
+
+-- the widths of columns are those of their contents, or keep to a width, or fill it
+abbrev pub arrangement_for : Option ℕ → Bool → ContentArrangement
+arrangement_for None fills = Disabled
+arrangement_for (Some width) fills = if fills then DynamicFullWidth else Dynamic
+
+-- a table without rows
+abbrev pub empty_table : Look → TableValue
+empty_table look =
+    record (new_table look.style) {
+      set_width = look.width;
+      arrangement = arrangement_for look.width look.fills_width;
+      enforce_styling = look.has_bold_header;
+      custom_styling = look.has_sequences;
+    }
+
+-- a table with a header of these names, where there are any
+abbrev pub headed_table : Look → List DrawnColumn → Option (List Text) → TableValue
+headed_table look columns None = empty_table look
+headed_table look columns (Some names) =
+    with_header (header_for look columns names) (empty_table look)
+
+-- the table of records: a row for each
+abbrev pub rows_table : Look → ContentValue → TableValue
+rows_table look content =
+    with_rows (map (row_for look content.columns) content.rows)
+    (headed_table look content.columns content.names)
+
+-- the table of some records, as many as are drawn, or a fault of the columns
+abbrev pub table_for : Options → List (List Text) → Result TableValue ColumnFault
+table_for options records = ok_map (rows_table options.look) (content_of options records)
+
+-- the fields of one record, each below the one before, beside the names of their columns
+abbrev pub pairs_of : Look → List DrawnColumn → List Text → List Text → List RowValue
+pairs_of look columns names fields =
+    map (λ (column : DrawnColumn). pair_for look (name_at names column.position)
+    (field_or_blank fields column.position)) columns
+
+-- the table of expanded records: so many rows for each
+abbrev pub pairs_table : Look → ContentValue → TableValue
+pairs_table look content =
+    with_rows (flat_map (pairs_of look content.columns (unwrap_or content.names [])) content.rows)
+    (empty_table look)
+
+-- the table that is drawn, with all lines of its style: of expanded records, or of rows, whose
+-- numbers and dates aren't broken where there is room
+abbrev pub output_table : Bool → Look → ContentValue → TableValue
+output_table true look content = pairs_table look content
+output_table false look content =
+    kept_whole look.width (unbroken_columns look.has_sequences content.columns content.rows)
+    (rows_table look content)
+
+-- ---- lines between rows
+
+-- a style without lines between rows
+abbrev pub condensed_style : TableStyle → TableStyle
+condensed_style style =
+    record style {
+      row_separator = record { left = None; fill = None; junction = None; right = None };
+    }
+
+-- a table with lines between rows, as the style has them, or without them
+abbrev pub with_style : TableStyle → TableValue → TableValue
+with_style style table = record table { style = style }
+
+abbrev pub separated_table : Bool → TableValue → TableValue
+separated_table true table = table
+separated_table false table = with_style (condensed_style table.style) table
+
+-- whether a row of a table is drawn in more than one line
+abbrev pub HasTallRow : TableValue → Bool → Type 0
+HasTallRow table is_tall =
+    (widths : List ℕ) × IsArranged table widths
+    × (is_tall ≡ list_any (λ height. nat_lt 1 height)
+    (map (row_height table (infos_of table widths)) table.rows))
+
+-- whether lines between rows are drawn: always, never, or where a row of the table without them has
+-- more than one line
+abbrev pub HasSeparators : RowSeparators → TableValue → Bool → Type 0
+HasSeparators Styled condensed has = has ≡ true
+HasSeparators Never condensed has = has ≡ false
+HasSeparators Needed condensed has = HasTallRow condensed has
+
+-- those that are wanted: between the fields of a record none that only tall rows would need, since
+-- names part them
+abbrev pub separators_in : Bool → RowSeparators → RowSeparators
+separators_in false wanted = wanted
+separators_in true Styled = Styled
+separators_in true Needed = Never
+separators_in true Never = Never
+
+-- ---- expanded records
+
+-- borders, paddings, and for each column its content, of which four terminal columns count at most
+abbrev pub least_width : TableValue → ℕ
+least_width table =
+    framed_width table.style (map (λ content. min content 4) (max_content_widths table))
+
+-- whether records are expanded: always, never, or where the width of a table of rows is less than
+-- that
+abbrev pub is_expanded_in : Expansion → Option ℕ → TableValue → Bool
+is_expanded_in Always width table = true
+is_expanded_in NeverExpanded width table = false
+is_expanded_in Auto None table = false
+is_expanded_in Auto (Some width) table = nat_lt width (least_width table)
+
+-- whether an output has expanded records: none for Markdown
+abbrev pub is_expanded_for : Look → ContentValue → Bool
+is_expanded_for look content =
+    not look.is_markdown && is_expanded_in look.expansion look.width (rows_table look content)
+
+-- the line above a record
+abbrev pub record_line : ℕ → ℕ → Text
+record_line number count =
+    (((codes "record " ++ decimal number) ++ codes " of ") ++ decimal count) ++ codes "\n"
+
+-- an expanded record: its line, and its part of the table
+abbrev pub record_text : ContentValue → ArrangedValue → ℕ → Text
+record_text content arranged at =
+    record_line (at + 1) content.count
+    ++ part_text arranged (at * length content.columns) (length content.columns)
+
+-- ---- outputs
+
+-- what is written of a table: record for record, or all rows together
+abbrev pub table_text : Bool → ContentValue → ArrangedValue → Text
+table_text true content arranged =
+    flat_map (record_text content arranged) (range_with_len 0 (length content.rows))
+table_text false content arranged = part_text arranged 0 (length arranged.table.rows)
+
+-- the text of such a table, with lines between rows or without
+pub record IsTextOfTable (is_expanded : Bool) (look : Look) (content : ContentValue)
+    (text : Text) : Type 0 where
+  pub has_separators : Bool
+  pub separators :
+      HasSeparators (separators_in is_expanded look.separators)
+      (separated_table false (output_table is_expanded look content)) has_separators
+  pub arranged : ArrangedValue
+  pub is_arranged :
+      IsArrangedTable (separated_table has_separators (output_table is_expanded look content))
+      arranged
+  pub is : text ≡ table_text is_expanded content arranged
+
+-- the style of a table for Markdown, without the line below the header
+abbrev pub markdown_style : TableStyle
+markdown_style =
+    record ascii_markdown {
+      header_separator = record { left = None; fill = None; junction = None; right = None };
+    }
+
+-- the text of a table of rows, or of expanded records
+pub record IsTableText (look : Look) (content : ContentValue) (text : Text) : Type 0 where
+  pub is_expanded : Bool
+  pub expansion : is_expanded ≡ is_expanded_in look.expansion look.width (rows_table look content)
+  pub drawn : IsTextOfTable is_expanded look content text
+
+-- for Markdown a record is one line, whatever else is wanted
+abbrev pub markdown_look : Look → Look
+markdown_look look =
+    record look {
+      style = markdown_style;
+      width = None;
+      fills_width = false;
+      max_height = None;
+      has_bold_header = false;
+      has_sequences = false;
+      is_markdown = true;
+    }
+
+-- and there is a header, with blank cells where no record is one
+abbrev pub markdown_content : ContentValue → ContentValue
+markdown_content content = record content { names = Some (unwrap_or content.names []) }
+
+abbrev pub markdown_table : Look → ContentValue → TableValue
+markdown_table look content = rows_table (markdown_look look) (markdown_content content)
+
+-- lines with another one below the first
+abbrev pub below_first : Text → List Text → List Text
+below_first line [] = []
+below_first line (first ∷ rest) = first ∷ line ∷ rest
+
+-- the text of a table for Markdown: the line below the header says which columns stand at the right
+pub record IsMarkdownText (look : Look) (content : ContentValue) (text : Text) : Type 0 where
+  pub lines : List Text
+  pub drawing : IsTableDrawing (markdown_table look content) lines
+  pub is :
+      text ≡ terminated_text_of (below_first
+      (rule_line content.columns (max_content_widths (markdown_table look content))) lines)
+
+abbrev pub IsText : Bool → Look → ContentValue → Text → Type 0
+IsText true look content text = IsMarkdownText look content text
+IsText false look content text = IsTableText look content text
+
+-- the line on records that aren't drawn, in Markdown below an empty one
+abbrev pub note_for : Bool → Option ℕ → ℕ → Text
+note_for is_markdown None count = []
+note_for is_markdown (Some limit) count =
+    if nat_lt limit count
+    then (if is_markdown then codes "\n" else [])
+    ++ (((decimal limit ++ codes " of ") ++ decimal count) ++ codes " records\n")
+    else []
+
+-- the output for some records: the text of their table, and the line on records that aren't drawn
+pub record IsOutputOf (options : Options) (records : List (List Text))
+    (output : Text) : Type 0 where
+  pub content : ContentValue
+  pub is_content : content_of options records ≡ Ok content
+  pub text : Text
+  pub is_text : IsText options.look.is_markdown options.look content text
+  pub joined : output ≡ text ++ note_for options.look.is_markdown options.selection.limit content.count
+
+-- the output for the records of an input: nothing where there are none
+abbrev pub IsOutputOfAny : Options → List (List Text) → Text → Type 0
+IsOutputOfAny options [] output = output ≡ []
+IsOutputOfAny options (first ∷ rest) output = IsOutputOf options (first ∷ rest) output
+
+-- the output for an input is that for its records
+pub record IsOutputFor (options : Options) (input output : Text) : Type 0 where
+  pub records : List (List Text)
+  pub are_records : AreRecordsFor options.input input records
+  pub is_output : IsOutputOfAny options records output
+
+-- an input has records, and the columns have this fault
+pub record HasColumnFault (options : Options) (input : Text) (fault : ColumnFault) : Type 0 where
+  pub records : List (List Text)
+  pub are_records : AreRecordsFor options.input input records
+  pub are_any : records ≢ []
+  pub no_content : content_of options records ≡ Err fault

@@ -1,0 +1,255 @@
+-- What is so of every output.
+use Rattle.std.specs.Prelude.{◌≡◌, ◌⊎◌, ℕ, ◌+◌, ◌<◌, ◌≤◌, Bool, true, false, List, [], ◌++◌, Some, None, Ok, All, Contains, flat_map, length, map, max, slice_get, slice_index, unwrap_or}
+use Rattle.std.specs.List.{range_with_len}
+use Rattle.comfy_parts.specs.CellValue.{plain_cell}
+use Rattle.comfy_parts.specs.Columns.{CharactersFit, IsOneColumnStyle, SelectorsAgree}
+use Rattle.comfy_parts.specs.Text.{Text, is_printable_ascii, measure}
+use Rattle.comfy_parts.specs.VisibleText.{visible_text}
+use Rattle.comfy_table.specs.Arrangement.{IsArranged}
+use Rattle.comfy_table.specs.Drawing.{terminated_text_of}
+use Rattle.comfy_table.specs.FittingTables.{CharactersFitColumn}
+use Rattle.comfy_table.specs.Headline.{EachLineCounts, IsTableDrawing}
+use Rattle.comfy_table.specs.Laws.{AreLinesOf, HasNoBreak, HasNoControl, IsPrintableTable, IsStyleWithout, count, least_total}
+use Rattle.comfy_table.specs.NewTables.{AreEquallyWide}
+use Rattle.comfy_table.specs.Straight.{EachCell}
+use Rattle.comfy_table.specs.TableValue.{TableValue, column_content_width, max_content_widths}
+use Rattle.comfy_table.specs.Widths.{shown_count}
+use Rattle.csv_tables.specs.Cells.{field_text, row_for}
+use Rattle.csv_records.specs.Cleaning.{visible_of}
+use Rattle.csv_tables.specs.Columns.{count_of, kept_columns}
+use Rattle.csv_tables.specs.Controls.{HasNoStrayControl, IsStyleWithoutControls}
+use Rattle.csv_tables.specs.Drawn.{ContentValue, IsOutputFor, IsOutputOf, content_of, drawn_rows, is_expanded_for, names_of, note_for, output_table, record_line, rows_table, separated_table, table_for}
+use Rattle.csv_tables.specs.Unbroken.{framed_width, needed_contents, unbroken_columns}
+use Rattle.csv.specs.Records.{AllText}
+use Rattle.csv_tables.specs.declared.options.Look.{Look}
+use Rattle.csv_tables.specs.declared.options.Options.{Options}
+use Rattle.csv_tables.specs.declared.options.DrawnColumn.{DrawnColumn}
+
+-- ---- rows
+
+-- a row for each record that is drawn, in order, with the fields of the same columns, and these are
+-- the chosen ones, less those that are left out
+pub record KeepsRows (options : Options) (records : List (List Text))
+    (table : TableValue) : Type 0 where
+  pub columns : List DrawnColumn
+  pub rows : table.rows ≡ map (row_for options.look columns) (drawn_rows options records)
+  pub as_many : length table.rows ≡ length (drawn_rows options records)
+  pub chosen :
+      kept_columns (unwrap_or (names_of options.selection.has_header records) [])
+      (count_of (unwrap_or (names_of options.selection.has_header records) []) (drawn_rows options records))
+      options.selection.columns.items options.selection.dropped.items
+      ≡ Ok (map (λ (column : DrawnColumn). column.position) columns)
+
+abbrev pub TableKeepsRows : Options → List (List Text) → TableValue → Type 0
+TableKeepsRows options records table =
+    table_for options records ≡ Ok table → KeepsRows options records table
+
+-- ---- lines
+
+-- an expanded record: its own line, and some lines below it
+abbrev pub numbered_lines : ℕ → (ℕ → List Text) → ℕ → Text
+numbered_lines count parts at = record_line (at + 1) count ++ terminated_text_of (parts at)
+
+-- lines are those of a text; or, expanded, such lines alone stand below each record's own line
+abbrev pub HasLines : Bool → ContentValue → List Text → Text → Type 0
+HasLines false content lines text = AreLinesOf text lines
+HasLines true content lines text =
+    (parts : ℕ → List Text) × ((at : ℕ) → All (Contains lines) (parts at)) × All HasNoBreak lines
+    × (text
+    ≡ flat_map (numbered_lines content.count parts) (range_with_len 0 (length content.rows)))
+
+-- an output has these lines, before the line on records that aren't drawn
+pub record IsOutputWith (options : Options) (records : List (List Text)) (output : Text)
+    (lines : List Text) : Type 0 where
+  pub content : ContentValue
+  pub is_content : content_of options records ≡ Ok content
+  pub is_expanded : Bool
+  pub expansion : is_expanded ≡ is_expanded_for options.look content
+  pub text : Text
+  pub has_lines : HasLines is_expanded content lines text
+  pub joined : output ≡ text ++ note_for options.look.is_markdown options.selection.limit content.count
+
+-- the table that is drawn of some records: of their rows or of their fields, with lines between
+-- rows or without
+abbrev pub IsDrawnTable : Look → ContentValue → TableValue → Type 0
+IsDrawnTable look content table =
+    (has_separators : Bool) × (table
+    ≡ separated_table has_separators (output_table (is_expanded_for look content) look content))
+
+-- ---- widths of lines
+
+-- an output has the lines of a drawing, and P holds of their counts
+pub record EachLineHas (P : TableValue → ℕ → Type 0) (options : Options)
+    (records : List (List Text)) (output : Text) : Type 0 where
+  pub lines : List Text
+  pub is_output : IsOutputWith options records output lines
+  pub table : TableValue
+  pub is_table : IsDrawnTable options.look is_output.content table
+  pub drawing : IsTableDrawing table lines
+  pub counts : EachLineCounts (P table) table drawing.widths
+
+-- a count keeps to a width, or to borders, paddings and one for each column
+abbrev pub IsWithin : ℕ → TableValue → ℕ → Type 0
+IsWithin w table n = n ≤ max w (least_total table)
+
+-- a count is exactly that, where there is a column
+abbrev pub IsFilling : ℕ → TableValue → ℕ → Type 0
+IsFilling w table n = 0 < shown_count table → n ≡ max w (least_total table)
+
+-- with a width, a frame line keeps to it
+abbrev pub OutputKeepsToWidth : ℕ → Options → List (List Text) → Text → Type 0
+OutputKeepsToWidth w options records output =
+    options.look.is_markdown ≡ false → options.look.width ≡ Some w
+    → options.look.fills_width ≡ false → options.look.has_sequences ≡ false
+    → IsStyleWithout 0x0A options.look.style → IsOutputOf options records output
+    → EachLineHas (IsWithin w) options records output
+
+-- where the width is filled, it fills it
+abbrev pub OutputFillsWidth : ℕ → Options → List (List Text) → Text → Type 0
+OutputFillsWidth w options records output =
+    options.look.is_markdown ≡ false → options.look.width ≡ Some w
+    → options.look.fills_width ≡ true → options.look.has_sequences ≡ false
+    → IsStyleWithout 0x0A options.look.style → IsOutputOf options records output
+    → EachLineHas (IsFilling w) options records output
+
+-- ---- what is visible of lines
+
+-- fields are cleaned, and no character of the style is a control character
+pub record IsLookWithoutControls (look : Look) : Type 0 where
+  pub cleaned : look.is_raw ≡ false
+  pub style : IsStyleWithoutControls look.style
+
+-- lines are seen as they are written, where nothing is in bold; or without their sequences, where
+-- no control character stands beside these
+abbrev pub AreSeen : Bool → Look → List (List Text) → Type 0
+AreSeen false look records = look.has_bold_header ≡ false
+AreSeen true look records = IsLookWithoutControls look × All AllText records
+
+-- lines are seen so, they end where line feeds are, and no sequence of a field counts nothing
+pub record ArePlainLines (visible : Bool) (look : Look) (records : List (List Text)) : Type 0 where
+  pub seen : AreSeen visible look records
+  pub unbroken : IsStyleWithout 0x0A look.style
+  pub no_sequences : look.has_sequences ≡ false
+
+-- lines as they are seen
+abbrev pub seen_lines : Bool → List Text → List Text
+seen_lines visible lines = map (visible_of visible) lines
+
+-- then each line is counted too, where each field is printable ASCII
+abbrev pub PrintableLinesHave :
+    (TableValue → ℕ → Type 0) → Bool → Options → List (List Text) → Text → Type 0
+PrintableLinesHave P visible options records output =
+    (has : EachLineHas P options records output) → ArePlainLines visible options.look records
+    → All (All (λ field. is_printable_ascii field ≡ true)) records
+    → All (λ line. P has.table (count line)) (seen_lines visible has.lines)
+
+-- ---- numbers and dates
+
+-- where a width has room for the columns that aren't broken, none of them is drawn narrower than
+-- its content
+abbrev pub UnbrokenColumnIsWhole : ℕ → Look → ContentValue → Bool → List ℕ → ℕ → Type 0
+UnbrokenColumnIsWhole w look content has_separators widths i =
+    look.width ≡ Some w
+    → framed_width (rows_table look content).style
+    (needed_contents (unbroken_columns look.has_sequences content.columns content.rows)
+    (max_content_widths (rows_table look content))) ≤ w
+    → slice_get (unbroken_columns look.has_sequences content.columns content.rows) i ≡ Some true
+    → i < length (rows_table look content).columns
+    → IsArranged (separated_table has_separators (output_table false look content)) widths
+    → column_content_width (rows_table look content) i ≤ slice_index widths i
+
+-- ---- straight edges
+
+-- P holds of each field as it is drawn, cut at its line feeds
+abbrev pub EachText : (Text → Type 0) → Look → List (List Text) → Type 0
+EachText P look records =
+    All (λ (fields : List Text). All
+    (λ (field : Text). All P (plain_cell (field_text look field)).text_lines) fields) records
+
+-- the lines of an output, as they are seen, take the same number of terminal columns each; and
+-- where that is without their sequences, no control character is visible of them
+pub record IsStraightOutput (visible : Bool) (options : Options)
+    (records : List (List Text)) (output : Text) : Type 0 where
+  pub lines : List Text
+  pub is_output : IsOutputWith options records output lines
+  pub equally_wide : AreEquallyWide (seen_lines visible lines)
+  pub clear : visible ≡ true → All HasNoControl (seen_lines visible lines)
+
+-- no text is cut, or none has U+FE01 directly beside U+FE0E or U+FE0F
+abbrev pub CanBeCut : Look → List (List Text) → Type 0
+CanBeCut look records = (look.max_height ≡ None) ⊎ EachText SelectorsAgree look records
+
+-- so it is where no width is kept to, for texts of every script
+abbrev pub WholeOutputIsStraight : Bool → Options → List (List Text) → Text → Type 0
+WholeOutputIsStraight visible options records output =
+    IsOneColumnStyle options.look.style → ArePlainLines visible options.look records
+    → options.look.width ≡ None → CanBeCut options.look records
+    → EachText (λ text. measure text ≤ 65535) options.look records
+    → IsOutputOf options records output
+    → IsStraightOutput visible options records output
+
+-- for Markdown whatever the look asks for besides
+abbrev pub MarkdownOutputIsStraight : Options → List (List Text) → Text → Type 0
+MarkdownOutputIsStraight options records output =
+    options.look.is_markdown ≡ true → EachText (λ text. measure text ≤ 65535) options.look records
+    → IsOutputOf options records output → IsStraightOutput false options records output
+
+-- under every width, where no character takes more than one terminal column
+abbrev pub NarrowOutputIsStraight : Bool → Options → List (List Text) → Text → Type 0
+NarrowOutputIsStraight visible options records output =
+    options.look.is_markdown ≡ false → IsOneColumnStyle options.look.style
+    → ArePlainLines visible options.look records → EachText (CharactersFit 1) options.look records
+    → IsOutputOf options records output
+    → IsStraightOutput visible options records output
+
+-- and under every width each line is counted in terminal columns then
+abbrev pub NarrowLinesHave :
+    (TableValue → ℕ → Type 0) → Bool → Options → List (List Text) → Text → Type 0
+NarrowLinesHave P visible options records output =
+    (has : EachLineHas P options records output) → options.look.is_markdown ≡ false
+    → IsOneColumnStyle options.look.style → ArePlainLines visible options.look records
+    → EachText (CharactersFit 1) options.look records
+    → All (λ line. P has.table (measure line)) (seen_lines visible has.lines)
+
+-- each character of each text fits its column, for all widths that are arranged for the table
+abbrev pub CharactersFitEachWidth : Options → List (List Text) → Type 0
+CharactersFitEachWidth options records =
+    (content : ContentValue) (table : TableValue) (widths : List ℕ)
+    → content_of options records ≡ Ok content → IsDrawnTable options.look content table
+    → IsArranged table widths → EachCell CharactersFitColumn table widths
+
+-- and under every width, where each character of each text fits its column
+abbrev pub FittingOutputIsStraight : Bool → Options → List (List Text) → Text → Type 0
+FittingOutputIsStraight visible options records output =
+    options.look.is_markdown ≡ false → IsOneColumnStyle options.look.style
+    → ArePlainLines visible options.look records → CharactersFitEachWidth options records
+    → IsOutputOf options records output
+    → IsStraightOutput visible options records output
+
+-- a field of printable ASCII is drawn as such text
+abbrev pub PrintableFieldsStay : Look → Text → Type 0
+PrintableFieldsStay look field =
+    is_printable_ascii field ≡ true
+    → All (λ text. is_printable_ascii text ≡ true) (plain_cell (field_text look field)).text_lines
+
+-- for texts of printable ASCII each line of the table is counted, under every width
+abbrev pub PrintableTextsMakePrintableTable : Options → List (List Text) → TableValue → List ℕ
+    → Type 0
+PrintableTextsMakePrintableTable options records table widths =
+    options.look.has_sequences ≡ false
+    → EachText (λ text. is_printable_ascii text ≡ true) options.look records
+    → table_for options records ≡ Ok table → IsPrintableTable table widths
+
+-- ---- control characters
+
+-- then nothing harmful is visible of an output for records that are text
+abbrev pub OutputHoldsNoControls : Options → List (List Text) → Text → Type 0
+OutputHoldsNoControls options records output =
+    IsLookWithoutControls options.look → All AllText records → IsOutputOf options records output
+    → HasNoStrayControl (visible_text output)
+
+-- nor of the output for any input
+abbrev pub InputIsDrawnWithoutControls : Options → Text → Text → Type 0
+InputIsDrawnWithoutControls options input output =
+    IsLookWithoutControls options.look → IsOutputFor options input output
+    → HasNoStrayControl (visible_text output)

@@ -1,0 +1,13 @@
+pub mod Cells
+pub mod ColumnLaws
+pub mod Columns
+pub mod Controls
+pub mod Drawn
+pub mod Laws
+pub mod Markdown
+pub mod MarkdownLines
+pub mod OneOutput
+pub mod Run
+pub mod Separators
+pub mod Unbroken
+pub mod WholeAt

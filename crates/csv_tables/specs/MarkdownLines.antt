@@ -1,0 +1,91 @@
+-- What is read back from the lines of an output for Markdown.
+use Rattle.std.specs.Prelude.{◌≡◌, ℕ, ◌<◌, ◌≤◌, Bool, true, false, not, ◌==◌, ◌&&◌, List, [], ◌∷◌, ◌++◌, Ok, All, chars, length, map, unwrap_or, if◌then◌else◌}
+use Rattle.std.specs.List.{AllZip}
+use Rattle.comfy_parts.specs.Text.{Text, measure}
+use Rattle.comfy_table.specs.Drawing.{terminated_text_of}
+use Rattle.comfy_table.specs.Laws.{HasNoBreak}
+use Rattle.comfy_table.specs.TableValue.{max_content_widths}
+use Rattle.csv.specs.Records.{AllText}
+use Rattle.csv_tables.specs.Cells.{field_or_blank, kept_for_markdown}
+use Rattle.csv_records.specs.Cleaning.{cleaned}
+use Rattle.csv_tables.specs.Markdown.{rule_line, unescaped}
+use Rattle.csv_tables.specs.declared.options.DrawnColumn.{DrawnColumn}
+use Rattle.csv_tables.specs.declared.options.Look.{Look}
+use Rattle.csv_tables.specs.declared.options.Options.{Options}
+use Rattle.csv_tables.specs.Drawn.{ContentValue, IsOutputOf, content_of, markdown_table, note_for}
+use Rattle.csv_tables.specs.Laws.{EachText}
+
+-- ---- a line
+
+-- the parts of a line that goes on within a part: a bar ends one, unless it stands after a
+-- backslash that isn't itself after one
+abbrev pub parts_from : Bool → List ℕ → List ℕ → List (List ℕ)
+parts_from is_escaped part [] = part ∷ []
+parts_from is_escaped part (c ∷ rest) =
+    if not is_escaped && (c == 0x7C)
+    then part ∷ parts_from false [] rest
+    else parts_from (not is_escaped && (c == 0x5C)) (part ++ c ∷ []) rest
+
+-- the parts of a line between its bars
+abbrev pub parts_between_bars : List ℕ → List (List ℕ)
+parts_between_bars line = parts_from false [] line
+
+-- a character before others, unless it is a space before none
+abbrev pub before_spaces : ℕ → List ℕ → List ℕ
+before_spaces c [] = if c == 0x20 then [] else c ∷ []
+before_spaces c (d ∷ rest) = c ∷ d ∷ rest
+
+-- characters without the spaces at their end
+abbrev pub without_last_spaces : List ℕ → List ℕ
+without_last_spaces [] = []
+without_last_spaces (c ∷ rest) = before_spaces c (without_last_spaces rest)
+
+-- without those at their start
+abbrev pub without_first_spaces : List ℕ → List ℕ
+without_first_spaces [] = []
+without_first_spaces (c ∷ rest) = if c == 0x20 then without_first_spaces rest else c ∷ rest
+
+-- without both
+abbrev pub without_outer_spaces : List ℕ → List ℕ
+without_outer_spaces cs = without_first_spaces (without_last_spaces cs)
+
+-- what is read of a part
+abbrev pub read_part : List ℕ → List ℕ
+read_part part = without_outer_spaces (unescaped part)
+
+-- what is to be read of a field: its characters as they are drawn
+abbrev pub read_field : Look → Text → List ℕ
+read_field look field = without_outer_spaces (chars (cleaned (kept_for_markdown look) field))
+
+-- between its outer bars a line has a part for each column, which gives back the record's field
+abbrev pub GivesBack : Look → List DrawnColumn → List Text → Text → Type 0
+GivesBack look columns fields line =
+    map read_part (parts_between_bars (chars line))
+    ≡ [] ∷ (map (λ (column : DrawnColumn).
+    read_field look (field_or_blank fields column.position)) columns ++ [] ∷ [])
+
+-- ---- an output
+
+-- an output for Markdown gives back the names, and below its second line each record that is drawn
+-- in one line
+pub record GivesRecordsBack (options : Options) (records : List (List Text))
+    (output : Text) : Type 0 where
+  pub content : ContentValue
+  pub is_content : content_of options records ≡ Ok content
+  pub header : Text
+  pub lines : List Text
+  pub is :
+      output ≡ terminated_text_of (header
+      ∷ rule_line content.columns (max_content_widths (markdown_table options.look content))
+      ∷ lines) ++ note_for true options.selection.limit content.count
+  pub unbroken : All HasNoBreak (header ∷ lines)
+  pub names : GivesBack options.look content.columns (unwrap_or content.names []) header
+  pub rows : AllZip (GivesBack options.look content.columns) content.rows lines
+
+-- so it does where a column is drawn, for fields of every script up to 65535 terminal columns
+abbrev pub MarkdownGivesRecordsBack : Options → List (List Text) → Text → Type 0
+MarkdownGivesRecordsBack options records output =
+    options.look.is_markdown ≡ true → EachText (λ text. measure text ≤ 65535) options.look records
+    → All AllText records → (made : IsOutputOf options records output)
+    → 0 < length made.content.columns
+    → GivesRecordsBack options records output

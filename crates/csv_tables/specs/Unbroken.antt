@@ -1,0 +1,80 @@
+-- Columns that aren't broken over lines: which they are, and that all of them are as wide as their
+-- contents, or none.
+use Rattle.std.specs.Prelude.{ℕ, ◌+◌, Bool, ◌==◌, ◌&&◌, ◌||◌, false, List, [], ◌∷◌, Option, Some, None, chars, codes, length, map, max, min, nat_le, sum_by, if◌then◌else◌}
+use Rattle.std.specs.Char.{is_ascii_digit}
+use Rattle.std.specs.List.{list_all, list_any}
+use Rattle.comfy_parts.specs.CellValue.{ColumnValue}
+use Rattle.comfy_parts.specs.Text.{Text}
+use Rattle.comfy_parts.specs.declared.style.column.ColumnConstraint.TheVariants.{ContentWidth}
+use Rattle.comfy_parts.specs.declared.style.table_style.TableStyle.{TableStyle}
+use Rattle.comfy_table.specs.Frame.{border_count}
+use Rattle.comfy_table.specs.TableValue.{TableValue, max_content_widths}
+use Rattle.csv_records.specs.Number.{is_number}
+use Rattle.csv_tables.specs.Cells.{field_or_blank}
+use Rattle.csv_tables.specs.Columns.{seen}
+use Rattle.csv_tables.specs.declared.options.DrawnColumn.{DrawnColumn}
+
+-- ---- which columns
+
+-- dates and times are written with digits, with these marks, and with spaces
+abbrev pub is_of_dates : ℕ → Bool
+is_of_dates c = is_ascii_digit c || list_any (λ mark. mark == c) (codes "-/:.TZ+ ")
+
+-- a number, or such characters alone, as in an empty field; at most 25 characters
+abbrev pub is_unbroken : Text → Bool
+is_unbroken field =
+    nat_le (length (chars field)) 25 && (list_all is_of_dates field || is_number field)
+
+-- so is each field of a column
+abbrev pub is_unbroken_column : List (List Text) → ℕ → Bool
+is_unbroken_column rows position =
+    list_all (λ fields. is_unbroken (field_or_blank fields position)) rows
+
+-- ---- how wide they are
+
+-- the width of a line over columns of these contents: borders, contents and paddings
+abbrev pub framed_width : TableStyle → List ℕ → ℕ
+framed_width style contents =
+    border_count style (length contents) + sum_by (λ content. 2 + content) contents
+
+-- of each drawn column, whether all fields of the rows, as they are seen, are numbers or dates
+abbrev pub unbroken_columns : Bool → List DrawnColumn → List (List Text) → List Bool
+unbroken_columns keeps_sequences columns rows =
+    map (λ (column : DrawnColumn). is_unbroken_column
+    (map (seen keeps_sequences) rows) column.position) columns
+
+-- what a column needs of its content: all, or at most eight terminal columns where it may be
+-- broken; at least one
+abbrev pub needed_content : Bool → ℕ → ℕ
+needed_content is_unbroken content = max 1 (if is_unbroken then content else min content 8)
+
+-- so each column; columns past the list may be broken
+abbrev pub needed_contents : List Bool → List ℕ → List ℕ
+needed_contents [] contents = map (needed_content false) contents
+needed_contents (is_unbroken ∷ more) [] = []
+needed_contents (is_unbroken ∷ more) (content ∷ contents) =
+    needed_content is_unbroken content ∷ needed_contents more contents
+
+-- a column that is as wide as its content
+abbrev pub whole_column : Bool → ColumnValue → ColumnValue
+whole_column is_unbroken column =
+    if is_unbroken then record column { constraint = Some ContentWidth } else column
+
+abbrev pub whole_columns : List Bool → List ColumnValue → List ColumnValue
+whole_columns [] columns = columns
+whole_columns (is_unbroken ∷ more) [] = []
+whole_columns (is_unbroken ∷ more) (column ∷ columns) =
+    whole_column is_unbroken column ∷ whole_columns more columns
+
+-- a table with such columns
+abbrev pub with_whole : List Bool → TableValue → TableValue
+with_whole unbroken table = record table { columns = whole_columns unbroken table.columns }
+
+-- so is a table where a width is kept that has room for all these columns, and for what the others
+-- need; else it stays
+abbrev pub kept_whole : Option ℕ → List Bool → TableValue → TableValue
+kept_whole None unbroken table = table
+kept_whole (Some width) unbroken table =
+    if nat_le (framed_width table.style (needed_contents unbroken (max_content_widths table))) width
+    then with_whole unbroken table
+    else table

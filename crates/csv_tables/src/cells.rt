@@ -1,0 +1,141 @@
+//! The cells and rows of records.
+
+ghost use Rattle.std.specs.Prelude.{◌≡◌, IfOk, max, option_map, string_bytes};
+ghost use Rattle.std.specs.Option.{option_or};
+ghost use Rattle.csv_tables.specs.Cells.{cell_for, cells_for, field_text, header_for, kept_by, kept_for_markdown, pair_for, row_for, with_weight};
+
+use crate::markdown::escaped;
+use crate::options::{DrawnColumn, Look};
+use comfy_parts::style::{Attribute, CellAlignment};
+use comfy_parts::{Cell, Cells, IntoRow, Result, Row};
+use csv_records::{Kept, Record, cleaned};
+use std::alloc::Global;
+
+/// The row of a record: a cell for each column, blank where the record has no such field.
+pub fn row_of(
+    alloc: Global,
+    fields: &Record<'_>,
+    columns: &[DrawnColumn],
+    look: &Look,
+) -> Result<Row>
+    ensures { IfOk result (λ row. row ≡ row_for look.now columns.now fields.now) }
+{
+    Ok(cut(cells_of(alloc, fields, columns, look, false)?, look))
+}
+
+/// The row of the header.
+pub fn header_of(
+    alloc: Global,
+    fields: &Record<'_>,
+    columns: &[DrawnColumn],
+    look: &Look,
+) -> Result<Row>
+    ensures { IfOk result (λ row. row ≡ header_for look.now columns.now fields.now) }
+{
+    cells_of(alloc, fields, columns, look, look.has_bold_header)
+}
+
+/// The row of one field of a record that is drawn as a table of its own: the name of the field's
+/// column, and the field.
+pub fn pair_of(alloc: Global, name: &str, field: &str, look: &Look) -> Result<Row>
+    ensures { IfOk result (λ row. row ≡ pair_for look.now name.now field.now) }
+{
+    let mut row = Cells(Vec::with_capacity(alloc, 2)?).into_row(alloc)?;
+    row.try_add_cell(cell_of(alloc, name, None, look, look.has_bold_header)?)?;
+    row.try_add_cell(cell_of(alloc, field, None, look, false)?)?;
+    Ok(cut(row, look))
+}
+
+// A row with the greatest height that is wanted.
+fn cut(mut row: Row, look: &Look) -> Row
+    ensures { result ≡ record row {
+      max_height = option_or (option_map (max 1) look.now.max_height) row.max_height;
+    } }
+{
+    if let Some(lines) = look.max_height {
+        row.max_height(lines);
+    }
+    row
+}
+
+// The row of a record, with bold cells or without.
+fn cells_of(
+    alloc: Global,
+    fields: &Record<'_>,
+    columns: &[DrawnColumn],
+    look: &Look,
+    is_bold: bool,
+) -> Result<Row>
+    ensures { IfOk result (λ row. row ≡ cells_for look.now is_bold columns.now fields.now) }
+{
+    let mut row = Cells(Vec::with_capacity(alloc, columns.len())?).into_row(alloc)?;
+    for column in columns {
+        let field = fields.get(column.position).unwrap_or("");
+        row.try_add_cell(cell_of(alloc, field, column.alignment, look, is_bold)?)?;
+    }
+    Ok(row)
+}
+
+// The cell of a field, in bold or not.
+fn cell_of(
+    alloc: Global,
+    field: &str,
+    alignment: Option<CellAlignment>,
+    look: &Look,
+    is_bold: bool,
+) -> Result<Cell>
+    ensures { IfOk result (λ cell. cell
+        ≡ with_weight is_bold (cell_for look.now alignment field.now)) }
+{
+    let cell = Cell::new_owned(alloc, field_text(alloc, field, look)?)?;
+    let cell = match alignment {
+        Some(alignment) => cell.set_alignment(alignment),
+        None => cell,
+    };
+    with_weight(cell, is_bold)
+}
+
+// A cell in bold, or as it is.
+fn with_weight(cell: Cell, is_bold: bool) -> Result<Cell>
+    ensures { IfOk result (λ c. c ≡ with_weight is_bold cell) }
+{
+    if is_bold {
+        cell.add_attribute(Attribute::Bold)
+    } else {
+        Ok(cell)
+    }
+}
+
+// A field as its cell has it.
+fn field_text(alloc: Global, field: &str, look: &Look) -> Result<String>
+    ensures { IfOk result (λ text. string_bytes text ≡ field_text look.now field.now) }
+{
+    if look.is_markdown {
+        let text = cleaned(alloc, field, kept_for_markdown(look))?;
+        Ok(escaped(alloc, text.as_str())?)
+    } else if look.is_raw {
+        Ok(String::from_str(alloc, field)?)
+    } else {
+        Ok(cleaned(alloc, field, kept_by(look))?)
+    }
+}
+
+// What of a field a look leaves as it is.
+fn kept_by(look: &Look) -> Kept
+    ensures { result ≡ kept_by look.now }
+{
+    Kept {
+        sequences: look.has_sequences,
+        directions: look.keeps_bidi,
+    }
+}
+
+// What of it is left as it is for Markdown.
+fn kept_for_markdown(look: &Look) -> Kept
+    ensures { result ≡ kept_for_markdown look.now }
+{
+    Kept {
+        sequences: false,
+        directions: look.keeps_bidi,
+    }
+}

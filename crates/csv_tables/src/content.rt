@@ -1,0 +1,115 @@
+//! What is drawn of some records.
+
+ghost use Rattle.std.specs.Prelude.{◌≡◌, IfOk, IfErr, Ok, [], unwrap_or};
+ghost use Rattle.csv_tables.specs.Columns.{IsColumnRefusal};
+ghost use Rattle.csv_tables.specs.Drawn.{content_of, limited, names_of, records_below};
+
+use crate::columns::columns_of;
+use crate::options::{DrawnColumn, Options};
+use csv_records::{CsvError, Record, Records, Rows};
+use std::alloc::Global;
+use std::marker::Model;
+
+/// The names, the rows and the columns that are drawn of some records, with these records.
+#[derive(Drop)]
+pub struct Content {
+    pub(crate) alloc: Global,
+    records: Records,
+    has_header: bool,
+    // how many rows are drawn
+    limit: Option<usize>,
+    pub(crate) columns: Vec<DrawnColumn>,
+}
+
+impl Model for Content {
+    ghost use Rattle.std.specs.Prelude.{length};
+    ghost use Rattle.csv_tables.specs.Drawn.{ContentValue, limited, names_of, records_below};
+
+    ghost Value = { ContentValue };
+
+    ghost view = { λ c. record {
+      names = names_of c.has_header c.records;
+      rows = limited c.limit (records_below c.has_header c.records);
+      columns = c.columns.items;
+      count = length (records_below c.has_header c.records);
+    } };
+}
+
+impl Content {
+    /// What is drawn of these records.
+    pub fn new(alloc: Global, records: Records, options: &Options) -> Result<Content, CsvError>
+        ensures ok { IfOk result (λ content. content_of options.now records ≡ Ok content) }
+        ensures refused { IfErr result (λ e. IsColumnRefusal e (content_of options.now records)) }
+    {
+        let has_header = options.selection.has_header;
+        let limit = options.selection.limit;
+        let all = records.rows();
+        let names = names_of(&all, has_header).unwrap_or(all.blank());
+        let rows = limited(&records_below(&all, has_header), limit);
+        let columns = columns_of(alloc, &names, &rows, options)?;
+        Ok(Content {
+            alloc,
+            records,
+            has_header,
+            limit,
+            columns,
+        })
+    }
+
+    /// The header, where there is one.
+    pub(crate) fn names(&self) -> Option<Record<'_>>
+        ensures { result ≡ self.now.names }
+    {
+        names_of(&self.records.rows(), self.has_header)
+    }
+
+    /// The header, or a record without fields.
+    pub(crate) fn names_or_blank(&self) -> Record<'_>
+        ensures { result ≡ unwrap_or self.now.names [] }
+    {
+        self.names().unwrap_or(self.records.rows().blank())
+    }
+
+    /// The rows that are drawn.
+    pub(crate) fn rows(&self) -> Rows<'_>
+        ensures { result ≡ self.now.rows }
+    {
+        let below = records_below(&self.records.rows(), self.has_header);
+        limited(&below, self.limit)
+    }
+
+    /// How many records there are below the header, drawn or not.
+    pub(crate) fn count(&self) -> usize
+        ensures { result ≡ self.now.count }
+    {
+        records_below(&self.records.rows(), self.has_header).len()
+    }
+}
+
+// The header, where there is one.
+fn names_of<'a>(records: &Rows<'a>, has_header: bool) -> Option<Record<'a>>
+    ensures { result ≡ names_of has_header records.now }
+{
+    if has_header { records.first() } else { None }
+}
+
+// The records below the header.
+fn records_below<'a>(records: &Rows<'a>, has_header: bool) -> Rows<'a>
+    ensures { result ≡ records_below has_header records.now }
+{
+    if has_header {
+        records.rows_behind(1)
+    } else {
+        records.iter()
+    }
+}
+
+// The first rows, as many as are drawn.
+fn limited<'a>(rows: &Rows<'a>, limit: Option<usize>) -> Rows<'a>
+    ensures { result ≡ limited limit rows.now }
+{
+    match limit {
+        Some(count) => rows.first_rows(count),
+        None => rows.iter(),
+    }
+}

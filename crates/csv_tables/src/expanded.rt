@@ -1,0 +1,83 @@
+//! Records that are expanded: each is drawn as a table of its own, of names and fields.
+
+ghost use Rattle.std.specs.Prelude.{◌≡◌, ◌++◌, ◌-◌, ◌^◌, IfOk, OnOk, map, min, string_bytes, true};
+ghost use Rattle.csv_tables.specs.Drawn.{is_expanded_in, least_width, record_text, separators_in, table_text};
+
+use crate::content::Content;
+use crate::options::{Expansion, Look, RowSeparators};
+use crate::unbroken::framed_width;
+use comfy_table::{ArrangedTable, Result, Table, TableError};
+use std::alloc::{AllocError, Global};
+use std::fmt::Write;
+
+// How many terminal columns of its content a column has at least where records aren't expanded.
+const LEAST_CONTENT: u16 = 4;
+
+/// Whether records are expanded, this being the table of their rows.
+pub(crate) fn is_expanded(table: &Table, look: &Look) -> Result<bool>
+    ensures { IfOk result (λ is. is ≡ is_expanded_in look.now.expansion look.now.width table.now) }
+{
+    match (look.expansion, look.width) {
+        (Expansion::Always, _) => Ok(true),
+        (Expansion::Auto, Some(width)) => Ok(usize::from(width) < least_width(table)?),
+        _ => Ok(false),
+    }
+}
+
+// Borders, paddings, and for each column its content, of which four terminal columns count at most.
+fn least_width(table: &Table) -> Result<usize>
+    ensures { IfOk result (λ width. width ≡ min (2 ^ 64 - 1) (least_width table.now)) }
+{
+    let contents = table.column_max_content_widths()?;
+    let least = least_contents(*contents.allocator(), contents.as_slice())?;
+    Ok(framed_width(table, least.as_slice()))
+}
+
+// Of these contents, what each column has at least.
+fn least_contents(alloc: Global, contents: &[u16]) -> std::result::Result<Vec<u16>, AllocError>
+    ensures { IfOk result (λ least. least.items ≡ map (λ content. min content 4) contents.now) }
+{
+    let mut least = Vec::with_capacity(alloc, contents.len())?;
+    for content in contents {
+        least.push((*content).min(LEAST_CONTENT))?;
+    }
+    Ok(least)
+}
+
+/// Where lines between the fields of a record are drawn: none that only tall rows would need, since
+/// names part the fields.
+pub(crate) fn between_fields(separators: RowSeparators) -> RowSeparators
+    ensures { result ≡ separators_in true separators }
+{
+    match separators {
+        RowSeparators::Styled => RowSeparators::Styled,
+        RowSeparators::Needed | RowSeparators::Never => RowSeparators::Never,
+    }
+}
+
+/// The expanded records of an arranged table, each below a line that numbers it.
+pub(crate) fn records_text(content: &Content, arranged: &ArrangedTable<'_>) -> Result<String>
+    ensures { IfOk result (λ text. string_bytes text ≡ table_text true content.now arranged.now) }
+{
+    let mut text = String::new(content.alloc);
+    for at in 0..content.rows().len() {
+        push_record(&mut text, content, arranged, at)?;
+    }
+    Ok(text)
+}
+
+fn push_record(
+    text: &mut String,
+    content: &Content,
+    arranged: &ArrangedTable<'_>,
+    at: usize,
+) -> Result<()>
+    ensures { OnOk result (string_bytes text.new
+        ≡ string_bytes text.old ++ record_text content.now arranged.now at) }
+{
+    let fields = content.columns.len();
+    // as many rows are in memory, so a `usize` holds this
+    let first = at.checked_mul(fields).ok_or(TableError::OutOfMemory)?;
+    write!(text, "record {} of {}\n", at as u128 + 1, content.count())?;
+    arranged.push_rows(text, first, fields)
+}

@@ -1,0 +1,132 @@
+//! What is so of every drawing. Each function does nothing: its clauses are the law, so that a
+//! proof of yours can cite it.
+
+ghost use Rattle.std.specs.Prelude.{Bool, List, ℕ};
+ghost use Rattle.comfy_parts.specs.Text.{Text};
+ghost use Rattle.comfy_table.specs.TableValue.{TableValue};
+ghost use Rattle.csv_tables.specs.ColumnLaws.{KeepsChosenColumns};
+ghost use Rattle.csv_tables.specs.Drawn.{ContentValue};
+ghost use Rattle.csv_tables.specs.Laws.{FittingOutputIsStraight, InputIsDrawnWithoutControls, IsFilling, IsWithin, MarkdownOutputIsStraight, NarrowLinesHave, NarrowOutputIsStraight, OutputFillsWidth, OutputHoldsNoControls, OutputKeepsToWidth, PrintableFieldsStay, PrintableLinesHave, PrintableTextsMakePrintableTable, TableKeepsRows, UnbrokenColumnIsWhole, WholeOutputIsStraight};
+ghost use Rattle.csv_tables.specs.Markdown.{IsReadBack};
+ghost use Rattle.csv_tables.specs.MarkdownLines.{MarkdownGivesRecordsBack};
+ghost use Rattle.csv_tables.specs.OneOutput.{OutputIsOne, OutputOfIsOne};
+ghost use Rattle.csv_tables.specs.declared.options.Look.{Look};
+ghost use Rattle.csv_tables.specs.declared.options.Options.{Options};
+ghost use Rattle.csv_tables.specs.declared.options.Selection.{Selection};
+
+/// Picking columns loses no row. The table has a row for each record that is drawn, in order, with
+/// the fields of the same columns, and these are the chosen ones, less those that are left out.
+pub fn tables_keep_their_rows()
+    ensures { (options : Options) (records : List (List Text)) (table : TableValue)
+        → TableKeepsRows options records table }
+{}
+
+/// The columns that are drawn are there. They are those that words choose and none that others
+/// leave out. None stands twice where no two words choose the same: `-c 1,a` draws a first column
+/// named `a` twice.
+pub fn drawn_columns_are_chosen()
+    ensures { (selection : Selection) (names : List Text) (rows : List (List Text))
+        → KeepsChosenColumns selection names rows }
+{}
+
+/// With a width, a frame line of an output that isn't for Markdown has at most as many characters,
+/// or as many as borders, paddings and one character for each column. Where the width is filled, it
+/// has exactly so many, where there is a column. So has each line where all fields are printable
+/// ASCII: as it is written, where nothing is in bold; or without its sequences, where no control
+/// character stands beside them. Sequences in fields are not kept, and no line feed is in the
+/// style. In terminal columns each line has so many where no character takes more than one, in a
+/// style of such characters. Where records are expanded, the lines that number them and the one on
+/// further records aren't among these lines.
+pub fn outputs_keep_to_a_width()
+    ensures dynamic { (w : ℕ) (options : Options) (records : List (List Text)) (output : Text)
+        → OutputKeepsToWidth w options records output }
+    ensures full { (w : ℕ) (options : Options) (records : List (List Text)) (output : Text)
+        → OutputFillsWidth w options records output }
+    ensures each_line { (w : ℕ) (visible : Bool)
+        (options : Options) (records : List (List Text)) (output : Text)
+        → PrintableLinesHave (IsWithin w) visible options records output }
+    ensures each_full_line { (w : ℕ) (visible : Bool)
+        (options : Options) (records : List (List Text)) (output : Text)
+        → PrintableLinesHave (IsFilling w) visible options records output }
+    ensures each_narrow_line { (w : ℕ) (visible : Bool)
+        (options : Options) (records : List (List Text)) (output : Text)
+        → NarrowLinesHave (IsWithin w) visible options records output }
+    ensures each_full_narrow_line { (w : ℕ) (visible : Bool)
+        (options : Options) (records : List (List Text)) (output : Text)
+        → NarrowLinesHave (IsFilling w) visible options records output }
+{}
+
+/// Where a width has room for the columns of numbers and dates, and for what the others need, none
+/// of them is drawn narrower than its content, with lines between rows or without.
+pub fn numbers_and_dates_are_whole()
+    ensures { (w : ℕ) (look : Look) (content : ContentValue) (has_separators : Bool)
+        (widths : List ℕ) (i : ℕ) → UnbrokenColumnIsWhole w look content has_separators widths i }
+{}
+
+/// Fields of printable ASCII are drawn as such texts. These make a table of printable ASCII, where
+/// sequences in fields are not kept.
+pub fn printable_texts_make_printable_tables()
+    ensures fields { (look : Look) (field : Text) → PrintableFieldsStay look field }
+    ensures tables { (options : Options) (records : List (List Text)) (table : TableValue)
+        (widths : List ℕ) → PrintableTextsMakePrintableTable options records table widths }
+{}
+
+/// All lines of an output take equally many terminal columns: as they are written, where nothing is
+/// in bold; or without their sequences, where no control character stands beside them, with a bold
+/// header too. Lines end at line feeds. Each character of the style adds one column and none is a
+/// line feed, and sequences in fields are not kept.
+///
+/// That is so where no width is kept to, for texts of every script up to 65535 columns; where rows
+/// are cut, U+FE01 stands nowhere directly beside U+FE0E or U+FE0F. It is so under every width
+/// where no character takes more than one column, and where each character of each text fits its
+/// column. The tables of expanded records are as wide as each other; the lines that number them and
+/// the one on further records aren't among these lines. An output for Markdown of texts up to 65535
+/// columns is straight, whatever its look asks for besides, and its line below the header is as
+/// wide as the others.
+pub fn outputs_are_straight()
+    ensures whole { (visible : Bool)
+        (options : Options) (records : List (List Text)) (output : Text)
+        → WholeOutputIsStraight visible options records output }
+    ensures markdown { (options : Options) (records : List (List Text)) (output : Text)
+        → MarkdownOutputIsStraight options records output }
+    ensures narrow { (visible : Bool)
+        (options : Options) (records : List (List Text)) (output : Text)
+        → NarrowOutputIsStraight visible options records output }
+    ensures characters_fit { (visible : Bool)
+        (options : Options) (records : List (List Text)) (output : Text)
+        → FittingOutputIsStraight visible options records output }
+{}
+
+/// Without its SGR sequences an output holds no control character but line feeds, whatever bytes
+/// the input has, under every width, limit and height, in Markdown and in bold. Fields are not left
+/// raw, and no character of the style is a control character. ESC stands in those sequences alone.
+pub fn outputs_hold_no_controls()
+    ensures records { (options : Options) (records : List (List Text)) (output : Text)
+        → OutputHoldsNoControls options records output }
+    ensures input { (options : Options) (input output : Text)
+        → InputIsDrawnWithoutControls options input output }
+{}
+
+/// An output for Markdown has one line for the names, the rule below it, and one for each record
+/// that is drawn; none holds a line feed. Cut at its bars, but not at those after a backslash, and
+/// with what was escaped read back, such a line gives the record's fields as they were cleaned,
+/// less the spaces around them. A column is drawn, and no field is wider than 65535 terminal
+/// columns.
+pub fn markdown_lines_give_back_their_fields()
+    ensures { (options : Options) (records : List (List Text)) (output : Text)
+        → MarkdownGivesRecordsBack options records output }
+{}
+
+/// What was escaped for Markdown is read back.
+pub fn escaped_texts_are_read_back()
+    ensures { (text : List ℕ) → IsReadBack text }
+{}
+
+/// An input has one output: two that are drawn of it by the same options are equal, and so are two
+/// for the same records. Options are the same where their texts are, wherever these are held.
+pub fn outputs_are_one()
+    ensures input { (options others : Options) (input output other : Text)
+        → OutputIsOne options others input output other }
+    ensures records { (options : Options) (records : List (List Text)) (output other : Text)
+        → OutputOfIsOne options records output other }
+{}

@@ -1,0 +1,21 @@
+//! From records to tables and their drawings: which columns are drawn, how their cells look, rows
+//! and expanded records, and Markdown.
+#![tactic(auto)]
+
+mod cells;
+mod columns;
+mod content;
+mod expanded;
+pub mod laws;
+mod markdown;
+mod options;
+mod output;
+mod separators;
+mod table;
+mod transfer;
+mod unbroken;
+
+pub use markdown::escaped;
+pub use options::{DrawnColumn, Expansion, Look, Options, RowSeparators, Selection};
+pub use table::table_of;
+pub use transfer::{draw, output_of_input};

@@ -1,0 +1,131 @@
+//! The text that is written for some records.
+
+ghost use Rattle.std.specs.Prelude.{◌≡◌, ◌∷◌, ◌++◌, IfOk, IfErr, OnOk, false, map, string_bytes, true};
+ghost use Rattle.csv_tables.specs.Columns.{IsColumnRefusal};
+ghost use Rattle.csv_tables.specs.Markdown.{rule_line};
+ghost use Rattle.csv_tables.specs.Drawn.{IsMarkdownText, IsOutputOf, IsTableText, IsText, IsTextOfTable, content_of, note_for, rows_table};
+
+use crate::content::Content;
+use crate::expanded::{between_fields, is_expanded, records_text};
+use crate::markdown::push_rule;
+use crate::options::{Look, Options};
+use crate::separators::separate_rows;
+use crate::unbroken::keep_whole;
+use comfy_table::{Result, Table};
+use csv_records::{CsvError, Records};
+use std::alloc::{AllocError, Global};
+use std::fmt::Write;
+
+/// The output for these records.
+pub(crate) fn output_of(
+    alloc: Global,
+    records: Records,
+    options: &Options,
+) -> std::result::Result<String, CsvError>
+    ensures output { IfOk result (λ output. IsOutputOf options.now records (string_bytes output)) }
+    ensures refused { IfErr result (λ e. IsColumnRefusal e (content_of options.now records)) }
+{
+    let content = Content::new(alloc, records, options)?;
+    let count = content.count();
+    let mut output = drawn_text(content, &options.look)?;
+    push_note(
+        &mut output,
+        options.look.is_markdown,
+        options.selection.limit,
+        count,
+    )?;
+    Ok(output)
+}
+
+fn drawn_text(content: Content, look: &Look) -> Result<String>
+    ensures { IfOk result (λ text. IsText look.now.is_markdown look.now content
+        (string_bytes text)) }
+{
+    if look.is_markdown {
+        markdown_text(content, look)
+    } else {
+        table_text(content, look)
+    }
+}
+
+// The text of a table of rows, or of expanded records.
+fn table_text(content: Content, look: &Look) -> Result<String>
+    ensures { IfOk result (λ text. IsTableText look.now content (string_bytes text)) }
+{
+    let table = content.rows_table(look)?;
+    if is_expanded(&table, look)? {
+        expanded_text(content, look)
+    } else {
+        rows_text(content, table, look)
+    }
+}
+
+// The text of this table of rows.
+fn rows_text(content: Content, mut table: Table, look: &Look) -> Result<String>
+    requires { table ≡ rows_table look.now content }
+    ensures { IfOk result (λ text. IsTextOfTable false look.now content (string_bytes text)) }
+{
+    keep_whole(&mut table, &content, look)?;
+    separate_rows(&mut table, look.separators)?;
+    let mut text = String::new(content.alloc);
+    // The table has all that is drawn, and the text needs as much memory as the records gave.
+    drop(content);
+    let arranged = table.arranged()?;
+    arranged.push_rows(&mut text, 0, table.row_count())?;
+    Ok(text)
+}
+
+// The text of expanded records.
+fn expanded_text(content: Content, look: &Look) -> Result<String>
+    ensures { IfOk result (λ text. IsTextOfTable true look.now content (string_bytes text)) }
+{
+    let mut table = content.pairs_table(look)?;
+    separate_rows(&mut table, between_fields(look.separators))?;
+    let arranged = table.arranged()?;
+    Ok(records_text(&content, &arranged)?)
+}
+
+// The text of a table for Markdown.
+fn markdown_text(content: Content, look: &Look) -> Result<String>
+    ensures { IfOk result (λ text. IsMarkdownText look.now content (string_bytes text)) }
+{
+    let table = content.markdown_table(look)?;
+    let widths = table.column_max_content_widths()?;
+    let drawing = table.to_terminated_text()?;
+    match drawing.split_once('\n') {
+        Some((header, rows)) => Ok(with_rule(&content, header, widths.as_slice(), rows)?),
+        None => Ok(String::new(content.alloc)),
+    }
+}
+
+// The header's line, the line below it for columns of these widths, and the lines of the rows.
+fn with_rule(content: &Content, header: &str, widths: &[u16], rows: &str) -> Result<String>
+    ensures { IfOk result (λ text. string_bytes text
+        ≡ header.now ++ 0x0A ∷ (rule_line content.now.columns widths.now ++ 0x0A ∷ rows.now)) }
+{
+    let mut text = String::new(content.alloc);
+    text.push_str(header)?;
+    text.push('\n')?;
+    push_rule(&mut text, content.columns.as_slice(), widths)?;
+    text.push_str(rows)?;
+    Ok(text)
+}
+
+// Appends the line on records that aren't drawn, in Markdown below an empty one.
+fn push_note(
+    output: &mut String,
+    is_markdown: bool,
+    limit: Option<usize>,
+    count: usize,
+) -> std::result::Result<(), AllocError>
+    ensures { OnOk result (string_bytes output.new
+        ≡ string_bytes output.old ++ note_for is_markdown limit count) }
+{
+    match limit {
+        Some(limit) if limit < count => {
+            output.push_str(if is_markdown { "\n" } else { "" })?;
+            write!(output, "{limit} of {count} records\n")
+        }
+        _ => Ok(()),
+    }
+}

@@ -1,0 +1,157 @@
+//! The tables of some records.
+
+ghost use Rattle.std.specs.Prelude.{◌≡◌, IfErr, IfOk, Ok, OnOk, map, option_map, unwrap_or};
+ghost use Rattle.csv_tables.specs.Columns.{IsColumnRefusal};
+ghost use Rattle.csv_tables.specs.Drawn.{arrangement_for, content_of, empty_table, headed_table, markdown_look, markdown_style, markdown_table, pairs_of, pairs_table, rows_table, table_for};
+ghost use Rattle.comfy_table.specs.TableValue.{with_rows};
+
+use crate::cells::{header_of, pair_of, row_of};
+use crate::columns::name_at;
+use crate::content::Content;
+use crate::options::{Look, Options};
+use comfy_table::presets::ASCII_MARKDOWN;
+use comfy_table::{ContentArrangement, LineStyle, Result, Table, TableStyle};
+use csv_records::{CsvError, Record, Records};
+use std::alloc::Global;
+
+/// The table of these records, with the columns, rows and looks that are wanted, and all lines of
+/// the style. `NoColumn` has the first word that chooses no column that is there: in the list of
+/// columns, then in those of the right and the left. `TwoSides` has the first column of the right
+/// that is at the left too. Where Markdown is wanted its texts alone are for Markdown; `draw` draws
+/// such a table.
+pub fn table_of(
+    alloc: Global,
+    records: Records,
+    options: &Options,
+) -> std::result::Result<Table, CsvError>
+    ensures ok { IfOk result (λ table. table_for options.now records ≡ Ok table) }
+    ensures refused { IfErr result (λ e. IsColumnRefusal e (content_of options.now records)) }
+{
+    let content = Content::new(alloc, records, options)?;
+    Ok(content.rows_table(&options.look)?)
+}
+
+impl Content {
+    /// The table of records, a row for each, with all lines of the style.
+    pub fn rows_table(&self, look: &Look) -> Result<Table>
+        ensures { IfOk result (λ table. table ≡ rows_table look.now self.now) }
+    {
+        self.rows_table_under(self.names(), look)
+    }
+
+    /// The table of expanded records: for each field a row, with the name of its column.
+    pub fn pairs_table(&self, look: &Look) -> Result<Table>
+        ensures { IfOk result (λ table. table ≡ pairs_table look.now self.now) }
+    {
+        let names = self.names_or_blank();
+        let mut table = empty_table(self.alloc, look);
+        for row in self.rows() {
+            self.add_pairs(&mut table, &names, &row, look)?;
+        }
+        Ok(table)
+    }
+
+    /// The table for Markdown, without the line below its header.
+    pub fn markdown_table(&self, look: &Look) -> Result<Table>
+        ensures { IfOk result (λ table. table ≡ markdown_table look.now self.now) }
+    {
+        let names = self.names_or_blank();
+        self.rows_table_under(Some(names), &markdown_look(*look))
+    }
+
+    fn rows_table_under(&self, names: Option<Record<'_>>, look: &Look) -> Result<Table>
+        ensures { IfOk result (λ table. table
+            ≡ rows_table look.now (record self.now { names = names.entry })) }
+    {
+        let mut table = self.headed_table(names, look)?;
+        for row in self.rows() {
+            table.try_add_row(row_of(self.alloc, &row, self.columns.as_slice(), look)?)?;
+        }
+        Ok(table)
+    }
+
+    // A table with a header of these names, where there are any.
+    fn headed_table(&self, names: Option<Record<'_>>, look: &Look) -> Result<Table>
+        ensures { IfOk result (λ table. table
+            ≡ headed_table look.now self.now.columns names.entry) }
+    {
+        let mut table = empty_table(self.alloc, look);
+        if let Some(names) = &names {
+            table.try_set_header(header_of(self.alloc, names, self.columns.as_slice(), look)?)?;
+        }
+        Ok(table)
+    }
+
+    // Appends the fields of one record, each with the name of its column.
+    fn add_pairs(
+        &self,
+        table: &mut Table,
+        names: &Record<'_>,
+        row: &Record<'_>,
+        look: &Look,
+    ) -> Result<()>
+        ensures { OnOk result (table.new
+            ≡ with_rows (pairs_of look.now self.now.columns names.now row.now) table.old) }
+    {
+        for column in &self.columns {
+            let name = name_at(self.alloc, names, column.position)?;
+            let field = row.get(column.position).unwrap_or("");
+            table.try_add_row(pair_of(self.alloc, name.as_str(), field, look)?)?;
+        }
+        Ok(())
+    }
+}
+
+// A table without rows that looks as is wanted.
+fn empty_table(alloc: Global, look: &Look) -> Table
+    ensures { result ≡ empty_table look.now }
+{
+    let mut table = Table::new(alloc);
+    table
+        .load_style(look.style)
+        .set_content_arrangement(arrangement_of(look));
+    if let Some(width) = look.width {
+        table.set_width(width);
+    }
+    if look.has_bold_header {
+        table.enforce_styling();
+    }
+    if look.has_sequences {
+        table.custom_styling();
+    }
+    table
+}
+
+// How the widths of the columns are found.
+fn arrangement_of(look: &Look) -> ContentArrangement
+    ensures { result ≡ arrangement_for look.now.width look.now.fills_width }
+{
+    match look.width {
+        None => ContentArrangement::Disabled,
+        Some(_) if look.fills_width => ContentArrangement::DynamicFullWidth,
+        Some(_) => ContentArrangement::Dynamic,
+    }
+}
+
+// How a table for Markdown looks, whatever else is wanted.
+fn markdown_look(look: Look) -> Look
+    ensures { result ≡ markdown_look look }
+{
+    Look {
+        style: markdown_style(),
+        width: None,
+        fills_width: false,
+        max_height: None,
+        has_bold_header: false,
+        has_sequences: false,
+        is_markdown: true,
+        ..look
+    }
+}
+
+// The style of such a table, without the line below the header.
+fn markdown_style() -> TableStyle
+    ensures { result ≡ markdown_style }
+{
+    ASCII_MARKDOWN.header_separator(LineStyle::none())
+}
