@@ -6,24 +6,16 @@
 # wasn't the call's. Of a call that adds three rows it must also say how many are kept: 0 at first, then 1, then 2, as
 # later requests are refused.
 #
-# usage: tools/try/refused_requests.sh RUNNER
-# RUNNER is called as `RUNNER INPUT PROGRAM [WORD]..`. It runs PROGRAM with the words on INPUT with its first request
-# refused, then with its second, and so on until PROGRAM makes no more. Wherever a run ends otherwise than the one
-# before it prints `request N: status S, B bytes, ERRORS`, and at the end `refused in turn: N;` and behind it, with a
-# semicolon after each, how many runs ended in which way: ` C status S, B bytes, ERRORS`.
+# usage: tools/try/refused_requests.sh
+# It builds the programs where they aren't, which proves them. CC is the compiler of refuse.c, which refuses the requests
+# and says how runs end: cc where it isn't set. That takes the GNU C library, with which the programs are linked.
 set -u
-if [ $# -ne 1 ]; then
-  echo "usage: $0 RUNNER" >&2
-  exit 2
-fi
-runner=$1
-case $runner in
-  /*) ;;
-  *) runner=$PWD/$runner ;;
-esac
-crates=$(cd "$(dirname "$0")/../crates" && pwd) || exit 2
+tools=$(cd "$(dirname "$0")" && pwd) || exit 2
+crates=$(cd "$tools/../../crates" && pwd) || exit 2
 work=$(mktemp -d) || exit 2
 trap 'rm -rf "$work"' EXIT
+${CC:-cc} -O2 -Wall -Wextra -Werror "$tools/refuse.c" -o "$work/refuse" || exit 2
+${CC:-cc} -O2 -Wall -Wextra -Werror -shared -fPIC "$tools/refusing.c" -o "$work/refuse.so" || exit 2
 
 # Builds a program. With ample memory it must print what is stored, on its stored input, or with the words behind its name.
 build() {
@@ -46,7 +38,7 @@ refuse() {
   input=$2
   message=$3
   shift 3
-  said=$("$runner" "$input" "$crates/$name/out/$name" "$@") || exit 2
+  said=$("$work/refuse" "$input" "$crates/$name/out/$name" "$@") || exit 2
   called=$name${*:+" $*"}
   printf '%s\n' "$said" | sed "s/^/$called: /"
   if ! printf '%s\n' "$said" | grep -q '^refused in turn: [1-9]'; then
@@ -63,7 +55,7 @@ refuse() {
 refuse_call() {
   call=$1
   printf '%s\n' "$call" > "$work/call"
-  said=$("$runner" "$work/call" "$crates/test_refused/out/test_refused" < /dev/null) || exit 2
+  said=$("$work/refuse" "$work/call" "$crates/test_refused/out/test_refused") || exit 2
   bytes=$(($(printf '%s: refused, as promised\n' "$call" | wc -c)))
   case $call in
     Table::*add_rows*) words='rows kept: [0-9]*' ;;
