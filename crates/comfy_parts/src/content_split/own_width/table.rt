@@ -1,4 +1,4 @@
-//! The columns of each character that joins no other, and 3 of each that joins others. tools/own_widths.py writes this.
+//! The columns of each character that joins no other, and 3 of each that joins others. tools/make/own_widths.py writes this.
 
 #[rattlefmt::skip]
 pub(super) static INDEX: [u8; 1014] = [
