@@ -19,8 +19,8 @@ put() {
 # The library for C, with what it needs of the toolchain.
 put_library() {
   build comfy_c libcomfy_c.a rt lib
-  put 644 crates/comfy_c/c/comfy_table.h include
+  put 644 packages/c/comfy_table.h include
   put 644 crates/comfy_c/out/libcomfy_c.a lib
   put 644 "$(dirname "$(rt doc)")/c/liblibc_c.a" lib
-  put 644 crates/comfy_c/c/comfy_table.pc lib/pkgconfig
+  put 644 packages/c/comfy_table.pc lib/pkgconfig
 }

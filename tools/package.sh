@@ -16,10 +16,9 @@ cd "$(dirname "$0")/.."
 . tools/installing.sh
 work=$(mktemp -d)
 trap 'rm -rf "$work"' EXIT
-package=crates/comfy_c
-version=$(sed -n 's/^Version: //p' $package/c/comfy_table.pc)
-for file in python/pyproject.toml examples/rust/Cargo.toml; do
-  grep -qx "version = \"$version\"" "$package/$file" || { echo "$file hasn't the version $version" >&2; exit 1; }
+version=$(sed -n 's/^Version: //p' packages/c/comfy_table.pc)
+for file in packages/python/pyproject.toml packages/rust/Cargo.toml; do
+  grep -qx "version = \"$version\"" "$file" || { echo "$file hasn't the version $version" >&2; exit 1; }
 done
 
 prefix=$work/comfy_table-$version
@@ -29,11 +28,11 @@ tar -C "$work" -czf "$out/comfy_table-$version-linux-x86_64.tar.gz" "comfy_table
 
 name=comfy_table_proved-$version
 mkdir "$work/$name" "$work/$name/lib"
-cp -r $package/examples/rust/* LICENSE "$work/$name"
+cp -r packages/rust/* LICENSE "$work/$name"
 cp "$prefix"/lib/*.a "$work/$name/lib"
 tar -C "$work" -czf "$out/$name.crate" "$name"
 
-cp -r $package/python "$work/python"
+cp -r packages/python "$work/python"
 cp LICENSE "$work/python"
 ${CC:-cc} -shared -o "$work/python/src/comfy_table_proved/libcomfy_table.so" \
   -Wl,--whole-archive "$prefix/lib/libcomfy_c.a" -Wl,--no-whole-archive "$prefix/lib/liblibc_c.a"

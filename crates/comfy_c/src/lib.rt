@@ -1,5 +1,5 @@
-//! Tables for programs in C, and in every language that calls C. `c/comfy_table.h` declares the
-//! functions.
+//! Tables for programs in C, and in every language that calls C. `packages/c/comfy_table.h`
+//! declares the functions.
 #![tactic(auto)]
 
 mod csv_draw;

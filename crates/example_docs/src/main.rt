@@ -1,4 +1,4 @@
-//! The examples of the doc comments, which `tools/doc_examples.py` wrote.
+//! The examples of the doc comments, which `tools/make/doc_examples.py` wrote.
 #![tactic(auto)]
 
 mod parts;

@@ -1,5 +1,5 @@
 //! The columns of each character that joins no other, and 3 of each that joins others.
-//! tools/own_widths.py writes this.
+//! tools/make/own_widths.py writes this.
 
 #[rattlefmt::skip]
 pub(super) static INDEX: [u8; 1014] = [

@@ -1,0 +1,166 @@
+#!/usr/bin/env python3
+"""Compares the pages with the code. It prints what doesn't agree, and ends with 1 where anything doesn't.
+
+    tools/check/check_proved.py
+
+- docs/PROVED.md: each function, type, clause and field that it names exists, and each public function has a mutation, one
+  of its `try_` form, or stands in OVER_OTHERS. It says how many lines of definitions a reader must believe, for each
+  promise and for all (tools/check/what_is_believed.py).
+- The laws of comfy_table pass on all those of comfy_parts.
+- Each law, and each function of `promises` and `csv_promises`, has a trial that shows a value of which its conclusion is
+  false, below a line `-- false: CRATE::laws::NAME` of a file of trials.
+- README.md: each label that it cites is a heading of PROVED.md, and what it prints is the output of the stored run.
+- CALLING.md of each library: each clause that it quotes stands in the library's source or in that of a caller.
+- Each mutation changes a function that exists.
+- The crate of documented examples is what the doc comments say.
+- csvtable's man page and completions are what tools/make/manual.py makes of its table of words.
+- The pictures are what tools/make/pictures.py makes of stored outputs, and each link of a page leads to a file or a heading.
+"""
+import glob
+import os
+import re
+import sys
+
+from definitions import LIBRARIES, PROMISES, TOP, files_of, functions_of, sources_of, text_of
+from mutations import must_fail_of, mutations_of
+from what_is_believed import updated
+
+sys.path.append(f"{TOP}/tools/make")  # its tools make what is compared here
+from doc_examples import wrong_examples
+from manual import wrong_files
+from pictures import drawing_of_case, wrong_pictures
+
+LAWS_ALONE = ["cluster_width"]  # libraries without code
+WORDS = {"IsAfter", "IsTableDrawing", "input_table"}  # definitions, not functions
+# public calls of a few words over functions that have mutations
+OVER_OTHERS = set(
+    "build_table trim_fmt format_row style has_custom_styling visible_lines settings_of "
+    "should_draw_left_border should_draw_right_border should_draw_vertical_lines".split()
+)
+CALLERS = ["test_callers", "test_csv_cases"]
+TRIALS = ["test_definitions", *PROMISES]
+STORED = ["csvtable/stdout"]
+
+
+def mutated_in(crate):
+    """The functions that a crate's mutations are named after."""
+    found = mutations_of(f"{TOP}/crates/{crate}") + must_fail_of(f"{TOP}/crates/{crate}")
+    return {it.name.split("__")[0] for it in found}
+
+
+def wrong_in_section(crate, section):
+    """What doesn't agree in the section of a crate: its promises name functions, clauses and fields."""
+    wrong, functions, mutated = [], functions_of(crate), mutated_in(crate)
+    fields = set(re.findall(r"pub (\w+) :", text_of("crates/comfy_table/specs/Headline.antt")))
+    for promise in re.findall(r"^Clauses(?: \(\d+ lines\))?: (.*?)\.\n\n", section + "\n\n", re.M | re.S):
+        clauses, _, more = " ".join(promise.split()).partition("; ")
+        wrong += [f"no field {it}" for it in re.findall(r"`(\w+)`", more) if it not in fields | WORDS]
+        named = re.findall(r"`([A-Z]\w+)`", clauses)
+        for of_type in set(named) - WORDS:
+            public = [(name, it) for name in functions for it in functions[name] if it.is_public]
+            own = {name for name, it in public if of_type in it.places}
+            wrong += [f"{crate} has no mutation of {of_type}::{it}" for it in own - mutated - OVER_OTHERS]
+            wrong += [f"{crate} has no type {of_type}"] * (not own)
+        for it in re.finditer(r"`([\w:]+)`(?: \(([^)]*)\))?", clauses):
+            *place, name = it[1].split("::")
+            if not place and name in named:
+                continue
+            found = [one for one in functions.get(name, []) if set(place[-1:]) <= one.places]
+            if not found and name not in WORDS:
+                wrong.append(f"{crate} has no function {it[1]}")
+            known = {clause for one in found for clause, _ in one.clauses}
+            wrong += [f"{it[1]} has no clause {clause}" for clause in re.findall(r"\w+", it[2] or "") if clause not in known]
+            is_law = place[-1:] == ["laws"] or crate in LAWS_ALONE
+            if not is_law and not {name, f"try_{name}"} & mutated and name not in OVER_OTHERS | WORDS:
+                wrong.append(f"{crate} has no mutation of {it[1]}")
+    return wrong
+
+
+def laws():
+    """The laws, and the promises, as a line `-- false:` names them."""
+    for crate in LIBRARIES:
+        for name, (one, *_) in functions_of(crate).items():
+            in_laws = f"crates/{crate}/src/laws.rt" == one.signature.path
+            if one.is_public and (in_laws or crate in [*LAWS_ALONE, *PROMISES]):
+                yield f"{crate}::laws::{name}" if in_laws else f"{crate}::{name}"
+
+
+def wrong_trials():
+    """The laws that no trial shows to be false of a value, and what is named as one and is none."""
+    named, false = set(), r"^-- false: (.*)\n(?=(?:--.*\n)*(?:pub )?\w+ :)"
+    for path in (it for crate in TRIALS for it in files_of(crate, "proofs/**/*Trials.antt")):
+        for labels in re.findall(false, text_of(path), re.M):
+            named |= set(labels.split(", "))
+    wrong = [f"no trial shows a value of which {it} is false" for it in laws() if it not in named]
+    return wrong + [f"a trial names {it}, which is no law" for it in sorted(named - set(laws()))]
+
+
+def wrong_in_calling(crate):
+    """The clauses that a CALLING.md quotes and its library doesn't have."""
+    sources = [it for name in (crate, *CALLERS) for it in sources_of(name)]
+    source = " ".join(" ".join(text_of(it) for it in sources).split())
+    wrong = []
+    for block in re.findall(r"```rust\n(.*?)```", text_of(f"crates/{crate}/CALLING.md"), re.S):
+        for clause in re.findall(r"^\s*((?:ensures|requires)\b.*?);?$", block, re.M):
+            if " ".join(clause.split()) not in source:
+                wrong.append(f"{crate}/CALLING.md quotes what isn't there: {clause}")
+    return wrong
+
+
+def anchor_of(heading):
+    """What a link names a heading by."""
+    return re.sub(r"[^\w\- ]", "", heading.lower()).replace(" ", "-")
+
+
+def wrong_links():
+    """The links of the pages that lead to no file of the repository, or to no heading of it."""
+    wrong = []
+    for page in ["README.md", "CONTRIBUTING.md", *glob.glob("docs/*.md", root_dir=TOP), *glob.glob("crates/*/CALLING.md", root_dir=TOP)]:
+        for link in re.findall(r"\]\(([^)\s]+)\)", text_of(page)):
+            if link.startswith("https://"):
+                continue
+            path, _, anchor = link.partition("#")
+            target = os.path.normpath(os.path.join(os.path.dirname(page), path)) if path else page
+            if not os.path.exists(f"{TOP}/{target}"):
+                wrong.append(f"{page} links to {link}, which isn't there")
+            elif anchor and anchor not in map(anchor_of, re.findall(r"^#+ (.*)$", text_of(target), re.M)):
+                wrong.append(f"{page} links to {link}, which isn't a heading")
+    return wrong
+
+
+def main():
+    page, readme, wrong = text_of("docs/PROVED.md"), text_of("README.md"), []
+    for section in re.split(r"^## ", page, flags=re.M)[1:]:
+        crate = section.split("\n")[0]
+        if os.path.isdir(f"{TOP}/crates/{crate}"):
+            wrong += wrong_in_section(crate, section)
+    for crate in os.listdir(f"{TOP}/crates"):
+        wrong += [f"{crate} has no function {it}, which a mutation names" for it in mutated_in(crate) - set(functions_of(crate))]
+    labels = {"P0", *re.findall(r"^### (P\d+) ", page, re.M)}
+    for group in re.findall(r"\[(P\d+(?:, P\d+)*)\]", readme):
+        wrong += [f"README.md cites {it}, which isn't a heading" for it in group.split(", ") if it not in labels]
+    wrong += [f"README.md doesn't print crates/{path}" for path in STORED if text_of(f"crates/{path}") not in readme]
+    if drawing_of_case("a-wide-file") not in readme:
+        wrong.append("README.md doesn't print the case a-wide-file")
+    for language, path in (("rust", "crates/example_ledger/src/main.rt"), ("python", "packages/python/examples/boats.py")):
+        code = re.search(rf"^```{language}\n(.*?)^```", readme, re.M | re.S)[1]
+        wrong += [f"{path} hasn't the line of README.md: {line}" for line in code.splitlines() if line not in text_of(path)]
+    for path in glob.glob("crates/*/CALLING.md", root_dir=TOP):
+        wrong += wrong_in_calling(path.split("/")[1])
+    wrong += wrong_trials()
+    wrong += wrong_examples()
+    wrong += [f"{path} isn't what tools/make/manual.py makes" for path in wrong_files()]
+    wrong += [f"{path} isn't what tools/make/pictures.py makes" for path in wrong_pictures()]
+    wrong += wrong_links()
+    counted = zip(page.splitlines(), updated(page).splitlines())
+    wrong += [f"docs/PROVED.md hasn't this count: {new}" for old, new in counted if old != new]
+    for parts, crate in (("comfy_parts", "comfy_table"), ("comfy_csv_parts", "comfy_csv")):
+        passed_on = re.search(r"^pub use " + parts + r"::laws::\{(.*?)\};", text_of(f"crates/{crate}/src/laws.rt"), re.M | re.S)[1]
+        laws = re.findall(r"^pub fn (\w+)", text_of(f"crates/{parts}/src/laws.rt"), re.M)
+        wrong += [f"{crate}::laws doesn't pass on {it}" for it in set(laws) ^ set(re.findall(r"\w+", passed_on))]
+    print("\n".join(wrong) or f"{len(labels)} labels: all found")
+    return 1 if wrong else 0
+
+
+if __name__ == "__main__":
+    sys.exit(main())

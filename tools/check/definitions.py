@@ -1,0 +1,207 @@
+"""Reads the sources: definitions of specs/, and types, ghost members and functions of src/."""
+import functools
+import glob
+import os
+import re
+import subprocess
+from dataclasses import dataclass, field, replace
+
+TOP = os.path.dirname(os.path.dirname(os.path.dirname(os.path.realpath(__file__))))
+PROMISES = ["promises", "csv_promises"]
+LIBRARIES = [
+    *("cluster_width", "comfy_parts", "comfy_table", "comfy_run"),
+    *("comfy_csv_parts", "comfy_csv", "comfy_c"),
+    *PROMISES,
+]
+BRACES = r"\{(?:[^{}]|\{(?:[^{}]|\{[^{}]*\})*\})*\}"
+PUBLIC = r"(?:pub(?:\(\w+\))? )?"
+MODEL = {"Value", "view"}  # an invariant is proved of each value
+
+
+@dataclass(frozen=True)
+class Definition:
+    """A definition of specs/, or a type, a ghost member or a function of src/, with its comment."""
+
+    path: str
+    line: int
+    text: str = field(compare=False)
+    head: str = field(compare=False, default="")  # the line of the module or block it stands in
+
+    def lines(self):
+        return self.text.count("\n") + 1
+
+    def is_a(self, word):
+        """Whether it is declared by a word of Rust, such as `fn` or `enum`."""
+        return re.search(rf'^ *{PUBLIC}(?:extern "C" )?{word} ', self.text, re.M) is not None
+
+
+@dataclass(frozen=True)
+class Function:
+    """A function: the words by which a page may call its place, and its clauses by name."""
+
+    places: set
+    clauses: list
+    is_public: bool
+    signature: Definition
+    members: list  # the ghost members of its block
+
+
+@functools.cache
+def text_of(path):
+    path = os.path.join(TOP, path)
+    if not os.path.isfile(path):
+        return ""
+    with open(path, encoding="utf-8") as file:
+        return file.read()
+
+
+def files_of(crate, pattern):
+    return sorted(glob.glob(f"crates/{crate}/{pattern}", root_dir=TOP, recursive=True))
+
+
+def sources_of(crate):
+    return files_of(crate, "src/**/*.rt")
+
+
+def crate_of(path):
+    return re.search(r"([^/]+)/(?:specs|src)/", path)[1]
+
+
+@functools.cache
+def kit():
+    """The folder of the libraries that aren't ours."""
+    page = subprocess.run(["rt", "doc"], stdout=subprocess.PIPE, text=True, check=True).stdout
+    return os.path.dirname(page.strip()) + "/rattle"
+
+
+@functools.cache
+def path_of(module):
+    """The file of a module Rattle.CRATE.specs.A.B, or of a type Rattle.CRATE.specs.declared.A.T."""
+    crate, _, *words = module.removesuffix(".TheVariants").split(".")[1:]
+    folder = f"crates/{crate}" if crate in LIBRARIES else f"{kit()}/{crate}"
+    if words[:1] == ["declared"]:
+        return f"{folder}/src/{'/'.join(words[1:-1]) or 'lib'}.rt"
+    return f"{folder}/specs/{'/'.join(words)}.antt"
+
+
+@functools.cache
+def imports_of(path):
+    """For each word that a file imports, its module and its name there, "" for a whole module."""
+    found, text = {}, text_of(path)
+    use = r"^\s*(?:(?:pub|ghost|unfoldable) )*use (Rattle\.[\w.-]+)"
+    for module, words in re.findall(use + r"\.\{([^}]*)\}", text, re.M):
+        for word in words.split(","):
+            name, _, local = word.strip().partition(" as ")
+            found[local or name] = (module, name)
+    for module, local in re.findall(use + r" as (\w+)", text, re.M):
+        found[local] = (module, "")
+    return found
+
+
+@functools.cache
+def definitions_in(path):
+    """The definitions of a file: for each name, those that it stands for."""
+    return types_in(path) if path.endswith(".rt") else specs_in(path)
+
+
+def specs_in(path):
+    """The definitions of a file of specs/."""
+    found, head, comment, name = {}, "", [], None
+    words = r"(?:(?:abbrev|unfoldable|pub|record|data) )+"
+    for number, line in enumerate(text_of(path).split("\n")):
+        if re.match(r"[^\s-]", line):
+            head = line if line.startswith("module _") else ""
+        own = line.removeprefix("  ") if head else line
+        begins = re.match(rf"{words}(?!use |mod )(\S+)|(\S+) : ", own)
+        if begins and line != head:
+            name = begins[1] or begins[2]
+            found[name] = [Definition(path, number, "\n".join([*comment, line]), head)]
+            comment = []
+        elif own.startswith("--"):
+            comment, name = [] if own.startswith("-- --") else [*comment, line], None
+        elif not own.strip() or line == head or re.match(rf"(?:{words})?(?:use|mod) ", own):
+            comment = []
+        elif name:
+            found[name] = [replace(found[name][0], text=f"{found[name][0].text}\n{line}")]
+    return found
+
+
+@functools.cache
+def blocks_in(path):
+    """The impls and traits of a file, as matches."""
+    block = r"^(?:pub )?(?:impl|trait)\b[^{]*\{\n(?:(?: .*)?\n)*\}"
+    return list(re.finditer(block, text_of(path), re.M))
+
+
+def members_of(path, block):
+    """The ghost members of an impl or a trait, by name."""
+    found, text = {}, text_of(path)
+    member = rf"(?:^ +//.*\n)*^    ghost (\w+)(?:: | = ){BRACES};"
+    for it in re.finditer(member, block[0], re.M):
+        line = text.count("\n", 0, block.start() + it.start())
+        found[it[1]] = Definition(path, line, it[0], block[0].split("\n")[0])
+    return found
+
+
+def types_in(path):
+    """The types that a file of src/ declares: each by its model, where it has one."""
+    found, text = {}, text_of(path)
+    declared = rf"(^{PUBLIC}(?:struct|enum) (\w+)(?:.*;$|.*\{{$(?:\n .*)*\n\}}))"
+    for it in re.finditer(rf"((?:^//.*\n)*)(?:^#\[.*\n)*{declared}", text, re.M):
+        comment = re.sub(r"///(?: ```.*)?\n(?:.*\n)*", "", it[1])  # its first paragraph
+        found[it[3]] = [Definition(path, text.count("\n", 0, it.start()), comment + it[2])]
+    for block in blocks_in(path):
+        of = re.match(r"impl.*\bModel for (\w+)", block[0])
+        if of:
+            found[of[1]] = [it for name, it in members_of(path, block).items() if name in MODEL]
+    return found
+
+
+@functools.cache
+def types():
+    """For each type that src/ declares, the files that do."""
+    found = {}
+    for path in (it for crate in LIBRARIES for it in sources_of(crate)):
+        for name in types_in(path):
+            found.setdefault(name, []).append(path)
+    return found
+
+
+@functools.cache
+def members():
+    """The ghost members of all libraries, by name."""
+    found = {}
+    for path in (it for crate in LIBRARIES for it in sources_of(crate)):
+        for block in blocks_in(path):
+            for name, one in members_of(path, block).items():
+                found.setdefault(name, []).append(one)
+    return found
+
+
+@functools.cache
+def functions_of(crate):
+    """The functions of a crate, by name."""
+    found = {}
+    begins = re.compile(rf'^[ \t]*{PUBLIC}(?:extern "C" )?(?:fn|ghost) (\w+)', re.M)
+    for path in sources_of(crate):
+        text = text_of(path)
+        starts = list(begins.finditer(text))
+        for start, end in zip(starts, [it.start() for it in starts[1:]] + [len(text)]):
+            inside = [it for it in blocks_in(path) if it.start() < start.start() < it.end()]
+            one = function_in(path, start, text[start.start() : end], inside)
+            found.setdefault(start[1], []).append(one)
+    return found
+
+
+def function_in(path, start, text, inside):
+    """The function that a text begins with, in a block or in none."""
+    head = inside[0][0].split("\n")[0] if inside else ""
+    signature = re.match(r".*?(?=\n *(?:ensures|requires)\b| \{|;\n|$)", text, re.S)[0]
+    clauses = re.findall(rf"^ *(ensures\*?(?: (\w+))? {BRACES})", text, re.M)
+    return Function(
+        places={os.path.basename(path).removesuffix(".rt"), *re.findall(r"\w+", head)},
+        clauses=[(name, clause) for clause, name in clauses],
+        is_public="pub " in start[0],
+        signature=Definition(path, text_of(path).count("\n", 0, start.start()), signature, head),
+        members=[it for block in inside for it in members_of(path, block).values()],
+    )

@@ -1,0 +1,306 @@
+#!/usr/bin/env python3
+"""Tries the mutations crates/CRATE/mutations/**/*.txt, many in one check, and says which of them the prover refuses.
+
+    tools/check/mutations.py [--must-fail] [--jobs N] [--list] [--only TEXT] [CRATE]..
+
+mutations/PATH.txt has those of src/PATH.rt, in the order of its functions, each in this form:
+
+    # FUNCTION__WHAT_IS_WRONG
+    old: TEXT
+    new: TEXT
+
+The old text, a line or a part of one, stands exactly once in the file; the new one takes its place. More such pairs may
+follow. A line `file: src/OTHER.rt` above a pair says that it and those below it are of another file. Empty lines part
+mutations.
+
+With no CRATE it tries those of every crate; with --must-fail those of must-fail/*.edit too, whose form is that of
+`rt must-fail`. With --only it tries those whose label, the file and the name as they are printed, has TEXT in it. With
+--list it tries none, and prints those that don't stand once and those whose name stands twice in the crate.
+
+It works on a copy of the crate and of the crates below it, with what earlier checks kept in their out/, so `rt check` in
+the crate's folder beforehand saves time. A check tries mutations of different functions together: each function's line
+says whether it is proved. A function that only calls a mutated one is tried again in a later check. What can't be told
+so is tried by itself.
+
+It prints a line for each mutation: refused, SURVIVED (the crate is proved with it), STALE (no goal is left unproved: it
+fails only because an answer that was written by hand names what it takes away, so it shows nothing of a clause), DOES NOT
+STAND ONCE (a text of it is missing, or stands more than once), or CANNOT BE READ (what it makes doesn't compile). It ends
+with 1 unless every mutation is refused, or, with --list, stands once under a name of its own.
+"""
+import argparse
+import glob
+import os
+import re
+import shutil
+import subprocess
+import sys
+import tempfile
+
+from definitions import TOP
+
+TRIES = 5  # checks that a function may be hidden in by those it calls, before its mutation is tried by itself
+# what a check says of an answer that names what a mutation takes away
+STALE = r"has no field|has no `|is not in scope|is not a field|was not admitted"
+FUNCTION = r"^[ \t]*(?:pub(?:\(\w+\))? )?(?:const )?fn (\w+)"
+FORM = r"# \w+__\w+\n(?:(?:file: \S+\n)?old: .+\nnew:.*\n)+\n*"  # a mutation in a file of mutations/
+
+
+class Mutation:
+    """Pairs of texts: the old one stands once in a file of the crate, and the new one takes its place."""
+
+    def __init__(self, label, name, lines, file, crate):
+        self.label, self.name, self.pairs, self.tries, self.is_alone = label, name, [], 0, False
+        old = ""
+        for line in lines.split("\n"):
+            word, _, text = line.partition(":")
+            text = text.removeprefix(" ")
+            if word == "file":
+                file = text.strip()
+            elif word == "old":
+                old = text
+            elif word == "new":
+                self.pairs.append((file, old, text))
+        self.function = function_at(crate, *self.pairs[0][:2]) if self.pairs else None
+        self.lines = lines_at(crate, *self.pairs[0][:2]) if self.function else None
+
+    def applied(self, crate, texts):
+        """The texts with this mutation, or None where an old text doesn't stand in them exactly once."""
+        made = dict(texts)
+        for file, old, new in self.pairs:
+            text = made[file] if file in made else text_of(f"{crate}/{file}")
+            if text.count(old) != 1:
+                return None
+            made[file] = text.replace(old, new)
+        return made if self.pairs else None
+
+
+def text_of(path):
+    if not os.path.isfile(path):
+        return ""
+    with open(path, encoding="utf-8") as file:
+        return file.read()
+
+
+def mutations_of(crate):
+    """The mutations of a crate's folder mutations/."""
+    found = []
+    for path in sorted(glob.glob(f"{crate}/mutations/**/*.txt", recursive=True)):
+        text, label = text_of(path) + "\n", os.path.relpath(path, f"{TOP}/crates")
+        end = re.match(f"(?:{FORM})*", text).end()
+        if end < len(text):
+            line = text.count("\n", 0, end) + 1
+            sys.exit(f"{label}:{line}: not of the form that the head of tools/check/mutations.py gives")
+        file = "src/" + os.path.relpath(path, f"{crate}/mutations").removesuffix(".txt") + ".rt"
+        parts = re.split(r"^# (\w+)\n", text, flags=re.M)[1:]
+        found += [Mutation(f"{label} {name}", name, lines, file, crate) for name, lines in zip(parts[::2], parts[1::2])]
+    return found
+
+
+def must_fail_of(crate):
+    """The mutations of a crate's folder must-fail/, a file each."""
+    found = []
+    for path in sorted(glob.glob(f"{crate}/must-fail/*.edit")):
+        name = os.path.basename(path).removesuffix(".edit")
+        found.append(Mutation(os.path.relpath(path, f"{TOP}/crates"), name, text_of(path), "", crate))
+    return found
+
+
+def function_at(crate, file, old):
+    """How the name of the function that has a text ends in the lines of a check, or None where no function has it."""
+    text = text_of(f"{crate}/{file}")
+    above = text[: text.find(old) + len(old)]
+    starts = [(it.start(), it[1]) for it in re.finditer(FUNCTION, above, re.M)]
+    if old not in text or not starts or re.search(r"^}", above[starts[-1][0] :], re.M):
+        return None
+    block = None
+    for it in re.finditer(r"^(?:}|impl\b(?:<[^{]*?>)? ([^{]*)\{)", above, re.M):
+        block = it[1]
+    if not block:
+        module = re.sub(r"^src/|\.rt$", "", file).split("/")
+        return "::".join([os.path.basename(crate), *(it for it in module if it not in ("lib", "main")), starts[-1][1]])
+    trait, _, of = re.sub(r"<[^{]*?>", "", block).split(" where ")[0].rpartition(" for ")
+    return "::" + "".join(it.strip().split("::")[-1] for it in (of, trait)) + "::" + starts[-1][1]
+
+
+def lines_at(crate, file, old):
+    """The numbers of the lines from the function that has a text to the next one."""
+    text = text_of(f"{crate}/{file}")
+    starts = [it.start() for it in re.finditer(FUNCTION, text, re.M)]
+    at = text.find(old) + len(old)
+    start = max(it for it in starts if it < at)
+    end = min([it for it in starts if it >= at] or [len(text)])
+    return range(text.count("\n", 0, start) + 1, text.count("\n", 0, end) + 1)
+
+
+def copied(crate, room):
+    """Copies a crate and those below it to another folder, and returns the copy's path."""
+    lines = [it.split("#")[0] for it in text_of(f"{TOP}/crates.txt").split("\n")]
+    below = {it.split(":")[0].split()[0]: it.split(":")[1].split() for it in lines if ":" in it}
+    wanted = [crate]
+    for name in wanted:
+        wanted += [it for it in below[name] if it in below and it not in wanted]
+    with open(f"{room}/crates.txt", "w", encoding="utf-8") as file:
+        file.writelines(f"{it}\n" for it in lines if ":" in it and it.split(":")[0].split()[0] in wanted)
+    for name in wanted:
+        left_out = shutil.ignore_patterns("mutations", "must-fail", "rt-work-*")
+        shutil.copytree(f"{TOP}/crates/{name}", f"{room}/crates/{name}", ignore=left_out)
+    if os.path.isfile(f"{TOP}/HANDLES"):
+        shutil.copy(f"{TOP}/HANDLES", room)
+    return f"{room}/crates/{crate}"
+
+
+def checked(copy, crate, texts, jobs):
+    """Checks the copy with these texts in place of the crate's own. Returns its lines, or what stopped it from being read."""
+    for file, text in texts.items():
+        with open(f"{copy}/{file}", "w", encoding="utf-8") as it:
+            it.write(text)
+    words = ["rt", "check", *(["--jobs", str(jobs)] if jobs else [])]
+    ran = subprocess.run(words, cwd=copy, stdin=subprocess.DEVNULL, stdout=subprocess.PIPE, stderr=subprocess.STDOUT, text=True)
+    for file in texts:
+        shutil.copy(f"{crate}/{file}", f"{copy}/{file}")
+    lines = ran.stdout.split("\n")
+    unread = [it for it in lines if re.match(r"(\./)?(src|specs)/\S+: error: [^`]", it)]
+    if not unread and not any(it.startswith("logic=") for it in lines):
+        unread = [it for it in lines if it][-1:]
+    return lines, unread, ran.returncode == 0
+
+
+def states_of(lines, calls):
+    """What the lines of a check say of each function. Calls gets the unproved ones that each of them calls."""
+    states = {it[1]: it[2] for it in (re.match(r"fn (\S+): (.*)", line) for line in lines) if it}
+    for function, state in states.items():
+        if "it calls" in state:
+            calls.setdefault(function, set()).update(re.findall(r"`(.+?)`", state))
+    return states
+
+
+def state_of(mutation, states):
+    """What a check says of the function that a mutation changes."""
+    return next((state for it, state in states.items() if mutation.function and it.endswith(mutation.function)), "")
+
+
+def is_over(caller, callee, calls):
+    """Whether it is known that a mutated function is, or in turn calls, another one."""
+    reached = [it for it in calls if it.endswith(caller)]
+    for function in reached:
+        reached += [it for it in calls.get(function, ()) if it not in reached]
+    return caller == callee or any(it.endswith(callee) for it in reached)
+
+
+def batch_of(waiting, crate, calls):
+    """Mutations that one check can try, none in a function that another one's calls, and the texts that they make."""
+    batch, texts = [], {}
+    for it in sorted(waiting, key=lambda it: (it.is_alone, -it.tries)):
+        alone = it.is_alone or not it.function or it.tries >= TRIES
+        functions = [other.function for other in batch]
+        if batch and (alone or any(is_over(it.function, f, calls) or is_over(f, it.function, calls) for f in functions)):
+            continue
+        made = it.applied(crate, texts)
+        if made is not None:
+            batch, texts = [*batch, it], made
+            if alone:
+                break
+    return batch, texts
+
+
+def is_in(mutation, place):
+    """Whether a place that a check names is in a mutation's function, or in its answers."""
+    file = mutation.pairs[0][0]
+    if place.startswith("src/"):
+        path, line = place.split(":")[:2]
+        return path == file and int(line) in mutation.lines
+    module, name = re.sub(r"^src/|\.rt$", "", file), mutation.function.split("::")[-1]
+    folder = "" if module == "lib" else f"{module}/"
+    return re.match(rf"proofs/{folder}(?:\w+/)?{name}/", place) is not None
+
+
+def is_stale(mutation, lines, is_alone):
+    """Whether no goal is left unproved, and written answers fail only for names that they use."""
+    told = r"^(?:note: )?(?:\./)?((?:src|proofs)/[^: ]+:\d+:\d+): (.*(?:\n  .*)?)"
+    told = re.finditer(told, "\n".join(lines), re.M)  # a long message goes on in the next line
+    told = [it for it in told if is_alone or is_in(mutation, it[1])]
+    if any("it is not proved that" in it[2] for it in told):
+        return False
+    errors = [it[2] for it in told if it[2].startswith("error")]
+    return bool(errors) and all(re.search(STALE, it) for it in errors)
+
+
+def said_of(mutation, state, check, is_alone):
+    """What a check shows of a mutation, or None where another check has to."""
+    lines, unread, is_proved = check
+    if unread:
+        return f"CANNOT BE READ: {unread[0][:200]}" if is_alone else None
+    if is_alone and is_proved:
+        return "SURVIVED"
+    if not is_alone and (not state or state.startswith("proved") or "it calls" in state):
+        return None
+    is_unproved = "did not prove" in state or not is_stale(mutation, lines, is_alone)
+    return "refused" if is_unproved else "STALE"
+
+
+def tried(crate, waiting, jobs):
+    """Tries a crate's mutations, and prints what comes of each: how many are refused, and stale."""
+    missing = [it for it in waiting if it.applied(crate, {}) is None]
+    for it in missing:
+        print(f"{it.label}: DOES NOT STAND ONCE", flush=True)
+    found, waiting, calls = [], [it for it in waiting if it not in missing], {}
+    with tempfile.TemporaryDirectory(prefix="mutations-") as room:
+        copy = copied(os.path.basename(crate), room)
+        while waiting:
+            batch, texts = batch_of(waiting, crate, calls)
+            check = checked(copy, crate, texts, jobs)
+            states = states_of(check[0], calls)
+            for it in batch:
+                state = state_of(it, states)
+                said = said_of(it, state, check, len(batch) == 1)
+                if said:
+                    waiting.remove(it)
+                    found.append(said)
+                    print(f"{it.label}: {said}", flush=True)
+                elif check[1] or state.startswith("proved"):
+                    it.is_alone = True
+                else:
+                    it.tries += 1
+    return found.count("refused"), found.count("STALE")
+
+
+def listed(crate, found):
+    """Prints the mutations of a crate that don't stand once, or not under a name of their own, and returns how many."""
+    names = [it.name for it in found]
+    wrong = [f"{it.label}: DOES NOT STAND ONCE" for it in found if it.applied(crate, {}) is None]
+    wrong += [f"{it.label}: ITS NAME STANDS TWICE" for it in found if names.count(it.name) > 1]
+    for line in wrong:
+        print(line)
+    return len(wrong)
+
+
+def main():
+    parser = argparse.ArgumentParser(description="Tries the mutations crates/CRATE/mutations/**/*.txt, many in one check.")
+    parser.add_argument("--must-fail", action="store_true", help="try those of must-fail/ too")
+    parser.add_argument("--jobs", type=int, help="how many functions a check may prove side by side")
+    parser.add_argument("--list", action="store_true", help="try none, and print those that don't stand once")
+    parser.add_argument("--only", default="", metavar="TEXT", help="only those whose label has TEXT in it")
+    parser.add_argument("crate", nargs="*", help="a crate's name (all crates, where none is given)")
+    options = parser.parse_args()
+    count = refused = stale = faults = 0
+    for name in options.crate or sorted(os.listdir(f"{TOP}/crates")):
+        crate = f"{TOP}/crates/{name}"
+        if not os.path.isdir(crate):
+            parser.error(f"there is no crate {name}")
+        found = mutations_of(crate) + (must_fail_of(crate) if options.must_fail else [])
+        found = [it for it in found if options.only in it.label]
+        count += len(found)
+        if options.list:
+            faults += listed(crate, found)
+        elif found:
+            own = tried(crate, found, options.jobs)
+            refused, stale = refused + own[0], stale + own[1]
+    if options.list:
+        print(f"{count} mutations, {faults} faults")
+        return 1 if faults else 0
+    print(f"{refused} of {count} mutations refused, {stale} stale")
+    return 1 if refused < count else 0
+
+
+if __name__ == "__main__":
+    sys.exit(main())

@@ -1,0 +1,227 @@
+#!/usr/bin/env python3
+"""Prints what a reader must believe for a promise: its clauses, and each definition below them.
+
+    tools/check/what_is_believed.py P20
+    tools/check/what_is_believed.py promises::straight_lines
+    tools/check/what_is_believed.py
+    tools/check/what_is_believed.py --update
+
+A promise is a heading of docs/PROVED.md, or a function of `promises` or `csv_promises`. With no
+word it lists them all, each with its lines. With --update it writes these into the page: after
+`Clauses`, in the sentence on all of them, and at the end of a table's row that names a function.
+
+A clause stands on the words in it, on the types in the function's signature, and on the ghost
+members of its block. A type of src/ stands for its model, where it has one, else for its
+declaration. What a model's fields hold is said by the clauses of calls, so their types aren't
+followed; and an invariant is proved of each value. Where a promise names fields of
+`IsTableDrawing`, these alone are followed.
+
+The promise's own file comes first. Comments count as lines; clauses and headings don't. Public
+types that are declared and have no model, which callers know, are counted apart, with the first
+paragraph of their doc comments. Other libraries are counted in a line for each.
+"""
+import re
+import sys
+from dataclasses import replace
+
+from definitions import (
+    LIBRARIES, PROMISES, TOP, crate_of, definitions_in, files_of, functions_of, imports_of,
+    members, path_of, text_of, types,
+)
+
+WORD = r"(?<![\w.'-])[A-Za-z_][\w']*(?![\w'-])"
+
+
+def named(word, path):
+    """The file where a word of another is defined, its name there, and whether it is a variant."""
+    name, module = word, ""
+    while name not in definitions_in(path):
+        if name in imports_of(path):
+            module, name = imports_of(path)[name]
+            path = path_of(module)
+            if path.endswith(".rt"):
+                name = module.removesuffix(".TheVariants").split(".")[-1]
+        elif path.endswith(".rt") and name in types() and not module:
+            path = min(types()[name], key=lambda it: crate_of(it) != crate_of(path))
+        else:
+            return None
+    return path, name, module.endswith(".TheVariants")
+
+
+def below(one):
+    """The files and names on which a definition stands; on an enum where it names a variant."""
+    text = re.sub(r"(--|//).*", "", f"{one.head}\n{one.text}")
+    found = [named(word, one.path) for word in dict.fromkeys(re.findall(WORD, text))]
+    for local, (module, name) in imports_of(one.path).items():
+        if not name and path_of(module).endswith(".antt"):
+            words = re.findall(rf"\b{local}\.([\w']+)", text)
+            found += [named(word, path_of(module)) for word in words]
+    for path, name, is_variant in filter(None, found):
+        is_enum = any(it.is_a("enum") for it in definitions_in(path)[name])
+        if is_variant or not is_enum or one.is_a("fn"):
+            yield path, name
+
+
+def members_below(one):
+    """The ghost members of traits that a function or a member names, with those of all impls."""
+    for name in re.findall(rf"\b[A-Z]\w*\.(\w+)|({WORD})", one.text):
+        ones = members().get("".join(name), [])
+        if any(" trait " in f" {it.head}" for it in ones):
+            yield from ones
+
+
+def standing_below(starts, fields, is_followed):
+    """The definitions below others, in the order of a reading; and the names of those left out."""
+    found, others, waiting = {}, {}, starts[::-1]
+    while waiting:
+        one = waiting.pop()
+        if one in found:
+            continue
+        if fields and "pub record IsTableDrawing " in one.text:
+            one = with_fields(one, fields)
+        found[one] = None
+        names = list(below(one))
+        others |= {it: None for it in names if not is_followed(it[0])}
+        own = [definitions_in(path)[name] for path, name in names if is_followed(path)]
+        own.append(list(members_below(one)) if one.path.endswith(".rt") else [])
+        waiting += [it for ones in own for it in ones][::-1]
+    return list(found), list(others)
+
+
+def with_fields(record, fields):
+    """A record of which some fields are left, and the comments that describe none but these."""
+    head, *parts = re.split(r"\n(?=  (?:--|pub) )", record.text)
+    groups = [([], [])]
+    for part in parts:
+        is_comment = part.startswith("  --")
+        if is_comment and groups[-1][1]:
+            groups.append(([], []))
+        groups[-1][not is_comment].append(part)
+    kept = [head]
+    for comment, own in groups:
+        left = [it for it in own if re.match(r"  pub (\w+)", it)[1] in {*fields, "widths"}]
+        kept += comment + left if left == own else left
+    return replace(record, text="\n".join(kept))
+
+
+def start_of(function, clauses):
+    """What a promise begins with: a function with some of its clauses, and its block's members."""
+    one = function.signature
+    indent = re.match(" *", one.text)[0] + "    "
+    text = "\n".join([one.text, *(indent + clause for _, clause in clauses)])
+    return [replace(one, text=text), *function.members]
+
+
+def promises(page):
+    """For each promise of the page its label, its crate, and the text that names its clauses."""
+    for section in re.split(r"^## ", page, flags=re.M)[1:]:
+        crate = section.split("\n")[0]
+        for label, body in re.findall(r"^### (P\d+) (.*?)(?=^### |\Z)", section, re.M | re.S):
+            given = re.search(r"^Clauses[^:]*: (.*?)\.\n\n", body + "\n\n", re.M | re.S)
+            if given and crate in LIBRARIES:
+                yield label, crate, " ".join(given[1].split())
+
+
+def starts_of(crate, clauses):
+    """What a promise begins with, and the fields of IsTableDrawing that it names."""
+    functions, found = functions_of(crate), []
+    names, _, more = clauses.partition("; ")
+    for of_type in re.findall(r"`([A-Z]\w+)`", names):
+        for one in (it for group in functions.values() for it in group):
+            found += start_of(one, one.clauses) if of_type in one.places and one.is_public else []
+    for it in re.finditer(r"`([\w:]+)`(?: \(([^)]*)\))?", names):
+        *place, name = it[1].split("::")
+        wanted = re.findall(r"\w+", it[2] or "")
+        for one in functions.get(name, []):
+            of_drawing = [it for it in one.clauses if more and "IsTableDrawing" in it[1]]
+            chosen = [it for it in one.clauses if not wanted or it[0] in wanted]
+            if set(place[-1:]) <= one.places:
+                found += start_of(one, of_drawing or chosen)
+    return found, re.findall(r"`(\w+)`", more)
+
+
+def all_starts(page):
+    """What each promise begins with, of the page and of the crates of promises, by its label."""
+    found = {label: starts_of(crate, clauses) for label, crate, clauses in promises(page)}
+    for crate in PROMISES:
+        for name, (one, *_) in functions_of(crate).items():
+            if one.is_public:
+                found[f"{crate}::{name}"] = (start_of(one, one.clauses), [])
+    return found
+
+
+def believed(starts, fields):
+    """The definitions of ours below a promise, its functions too; and names of other libraries."""
+    return standing_below(starts, fields, lambda path: crate_of(path) in LIBRARIES)
+
+
+def is_declared(one):
+    """Whether it is a declaration of a type, and no definition."""
+    return one.is_a("struct") or one.is_a("enum")
+
+
+def count_of(found):
+    """How many lines definitions take, with those of the modules and blocks they stand in."""
+    counted = [it for it in found if not it.is_a("fn") and not is_declared(it)]
+    heads = {(it.path, it.head) for it in counted if it.head}
+    return sum(it.lines() for it in counted) + len(heads)
+
+
+def updated(page):
+    """The page with the counts."""
+    specs = [text_of(it) for crate in LIBRARIES for it in files_of(crate, "specs/**/*.antt")]
+    lines = sum(it.count("\n") for it in specs if not it.startswith("-- Private:"))
+    ghosts = sum(map(len, members().values()))
+    page = re.sub(r"the \d+ lines of definitions", f"the {lines} lines of definitions", page)
+    page = re.sub(r"the \d+ ghost members", f"the {ghosts} ghost members", page)
+    for label, starts in all_starts(page).items():
+        count = count_of(believed(*starts)[0])
+        clauses = rf"(^### {label} (?:(?!^### ).)*?^Clauses)(?: \(\d+ lines\))?:"
+        page = re.sub(clauses, rf"\1 ({count} lines):", page, flags=re.M | re.S)
+        page = re.sub(rf"^(\|.*`{label}`.*\|) *\d+ *\|$", rf"\1 {count} |", page, flags=re.M)
+    return page
+
+
+def shown(starts, fields):
+    """What a reader must believe for a promise."""
+    found, others = believed(starts, fields)
+    for path in dict.fromkeys(it.path for it in found):
+        yield f"-- {path.removeprefix('crates/')}"
+        head = ""
+        for one in sorted((it for it in found if it.path == path), key=lambda it: it.line):
+            yield from [one.head] if one.head not in ("", head) else []
+            yield f"{one.text}\n"
+            head = one.head
+    declared = sum(it.lines() for it in found if is_declared(it))
+    yield f"{count_of(found)} lines of definitions, and {declared} that declare public types."
+    yield "Of other libraries, below these:"
+    yield from lines_of_others(others)
+
+
+def lines_of_others(others):
+    """A line for each other library: how many of its lines are below some names, and its own."""
+    starts = [one for path, name in others for one in definitions_in(path)[name]]
+    found, _ = standing_below(starts, [], lambda path: True)
+    for crate in dict.fromkeys(crate_of(it.path) for it in found):
+        names = ", ".join(name for path, name in others if crate_of(path) == crate)
+        count = count_of([it for it in found if crate_of(it.path) == crate])
+        yield f"  {crate}: {count} lines" + (f", for {names}" if names else "")
+
+
+def main():
+    page = text_of("docs/PROVED.md")
+    starts = all_starts(page)
+    if sys.argv[1:] == ["--update"]:
+        with open(f"{TOP}/docs/PROVED.md", "w", encoding="utf-8") as file:
+            file.write(updated(page))
+    elif not sys.argv[1:]:
+        for label, one in starts.items():
+            print(f"{count_of(believed(*one)[0]):5} {label}")
+    elif sys.argv[1] in starts:
+        print("\n".join(shown(*starts[sys.argv[1]])))
+    else:
+        sys.exit(__doc__)
+
+
+if __name__ == "__main__":
+    main()

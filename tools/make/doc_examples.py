@@ -1,0 +1,276 @@
+#!/usr/bin/env python3
+"""Gathers the examples of doc comments into the crate `example_docs`, which the gate proves and runs.
+
+    tools/make/doc_examples.py            writes the crate's source and its stored output
+    tools/make/doc_examples.py --check    prints which file isn't what the comments say, and ends with 1 where one isn't
+
+An example is a fenced block without a language in a doc comment of comfy_parts or comfy_table. It becomes a function named
+for the item that it stands at. What it uses without making it, such as `table`, is a parameter, and so is a new table: a
+function that owns a table takes long to prove. The examples that print nothing are called before those that do, from
+functions of their own, whose errors need no conversion. Lines that begin with `//` are what it prints, or the value of its
+last `let`: a `text`, or `is_so`. So the stored output is what the comments say; `\\u{1b}` in them stands for ESC.
+"""
+import glob
+import os
+import re
+import shutil
+import subprocess
+import sys
+import tempfile
+import textwrap
+
+from project import TOP, text_of
+
+CRATE = "crates/example_docs"
+MODULES = {"comfy_parts": "parts", "comfy_table": "tables"}
+PARAMETERS = {
+    "rt": ("&HostRuntime", "rt"),
+    "alloc": ("Global", "alloc"),
+    "table": ("&mut Table", "table"),
+    "column": ("&mut Column", "&mut Column::new(0)"),
+}
+SPLIT = "comfy_table::utils::formatting::content_split"
+PATHS = {"Global": "std::alloc"} | {it: SPLIT for it in ("ColumnDisplayInfo", "adds_up", "characters_fit", "split_line")}
+PATHS |= {it: "comfy_table::presets" for it in ("by_name", "by_position")}
+PATHS |= {it: "super" for it in ("renew", "show")}
+VALUES = {None: "()", "text": "String", "is_so": "bool"}
+NEW_TABLE = "let mut table = Table::new(alloc);\n"
+AT_ONCE = 10  # so many calls stand in one function, since a long one takes long to prove
+TRAITS = {f"into_{it}": f"Into{it.capitalize()}" for it in ("cell", "cells", "row")}
+
+
+def snake(word):
+    return re.sub(r"(?<=[a-z0-9])(?=[A-Z])", "_", word).lower()
+
+
+def name_of(path, before, after):
+    """The name of the item that a doc comment stands at, after the type that it belongs to."""
+    if after is None:
+        return os.path.basename(path)[: -len(".rt")]
+    indent, kind, item = re.match(r"(?:\s*#\[.*\n)*( *)pub (?:const )?(\w+) (\w+)", after).groups()
+    owner = [it[1] for it in re.finditer(r"^impl(?:<.*?>)? (\w+)(?:<.*?>)? \{", before, re.M)]
+    return snake(f"{owner[-1]}_{item}" if kind == "fn" and indent else item)
+
+
+class Example:
+    def __init__(self, name, lines):
+        self.name = name
+        self.uses = [it for it in lines if it.startswith("use ")]
+        self.prints = [it[2:].removeprefix(" ") for it in lines if it.startswith("//")]
+        code = [it for it in lines if it not in self.uses and not it.startswith("//")]
+        code = "\n".join(code).strip("\n").replace("&rt,", "rt,")
+        self.given = {it: given for it, (_, given) in PARAMETERS.items()}
+        if NEW_TABLE in code:
+            self.given["table"] = "new_table"
+        self.code = code.replace(NEW_TABLE, "")
+        self.bare = re.sub(r'"[^"]*"', '""', self.code)
+        made = r"(?:let (?:mut )?|Some\(|for )"
+        self.parameters = [
+            it for it in PARAMETERS if re.search(rf"\b{it}\b", self.bare) and not re.search(rf"{made}{it}\b", self.bare)
+        ]
+
+        last = re.search(r"let (\w+) = (.*);$", self.code)
+        self.value = last[1] if last and self.prints else None
+
+    def result(self):
+        if "rt" in self.parameters:
+            return "anyhow::Result<()>"
+        given = VALUES[self.value]
+        return f"Result<{given}>" if "?" in self.bare else given.strip("()")
+
+    def function(self):
+        parameters = ", ".join(f"{it}: {PARAMETERS[it][0]}" for it in self.parameters)
+        result = self.result()
+        code = re.sub(rf"let {self.value} = (.*);$", r"\1", self.code) if self.value else self.code
+        if self.value and "?" in self.bare:
+            code = code[:-1] if code.endswith("?") else re.sub(r"(.*)$", r"Ok(\1)", code)
+        elif "Result" in result:
+            code += "\nOk(())"
+        body = textwrap.indent(code, "    ")
+        return f"fn {self.name}_example({parameters}){' -> ' * bool(result)}{result} {{\n{body}\n}}\n"
+
+    def is_silent(self):
+        """Whether it prints nothing, and so needs no runtime."""
+        return not self.value and "rt" not in self.parameters
+
+    def call(self):
+        arguments = [self.given[it] for it in self.parameters]
+        before = "    renew(alloc, new_table);\n" * ("new_table" in arguments)
+        call = f"{self.name}_example({', '.join(arguments)})"
+        if self.value == "text":
+            return f"{before}    show(rt, {call})?;"
+        if self.value:
+            return f'{before}    println!(rt; "{{}}", {call})?;'
+        return f"{before}    {call}{'?' * bool(self.result())};"
+
+
+def examples_of(crate):
+    found = []
+    for path in sorted(glob.glob(f"crates/{crate}/src/**/*.rt", root_dir=TOP, recursive=True)):
+        text = text_of(path)
+        for comment in re.finditer(r"(?:^ *//[/!].*\n)+", text, re.M):
+            mark = comment[0].split()[0]
+            after = text[comment.end() :] if mark == "///" else None
+            lines = re.sub(r"^ *//[/!] ?", "", comment[0], flags=re.M)
+            for block in re.finditer(r"^```(\w*)\n(.*?)^```\n", lines, re.M | re.S):
+                if not block[1]:
+                    name = name_of(path, text[: comment.start()], after)
+                    found.append(Example(name, block[2].splitlines()))
+    return found
+
+
+def import_lines(code, uses):
+    """The `use` lines for the names in some code, in the layout of `rt fmt`."""
+    offered = re.findall(r"\w+", " ".join(re.findall(r"pub use (.*?);", text_of("crates/comfy_table/src/lib.rt"), re.S)))
+    presets = re.findall(r"pub const (\w+)", text_of("crates/comfy_parts/src/style/presets.rt"))
+    words = set(re.findall(r"(?<![:\w])\w+", re.sub(r'"[^"]*"', "", re.sub(r"anyhow::\w+", "", code))))
+    words |= {TRAITS[it] for it in TRAITS if f".{it}(" in code}
+    groups = {}
+    for word in words:
+        path = PATHS.get(word)
+        if path is None and word in presets:
+            path = "comfy_table::presets"
+        if path is None and word in offered and word[0].isupper():
+            path = "comfy_table"
+        if path:
+            groups.setdefault(path, []).append(word)
+    lines = set(uses)
+    for path, names in groups.items():
+        names.sort(key=lambda it: (it[0].islower(), it.isupper(), it))
+        line = f"use {path}::{{{', '.join(names)}}};" if len(names) > 1 else f"use {path}::{names[0]};"
+        if len(line) > 100:
+            inner = textwrap.fill(", ".join(names) + ",", 100, initial_indent="    ", subsequent_indent="    ")
+            line = f"use {path}::{{\n{inner}\n}};"
+        lines.add(line)
+    return sorted(lines, key=lambda it: (not it.startswith("use super"), it.replace("{", "~")))
+
+
+LENT = {"rt": "&HostRuntime", "alloc": "Global", "table": "&mut Table", "new_table": "&mut Table"}
+MAKE_ALLOC = "    let alloc = rt.alloc();"
+
+
+def body(lines):
+    """The body of a function from its lines. A call that gives what the function does stands at its end as it is."""
+    text = "\n".join(lines)
+    if text.endswith("?;") and "println!" not in lines[-1]:
+        return f" {{\n{text[:-2]}\n}}\n"
+    return f" {{\n{text}\n    Ok(())\n}}\n"
+
+
+def drivers(name, result, examples):
+    """The calls of the functions that call some examples, a few each, and these functions."""
+    called, code = [], ""
+    for at in range(0, len(examples), AT_ONCE):
+        lines = [it.call() for it in examples[at : at + AT_ONCE]]
+        used = [it for it in LENT if re.search(rf"\b{it}\b", "\n".join(lines))]
+        if "rt" in used and "alloc" in used:
+            used.remove("alloc")
+            lines.insert(0, MAKE_ALLOC)
+        driver = f"{name}_{at // AT_ONCE + 1}"
+        called.append(f"    {driver}({', '.join(used)})?;")
+        parameters = ", ".join(f"{it}: {LENT[it]}" for it in used)
+        code += f"\nfn {driver}({parameters}) -> {result}{body(lines)}"
+    return called, code
+
+
+RUN = """/// Calls each example.
+pub fn run(rt: &HostRuntime, table: &mut Table, new_table: &mut Table) -> anyhow::Result<()>"""
+
+
+def module(crate, examples):
+    silent_calls, silent = drivers("silent", "Result<()>", [it for it in examples if it.is_silent()])
+    shown_calls, shown = drivers("shown", "anyhow::Result<()>", [it for it in examples if not it.is_silent()])
+    calls = silent_calls + shown_calls
+    if any("alloc" in it for it in calls):
+        calls.insert(0, MAKE_ALLOC)
+    code = "\n".join([f"{RUN}{body(calls)}{silent}{shown}"] + [it.function() for it in examples])
+    uses = [use for it in examples for use in it.uses]
+    return f"//! The examples of `{crate}`.\n\n" + "\n".join(import_lines(code, uses)) + "\n\n" + code
+
+
+MAIN = """//! The examples of the doc comments, which `tools/make/doc_examples.py` wrote.
+#![tactic(auto)]
+
+mod parts;
+mod tables;
+
+use comfy_table::{Result, Table};
+use std::alloc::Global;
+
+fn main(rt: HostRuntime) -> anyhow::Result<()> {
+    let alloc = rt.alloc();
+    run(&rt, &mut Table::new(alloc), &mut Table::new(alloc))
+}
+
+fn run(rt: &HostRuntime, table: &mut Table, new_table: &mut Table) -> anyhow::Result<()> {
+    fill(table)?;
+    parts::run(rt, table, new_table)?;
+    tables::run(rt, table, new_table)
+}
+
+// fills the table that stands for one which an example has, but doesn't make
+fn fill(table: &mut Table) -> Result<()> {
+    table
+        .set_header(["Bike", "Place", "Since"])?
+        .add_row(["17", "dock 3", "Monday"])?;
+    Ok(())
+}
+
+// puts a new table in place of the last one
+fn renew(alloc: Global, table: &mut Table) {
+    *table = Table::new(alloc);
+}
+
+fn show(rt: &HostRuntime, text: Result<String>) -> anyhow::Result<()> {
+    println!(rt; "{}", text?)?;
+    Ok(())
+}
+"""
+
+
+def laid_out(texts):
+    """These files in the layout of `rt fmt`, which their comments needn't have."""
+    with tempfile.TemporaryDirectory() as room:
+        shutil.copy(f"{TOP}/crates.txt", room)
+        for path, text in texts.items():
+            os.makedirs(os.path.dirname(f"{room}/{path}"), exist_ok=True)
+            with open(f"{room}/{path}", "w", encoding="utf-8") as file:
+                file.write(text)
+        subprocess.run(["rt", "fmt"], cwd=f"{room}/{CRATE}", check=True, stdout=subprocess.DEVNULL, stderr=subprocess.DEVNULL)
+        for path in texts:
+            with open(f"{room}/{path}", encoding="utf-8") as file:
+                texts[path] = file.read()
+    return texts
+
+
+def files():
+    """Each file of the crate that follows from the comments, and its text."""
+    found = {"src/main.rt": MAIN}
+    printed = []
+    for crate, name in MODULES.items():
+        examples = examples_of(crate)
+        found[f"src/{name}.rt"] = module(crate, examples)
+        printed += [line for it in examples for line in it.prints]
+    found["stdout"] = "".join(line + "\n" for line in printed).replace("\\u{1b}", "\x1b")
+    return laid_out({f"{CRATE}/{path}": text for path, text in found.items()})
+
+
+def wrong_examples():
+    """What isn't as the comments say."""
+    return [f"{path} isn't what tools/make/doc_examples.py writes" for path, text in files().items() if text_of(path) != text]
+
+
+def main():
+    if sys.argv[1:] == ["--check"]:
+        wrong = wrong_examples()
+        print("\n".join(wrong) or "the examples are those of the comments")
+        return 1 if wrong else 0
+    for path, text in files().items():
+        os.makedirs(os.path.dirname(f"{TOP}/{path}"), exist_ok=True)
+        with open(f"{TOP}/{path}", "w", encoding="utf-8") as file:
+            file.write(text)
+    return 0
+
+
+if __name__ == "__main__":
+    sys.exit(main())

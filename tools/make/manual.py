@@ -1,0 +1,144 @@
+#!/usr/bin/env python3
+"""Makes the man page of csvtable and its completions for bash and zsh, in share/, from the table of its words.
+
+    tools/make/manual.py
+
+tools/check/check_proved.py says where those that are there are others.
+"""
+import os
+import re
+import sys
+import textwrap
+
+from project import TOP, text_of
+
+WORD = r'name: "(.+?)",\s+letter: (?:None|Some\(\'(.)\'\)),\s+kind: Kind::(\w+),\s+value: "(.*?)",\s+help: "((?:[^"\\]|\\.)*)"'
+
+
+class Word:
+    def __init__(self, name, letter, kind, value, help):
+        self.letter, self.kind, self.value = letter, kind, value
+        self.name = name if kind not in ("File", "Letter") else None
+        self.help = re.sub(r"\\\n *", "", help).replace("\\n", " ")
+
+    def forms(self):
+        """How the word is given, as `-w` and `--width`."""
+        return ([f"-{self.letter}"] if self.letter else []) + ([f"--{self.name}"] if self.name else [])
+
+
+SOURCE = text_of("crates/comfy_csv_parts/src/words.rt")
+WORDS = [Word(*it) for it in re.findall(WORD, SOURCE)]
+OPTIONS = [it for it in WORDS if it.kind != "File"]
+VERSION = re.search(r'\.version\("(.+?)"\)', SOURCE)[1]
+DATE = "2026-11-27"  # of this version
+ABOUT = re.search(r'\.about\("(.+?)"\)', SOURCE)[1]
+
+
+def names_in(declared):
+    return re.findall(r'"(.+?)"', re.search(declared + r": \[&str; \d+\] = \[(.*?)\];", SOURCE, re.S)[1])
+
+
+def style_names():
+    own = re.search(r"fn own_styles.*?\n\}", text_of("crates/comfy_csv_parts/src/styles.rt"), re.S)[0]
+    presets = re.search(r"pub static ALL.*?\];|pub const ALL.*?\];", text_of("crates/comfy_parts/src/style/presets.rt"), re.S)[0]
+    return re.findall(r'\("(\w+)"', own) + re.findall(r'\("(\w+)"', presets)
+
+
+VALUES = {"When": names_in("WHENS"), "Encoding": names_in("ENCODINGS"), "Style": style_names()}
+
+
+def escaped(text):
+    """A text for man: hyphens are those of a terminal, and code stands in bold."""
+    text = text.replace("\\", "\\e").replace("-", "\\-").replace("'", "\\(aq")
+    text = re.sub(r"`(.+?)`", r"\\fB\1\\fR", text)
+    return "\n".join(textwrap.wrap(text, 78, break_long_words=False, break_on_hyphens=False))
+
+
+def man_page():
+    lines = [f'.TH CSVTABLE 1 {DATE} "csvtable {VERSION}" "User Commands"']
+    lines += [".SH NAME", f"csvtable \\- {ABOUT[0].lower()}{ABOUT[1:]}"]
+    lines += [".SH SYNOPSIS", ".B csvtable", "[\\fIoptions\\fR]", "[\\fIFILE\\fR]"]
+    lines += [".SH DESCRIPTION", "Each record is a row.", "Columns of numbers stand at the right."]
+    lines += [escaped("In a terminal the table keeps to its width; where columns would be too narrow, each record is drawn as names and fields.")]
+    lines += [escaped("Nothing that a file holds is sent to the terminal but text, unless it is asked for.")]
+    lines += [".SH OPTIONS"]
+    for word in OPTIONS:
+        value = f" \\fI{word.value}\\fR" if word.value else ""
+        lines += [".TP", ", ".join(f"\\fB{escaped(it)}\\fR" for it in word.forms()) + value, escaped(word.help)]
+        if word.kind == "Style":
+            lines += [".br", escaped(", ".join(VALUES[word.kind]))]
+    lines += [".TP", "\\fB\\-h\\fR, \\fB\\-\\-help\\fR", "Print help", ".TP", "\\fB\\-V\\fR, \\fB\\-\\-version\\fR", "Print version"]
+    lines += [".SH EXIT STATUS", ".TP", "0", "The drawing was written.", ".TP", "1"]
+    lines += [escaped("The input or the output failed, the input isn't in its encoding or has a quote that is never closed, there is no such column, or no memory.")]
+    lines += [".TP", "2", escaped("The words aren't known.")]
+    lines += [".SH ENVIRONMENT", ".TP", ".B COLUMNS"]
+    lines += ["The width of a terminal.", escaped("Interactive shells keep it to themselves: alias csvtable='COLUMNS=$COLUMNS csvtable' passes it on.")]
+    lines += [".TP", ".B NO_COLOR", escaped("Where it is set and isn't empty, the header isn't in bold unless that is asked for.")]
+    lines += [".SH EXAMPLES"]
+    for command, what in re.findall(r"^  (csvtable .+?)  +(.+)$", SOURCE, re.M):
+        lines += [".TP", f".B {escaped(command)}", what[0].upper() + what[1:]]
+    return "\n".join(lines) + "\n"
+
+
+def bash():
+    cases = "".join(
+        f"    {'|'.join(it.forms())})\n      COMPREPLY=($(compgen -W '{' '.join(VALUES[it.kind])}' -- \"$word\"))\n      return\n      ;;\n"
+        for it in OPTIONS
+        if it.kind in VALUES
+    )
+    taking = "|".join(form for it in OPTIONS if it.value and it.kind not in VALUES for form in it.forms())
+    forms = " ".join(form for it in OPTIONS for form in it.forms()) + " -h --help -V --version"
+    return f"""# Completes the words of csvtable in bash.
+_csvtable() {{
+  local word=${{COMP_WORDS[COMP_CWORD]}}
+  case ${{COMP_WORDS[COMP_CWORD - 1]}} in
+{cases}    {taking})
+      return
+      ;;
+  esac
+  case $word in
+    -*) COMPREPLY=($(compgen -W '{forms}' -- "$word")) ;;
+    *) COMPREPLY=($(compgen -f -- "$word")) ;;
+  esac
+}}
+complete -o filenames -F _csvtable csvtable
+"""
+
+
+def zsh_text(text):
+    return text.replace("'", "'\\''").replace("[", "\\[").replace("]", "\\]").replace(":", "\\:")
+
+
+def zsh():
+    lines = ["#compdef csvtable", "# Completes the words of csvtable in zsh.", "_arguments -s \\"]
+    for word in OPTIONS:
+        values = f"({' '.join(VALUES[word.kind])})" if word.kind in VALUES else " "
+        value = f":{word.value}:{values}" if word.value else ""
+        text = zsh_text(word.help)
+        forms = word.forms()
+        if len(forms) == 2:
+            lines.append(f"  '({' '.join(forms)})'{{{','.join(forms)}}}'[{text}]{value}' \\")
+        else:
+            lines.append(f"  '{forms[0]}[{text}]{value}' \\")
+    lines += ["  '(-h --help)'{-h,--help}'[Print help]' \\", "  '(-V --version)'{-V,--version}'[Print version]' \\"]
+    return "\n".join([*lines, "  '::FILE:_files'"]) + "\n"
+
+
+MADE = {"share/csvtable.1": man_page, "share/csvtable.bash": bash, "share/_csvtable": zsh}
+
+
+def wrong_files():
+    """Those that aren't what this makes."""
+    return [path for path, made in MADE.items() if not os.path.isfile(os.path.join(TOP, path)) or text_of(path) != made()]
+
+
+def main():
+    if sys.argv[1:]:
+        sys.exit(__doc__)
+    for path in wrong_files():
+        with open(os.path.join(TOP, path), "w", encoding="utf-8") as file:
+            file.write(MADE[path]())
+
+
+if __name__ == "__main__":
+    main()

@@ -1,0 +1,34 @@
+#!/bin/sh
+# Counts the instructions of programs that draw 10,000 rows of 6 cells with styles, and prints the eight costliest
+# functions. It needs valgrind, and takes about a minute.
+#
+# usage: tools/measure/styled.sh colours|sequences PROGRAM..
+# With `colours`, every second cell has a colour and an attribute. With `sequences`, every second cell holds sequences
+# that count nothing, and columns are as wide as their contents, or 12, 20 and 40 wide, paddings included.
+#
+# A PROGRAM does what tools/measure/styled/main.rt.txt does. To build that, copy it to crates/styled/src/main.rt, add the line
+# `styled: comfy_table anyhow simdutf8` to crates.txt, and call `rt run` in crates/styled. tools/measure/original has the same program over
+# the original, which is built by `cargo build --release --features tty`, or custom_styling for sequences. All programs
+# have to write the same. A ratio is the first program's instructions divided by those of the program that it stands at.
+set -eu
+if [ $# -lt 2 ]; then
+  sed -n 's/^# usage: //p' "$0" >&2
+  exit 2
+fi
+. "$(dirname "$0")/inputs.sh"
+. "$(dirname "$0")/counting.sh"
+work=$(mktemp -d)
+trap 'rm -rf "$work"' EXIT
+kind=$1
+shift
+
+if [ "$kind" = colours ]; then
+  short_cells 10000 6 cell > "$work/input"
+  compare "$work/input" colours 8 "$@"
+  exit
+fi
+sentences_with_sequences > "$work/input"
+for width in '' 12 20 40; do
+  echo "${width:+columns of }${width:-as wide as the contents}"
+  compare "$work/input" "$width" 8 "$@"
+done

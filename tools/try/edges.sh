@@ -1,0 +1,161 @@
+#!/bin/sh
+# Runs a built ctable or csvtable where its memory, its input or its output ends, and with words that aren't text. It
+# compares its status and what it says on standard error. In each of these runs nothing may stand on standard output. Of
+# csvtable it also compares what is written of a file and of standard input. It prints a line for each run, and ends with
+# status 1 where one is otherwise than written here.
+#
+# usage: tools/try/edges.sh PROGRAM, as tools/try/edges.sh crates/ctable/out/ctable
+set -u
+if [ $# -ne 1 ] || [ ! -x "$1" ]; then
+  echo "usage: $0 PROGRAM" >&2
+  exit 2
+fi
+program=$1
+name=$(basename "$program")
+work=$(mktemp -d) || exit 2
+trap 'rm -rf "$work"' EXIT
+ended=0
+
+# What each program says of words that aren't text, and of a pipe that has no reader any more.
+case $name in
+  csvtable)
+    misused="csvtable: a word isn't UTF-8"
+    unread=
+    unreadable="csvtable: standard input: can't be read"
+    folder='csvtable: standard input: is a directory'
+    ;;
+  *)
+    misused='usage: ctable [WIDTH|- [disabled|dynamic|full [STYLE]]]'
+    unread="$name: the output can't be written"
+    unreadable="$name: the input can't be read"
+    folder=$unreadable
+    ;;
+esac
+
+line='one text\tanother text\ta third text'
+printf "$line\n" > "$work/small"
+yes "$(printf "$line")" | head -c 1000000 > "$work/large"
+yes "$(printf "$line")" | head -c 50000000 > "$work/huge"
+
+# Compares a run: its name, its status, the status that is wanted, and the line that is wanted on standard error, if any.
+compare() {
+  if [ "$2" -eq "$3" ] && [ "$(cat "$work/err")" = "$4" ] && [ ! -s "$work/out" ]; then
+    echo "$1: status $2, ${4:-nothing is said}"
+  else
+    echo "$1: BROKEN: status $2, $(wc -c < "$work/out") bytes on standard output, and on standard error:"
+    cat "$work/err"
+    ended=1
+  fi
+}
+
+# Runs the program with so many kilobytes of memory at the most.
+run_limited() {
+  (ulimit -v "$1" && exec "$program" < "$2" > "$work/out" 2> "$work/err")
+}
+
+# A small input shows that the program starts within a limit.
+for limit in 5000 20000 50000 75000 100000 200000 400000; do
+  if run_limited $limit "$work/small"; then
+    run_limited $limit "$work/huge"
+    compare "50 MB within a limit of $limit kB" $? 1 "$name: out of memory"
+  else
+    echo "a limit of $limit kB: BROKEN: the program doesn't start"
+    ended=1
+  fi
+done
+: > "$work/out"
+
+# The status stands in a file: a pipe has that of its last command.
+{
+  "$program" < "$work/large" 2> "$work/err"
+  echo $? > "$work/status"
+} | head -c 10 > "$work/begun"
+compare 'a reader that ends after 10 bytes' "$(cat "$work/status")" 1 "$unread"
+
+"$program" < "$work/small" > /dev/full 2> "$work/err"
+compare 'a full disk' $? 1 "$name: the output can't be written"
+
+"$program" < "$work/small" >&- 2> "$work/err"
+compare 'a closed standard output' $? 1 "$name: the output can't be written"
+
+"$program" <&- > "$work/out" 2> "$work/err"
+compare 'a closed standard input' $? 1 "$unreadable"
+
+"$program" < "$work" > "$work/out" 2> "$work/err"
+compare 'a folder as input' $? 1 "$folder"
+
+"$program" < "$work" > "$work/out" 2>&-
+status=$?
+: > "$work/err"
+compare 'a folder as input, and a closed standard error' $status 1 ''
+
+# Words that aren't UTF-8: a byte that no text has, one behind letters, and a character that ends too early. Reading the
+# folder would end with another status: the words alone decide.
+byte=$(printf '\377')
+behind=$(printf 'dynamic\377')
+early=$(printf 'UTF8_FULL\342\202')
+misuse() {
+  run=$1
+  shift
+  "$program" "$@" < "$work" > "$work/out" 2> "$work/err"
+  compare "$run" $? 2 "$misused"
+}
+misuse 'a width that is no text' "$byte"
+misuse 'an arrangement that is no text' 40 "$behind"
+misuse 'a style that is no text' 40 dynamic "$early"
+misuse 'a fourth word that is no text' 40 dynamic UTF8_FULL "$byte"
+
+[ "$name" = csvtable ] || exit $ended
+
+# The rest is said of csvtable alone: its files, and inputs that it refuses.
+refused() {
+  run=$1
+  line=$2
+  shift 2
+  "$program" "$@" < "$work/input" > "$work/out" 2> "$work/err"
+  compare "$run" $? 1 "csvtable: $line"
+}
+printf 'a,b\nx,y\n' > "$work/input"
+refused 'a file that is not there' "$work/none: no such file" "$work/none"
+refused 'a folder as a file' "$work: is a directory" "$work"
+: > "$work/closed"
+chmod 000 "$work/closed"
+# the superuser reads it all the same
+[ -r "$work/closed" ] || refused 'a file that may not be read' "$work/closed: permission denied" "$work/closed"
+refused 'a column that is not there' 'standard input: no column 09' -c 09
+refused 'a column at two sides' "standard input: column b can't stand at the right and at the left" -r b --left 2
+printf 'a,b\nx,\377\n' > "$work/input"
+refused 'a line that is not UTF-8' "standard input: line 2 isn't UTF-8; try -e cp1252"
+refused 'such a line in a file' "$work/input: line 2 isn't UTF-8; try -e cp1252" "$work/input"
+refused 'such a line with an encoding' "standard input: line 2 isn't UTF-8" -e utf-8
+printf 'a,b\nx,"\n' > "$work/input"
+refused 'a quote that is never closed' 'standard input: a quote that opens in line 2 is never closed; try --no-quotes'
+
+# Compares two runs that have to write the same, and not nothing.
+same() {
+  if [ -s "$work/first" ] && cmp -s "$work/first" "$work/second"; then
+    echo "$1: the same is written"
+  else
+    echo "$1: BROKEN: not the same is written"
+    ended=1
+  fi
+}
+printf 'a,b\nx,y\n' > "$work/input"
+"$program" < "$work/input" > "$work/first"
+"$program" "$work/input" > "$work/second" < /dev/null
+same 'a file, and standard input'
+"$program" - < "$work/input" > "$work/second"
+same 'a hyphen, and no file'
+COLUMNS=5 "$program" < "$work/input" > "$work/second"
+same 'COLUMNS where standard output is no terminal'
+"$program" -h > "$work/first"
+"$program" --help > "$work/second"
+same '-h and --help'
+"$program" -V > "$work/first"
+echo 'csvtable 2.0.0' > "$work/second"
+same '-V'
+: > "$work/out"
+"$program" --wide < "$work/input" > "$work/out" 2> "$work/err"
+compare 'a word that is not known' $? 2 "$(cat "$work/err")"
+
+exit $ended

@@ -1,0 +1,107 @@
+#!/bin/sh
+# Makes the packages for C, Rust and Python, installs each where nothing else is, and tries it: an empty prefix, an empty
+# project of cargo, an empty virtual environment. The tests of the packages must pass, and their example programs must print
+# the same bytes as ctable and csvtable. A language whose compiler or interpreter isn't there is left out, and the last line
+# says which were tried.
+#
+# usage: tools/try/package_test.sh
+# CC is the compiler for C, cc where it isn't set. What isn't built yet is built first.
+set -eu
+cd "$(dirname "$0")/../.."
+top=$PWD
+. tools/installing.sh
+. tools/measure/csv_inputs.sh
+build ctable ctable rt run
+build csvtable csvtable rt run -- --version
+work=$(mktemp -d)
+trap 'rm -rf "$work"' EXIT
+tools/package.sh "$work/packages"
+export CSVTABLE="$top/crates/csvtable/out/csvtable" PYTHONDONTWRITEBYTECODE=1
+tried=C
+
+# The inputs of tab-separated text: ctable's own, cases in many scripts, no bytes, and more rows than the first buffer of the
+# examples holds.
+mkdir "$work/tabs" "$work/csv"
+cp crates/ctable/stdin "$work/tabs/stored"
+cp crates/test_cases/stdin "$work/tabs/scripts"
+: > "$work/tabs/nothing"
+awk 'BEGIN { for (i = 0; i < 1000; i++) printf "%d\t\t\t\t\t\t\t\t\t\n", i }' > "$work/tabs/rows"
+
+# Those of CSV: a ledger, messages with quotes and line breaks, TABs, another encoding, a quote that is never closed, nothing.
+cp crates/csvtable/data/ledger.csv "$work/csv"
+csv_of messages 300 > "$work/csv/messages.csv"
+cp crates/ctable/stdin "$work/csv/stored.tsv"
+printf 'name;price\n\377;\351\n' > "$work/csv/bank.csv"
+printf 'name,price\n"oats,3\n' > "$work/csv/open.csv"
+: > "$work/csv/nothing"
+
+# Compares a program's drawings with those of ctable. Further words are the program and its arguments.
+compare() {
+  words=$1
+  shift
+  for input in "$work"/tabs/*; do
+    crates/ctable/out/ctable $words < "$input" > "$work/wanted"
+    "$@" < "$input" > "$work/drawn"
+    cmp "$work/wanted" "$work/drawn"
+  done
+  echo "$* draws as ctable $words"
+}
+
+# Compares what a program writes and says with what csvtable does, with words that are accepted and others.
+compare_csv() {
+  for words in '' '-w 40' '-s grid -r 1' '-x --limit 2 --color always' '--markdown -e cp1252' '-t -n --rows' '-c 2,1 -m 1' \
+    '--no-quotes --raw -s NOTHING' '-w 65535 --full -d ;' '-c nothing' '--rows --no-rows' '-w wide' '-d ab' '--odd' '--help'; do
+    for input in "$work"/csv/*; do
+      name=$(basename "$input")
+      (cd "$work/csv" && "$CSVTABLE" $words "$name") > "$work/wanted" 2>&1 || true
+      "$@" $words "$name" < "$input" > "$work/drawn" 2>&1 || true
+      cmp "$work/wanted" "$work/drawn"
+    done
+  done
+  echo "$* draws as csvtable"
+}
+
+# C, by pkg-config where it is there.
+mkdir "$work/prefix" "$work/programs"
+tar -C "$work/prefix" --strip-components=1 -xzf "$work"/packages/*.tar.gz
+if command -v pkg-config > /dev/null; then
+  flags=$(PKG_CONFIG_PATH=$work/prefix/lib/pkgconfig pkg-config --cflags --libs comfy_table)
+else
+  flags="-I$work/prefix/include -L$work/prefix/lib -lcomfy_c -llibc_c"
+fi
+for example in draw csv; do
+  ${CC:-cc} -O2 -Wall -Wextra -Werror "packages/c/examples/$example.c" $flags -o "$work/programs/$example"
+done
+compare '- dynamic ASCII_FULL' "$work/programs/draw"
+compare '40 dynamic ASCII_FULL' "$work/programs/draw" 40
+compare_csv "$work/programs/csv"
+
+if command -v cargo > /dev/null; then
+  tried="$tried, Rust"
+  mkdir -p "$work/crate" "$work/project/src/bin"
+  tar -C "$work/crate" --strip-components=1 -xzf "$work"/packages/*.crate
+  cp packages/rust/examples/*.rs "$work/project/src/bin"
+  cat > "$work/project/Cargo.toml" <<END
+[package]
+name = "project"
+version = "0.1.0"
+edition = "2024"
+
+[dependencies]
+comfy_table_proved = { path = "../crate" }
+END
+  (cd "$work/project" && cargo build -q --offline)
+  compare '40 dynamic UTF8_FULL' "$work/project/target/debug/draw"
+  compare_csv "$work/project/target/debug/csv"
+  (cd "$work/crate" && cargo test -q --offline)
+fi
+
+if command -v python3 > /dev/null; then
+  tried="$tried, Python"
+  python3 -m venv "$work/venv"
+  "$work/venv/bin/pip" install -q --no-index --disable-pip-version-check "$work"/packages/*.whl
+  compare '40 dynamic UTF8_FULL' "$work/venv/bin/python" packages/python/examples/draw.py
+  compare_csv "$work/venv/bin/python" packages/python/examples/draw_csv.py
+  "$work/venv/bin/python" -m unittest discover -s packages/python/tests
+fi
+echo "tried: $tried"

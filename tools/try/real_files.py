@@ -1,0 +1,211 @@
+#!/usr/bin/env python3
+"""Makes 18 files as people have them, and tries csvtable on them.
+
+    tools/try/real_files.py PROGRAM             runs PROGRAM on each file: its status, what it writes and what it says
+    tools/try/real_files.py --compare PROGRAM   prints a table of what PROGRAM, csvlook, mlr and column do, file by file
+
+What is wanted stands beside each file, and comes from the rules in docs/CSVTABLE.md. The first form prints a line for each
+run, and ends with status 1 where one is otherwise.
+"""
+import csv
+import io
+import os
+import re
+import subprocess
+import sys
+import tempfile
+import textwrap
+import unicodedata
+
+WIDE = ",".join(f"column_{i}" for i in range(1, 31)) + "\n" + "".join(
+    ",".join(f"value {i * row}" for i in range(1, 31)) + "\n" for row in range(1, 13)
+)
+LONG = (
+    'id,text,link\n1,"'
+    + "A sentence that goes on for a while. " * 6
+    + '",https://example.org/a/path/that/is/long/enough/to/be/cut?and=more\n2,"two\nlines",https://example.org\n'
+)
+BANK = "Buchungstag;Verwendungszweck;Betrag\n02.05.2026;Bäckerei Müller;-84,50\n13.05.2026;Gehalt;2.500,00\n"
+MIXED = "item,price,left\npaper,$12.50,3\nrefund,($3.00),n/a\npens,$1.20,12345678901234567890\nink,$8.99,NaN\n"
+SCRIPTS = "name,city\n王小明,北京\nمحمد,القاهرة\nกมล,กรุงเทพ\nZoë,Zürich\n👨‍👩‍👧,🇩🇪 Köln\ne\u0301tienne,Orle\u0301ans\n"
+LOG = 'time,level,text\n10:00:01,warn,\x1b[33mdisk at 91 %\x1b[0m\n10:00:07,error,\x1b]0;title\x07no space\n'
+TSV = 'name\tnote\nscrew 5"\t5" long\nbolt\tflat\n'
+PREAMBLE = "Bank of Nowhere\nAccount 12\n\ndate,amount\n2026-05-02,-84.50\n2026-05-13,2500.00\n"
+
+
+class Run:
+    """A file, the words with which it is drawn, and what is wanted: a status, a text in the output or in the message."""
+
+    def __init__(self, name, text, words="", status=0, drawn=(), said="", encoding="utf-8", delimiter=","):
+        self.name, self.words, self.status, self.drawn, self.said = name, words.split(), status, drawn, said
+        self.bytes = text if isinstance(text, bytes) else text.encode(encoding)
+        self.encoding, self.delimiter = encoding, delimiter
+
+
+RUNS = [
+    Run("wide.csv", WIDE, drawn=["record 1 of 12", "column_30", "value 360"]),
+    Run("wide.csv", WIDE, "-c column_2-column_4 --drop 3", drawn=["│ column_2 ┆ column_4 │"]),
+    Run("zeros.csv", "order,zip\n000042,01067\n000043,80331\n", drawn=["│ 000042 ┆ 01067 │"]),
+    Run("long.csv", LONG, drawn=["│ id ┆"]),
+    Run("bank.csv", BANK, "", 1, said="bank.csv: line 2 isn't UTF-8; try -e cp1252", encoding="latin-1", delimiter=";"),
+    Run("bank.csv", BANK, "-e cp1252", drawn=["│ 02.05.2026  ┆ Bäckerei Müller  ┆   -84,50 │"], encoding="latin-1", delimiter=";"),
+    Run("bank.csv", BANK, "-e utf-8", 1, said="bank.csv: line 2 isn't UTF-8\n", encoding="latin-1", delimiter=";"),
+    Run("bank8.csv", BANK, drawn=["│ 13.05.2026  ┆ Gehalt           ┆ 2.500,00 │"], delimiter=";"),
+    Run("dates.csv", "day,time,host,version\n02.05.2026,07:49,192.168.0.1,1.2.3\n", drawn=["│ 02.05.2026 ┆ 07:49 ┆ 192.168.0.1 ┆ 1.2.3   │"]),
+    Run("tabs.tsv", TSV, drawn=['│ screw 5" ┆ 5" long │'], delimiter="\t"),
+    Run("mixed.csv", MIXED, drawn=["│ refund ┆ ($3.00) ┆                  n/a │"]),
+    Run("ragged.csv", "a,b\n1\n1,2,3\n", drawn=["│ 1 ┆ 2 ┆ 3 │"]),
+    Run("quote.csv", 'a,b\n1,"open\n2,3\n', "", 1, said="quote.csv: a quote that opens in line 2 is never closed; try --no-quotes"),
+    Run("quote.csv", 'a,b\n1,"open\n2,3\n', "--no-quotes", drawn=['│ 1 ┆ "open │', "│ 2 ┆ 3     │"]),
+    Run("empty.csv", "", drawn=[""]),
+    Run("utf16.csv", "\ufeff" + BANK, drawn=["Bäckerei Müller"], encoding="utf-16-le", delimiter=";"),
+    Run("utf16.csv", b"\xff\xfea\x00\n\x00\x00\xd8", "", 1, said="utf16.csv: line 2 isn't UTF-16"),
+    Run("mark.csv", "\ufeffid,name\r\n1,Ann\r\n2,Bob\r\n", drawn=["│ id ┆ name │", "│  1 ┆ Ann  │"]),
+    Run("json.csv", 'id,data\n1,"{""a"": [1, 2], ""b"": null}"\n', drawn=['{"a": [1, 2], "b": null}']),
+    Run("scripts.csv", SCRIPTS, drawn=["王小明", "محمد"]),
+    Run("log.csv", LOG, drawn=["\ufffd[33mdisk at 91 %\ufffd[0m", "\ufffd]0;title\ufffdno space"]),
+    Run("log.csv", LOG, "--ansi", drawn=["\x1b[33mdisk at 91 %\x1b[0m", "\ufffd]0;title\ufffdno space"]),
+    Run("sep.csv", "sep=;\na;b\n1;2\n", drawn=["│ a ┆ b │", "│ 1 ┆ 2 │"], delimiter=";"),
+    Run("sep.csv", "sep=;\na;b\n1;2\n", "-d ,", drawn=["│ sep=; │"], delimiter=";"),
+    Run("preamble.csv", PREAMBLE, "--skip 3", drawn=["│ date       ┆  amount │"]),
+    Run("preamble.csv", PREAMBLE, "--skip 3 -r amount --drop nothing", 1, said="preamble.csv: no column nothing"),
+]
+
+# The rest of what a message has to say: files that can't be read.
+OTHERS = [
+    ("nofile.csv", "csvtable: nofile.csv: no such file\n"),
+    ("folder", "csvtable: folder: is a directory\n"),
+]
+
+
+def width_of(line):
+    """So many terminal columns: what is joined to an emoji before it takes none, and a flag is two letters of one."""
+    characters = [c for c, before in zip(line, " " + line) if before != "\u200d"]
+    return sum(2 if unicodedata.east_asian_width(c) in "WF" else 1 for c in characters if unicodedata.category(c) not in ("Mn", "Me", "Cf"))
+
+
+def ran(words, folder):
+    return subprocess.run(words, cwd=folder, stdin=subprocess.DEVNULL, capture_output=True, timeout=120)
+
+
+def write(run, folder):
+    with open(os.path.join(folder, run.name), "wb") as file:
+        file.write(run.bytes)
+
+
+def fault_of(run, result):
+    """What is otherwise than wanted, or nothing."""
+    out, err = result.stdout.decode(errors="replace"), result.stderr.decode(errors="replace")
+    if result.returncode != run.status:
+        return f"status {result.returncode}: {err.strip()}"
+    if run.status:
+        message = "csvtable: " + run.said + ("" if run.said.endswith("\n") else "\n")
+        return "" if not out and err == message else f"it says {err!r}"
+    if err:
+        return f"it says {err!r}"
+    missing = [it for it in run.drawn if it not in out]
+    return f"no {missing[0]!r} in\n{out}" if missing or (run.drawn == [""] and out) else ""
+
+
+def tried(program, folder):
+    faults = 0
+    for run in RUNS:
+        write(run, folder)
+        words = run.words if "-w" in run.words else ["-w", "80", *run.words]
+        fault = fault_of(run, ran([program, *words, run.name], folder))
+        print(f"{run.name} {' '.join(run.words)}: {fault or 'as it should be'}")
+        faults += bool(fault)
+    os.mkdir(os.path.join(folder, "folder"))
+    for name, message in OTHERS:
+        result = ran([program, name], folder)
+        good = result.returncode == 1 and not result.stdout and result.stderr.decode() == message
+        print(f"{name}: {'as it should be' if good else result.stderr}")
+        faults += not good
+    return faults
+
+
+# ---- beside other programs
+
+PROGRAMS = {
+    "csvlook -I": ["csvlook", "-I"],
+    "mlr --icsv --opprint --barred --right cat": ["mlr", "--icsv", "--opprint", "--barred", "--right", "cat"],
+    "column -ts,": ["column", "-t", "-s", ","],
+}
+
+
+def said_in(result):
+    """A line of an error, of Python's its last one, without the program's name."""
+    lines = result.stderr.decode(errors="replace").strip().split("\n")
+    line = lines[-1] if "Python" in lines[0] or "python" in lines[0] else lines[0]
+    return textwrap.shorten(re.sub(r"^(mlr: |csvtable: )+", "", line).strip(".:"), 64, placeholder=" ...").replace("|", "/").replace("`", "'")
+
+
+def lost_in(run, text, out):
+    """The fields that don't stand in a drawing as they are."""
+    skipped = 3 if "--skip" in run.words else 0
+    below = "".join(text.removeprefix("sep=;\n").splitlines(True)[skipped:])
+    quoting = csv.QUOTE_NONE if "--no-quotes" in run.words else csv.QUOTE_MINIMAL
+    rows = csv.reader(io.StringIO(below, newline=""), delimiter=run.delimiter, quoting=quoting)
+    lines = [line.strip() for row in rows for field in row for line in field.split("\n")]
+    return [it for it in lines if it.isprintable() and it not in out]
+
+
+def seen_of(run, result, whole, has_frame=True):
+    """What a person sees of a drawing, the whole of which is this: how it fails, or its faults."""
+    if result.returncode:
+        return "refused: " + said_in(result)
+    out, whole = result.stdout.decode(errors="replace"), whole.stdout.decode(errors="replace")
+    if not out:
+        return "nothing"
+    faults = []
+    widths = [width_of(line) for line in out.rstrip("\n").split("\n") if not line.startswith("record ")]
+    text = run.bytes.decode(run.encoding).removeprefix("\ufeff")
+    if max(widths) > 80:
+        faults.append(f"{max(widths)} columns wide")
+    if has_frame and len(set(widths)) > 1:
+        faults.append("crooked")
+    if "\x1b" in out or "\x07" in out:
+        faults.append("sends its escapes")
+    if run.delimiter != "," and run.delimiter in whole:
+        faults.append("columns not parted")
+    lost = lost_in(run, text, whole)
+    if lost and "columns not parted" not in faults:
+        faults.append(f"no `{lost[0][:20]}`")
+    return ", ".join(faults) or "right"
+
+
+def row_of(program, run, folder):
+    """What each program draws of a file: csvtable without words, and with the words that it is given here."""
+    write(run, folder)
+    seen = [seen_of(run, ran([program, "-w", "80", run.name], folder), ran([program, "-w", "0", run.name], folder))] if not run.words else []
+    for it in RUNS:
+        if it.name == run.name and it.words and not it.status and (run.words or seen[0].startswith("refused")):
+            words = [program, *it.words, it.name]
+            seen.append(f"`{' '.join(it.words)}`: " + seen_of(it, ran([*words, "-w", "80"], folder), ran([*words, "-w", "0"], folder)))
+            break
+    others = [seen_of(run, ran([*words, run.name], folder), ran([*words, run.name], folder), words[0] != "column") for words in PROGRAMS.values()]
+    return "| " + " | ".join([run.name, "; ".join(seen), *others]) + " |"
+
+
+def compared(program, folder):
+    print("| File | `csvtable` | " + " | ".join(f"`{it}`" for it in PROGRAMS) + " |")
+    print("|---|---|" + "---|" * len(PROGRAMS))
+    done = set()
+    for run in RUNS:
+        if run.name not in done:
+            print(row_of(program, run, folder))
+        done.add(run.name)
+    return 0
+
+
+def main():
+    words = [it for it in sys.argv[1:] if it != "--compare"]
+    if len(words) != 1:
+        sys.exit(__doc__)
+    with tempfile.TemporaryDirectory() as folder:
+        act = compared if "--compare" in sys.argv else tried
+        sys.exit(1 if act(os.path.realpath(words[0]), folder) else 0)
+
+
+if __name__ == "__main__":
+    main()

@@ -1,0 +1,97 @@
+#!/bin/sh
+# Refuses each request for memory of four built programs, one after another: those of ctable and csvtable on their stored
+# inputs, without words and with some, those of test_cases on two of its cases, and those of test_refused on each call by
+# itself. Each such run of the first three must end with status 1, print nothing, and say that there is no memory. One of
+# test_refused must say that the call was refused as promised, or end with status 3 and print nothing, where the request
+# wasn't the call's. Of a call that adds three rows it must also say how many are kept: 0 at first, then 1, then 2, as
+# later requests are refused.
+#
+# usage: tools/try/refused_requests.sh
+# It builds the programs where they aren't, which proves them. CC is the compiler of refuse.c, which refuses the requests
+# and says how runs end: cc where it isn't set. That takes the GNU C library, with which the programs are linked.
+set -u
+tools=$(cd "$(dirname "$0")" && pwd) || exit 2
+crates=$(cd "$tools/../../crates" && pwd) || exit 2
+work=$(mktemp -d) || exit 2
+trap 'rm -rf "$work"' EXIT
+${CC:-cc} -O2 -Wall -Wextra -Werror "$tools/refuse.c" -o "$work/refuse" || exit 2
+${CC:-cc} -O2 -Wall -Wextra -Werror -shared -fPIC "$tools/refusing.c" -o "$work/refuse.so" || exit 2
+
+# Builds a program. With ample memory it must print what is stored, on its stored input, or with the words behind its name.
+build() {
+  name=$1
+  shift
+  input=$crates/$name/stdin
+  if [ $# -gt 0 ]; then
+    input=/dev/null
+  fi
+  (cd "$crates/$name" && rt run ${1:+--} "$@" < "$input" > "$work/printed") || exit 2
+  if ! cmp "$work/printed" "$crates/$name/stdout"; then
+    echo "$0: $name prints something else with ample memory" >&2
+    exit 1
+  fi
+}
+
+# Each refused request of a built program on an input must end with what is said. Behind it stand the program's words.
+refuse() {
+  name=$1
+  input=$2
+  message=$3
+  shift 3
+  said=$("$work/refuse" "$input" "$crates/$name/out/$name" "$@") || exit 2
+  called=$name${*:+" $*"}
+  printf '%s\n' "$said" | sed "s/^/$called: /"
+  if ! printf '%s\n' "$said" | grep -q '^refused in turn: [1-9]'; then
+    echo "$0: no request of $called was refused" >&2
+    exit 1
+  fi
+  if printf '%s\n' "$said" | grep '^request ' | grep -v ": status 1, 0 bytes, $message *\$"; then
+    echo "$0: a refused request of $called ended otherwise" >&2
+    exit 1
+  fi
+}
+
+# Each refused request of a call must be answered as promised. A run with status 3 refused one outside of the call.
+refuse_call() {
+  call=$1
+  printf '%s\n' "$call" > "$work/call"
+  said=$("$work/refuse" "$work/call" "$crates/test_refused/out/test_refused") || exit 2
+  bytes=$(($(printf '%s: refused, as promised\n' "$call" | wc -c)))
+  case $call in
+    Table::*add_rows*) words='rows kept: [0-9]*' ;;
+    *) words= ;;
+  esac
+  if printf '%s\n' "$said" | grep '^request ' \
+    | grep -v -e ": status 0, $bytes bytes, $words *\$" -e ': status 3, 0 bytes, *$'; then
+    echo "$0: a refused request of $call ended otherwise" >&2
+    exit 1
+  fi
+  kept=$(printf '%s\n' "$said" | sed -n 's/^request .* rows kept: \([0-9]*\) *$/\1/p' | uniq | tr '\n' ' ')
+  if [ -n "$words" ] && [ "$kept" != '0 1 2 ' ]; then
+    echo "$0: of the rows of $call these were kept, request by request: $kept" >&2
+    exit 1
+  fi
+  own=$(printf '%s\n' "$said" | sed -n 's/^refused in turn://p' | tr ';' '\n' \
+    | awk -v bytes="$bytes" '$2 == "status" && $3 == "0," && $4 == bytes { own += $1 } END { print own + 0 }')
+  if [ "$own" -eq 0 ]; then
+    echo "$0: no request of $call was refused" >&2
+    exit 1
+  fi
+  echo "test_refused: $call: refused in turn: $own, as promised"
+}
+
+build ctable
+refuse ctable "$crates/ctable/stdin" 'ctable: out of memory'
+refuse ctable "$crates/ctable/stdin" 'ctable: out of memory' 40 dynamic UTF8_FULL
+build csvtable -w 60 data/ledger.csv
+refuse csvtable "$crates/csvtable/data/ledger.csv" 'csvtable: out of memory'
+refuse csvtable "$crates/csvtable/data/ledger.csv" 'csvtable: out of memory' -w 40 -c 2,1 --right 1 --limit 1 --rows
+refuse csvtable "$crates/csvtable/data/ledger.csv" 'csvtable: out of memory' -c 2,1 --right 1 --limit 1 --markdown
+refuse csvtable "$crates/csvtable/data/ledger.csv" 'csvtable: out of memory' -x -w 30 --limit 1
+build test_cases
+awk '/^case\theight-(0-is-1-line|with-an-indicator-of-three-dots)$/, /^end$/' "$crates/test_cases/stdin" > "$work/two.cases"
+refuse test_cases "$work/two.cases" 'Error: out of memory'
+build test_refused
+while IFS= read -r call; do
+  refuse_call "$call"
+done < "$crates/test_refused/stdin"

@@ -1,0 +1,200 @@
+#!/usr/bin/env python3
+"""Runs a built csvtable in terminals that it makes, and looks at what a person would see.
+
+    tools/try/terminal.py PROGRAM
+
+Each try has words, an input and an environment, and standard output and standard error each are a terminal or not. It
+looks at the widths of lines, at bold headers, at statuses, at which stream a text stands on, and at characters that
+would speak to the terminal. It prints a line for each try, and ends with 1 where one shows something else.
+"""
+import os
+import pty
+import re
+import select
+import subprocess
+import sys
+import tempfile
+import termios
+import unicodedata
+
+SGR = re.compile("\x1b\\[[0-9;:]*m")
+PROGRAM = ""
+failed = 0
+
+
+def terminal():
+    """The two ends of a new terminal that passes lines on as they are."""
+    ours, theirs = pty.openpty()
+    settings = termios.tcgetattr(theirs)
+    settings[1] &= ~termios.OPOST
+    termios.tcsetattr(theirs, termios.TCSANOW, settings)
+    return ours, theirs
+
+
+def all_of(ends):
+    """What comes out of these ends until all are closed, by end."""
+    said = {end: b"" for end in ends}
+    waiting = set(ends)
+    while waiting:
+        for end in select.select(list(waiting), [], [])[0]:
+            try:
+                more = os.read(end, 65536)
+            except OSError:  # a terminal whose other end is closed
+                more = b""
+            said[end] += more
+            if not more:
+                waiting.remove(end)
+                os.close(end)
+    return said
+
+
+def run(*words, text=b"", out="terminal", err="pipe", **variables):
+    """A run's status, output and messages. Each stream is a terminal, a pipe, or a file that it is written to."""
+    environment = {name: it for name, it in os.environ.items() if name not in ("COLUMNS", "NO_COLOR")} | variables
+    ends, theirs = {}, {}
+    for name, kind in (("out", out), ("err", err)):
+        if kind in ("terminal", "pipe"):
+            ends[name], theirs[name] = terminal() if kind == "terminal" else os.pipe()
+        else:
+            theirs[name] = os.open(kind, os.O_WRONLY)
+    with tempfile.TemporaryFile() as file:
+        file.write(text if isinstance(text, bytes) else text.encode())
+        file.seek(0)
+        process = subprocess.Popen([PROGRAM, *words], stdin=file, stdout=theirs["out"], stderr=theirs["err"], env=environment)
+        for end in theirs.values():
+            os.close(end)
+        said = all_of(ends.values())
+    texts = {name: said[end].decode() for name, end in ends.items()}
+    return process.wait(), texts.get("out", ""), texts.get("err", "")
+
+
+def columns(line):
+    """How many terminal columns a line takes: of its characters, those that are wide count two and marks none."""
+    count = 0
+    for c in SGR.sub("", line):
+        if unicodedata.category(c) not in ("Mn", "Me", "Cf"):
+            count += 2 if unicodedata.east_asian_width(c) in "WF" else 1
+    return count
+
+
+def widest(text):
+    return max((columns(line) for line in text.split("\n")), default=0)
+
+
+def speaks(text):
+    """Whether a text has a control character but line feeds and those of SGR sequences, or one that turns the direction."""
+    return any(unicodedata.category(c) == "Cc" and c != "\n" or c in "\u202a\u202b\u202c\u202d\u202e\u2066\u2067\u2068\u2069" for c in SGR.sub("", text))
+
+
+def see(name, is_so, shown=""):
+    global failed
+    print(f"{name}: {'as it should be' if is_so else 'OTHERWISE'}")
+    if not is_so:
+        failed = 1
+        print(shown[:2000])
+
+
+def widths():
+    text = "name,text\n" + ("a,%s\n" % ("x" * 320)) * 3
+    for name, variables, width in (
+        ("no COLUMNS", {}, 80),
+        ("COLUMNS=40", {"COLUMNS": "40"}, 40),
+        ("COLUMNS=0", {"COLUMNS": "0"}, 80),
+        ("an empty COLUMNS", {"COLUMNS": ""}, 80),
+        ("COLUMNS=wide", {"COLUMNS": "wide"}, 80),
+        ("COLUMNS=+40", {"COLUMNS": "+40"}, 80),
+        ("COLUMNS=65535", {"COLUMNS": "65535"}, 331),
+        ("COLUMNS=65536", {"COLUMNS": "65536"}, 80),
+    ):
+        status, out, _ = run(text=text, **variables)
+        see(f"a terminal with {name}", status == 0 and widest(out) == width, out)
+        status, out, _ = run(text=text, out="pipe", err="terminal", **variables)
+        see(f"a pipe with {name}", status == 0 and widest(out) == 331, out)
+    for words, width in ((["-w", "0"], 331), (["-w", "30"], 30), (["-w", "30", "-w", "50"], 50)):
+        status, out, _ = run(*words, text=text, COLUMNS="40")
+        see(f"a terminal with {' '.join(words)}", status == 0 and widest(out) == width, out)
+
+
+def bold():
+    for name, words, variables, out, is_bold in (
+        ("a terminal", [], {}, "terminal", True),
+        ("a terminal with NO_COLOR=1", [], {"NO_COLOR": "1"}, "terminal", False),
+        ("a terminal with an empty NO_COLOR", [], {"NO_COLOR": ""}, "terminal", True),
+        ("a pipe", [], {}, "pipe", False),
+        ("a pipe and --color always", ["--color", "always"], {}, "pipe", True),
+        ("a terminal and --color never", ["--color", "never"], {}, "terminal", False),
+        ("NO_COLOR=1 and --color always", ["--color", "always"], {"NO_COLOR": "1"}, "terminal", True),
+    ):
+        err = "pipe" if out == "terminal" else "terminal"
+        status, said, _ = run(*words, text="a,b\nx,y\n", out=out, err=err, **variables)
+        see(f"bold in {name}", status == 0 and ("\x1b[1m" in said) == is_bold, said)
+
+
+def endings():
+    text = "a,b\nx,y\n"
+    status, out, err = run("--bogus", text=text)
+    see("a word that isn't known", status == 2 and out == "" and "--bogus" in err, out + err)
+    status, out, err = run("--bogus\x1b[2J", text=text)
+    see("a word with a sequence", status == 2 and out == "" and not speaks(err), repr(err))
+    see("a word that isn't known, and a full disk", run("--bogus", text=text, err="/dev/full")[0] == 2)
+    status, out, err = run("--help")
+    see("help", status == 0 and "--columns" in out and err == "", out + err)
+    see("help on a full disk", run("--help", out="/dev/full")[0] == 1)
+    status, out, err = run("--version")
+    see("the version", status == 0 and out == "csvtable 2.0.0\n" and err == "", out + err)
+    status, out, err = run("-c", "01,zz", text=text)
+    see("a number that is no column's", status == 1 and out == "" and err.endswith(": no column zz\n"), out + err)
+    status, out, err = run("-c", "09", text=text)
+    see("a number as it was typed", status == 1 and out == "" and err.endswith(": no column 09\n"), out + err)
+    status, out, err = run("-c", "z\x1b]0;x\x07", text=text)
+    see("a name with a sequence", status == 1 and out == "" and not speaks(err), repr(err))
+    status, out, err = run("-r", "b", "--left", "2", text=text)
+    see("a column at two sides", status == 1 and out == "" and " b " in err, out + err)
+    status, out, err = run(text=text, out="/dev/full")
+    see("a full disk", status == 1 and "written" in err, err)
+
+
+def texts():
+    status, out, _ = run("-n", text="%s\n" % ("x" * 300))
+    see("a text of 300 letters", status == 0 and widest(out) == 80, out)
+    text = ",".join(f"column {n}" for n in range(30)) + "\n" + ",".join(f"text {n}" for n in range(30)) + "\n"
+    status, out, _ = run(text=text)
+    see("a file of 30 columns", status == 0 and out.startswith("record 1 of 1") and widest(out) == 23, out)
+    status, out, _ = run("--expanded", "never", text=text)
+    see("30 columns in rows", status == 0 and "record" not in out and widest(out) == 121, out)
+    status, out, _ = run("--markdown", text="a,b\n" + "x,%s\n" % ("y" * 100) * 3, COLUMNS="20")
+    see("Markdown where COLUMNS is 20", status == 0 and out.count("\n") == 5, out)
+    for words in ([], ["--ansi"]):
+        text = "a,b\n\x1b]52;c;eA==\x07,\x1b[2J\n\u009b2J,\u202etxt\n\x1b[31mred\x1b[0m,\x1b[1A\n"
+        status, out, _ = run(*words, text=text)
+        see(f"a file that would speak {' '.join(words)}", status == 0 and not speaks(out) and widest(out) <= 80, repr(out))
+    script = "José,Ελένη,Анна,רות,ليلى,ნინო,王小明,김철수\n"
+    status, out, _ = run("-n", text=script)
+    see("eight scripts", status == 0 and len({columns(line) for line in out.split("\n") if line}) == 1, out)
+    status, out, err = run(text="")
+    see("an empty file", status == 0 and widest(out) <= 2 and err == "", repr(out))
+
+
+def pages():
+    with tempfile.NamedTemporaryFile() as file:
+        file.write(b"number,text\n" + b"".join(b"%d,text %d\n" % (n, n) for n in range(100000)))
+        file.flush()
+        table = subprocess.Popen([PROGRAM, file.name], stdout=subprocess.PIPE, stderr=subprocess.PIPE)
+        head = subprocess.run(["head", "-5"], stdin=table.stdout, capture_output=True)
+        table.stdout.close()
+        said = table.stderr.read()
+        see("100,000 records through head", table.wait() == 1 and said == b"" and head.stdout.count(b"\n") == 5, head.stdout.decode())
+
+
+def main():
+    global PROGRAM
+    if len(sys.argv) != 2:
+        sys.exit(__doc__.split("\n\n")[1].strip())
+    PROGRAM = os.path.realpath(sys.argv[1])
+    for tries in (widths, bold, endings, texts, pages):
+        tries()
+    return failed
+
+
+if __name__ == "__main__":
+    sys.exit(main())
