@@ -11,8 +11,8 @@ use Rattle.csv_command.specs.declared.drawing.Refusal.{Refusal}
 use Rattle.csv_command.specs.declared.drawing.Refusal.TheVariants.{Words, Input, OutOfMemory}
 use Rattle.csv_command.specs.Words.{AreFoundInVain, AreNotTaken, IsAsked, IsWordRefusal}
 use Rattle.csv_command.specs.declared.arguments.Asked.{Asked}
-use Rattle.csv_records.specs.declared.error.CsvError.{CsvError}
-use Rattle.csv_records.specs.declared.error.CsvError.TheVariants as err
+use Rattle.csv_tables.specs.declared.error.CsvError.{CsvError}
+use Rattle.csv_tables.specs.declared.error.CsvError.TheVariants as err
 use Rattle.csv_tables.specs.declared.options.Options.{Options}
 
 -- where there was memory, the input is at fault

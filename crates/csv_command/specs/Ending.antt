@@ -10,8 +10,14 @@ use Rattle.csv_records.specs.Cleaning.{is_harmful, nothing_kept}
 use Rattle.csv_records.specs.Shown.{shown_text}
 use Rattle.csv_command.specs.declared.arguments.Asked.{Asked}
 use Rattle.csv_records.specs.declared.encoding.Encoding.{Encoding}
-use Rattle.csv_records.specs.declared.error.CsvError.{CsvError}
-use Rattle.csv_records.specs.declared.error.CsvError.TheVariants as err
+use Rattle.csv_records.specs.declared.error.DecodeError.{DecodeError}
+use Rattle.csv_records.specs.declared.error.DecodeError.TheVariants as decode
+use Rattle.csv_records.specs.declared.error.RecordsError.{RecordsError}
+use Rattle.csv_records.specs.declared.error.RecordsError.TheVariants as records
+use Rattle.csv_tables.specs.declared.error.ColumnsError.{ColumnsError}
+use Rattle.csv_tables.specs.declared.error.ColumnsError.TheVariants as columns
+use Rattle.csv_tables.specs.declared.error.CsvError.{CsvError}
+use Rattle.csv_tables.specs.declared.error.CsvError.TheVariants as err
 use Rattle.csv_command.specs.declared.ending.Drawing.{Drawing}
 use Rattle.csv_command.specs.declared.ending.Ending.{Ending}
 use Rattle.csv_command.specs.declared.ending.Said.{Said}
@@ -38,22 +44,37 @@ abbrev pub encoding_hint : Option Encoding → Text
 encoding_hint None = codes "; try -e cp1252"
 encoding_hint (Some encoding) = []
 
+-- why an input has no text
+abbrev pub decoding_reason : Option Encoding → DecodeError → Text
+decoding_reason encoding (decode.NotUtf8 number) =
+    ((codes "line " ++ decimal number) ++ codes " isn't UTF-8") ++ encoding_hint encoding
+decoding_reason encoding (decode.NotUtf16 number) =
+    (codes "line " ++ decimal number) ++ codes " isn't UTF-16"
+decoding_reason encoding decode.OutOfMemory = codes "out of memory"
+
+-- why a text has no records
+abbrev pub records_reason : RecordsError → Text
+records_reason (records.Unclosed number) =
+    (codes "a quote that opens in line " ++ decimal number)
+    ++ codes " is never closed; try --no-quotes"
+records_reason records.SplitCharacter = codes "the delimiter splits a character"
+records_reason records.OutOfMemory = codes "out of memory"
+
+-- why columns can't be drawn so
+abbrev pub columns_reason : ColumnsError → Text
+columns_reason (columns.NoColumn name) = codes "no column " ++ shown_name (string_bytes name)
+columns_reason (columns.TwoSides name) =
+    (codes "column " ++ shown_name (string_bytes name))
+    ++ codes " can't stand at the right and at the left"
+columns_reason columns.OutOfMemory = codes "out of memory"
+
 -- why there is no drawing
 abbrev pub reason_for : Option Encoding → Option IoErrorKind → CsvError → Text
 reason_for encoding fault err.Read = reading_reason fault
 reason_for encoding fault err.Write = codes "the output can't be written"
-reason_for encoding fault (err.NotUtf8 number) =
-    ((codes "line " ++ decimal number) ++ codes " isn't UTF-8") ++ encoding_hint encoding
-reason_for encoding fault (err.NotUtf16 number) =
-    (codes "line " ++ decimal number) ++ codes " isn't UTF-16"
-reason_for encoding fault (err.Unclosed number) =
-    (codes "a quote that opens in line " ++ decimal number)
-    ++ codes " is never closed; try --no-quotes"
-reason_for encoding fault err.SplitCharacter = codes "the delimiter splits a character"
-reason_for encoding fault (err.NoColumn name) = codes "no column " ++ shown_name (string_bytes name)
-reason_for encoding fault (err.TwoSides name) =
-    (codes "column " ++ shown_name (string_bytes name))
-    ++ codes " can't stand at the right and at the left"
+reason_for encoding fault (err.Decode e) = decoding_reason encoding e
+reason_for encoding fault (err.Records e) = records_reason e
+reason_for encoding fault (err.Columns e) = columns_reason e
 reason_for encoding fault err.OutOfMemory = codes "out of memory"
 
 -- an error is of the input, so that its message names it

@@ -7,8 +7,8 @@ use Rattle.comfy_parts.specs.Text.{Text}
 use Rattle.csv_command.specs.Words.{AreFoundInVain, AreNotTaken, IsAsked}
 use Rattle.csv_command.specs.declared.arguments.Asked.{Asked}
 use Rattle.csv_command.specs.declared.arguments.Surroundings.{Surroundings}
-use Rattle.csv_records.specs.declared.error.CsvError.{CsvError}
-use Rattle.csv_records.specs.declared.error.CsvError.TheVariants as err
+use Rattle.csv_tables.specs.declared.error.CsvError.{CsvError}
+use Rattle.csv_tables.specs.declared.error.CsvError.TheVariants as err
 use Rattle.csv_tables.specs.Drawn.{IsOutputFor}
 use Rattle.csv_command.specs.Ending.{IsHarmless, message_for}
 use Rattle.csv_tables.specs.Run.{IsInputFault}

@@ -9,8 +9,7 @@ ghost use Rattle.csv_command.specs.declared.drawing.Refusal.TheVariants.{OutOfMe
 use crate::arguments::{Asked, Surroundings, asked_of};
 use crate::ending::{message_of, text_of_clap};
 use clap::error::{Error, ErrorKind};
-use csv_records::CsvError;
-use csv_tables::output_of_input;
+use csv_tables::{CsvError, output_of_input};
 use std::alloc::{AllocError, Global};
 
 // Where the output goes that a caller gets as a value: to no terminal, whatever the environment

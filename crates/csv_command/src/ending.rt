@@ -3,11 +3,12 @@
 ghost use Rattle.std.specs.Prelude.{◌≡◌, IfErr, IfOk, option_map, string_bytes, true};
 ghost use Rattle.clap.specs.Words.{kind_of};
 ghost use Rattle.csv_command.specs.declared.ending.Said.TheVariants.{OutOfMemory, Text};
-ghost use Rattle.csv_command.specs.Ending.{IsEndOfDrawing, IsEndOfWords, IsEndWithoutWords, IsHarmless, IsSilent, about, encoding_hint, is_of_input, message_for, reading_reason, reason_for, text_of};
+ghost use Rattle.csv_command.specs.Ending.{IsEndOfDrawing, IsEndOfWords, IsEndWithoutWords, IsHarmless, IsSilent, about, columns_reason, decoding_reason, encoding_hint, is_of_input, message_for, reading_reason, reason_for, records_reason, text_of};
 
 use crate::arguments::Asked;
 use clap::error::{Error, ErrorKind};
-use csv_records::{CsvError, Encoding, shown_text};
+use csv_records::{DecodeError, Encoding, RecordsError, shown_text};
+use csv_tables::{ColumnsError, CsvError};
 use std::alloc::{AllocError, Global};
 use std::io;
 
@@ -15,6 +16,9 @@ use std::io;
 const FAILED: u8 = 1;
 
 const MISUSED: u8 = 2;
+
+// Why there is no drawing where memory ran out.
+const OUT_OF_MEMORY: &str = "out of memory";
 
 /// The line where a word isn't UTF-8.
 pub const WORD_NOT_UTF8: &str = "csvtable: a word isn't UTF-8\n";
@@ -194,25 +198,59 @@ fn reason_of(
     match error {
         CsvError::Read => String::from_str(alloc, reading_reason(fault)),
         CsvError::Write => String::from_str(alloc, "the output can't be written"),
-        CsvError::NotUtf8(line) => {
+        CsvError::Decode(error) => decoding_reason(alloc, encoding, *error),
+        CsvError::Records(error) => records_reason(alloc, *error),
+        CsvError::Columns(error) => columns_reason(alloc, error),
+        CsvError::OutOfMemory => String::from_str(alloc, OUT_OF_MEMORY),
+    }
+}
+
+// Why an input has no text.
+fn decoding_reason(
+    alloc: Global,
+    encoding: Option<Encoding>,
+    error: DecodeError,
+) -> Result<String, AllocError>
+    ensures { IfOk result (λ text. string_bytes text ≡ decoding_reason encoding error) }
+{
+    match error {
+        DecodeError::NotUtf8(line) => {
             let mut text = format!(in alloc; "line {line} isn't UTF-8")?;
             text.push_str(encoding_hint(encoding))?;
             Ok(text)
         }
-        CsvError::NotUtf16(line) => format!(in alloc; "line {line} isn't UTF-16"),
-        CsvError::Unclosed(line) => {
+        DecodeError::NotUtf16(line) => format!(in alloc; "line {line} isn't UTF-16"),
+        DecodeError::OutOfMemory => String::from_str(alloc, OUT_OF_MEMORY),
+    }
+}
+
+// Why a text has no records.
+fn records_reason(alloc: Global, error: RecordsError) -> Result<String, AllocError>
+    ensures { IfOk result (λ text. string_bytes text ≡ records_reason error) }
+{
+    match error {
+        RecordsError::Unclosed(line) => {
             format!(in alloc; "a quote that opens in line {line} is never closed; try --no-quotes")
         }
-        CsvError::SplitCharacter => String::from_str(alloc, "the delimiter splits a character"),
-        CsvError::NoColumn(name) => {
+        RecordsError::SplitCharacter => String::from_str(alloc, "the delimiter splits a character"),
+        RecordsError::OutOfMemory => String::from_str(alloc, OUT_OF_MEMORY),
+    }
+}
+
+// Why columns can't be drawn so.
+fn columns_reason(alloc: Global, error: &ColumnsError) -> Result<String, AllocError>
+    ensures { IfOk result (λ text. string_bytes text ≡ columns_reason error.now) }
+{
+    match error {
+        ColumnsError::NoColumn(name) => {
             let name = shown_text(alloc, name.as_str(), false)?;
             format!(in alloc; "no column {name}")
         }
-        CsvError::TwoSides(name) => {
+        ColumnsError::TwoSides(name) => {
             let name = shown_text(alloc, name.as_str(), false)?;
             format!(in alloc; "column {name} can't stand at the right and at the left")
         }
-        CsvError::OutOfMemory => String::from_str(alloc, "out of memory"),
+        ColumnsError::OutOfMemory => String::from_str(alloc, OUT_OF_MEMORY),
     }
 }
 

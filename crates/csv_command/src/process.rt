@@ -3,8 +3,7 @@
 
 use crate::arguments::{Asked, Surroundings, asked_of};
 use crate::ending::{Drawing, Ending, ending_of_drawing, ending_of_words, ending_without_words};
-use csv_records::CsvError;
-use csv_tables::draw;
+use csv_tables::{CsvError, draw};
 use devices::{FromReader, ToWriter, arguments_of_process, write_all};
 use std::alloc::AllocError;
 use std::env::VarError;

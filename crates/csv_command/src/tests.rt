@@ -2,7 +2,8 @@
 
 use crate::arguments::{Asked, Surroundings, asked_of};
 use crate::ending::{Drawing, Ending, ending_of_drawing, ending_of_words, ending_without_words};
-use csv_records::CsvError;
+use csv_records::{DecodeError, RecordsError};
+use csv_tables::{ColumnsError, CsvError};
 use std::alloc::{Alloc, Global};
 use std::io::ErrorKind;
 use std::process::Abort;
@@ -80,21 +81,51 @@ fn an_input_that_can_not_be_drawn(rt: HostRuntime) {
     let words = ["csvtable", "bank.csv"];
     let asked = asked_by(&rt, &words);
     let text = "csvtable: bank.csv: line 2 isn't UTF-8; try -e cp1252\n";
-    assert_message(&rt, &asked, CsvError::NotUtf8(2), None, text);
+    assert_message(
+        &rt,
+        &asked,
+        CsvError::Decode(DecodeError::NotUtf8(2)),
+        None,
+        text,
+    );
     let text = "csvtable: bank.csv: line 3 isn't UTF-16\n";
-    assert_message(&rt, &asked, CsvError::NotUtf16(3), None, text);
+    assert_message(
+        &rt,
+        &asked,
+        CsvError::Decode(DecodeError::NotUtf16(3)),
+        None,
+        text,
+    );
     let text = "csvtable: bank.csv: the delimiter splits a character\n";
-    assert_message(&rt, &asked, CsvError::SplitCharacter, None, text);
+    assert_message(
+        &rt,
+        &asked,
+        CsvError::Records(RecordsError::SplitCharacter),
+        None,
+        text,
+    );
 
     let words = ["csvtable", "a.csv"];
     let asked = asked_by(&rt, &words);
     let text = "csvtable: a.csv: a quote that opens in line 2 is never closed; try --no-quotes\n";
-    assert_message(&rt, &asked, CsvError::Unclosed(2), None, text);
+    assert_message(
+        &rt,
+        &asked,
+        CsvError::Records(RecordsError::Unclosed(2)),
+        None,
+        text,
+    );
 
     let words = ["csvtable", "-e", "utf-8"];
     let asked = asked_by(&rt, &words);
     let text = "csvtable: standard input: line 2 isn't UTF-8\n";
-    assert_message(&rt, &asked, CsvError::NotUtf8(2), None, text);
+    assert_message(
+        &rt,
+        &asked,
+        CsvError::Decode(DecodeError::NotUtf8(2)),
+        None,
+        text,
+    );
 }
 
 // A name that was typed or read speaks to no terminal.
@@ -102,10 +133,10 @@ fn an_input_that_can_not_be_drawn(rt: HostRuntime) {
 fn columns_that_can_not_be_drawn(rt: HostRuntime) {
     let words = ["csvtable"];
     let asked = asked_by(&rt, &words);
-    let error = CsvError::NoColumn(name(&rt, "z\u{1b}[2J"));
+    let error = CsvError::Columns(ColumnsError::NoColumn(name(&rt, "z\u{1b}[2J")));
     let text = "csvtable: standard input: no column z\u{fffd}[2J\n";
     assert_message(&rt, &asked, error, None, text);
-    let error = CsvError::TwoSides(name(&rt, "b"));
+    let error = CsvError::Columns(ColumnsError::TwoSides(name(&rt, "b")));
     let text = "csvtable: standard input: column b can't stand at the right and at the left\n";
     assert_message(&rt, &asked, error, None, text);
 }

@@ -5,8 +5,7 @@ ghost use Rattle.csv_tables.specs.Drawn.{IsOutputFor};
 ghost use Rattle.promises.specs.Shown.{IsHarmless};
 
 use csv_tables::laws::outputs_hold_no_controls;
-use csv_records::CsvError;
-use csv_tables::{Options, draw};
+use csv_tables::{CsvError, Options, draw};
 use csv_command::{Surroundings, asked_of, drawing_of};
 use comfy_run::run::{MemorySink, MemorySource};
 use std::alloc::Global;

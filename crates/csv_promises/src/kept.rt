@@ -3,8 +3,8 @@
 ghost use Rattle.std.specs.Prelude.{IfOk};
 ghost use Rattle.csv_promises.specs.Kept.{ShowRecords};
 
-use csv_records::{CsvError, Records};
-use csv_tables::{Options, table_of};
+use csv_records::Records;
+use csv_tables::{CsvError, Options, table_of};
 use comfy_table::Lines;
 use std::alloc::Global;
 

@@ -9,8 +9,8 @@ ghost use Rattle.promises.specs.Tables.{HasCharactersWithin};
 use crate::harmless::output_for;
 use csv_tables::laws::{outputs_are_one, outputs_are_straight};
 use csv_command::{Asked, Surroundings, asked_of};
-use csv_records::{CsvError, Records, decoded, read_records};
-use csv_tables::Options;
+use csv_records::{Records, decoded, read_records};
+use csv_tables::{CsvError, Options};
 use comfy_run::run::MemorySink;
 use std::alloc::Global;
 

@@ -14,8 +14,8 @@ use Rattle.csv.specs.declared.parser.State.TheVariants as st
 use Rattle.csv.specs.declared.reader.Reader.{Reader}
 use Rattle.csv_records.proofs.TextLemmas.{no_ascii}
 use Rattle.csv_records.specs.Input.{IsReadingRefusal, IsRecordRefusal, config_for}
-use Rattle.csv_records.specs.declared.error.CsvError.{CsvError}
-use Rattle.csv_records.specs.declared.error.CsvError.TheVariants.{OutOfMemory}
+use Rattle.csv_records.specs.declared.error.RecordsError.{RecordsError}
+use Rattle.csv_records.specs.declared.error.RecordsError.TheVariants.{OutOfMemory}
 
 -- the record that was taken is the next one
 is_next : (next : Option FoundRecord) (fields : List Text) (s : State) (rest : Text) → NextIs next true fields s rest → (p : FoundRecord) × (next ≡ Some p) × (fields ≡ p.0)
@@ -27,18 +27,18 @@ took : (cfg : Config) (s : State) (text : Text) (after : Option Text) (fields : 
 took cfg s text None fields s2 h = absurd h
 took cfg s text (Some rest) fields s2 h = is_next (next_record cfg s [] [] text) fields s2 rest h
 
-refused_memory : (delimiter : ℕ) (has_quotes : Bool) (input : Text) (e : CsvError) → e ≡ OutOfMemory → IsReadingRefusal delimiter has_quotes input e
-refused_memory delimiter has_quotes input e is = subst (λ (x : CsvError). IsReadingRefusal delimiter has_quotes input x) (sym is) tt
+refused_memory : (delimiter : ℕ) (has_quotes : Bool) (input : Text) (e : RecordsError) → e ≡ OutOfMemory → IsReadingRefusal delimiter has_quotes input e
+refused_memory delimiter has_quotes input e is = subst (λ (x : RecordsError). IsReadingRefusal delimiter has_quotes input x) (sym is) tt
 
 module _ {R : Type 0} (rem : R → Option Text) (a b : Reader R) (delimiter : ℕ) (has_quotes : Bool) (input text : Text) (before : List (List Text)) where
   -- what is returned where the next record wasn't read
-  pub refused : (why : ErrorKind) (e : CsvError) → IsUtf8 input → a.config ≡ config_for delimiter has_quotes → source_of rem a ≡ Some text
+  pub refused : (why : ErrorKind) (e : RecordsError) → IsUtf8 input → a.config ≡ config_for delimiter has_quotes → source_of rem a ≡ Some text
       → Reached (config_for delimiter has_quotes) st.StartRecord (strip_bom input) before a.state text → All AllText before
       → ExplainsRead rem a b true why → IsRecordRefusal why e → IsReadingRefusal delimiter has_quotes input e
   refused (kind.Utf8 pos err) e utf8 config source reached are_text explains is =
       let next = took (config_for delimiter has_quotes) a.state text _ explains.1 b.state (rw (config, source) at explains.2) in
       let no_text = subst (λ (f : List Text). ¬ (AllText f)) next.2 explains.3 in
-      subst (λ (x : CsvError). IsReadingRefusal delimiter has_quotes input x) (sym is)
+      subst (λ (x : RecordsError). IsReadingRefusal delimiter has_quotes input x) (sym is)
       (record {
         no_ascii = no_ascii delimiter has_quotes input before a.state text next.0 utf8 reached next.1 no_text;
         before = before;

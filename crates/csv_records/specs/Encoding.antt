@@ -12,8 +12,8 @@ use Rattle.csv_records.specs.declared.encoding.ByteOrder.{ByteOrder}
 use Rattle.csv_records.specs.declared.encoding.ByteOrder.TheVariants.{BigEndian, LittleEndian}
 use Rattle.csv_records.specs.declared.encoding.Encoding.{Encoding}
 use Rattle.csv_records.specs.declared.encoding.Encoding.TheVariants.{Cp1252, Utf16, Utf8}
-use Rattle.csv_records.specs.declared.error.CsvError.{CsvError}
-use Rattle.csv_records.specs.declared.error.CsvError.TheVariants.{Read, Write, NotUtf8, NotUtf16, Unclosed, SplitCharacter, NoColumn, OutOfMemory, TwoSides}
+use Rattle.csv_records.specs.declared.error.DecodeError.{DecodeError}
+use Rattle.csv_records.specs.declared.error.DecodeError.TheVariants.{NotUtf16, OutOfMemory}
 
 -- ---- which encoding
 
@@ -97,16 +97,10 @@ module _ (read : List (Option ℕ)) where
     pub numbered : line ≡ line_breaks (encode_utf8_all before) + 1
 
   -- why there is no text: one is no character, or there is no memory
-  abbrev pub IsUtf16Refusal : CsvError → Type 0
+  abbrev pub IsUtf16Refusal : DecodeError → Type 0
   IsUtf16Refusal (NotUtf16 line) = IsFirstUnpaired line
   IsUtf16Refusal OutOfMemory = Unit {0}
-  IsUtf16Refusal (NotUtf8 line) = ⊥
-  IsUtf16Refusal (Unclosed line) = ⊥
-  IsUtf16Refusal Read = ⊥
-  IsUtf16Refusal Write = ⊥
-  IsUtf16Refusal SplitCharacter = ⊥
-  IsUtf16Refusal (NoColumn name) = ⊥
-  IsUtf16Refusal (TwoSides name) = ⊥
+  IsUtf16Refusal _ = ⊥
 
 -- ---- the text of an input
 
@@ -117,7 +111,7 @@ IsTextIn Cp1252 input text = text ≡ cp1252_text input
 IsTextIn Utf16 input text = AreCharactersOf (utf16_characters input) text
 
 -- why an input in an encoding has no text
-abbrev pub IsRefusedIn : Encoding → Text → CsvError → Type 0
+abbrev pub IsRefusedIn : Encoding → Text → DecodeError → Type 0
 IsRefusedIn Utf8 input e = IsTextRefusal input e
 IsRefusedIn Cp1252 input e = e ≡ OutOfMemory
 IsRefusedIn Utf16 input e = IsUtf16Refusal (utf16_characters input) e

@@ -10,8 +10,10 @@ use Rattle.csv.specs.declared.error.ErrorKind.TheVariants as kind
 use Rattle.csv.specs.declared.parser.Config.{Config}
 use Rattle.csv.specs.declared.parser.State.{State}
 use Rattle.csv.specs.declared.parser.State.TheVariants as st
-use Rattle.csv_records.specs.declared.error.CsvError.{CsvError}
-use Rattle.csv_records.specs.declared.error.CsvError.TheVariants.{Read, Write, NotUtf8, NotUtf16, Unclosed, SplitCharacter, NoColumn, OutOfMemory, TwoSides}
+use Rattle.csv_records.specs.declared.error.DecodeError.{DecodeError}
+use Rattle.csv_records.specs.declared.error.DecodeError.TheVariants.{NotUtf8}
+use Rattle.csv_records.specs.declared.error.RecordsError.{RecordsError}
+use Rattle.csv_records.specs.declared.error.RecordsError.TheVariants.{OutOfMemory, SplitCharacter}
 
 -- ---- text
 
@@ -38,16 +40,9 @@ pub record IsFirstUnread (input : Text) (line : ℕ) : Type 0 where
   pub numbered : line ≡ line_of input (utf8_valid_len input)
 
 -- why an input is no text
-abbrev pub IsTextRefusal : Text → CsvError → Type 0
+abbrev pub IsTextRefusal : Text → DecodeError → Type 0
 IsTextRefusal input (NotUtf8 line) = IsFirstUnread input line
-IsTextRefusal input (NotUtf16 line) = ⊥
-IsTextRefusal input (Unclosed line) = ⊥
-IsTextRefusal input Read = ⊥
-IsTextRefusal input Write = ⊥
-IsTextRefusal input SplitCharacter = ⊥
-IsTextRefusal input (NoColumn name) = ⊥
-IsTextRefusal input (TwoSides name) = ⊥
-IsTextRefusal input OutOfMemory = ⊥
+IsTextRefusal input _ = ⊥
 
 -- ---- records
 
@@ -71,7 +66,7 @@ RecordsAreText delimiter has_quotes input records =
     → All AllText records
 
 -- what is returned for a fault of csv's reader
-abbrev pub IsRecordRefusal : ErrorKind → CsvError → Type 0
+abbrev pub IsRecordRefusal : ErrorKind → RecordsError → Type 0
 IsRecordRefusal (kind.Utf8 pos err) e = e ≡ SplitCharacter
 IsRecordRefusal (kind.Io cause) e = e ≡ OutOfMemory
 IsRecordRefusal (kind.UnequalLengths pos expected len) e = e ≡ OutOfMemory
@@ -93,14 +88,8 @@ pub record SplitsCharacter (delimiter : ℕ) (has_quotes : Bool) (input : Text) 
   pub is_no_text : ¬ (AllText next.0)
 
 -- why a text has no records: the delimiter splits a character, or there is no memory
-abbrev pub IsReadingRefusal : ℕ → Bool → Text → CsvError → Type 0
+abbrev pub IsReadingRefusal : ℕ → Bool → Text → RecordsError → Type 0
 IsReadingRefusal delimiter has_quotes input SplitCharacter =
     SplitsCharacter delimiter has_quotes input
 IsReadingRefusal delimiter has_quotes input OutOfMemory = Unit {0}
-IsReadingRefusal delimiter has_quotes input Read = ⊥
-IsReadingRefusal delimiter has_quotes input Write = ⊥
-IsReadingRefusal delimiter has_quotes input (NotUtf8 line) = ⊥
-IsReadingRefusal delimiter has_quotes input (NotUtf16 line) = ⊥
-IsReadingRefusal delimiter has_quotes input (Unclosed line) = ⊥
-IsReadingRefusal delimiter has_quotes input (NoColumn name) = ⊥
-IsReadingRefusal delimiter has_quotes input (TwoSides name) = ⊥
+IsReadingRefusal delimiter has_quotes input _ = ⊥

@@ -7,8 +7,8 @@ use Rattle.csv_records.specs.Delimiter.{below_lines, delimited}
 use Rattle.csv_records.specs.Encoding.{IsTextIn, encoding_of}
 use Rattle.csv_records.specs.Input.{AreRecordsOf, SplitsCharacter, line_breaks}
 use Rattle.csv_records.specs.Quotes.{IsUnclosed, state_after}
-use Rattle.csv_records.specs.declared.error.CsvError.{CsvError}
-use Rattle.csv_records.specs.declared.error.CsvError.TheVariants.{OutOfMemory, SplitCharacter, Unclosed}
+use Rattle.csv_records.specs.declared.error.RecordsError.{RecordsError}
+use Rattle.csv_records.specs.declared.error.RecordsError.TheVariants.{OutOfMemory, SplitCharacter, Unclosed}
 use Rattle.csv_records.specs.declared.options.InputOptions.{InputOptions}
 
 -- an input has this text, in the encoding that is asked for or found
@@ -44,11 +44,10 @@ HasSplitCharacter options text =
     SplitsCharacter (parted options text).0 options.has_quotes (parted options text).1
 
 -- why a text has no records
-abbrev pub IsTextWithoutRecords : InputOptions → Text → CsvError → Type 0
+abbrev pub IsTextWithoutRecords : InputOptions → Text → RecordsError → Type 0
 IsTextWithoutRecords options text (Unclosed line) = HasUnclosedQuote options text line
 IsTextWithoutRecords options text SplitCharacter = HasSplitCharacter options text
 IsTextWithoutRecords options text OutOfMemory = Unit {0}
-IsTextWithoutRecords options text _ = ⊥
 
 -- these are the records of an input, in the encoding that is asked for or found
 pub record AreRecordsFor (options : InputOptions) (input : Text) (records : List

@@ -6,7 +6,7 @@ ghost use Rattle.std.specs.String.{string_vec};
 ghost use Rattle.csv_records.specs.Encoding.{AreCharactersOf, IsRefusedIn, IsTextIn, IsUtf16Refusal, cp1252_character, cp1252_text, encoding_of, marked_order, order_of, unit, utf16_characters, without_mark};
 ghost use Rattle.csv_records.specs.Input.{IsTextRefusal, line_breaks};
 
-use crate::error::CsvError;
+use crate::error::DecodeError;
 use crate::text::{line_after, text_of};
 use std::alloc::Global;
 use std::marker::Model;
@@ -34,7 +34,7 @@ pub fn decoded(
     alloc: Global,
     input: Vec<u8>,
     encoding: Option<Encoding>,
-) -> Result<String, CsvError>
+) -> Result<String, DecodeError>
     ensures text { IfOk result (λ text.
         IsTextIn (encoding_of encoding input.items) input.items (string_bytes text)) }
     ensures not_copied { IfOk result
@@ -61,7 +61,7 @@ fn encoding_of(encoding: Option<Encoding>, input: &[u8]) -> Encoding
 }
 
 // The text in UTF-8, which is the input itself.
-fn utf8_text(input: Vec<u8>) -> Result<String, CsvError>
+fn utf8_text(input: Vec<u8>) -> Result<String, DecodeError>
     ensures same { IfOk result (λ text. string_vec text ≡ input) }
     ensures is_text { IfOk result (λ _. IsUtf8 input.items) }
     ensures refused { IfErr result (λ e. IsTextRefusal input.items e) }
@@ -79,9 +79,9 @@ const CP1252_FROM_80: [char; 32] = [
 ];
 
 // The text in Windows-1252.
-fn cp1252_text(alloc: Global, input: &[u8]) -> Result<String, CsvError>
+fn cp1252_text(alloc: Global, input: &[u8]) -> Result<String, DecodeError>
     ensures text { IfOk result (λ text. string_bytes text ≡ cp1252_text input.now) }
-    ensures refused { IfErr result (λ e. e ≡ CsvError.OutOfMemory) }
+    ensures refused { IfErr result (λ e. e ≡ DecodeError.OutOfMemory) }
 {
     let mut text = String::with_capacity(alloc, input.len())?;
     for byte in input {
@@ -136,7 +136,7 @@ fn without_mark(input: &[u8]) -> &[u8]
 }
 
 // The text in UTF-16.
-fn utf16_text(alloc: Global, input: &[u8]) -> Result<String, CsvError>
+fn utf16_text(alloc: Global, input: &[u8]) -> Result<String, DecodeError>
     ensures text { IfOk result (λ text.
         AreCharactersOf (utf16_characters input.now) (string_bytes text)) }
     ensures refused { IfErr result (λ e. IsUtf16Refusal (utf16_characters input.now) e) }
@@ -157,10 +157,10 @@ fn utf16_text(alloc: Global, input: &[u8]) -> Result<String, CsvError>
 }
 
 // The error where what follows these characters is none.
-fn not_utf16(before: &str) -> CsvError
-    ensures { result ≡ CsvError.NotUtf16 (line_breaks before.now + 1) }
+fn not_utf16(before: &str) -> DecodeError
+    ensures { result ≡ DecodeError.NotUtf16 (line_breaks before.now + 1) }
 {
-    CsvError::NotUtf16(line_after(before.as_bytes()))
+    DecodeError::NotUtf16(line_after(before.as_bytes()))
 }
 
 // The units of bytes that are left; an odd byte at the end is in none.

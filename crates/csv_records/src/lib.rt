@@ -19,7 +19,7 @@ mod text;
 pub use cleaning::{Kept, cleaned};
 pub use delimiter::{Delimiter, only_ascii};
 pub use encoding::{Encoding, decoded};
-pub use error::CsvError;
+pub use error::{DecodeError, RecordsError};
 pub use number::{is_neutral, is_number};
 pub use numerals::number_of;
 pub use options::InputOptions;

@@ -5,7 +5,7 @@ ghost use Rattle.csv_records.specs.Input.{line_breaks};
 ghost use Rattle.csv_records.specs.Reading.{AreRecordsIn, IsTextWithoutRecords};
 
 use crate::delimiter::{below_lines, delimited};
-use crate::error::CsvError;
+use crate::error::RecordsError;
 use crate::options::InputOptions;
 use crate::quotes::unclosed_quote;
 use crate::records::{Records, records_of};
@@ -17,7 +17,7 @@ use std::alloc::Global;
 ///
 /// `Unclosed` has the number of the line, among all of the text, where the quote opens.
 /// `SplitCharacter` comes only of a delimiter that isn't ASCII.
-pub fn read_records(alloc: Global, text: &str, options: &InputOptions) -> Result<Records, CsvError>
+pub fn read_records(alloc: Global, text: &str, options: &InputOptions) -> Result<Records, RecordsError>
     ensures all { IfOk result (λ records. AreRecordsIn options.now text.now records) }
     ensures refused { IfErr result (λ e. IsTextWithoutRecords options.now text.now e) }
 {
@@ -25,7 +25,7 @@ pub fn read_records(alloc: Global, text: &str, options: &InputOptions) -> Result
     let (delimiter, rest) = delimited(alloc, below, options.delimiter, options.has_quotes)?;
     if options.has_quotes {
         if let Some(at) = unclosed_quote(rest, delimiter) {
-            return Err(CsvError::Unclosed(line_before(text, rest.len() - at)));
+            return Err(RecordsError::Unclosed(line_before(text, rest.len() - at)));
         }
     }
     records_of(alloc, rest, delimiter, options.has_quotes)

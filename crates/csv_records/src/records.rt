@@ -7,7 +7,7 @@ ghost use Rattle.csv.specs.Records.{field_at, fields_of};
 ghost use Rattle.csv_records.specs.Input.{AreRecordsOf, IsReadingRefusal, IsRecordRefusal};
 ghost use Rattle.csv_records.specs.Started.{IsStarted};
 
-use crate::error::CsvError;
+use crate::error::RecordsError;
 use csv::{Error, ErrorKind, Reader, ReaderBuilder, StringRecord};
 use std::alloc::{AllocError, Global};
 use std::marker::Model;
@@ -232,7 +232,7 @@ pub(crate) fn records_of(
     text: &str,
     delimiter: u8,
     has_quotes: bool,
-) -> Result<Records, CsvError>
+) -> Result<Records, RecordsError>
     ensures all { IfOk result (λ records. AreRecordsOf delimiter has_quotes text.now records) }
     ensures refused { IfErr result (λ e. IsReadingRefusal delimiter has_quotes text.now e) }
 {
@@ -253,7 +253,7 @@ pub(crate) fn records_of(
             Err(error) => return Err(refusal_of(&error)),
         }
     }
-    Err(CsvError::OutOfMemory)
+    Err(RecordsError::OutOfMemory)
 }
 
 // Appends the fields of a record to others.
@@ -267,11 +267,11 @@ fn push_fields(fields: &mut StringRecord, more: &StringRecord) -> Result<(), All
 }
 
 // Why no further record was read. A reader of bytes in memory has no fault of its own.
-fn refusal_of(error: &Error) -> CsvError
+fn refusal_of(error: &Error) -> RecordsError
     ensures { IsRecordRefusal (error_kind error.now) result }
 {
     match error.kind() {
-        ErrorKind::Utf8 { .. } => CsvError::SplitCharacter,
-        _ => CsvError::OutOfMemory,
+        ErrorKind::Utf8 { .. } => RecordsError::SplitCharacter,
+        _ => RecordsError::OutOfMemory,
     }
 }

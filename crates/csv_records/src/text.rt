@@ -4,18 +4,18 @@ ghost use Rattle.std.specs.Prelude.{◌≡◌, ◌+◌, IfErr, IfOk, IsUtf8};
 ghost use Rattle.csv.specs.Reading.{strip_bom};
 ghost use Rattle.csv_records.specs.Input.{IsTextRefusal, line_breaks};
 
-use crate::error::CsvError;
+use crate::error::DecodeError;
 
 /// The input as a text, which takes no memory. `NotUtf8` has the number of the line where it stops
 /// being one.
-pub(crate) fn text_of(input: &[u8]) -> Result<&str, CsvError>
+pub(crate) fn text_of(input: &[u8]) -> Result<&str, DecodeError>
     ensures same { IfOk result (λ text. text.now ≡ input.now) }
     ensures is_text { IfOk result (λ _. IsUtf8 input.now) }
     ensures refused { IfErr result (λ e. IsTextRefusal input.now e) }
 {
     match simdutf8::compat::from_utf8(input) {
         Ok(text) => Ok(text),
-        Err(error) => Err(CsvError::NotUtf8(line_after(&input[..error.valid_up_to()]))),
+        Err(error) => Err(DecodeError::NotUtf8(line_after(&input[..error.valid_up_to()]))),
     }
 }
 

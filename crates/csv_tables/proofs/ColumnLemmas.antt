@@ -8,11 +8,11 @@ use Rattle.comfy_parts.specs.Text.{Text}
 use Rattle.csv.specs.Records.{field_at}
 use Rattle.csv_tables.specs.Cells.{field_or_blank}
 use Rattle.csv_records.specs.Cleaning.{visible_of}
-use Rattle.csv_tables.specs.Columns.{ColumnFault, IsColumnRefusal, first_answer, is_number_column, is_number_kind, is_other_kind, is_text, joined, kind_at, kind_of, missing, positions_of, positions_of_word, seen, two_sided}
+use Rattle.csv_tables.specs.Columns.{ColumnFault, IsColumnsRefusal, first_answer, is_number_column, is_number_kind, is_other_kind, is_text, joined, kind_at, kind_of, missing, positions_of, positions_of_word, seen, two_sided}
 use Rattle.csv_tables.specs.declared.columns.FieldKind.{FieldKind}
 use Rattle.csv_tables.specs.declared.columns.FieldKind.TheVariants.{Neutral, Other}
-use Rattle.csv_records.specs.declared.error.CsvError.{CsvError}
-use Rattle.csv_records.specs.declared.error.CsvError.TheVariants.{Read, Write, NotUtf8, NotUtf16, Unclosed, SplitCharacter, NoColumn, OutOfMemory, TwoSides}
+use Rattle.csv_tables.specs.declared.error.ColumnsError.{ColumnsError}
+use Rattle.csv_tables.specs.declared.error.ColumnsError.TheVariants.{NoColumn, OutOfMemory, TwoSides}
 
 then_fault : (found more : Result (List ℕ) ColumnFault) (xs : List ℕ) (fault : ColumnFault) → found ≡ Ok xs → more ≡ Err fault → joined found more ≡ Err fault
 then_fault found more xs fault before at_fault = rw (before, at_fault) refl
@@ -24,17 +24,11 @@ module _ {A : Type 0} (names : List Text) (count : ℕ) (words : List (String A)
   stopped fault within before at_fault =
       sym (fold_stuck (λ (found : Result (List ℕ) ColumnFault) (word : String A). joined found (positions_of_word names count (string_bytes word))) (Err fault) (λ x. refl) (Ok []) words i d within (then_fault (positions_of names count (take i words)) _ xs fault before at_fault))
 
-  pub refused_word : (e : CsvError) → i < length words → positions_of names count (take i words) ≡ Ok xs
-      → IsColumnRefusal e (positions_of_word names count (string_bytes (get_or words i d))) → IsColumnRefusal e (positions_of names count words)
+  pub refused_word : (e : ColumnsError) → i < length words → positions_of names count (take i words) ≡ Ok xs
+      → IsColumnsRefusal e (positions_of_word names count (string_bytes (get_or words i d))) → IsColumnsRefusal e (positions_of names count words)
   refused_word (NoColumn name) within before at_fault = stopped (missing (string_bytes name)) within before at_fault
   refused_word (TwoSides name) within before at_fault = stopped (two_sided (string_bytes name)) within before at_fault
   refused_word OutOfMemory within before at_fault = tt
-  refused_word Read within before at_fault = absurd at_fault
-  refused_word Write within before at_fault = absurd at_fault
-  refused_word (NotUtf8 number) within before at_fault = absurd at_fault
-  refused_word (NotUtf16 number) within before at_fault = absurd at_fault
-  refused_word (Unclosed number) within before at_fault = absurd at_fault
-  refused_word SplitCharacter within before at_fault = absurd at_fault
 
 module _ (name : Text) (n : ℕ) where
   -- the field at a position is the first that is looked at from there on

@@ -12,8 +12,8 @@ use Rattle.csv_records.specs.Number.{is_neutral, is_number}
 use Rattle.csv_records.specs.Numerals.{number_for}
 use Rattle.csv_tables.specs.declared.columns.FieldKind.{FieldKind}
 use Rattle.csv_tables.specs.declared.columns.FieldKind.TheVariants.{Number, Neutral, Other}
-use Rattle.csv_records.specs.declared.error.CsvError.{CsvError}
-use Rattle.csv_records.specs.declared.error.CsvError.TheVariants.{Read, Write, NotUtf8, NotUtf16, Unclosed, SplitCharacter, NoColumn, OutOfMemory, TwoSides}
+use Rattle.csv_tables.specs.declared.error.ColumnsError.{ColumnsError}
+use Rattle.csv_tables.specs.declared.error.ColumnsError.TheVariants.{NoColumn, OutOfMemory, TwoSides}
 use Rattle.csv_tables.specs.declared.options.Options.{Options}
 use Rattle.csv_tables.specs.declared.options.DrawnColumn.{DrawnColumn}
 
@@ -219,13 +219,7 @@ columns_for options names rows =
     (positions_of names (count_of names rows) options.selection.left.items)
 
 -- why there are no columns: a fault of the lists, or there is no memory
-abbrev pub IsColumnRefusal : {A : Type 0} → CsvError → Result A ColumnFault → Type 0
-IsColumnRefusal (NoColumn name) columns = columns ≡ Err (missing (string_bytes name))
-IsColumnRefusal (TwoSides name) columns = columns ≡ Err (two_sided (string_bytes name))
-IsColumnRefusal OutOfMemory columns = Unit {0}
-IsColumnRefusal Read columns = ⊥
-IsColumnRefusal Write columns = ⊥
-IsColumnRefusal (NotUtf8 line) columns = ⊥
-IsColumnRefusal (NotUtf16 line) columns = ⊥
-IsColumnRefusal (Unclosed line) columns = ⊥
-IsColumnRefusal SplitCharacter columns = ⊥
+abbrev pub IsColumnsRefusal : {A : Type 0} → ColumnsError → Result A ColumnFault → Type 0
+IsColumnsRefusal (NoColumn name) columns = columns ≡ Err (missing (string_bytes name))
+IsColumnsRefusal (TwoSides name) columns = columns ≡ Err (two_sided (string_bytes name))
+IsColumnsRefusal OutOfMemory columns = Unit {0}

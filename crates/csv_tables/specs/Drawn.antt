@@ -1,5 +1,5 @@
 -- What is drawn of some records, and what is written of it.
-use Rattle.std.specs.Prelude.{ℕ, ◌+◌, ◌*◌, Bool, true, false, not, ◌&&◌, ◌≡◌, ◌≢◌, nat_lt, min, List, [], ◌∷◌, ◌++◌, Option, Some, None, Result, Ok, Err, codes, decimal, drop, flat_map, length, map, slice_get, take, unwrap_or, if◌then◌else◌}
+use Rattle.std.specs.Prelude.{ℕ, ◌+◌, ◌*◌, Bool, true, false, not, ◌&&◌, ◌≡◌, nat_lt, min, List, [], ◌∷◌, ◌++◌, Option, Some, None, Result, Ok, Err, codes, decimal, drop, flat_map, length, map, slice_get, take, unwrap_or, if◌then◌else◌}
 use Rattle.std.specs.List.{list_any, range_with_len}
 use Rattle.comfy_parts.specs.CellValue.{RowValue}
 use Rattle.comfy_parts.specs.Presets.{ascii_markdown}
@@ -295,10 +295,3 @@ pub record IsOutputFor (options : Options) (input output : Text) : Type 0 where
   pub records : List (List Text)
   pub are_records : AreRecordsFor options.input input records
   pub is_output : IsOutputOfAny options records output
-
--- an input has records, and the columns have this fault
-pub record HasColumnFault (options : Options) (input : Text) (fault : ColumnFault) : Type 0 where
-  pub records : List (List Text)
-  pub are_records : AreRecordsFor options.input input records
-  pub are_any : records ≢ []
-  pub no_content : content_of options records ≡ Err fault

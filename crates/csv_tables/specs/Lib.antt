@@ -3,6 +3,7 @@ pub mod ColumnLaws
 pub mod Columns
 pub mod Controls
 pub mod Drawn
+pub mod Errors
 pub mod Laws
 pub mod Markdown
 pub mod MarkdownLines

@@ -1,15 +1,17 @@
 -- What a call of `draw` ensures, by its result.
-use Rattle.std.specs.Prelude.{◌≡◌, Bool, true, false, [], Result, Ok, Err, IsUtf8, string_bytes}
+use Rattle.std.specs.Prelude.{◌≡◌, ◌≢◌, Bool, true, false, List, [], Result, Ok, Err, IsUtf8}
 use Rattle.comfy_parts.specs.Text.{Text}
 use Rattle.devices.specs.Outcome.{IsBeginningOnly, NoDeviceFailed, RunFacts}
-use Rattle.csv_tables.specs.Drawn.{HasColumnFault, IsOutputFor}
-use Rattle.csv_tables.specs.Columns.{missing, two_sided}
-use Rattle.csv_records.specs.Encoding.{IsFirstUnpaired, encoding_of, utf16_characters}
-use Rattle.csv_records.specs.Input.{IsFirstUnread}
-use Rattle.csv_records.specs.Reading.{HasSplitCharacter, HasUnclosedQuote, IsTextFor}
-use Rattle.csv_records.specs.declared.encoding.Encoding.TheVariants.{Utf16, Utf8}
-use Rattle.csv_records.specs.declared.error.CsvError.{CsvError}
-use Rattle.csv_records.specs.declared.error.CsvError.TheVariants.{Read, Write, NotUtf8, NotUtf16, Unclosed, SplitCharacter, NoColumn, OutOfMemory, TwoSides}
+use Rattle.csv_tables.specs.Columns.{IsColumnsRefusal}
+use Rattle.csv_tables.specs.Drawn.{IsOutputFor, content_of}
+use Rattle.csv_records.specs.Encoding.{IsRefusedIn, encoding_of}
+use Rattle.csv_records.specs.Reading.{AreRecordsFor, IsTextFor, IsTextWithoutRecords}
+use Rattle.csv_records.specs.declared.encoding.Encoding.TheVariants.{Utf8}
+use Rattle.csv_records.specs.declared.error.DecodeError.TheVariants as decode
+use Rattle.csv_records.specs.declared.error.RecordsError.TheVariants as records
+use Rattle.csv_tables.specs.declared.error.ColumnsError.TheVariants as columns
+use Rattle.csv_tables.specs.declared.error.CsvError.{CsvError}
+use Rattle.csv_tables.specs.declared.error.CsvError.TheVariants.{Columns, Decode, OutOfMemory, Read, Records, Write}
 use Rattle.csv_tables.specs.declared.options.Options.{Options}
 
 -- the result says that the source failed
@@ -22,23 +24,19 @@ abbrev pub is_write_fault : {T : Type 0} → Result T CsvError → Bool
 is_write_fault (Err Write) = true
 is_write_fault _ = false
 
--- what makes an input one that can't be drawn
+-- what makes an input one that can't be drawn: it has no text, that has no records, or columns of
+-- these can't be drawn so
 abbrev pub IsInputFault : Options → Text → CsvError → Type 0
-IsInputFault options input (NotUtf8 line) =
-    (encoding_of options.input.encoding input ≡ Utf8) × IsFirstUnread input line
-IsInputFault options input (NotUtf16 line) =
-    (encoding_of options.input.encoding input ≡ Utf16) × IsFirstUnpaired (utf16_characters input) line
-IsInputFault options input (Unclosed line) =
-    (text : Text) × IsTextFor options.input input text × HasUnclosedQuote options.input text line
-IsInputFault options input SplitCharacter =
-    (text : Text) × IsTextFor options.input input text × HasSplitCharacter options.input text
-IsInputFault options input (NoColumn name) =
-    HasColumnFault options input (missing (string_bytes name))
-IsInputFault options input (TwoSides name) =
-    HasColumnFault options input (two_sided (string_bytes name))
-IsInputFault options input Read = ⊥
-IsInputFault options input Write = ⊥
-IsInputFault options input OutOfMemory = ⊥
+IsInputFault options input (Decode e) =
+    (e ≢ decode.OutOfMemory) × IsRefusedIn (encoding_of options.input.encoding input) input e
+IsInputFault options input (Records e) =
+    (e ≢ records.OutOfMemory) × (text : Text) × IsTextFor options.input input text
+    × IsTextWithoutRecords options.input text e
+IsInputFault options input (Columns e) =
+    (e ≢ columns.OutOfMemory) × (found : List (List Text))
+    × AreRecordsFor options.input input found × (found ≢ [])
+    × IsColumnsRefusal e (content_of options found)
+IsInputFault options input _ = ⊥
 
 -- an input that is to be UTF-8 is it
 abbrev pub IsUtf8IfWanted : Options → Text → Type 0

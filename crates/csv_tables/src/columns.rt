@@ -6,12 +6,13 @@ ghost use Rattle.std.specs.List.{range_with_len};
 ghost use Rattle.comfy_parts.specs.VisibleText.{visible_text};
 ghost use Rattle.csv.specs.Records.{field_at};
 ghost use Rattle.csv_tables.specs.Cells.{field_or_blank};
-ghost use Rattle.csv_tables.specs.Columns.{IsColumnRefusal, alignment_for, at_two_sides, chosen_columns, column_of, columns_chosen, columns_for, count_of, drawn_columns, end_of, is_number_column, is_text, kept_columns, kind_at, kind_of, name_at, numbered, position_named, positions_of, positions_of_word, range_at, range_of, seen, without};
+ghost use Rattle.csv_tables.specs.Columns.{IsColumnsRefusal, alignment_for, at_two_sides, chosen_columns, column_of, columns_chosen, columns_for, count_of, drawn_columns, end_of, is_number_column, is_text, kept_columns, kind_at, kind_of, name_at, numbered, position_named, positions_of, positions_of_word, range_at, range_of, seen, without};
 
+use crate::error::ColumnsError;
 use crate::options::{DrawnColumn, Options, Selection};
 use comfy_parts::content_split::visible_text;
 use comfy_parts::style::CellAlignment;
-use csv_records::{CsvError, Record, Rows, is_neutral, is_number, number_of};
+use csv_records::{Record, Rows, is_neutral, is_number, number_of};
 use std::alloc::{AllocError, Global};
 use std::borrow::CowStr;
 
@@ -21,18 +22,18 @@ pub fn columns_of(
     names: &Record<'_>,
     rows: &Rows<'_>,
     options: &Options,
-) -> Result<Vec<DrawnColumn>, CsvError>
+) -> Result<Vec<DrawnColumn>, ColumnsError>
     ensures ok { IfOk result (λ columns. columns_for options.now names.now rows.now
         ≡ Ok columns.items) }
     ensures refused { IfErr result (λ e.
-        IsColumnRefusal e (columns_for options.now names.now rows.now)) }
+        IsColumnsRefusal e (columns_for options.now names.now rows.now)) }
 {
     let count = count_of(names, rows);
     let positions = kept_columns(alloc, &options.selection, names, count)?;
     let right = positions_of(alloc, options.selection.right.as_slice(), names, count)?;
     let left = positions_of(alloc, options.selection.left.as_slice(), names, count)?;
     if let Some(position) = at_two_sides(right.as_slice(), left.as_slice()) {
-        return Err(CsvError::TwoSides(name_at(alloc, names, position)?));
+        return Err(ColumnsError::TwoSides(name_at(alloc, names, position)?));
     }
     let columns = drawn_columns(
         alloc,
@@ -84,10 +85,10 @@ fn kept_columns(
     selection: &Selection,
     names: &Record<'_>,
     count: usize,
-) -> Result<Vec<usize>, CsvError>
+) -> Result<Vec<usize>, ColumnsError>
     ensures ok { IfOk result (λ positions. kept_columns names.now count
         selection.now.columns.items selection.now.dropped.items ≡ Ok positions.items) }
-    ensures refused { IfErr result (λ e. IsColumnRefusal e (kept_columns names.now count
+    ensures refused { IfErr result (λ e. IsColumnsRefusal e (kept_columns names.now count
         selection.now.columns.items selection.now.dropped.items)) }
 {
     let chosen = chosen_columns(alloc, selection.columns.as_slice(), names, count)?;
@@ -114,11 +115,11 @@ fn chosen_columns(
     words: &[String],
     names: &Record<'_>,
     count: usize,
-) -> Result<Vec<usize>, CsvError>
+) -> Result<Vec<usize>, ColumnsError>
     ensures ok { IfOk result (λ positions. chosen_columns names.now count words.now
         ≡ Ok positions.items) }
     ensures refused { IfErr result (λ e.
-        IsColumnRefusal e (chosen_columns names.now count words.now)) }
+        IsColumnsRefusal e (chosen_columns names.now count words.now)) }
 {
     if words.is_empty() {
         Ok(positions_between(alloc, 0, count)?)
@@ -133,11 +134,11 @@ fn positions_of(
     words: &[String],
     names: &Record<'_>,
     count: usize,
-) -> Result<Vec<usize>, CsvError>
+) -> Result<Vec<usize>, ColumnsError>
     ensures ok { IfOk result (λ positions. positions_of names.now count words.now
         ≡ Ok positions.items) }
     ensures refused { IfErr result (λ e.
-        IsColumnRefusal e (positions_of names.now count words.now)) }
+        IsColumnsRefusal e (positions_of names.now count words.now)) }
 {
     let mut positions = Vec::new(alloc);
     for word in words {
@@ -153,15 +154,15 @@ fn positions_of_word(
     word: &str,
     names: &Record<'_>,
     count: usize,
-) -> Result<Vec<usize>, CsvError>
+) -> Result<Vec<usize>, ColumnsError>
     ensures ok { IfOk result (λ positions. positions_of_word names.now count word.now
         ≡ Ok positions.items) }
     ensures refused { IfErr result (λ e.
-        IsColumnRefusal e (positions_of_word names.now count word.now)) }
+        IsColumnsRefusal e (positions_of_word names.now count word.now)) }
 {
     match columns_chosen(names, count, word) {
         Some((start, end)) => Ok(positions_between(alloc, start, end)?),
-        None => Err(CsvError::NoColumn(String::from_str(alloc, word)?)),
+        None => Err(ColumnsError::NoColumn(String::from_str(alloc, word)?)),
     }
 }
 

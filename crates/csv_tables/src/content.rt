@@ -1,12 +1,13 @@
 //! What is drawn of some records.
 
 ghost use Rattle.std.specs.Prelude.{◌≡◌, IfOk, IfErr, Ok, [], unwrap_or};
-ghost use Rattle.csv_tables.specs.Columns.{IsColumnRefusal};
+ghost use Rattle.csv_tables.specs.Columns.{IsColumnsRefusal};
 ghost use Rattle.csv_tables.specs.Drawn.{content_of, limited, names_of, records_below};
 
+use crate::error::ColumnsError;
 use crate::columns::columns_of;
 use crate::options::{DrawnColumn, Options};
-use csv_records::{CsvError, Record, Records, Rows};
+use csv_records::{Record, Records, Rows};
 use std::alloc::Global;
 use std::marker::Model;
 
@@ -37,9 +38,9 @@ impl Model for Content {
 
 impl Content {
     /// What is drawn of these records.
-    pub fn new(alloc: Global, records: Records, options: &Options) -> Result<Content, CsvError>
+    pub fn new(alloc: Global, records: Records, options: &Options) -> Result<Content, ColumnsError>
         ensures ok { IfOk result (λ content. content_of options.now records ≡ Ok content) }
-        ensures refused { IfErr result (λ e. IsColumnRefusal e (content_of options.now records)) }
+        ensures refused { IfErr result (λ e. IsColumnsRefusal e (content_of options.now records)) }
     {
         let has_header = options.selection.has_header;
         let limit = options.selection.limit;

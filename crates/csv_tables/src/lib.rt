@@ -5,6 +5,7 @@
 mod cells;
 mod columns;
 mod content;
+mod error;
 mod expanded;
 pub mod laws;
 mod markdown;
@@ -15,6 +16,7 @@ mod table;
 mod transfer;
 mod unbroken;
 
+pub use error::{ColumnsError, CsvError};
 pub use markdown::escaped;
 pub use options::{DrawnColumn, Expansion, Look, Options, RowSeparators, Selection};
 pub use table::table_of;

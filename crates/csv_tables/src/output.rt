@@ -1,10 +1,11 @@
 //! The text that is written for some records.
 
 ghost use Rattle.std.specs.Prelude.{◌≡◌, ◌∷◌, ◌++◌, IfOk, IfErr, OnOk, false, map, string_bytes, true};
-ghost use Rattle.csv_tables.specs.Columns.{IsColumnRefusal};
+ghost use Rattle.csv_tables.specs.Columns.{IsColumnsRefusal};
 ghost use Rattle.csv_tables.specs.Markdown.{rule_line};
 ghost use Rattle.csv_tables.specs.Drawn.{IsMarkdownText, IsOutputOf, IsTableText, IsText, IsTextOfTable, content_of, note_for, rows_table};
 
+use crate::error::ColumnsError;
 use crate::content::Content;
 use crate::expanded::{between_fields, is_expanded, records_text};
 use crate::markdown::push_rule;
@@ -12,7 +13,7 @@ use crate::options::{Look, Options};
 use crate::separators::separate_rows;
 use crate::unbroken::keep_whole;
 use comfy_table::{Result, Table};
-use csv_records::{CsvError, Records};
+use csv_records::{Records};
 use std::alloc::{AllocError, Global};
 use std::fmt::Write;
 
@@ -21,9 +22,9 @@ pub(crate) fn output_of(
     alloc: Global,
     records: Records,
     options: &Options,
-) -> std::result::Result<String, CsvError>
+) -> std::result::Result<String, ColumnsError>
     ensures output { IfOk result (λ output. IsOutputOf options.now records (string_bytes output)) }
-    ensures refused { IfErr result (λ e. IsColumnRefusal e (content_of options.now records)) }
+    ensures refused { IfErr result (λ e. IsColumnsRefusal e (content_of options.now records)) }
 {
     let content = Content::new(alloc, records, options)?;
     let count = content.count();

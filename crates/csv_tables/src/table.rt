@@ -1,17 +1,18 @@
 //! The tables of some records.
 
 ghost use Rattle.std.specs.Prelude.{◌≡◌, IfErr, IfOk, Ok, OnOk, map, option_map, unwrap_or};
-ghost use Rattle.csv_tables.specs.Columns.{IsColumnRefusal};
+ghost use Rattle.csv_tables.specs.Columns.{IsColumnsRefusal};
 ghost use Rattle.csv_tables.specs.Drawn.{arrangement_for, content_of, empty_table, headed_table, markdown_look, markdown_style, markdown_table, pairs_of, pairs_table, rows_table, table_for};
 ghost use Rattle.comfy_table.specs.TableValue.{with_rows};
 
+use crate::error::ColumnsError;
 use crate::cells::{header_of, pair_of, row_of};
 use crate::columns::name_at;
 use crate::content::Content;
 use crate::options::{Look, Options};
 use comfy_table::presets::ASCII_MARKDOWN;
 use comfy_table::{ContentArrangement, LineStyle, Result, Table, TableStyle};
-use csv_records::{CsvError, Record, Records};
+use csv_records::{Record, Records};
 use std::alloc::Global;
 
 /// The table of these records, with the columns, rows and looks that are wanted, and all lines of
@@ -23,9 +24,9 @@ pub fn table_of(
     alloc: Global,
     records: Records,
     options: &Options,
-) -> std::result::Result<Table, CsvError>
+) -> std::result::Result<Table, ColumnsError>
     ensures ok { IfOk result (λ table. table_for options.now records ≡ Ok table) }
-    ensures refused { IfErr result (λ e. IsColumnRefusal e (content_of options.now records)) }
+    ensures refused { IfErr result (λ e. IsColumnsRefusal e (content_of options.now records)) }
 {
     let content = Content::new(alloc, records, options)?;
     Ok(content.rows_table(&options.look)?)

@@ -7,7 +7,8 @@ ghost use Rattle.devices.specs.Outcome.{Between};
 
 use crate::options::Options;
 use crate::output::output_of;
-use csv_records::{CsvError, decoded, read_records};
+use crate::error::CsvError;
+use csv_records::{decoded, read_records};
 use devices::{DeviceFault, ReadError, Sink, Source, read_all, write_all};
 use std::alloc::Global;
 
@@ -87,7 +88,7 @@ pub fn output_of_input(alloc: Global, input: Vec<u8>, options: &Options) -> Resu
     if records.rows().is_empty() {
         return Ok(String::new(alloc));
     }
-    output_of(alloc, records, options)
+    Ok(output_of(alloc, records, options)?)
 }
 
 // All that the source has left. After an error its end was read only if it was before.

@@ -11,8 +11,8 @@ ghost use Rattle.test_csv_cases.specs.Uses.{GivesInputBack};
 
 use csv_records::laws::cleaned_fields_hold_no_controls;
 use csv_tables::laws::{markdown_lines_give_back_their_fields, outputs_hold_no_controls};
-use csv_records::{CsvError, Kept, cleaned};
-use csv_tables::{Options, draw};
+use csv_records::{Kept, cleaned};
+use csv_tables::{CsvError, Options, draw};
 use csv_command::{Surroundings, asked_of};
 use comfy_run::run::{MemorySink, MemorySource};
 use std::alloc::{AllocError, Global};

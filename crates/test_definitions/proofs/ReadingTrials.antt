@@ -16,7 +16,7 @@ use Rattle.csv_command.specs.Words.{delimiter_for, encoding_for}
 use Rattle.csv_records.specs.declared.delimiter.Delimiter.{Delimiter}
 use Rattle.csv_records.specs.declared.delimiter.Delimiter.TheVariants.{Auto, Byte, NamedOrTab}
 use Rattle.csv_records.specs.declared.encoding.Encoding.TheVariants.{Cp1252, Utf16, Utf8}
-use Rattle.csv_records.specs.declared.error.CsvError.TheVariants as err
+use Rattle.csv_tables.specs.declared.error.CsvError.TheVariants as err
 
 abbrev texts : List String → List Text
 texts words = map (λ (word : String). codes word) words

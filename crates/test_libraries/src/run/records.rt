@@ -1,8 +1,8 @@
 //! The words of `csvtable`'s errors, delimiters that its words can't ask for, and encodings.
 
 use super::large::options;
-use csv_records::{CsvError, Delimiter, Encoding, decoded, read_records};
-use csv_tables::{Options, table_of};
+use csv_records::{Delimiter, Encoding, decoded, read_records};
+use csv_tables::{CsvError, Options, table_of};
 use std::alloc::{Alloc, Global};
 use std::process::Abort;
 

@@ -1,6 +1,6 @@
 use Rattle.std.proofs.Common.{◌≡◌, Err, rules, arith, get_or, string_bytes, subst}
 use Rattle.std.proofs.lemmas.Grind.{common_steps}
-use Rattle.csv_tables.specs.Columns.{IsColumnRefusal, positions_of_word}
+use Rattle.csv_tables.specs.Columns.{IsColumnsRefusal, positions_of_word}
 use Rattle.comfy_parts.specs.Text.{Text}
 use Rattle.csv_tables.proofs.ColumnLemmas.{refused_word}
 use Rattle.csv_tables.proofs.columns.positions_of.Goals as goal
@@ -14,5 +14,5 @@ returns-in_err-more-clause-refused c =
     let names = c.args.names.now in
     let same : c.from_residual.result ≡ Err e = search rules in
     let word : c.as_str.result.now ≡ string_bytes (get_or c.args.words.now c.loop-word.word-index c.word-item.result) = search rules in
-    let why = subst (λ (w : Text). IsColumnRefusal e (positions_of_word names c.args.count w)) word c.in_err-more.ensures.refused in
+    let why = subst (λ (w : Text). IsColumnsRefusal e (positions_of_word names c.args.count w)) word c.in_err-more.ensures.refused in
     rw same (refused_word names c.args.count c.args.words.now c.loop-word.word-index c.word-item.result _ e (omega arith) c.loop-word.invariant why)

@@ -1,12 +1,6 @@
 use Rattle.std.proofs.Common.{◌≡◌, ◌∙◌, ap, false, string_bytes, sym}
-use Rattle.csv_command.proofs.ending.reason_of.Goals as goal
+use Rattle.csv_command.proofs.ending.columns_reason.Goals as goal
 use Rattle.csv_records.specs.Shown.{shown_text}
-
-pub returns-in-NotUtf16 : goal.returns-in-NotUtf16
-returns-in-NotUtf16 c = rw c.in-NotUtf16.is c.format-in-NotUtf16.ensures.ok
-
-pub returns-in-Unclosed : goal.returns-in-Unclosed
-returns-in-Unclosed c = rw c.in-Unclosed.is c.format-in-Unclosed.ensures.ok
 
 pub returns-in_ok-name-in-TwoSides : goal.returns-in_ok-name-in-TwoSides
 returns-in_ok-name-in-TwoSides c =

@@ -1,0 +1,21 @@
+-- The error of a drawing, by that of the layer that it comes of: want of memory is one error.
+use Rattle.csv_records.specs.declared.error.DecodeError.{DecodeError}
+use Rattle.csv_records.specs.declared.error.DecodeError.TheVariants as decode
+use Rattle.csv_records.specs.declared.error.RecordsError.{RecordsError}
+use Rattle.csv_records.specs.declared.error.RecordsError.TheVariants as records
+use Rattle.csv_tables.specs.declared.error.ColumnsError.{ColumnsError}
+use Rattle.csv_tables.specs.declared.error.ColumnsError.TheVariants as columns
+use Rattle.csv_tables.specs.declared.error.CsvError.{CsvError}
+use Rattle.csv_tables.specs.declared.error.CsvError.TheVariants.{Columns, Decode, OutOfMemory, Records}
+
+abbrev pub of_decoding : DecodeError → CsvError
+of_decoding decode.OutOfMemory = OutOfMemory
+of_decoding fault = Decode fault
+
+abbrev pub of_records : RecordsError → CsvError
+of_records records.OutOfMemory = OutOfMemory
+of_records fault = Records fault
+
+abbrev pub of_columns : ColumnsError → CsvError
+of_columns columns.OutOfMemory = OutOfMemory
+of_columns fault = Columns fault

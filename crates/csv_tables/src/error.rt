@@ -1,0 +1,107 @@
+//! Why no drawing was written.
+
+ghost use Rattle.std.specs.Prelude.{◌≡◌};
+ghost use Rattle.csv_tables.specs.Errors.{of_columns, of_decoding, of_records};
+ghost use Rattle.csv_tables.specs.declared.error.ColumnsError.TheVariants as columns;
+
+use comfy_parts::TableError;
+use csv_records::{DecodeError, RecordsError};
+use std::alloc::{AllocError, AllocFailed};
+use thiserror::Error;
+
+/// Why columns can't be drawn so.
+#[derive(Debug, Drop, Error)]
+pub enum ColumnsError {
+    /// A list of columns has this word, and chooses no column that is there.
+    #[error("no column {0}")]
+    NoColumn(String),
+    /// The column of this name, or of this number where there is no header, is to stand at the
+    /// right and at the left.
+    #[error("column {0} can't stand at the right and at the left")]
+    TwoSides(String),
+    /// There was no memory for the table or its drawing.
+    #[error("out of memory")]
+    OutOfMemory,
+}
+
+/// Why no drawing was written, or not all of it. Want of memory is `OutOfMemory`, wherever it was.
+#[derive(Debug, Drop, Error)]
+pub enum CsvError {
+    /// The source failed during the call.
+    #[error("the input can't be read")]
+    Read,
+    /// The sink failed during the call.
+    #[error("the output can't be written")]
+    Write,
+    /// The input has no text.
+    #[error("{0}")]
+    Decode(DecodeError),
+    /// The text has no records.
+    #[error("{0}")]
+    Records(RecordsError),
+    /// The columns can't be drawn so.
+    #[error("{0}")]
+    Columns(ColumnsError),
+    /// There was no memory for the records, their table or its drawing.
+    #[error("out of memory")]
+    OutOfMemory,
+}
+
+impl From<AllocError> for ColumnsError {
+    ghost from_gives = { λ _ e. e ≡ columns.OutOfMemory };
+
+    fn from(_error: AllocError) -> ColumnsError {
+        ColumnsError::OutOfMemory
+    }
+}
+
+impl<T: Drop> From<AllocFailed<T>> for ColumnsError {
+    ghost from_gives = { λ _ e. e ≡ columns.OutOfMemory };
+
+    fn from(_error: AllocFailed<T>) -> ColumnsError {
+        ColumnsError::OutOfMemory
+    }
+}
+
+impl From<TableError> for ColumnsError {
+    ghost from_gives = { λ _ e. e ≡ columns.OutOfMemory };
+
+    fn from(error: TableError) -> ColumnsError {
+        match error {
+            TableError::OutOfMemory => ColumnsError::OutOfMemory,
+        }
+    }
+}
+
+impl From<DecodeError> for CsvError {
+    ghost from_gives = { λ x e. e ≡ of_decoding x };
+
+    fn from(error: DecodeError) -> CsvError {
+        match error {
+            DecodeError::OutOfMemory => CsvError::OutOfMemory,
+            fault => CsvError::Decode(fault),
+        }
+    }
+}
+
+impl From<RecordsError> for CsvError {
+    ghost from_gives = { λ x e. e ≡ of_records x };
+
+    fn from(error: RecordsError) -> CsvError {
+        match error {
+            RecordsError::OutOfMemory => CsvError::OutOfMemory,
+            fault => CsvError::Records(fault),
+        }
+    }
+}
+
+impl From<ColumnsError> for CsvError {
+    ghost from_gives = { λ x e. e ≡ of_columns x };
+
+    fn from(error: ColumnsError) -> CsvError {
+        match error {
+            ColumnsError::OutOfMemory => CsvError::OutOfMemory,
+            fault => CsvError::Columns(fault),
+        }
+    }
+}
