@@ -10,8 +10,10 @@
 - Each law, and each function of `promises` and `csv_promises`, has a trial that shows a value of which its conclusion is
   false, below a line `-- false: CRATE::laws::NAME` of a file of trials.
 - README.md: each label that it cites is a heading of PROVED.md, and what it prints is the output of the stored run.
-- CALLING.md of each library: each clause that it quotes stands in the library's source or in that of a caller.
+- CALLING.md: each clause of its caller stands in the source of the library, of one that it tells of too, or of a caller.
 - Each mutation changes a function that exists.
+- Each definition of specs/ and proofs/ is reached (tools/check/reach.py).
+- No line of src/ and specs/ has more than 100 characters, but `use` lines and `#[tactic(..)]`, which `rt fmt` doesn't break.
 - The crate of documented examples is what the doc comments say.
 - csvtable's man page and completions are what tools/make/manual.py makes of its table of words.
 - The pictures are what tools/make/pictures.py makes of stored outputs, and each link of a page leads to a file or a heading.
@@ -23,6 +25,7 @@ import sys
 
 from definitions import LIBRARIES, PROMISES, TOP, files_of, functions_of, sources_of, text_of
 from mutations import must_fail_of, mutations_of
+from reach import unreached
 from what_is_believed import updated
 
 sys.path.append(f"{TOP}/tools/make")  # its tools make what is compared here
@@ -38,6 +41,7 @@ OVER_OTHERS = set(
     "should_draw_left_border should_draw_right_border should_draw_vertical_lines".split()
 )
 CALLERS = ["test_callers", "test_csv_cases"]
+TOLD_WITH = {"comfy_run": ["devices"], "csv_tables": ["csv_records", "csv_command"]}  # by one CALLING.md
 TRIALS = ["test_definitions", *PROMISES]
 STORED = ["csvtable/stdout"]
 
@@ -97,13 +101,24 @@ def wrong_trials():
 
 def wrong_in_calling(crate):
     """The clauses that a CALLING.md quotes and its library doesn't have."""
-    sources = [it for name in (crate, *CALLERS) for it in sources_of(name)]
+    sources = [it for name in (crate, *TOLD_WITH.get(crate, []), *CALLERS) for it in sources_of(name)]
     source = " ".join(" ".join(text_of(it) for it in sources).split())
     wrong = []
     for block in re.findall(r"```rust\n(.*?)```", text_of(f"crates/{crate}/CALLING.md"), re.S):
         for clause in re.findall(r"^\s*((?:ensures|requires)\b.*?);?$", block, re.M):
             if " ".join(clause.split()) not in source:
                 wrong.append(f"{crate}/CALLING.md quotes what isn't there: {clause}")
+    return wrong
+
+
+def wrong_lines():
+    """The lines of src/ and specs/ that are too long to be read beside others."""
+    kept_on_one_line = r"\s*(?:(?:pub|ghost|unfoldable) )*use |\s*#!?\[tactic\("
+    wrong = []
+    for path in (it for kind in ("src/**/*.rt", "specs/**/*.antt") for it in files_of("*", kind)):
+        for number, line in enumerate(text_of(path).split("\n"), 1):
+            if len(line) > 100 and not re.match(kept_on_one_line, line):
+                wrong.append(f"{path}:{number} has {len(line)} characters")
     return wrong
 
 
@@ -154,10 +169,11 @@ def main():
     wrong += wrong_links()
     counted = zip(page.splitlines(), updated(page).splitlines())
     wrong += [f"docs/PROVED.md hasn't this count: {new}" for old, new in counted if old != new]
-    for parts, crate in (("comfy_parts", "comfy_table"), ("comfy_csv_parts", "comfy_csv")):
-        passed_on = re.search(r"^pub use " + parts + r"::laws::\{(.*?)\};", text_of(f"crates/{crate}/src/laws.rt"), re.M | re.S)[1]
-        laws = re.findall(r"^pub fn (\w+)", text_of(f"crates/{parts}/src/laws.rt"), re.M)
-        wrong += [f"{crate}::laws doesn't pass on {it}" for it in set(laws) ^ set(re.findall(r"\w+", passed_on))]
+    passed_on = re.search(r"^pub use comfy_parts::laws::\{(.*?)\};", text_of("crates/comfy_table/src/laws.rt"), re.M | re.S)[1]
+    of_parts = re.findall(r"^pub fn (\w+)", text_of("crates/comfy_parts/src/laws.rt"), re.M)
+    wrong += [f"comfy_table::laws doesn't pass on {it}" for it in set(of_parts) ^ set(re.findall(r"\w+", passed_on))]
+    wrong += unreached()
+    wrong += wrong_lines()
     print("\n".join(wrong) or f"{len(labels)} labels: all found")
     return 1 if wrong else 0
 

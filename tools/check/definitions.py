@@ -9,8 +9,8 @@ from dataclasses import dataclass, field, replace
 TOP = os.path.dirname(os.path.dirname(os.path.dirname(os.path.realpath(__file__))))
 PROMISES = ["promises", "csv_promises"]
 LIBRARIES = [
-    *("cluster_width", "comfy_parts", "comfy_table", "comfy_run"),
-    *("comfy_csv_parts", "comfy_csv", "comfy_c"),
+    *("cluster_width", "comfy_parts", "comfy_table", "devices", "comfy_run"),
+    *("csv_records", "csv_tables", "csv_command", "comfy_c"),
     *PROMISES,
 ]
 BRACES = r"\{(?:[^{}]|\{(?:[^{}]|\{[^{}]*\})*\})*\}"

@@ -12,7 +12,7 @@ import textwrap
 
 from project import TOP, text_of
 
-WORD = r'name: "(.+?)",\s+letter: (?:None|Some\(\'(.)\'\)),\s+kind: Kind::(\w+),\s+value: "(.*?)",\s+help: "((?:[^"\\]|\\.)*)"'
+WORD = r'name: "(.+?)",\s+letter: (?:None|Some\(\'(.)\'\)),\s+kind: Kind::(\w+),\s+value: "(.*?)",\s+help: "((?:[^"\\]|\\[\s\S])*)"'
 
 
 class Word:
@@ -26,7 +26,7 @@ class Word:
         return ([f"-{self.letter}"] if self.letter else []) + ([f"--{self.name}"] if self.name else [])
 
 
-SOURCE = text_of("crates/comfy_csv_parts/src/words.rt")
+SOURCE = text_of("crates/csv_command/src/words.rt")
 WORDS = [Word(*it) for it in re.findall(WORD, SOURCE)]
 OPTIONS = [it for it in WORDS if it.kind != "File"]
 VERSION = re.search(r'\.version\("(.+?)"\)', SOURCE)[1]
@@ -39,7 +39,7 @@ def names_in(declared):
 
 
 def style_names():
-    own = re.search(r"fn own_styles.*?\n\}", text_of("crates/comfy_csv_parts/src/styles.rt"), re.S)[0]
+    own = re.search(r"fn own_styles.*?\n\}", text_of("crates/csv_command/src/styles.rt"), re.S)[0]
     presets = re.search(r"pub static ALL.*?\];|pub const ALL.*?\];", text_of("crates/comfy_parts/src/style/presets.rt"), re.S)[0]
     return re.findall(r'\("(\w+)"', own) + re.findall(r'\("(\w+)"', presets)
 

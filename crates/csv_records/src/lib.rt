@@ -1,5 +1,5 @@
-//! From bytes to records of fields, and what a field is: encodings, delimiters, quotes, cleaning and
-//! numbers.
+//! From bytes to records of fields, and what a field is: encodings, delimiters, quotes, cleaning
+//! and numbers.
 #![tactic(auto)]
 
 mod cleaning;

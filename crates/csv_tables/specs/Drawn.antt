@@ -55,7 +55,8 @@ ok_map f (Ok x) = Ok (f x)
 ok_map f (Err e) = Err e
 
 abbrev pub drawn_rows : Options → List (List Text) → List (List Text)
-drawn_rows options records = limited options.selection.limit (records_below options.selection.has_header records)
+drawn_rows options records =
+    limited options.selection.limit (records_below options.selection.has_header records)
 
 abbrev pub content_with : Options → List (List Text) → List DrawnColumn → ContentValue
 content_with options records columns =
@@ -283,7 +284,8 @@ pub record IsOutputOf (options : Options) (records : List (List Text))
   pub is_content : content_of options records ≡ Ok content
   pub text : Text
   pub is_text : IsText options.look.is_markdown options.look content text
-  pub joined : output ≡ text ++ note_for options.look.is_markdown options.selection.limit content.count
+  pub joined :
+      output ≡ text ++ note_for options.look.is_markdown options.selection.limit content.count
 
 -- the output for the records of an input: nothing where there are none
 abbrev pub IsOutputOfAny : Options → List (List Text) → Text → Type 0

@@ -36,7 +36,8 @@ pub record KeepsRows (options : Options) (records : List (List Text))
   pub as_many : length table.rows ≡ length (drawn_rows options records)
   pub chosen :
       kept_columns (unwrap_or (names_of options.selection.has_header records) [])
-      (count_of (unwrap_or (names_of options.selection.has_header records) []) (drawn_rows options records))
+      (count_of (unwrap_or (names_of options.selection.has_header records) [])
+        (drawn_rows options records))
       options.selection.columns.items options.selection.dropped.items
       ≡ Ok (map (λ (column : DrawnColumn). column.position) columns)
 
@@ -67,7 +68,8 @@ pub record IsOutputWith (options : Options) (records : List (List Text)) (output
   pub expansion : is_expanded ≡ is_expanded_for options.look content
   pub text : Text
   pub has_lines : HasLines is_expanded content lines text
-  pub joined : output ≡ text ++ note_for options.look.is_markdown options.selection.limit content.count
+  pub joined :
+      output ≡ text ++ note_for options.look.is_markdown options.selection.limit content.count
 
 -- the table that is drawn of some records: of their rows or of their fields, with lines between
 -- rows or without

@@ -9,10 +9,18 @@ pub record AreSameOptions (options others : Options) : Type 0 where
   pub input : options.input ≡ others.input
   pub header : options.selection.has_header ≡ others.selection.has_header
   pub limit : options.selection.limit ≡ others.selection.limit
-  pub columns : map string_bytes options.selection.columns.items ≡ map string_bytes others.selection.columns.items
-  pub dropped : map string_bytes options.selection.dropped.items ≡ map string_bytes others.selection.dropped.items
-  pub right : map string_bytes options.selection.right.items ≡ map string_bytes others.selection.right.items
-  pub left : map string_bytes options.selection.left.items ≡ map string_bytes others.selection.left.items
+  pub columns :
+      map string_bytes options.selection.columns.items
+      ≡ map string_bytes others.selection.columns.items
+  pub dropped :
+      map string_bytes options.selection.dropped.items
+      ≡ map string_bytes others.selection.dropped.items
+  pub right :
+      map string_bytes options.selection.right.items
+      ≡ map string_bytes others.selection.right.items
+  pub left :
+      map string_bytes options.selection.left.items
+      ≡ map string_bytes others.selection.left.items
   pub look : options.look ≡ others.look
 
 -- two outputs for one input by such options are equal

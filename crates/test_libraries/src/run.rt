@@ -1,4 +1,4 @@
-//! Tests of `comfy_run` and `comfy_csv`.
+//! Tests of `comfy_run`, and of the libraries for CSV.
 
 mod counted;
 mod devices;

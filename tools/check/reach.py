@@ -1,0 +1,110 @@
+#!/usr/bin/env python3
+"""Names the definitions of specs/ and proofs/ that nothing reaches, each with its file and line.
+
+    tools/check/reach.py
+
+These reach what they name: code, the proof files of a function (Answers, Invariants, Proof), trials, the heads of modules,
+and each definition that is reached. A name stands for what its file defines or imports by it.
+"""
+import glob
+import re
+import sys
+
+from definitions import TOP, imports_of, text_of
+
+WORD = r"[^\s(){}\[\],;.:λ→×⊎∷]+"
+ROUND = r"\((?:[^()]|\((?:[^()]|\([^()]*\))*\))*\)"
+DECLARING = r"(?:(?:pub|abbrev|unfoldable|opaque|private|instance|record|data|enum|syntax) )*"
+# a definition's first line: its name, and what it takes, up to a colon or the line's end
+BEGINS = re.compile(rf" *{DECLARING}([^\s:(){{}}\[\]]+)(?: (?:{ROUND}|\{{[^}}]*\}}|_))*(?: :(?= |$)|$)")
+NO_NAMES = {"use", "module", "mod", "unfolding", "in", "let", "where"}
+ANSWERS = ("Answers.antt", "Invariants.antt", "Proof.antt", "Trials.antt")
+
+
+def is_root(path):
+    return path.endswith((".rt", *ANSWERS))
+
+
+def words_in(lines):
+    return re.findall(WORD, "\n".join(lines))
+
+
+def code_of(path):
+    """A file without its comments and its `use` lines, of which empty lines are left."""
+    comment = r"//.*" if path.endswith(".rt") else r"(?<!\S)--(?!\S).*"
+    text = re.sub(comment, "", text_of(path))
+    use = r"^ *(?:(?:pub|ghost|unfoldable) )*use [^\n{]*(?:\{[^}]*\})?"
+    return re.sub(use, lambda it: "\n" * it[0].count("\n"), text, flags=re.M)
+
+
+def parts_of(path):
+    """For each definition of a file its first line's number and its lines; and the lines outside of them."""
+    found, outside, modules = {}, [], []
+    own = outside
+    for number, line in enumerate(code_of(path).split("\n"), 1):
+        indent = len(line) - len(line.lstrip())
+        while modules and line.strip() and indent <= modules[-1] and line[indent] not in ")}":
+            modules.pop()
+        begins = BEGINS.match(line)
+        if re.match(" *module ", line):
+            modules.append(indent)
+            own = outside
+        elif begins and begins[1] not in NO_NAMES and indent in (0, *(it + 2 for it in modules)):
+            own = found.setdefault(begins[1], (number, []))[1]
+        own.append(line)
+    return found, outside
+
+
+def file_of(module):
+    crate, folder, *words = module.split(".")[1:]
+    return f"crates/{crate}/{folder}/{'/'.join(words)}.antt"
+
+
+def origin(word, path, parts):
+    """The file and the name of the definition that a word of a file stands for, where it is one of ours."""
+    while word not in parts.get(path, ({},))[0]:
+        module, word = imports_of(path).get(word, ("", ""))
+        if not word:
+            return None
+        path = file_of(module)
+    return path, word
+
+
+def cited(path):
+    """The lemmas that attributes of the code name by their paths."""
+    for crate, words, name in re.findall(r"\b(\w+)::proofs::([\w:]+)::([^\s,()\]:]+)", text_of(path)):
+        crate = path.split("/")[1] if crate == "crate" else crate
+        yield f"crates/{crate}/proofs/{words.replace('::', '/')}.antt", name
+
+
+def unreached():
+    """The definitions that nothing reaches, as lines."""
+    sources = glob.glob("crates/*/src/**/*.rt", root_dir=TOP, recursive=True)
+    proofs = sorted(it for kind in ("specs", "proofs") for it in glob.glob(f"crates/*/{kind}/**/*.antt", root_dir=TOP, recursive=True))
+    parts = {path: parts_of(path) for path in proofs}
+    waiting = [origin(name, path, parts) for source in sources for path, name in cited(source)]
+    for path in [*sources, *proofs]:
+        lines = code_of(path).split("\n") if is_root(path) else parts[path][1]
+        waiting += [origin(word, path, parts) for word in words_in(lines)]
+    reached = {None}
+    while waiting:
+        one = waiting.pop()
+        if one not in reached:
+            reached.add(one)
+            waiting += [origin(word, one[0], parts) for word in words_in(parts[one[0]][0][one[1]][1])]
+    return [
+        f"{path}:{number}: nothing reaches {name}"
+        for path, (found, _) in parts.items()
+        for name, (number, _) in found.items()
+        if not is_root(path) and (path, name) not in reached
+    ]
+
+
+def main():
+    found = unreached()
+    print("\n".join(found) or "each definition is reached")
+    return 1 if found else 0
+
+
+if __name__ == "__main__":
+    sys.exit(main())
