@@ -5,8 +5,8 @@ ghost use Rattle.comfy_parts.specs.declared.error.TableError.TheVariants.{OutOfM
 ghost use Rattle.comfy_run.specs.Run.{run_error_of};
 ghost use Rattle.comfy_run.specs.declared.error.RunError.TheVariants.{Table};
 
-use devices::ReadError;
 use comfy_parts::TableError;
+use devices::ReadError;
 use std::alloc::AllocError;
 use thiserror::Error;
 

@@ -17,7 +17,11 @@ use std::alloc::Global;
 ///
 /// `Unclosed` has the number of the line, among all of the text, where the quote opens.
 /// `SplitCharacter` comes only of a delimiter that isn't ASCII.
-pub fn read_records(alloc: Global, text: &str, options: &InputOptions) -> Result<Records, RecordsError>
+pub fn read_records(
+    alloc: Global,
+    text: &str,
+    options: &InputOptions,
+) -> Result<Records, RecordsError>
     ensures all { IfOk result (λ records. AreRecordsIn options.now text.now records) }
     ensures refused { IfErr result (λ e. IsTextWithoutRecords options.now text.now e) }
 {

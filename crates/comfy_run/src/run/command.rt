@@ -10,8 +10,8 @@ ghost use Rattle.comfy_run.specs.declared.settings.Settings.{Settings};
 use crate::arguments::settings_of;
 use crate::error::RunError;
 use crate::run::transfer::run;
-use devices::{Sink, Source, write_all};
 use comfy_table::TableError;
+use devices::{Sink, Source, write_all};
 use std::alloc::Global;
 
 const USAGE: &str = "usage: ctable [WIDTH|- [disabled|dynamic|full [STYLE]]]\n";
