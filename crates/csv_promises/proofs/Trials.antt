@@ -17,10 +17,10 @@ use Rattle.comfy_csv_parts.specs.declared.options.Look.{Look}
 use Rattle.comfy_csv_parts.specs.declared.options.Options.{Options}
 use Rattle.comfy_csv_parts.specs.declared.options.RowSeparators.TheVariants.{Styled}
 use Rattle.promises.specs.Kept.{StandIn}
-use Rattle.promises.specs.Shown.{IsHarmless, Shows}
+use Rattle.promises.specs.Shown.{IsHarmless, Shows, ShowsColumns}
 use Rattle.promises.specs.Shown.Shows.{nothing, byte, sequence}
 use Rattle.csv_promises.specs.Kept.{AsksForNothing, EachHasALine, IsPlainRecord}
-use Rattle.csv_promises.specs.Straight.{CountsRecords, IsStraight, ShowsColumns, counted}
+use Rattle.csv_promises.specs.Straight.{CountsRecords, IsStraight, counted}
 
 -- ---- straight edges
 

@@ -24,8 +24,8 @@ use Rattle.promises.specs.Headline.{IsHeadline}
 use Rattle.promises.specs.Kept.{AreSameBut, AreShown, ShowsRow, ShowsWholeRow, StandIn}
 use Rattle.promises.specs.Shown.{AreShownEquallyWide, HasNoControls, IsHarmless, Shows}
 use Rattle.promises.specs.Shown.Shows.{nothing, byte, sequence}
-use Rattle.promises.specs.Tables.{CharactersFit, EachShownText, EachText, HasCharactersWithin, HasPlainFrame, IsFree, IsPlain, IsShownWhole}
-use Rattle.promises.specs.Widths.{frame_room}
+use Rattle.promises.specs.Tables.{CharactersFit, EachShownText, EachText, HasCharactersWithin, HasPlainFrame, IsPlain, IsShownWhole}
+use Rattle.promises.specs.Widths.{IsFree, frame_room}
 
 -- ---- a table
 
@@ -67,7 +67,11 @@ has_plain_frame first second =
     own one other = All-from_recursion (λ (cell : CellValue). IsOneColumn cell.delimiter) (row_of one other).cells (space, (space, tt))
 
 is_free : (first second : String) → IsFree (table_of first second)
-is_free first second = record { some_column = omega arith; no_constraint = All-from_recursion (λ (column : ColumnValue). column.constraint ≡ None) (table_of first second).columns (refl, (refl, tt)) }
+is_free first second = (
+  omega arith,
+  All-from_recursion (λ (column : ColumnValue). column.constraint ≡ None)
+  (table_of first second).columns (refl, (refl, tt)),
+)
 
 -- P holds of each of the four texts
 each_of : (P : Text → Type 0) (first second : String) → P (utf8 "day") → P (utf8 "text") → All P (plain_cell (utf8 first)).text_lines → All P (plain_cell (utf8 second)).text_lines → EachText P (table_of first second)
@@ -97,7 +101,7 @@ is_shown_whole : IsShownWhole (table_of "京都" "김철수")
 unfolding wrapping encode
 is_shown_whole =
     record {
-      no_constraint = (is_free "京都" "김철수").no_constraint;
+      no_constraint = (is_free "京都" "김철수").1;
       uncut = All-from_recursion (λ (row : RowValue). row.max_height ≡ None) (header_and_rows (table_of "京都" "김철수")) (refl, (refl, tt));
       short = each_of (λ text. measure text ≤ 65535) "京都" "김철수" (omega arith) (omega arith) (All-from_recursion (λ text. measure text ≤ 65535) (utf8 "京都" ∷ []) (omega arith, tt)) (All-from_recursion (λ text. measure text ≤ 65535) (utf8 "김철수" ∷ []) (omega arith, tt));
     }

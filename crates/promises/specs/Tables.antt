@@ -1,5 +1,5 @@
 -- Tables as callers make them, and how wide their lines are shown.
-use Rattle.std.specs.Prelude.{◌≡◌, ◌==◌, ◌&&◌, ℕ, ◌<◌, ◌≤◌, true, false, not, None, Some, List, All, chars, encode_utf8, filter, length, nat_le, slice_get}
+use Rattle.std.specs.Prelude.{◌≡◌, ◌==◌, ◌&&◌, ℕ, ◌≤◌, true, false, not, None, Some, List, All, chars, encode_utf8, filter, nat_le, slice_get}
 use Rattle.std.specs.List.{list_all}
 use Rattle.comfy_parts.specs.CellValue.{CellValue, ColumnInfo, ColumnValue, RowValue, is_hidden_column}
 use Rattle.comfy_parts.specs.Columns.{IsApart, IsOneColumn, IsOneColumnStyle}
@@ -30,11 +30,6 @@ shown table = filter (λ (column : ColumnValue). not (is_hidden_column column)) 
 -- none of these has a constraint
 abbrev pub IsUnconstrained : TableValue → Type 0
 IsUnconstrained table = All (λ (column : ColumnValue). column.constraint ≡ None) (shown table)
-
--- there is one of these, and none has a constraint
-pub record IsFree (table : TableValue) : Type 0 where
-  pub some_column : 0 < length (shown table)
-  pub no_constraint : All (λ (column : ColumnValue). column.constraint ≡ None) (shown table)
 
 -- neither colours nor attributes are written, and texts aren't searched for sequences
 pub record IsPlain (table : TableValue) : Type 0 where
