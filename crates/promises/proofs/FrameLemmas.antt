@@ -80,7 +80,8 @@ module _ (old new : TableValue) (w : ℕ) (lines : List Text) where
   within set =
       rw set (λ drawn plain frame free each.
       let table : TableValue = record old { set_width = Some w; arrangement = Dynamic } in
-      let straight = narrow table (plain_stay table plain.no_sequences) (same_frame old (Some w) Dynamic frame) lines drawn each in
+      let straight = narrow table (same_frame old (Some w) Dynamic frame)
+      (plain_stay table plain.no_sequences) lines drawn each in
       let known : All (λ line. measure line ≤ max w (least_total table)) lines =
       subst (All (λ line. measure line ≤ max w (least_total table))) (sym (drawn.unstyled_lines plain.no_styles plain.no_sequences)) ((drawn.keeps_to_width w (unconstrained table free.1) refl refl).straight_lines straight) in
       let enough : least_total table ≤ frame_room table = least table free in
@@ -92,7 +93,8 @@ module _ (old new : TableValue) (w : ℕ) (lines : List Text) where
   over set =
       rw set (λ drawn plain frame free each room.
       let table : TableValue = record old { set_width = Some w; arrangement = DynamicFullWidth } in
-      let straight = narrow table (plain_stay table plain.no_sequences) (same_frame old (Some w) DynamicFullWidth frame) lines drawn each in
+      let straight = narrow table (same_frame old (Some w) DynamicFullWidth frame)
+      (plain_stay table plain.no_sequences) lines drawn each in
       let some : 0 < shown_count table = omega (arith, (counted 0 old.columns).1, free.0) in
       let known : All (λ line. measure line ≡ max w (least_total table)) lines =
       subst (All (λ line. measure line ≡ max w (least_total table))) (sym (drawn.unstyled_lines plain.no_styles plain.no_sequences)) ((drawn.fills_width w (unconstrained table free.1) refl refl some).straight_lines straight) in

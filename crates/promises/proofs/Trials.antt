@@ -7,7 +7,8 @@ use Rattle.std.specs.Str.{NoCharPasses, chars}
 use Prim.Native.String.{String}
 use lib.Utf8.{encode}
 use Rattle.std.proofs.lemmas.Bool.{or_parts}
-use Rattle.std.proofs.lemmas.List.Elements.{All-from_recursion}
+use Rattle.std.proofs.lemmas.List.Elements.{All-from_recursion, All-head}
+use Rattle.std.proofs.lemmas.Option.{same_Some}
 use Rattle.std.proofs.lemmas.Str.{NoCharPasses-byte}
 use Rattle.comfy_parts.proofs.CallerLemmas.{All-at, All-every, frame_adds, frame_apart, one_column_characters}
 use Rattle.comfy_parts.proofs.Computing.{wrapping}
@@ -70,7 +71,7 @@ is_free : (first second : String) → IsFree (table_of first second)
 is_free first second = (
   omega arith,
   All-from_recursion (λ (column : ColumnValue). column.constraint ≡ None)
-  (table_of first second).columns (refl, (refl, tt)),
+      (table_of first second).columns (refl, (refl, tt)),
 )
 
 -- P holds of each of the four texts
@@ -106,14 +107,57 @@ is_shown_whole =
       short = each_of (λ text. measure text ≤ 65535) "京都" "김철수" (omega arith) (omega arith) (All-from_recursion (λ text. measure text ≤ 65535) (utf8 "京都" ∷ []) (omega arith, tt)) (All-from_recursion (λ text. measure text ≤ 65535) (utf8 "김철수" ∷ []) (omega arith, tt));
     }
 
--- columns of four and six terminal columns have room for each of these characters
-characters_fit_columns : CharactersFit (table_of "京都" "김철수") (info_of (new_column 0) 4 ∷ info_of (new_column 1) 6 ∷ [])
+-- two columns of these content widths
+abbrev columns_of : ℕ → ℕ → List ColumnInfo
+columns_of n w = info_of (new_column 0) n ∷ info_of (new_column 1) w ∷ []
+
+-- the characters of a row's cells fit these columns
+abbrev FitColumns : List ColumnInfo → RowValue → Type 0
+FitColumns columns row = (i : ℕ) (column : ColumnInfo) → slice_get columns i ≡ Some column
+    → column.is_hidden ≡ false → (cell : CellValue) → slice_get row.cells i ≡ Some cell
+    → All (HasCharactersWithin column.content_width) cell.text_lines
+
+-- so do those of two cells, where each fits its own
+two_fit : (n w : ℕ) (one other : CellValue)
+    → All (HasCharactersWithin (max 1 n)) one.text_lines
+    → All (HasCharactersWithin (max 1 w)) other.text_lines
+    → FitColumns (columns_of n w) (plain_row (one ∷ other ∷ []))
+two_fit n w one other first second = at
+  where
+    fit : (a b : ColumnInfo) (x y : CellValue) → Some a ≡ Some b → Some x ≡ Some y
+        → All (HasCharactersWithin a.content_width) x.text_lines
+        → All (HasCharactersWithin b.content_width) y.text_lines
+    fit a b x y columns cells own =
+        subst (λ (c : ColumnInfo). All (HasCharactersWithin c.content_width) y.text_lines)
+        (same_Some a b columns)
+        (subst (λ (c : CellValue). All (HasCharactersWithin a.content_width) c.text_lines)
+        (same_Some x y cells) own)
+
+    at : FitColumns (columns_of n w) (plain_row (one ∷ other ∷ []))
+    at zero column is visible cell found =
+        fit (info_of (new_column 0) n) column one cell is found first
+    at (suc zero) column is visible cell found =
+        fit (info_of (new_column 1) w) column other cell is found second
+    at (suc (suc i)) column is visible cell found = absurd (cc found)
+
+-- each character has room in its own column: digits in one of one terminal column, Chinese in one
+-- of two
+characters_fit_their_columns : CharactersFit (table_of "17" "京都") (columns_of 1 2)
 unfolding wrapping encode
-characters_fit_columns =
-    All-from_recursion (λ (column : ColumnInfo). EachText (HasCharactersWithin column.content_width) (table_of "京都" "김철수")) (info_of (new_column 0) 4 ∷ info_of (new_column 1) 6 ∷ []) (
-      each_of (HasCharactersWithin 4) "京都" "김철수" refl refl (All-from_recursion (HasCharactersWithin 4) (utf8 "京都" ∷ []) (refl, tt)) (All-from_recursion (HasCharactersWithin 4) (utf8 "김철수" ∷ []) (refl, tt)),
-      (each_of (HasCharactersWithin 6) "京都" "김철수" refl refl (All-from_recursion (HasCharactersWithin 6) (utf8 "京都" ∷ []) (refl, tt)) (All-from_recursion (HasCharactersWithin 6) (utf8 "김철수" ∷ []) (refl, tt)), tt),
+characters_fit_their_columns =
+    All-from_recursion (FitColumns (columns_of 1 2)) (header_and_rows (table_of "17" "京都")) (
+      two_fit 1 2 (plain_cell (utf8 "day")) (plain_cell (utf8 "text")) (one_line 1 "day" refl)
+          (one_line 2 "text" refl),
+      (
+        two_fit 1 2 (plain_cell (utf8 "17")) (plain_cell (utf8 "京都")) (one_line 1 "17" refl)
+            (one_line 2 "京都" refl),
+        tt,
+      ),
     )
+  where
+    one_line : (w : ℕ) (s : String) → HasCharactersWithin w (utf8 s)
+        → All (HasCharactersWithin w) (utf8 s ∷ [])
+    one_line w s own = All-from_recursion (HasCharactersWithin w) (utf8 s ∷ []) (own, tt)
 
 -- what holds of all texts holds of the shown ones
 shown_of_all : (P : Text → Type 0) (table : TableValue) → EachText P table → EachShownText P table
@@ -168,6 +212,15 @@ wide_is_refused is = cc is
 widening_is_refused : ¬ (HasCharactersWithin 2 (encode_utf8_all (0xFE01 ∷ [])))
 unfolding wrapping encode
 widening_is_refused is = cc is
+
+-- a character of two columns in a column of one, though the other one has room
+wide_in_the_narrow_column : ¬ (CharactersFit (table_of "京" "17") (columns_of 1 2))
+unfolding wrapping encode
+wide_in_the_narrow_column fit =
+    let own : All (HasCharactersWithin 1) (utf8 "京" ∷ []) =
+    fit 1 (row_of "京" "17") (omega arith) 0 (info_of (new_column 0) 1) refl refl
+    (plain_cell (utf8 "京")) refl in
+    wide_is_refused (All-head (HasCharactersWithin 1) (utf8 "京") [] own)
 
 -- a text in bold is harmless, and shows the text
 bold_shows : Shows (codes "\u{1b}[1ma\u{1b}[0m") (codes "a")

@@ -60,8 +60,9 @@ pub record IsShownWhole (table : TableValue) : Type 0 where
   pub uncut : All (λ (row : RowValue). row.max_height ≡ None) (header_and_rows table)
   pub short : EachText (λ text. measure text ≤ 65535) table
 
--- each character of each text fits each column that is drawn
+-- each character of a cell's text fits its column, where that is drawn
 abbrev pub CharactersFit : TableValue → List ColumnInfo → Type 0
 CharactersFit table columns =
-    All (λ (column : ColumnInfo). EachText (HasCharactersWithin column.content_width) table)
-    (filter (λ (column : ColumnInfo). not column.is_hidden) columns)
+    All (λ (row : RowValue). (i : ℕ) (column : ColumnInfo) → slice_get columns i ≡ Some column
+    → column.is_hidden ≡ false → (cell : CellValue) → slice_get row.cells i ≡ Some cell
+    → All (HasCharactersWithin column.content_width) cell.text_lines) (header_and_rows table)

@@ -30,7 +30,7 @@ abbrev pub FillWidth : TableValue → ℕ → List Text → Type 0
 FillWidth table w lines =
     IsNarrow table → frame_room table ≤ w → All (λ line. measure line ≡ w) lines
 
--- no line is wider where each character fits these columns
+-- no line is wider where each character fits its column, one of these
 abbrev pub KeepToWidthWhereCharactersFit : TableValue → List ColumnInfo → List Text → Type 0
 KeepToWidthWhereCharactersFit table columns lines =
     (w : ℕ) → table.set_width ≡ Some w → table.arrangement ≡ Dynamic
