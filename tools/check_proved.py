@@ -36,7 +36,6 @@ OVER_OTHERS = set(
     "should_draw_left_border should_draw_right_border should_draw_vertical_lines".split()
 )
 CALLERS = ["test_callers", "test_csv_cases"]
-TRIALS = ["test_definitions", *PROMISES]
 STORED = ["csvtable/stdout"]
 
 
@@ -86,7 +85,7 @@ def laws():
 def wrong_trials():
     """The laws that no trial shows to be false of a value, and what is named as one and is none."""
     named, false = set(), r"^-- false: (.*)\n(?=(?:--.*\n)*(?:pub )?\w+ :)"
-    for path in (it for crate in TRIALS for it in files_of(crate, "proofs/**/*Trials.antt")):
+    for path in files_of("test_definitions", "proofs/*.antt"):
         for labels in re.findall(false, text_of(path), re.M):
             named |= set(labels.split(", "))
     wrong = [f"no trial shows a value of which {it} is false" for it in laws() if it not in named]

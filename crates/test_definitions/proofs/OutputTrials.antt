@@ -1,5 +1,5 @@
 -- Outputs of which the conclusions of laws are false.
-use Rattle.std.proofs.Common.{◌≡◌, ◌==◌, ◌<◌, ◌+◌, ◌≤◌, ℕ, Bool, true, false, not, List, [], ◌∷◌, ◌++◌, None, Some, append-nil, arith, codes, length, map, refl, sym, ap, ◌∙◌, subst}
+use Rattle.std.proofs.Common.{◌≡◌, ◌==◌, ℕ, Bool, true, false, List, [], ◌∷◌, ◌++◌, None, append-nil, arith, codes, refl, sym, ap, ◌∙◌, subst}
 use Rattle.std.specs.List.{All, slice_split}
 use Rattle.std.proofs.lemmas.Bool.{true≢false}
 use Rattle.std.proofs.lemmas.List.Elements.{All-head, All-tail}
@@ -15,7 +15,7 @@ use Rattle.comfy_csv_parts.specs.declared.options.Expansion.TheVariants.{Never}
 use Rattle.comfy_csv_parts.specs.declared.options.Look.{Look}
 use Rattle.comfy_csv_parts.specs.declared.options.Options.{Options}
 use Rattle.comfy_csv_parts.specs.declared.options.RowSeparators.TheVariants.{Styled}
-use Rattle.comfy_csv.specs.Laws.{EachLineHas, HasLines, IsOutputWith, IsStraightOutput, IsWithin, seen_lines}
+use Rattle.comfy_csv.specs.Laws.{EachLineHas, HasLines, IsOutputWith, IsStraightOutput, seen_lines}
 use Rattle.comfy_csv.specs.OneOutput.{AreSameAsked, AreSameOptions}
 use Rattle.comfy_table.specs.TableValue.{TableValue}
 

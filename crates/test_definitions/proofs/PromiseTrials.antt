@@ -1,5 +1,5 @@
 -- Tables for which the premises of the promises hold, and texts that these promises refuse.
-use Rattle.std.proofs.Common.{◌≡◌, ◌==◌, ◌&&◌, ◌≤◌, ◌<◌, ℕ, zero, suc, true, false, not, List, [], ◌∷◌, ◌++◌, ◌∙◌, length, max, Contains, Some, None, codes, refl, sym, ap, subst, arith, slice_index_or}
+use Rattle.std.proofs.Common.{◌≡◌, ◌==◌, ◌&&◌, ◌≤◌, ◌<◌, ℕ, zero, suc, Bool, true, false, not, List, [], ◌∷◌, ◌++◌, ◌∙◌, length, max, Contains, Some, None, codes, refl, sym, ap, subst, arith, slice_index_or}
 use Rattle.std.specs.List.{All, AllZip, concat, slice_get}
 use Rattle.std.specs.Char.{is_control}
 use Rattle.std.specs.Prelude.{encode_utf8_all}
@@ -10,16 +10,15 @@ use Rattle.std.proofs.lemmas.Bool.{or_parts}
 use Rattle.std.proofs.lemmas.List.Elements.{All-from_recursion, All-head}
 use Rattle.std.proofs.lemmas.Option.{same_Some}
 use Rattle.std.proofs.lemmas.Str.{NoCharPasses-byte}
-use Rattle.comfy_parts.proofs.CallerLemmas.{All-at, All-every, frame_adds, frame_apart, one_column_characters}
+use Rattle.comfy_parts.proofs.CallerLemmas.{All-at, All-every, frame_adds, one_column_characters}
 use Rattle.comfy_parts.proofs.Computing.{wrapping}
 use Rattle.comfy_parts.specs.CellValue.{ColumnInfo, info_of, new_column, CellValue, ColumnValue, RowValue, plain_cell, plain_row}
-use Rattle.comfy_parts.specs.Columns.{IsApart, IsOneColumn}
+use Rattle.comfy_parts.specs.Columns.{IsOneColumn}
 use Rattle.comfy_parts.specs.Presets.{utf8_full}
 use Rattle.comfy_parts.specs.Text.{HasNo, Text, measure}
 use Rattle.comfy_parts.specs.declared.style.column.ColumnConstraint.TheVariants.{Hidden}
 use Rattle.comfy_table.specs.HiddenColumns.{without_hidden}
-use Rattle.comfy_table.specs.TableValue.{cell_content_width, TableValue, ellipsis, header_and_rows, new_table, shown_columns, with_header, with_row, constrained}
-use Rattle.comfy_table.specs.NewTables.{AreEquallyWide}
+use Rattle.comfy_table.specs.TableValue.{cell_content_width, TableValue, header_and_rows, shown_columns, constrained}
 use Rattle.promises.specs.Added.{HasRoomFor, Stay}
 use Rattle.promises.specs.Headline.{IsHeadline}
 use Rattle.promises.specs.Kept.{AreSameBut, AreShown, ShowsRow, ShowsWholeRow, StandIn}
@@ -27,24 +26,21 @@ use Rattle.promises.specs.Shown.{AreShownEquallyWide, HasNoControls, IsHarmless,
 use Rattle.promises.specs.Shown.Shows.{nothing, byte, sequence}
 use Rattle.promises.specs.Tables.{CharactersFit, EachShownText, EachText, HasCharactersWithin, HasPlainFrame, IsPlain, IsShownWhole}
 use Rattle.promises.specs.Widths.{IsFree, frame_room}
+use Rattle.test_definitions.proofs.StraightTrials.{ellipsis_is_apart}
+use Rattle.test_definitions.proofs.TrialTables as tables
+use Rattle.test_definitions.proofs.TrialTables.{utf8}
 
 -- ---- a table
 
-abbrev utf8 : String → Text
-utf8 s = encode_utf8_all (codes s)
-
 abbrev row_of : String → String → RowValue
-row_of first second = plain_row (plain_cell (utf8 first) ∷ plain_cell (utf8 second) ∷ [])
+row_of first second = tables.row_of (first ∷ second ∷ [])
 
 -- a header and a row of two cells
 abbrev table_of : String → String → TableValue
-table_of first second = with_row (row_of first second) (with_header (row_of "day" "text") (new_table utf8_full))
+table_of first second =
+    tables.table_of utf8_full ("day" ∷ "text" ∷ []) ((first ∷ second ∷ []) ∷ [])
 
 -- ---- premises that hold
-
-ellipsis_is_apart : IsApart ellipsis
-unfolding encode
-ellipsis_is_apart = frame_apart 0x2026 [] refl
 
 is_plain : (first second : String) → IsPlain (table_of first second)
 is_plain first second = record { no_styles = refl; no_sequences = refl }
@@ -53,7 +49,7 @@ space : IsOneColumn None
 space = frame_adds 0x20 refl
 
 has_plain_frame : (first second : String) → HasPlainFrame (table_of first second)
-unfolding wrapping
+unfolding wrapping encode
 has_plain_frame first second =
     record {
       style = one_column_characters utf8_full refl;
@@ -244,22 +240,22 @@ clear_screen (sequence code text shown all rest) is = no_end code (cc is)
     no_end (x ∷ y ∷ []) same = cc same
     no_end (x ∷ y ∷ z ∷ zs) same = cc same
 
--- a bell shows itself, so it is no harmless text
-bell_shows : {text shown : Text} → Shows text shown → text ≡ 0x07 ∷ [] → shown ≡ 0x07 ∷ []
-bell_shows nothing is = is
-bell_shows (byte b text shown clear rest) is = let end : text ≡ [] = cc is in let own : shown ≡ [] = nothing_left rest end in cc (is, own)
-  where
-    nothing_left : {xs ys : Text} → Shows xs ys → xs ≡ [] → ys ≡ []
-    nothing_left nothing same = same
-    nothing_left (byte c text shown clear rest) same = absurd (cc same)
-    nothing_left (sequence code text shown all rest) same = absurd (cc same)
-bell_shows (sequence code text shown all rest) is = absurd (cc is)
+-- a text without ESC shows itself alone
+pub shows_itself : {text shown : Text} → Shows text shown → HasNo 0x1B text → shown ≡ text
+shows_itself nothing none = refl
+shows_itself (byte b text shown clear rest) none =
+    ap (λ (t : Text). b ∷ t) (shows_itself rest (or_parts (b == 0x1B) _ none).1)
+shows_itself (sequence code text shown all rest) none = absurd (cc none)
 
+-- a bell does, so it is no harmless text
 -- false: promises::harmless_text, csv_promises::harmless_output, csv_promises::harmless_drawing
 bell_is_harmful : ¬ (IsHarmless (0x07 ∷ []))
 bell_is_harmful (shown, shows, none) =
-    let own : NoCharPasses (λ c. is_control c && not (c == 0x0A)) (0x07 ∷ []) = subst (NoCharPasses (λ c. is_control c && not (c == 0x0A))) (bell_shows shows refl) none in
-    let is : true ≡ false = NoCharPasses-byte (λ c. is_control c && not (c == 0x0A)) (0x07 ∷ []) 0 own (omega arith) (omega arith) in
+    let speaks : ℕ → Bool = λ c. is_control c && not (c == 0x0A) in
+    let own : NoCharPasses speaks (0x07 ∷ []) =
+    subst (NoCharPasses speaks) (shows_itself shows refl) none in
+    let is : true ≡ false =
+    NoCharPasses-byte speaks (0x07 ∷ []) 0 own (omega arith) (omega arith) in
     cc is
 
 -- a text that lost a character isn't the same, one that lost a space is
@@ -271,39 +267,30 @@ lost_letter : ¬ (AreSameBut 0x20 (codes "a") (codes "a b"))
 unfolding chars
 lost_letter is = let same : 0x61 ∷ [] ≡ 0x61 ∷ 0x62 ∷ [] = is in absurd (cc same)
 
--- nothing stands in an empty line
-none_in_nothing : (before part behind : Text) (c : ℕ) → ¬ ([] ≡ before ++ ((c ∷ part) ++ behind))
-none_in_nothing [] part behind c is = cc is
-none_in_nothing (b ∷ before) part behind c is = cc is
+-- nothing stands in an empty list
+pub none_in_nothing : {A : Type 0} (before part behind : List A) (x : A)
+    → ¬ ([] ≡ before ++ ((x ∷ part) ++ behind))
+none_in_nothing [] part behind x is = cc is
+none_in_nothing (b ∷ before) part behind x is = cc is
 
--- texts that stand the other way round aren't those of the line
-turned_round : ¬ (StandIn (codes "b" ∷ codes "a" ∷ []) (codes "ab"))
-turned_round (before, behind, is, (between, rest, are, end)) = by_before before is
+-- letters that stand the other way round aren't those of the line
+pub turned_round : (x y : ℕ) (line : Text) → ¬ (x ≡ y) → line ≡ x ∷ y ∷ []
+    → ¬ (StandIn ((y ∷ []) ∷ (x ∷ []) ∷ []) line)
+turned_round x y line other is (before, behind, made, (between, rest, are, end)) =
+    by_before before (sym is ∙ made)
   where
-    by_before : (before : Text) → ¬ (codes "ab" ≡ before ++ (0x62 ∷ behind))
-    by_before [] same = let letter : ◌≡◌ {A = ℕ} 0x61 0x62 = cc same in absurd (omega (arith, letter))
-    by_before (x ∷ []) same = let gone : [] ≡ behind = cc same in none_in_nothing between [] rest 0x61 (gone ∙ are)
-    by_before (x ∷ y ∷ more) same = none_in_nothing more [] behind 0x62 (let end : [] ≡ more ++ (0x62 ∷ behind) = cc same in end)
+    by_before : (before : Text) → ¬ (x ∷ y ∷ [] ≡ before ++ (y ∷ behind))
+    by_before [] same = other (cc same)
+    by_before (a ∷ []) same =
+        let gone : [] ≡ behind = cc same in none_in_nothing between [] rest x (gone ∙ are)
+    by_before (a ∷ b ∷ more) same =
+        none_in_nothing more [] behind y (let end : [] ≡ more ++ (y ∷ behind) = cc same in end)
 
 -- ---- what no call returns
 
 -- lines of two widths
 uneven : List Text
 uneven = codes "ab" ∷ codes "a" ∷ []
-
--- false: promises::straight_lines, promises::straight_whole_lines, promises::straight_fitting_lines
-uneven_is_not_straight : ¬ (AreEquallyWide uneven)
-unfolding wrapping uneven
-uneven_is_not_straight (n, each) =
-    let two : 2 ≡ n = each 0 [] (omega arith) in
-    let one : 1 ≡ n = each 1 [] (omega arith) in
-    absurd (omega (arith, two, one))
-
--- a text without ESC shows itself alone
-shows_itself : {text shown : Text} → Shows text shown → HasNo 0x1B text → shown ≡ text
-shows_itself nothing none = refl
-shows_itself (byte b text shown clear rest) none = ap (λ (t : Text). b ∷ t) (shows_itself rest (or_parts (b == 0x1B) _ none).1)
-shows_itself (sequence code text shown all rest) none = absurd (cc none)
 
 -- false: promises::straight_styled_lines
 uneven_is_not_shown_straight : ¬ (AreShownEquallyWide uneven)
@@ -327,9 +314,8 @@ narrower_than_the_width each = let eight : 8 ≡ 9 = each 0 [] (omega arith) in 
 
 -- what stands in nothing is nothing
 nothing_inside : {A : Type 0} (before part behind : List A) → [] ≡ before ++ (part ++ behind) → part ≡ []
-nothing_inside [] [] behind is = refl
-nothing_inside [] (x ∷ part) behind is = absurd (cc is)
-nothing_inside (b ∷ before) part behind is = absurd (cc is)
+nothing_inside before [] behind is = refl
+nothing_inside before (x ∷ part) behind is = absurd (none_in_nothing before part behind x is)
 
 -- a list that is no longer than another one without elements is none
 no_longer : {A B : Type 0} (xs : List A) (ys : List B) → ys ≡ [] → length xs ≤ length ys → xs ≡ []
