@@ -1,5 +1,6 @@
-//! Tests of `comfy_parts`, `comfy_table`, `comfy_run` and `comfy_csv`: what no clause says, above all that calls succeed
-//! where there is memory. Expected values come from outside. Nothing stands on this crate.
+//! Tests of `comfy_parts`, `comfy_table`, `comfy_run` and `comfy_csv`, and of the promises on them:
+//! what no clause says, above all that calls succeed where there is memory. Expected values come
+//! from outside. Nothing stands on this crate.
 #![tactic(auto)]
 
 #[cfg(test)]
