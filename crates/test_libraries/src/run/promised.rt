@@ -22,10 +22,20 @@ const DRAWN: &str = "\
 +------+------+
 ";
 
-const WORDS: [&str; 3] = ["csvtable", "-s", "ascii"];
+// In a terminal the header is bold: sequences stand round each piece, with its paddings.
+const DRAWN_IN_A_TERMINAL: &str = "\
++------+------+
+|\u{1b}[1m name \u{1b}[0m|\u{1b}[1m days \u{1b}[0m|
++=============+
+| oats |    3 |
++------+------+
+";
 
-const NO_TERMINAL: Surroundings<'static> = Surroundings {
-    is_terminal: false,
+// No width is kept to, in a terminal too.
+const WORDS: [&str; 5] = ["csvtable", "-s", "ascii", "-w", "0"];
+
+const TERMINAL: Surroundings<'static> = Surroundings {
+    is_terminal: true,
     columns: None,
     no_color: None,
 };
@@ -34,22 +44,18 @@ const NO_TERMINAL: Surroundings<'static> = Surroundings {
 fn assert_written(rt: &impl Abort, written: Option<(Records, MemorySink)>) {
     let (records, sink) = written.expect(rt, "a drawing");
     assert!(rt; records.rows().len() == 2);
-    assert_bytes(rt, sink.bytes(), DRAWN);
+    assert_bytes(rt, sink.bytes(), DRAWN_IN_A_TERMINAL);
 }
 
 #[test]
 fn promised_outputs_are_those_of_the_program(rt: HostRuntime) {
     let input = FILE.as_bytes();
-    assert_written(
-        &rt,
-        straight_output(rt.alloc(), &WORDS, NO_TERMINAL, input, 200),
-    );
-    assert_written(
-        &rt,
-        straight_whole_output(rt.alloc(), &WORDS, NO_TERMINAL, input, 200),
-    );
-    let sink = harmless_output(rt.alloc(), &WORDS, NO_TERMINAL, input, 200);
-    assert_bytes(&rt, sink.expect(&rt, "a drawing").bytes(), DRAWN);
+    let narrow = straight_output(rt.alloc(), &WORDS, TERMINAL, input, 200);
+    assert_written(&rt, narrow);
+    let whole = straight_whole_output(rt.alloc(), &WORDS, TERMINAL, input, 200);
+    assert_written(&rt, whole);
+    let sink = harmless_output(rt.alloc(), &WORDS, TERMINAL, input, 200).expect(&rt, "a drawing");
+    assert_bytes(&rt, sink.bytes(), DRAWN_IN_A_TERMINAL);
     let drawing = harmless_drawing(rt.alloc(), &WORDS, input).expect(&rt, "a drawing");
     assert!(rt; drawing.as_str() == DRAWN);
 }
