@@ -42,7 +42,6 @@ OVER_OTHERS = set(
 )
 CALLERS = ["test_callers", "test_csv_cases"]
 TOLD_WITH = {"comfy_run": ["devices"], "csv_tables": ["csv_records", "csv_command"]}  # by one CALLING.md
-TRIALS = ["test_definitions", *PROMISES]
 STORED = ["csvtable/stdout"]
 
 
@@ -92,7 +91,7 @@ def laws():
 def wrong_trials():
     """The laws that no trial shows to be false of a value, and what is named as one and is none."""
     named, false = set(), r"^-- false: (.*)\n(?=(?:--.*\n)*(?:pub )?\w+ :)"
-    for path in (it for crate in TRIALS for it in files_of(crate, "proofs/**/*Trials.antt")):
+    for path in files_of("test_definitions", "proofs/*.antt"):
         for labels in re.findall(false, text_of(path), re.M):
             named |= set(labels.split(", "))
     wrong = [f"no trial shows a value of which {it} is false" for it in laws() if it not in named]

@@ -5,8 +5,7 @@ ghost use Rattle.csv_records.specs.Input.{line_breaks};
 ghost use Rattle.csv_records.specs.Reading.{AreRecordsIn, IsTextWithoutRecords};
 
 use crate::delimiter::{below_lines, delimited};
-use crate::error::RecordsError;
-use crate::options::InputOptions;
+use csv_tables::{InputOptions, RecordsError};
 use crate::quotes::unclosed_quote;
 use crate::records::{Records, records_of};
 use crate::text::line_after;

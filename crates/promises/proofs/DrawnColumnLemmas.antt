@@ -1,5 +1,5 @@
 -- Columns as they are drawn, and what stands in them.
-use Rattle.std.proofs.Common.{◌≡◌, ℕ, ◌+◌, Bool, true, false, not, cond, List, [], ◌∷◌, ◌++◌, Option, Some, length, map, refl, sym, ap, ap₂, ◌∙◌, subst, arith, append_assoc, length-append, slice_index_or}
+use Rattle.std.proofs.Common.{◌≡◌, ℕ, ◌+◌, Bool, true, false, not, cond, List, [], ◌∷◌, ◌++◌, Some, length, map, refl, sym, ap, ap₂, ◌∙◌, subst, arith, append_assoc, length-append, slice_index_or}
 use Rattle.std.specs.Char.{IsScalar}
 use Rattle.std.specs.List.{All, slice_get}
 use Rattle.std.specs.Prelude.{option_map, slice_index}

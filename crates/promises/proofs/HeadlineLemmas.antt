@@ -1,38 +1,35 @@
 -- Every drawing is one of frame lines and of rows of padded pieces.
-use Rattle.std.proofs.Common.{◌≡◌, ◌==◌, ◌||◌, ◌<◌, ◌≤◌, ℕ, zero, suc, ◌+◌, ◌-◌, Bool, true, false, List, [], ◌∷◌, ◌++◌, Option, Some, None, length, map, take, drop, flat_map, refl, sym, ap, ap₂, ◌∙◌, subst, arith, append_assoc, append-nil, slice_index_or, unwrap_or, max, min, nat_le}
+use Rattle.std.proofs.Common.{◌≡◌, ◌==◌, ◌||◌, ◌<◌, ◌≤◌, ℕ, zero, suc, ◌+◌, ◌-◌, Bool, true, false, List, [], ◌∷◌, ◌++◌, Option, Some, None, length, map, take, drop, flat_map, refl, sym, ap, ap₂, ◌∙◌, subst, arith, append_assoc, append-nil, slice_index_or, max, min, nat_le}
 use Rattle.std.specs.Char.{IsScalar}
 use Rattle.std.specs.List.{All, AllZip, concat, join_by, slice_get}
 use Rattle.std.specs.Int.{is_in_range}
 use Rattle.std.proofs.lemmas.Str.{chars-nil}
-use Rattle.std.specs.Prelude.{chars, nat_lt, if◌then◌else◌, option_map, option_to_list, slice_index, MatchOption}
+use Rattle.std.specs.Prelude.{chars, nat_lt, if◌then◌else◌, option_to_list, slice_index, MatchOption}
 use Rattle.std.specs.Str.{IsUtf8}
 use Rattle.std.proofs.lemmas.Bool.{and_parts, cond_both, or_parts}
 use Rattle.std.proofs.lemmas.Bool.Decides.{nat_tests}
-use Rattle.std.proofs.lemmas.List.{length-map, map-append, take-map}
-use Rattle.std.proofs.lemmas.List.Elements.{All-append, All-cons, All-from_recursion, All-head, All-nil, All-tail, All-take, All-weaker, recursion_from_All}
+use Rattle.std.proofs.lemmas.List.{length-map, take-map}
+use Rattle.std.proofs.lemmas.List.Elements.{All-cons, All-from_recursion, All-head, All-nil, All-tail, All-take, All-weaker}
 use Rattle.std.proofs.lemmas.Simd.{map-map}
-use Rattle.comfy_parts.proofs.CallerLemmas.{All-at, All-every, All-of_map, All-others, Shows-clear, join_by-map, lines_keep_the_text, lines_visible, measure-nil, measure-printable, visible-closed, visible_text-is, wrapped_is_wrapped}
+use Rattle.comfy_parts.proofs.CallerLemmas.{All-every, All-of_map, All-others, Shows-clear, join_by-map, lines_keep_the_text, lines_visible, measure-nil, measure-printable, visible-closed, visible_text-is, wrapped_is_wrapped}
 use Rattle.comfy_parts.specs.CellValue.{CellValue, ColumnInfo, ColumnValue, RowValue, info_of, info_width}
 use Rattle.comfy_parts.specs.Text.{AddsOneColumnEach, Text, greatest, is_printable_ascii, measure, spaces}
 use Rattle.comfy_parts.specs.VisibleLines.{CellLine, line_texts}
 use Rattle.comfy_parts.specs.VisibleText.{closed, visible_text}
 use Rattle.comfy_parts.specs.Wrapping.{IsSlicesWhere, lines_of_text, wrapped}
-use Rattle.comfy_parts.specs.declared.style.cell.CellAlignment.{CellAlignment}
 use Rattle.comfy_parts.specs.declared.style.table_style.ContentLineStyle.{ContentLineStyle}
-use Rattle.comfy_parts.specs.declared.style.table_style.LineStyle.{LineStyle}
 use Rattle.comfy_table.proofs.CutLemmas.{measured_of, whole-measured}
 use Rattle.comfy_table.proofs.SpaceLemmas.{free_before-le, padded-is, spaces-append}
 use Rattle.comfy_table.proofs.StyledLemmas.{KeptByDrawing, keeps_spaces, keeps_style_begin, keeps_style_end}
 use Rattle.comfy_table.proofs.TextKindLemmas.{byte_kind}
-use Rattle.comfy_table.proofs.ThreePlacesLemmas.{every-le-greatest}
 use Rattle.comfy_table.specs.Drawing.{drawing, drawn_header, drawn_row, infos_of, whole_widths}
 use Rattle.comfy_table.specs.Frame.{frame_line, optional_frame_line}
 use Rattle.comfy_table.specs.Headline.{IsTableDrawing}
 use Rattle.comfy_table.specs.Laws.{AddsOneColumnEachWhereWritten, HasNoEscape, HasPrintableCells, HasStyleWithout, IsFreeOfEscapes, IsPrintableCell, IsPrintableTable, count, least_total, line_total}
-use Rattle.comfy_table.specs.Lines.{as_measured, cell_delimiter, cell_lines, cut_line, cut_text, cut_to_height, cut_to_limit, whole_lines}
-use Rattle.comfy_table.specs.Pieces.{blank_piece, cell_alignment, free_before, free_places, padded, piece, pieces_at, pieces_of_optional, row_cell_lines, shown_infos}
+use Rattle.comfy_table.specs.Lines.{as_measured, cell_delimiter, cell_lines, cut_line, cut_to_limit, whole_lines}
+use Rattle.comfy_table.specs.Pieces.{blank_piece, cell_alignment, free_before, free_places, padded, piece, pieces_of_optional, row_cell_lines, shown_infos}
 use Rattle.comfy_table.specs.Styling.{style_begin, style_end, styled}
-use Rattle.comfy_table.specs.TableValue.{TableValue, column_cells, header_and_rows, measured_cell, measured_rows, should_style, shown_columns}
+use Rattle.comfy_table.specs.TableValue.{TableValue, column_cells, measured_cell, measured_rows, should_style, shown_columns}
 use Rattle.comfy_table.specs.Widths.{shown_count}
 use Rattle.promises.proofs.FittingLemmas.{unconstrained}
 use Rattle.promises.proofs.FrameLemmas.{shown_columns-count}

@@ -5,7 +5,7 @@ use Rattle.std.specs.Str.{chars}
 use Rattle.std.specs.List.{All, AllAdjacentBelow, AllZip, slice_split}
 use Rattle.std.proofs.lemmas.List.Elements.{All-cons, All-head, All-nil}
 use Rattle.comfy_parts.proofs.Computing.{wrapping}
-use Rattle.comfy_parts.specs.CellValue.{CellValue, new_column, plain_cell, plain_row}
+use Rattle.comfy_parts.specs.CellValue.{CellValue, new_column, plain_cell}
 use Rattle.comfy_parts.specs.Columns.{IsOneColumnPreset, IsOneColumnStyle}
 use Rattle.comfy_parts.specs.Comparisons.{EqIsSame}
 use Rattle.comfy_parts.specs.Laws.{EndsBetweenElements, IsCutOutsideNarrow, IsLongestHead, IsResumedLine, SameButOneDelimiter, characters_without, element_around}
@@ -303,7 +303,8 @@ line_with_a_line_feed :
     ¬ (slice_split (λ b. b == 0x0A) (text_of (codes "a\nb" ∷ [])) ≡ codes "a\nb" ∷ [])
 line_with_a_line_feed found = let is : ab ≡ codes "a\nb" ∷ [] = found in cc is
 
--- false: comfy_table::laws::new_tables_are_straight
+-- false: comfy_table::laws::new_tables_are_straight, promises::straight_lines
+-- false: promises::straight_whole_lines, promises::straight_fitting_lines
 shorter_line : ¬ (AreEquallyWide (codes "ab" ∷ codes "a" ∷ []))
 unfolding wrapping
 shorter_line (n, all) =
