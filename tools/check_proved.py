@@ -26,7 +26,7 @@ from doc_examples import wrong_examples
 from manual import wrong_files
 from mutations import must_fail_of, mutations_of
 from pictures import drawing_of_case, wrong_pictures
-from what_is_believed import updated
+from what_is_believed import fields_of_drawing, updated
 
 LAWS_ALONE = ["cluster_width"]  # libraries without code
 WORDS = {"IsAfter", "IsTableDrawing", "input_table"}  # definitions, not functions
@@ -49,10 +49,10 @@ def mutated_in(crate):
 def wrong_in_section(crate, section):
     """What doesn't agree in the section of a crate: its promises name functions, clauses and fields."""
     wrong, functions, mutated = [], functions_of(crate), mutated_in(crate)
-    fields = set(re.findall(r"pub (\w+) :", text_of("crates/comfy_table/specs/Headline.antt")))
+    fields = set(fields_of_drawing())
     for promise in re.findall(r"^Clauses(?: \(\d+ lines\))?: (.*?)\.\n\n", section + "\n\n", re.M | re.S):
         clauses, _, more = " ".join(promise.split()).partition("; ")
-        wrong += [f"no field {it}" for it in re.findall(r"`(\w+)`", more) if it not in fields | WORDS]
+        wrong += [f"no field {it}" for it in re.findall(r"`([\w.]+)`", more) if it not in fields | WORDS]
         named = re.findall(r"`([A-Z]\w+)`", clauses)
         for of_type in set(named) - WORDS:
             public = [(name, it) for name in functions for it in functions[name] if it.is_public]
