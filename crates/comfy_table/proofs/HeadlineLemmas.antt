@@ -49,7 +49,8 @@ whole_cell table row own kept p of_column cell is =
     (own_cell.text_lines.whole, delimiter_or cell.delimiter _ own_cell.delimiter (delimiter_or p.1.delimiter _ of_column (delimiter_or table.delimiter 0x20 own refl)))
 
 -- the lines of its text lines are these, or slices of them
-cell_slices : (table : TableValue) (row : RowValue) (info : ColumnInfo) (cell : CellValue) → IsWholeCell table row info cell → AreTextsOrSlices table row info cell
+cell_slices : (table : TableValue) (row : RowValue) (info : ColumnInfo) (cell : CellValue)
+    → IsWholeCell table row info cell → AreTextsOrSlices table row info cell
 cell_slices table row info cell whole = grind (arith, text_or_slices)
 
 -- a table's rows and its header keep what rows keep
@@ -75,8 +76,10 @@ each_line_counts P table widths utf8 cells arranged meets =
     }
 
 -- what holds of each cell of a row holds of each that it has in a shown column
-each_shown : (P : RowValue → ColumnInfo → CellValue → Type 0) (rows : List RowValue) (table : TableValue) (widths : List ℕ)
-    → ((row : RowValue) (info : ColumnInfo) (cell : CellValue) → P row info cell) → EachShownCell P rows table widths
+each_shown : (P : RowValue → ColumnInfo → CellValue → Type 0) (rows : List RowValue)
+    → (table : TableValue) (widths : List ℕ)
+    → ((row : RowValue) (info : ColumnInfo) (cell : CellValue) → P row info cell)
+    → EachShownCell P rows table widths
 each_shown P rows table widths each k default under j other below cell found = each _ _ cell
 
 -- and promise what every drawing does
@@ -99,56 +102,84 @@ table_drawing table infos lines utf8 kept (widths, arranged, is) drawn =
       drawn = whole;
       texts = record {
         whole_texts = texts;
-        scalar_delimiters = λ k default under j other below cell found. (cells k default under j other below cell found).1;
-        slices = λ k default under j other below cell found. cell_slices table (slice_index_or (measured_rows table) k default)
-            (slice_index_or (shown_infos (infos_of table widths)) j other).1 cell (cells k default under j other below cell found);
+        scalar_delimiters = λ k default under j other below cell found.
+            (cells k default under j other below cell found).1;
+        slices = λ k default under j other below cell found.
+            cell_slices table (slice_index_or (measured_rows table) k default)
+            (slice_index_or (shown_infos (infos_of table widths)) j other).1 cell
+            (cells k default under j other below cell found);
       };
       edges = record {
-        unstyled_lines = λ off plain. whole ∙ sym (unstyled_drawing table (infos_of table widths) off plain);
+        unstyled_lines = λ off plain.
+            whole ∙ sym (unstyled_drawing table (infos_of table widths) off plain);
         equal_counts = λ plain. equal_counts table widths utf8 plain arranged;
         straight = straight table widths utf8 cells arranged;
       };
       known_width = record {
         keeps_to_wider_total = λ w dynamic known.
             let found = keeps_to_wider_total table w widths dynamic known arranged in
-            (found.0, found.1, each_line_counts (λ n. n ≤ max w (wider_total table found.0)) table widths utf8 cells arranged found.2);
+            let P : ℕ → Type 0 = λ n. n ≤ max w (wider_total table found.0) in
+            (found.0, found.1, each_line_counts P table widths utf8 cells arranged found.2);
         keeps_to_wider_total_in_full = λ w full known.
             let found = keeps_to_wider_total_in_full table w widths full known arranged in
-            (found.0, found.1, each_line_counts (λ n. n ≤ max w (wider_total table found.0)) table widths utf8 cells arranged found.2);
+            let P : ℕ → Type 0 = λ n. n ≤ max w (wider_total table found.0) in
+            (found.0, found.1, each_line_counts P table widths utf8 cells arranged found.2);
         fills_wider_total = λ w full known some.
             let found = fills_wider_total table w widths full known some arranged in
-            (found.0, found.1, each_line_counts (λ n. n ≡ max w (wider_total table found.0)) table widths utf8 cells arranged found.2);
+            let P : ℕ → Type 0 = λ n. n ≡ max w (wider_total table found.0) in
+            (found.0, found.1, each_line_counts P table widths utf8 cells arranged found.2);
       };
       sequences = record {
         without_sequences = free_lines;
-        closed = λ on. each_shown (NoneIsOpenAtTheEnd table) (header_and_rows table) table widths (λ row info cell. none_is_open_at_the_end table row info cell on);
-        resumed = λ on. each_shown (LinesAreResumedInRow table) (header_and_rows table) table widths (λ row info cell. lines_are_resumed table row info cell on);
-        cut_closed = λ on. each_shown (CutLinesAreClosed table) (header_and_rows table) table widths (λ row info cell. cut_lines_are_closed table row info cell on);
-        closed_lines = λ on alone. subst (All LeavesNoneOpen) (sym whole) (lines_are_closed table widths arranged.one_for_each on alone texts);
+        closed = λ on.
+            each_shown (NoneIsOpenAtTheEnd table) (header_and_rows table) table widths
+            (λ row info cell. none_is_open_at_the_end table row info cell on);
+        resumed = λ on.
+            each_shown (LinesAreResumedInRow table) (header_and_rows table) table widths
+            (λ row info cell. lines_are_resumed table row info cell on);
+        cut_closed = λ on.
+            each_shown (CutLinesAreClosed table) (header_and_rows table) table widths
+            (λ row info cell. cut_lines_are_closed table row info cell on);
+        closed_lines = λ on alone.
+            subst (All LeavesNoneOpen) (sym whole)
+            (lines_are_closed table widths arranged.one_for_each on alone texts);
       };
       controls = record {
-        without_breaks = λ style. subst (All HasNoBreak) (sym whole) (without_breaks table widths texts (rows_of HasNoBreak (λ texts own. own.no_breaks) (measured_rows table) rows) style);
-        without_controls = λ free. All-of_map HasNoControl visible_text lines (subst (All HasNoControl) (sym (free_lines (free_of_escapes table free))) (without_controls table widths arranged.one_for_each texts free));
+        without_breaks = λ style.
+            let unbroken =
+            rows_of HasNoBreak (λ texts own. own.no_breaks) (measured_rows table) rows in
+            subst (All HasNoBreak) (sym whole) (without_breaks table widths texts unbroken style);
+        without_controls = λ free.
+            All-of_map HasNoControl visible_text lines
+            (subst (All HasNoControl) (sym (free_lines (free_of_escapes table free)))
+            (without_controls table widths arranged.one_for_each texts free));
       };
     }
 
--- where no shown column has a constraint, the wider total is the least one: so the lines keep to the width
-pub drawing_keeps_to_width : (table : TableValue) (w : ℕ) (lines : List Text) → DrawingKeepsToWidth table w lines
+-- where no shown column has a constraint, the wider total is the least one: so the lines keep to
+-- the width
+pub drawing_keeps_to_width : (table : TableValue) (w : ℕ) (lines : List Text)
+    → DrawingKeepsToWidth table w lines
 drawing_keeps_to_width table w lines drawn none dynamic known =
     let found = drawn.known_width.keeps_to_wider_total w dynamic known in
-    subst (λ total. EachLineCounts (λ n. n ≤ max w total) table drawn.widths) (least_total-is table w drawn.widths false none drawn.arranged found.0 found.1) found.2
+    subst (λ total. EachLineCounts (λ n. n ≤ max w total) table drawn.widths)
+    (least_total-is table w drawn.widths false none drawn.arranged found.0 found.1) found.2
 
 -- or have exactly that
-pub drawing_fills_width : (table : TableValue) (w : ℕ) (lines : List Text) → DrawingFillsWidth table w lines
+pub drawing_fills_width : (table : TableValue) (w : ℕ) (lines : List Text)
+    → DrawingFillsWidth table w lines
 drawing_fills_width table w lines drawn none full known some =
     let found = drawn.known_width.fills_wider_total w full known some in
-    subst (λ total. EachLineCounts (λ n. n ≡ max w total) table drawn.widths) (least_total-is table w drawn.widths true none drawn.arranged found.0 found.1) found.2
+    subst (λ total. EachLineCounts (λ n. n ≡ max w total) table drawn.widths)
+    (least_total-is table w drawn.widths true none drawn.arranged found.0 found.1) found.2
 
 -- what is visible of the lines is the unstyled drawing, which is straight
-pub visible_lines_are_straight : (table : TableValue) (lines : List Text) → VisibleLinesAreStraight table lines
+pub visible_lines_are_straight : (table : TableValue) (lines : List Text)
+    → VisibleLinesAreStraight table lines
 visible_lines_are_straight table lines drawn free is =
-    All-of_map (λ text. measure text ≡ line_total table drawn.widths) visible_text lines
-    (subst (All (λ text. measure text ≡ line_total table drawn.widths)) (sym (drawn.sequences.without_sequences free)) (drawn.edges.straight is))
+    let IsWide : Text → Type 0 = λ text. measure text ≡ line_total table drawn.widths in
+    All-of_map IsWide visible_text lines
+    (subst (All IsWide) (sym (drawn.sequences.without_sequences free)) (drawn.edges.straight is))
 
 -- the indicator of a new table is a character
 utf8_ellipsis : IsUtf8 ellipsis

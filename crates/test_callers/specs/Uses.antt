@@ -71,7 +71,8 @@ IsUnstyledDrawing table lines = (widths : List ℕ) × (lines ≡ drawing (unsty
 -- the lines are a drawing of the table, whose rows and header have cells for which P holds in each shown column
 abbrev pub IsDrawnWithCells : (RowValue → ColumnInfo → CellValue → Type 0) → TableValue → List Text → Type 0
 IsDrawnWithCells P table lines =
-    (widths : List ℕ) × (lines ≡ drawing table widths) × EachShownCell P (header_and_rows table) table widths
+    (widths : List ℕ) × (lines ≡ drawing table widths)
+    × EachShownCell P (header_and_rows table) table widths
 
 -- the rows that the iterator still gives: each number that is left, in a list of its own
 abbrev pub rows_left : NumberRows → List (List ℕ)
