@@ -41,7 +41,7 @@ pub record KeepsTexts (table : TableValue) (widths : List ℕ) : Type 0 where
   -- the lines of visible cells are texts or slices of them
   pub slices : EachCell (AreTextsOrSlices table) table widths
 
--- the unstyled lines are equally wide; they are those of a table without styling and custom styling
+-- the unstyled lines, which a table without styling and custom styling has, are equally wide
 pub record HasEdges (table : TableValue) (widths : List ℕ) (lines : List Text) : Type 0 where
   pub unstyled_lines : should_style table ≡ false → table.custom_styling ≡ false
       → lines ≡ drawing (unstyled table) widths

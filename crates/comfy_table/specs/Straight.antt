@@ -25,9 +25,9 @@ TextsStandApart table =
 abbrev pub EachShownCell :
     (RowValue → ColumnInfo → CellValue → Type 0) → List RowValue → TableValue → List ℕ → Type 0
 EachShownCell P rows table widths =
-    All (λ (row : RowValue). All (λ (p : ℕ × ColumnInfo). (cell : CellValue)
-    → slice_get row.cells p.0 ≡ Some cell → P row p.1 cell) (shown_infos (infos_of table widths)))
-    rows
+    All (λ (row : RowValue). All (λ (p : ℕ × ColumnInfo).
+    (cell : CellValue) → slice_get row.cells p.0 ≡ Some cell → P row p.1 cell)
+    (shown_infos (infos_of table widths))) rows
 
 -- P holds of each cell that a row has in a shown column, as it is measured
 abbrev pub EachCell :
