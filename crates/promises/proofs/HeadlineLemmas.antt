@@ -30,7 +30,7 @@ use Rattle.comfy_table.proofs.ThreePlacesLemmas.{every-le-greatest}
 use Rattle.comfy_table.specs.Drawing.{drawing, drawn_header, drawn_row, infos_of, whole_widths}
 use Rattle.comfy_table.specs.Frame.{frame_line, optional_frame_line}
 use Rattle.comfy_table.specs.Headline.{IsTableDrawing}
-use Rattle.comfy_table.specs.Laws.{AddsOneColumnEachWhereWritten, HasNoEscape, HasPrintableCells, HasStyleWithout, IsFreeOfEscapes, IsPrintableCell, IsPrintableTable, count, least_total, line_total}
+use Rattle.comfy_table.specs.Laws.{AddsOneColumnEachWhereWritten, HasNoEscape, HasPrintableCells, HasStyleWithout, IsFreeOfEscapes, IsPrintableCell, IsPrintableTable, count, line_total}
 use Rattle.comfy_table.specs.Lines.{as_measured, cell_delimiter, cell_lines, cut_line, cut_text, cut_to_height, cut_to_limit, whole_lines}
 use Rattle.comfy_table.specs.Pieces.{blank_piece, cell_alignment, free_before, free_places, padded, piece, pieces_at, pieces_of_optional, row_cell_lines, shown_infos}
 use Rattle.comfy_table.specs.Styling.{style_begin, style_end, styled}
