@@ -26,7 +26,7 @@ import sys
 from definitions import LIBRARIES, PROMISES, TOP, files_of, functions_of, sources_of, text_of
 from mutations import must_fail_of, mutations_of
 from reach import unreached
-from what_is_believed import updated
+from what_is_believed import fields_of_drawing, updated
 
 sys.path.append(f"{TOP}/tools/make")  # its tools make what is compared here
 from doc_examples import wrong_examples
@@ -54,10 +54,10 @@ def mutated_in(crate):
 def wrong_in_section(crate, section):
     """What doesn't agree in the section of a crate: its promises name functions, clauses and fields."""
     wrong, functions, mutated = [], functions_of(crate), mutated_in(crate)
-    fields = set(re.findall(r"pub (\w+) :", text_of("crates/comfy_table/specs/Headline.antt")))
+    fields = set(fields_of_drawing())
     for promise in re.findall(r"^Clauses(?: \(\d+ lines\))?: (.*?)\.\n\n", section + "\n\n", re.M | re.S):
         clauses, _, more = " ".join(promise.split()).partition("; ")
-        wrong += [f"no field {it}" for it in re.findall(r"`(\w+)`", more) if it not in fields | WORDS]
+        wrong += [f"no field {it}" for it in re.findall(r"`([\w.]+)`", more) if it not in fields | WORDS]
         named = re.findall(r"`([A-Z]\w+)`", clauses)
         for of_type in set(named) - WORDS:
             public = [(name, it) for name in functions for it in functions[name] if it.is_public]

@@ -4,10 +4,10 @@ ghost use Rattle.std.specs.Prelude.{IfOk, IfSome, string_bytes};
 ghost use Rattle.csv_tables.specs.Drawn.{IsOutputFor};
 ghost use Rattle.promises.specs.Shown.{IsHarmless};
 
+use comfy_run::run::{MemorySink, MemorySource};
+use csv_command::{Surroundings, asked_of, drawing_of};
 use csv_tables::laws::outputs_hold_no_controls;
 use csv_tables::{CsvError, Options, draw};
-use csv_command::{Surroundings, asked_of, drawing_of};
-use comfy_run::run::{MemorySink, MemorySource};
 use std::alloc::Global;
 
 // No terminal, and neither `COLUMNS` nor `NO_COLOR`.

@@ -3,9 +3,9 @@
 ghost use Rattle.std.specs.Prelude.{IfOk};
 ghost use Rattle.csv_promises.specs.Kept.{ShowRecords};
 
+use comfy_table::Lines;
 use csv_records::Records;
 use csv_tables::{CsvError, Options, table_of};
-use comfy_table::Lines;
 use std::alloc::Global;
 
 /// The lines of a table of these records. Where nothing is asked for but a style, a header in bold

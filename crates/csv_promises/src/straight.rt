@@ -7,11 +7,11 @@ ghost use Rattle.csv_promises.specs.Written.{IsWritten};
 ghost use Rattle.promises.specs.Tables.{HasCharactersWithin};
 
 use crate::harmless::output_for;
-use csv_tables::laws::{outputs_are_one, outputs_are_straight};
+use comfy_run::run::MemorySink;
 use csv_command::{Asked, Surroundings, asked_of};
 use csv_records::{Records, decoded, read_records};
+use csv_tables::laws::{outputs_are_one, outputs_are_straight};
 use csv_tables::{CsvError, Options};
-use comfy_run::run::MemorySink;
 use std::alloc::Global;
 
 /// The records of a file's bytes, and what the program writes of them for these words: nothing

@@ -147,7 +147,7 @@ output_is_one options others input output other same first second =
     records : first.records ≡ second.records
     records =
         read_is_one options.input input first.records second.records first.are_records
-        (subst (λ (own : InputOptions). AreRecordsFor own.input input second.records) (sym same.input) second.are_records)
+        (subst (λ (own : InputOptions). AreRecordsFor own input second.records) (sym same.input) second.are_records)
 
     any : (rs : List (List Text)) → IsOutputOfAny options rs output → IsOutputOfAny others rs other → output ≡ other
     any [] nothing also = nothing ∙ sym also

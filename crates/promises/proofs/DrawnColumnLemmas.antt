@@ -73,9 +73,9 @@ whole_at table lines drawn k default under =
     scalars : All (λ (r : RowValue). All (HasScalar (row_measured custom r)) (shown_infos (infos_of table drawn.widths))) (header_and_rows table)
     scalars =
         All-of_map (λ (r : RowValue). All (HasScalar r) (shown_infos (infos_of table drawn.widths))) (row_measured custom) (header_and_rows table)
-        (subst (All (λ (r : RowValue). All (HasScalar r) (shown_infos (infos_of table drawn.widths)))) (measured_rows-is table) drawn.scalar_delimiters)
+        (subst (All (λ (r : RowValue). All (HasScalar r) (shown_infos (infos_of table drawn.widths)))) (measured_rows-is table) drawn.texts.scalar_delimiters)
 
     texts : All (λ (r : RowValue). All (λ (c : CellValue). All IsUtf8 c.text_lines) (row_measured custom r).cells) (header_and_rows table)
     texts =
         All-of_map (λ (r : RowValue). All (λ (c : CellValue). All IsUtf8 c.text_lines) r.cells) (row_measured custom) (header_and_rows table)
-        (subst (All (λ (r : RowValue). All (λ (c : CellValue). All IsUtf8 c.text_lines) r.cells)) (measured_rows-is table) drawn.whole_texts)
+        (subst (All (λ (r : RowValue). All (λ (c : CellValue). All IsUtf8 c.text_lines) r.cells)) (measured_rows-is table) drawn.texts.whole_texts)

@@ -15,6 +15,7 @@ use Rattle.comfy_parts.specs.declared.style.table.ContentArrangement.TheVariants
 use Rattle.comfy_parts.specs.VisibleText.{visible_text}
 use Rattle.comfy_table.proofs.ControlLemmas.{free_of_escapes}
 use Rattle.comfy_table.proofs.FittingTableLemmas.{fitting_tables_are_straight}
+use Rattle.comfy_table.proofs.HeadlineLemmas.{visible_lines_are_straight}
 use Rattle.comfy_table.proofs.InfoLemmas.{infos-known}
 use Rattle.comfy_table.proofs.MeasuredLemmas.{All-measured}
 use Rattle.comfy_table.proofs.OneDrawingLemmas.{arranged_is_one}
@@ -213,7 +214,7 @@ module _ (table : TableValue) (frame : HasPlainFrame table) where
 -- the lines of a straight table are equally wide
 pub equally_wide : (table : TableValue) (plain : IsPlain table) (lines : List Text) (drawn : IsTableDrawing table lines) → straight.IsStraightTable table drawn.widths → AreEquallyWide lines
 equally_wide table plain lines drawn is =
-    (line_total table drawn.widths, subst (All (λ line. measure line ≡ line_total table drawn.widths)) (sym (drawn.unstyled_lines plain.no_styles plain.no_sequences)) (drawn.straight is))
+    (line_total table drawn.widths, subst (All (λ line. measure line ≡ line_total table drawn.widths)) (sym (drawn.edges.unstyled_lines plain.no_styles plain.no_sequences)) (drawn.edges.straight is))
 
 -- and with styles what they show is
 pub shown_equally_wide : (table : TableValue) (lines : List Text) (drawn : IsTableDrawing table lines) → HasNoControls table → straight.IsStraightTable table drawn.widths → AreShownEquallyWide lines
@@ -221,5 +222,5 @@ shown_equally_wide table lines drawn free is =
     let clear = free_of_controls table free in (
       line_total table drawn.widths,
       λ k line below.
-          (visible_text (slice_index_or lines k line), line_shows (slice_index_or lines k line) (drawn.without_controls clear k line below), drawn.straight_without_sequences (free_of_escapes table clear) is k line below),
+          (visible_text (slice_index_or lines k line), line_shows (slice_index_or lines k line) (drawn.controls.without_controls clear k line below), visible_lines_are_straight table lines drawn (free_of_escapes table clear) is k line below),
     )

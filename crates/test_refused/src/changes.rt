@@ -4,7 +4,7 @@
 use crate::comparison::difference;
 use crate::fixtures::fill_full;
 use crate::outcome::Outcome;
-use crate::several_rows::{always, self};
+use crate::several_rows::{self, always};
 use comfy_table::{Result, Table};
 use std::alloc::Global;
 

@@ -2,11 +2,11 @@
 //! them follows from the rules, since each is one piece many times over.
 
 use crate::support::{assert_bytes, sink_of};
-use csv_records::Delimiter;
-use csv_tables::{Expansion, Look, Options, RowSeparators, draw};
 use comfy_run::run::{FromReader, MemorySource, Settings, ToWriter, run};
 use comfy_table::ContentArrangement;
 use comfy_table::presets::ASCII_FULL;
+use csv_records::Delimiter;
+use csv_tables::{Expansion, Look, Options, RowSeparators, draw};
 use std::alloc::{Alloc, AllocError, Global};
 use std::process::Abort;
 

@@ -3,12 +3,12 @@
 
 use super::large::options;
 use crate::support::{assert_bytes, assert_lines};
-use csv_records::{Records, read_records};
-use csv_command::Surroundings;
 use comfy_run::run::MemorySink;
+use csv_command::Surroundings;
 use csv_promises::harmless::{harmless_drawing, harmless_output};
 use csv_promises::kept::lines_of_records;
 use csv_promises::straight::{straight_output, straight_whole_output};
+use csv_records::{Records, read_records};
 use std::alloc::{Alloc, Global};
 use std::process::Abort;
 
