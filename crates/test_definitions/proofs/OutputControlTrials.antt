@@ -131,7 +131,7 @@ raw_is_written : visible_text (output (record look { is_raw = true })) ≡ utf8 
 unfolding wrapping lib.Utf8.encode chars field_at
 raw_is_written = refl
 
--- false: csv_tables::laws::outputs_hold_no_controls
+-- false: csv_tables::laws::outputs_hold_no_controls, csv_command::laws::drawings_hold_no_controls
 raw_output_is_harmful : ¬ (HasNoStrayControl (visible_text (output (record look { is_raw = true }))))
 raw_output_is_harmful none =
     harmful (codes "+--------+\n| a      |\n+========+\n| \u{1b}[2J\u{9b}J |\n+--------+\n") refl (subst HasNoStrayControl raw_is_written none)

@@ -81,5 +81,6 @@ unended_output_has_no_lines P options records is = unended is.lines (lines_of_ou
 others_are_not_the_same : (options : Options) → ¬ (AreSameOptions (drawn_by options) (record (drawn_by options) { look = record look { is_raw = true } }))
 others_are_not_the_same options is = true≢false (sym (ap (λ (l : Look). l.is_raw) is.look))
 
+-- false: csv_command::laws::drawings_are_one
 raw_fields_are_not_asked : (asked : Asked) → ¬ (AreSameAsked (record asked { options = drawn_by asked.options }) (record asked { options = record (drawn_by asked.options) { look = record look { is_raw = true } } }))
 raw_fields_are_not_asked asked is = others_are_not_the_same asked.options is.options

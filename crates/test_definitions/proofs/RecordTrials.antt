@@ -344,6 +344,10 @@ row_is_missing :
     ¬ (length seven.rows ≡ length (limited {A = List Text} None ((codes "a" ∷ []) ∷ (codes "b" ∷ []) ∷ [])))
 row_is_missing same = let is : ◌≡◌ {A = ℕ} 1 2 = same in omega (arith, is)
 
+-- false: csv_records::laws::records_are_one
+one_record_is_not_none : ¬ (◌≡◌ {A = List (List Text)} [] ((codes "a" ∷ []) ∷ []))
+one_record_is_not_none same = cc same
+
 -- false: csv_tables::laws::printable_texts_make_printable_tables
 tab_is_not_printable : ¬ (All (λ text. is_printable_ascii text ≡ true) (codes "\t" ∷ []))
 tab_is_not_printable all = let is : false ≡ true = all 0 (codes "\t") (omega arith) in cc is
