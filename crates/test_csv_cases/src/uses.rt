@@ -10,6 +10,7 @@ ghost use Rattle.csv_tables.specs.Laws.{IsLookWithoutControls};
 ghost use Rattle.test_csv_cases.specs.Uses.{GivesInputBack};
 
 use comfy_run::run::{MemorySink, MemorySource};
+use csv_command::laws::drawings_hold_no_controls;
 use csv_command::{Surroundings, asked_of};
 use csv_records::laws::cleaned_fields_hold_no_controls;
 use csv_records::{Kept, cleaned};
@@ -79,7 +80,7 @@ pub fn output_for_words(
 ) -> Option<MemorySink>
     ensures { IfSome result (λ sink. HasNoStrayControl (visible_text sink.bytes)) }
 {
-    outputs_hold_no_controls();
+    drawings_hold_no_controls();
     let asked = asked_of(alloc, words, surroundings).ok()?;
     if asked.options.look.is_raw {
         return None;

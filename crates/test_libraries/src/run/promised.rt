@@ -64,7 +64,7 @@ fn promised_outputs_are_those_of_the_program(rt: HostRuntime) {
 #[test]
 fn promised_lines_are_those_of_the_records(rt: HostRuntime) {
     let options = options(rt.alloc(), None, false);
-    let records = read_records(rt.alloc(), FILE, &options).expect(&rt, "records");
+    let records = read_records(rt.alloc(), FILE, &options.input).expect(&rt, "records");
     let lines = lines_of_records(rt.alloc(), records, &options).expect(&rt, "a table");
     assert_lines(&rt, lines, DRAWN.trim_end());
 }
