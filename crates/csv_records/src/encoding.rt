@@ -7,7 +7,7 @@ ghost use Rattle.csv_records.specs.Encoding.{AreCharactersOf, IsRefusedIn, IsTex
 ghost use Rattle.csv_records.specs.Input.{IsTextRefusal, line_breaks};
 
 use crate::text::{line_after, text_of};
-use csv_tables::DecodeError;
+use crate::error::DecodeError;
 use std::alloc::Global;
 use std::marker::Model;
 

@@ -8,7 +8,8 @@ use crate::delimiter::{below_lines, delimited};
 use crate::quotes::unclosed_quote;
 use crate::records::{Records, records_of};
 use crate::text::line_after;
-use csv_tables::{InputOptions, RecordsError};
+use crate::error::RecordsError;
+use crate::options::InputOptions;
 use std::alloc::Global;
 
 /// The records of a text below the lines that are left out. An empty line is no record; `""` is an

@@ -8,7 +8,7 @@ ghost use Rattle.csv_records.specs.Input.{AreRecordsOf, IsReadingRefusal, IsReco
 ghost use Rattle.csv_records.specs.Started.{IsStarted};
 
 use csv::{Error, ErrorKind, Reader, ReaderBuilder, StringRecord};
-use csv_tables::RecordsError;
+use crate::error::RecordsError;
 use std::alloc::{AllocError, Global};
 use std::marker::Model;
 

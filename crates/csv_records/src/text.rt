@@ -4,7 +4,7 @@ ghost use Rattle.std.specs.Prelude.{◌≡◌, ◌+◌, IfErr, IfOk, IsUtf8};
 ghost use Rattle.csv.specs.Reading.{strip_bom};
 ghost use Rattle.csv_records.specs.Input.{IsTextRefusal, line_breaks};
 
-use csv_tables::DecodeError;
+use crate::error::DecodeError;
 
 /// The input as a text, which takes no memory. `NotUtf8` has the number of the line where it stops
 /// being one.
