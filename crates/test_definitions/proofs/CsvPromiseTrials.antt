@@ -76,7 +76,12 @@ no_words words = record words { len = 0; items = []; ok = (refl, omega arith) }
 
 -- options that ask for a header in bold, and for nothing else of a table
 abbrev asking : Options → Options
-asking options = record options { has_header = true; limit = None; columns = no_words options.selection.columns; dropped = no_words options.selection.dropped; look = bold }
+asking options =
+    let own = options.selection in
+    record options {
+      selection = record own { has_header = true; limit = None; columns = no_words own.columns; dropped = no_words own.dropped };
+      look = bold;
+    }
 
 asks_for_nothing : (options : Options) → AsksForNothing (asking options)
 asks_for_nothing options = record { all_records = refl; none_chosen = refl; none_dropped = refl; no_width = refl; uncut = refl; no_markdown = refl; no_sequences = refl }

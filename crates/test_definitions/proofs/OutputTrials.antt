@@ -25,7 +25,7 @@ abbrev look : Look
 look = record { style = ascii_full; separators = Styled; expansion = Never; width = None; fills_width = false; max_height = None; has_bold_header = false; has_sequences = false; keeps_bidi = false; is_raw = false; is_markdown = false }
 
 abbrev drawn_by : Options → Options
-drawn_by options = record options { limit = None; look = look }
+drawn_by options = record options { selection = record options.selection { limit = None }; look = look }
 
 -- the lines of an output by these options stand between its line feeds
 lines_of_output : (options : Options) (records : List (List Text)) (output : Text) (lines : List Text) → IsOutputWith (drawn_by options) records output lines → slice_split (λ b. b == 0x0A) output ≡ lines ++ [] ∷ []
