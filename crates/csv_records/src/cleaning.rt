@@ -10,6 +10,7 @@ ghost use Rattle.comfy_parts.specs.VisibleText.{sequence_len};
 ghost use Rattle.csv_records.specs.Cleaning.{after_character, after_piece, blanks_after, cleaned, is_replaced, pieces, shown, start, turns_direction};
 ghost use Rattle.csv_records.specs.Pieces.{part_of};
 
+use crate::characters::split_first;
 use comfy_parts::content_split::{measure_text_width, sequence_len};
 use std::alloc::{AllocError, Global};
 use std::marker::Model;
@@ -133,9 +134,8 @@ fn first_piece(text: &str, keeps_sequences: bool) -> Option<(Piece<'_>, &str)>
         let (sequence, rest) = text.split_at(len);
         return Some((Piece::Sequence(sequence), rest));
     }
-    let mut characters = text.chars();
-    let c = characters.next()?;
-    Some((Piece::Character(c), characters.as_str()))
+    let (c, rest) = split_first(text)?;
+    Some((Piece::Character(c), rest))
 }
 
 // The bytes of the sequence at a text's front where sequences are kept, 0 where there is none.
