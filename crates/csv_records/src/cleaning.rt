@@ -11,7 +11,7 @@ ghost use Rattle.csv_records.specs.Cleaning.{after_character, after_piece, blank
 ghost use Rattle.csv_records.specs.Pieces.{part_of};
 
 use crate::characters::split_first;
-use comfy_parts::content_split::{measure_text_width, sequence_len};
+use comfy_parts::content_split::{is_printable, measure_text_width, sequence_len};
 use std::alloc::{AllocError, Global};
 use std::marker::Model;
 
@@ -62,13 +62,6 @@ fn has_replaced(field: &str, kept: Kept) -> bool
     ensures { result ≡ list_any (is_replaced kept) (chars field.now) }
 {
     field.chars().any(|c| is_replaced(c, kept))
-}
-
-// Whether these bytes are printable ASCII.
-fn is_printable(bytes: &[u8]) -> bool
-    ensures { result ≡ is_printable_ascii bytes.now }
-{
-    bytes.iter().all(|byte| matches!(byte, b' '..=b'~'))
 }
 
 /// Whether a character is drawn as another one.

@@ -7,6 +7,7 @@ ghost use Rattle.csv_records.specs.Number.{are_parted_digits, before, begins, be
 
 use crate::characters::split_first;
 use crate::numerals::number_of;
+use comfy_parts::content_split::are_digits;
 use ucd_category::GeneralCategory;
 
 // The characters that part groups of digits.
@@ -325,12 +326,6 @@ fn is_digits(bytes: &[u8]) -> bool
     ensures { result ≡ is_digits bytes.now }
 {
     !bytes.is_empty() && are_digits(bytes)
-}
-
-pub(crate) fn are_digits(bytes: &[u8]) -> bool
-    ensures { result ≡ list_all is_ascii_digit bytes.now }
-{
-    bytes.iter().all(|byte| byte.is_ascii_digit())
 }
 
 /// Whether a field says nothing of its column: it is empty, a hyphen, or a word for a missing
