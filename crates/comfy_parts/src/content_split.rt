@@ -4,6 +4,7 @@ ghost use Rattle.std.specs.Prelude.{◌≡◌, [], map, IfOk, IsOk, string_bytes
 ghost use Rattle.comfy_parts.specs.Text.{elements};
 ghost use Rattle.comfy_parts.specs.Wrapping.{IsWrapped, wrapped};
 
+mod bytes;
 pub mod display_info;
 mod ends;
 mod fitting;
@@ -16,6 +17,7 @@ mod sequences;
 mod width;
 
 use crate::error::Result;
+pub use bytes::{are_digits, has_control, is_printable};
 pub use display_info::ColumnDisplayInfo;
 pub use fitting::characters_fit;
 pub use joining::{adds_one_column, adds_up};
@@ -26,7 +28,6 @@ pub(crate) use sequences::has_escape;
 pub(crate) use sequences::written::{is_written_whole, push_lines};
 pub use sequences::{leaves_sequence_open, sequence_len, visible_text};
 use std::alloc::Global;
-pub(crate) use width::is_printable;
 pub use width::measure_text_width;
 
 /// What stands between the delimiters of a line, in order and empty parts too.

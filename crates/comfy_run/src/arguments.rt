@@ -6,6 +6,7 @@ ghost use Rattle.std.specs.List.{list_all};
 ghost use Rattle.comfy_run.specs.Arguments.{arrangement_for, number_for, settings_for, width_for};
 
 use crate::settings::Settings;
+use comfy_parts::content_split::are_digits;
 use comfy_parts::style::ContentArrangement;
 use comfy_parts::style::presets::by_name;
 
@@ -46,16 +47,10 @@ fn width_of(word: &str) -> Option<Option<u16>>
 fn number_of(word: &str) -> Option<u16>
     ensures { result ≡ number_for word.now }
 {
-    if word.len() > MOST_DIGITS || !all_digits(word.as_bytes()) {
+    if word.len() > MOST_DIGITS || !are_digits(word.as_bytes()) {
         return None;
     }
     word.parse::<u16>().ok()
-}
-
-fn all_digits(bytes: &[u8]) -> bool
-    ensures { result ≡ list_all is_ascii_digit bytes.now }
-{
-    bytes.iter().all(|byte| byte.is_ascii_digit())
 }
 
 fn arrangement_of(word: &str) -> Option<ContentArrangement>

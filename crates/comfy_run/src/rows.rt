@@ -6,6 +6,7 @@ ghost use Rattle.comfy_parts.specs.CellValue.{plain_cell};
 ghost use Rattle.comfy_run.specs.Rows.{break_of, row_of_line};
 ghost use Rattle.comfy_run.specs.Parts.{IsClearFront, IsFirstPart};
 
+use comfy_parts::content_split::has_control;
 use comfy_parts::{Cell, Cells, IntoRow, Result, Row};
 use std::alloc::Global;
 
@@ -70,16 +71,6 @@ fn clear_blocks(bytes: &[u8]) -> usize
         run += BLOCK;
     }
     run
-}
-
-fn has_control(bytes: &[u8]) -> bool
-    ensures { result ≡ list_any (λ b. nat_lt b 0x20) bytes.now }
-{
-    let mut found = false;
-    for byte in bytes {
-        found |= *byte < 0x20;
-    }
-    found
 }
 
 // The cell of what stands between TABs, with its breaks as line feeds where it may have any.

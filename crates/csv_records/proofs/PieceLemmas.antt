@@ -2,7 +2,7 @@
 use Rattle.std.proofs.Common.{◌≡◌, ◌⊎◌, inl, inr, ◌<◌, ◌+◌, ℕ, Bool, true, false, [], ◌∷◌, ◌++◌, chars, encode_utf8, encode_utf8_all, length, map, take, drop, sym, ap, ap₂, ◌∙◌, arith, tests, append_assoc, length-append}
 use Rattle.std.proofs.lemmas.Bool.{and_parts}
 use Rattle.std.proofs.lemmas.List.{take-append-le, take_all}
-use Rattle.std.proofs.lemmas.Str.{IsAscii-append, IsUtf8-from_ascii, chars-IsAscii, chars-append, chars-nil, chars_past_char, encodes-IsAscii, encodes-append, encodes-chars}
+use Rattle.std.proofs.lemmas.Str.{IsAscii-append, IsUtf8-from_ascii, chars-IsAscii, chars-append, chars_past_char, encodes-IsAscii, encodes-append, encodes-chars}
 use Rattle.std.proofs.lemmas.Str.Ascii.{IsAscii-cons, IsAscii-nil}
 use Rattle.std.specs.List.{list_all}
 use Rattle.std.specs.Prelude.{if◌then◌else◌}
@@ -89,8 +89,3 @@ pub pieces-character : (keeps : Bool) (text rest : Text) (c n : ℕ) → IsUtf8 
     → pieces keeps (chars text) ≡ visible_part c ∷ pieces keeps (chars rest)
 pieces-character true text rest c n utf8 is none front = character_first text rest c utf8 (sym is ∙ none) front
 pieces-character false text rest c n utf8 is none front = ap (map visible_part) (chars_past_char text rest c utf8 front)
-
-pub pieces-none : (keeps : Bool) (text : Text) → length text ≡ 0 → pieces keeps (chars text) ≡ []
-pieces-none true [] none = ap parts chars-nil
-pieces-none false [] none = ap (map visible_part) chars-nil
-pieces-none keeps (b ∷ bs) none = absurd (omega (arith, none))

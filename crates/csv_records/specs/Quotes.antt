@@ -17,22 +17,13 @@ abbrev pub is_field_start : State → Bool
 is_field_start st.StartRecord = true
 is_field_start st.StartField = true
 is_field_start st.AfterCr = true
-is_field_start st.InField = false
-is_field_start st.InQuoted = false
-is_field_start st.AfterQuote = false
-is_field_start st.InEscape = false
-is_field_start st.InComment = false
+is_field_start _ = false
 
 -- within the quotes of a field, or behind a quote that may close them or be the first of two
 abbrev pub is_in_quoted_field : State → Bool
 is_in_quoted_field st.InQuoted = true
 is_in_quoted_field st.AfterQuote = true
-is_in_quoted_field st.StartRecord = false
-is_in_quoted_field st.StartField = false
-is_in_quoted_field st.AfterCr = false
-is_in_quoted_field st.InField = false
-is_in_quoted_field st.InEscape = false
-is_in_quoted_field st.InComment = false
+is_in_quoted_field _ = false
 
 -- the rest of a text begins with a quote that opens a field, and the text ends within this field's
 -- quotes

@@ -10,7 +10,8 @@ ghost use Rattle.comfy_parts.specs.VisibleText.{sequence_len};
 ghost use Rattle.csv_records.specs.Cleaning.{after_character, after_piece, blanks_after, cleaned, is_replaced, pieces, shown, start, turns_direction};
 ghost use Rattle.csv_records.specs.Pieces.{part_of};
 
-use comfy_parts::content_split::{measure_text_width, sequence_len};
+use crate::characters::split_first;
+use comfy_parts::content_split::{is_printable, measure_text_width, sequence_len};
 use std::alloc::{AllocError, Global};
 use std::marker::Model;
 
@@ -61,13 +62,6 @@ fn has_replaced(field: &str, kept: Kept) -> bool
     ensures { result ≡ list_any (is_replaced kept) (chars field.now) }
 {
     field.chars().any(|c| is_replaced(c, kept))
-}
-
-// Whether these bytes are printable ASCII.
-fn is_printable(bytes: &[u8]) -> bool
-    ensures { result ≡ is_printable_ascii bytes.now }
-{
-    bytes.iter().all(|byte| matches!(byte, b' '..=b'~'))
 }
 
 /// Whether a character is drawn as another one.
@@ -133,9 +127,8 @@ fn first_piece(text: &str, keeps_sequences: bool) -> Option<(Piece<'_>, &str)>
         let (sequence, rest) = text.split_at(len);
         return Some((Piece::Sequence(sequence), rest));
     }
-    let mut characters = text.chars();
-    let c = characters.next()?;
-    Some((Piece::Character(c), characters.as_str()))
+    let (c, rest) = split_first(text)?;
+    Some((Piece::Character(c), rest))
 }
 
 // The bytes of the sequence at a text's front where sequences are kept, 0 where there is none.

@@ -2,6 +2,7 @@
 //! and numbers.
 #![tactic(auto)]
 
+mod characters;
 mod cleaning;
 mod delimiter;
 mod encoding;
@@ -16,6 +17,7 @@ mod records;
 mod shown;
 mod text;
 
+pub use characters::split_first;
 pub use cleaning::{Kept, cleaned};
 pub use delimiter::{Delimiter, only_ascii};
 pub use encoding::{Encoding, decoded};

@@ -5,7 +5,9 @@ ghost use Rattle.std.specs.List.{list_all, position};
 ghost use Rattle.std.specs.Char.{is_ascii_digit};
 ghost use Rattle.csv_records.specs.Number.{are_parted_digits, before, begins, behind, ends, halves, has_groups, has_groups_before, is_address, is_amount, is_blank, is_currency, is_decimal, is_digits, is_enclosed, is_exponent, is_figure, is_fraction, is_group_len, is_grouped, is_missing, is_name, is_neutral, is_number, is_octet, is_scientific, is_sign, is_signed, is_unit, is_word, without_currency, without_first, without_last, without_unit};
 
+use crate::characters::split_first;
 use crate::numerals::number_of;
+use comfy_parts::content_split::are_digits;
 use ucd_category::GeneralCategory;
 
 // The characters that part groups of digits.
@@ -145,18 +147,6 @@ fn without_last(text: &str) -> &str
         Some((rest, _)) => rest,
         None => text,
     }
-}
-
-// The first character, and what follows it.
-fn split_first(text: &str) -> Option<(char, &str)>
-    ensures some { IfSome result (λ parts. chars text.now ≡ parts.0 ∷ chars parts.1.now) }
-    ensures rest { IfSome result (λ parts. parts.1.now ≡ without_first text.now) }
-    ensures none { IfNone result (chars text.now ≡ []) }
-    ensures empty { IfNone result (text.now ≡ []) }
-{
-    let mut characters = text.chars();
-    let c = characters.next()?;
-    Some((c, characters.as_str()))
 }
 
 // The last character, and what stands before it.
@@ -336,12 +326,6 @@ fn is_digits(bytes: &[u8]) -> bool
     ensures { result ≡ is_digits bytes.now }
 {
     !bytes.is_empty() && are_digits(bytes)
-}
-
-pub(crate) fn are_digits(bytes: &[u8]) -> bool
-    ensures { result ≡ list_all is_ascii_digit bytes.now }
-{
-    bytes.iter().all(|byte| byte.is_ascii_digit())
 }
 
 /// Whether a field says nothing of its column: it is empty, a hyphen, or a word for a missing

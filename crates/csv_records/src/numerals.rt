@@ -3,7 +3,7 @@
 ghost use Rattle.std.specs.Prelude.{◌≡◌};
 ghost use Rattle.csv_records.specs.Numerals.{number_for};
 
-use crate::number::are_digits;
+use comfy_parts::content_split::are_digits;
 
 /// The number that a word is. `parse` alone would take a plus sign too.
 #[tactic(auto, using(crate::proofs::NumeralLemmas::other, crate::proofs::NumeralLemmas::parsed))]

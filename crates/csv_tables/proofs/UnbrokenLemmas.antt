@@ -1,6 +1,6 @@
 -- Lists of columns and of what they need, one column after another.
-use Rattle.std.proofs.Common.{◌≡◌, ◌<◌, ◌≤◌, ◌+◌, ℕ, zero, suc, Bool, true, false, List, [], ◌∷◌, ◌++◌, Option, Some, None, get_or, length, nat_le, set, take, unwrap_or, refl, ap, add-one, arith}
-use Rattle.std.specs.List.{list_any, slice_get}
+use Rattle.std.proofs.Common.{◌≡◌, ◌<◌, ◌≤◌, ◌+◌, ℕ, zero, suc, Bool, true, false, List, [], ◌∷◌, ◌++◌, Some, get_or, length, nat_le, set, take, unwrap_or, refl, ap, add-one, arith}
+use Rattle.std.specs.List.{slice_get}
 use Rattle.std.specs.Prelude.{if◌then◌else◌}
 use Rattle.comfy_parts.specs.CellValue.{ColumnValue}
 use Rattle.comfy_table.specs.TableValue.{TableValue, max_content_widths}
@@ -69,19 +69,3 @@ broken-next unbroken i columns below is = rw add-one (broken-more unbroken i col
 pub kept-test : (width : ℕ) (unbroken : List Bool) (table : TableValue) (b : Bool) → nat_le (framed_width table.style (needed_contents unbroken (max_content_widths table))) width ≡ b
     → kept_whole (Some width) unbroken table ≡ (if b then with_whole unbroken table else table)
 kept-test width unbroken table b is = ap (λ b. if b then with_whole unbroken table else table) is
-
--- where no column is to be whole, all stay
-no_column : (unbroken : List Bool) (columns : List ColumnValue) → list_any (λ is_unbroken. is_unbroken) unbroken ≡ false → whole_columns unbroken columns ≡ columns
-no_column [] columns none = refl
-no_column (b ∷ bs) [] none = refl
-no_column (true ∷ bs) (c ∷ cs) none = absurd (cc none)
-no_column (false ∷ bs) (c ∷ cs) none = ap (λ (xs : List ColumnValue). c ∷ xs) (no_column bs cs none)
-
--- so the table does, at every width
-pub kept-none : (width : Option ℕ) (unbroken : List Bool) (table : TableValue) → list_any (λ is_unbroken. is_unbroken) unbroken ≡ false → kept_whole width unbroken table ≡ table
-kept-none None unbroken table none = refl
-kept-none (Some w) unbroken table none = by_test (nat_le (framed_width table.style (needed_contents unbroken (max_content_widths table))) w)
-  where
-    by_test : (b : Bool) → (if b then with_whole unbroken table else table) ≡ table
-    by_test true = ap (λ cs. record table { columns = cs }) (no_column unbroken table.columns none)
-    by_test false = refl

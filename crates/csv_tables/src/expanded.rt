@@ -1,6 +1,8 @@
 //! Records that are expanded: each is drawn as a table of its own, of names and fields.
 
 ghost use Rattle.std.specs.Prelude.{◌≡◌, ◌++◌, ◌-◌, ◌^◌, IfOk, OnOk, map, min, string_bytes, true};
+ghost use Rattle.comfy_table.specs.TableValue.{max_content_widths};
+ghost use Rattle.csv_tables.specs.KeptContents.{AreKeptContents};
 ghost use Rattle.csv_tables.specs.Drawn.{is_expanded_in, least_width, record_text, separators_in, table_text};
 
 use crate::content::Content;
@@ -13,23 +15,32 @@ use std::fmt::Write;
 // How many terminal columns of its content a column has at least where records aren't expanded.
 const LEAST_CONTENT: u16 = 4;
 
-/// Whether records are expanded, this being the table of their rows.
-pub(crate) fn is_expanded(table: &Table, look: &Look) -> Result<bool>
+/// Whether records are expanded, this being the table of their rows, and these its contents.
+pub(crate) fn is_expanded(
+    alloc: Global,
+    table: &Table,
+    contents: &[u16],
+    look: &Look,
+) -> Result<bool>
+    requires { AreKeptContents look.now.width table.now contents.now }
     ensures { IfOk result (λ is. is ≡ is_expanded_in look.now.expansion look.now.width table.now) }
 {
     match (look.expansion, look.width) {
         (Expansion::Always, _) => Ok(true),
-        (Expansion::Auto, Some(width)) => Ok(usize::from(width) < least_width(table)?),
+        (Expansion::Auto, Some(width)) => {
+            let least = least_width(alloc, table, contents)?;
+            Ok(usize::from(width) < least)
+        }
         _ => Ok(false),
     }
 }
 
 // Borders, paddings, and for each column its content, of which four terminal columns count at most.
-fn least_width(table: &Table) -> Result<usize>
+fn least_width(alloc: Global, table: &Table, contents: &[u16]) -> Result<usize>
+    requires { contents.now ≡ max_content_widths table.now }
     ensures { IfOk result (λ width. width ≡ min (2 ^ 64 - 1) (least_width table.now)) }
 {
-    let contents = table.column_max_content_widths()?;
-    let least = least_contents(*contents.allocator(), contents.as_slice())?;
+    let least = least_contents(alloc, contents)?;
     Ok(framed_width(table, least.as_slice()))
 }
 

@@ -6,6 +6,7 @@ ghost use Rattle.csv_tables.specs.Markdown.{escaped, escaped_character, is_in_wo
 
 use crate::options::DrawnColumn;
 use comfy_parts::style::CellAlignment;
+use csv_records::split_first;
 use std::alloc::{AllocError, Global};
 
 /// A text as a cell of a Markdown table, to be read as its characters. A backslash stands before
@@ -17,7 +18,7 @@ pub fn escaped(alloc: Global, text: &str) -> Result<String, AllocError>
     let mut cell = String::new(alloc);
     let mut before = None;
     let mut rest = text;
-    while let Some((c, behind)) = first_and_rest(rest) {
+    while let Some((c, behind)) = split_first(rest) {
         push_escaped(&mut cell, before, c, first(behind))?;
         before = Some(c);
         rest = behind;
@@ -62,17 +63,6 @@ fn is_right(alignment: Option<CellAlignment>) -> bool
     ensures { result ≡ is_right alignment }
 {
     matches!(alignment, Some(CellAlignment::Right))
-}
-
-// The first character, and what follows it.
-fn first_and_rest(text: &str) -> Option<(char, &str)>
-    ensures some { IfSome result (λ halves. text.now ≡ encode_utf8 halves.0 ++ halves.1.now) }
-    ensures shorter { IfSome result (λ halves. length halves.1.now < length text.now) }
-    ensures none { IfNone result (text.now ≡ []) }
-{
-    let mut characters = text.chars();
-    let c = characters.next()?;
-    Some((c, characters.as_str()))
 }
 
 fn first(text: &str) -> Option<char>

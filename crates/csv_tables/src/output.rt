@@ -3,6 +3,7 @@
 ghost use Rattle.std.specs.Prelude.{◌≡◌, ◌∷◌, ◌++◌, IfOk, IfErr, OnOk, false, map, string_bytes, true};
 ghost use Rattle.csv_tables.specs.Columns.{IsColumnsRefusal};
 ghost use Rattle.csv_tables.specs.Markdown.{rule_line};
+ghost use Rattle.csv_tables.specs.KeptContents.{AreKeptContents};
 ghost use Rattle.csv_tables.specs.Drawn.{IsMarkdownText, IsOutputOf, IsTableText, IsText, IsTextOfTable, content_of, note_for, rows_table};
 
 use crate::content::Content;
@@ -54,19 +55,31 @@ fn table_text(content: Content, look: &Look) -> Result<String>
     ensures { IfOk result (λ text. IsTableText look.now content (string_bytes text)) }
 {
     let table = content.rows_table(look)?;
-    if is_expanded(&table, look)? {
+    let contents = kept_contents(content.alloc, &table, look)?;
+    if is_expanded(content.alloc, &table, contents.as_slice(), look)? {
         expanded_text(content, look)
     } else {
-        rows_text(content, table, look)
+        rows_text(content, table, contents.as_slice(), look)
     }
 }
 
-// The text of this table of rows.
-fn rows_text(content: Content, mut table: Table, look: &Look) -> Result<String>
-    requires { table ≡ rows_table look.now content }
+// How wide the contents of the columns are, where a width is kept. Elsewhere nothing asks for it.
+fn kept_contents(alloc: Global, table: &Table, look: &Look) -> Result<Vec<u16>>
+    ensures { IfOk result (λ contents. AreKeptContents look.now.width table.now contents.items) }
+{
+    match look.width {
+        Some(_) => table.column_max_content_widths(),
+        None => Ok(Vec::new(alloc)),
+    }
+}
+
+// The text of this table of rows, whose columns have these contents.
+fn rows_text(content: Content, mut table: Table, contents: &[u16], look: &Look) -> Result<String>
+    requires rows { table ≡ rows_table look.now content }
+    requires contents { AreKeptContents look.now.width table contents.now }
     ensures { IfOk result (λ text. IsTextOfTable false look.now content (string_bytes text)) }
 {
-    keep_whole(&mut table, &content, look)?;
+    keep_whole(&mut table, contents, &content, look)?;
     separate_rows(&mut table, look.separators)?;
     let mut text = String::new(content.alloc);
     // The table has all that is drawn, and the text needs as much memory as the records gave.

@@ -1,8 +1,9 @@
 //! Columns of numbers and dates, which aren't broken over lines where there is room.
 
 ghost use Rattle.std.specs.Prelude.{◌≡◌, ◌-◌, ◌^◌, IfOk, OnOk, Some, chars, false, length, map, min, nat_le, slice_get, true, unwrap_or};
-ghost use Rattle.std.specs.List.{list_all, list_any};
+ghost use Rattle.std.specs.List.{list_all};
 ghost use Rattle.csv_tables.specs.Columns.{seen};
+ghost use Rattle.csv_tables.specs.KeptContents.{AreKeptContents};
 ghost use Rattle.csv_tables.specs.Unbroken.{framed_width, is_of_dates, is_unbroken, is_unbroken_column, kept_whole, needed_content, needed_contents, unbroken_columns, whole_column, with_whole};
 ghost use Rattle.csv_tables.specs.WholeAt.{whole_at};
 
@@ -21,8 +22,14 @@ const LONGEST: usize = 25;
 const NEEDED_CONTENT: u16 = 8;
 
 /// Lets the columns of numbers and dates be as wide as their contents, where a width is kept that
-/// has room for all of them and for what the other columns need.
-pub(crate) fn keep_whole(table: &mut Table, content: &Content, look: &Look) -> Result<()>
+/// has room for all of them and for what the other columns need. The contents are the table's.
+pub(crate) fn keep_whole(
+    table: &mut Table,
+    contents: &[u16],
+    content: &Content,
+    look: &Look,
+) -> Result<()>
+    requires { AreKeptContents look.now.width table.old contents.now }
     ensures { OnOk result (table.new
         ≡ kept_whole look.now.width
         (unbroken_columns look.now.has_sequences content.now.columns content.now.rows) table.old) }
@@ -31,20 +38,9 @@ pub(crate) fn keep_whole(table: &mut Table, content: &Content, look: &Look) -> R
         return Ok(());
     };
     let unbroken = unbroken_columns(content, look.has_sequences)?;
-    keep_columns(table, unbroken.as_slice(), width)
-}
-
-// Lets these columns be so where there is one, and there is room.
-fn keep_columns(table: &mut Table, unbroken: &[bool], width: u16) -> Result<()>
-    ensures { OnOk result (table.new ≡ kept_whole (Some width) unbroken.now table.old) }
-{
-    if !has_unbroken(unbroken) {
-        return Ok(());
-    }
-    let contents = table.column_max_content_widths()?;
-    let needed = needed_contents(*contents.allocator(), unbroken, contents.as_slice())?;
+    let needed = needed_contents(content.alloc, unbroken.as_slice(), contents)?;
     if has_room(table, needed.as_slice(), width) {
-        set_whole(table, unbroken);
+        set_whole(table, unbroken.as_slice());
     }
     Ok(())
 }
@@ -68,13 +64,6 @@ fn unbroken_columns(
         unbroken.push(is_unbroken)?;
     }
     Ok(unbroken)
-}
-
-// Whether there is such a column.
-fn has_unbroken(unbroken: &[bool]) -> bool
-    ensures { result ≡ list_any (λ is_unbroken. is_unbroken) unbroken.now }
-{
-    unbroken.iter().any(|is_unbroken| *is_unbroken)
 }
 
 // What the columns need of these contents.

@@ -7,7 +7,9 @@ ghost use Rattle.comfy_parts.specs.Text.{measure};
 ghost use Rattle.comfy_parts.specs.TextLines.{IsClearLine, IsVisible, texts_of, widths_of};
 ghost use Rattle.comfy_parts.specs.VisibleText.{has_escape, visible_text};
 
-use crate::content_split::{has_escape, is_printable, measure_text_width, visible_text};
+use crate::content_split::{
+    has_control, has_escape, is_printable, measure_text_width, visible_text,
+};
 use crate::error::Result;
 use std::alloc::{AllocError, Global};
 use std::marker::Model;
@@ -229,16 +231,6 @@ fn is_clear_line(text: &str) -> bool
         return true;
     }
     !text.contains('\n') && !has_escape(text)
-}
-
-fn has_control(bytes: &[u8]) -> bool
-    ensures { result ≡ list_any (λ b. nat_lt b 0x20) bytes.now }
-{
-    let mut found = false;
-    for byte in bytes {
-        found |= *byte < 0x20;
-    }
-    found
 }
 
 // A copy has the same lines, in memory of its own.

@@ -8,10 +8,11 @@ ghost use Rattle.comfy_parts.specs.Lines.{IsAtNext};
 ghost use Rattle.comfy_parts.specs.Text.{begins_with, greatest, measure};
 ghost use Rattle.comfy_parts.specs.Wrapping.{IsWrapped, wrapped};
 
+use crate::content_split::bytes::is_printable;
 use crate::content_split::display_info::ColumnDisplayInfo;
 use crate::content_split::ends::{Measured, first_element, line_end, line_start, measured_element};
 use crate::content_split::printable::{printable_line_end, printable_longest_line};
-use crate::content_split::width::{is_printable, measure_text_width, wide_end};
+use crate::content_split::width::{measure_text_width, wide_end};
 use std::marker::Model;
 
 // A text of so many bytes for each column of a line may begin with a word that isn't worth

@@ -4,7 +4,7 @@ ghost use Rattle.std.specs.Prelude.{◌≡◌, ◌++◌, IfSome, IsUtf8, None, l
 ghost use Rattle.comfy_parts.specs.Following.{EndsHead, IsFirstWide};
 ghost use Rattle.comfy_parts.specs.Text.{Text, head};
 
-use crate::content_split::width::is_printable;
+use crate::content_split::bytes::is_printable;
 use unicode_segmentation::UnicodeSegmentation;
 use unicode_width::UnicodeWidthStr;
 

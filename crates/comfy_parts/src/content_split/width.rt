@@ -2,8 +2,9 @@
 
 ghost use Rattle.std.specs.Prelude.{◌≡◌, ◌+◌, ◌*◌, ◌≤◌, IfSome, length, nat_lt, encode_utf8};
 ghost use Rattle.comfy_parts.specs.Following.{IsWideFrom};
-ghost use Rattle.comfy_parts.specs.Text.{is_printable_ascii, measure};
+ghost use Rattle.comfy_parts.specs.Text.{measure};
 
+use crate::content_split::bytes::is_printable;
 use crate::content_split::own_width::own_width;
 use unicode_width::UnicodeWidthStr;
 
@@ -35,23 +36,6 @@ fn summed_columns(text: &str) -> Option<usize>
         columns += own_width(character)?;
     }
     Some(columns)
-}
-
-/// Whether these bytes are printable ASCII. Each is then a character of one column.
-pub fn is_printable(bytes: &[u8]) -> bool
-    ensures { result ≡ is_printable_ascii bytes.now }
-{
-    // Text in another script shows it at its first byte. Otherwise all bytes are looked at without
-    // a test between them, which is faster on long texts.
-    if !bytes.is_empty() && bytes[0] > 0x7e {
-        return false;
-    }
-    let mut highest = 0;
-    for byte in bytes {
-        // What stands before the space comes out above all others.
-        highest = byte.wrapping_sub(0x20).max(highest);
-    }
-    highest <= 0x7e - 0x20
 }
 
 /// How many bytes of a word's end show that the word is wider than these columns: each end of the

@@ -1,5 +1,5 @@
 use Rattle.std.proofs.Common.{◌≡◌, ◌++◌, ◌∷◌, [], ℕ, List, Some, ap, chars, rules, slice_get, string_bytes, sym, ◌∙◌, append_assoc, append-nil}
-use Rattle.std.proofs.lemmas.Str.{chars-nil, chars_past_char, encodes-append}
+use Rattle.std.proofs.lemmas.Str.{encodes-append}
 use Rattle.std.specs.Str.{encode_utf8_all}
 use Rattle.csv_tables.specs.Markdown.{escaped_after, escaped_character}
 use Rattle.csv_tables.proofs.markdown.escaped.Goals as goal
@@ -8,7 +8,7 @@ pub loop-c-preserved : goal.loop-c-preserved
 loop-c-preserved c =
     let had = string_bytes c.loop-c.cell in
     let behind = chars c.in-Some.behind.now in
-    let found : chars c.loop-c.rest.now ≡ c.in-Some.c ∷ behind = chars_past_char c.loop-c.rest.now c.in-Some.behind.now c.in-Some.c c.loop-c.invariant.utf8 c.in-Some.ensures.some in
+    let found : chars c.loop-c.rest.now ≡ c.in-Some.c ∷ behind = c.in-Some.ensures.characters in
     let first : c.first.result ≡ slice_get behind 0 = search rules in
     let more = escaped_character c.loop-c.before c.in-Some.c (slice_get behind 0) in
     let pushed : string_bytes c.push_escaped.new.cell ≡ had ++ encode_utf8_all more = c.in_ok-push_escaped.ensures ∙ ap (λ a. had ++ encode_utf8_all (escaped_character c.loop-c.before c.in-Some.c a)) first in
@@ -23,5 +23,5 @@ loop-c-preserved c =
 
 pub returns : goal.returns
 returns c =
-    let none : chars c.loop-c.rest.now ≡ [] = ap chars (search rules) ∙ chars-nil in
+    let none : chars c.loop-c.rest.now ≡ [] = search rules in
     sym (append-nil (string_bytes c.loop-c.cell)) ∙ ap (λ (cs : List ℕ). string_bytes c.loop-c.cell ++ encode_utf8_all (escaped_after c.loop-c.before cs)) (sym none) ∙ c.loop-c.invariant.whole

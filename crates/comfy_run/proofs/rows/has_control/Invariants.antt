@@ -1,6 +1,0 @@
-use Rattle.std.proofs.Common.{◌≡◌, nat_lt, take}
-use Rattle.std.specs.List.{list_any}
-use Rattle.comfy_run.proofs.rows.has_control.Given as goal
-
-abbrev pub invariant-loop-byte : goal.invariant-loop-byte
-invariant-loop-byte l = l.found ≡ list_any (λ b. nat_lt b 0x20) (take l.byte-index l.bytes)
