@@ -1,7 +1,8 @@
 //! Whole inputs and outputs: all that a source has left, and all of a piece for a sink.
 
-ghost use Rattle.std.specs.Prelude.{◌≡◌, ◌++◌, List, ℕ, [], true, false, Some, OnOk, OnErr, IfOk, IfErr};
-ghost use Rattle.devices.specs.Outcome.{IsBeginningOnly};
+ghost use Rattle.std.specs.Prelude.{◌≡◌, ◌++◌, List, ℕ, [], true, false, Some, OnOk, OnErr, IfOk, IfErr, string_bytes};
+ghost use Rattle.devices.specs.Outcome.{Between, IsBeginningOnly, told};
+ghost use Rattle.devices.specs.Run.{IsAfter, IsRefusalOfSome, IsStopBefore, is_read_fault, is_write_fault, stop_of};
 ghost use Rattle.devices.specs.Transfer.{is_source_fault};
 ghost use Rattle.devices.specs.declared.transfer.ReadError.TheVariants.{OutOfMemory};
 
@@ -28,6 +29,30 @@ impl From<AllocError> for ReadError {
     }
 }
 
+/// Why a run stopped; `E` is why an input has no output.
+#[derive(Clone, Copy, Debug, PartialEq, Eq)]
+pub enum Stop<E> {
+    /// A call of the source failed.
+    Read,
+    /// A call of the sink failed.
+    Write,
+    /// There was no memory for the input.
+    OutOfMemory,
+    /// The input has no output.
+    Refused(E),
+}
+
+impl<E> From<ReadError> for Stop<E> {
+    ghost from_gives = { λ x e. e ≡ stop_of x };
+
+    fn from(error: ReadError) -> Stop<E> {
+        match error {
+            ReadError::Source => Stop::Read,
+            ReadError::OutOfMemory => Stop::OutOfMemory,
+        }
+    }
+}
+
 /// All that the source has left. After an error its end was read only if it was before.
 pub fn read_all<R: Source>(alloc: Global, source: &mut R) -> Result<Vec<u8>, ReadError>
     ensures ended { OnOk result (R.end_was_read source.new ≡ true) }
@@ -49,6 +74,23 @@ pub fn read_all<R: Source>(alloc: Global, source: &mut R) -> Result<Vec<u8>, Rea
     }
 }
 
+/// What makes a text of an input.
+pub trait Draw {
+    type Error: Drop;
+
+    // which bytes are an output for an input
+    ghost is_output: { Self → List ℕ → List ℕ → Type 0 };
+
+    // why an input has no output
+    ghost is_refusal: { Self → List ℕ → Self.Error → Type 0 };
+
+    /// The output for an input that was read whole.
+    fn drawn(&self, alloc: Global, input: Vec<u8>) -> Result<String, Self::Error>
+        ensures output { IfOk result (λ output.
+            is_output self.now input.items (string_bytes output)) }
+        ensures refused { IfErr result (λ e. is_refusal self.now input.items e) };
+}
+
 /// Writes the whole piece. Where the sink fails, a beginning of the piece was written, not all of
 /// it.
 pub fn write_all<W: Sink>(sink: &mut W, piece: &[u8]) -> Result<(), DeviceFault>
@@ -68,4 +110,51 @@ pub fn write_all<W: Sink>(sink: &mut W, piece: &[u8]) -> Result<(), DeviceFault>
         rest = others;
     }
     Ok(())
+}
+
+/// Reads the whole source, and writes the output for it to the sink.
+///
+/// All memory is asked for before the first write. Where the input can't be read or has no output,
+/// or memory runs out, nothing is written. Where the output can't be written, a beginning of it was.
+pub fn run<R: Source, W: Sink, D: Draw>(
+    alloc: Global,
+    source: &mut R,
+    sink: &mut W,
+    drawing: &D,
+) -> Result<(), Stop<D::Error>>
+    ensures ended { OnOk result (R.end_was_read source.new ≡ true) }
+    ensures source { R.has_failed source.new ≡ is_read_fault result }
+    ensures sink { W.has_failed sink.old ≡ false → W.has_failed sink.new ≡ is_write_fault result }
+    ensures refused { IfErr result (IsRefusalOfSome (D.is_refusal drawing.now)) }
+    ensures known { Between (told R.Source W.Sink source.old sink.old)
+        (told R.Source W.Sink source.new sink.new)
+        (IsAfter (D.is_refusal drawing.now) (D.is_output drawing.now) result) }
+{
+    let output = output_for(alloc, source, drawing)?;
+    match write_all(sink, output.as_bytes()) {
+        Ok(()) => Ok(()),
+        Err(DeviceFault) => Err(Stop::Write),
+    }
+}
+
+// Reads the whole source, and makes the output for it.
+fn output_for<R: Source, D: Draw>(
+    alloc: Global,
+    source: &mut R,
+    drawing: &D,
+) -> Result<String, Stop<D::Error>>
+    ensures ended { OnOk result (R.end_was_read source.new ≡ true) }
+    ensures source { R.has_failed source.new ≡ is_read_fault result }
+    ensures no_write { is_write_fault result ≡ false }
+    ensures refused { IfErr result (IsRefusalOfSome (D.is_refusal drawing.now)) }
+    ensures output { IfOk result (λ output. (input : List ℕ) → R.remaining source.old ≡ Some input
+        → D.is_output drawing.now input (string_bytes output)) }
+    ensures stopped { IfErr result (λ stop. (input : List ℕ) → R.remaining source.old ≡ Some input
+        → IsStopBefore (D.is_refusal drawing.now) input (R.end_was_read source.new) stop) }
+{
+    let input = read_all(alloc, source)?;
+    match drawing.drawn(alloc, input) {
+        Ok(output) => Ok(output),
+        Err(error) => Err(Stop::Refused(error)),
+    }
 }
