@@ -1,10 +1,8 @@
 -- What the program reports, and which settings it runs with.
 use Rattle.std.proofs.Common.{◌≡◌, Bool, true, [], ◌++◌, Option, Some, Result, Ok, Err, OnOk, OnErr, refl, sym, append-nil, ap, subst, ◌∙◌}
 use Rattle.comfy_parts.specs.Text.{Text}
-use Rattle.devices.specs.Outcome.{RunFacts, IsBeginningOnly}
+use Rattle.devices.specs.Outcome.{IsBeginningOnly}
 use Rattle.comfy_run.specs.Program.{Reports}
-use Rattle.comfy_run.specs.Run.{IsAfter}
-use Rattle.comfy_run.specs.declared.error.RunError.{RunError}
 use Rattle.comfy_run.specs.declared.settings.Settings.{Settings}
 
 -- a written line is reported
@@ -22,7 +20,3 @@ nothing_reported old failed = λ had known. ([], [], known ∙ ap Some (sym (app
 -- settings found once are found again
 pub same_settings : (a b : Settings) (x : Option Settings) → Some a ≡ x → x ≡ Some b → a ≡ b
 same_settings a b x first second = cc
-
--- what holds under settings holds under the same ones
-pub after_same : {T : Type 0} (a b : Settings) (r : Result T RunError) (facts : RunFacts) → a ≡ b → IsAfter a r facts → IsAfter b r facts
-after_same a b r facts same after = subst (λ (s : Settings). IsAfter s r facts) same after

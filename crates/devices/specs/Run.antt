@@ -28,12 +28,6 @@ module _ {E : Type 0} (IsRefusal : Bytes → E → Type 0) where
   IsRefusalOfSome (Refused e) = (input : Bytes) × IsRefusal input e
   IsRefusalOfSome _ = ⊤
 
-  -- why there is nothing to write, by whether the end of the input was read: a refused one was read
-  -- whole, and otherwise nothing was left where the end was read
-  abbrev pub IsStopBefore : Bytes → Bool → Stop E → Type 0
-  IsStopBefore input ended (Refused e) = (ended ≡ true) × IsRefusal input e
-  IsStopBefore input ended _ = ended ≡ true → input ≡ []
-
   -- what the facts of a run are, by its result
   abbrev pub IsAfter : {T : Type 0} → (Bytes → Bytes → Type 0) → Result T (Stop E) → RunFacts
       → Type 0

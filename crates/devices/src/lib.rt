@@ -1,5 +1,5 @@
 //! Where bytes come from and where they go to: readers, writers and memory; all that a source has
-//! left, and all of a piece for a sink; a process's arguments.
+//! left, all of a piece for a sink, and a run from one to the other; a process's arguments.
 #![tactic(auto)]
 
 mod device;

@@ -1,8 +1,9 @@
-//! Whole inputs and outputs: all that a source has left, and all of a piece for a sink.
+//! Whole inputs and outputs: all that a source has left, all of a piece for a sink, and a run that
+//! reads the one and writes the other.
 
 ghost use Rattle.std.specs.Prelude.{◌≡◌, ◌++◌, List, ℕ, [], true, false, Some, OnOk, OnErr, IfOk, IfErr, string_bytes};
 ghost use Rattle.devices.specs.Outcome.{Between, IsBeginningOnly, told};
-ghost use Rattle.devices.specs.Run.{IsAfter, IsRefusalOfSome, IsStopBefore, is_read_fault, is_write_fault, stop_of};
+ghost use Rattle.devices.specs.Run.{IsAfter, IsRefusalOfSome, is_read_fault, is_write_fault, stop_of};
 ghost use Rattle.devices.specs.Transfer.{is_source_fault};
 ghost use Rattle.devices.specs.declared.transfer.ReadError.TheVariants.{OutOfMemory};
 
@@ -29,8 +30,8 @@ impl From<AllocError> for ReadError {
     }
 }
 
-/// Why a run stopped; `E` is why an input has no output.
-#[derive(Clone, Copy, Debug, PartialEq, Eq)]
+/// Why a run stopped.
+#[derive(Debug, Drop)]
 pub enum Stop<E> {
     /// A call of the source failed.
     Read,
@@ -38,7 +39,7 @@ pub enum Stop<E> {
     Write,
     /// There was no memory for the input.
     OutOfMemory,
-    /// The input has no output.
+    /// The input was read whole, and has no output.
     Refused(E),
 }
 
@@ -51,6 +52,24 @@ impl<E> From<ReadError> for Stop<E> {
             ReadError::OutOfMemory => Stop::OutOfMemory,
         }
     }
+}
+
+/// What makes a drawing, or any other text, of an input.
+pub trait Draw {
+    /// Why an input has no output.
+    type Error: Drop;
+
+    // which bytes are an output for an input
+    ghost is_output: { Self → List ℕ → List ℕ → Type 0 };
+
+    // whether this is why an input has no output
+    ghost is_refusal: { Self → List ℕ → Self.Error → Type 0 };
+
+    /// The output for an input that was read whole.
+    fn drawn(&self, alloc: Global, input: Vec<u8>) -> Result<String, Self::Error>
+        ensures output { IfOk result (λ output.
+            is_output self.now input.items (string_bytes output)) }
+        ensures refused { IfErr result (λ e. is_refusal self.now input.items e) };
 }
 
 /// All that the source has left. After an error its end was read only if it was before.
@@ -72,23 +91,6 @@ pub fn read_all<R: Source>(alloc: Global, source: &mut R) -> Result<Vec<u8>, Rea
         }
         bytes.extend_from_slice(&buffer[..count])?;
     }
-}
-
-/// What makes a text of an input.
-pub trait Draw {
-    type Error: Drop;
-
-    // which bytes are an output for an input
-    ghost is_output: { Self → List ℕ → List ℕ → Type 0 };
-
-    // why an input has no output
-    ghost is_refusal: { Self → List ℕ → Self.Error → Type 0 };
-
-    /// The output for an input that was read whole.
-    fn drawn(&self, alloc: Global, input: Vec<u8>) -> Result<String, Self::Error>
-        ensures output { IfOk result (λ output.
-            is_output self.now input.items (string_bytes output)) }
-        ensures refused { IfErr result (λ e. is_refusal self.now input.items e) };
 }
 
 /// Writes the whole piece. Where the sink fails, a beginning of the piece was written, not all of
@@ -116,6 +118,12 @@ pub fn write_all<W: Sink>(sink: &mut W, piece: &[u8]) -> Result<(), DeviceFault>
 ///
 /// All memory is asked for before the first write. Where the input can't be read or has no output,
 /// or memory runs out, nothing is written. Where the output can't be written, a beginning of it was.
+///
+/// The result says which device failed: `Read` comes only where a call of the source failed,
+/// `Write` only where a call of the sink failed. After `Ok` and every other error, no call of
+/// either failed; after `Ok` the end of the source was read. That holds of all devices, the
+/// standard streams among them. Which bytes were read and written is said of devices whose bytes
+/// are known.
 pub fn run<R: Source, W: Sink, D: Draw>(
     alloc: Global,
     source: &mut R,
@@ -130,31 +138,13 @@ pub fn run<R: Source, W: Sink, D: Draw>(
         (told R.Source W.Sink source.new sink.new)
         (IsAfter (D.is_refusal drawing.now) (D.is_output drawing.now) result) }
 {
-    let output = output_for(alloc, source, drawing)?;
+    let input = read_all(alloc, source)?;
+    let output = match drawing.drawn(alloc, input) {
+        Ok(output) => output,
+        Err(error) => return Err(Stop::Refused(error)),
+    };
     match write_all(sink, output.as_bytes()) {
         Ok(()) => Ok(()),
         Err(DeviceFault) => Err(Stop::Write),
-    }
-}
-
-// Reads the whole source, and makes the output for it.
-fn output_for<R: Source, D: Draw>(
-    alloc: Global,
-    source: &mut R,
-    drawing: &D,
-) -> Result<String, Stop<D::Error>>
-    ensures ended { OnOk result (R.end_was_read source.new ≡ true) }
-    ensures source { R.has_failed source.new ≡ is_read_fault result }
-    ensures no_write { is_write_fault result ≡ false }
-    ensures refused { IfErr result (IsRefusalOfSome (D.is_refusal drawing.now)) }
-    ensures output { IfOk result (λ output. (input : List ℕ) → R.remaining source.old ≡ Some input
-        → D.is_output drawing.now input (string_bytes output)) }
-    ensures stopped { IfErr result (λ stop. (input : List ℕ) → R.remaining source.old ≡ Some input
-        → IsStopBefore (D.is_refusal drawing.now) input (R.end_was_read source.new) stop) }
-{
-    let input = read_all(alloc, source)?;
-    match drawing.drawn(alloc, input) {
-        Ok(output) => Ok(output),
-        Err(error) => Err(Stop::Refused(error)),
     }
 }

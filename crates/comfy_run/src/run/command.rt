@@ -4,7 +4,7 @@ ghost use Rattle.std.specs.Prelude.{◌≡◌, None, Some, Result, false, true};
 ghost use Rattle.comfy_run.specs.Arguments.{settings_for};
 ghost use Rattle.comfy_run.specs.Program.{usage_line, error_line, status_of, report_of, Reports};
 ghost use Rattle.comfy_run.specs.Run.{IsAfter, is_read_fault, is_write_fault};
-ghost use Rattle.devices.specs.Outcome.{Between};
+ghost use Rattle.devices.specs.Outcome.{Between, told};
 ghost use Rattle.comfy_run.specs.declared.settings.Settings.{Settings};
 
 use crate::arguments::settings_of;
@@ -48,22 +48,8 @@ pub fn program<R: Source, W: Sink, F: Sink>(
         (F.has_failed messages.new)
         × (R.has_failed source.new ≡ is_read_fault answer)
         × (W.has_failed sink.old ≡ false → W.has_failed sink.new ≡ is_write_fault answer)
-        × Between
-        (record {
-          remaining = R.remaining source.old;
-          end_was_read = R.end_was_read source.old;
-          read_failed = R.has_failed source.old;
-          taken = W.taken sink.old;
-          write_failed = W.has_failed sink.old;
-        })
-        (record {
-          remaining = R.remaining source.new;
-          end_was_read = R.end_was_read source.new;
-          read_failed = R.has_failed source.new;
-          taken = W.taken sink.new;
-          write_failed = W.has_failed sink.new;
-        })
-        (IsAfter settings answer) }
+        × Between (told R.Source W.Sink source.old sink.old)
+        (told R.Source W.Sink source.new sink.new) (IsAfter settings answer) }
     ensures done { result ≡ 0
         → (R.end_was_read source.new ≡ true) × (R.has_failed source.new ≡ false)
         × (W.has_failed sink.old ≡ false → W.has_failed sink.new ≡ false) }
