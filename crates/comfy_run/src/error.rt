@@ -5,8 +5,8 @@ ghost use Rattle.comfy_parts.specs.declared.error.TableError.TheVariants.{OutOfM
 ghost use Rattle.comfy_run.specs.Run.{run_error_of};
 ghost use Rattle.comfy_run.specs.declared.error.RunError.TheVariants.{Table};
 
-use devices::Stop;
 use comfy_parts::TableError;
+use devices::Stop;
 use std::alloc::AllocError;
 use thiserror::Error;
 

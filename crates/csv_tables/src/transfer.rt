@@ -3,7 +3,7 @@
 ghost use Rattle.std.specs.Prelude.{◌≡◌, true, false, OnOk, IfOk, IfErr, string_bytes};
 ghost use Rattle.csv_tables.specs.Drawn.{IsOutputFor};
 ghost use Rattle.csv_tables.specs.Run.{IsAfter, IsInputRefusal, is_read_fault, is_write_fault};
-ghost use Rattle.devices.specs.Outcome.{Between, told};
+ghost use Rattle.devices.specs.Outcome.{Between};
 
 use crate::options::Options;
 use crate::output::output_of;
@@ -35,8 +35,8 @@ pub fn draw<R: Source, W: Sink>(
     ensures ended { OnOk result (R.end_was_read source.new ≡ true) }
     ensures source { R.has_failed source.new ≡ is_read_fault result }
     ensures sink { W.has_failed sink.old ≡ false → W.has_failed sink.new ≡ is_write_fault result }
-    ensures known { Between (told R.Source W.Sink source.old sink.old)
-        (told R.Source W.Sink source.new sink.new) (IsAfter options.now result) }
+    ensures known { Between R.Source W.Sink (source.old, sink.old) (source.new, sink.new)
+        (IsAfter options.now result) }
 {
     Ok(devices::run(alloc, source, sink, options)?)
 }

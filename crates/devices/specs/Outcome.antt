@@ -1,5 +1,5 @@
--- What happens in a run: what its devices tell before it and after it, and which facts there are.
-use Rattle.std.specs.Prelude.{◌≡◌, ◌<◌, Bool, true, false, [], ◌++◌, Option, Some, length}
+-- What happens in a run, and what is said of it by what its devices tell before and after it.
+use Rattle.std.specs.Prelude.{◌≡◌, ◌<◌, Bool, true, false, [], ◌++◌, Some, length}
 use Rattle.devices.specs.Device.{Bytes}
 use Rattle.devices.specs.declared.device.Sink as sink
 use Rattle.devices.specs.declared.device.Source as source
@@ -62,36 +62,18 @@ pub record IsAfterOutOfMemory (IsFine : Bytes → Type 0) (facts : RunFacts) : T
   pub nothing_written : facts.written ≡ []
   pub fine : facts.end_was_read ≡ true → IsFine facts.input
 
--- what a source and a sink tell at one time: the bytes that are left, whether the end was read,
--- whether the source has failed, the bytes that were taken, and whether the sink has failed
-pub record Devices : Type 0 where
-  pub remaining : Option Bytes
-  pub end_was_read : Bool
-  pub read_failed : Bool
-  pub taken : Option Bytes
-  pub write_failed : Bool
-
--- what this source and this sink tell
-abbrev pub told : {R W : Type 0} → source.Ghosts R → sink.Ghosts W → R → W → Devices
-told of_source of_sink from to =
-    record {
-      remaining = of_source.remaining from;
-      end_was_read = of_source.end_was_read from;
-      read_failed = of_source.has_failed from;
-      taken = of_sink.taken to;
-      write_failed = of_sink.has_failed to;
-    }
-
--- what happened between two times, where both said their bytes at the first and hadn't failed
-abbrev pub Between : Devices → Devices → (RunFacts → Type 0) → Type 0
-Between old new Says =
-    (input had : Bytes) → old.remaining ≡ Some input → old.taken ≡ Some had
-    → old.read_failed ≡ false → old.write_failed ≡ false
-    → (written : Bytes) × (new.taken ≡ Some (had ++ written))
+-- what happened between two times to a source and a sink, where both said their bytes at the first
+-- and hadn't failed
+abbrev pub Between : {R W : Type 0} → source.Ghosts R → sink.Ghosts W → R × W → R × W
+    → (RunFacts → Type 0) → Type 0
+Between of_source of_sink old new Says =
+    (input had : Bytes) → of_source.remaining old.0 ≡ Some input → of_sink.taken old.1 ≡ Some had
+    → of_source.has_failed old.0 ≡ false → of_sink.has_failed old.1 ≡ false
+    → (written : Bytes) × (of_sink.taken new.1 ≡ Some (had ++ written))
     × Says (record {
       input = input;
-      end_was_read = new.end_was_read;
+      end_was_read = of_source.end_was_read new.0;
       written = written;
-      read_failed = new.read_failed;
-      write_failed = new.write_failed;
+      read_failed = of_source.has_failed new.0;
+      write_failed = of_sink.has_failed new.1;
     })

@@ -2,7 +2,7 @@
 //! reads the one and writes the other.
 
 ghost use Rattle.std.specs.Prelude.{◌≡◌, ◌++◌, List, ℕ, [], true, false, Some, OnOk, OnErr, IfOk, IfErr, string_bytes};
-ghost use Rattle.devices.specs.Outcome.{Between, IsBeginningOnly, told};
+ghost use Rattle.devices.specs.Outcome.{Between, IsBeginningOnly};
 ghost use Rattle.devices.specs.Run.{IsAfter, IsRefusalOfSome, is_read_fault, is_write_fault, stop_of};
 ghost use Rattle.devices.specs.Transfer.{is_source_fault};
 ghost use Rattle.devices.specs.declared.transfer.ReadError.TheVariants.{OutOfMemory};
@@ -134,8 +134,7 @@ pub fn run<R: Source, W: Sink, D: Draw>(
     ensures source { R.has_failed source.new ≡ is_read_fault result }
     ensures sink { W.has_failed sink.old ≡ false → W.has_failed sink.new ≡ is_write_fault result }
     ensures refused { IfErr result (IsRefusalOfSome (D.is_refusal drawing.now)) }
-    ensures known { Between (told R.Source W.Sink source.old sink.old)
-        (told R.Source W.Sink source.new sink.new)
+    ensures known { Between R.Source W.Sink (source.old, sink.old) (source.new, sink.new)
         (IsAfter (D.is_refusal drawing.now) (D.is_output drawing.now) result) }
 {
     let input = read_all(alloc, source)?;

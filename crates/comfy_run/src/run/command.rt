@@ -4,14 +4,14 @@ ghost use Rattle.std.specs.Prelude.{◌≡◌, None, Some, Result, false, true};
 ghost use Rattle.comfy_run.specs.Arguments.{settings_for};
 ghost use Rattle.comfy_run.specs.Program.{usage_line, error_line, status_of, report_of, Reports};
 ghost use Rattle.comfy_run.specs.Run.{IsAfter, is_read_fault, is_write_fault};
-ghost use Rattle.devices.specs.Outcome.{Between, told};
+ghost use Rattle.devices.specs.Outcome.{Between};
 ghost use Rattle.comfy_run.specs.declared.settings.Settings.{Settings};
 
 use crate::arguments::settings_of;
 use crate::error::RunError;
 use crate::run::transfer::run;
-use devices::{Sink, Source, write_all};
 use comfy_table::TableError;
+use devices::{Sink, Source, write_all};
 use std::alloc::Global;
 
 const USAGE: &str = "usage: ctable [WIDTH|- [disabled|dynamic|full [STYLE]]]\n";
@@ -48,8 +48,8 @@ pub fn program<R: Source, W: Sink, F: Sink>(
         (F.has_failed messages.new)
         × (R.has_failed source.new ≡ is_read_fault answer)
         × (W.has_failed sink.old ≡ false → W.has_failed sink.new ≡ is_write_fault answer)
-        × Between (told R.Source W.Sink source.old sink.old)
-        (told R.Source W.Sink source.new sink.new) (IsAfter settings answer) }
+        × Between R.Source W.Sink (source.old, sink.old) (source.new, sink.new)
+        (IsAfter settings answer) }
     ensures done { result ≡ 0
         → (R.end_was_read source.new ≡ true) × (R.has_failed source.new ≡ false)
         × (W.has_failed sink.old ≡ false → W.has_failed sink.new ≡ false) }

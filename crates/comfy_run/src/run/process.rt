@@ -4,9 +4,9 @@ use crate::error::RunError;
 use crate::run::command::program;
 use devices::{FromReader, ToWriter, arguments_of_process};
 use std::alloc::AllocError;
+use std::io;
 use std::io::ErrorKind;
 use std::process::ExitCode;
-use std::io;
 
 // Stands for a word that isn't text: the program knows no such word.
 const NO_TEXT: &str = "\u{fffd}";
