@@ -11,7 +11,7 @@ use Rattle.devices.specs.Run.{IsAfter as IsAfterRun}
 use Rattle.devices.specs.declared.transfer.Stop.{Stop}
 use Rattle.devices.specs.declared.transfer.Stop.TheVariants.{OutOfMemory, Read, Refused, Write}
 
-pub after_stop : (T : Type 0) (settings : Settings) (stop : Stop RunError) (facts : RunFacts) → IsAfterRun IsRefusal {T = T} (IsDrawnFrom settings) (Err stop) facts
+pub after_stop : (T : Type 0) (settings : Settings) (stop : Stop RunError) (facts : RunFacts) → IsAfterRun (IsDrawnFrom settings) IsRefusal {T = T} (Err stop) facts
     → IsAfter {T = T} settings (Err (run_error_of stop)) facts
 after_stop T settings Read facts after = after
 after_stop T settings Write facts after = after

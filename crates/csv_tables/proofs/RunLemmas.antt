@@ -18,7 +18,7 @@ use Rattle.devices.specs.Run.{IsAfter as IsAfterRun}
 use Rattle.devices.specs.declared.transfer.Stop.{Stop}
 use Rattle.devices.specs.declared.transfer.Stop.TheVariants.{OutOfMemory, Read, Refused, Write}
 
-pub after_stop : (T : Type 0) (options : Options) (stop : Stop CsvError) (facts : RunFacts) → IsAfterRun (IsInputRefusal options) {T = T} (IsOutputFor options) (Err stop) facts
+pub after_stop : (T : Type 0) (options : Options) (stop : Stop CsvError) (facts : RunFacts) → IsAfterRun (IsOutputFor options) (IsInputRefusal options) {T = T} (Err stop) facts
     → IsAfter {T = T} options (Err (of_stop stop)) facts
 after_stop T options Read facts after = after
 after_stop T options Write facts after = after

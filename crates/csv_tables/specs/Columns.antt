@@ -215,7 +215,7 @@ abbrev pub columns_for : Options → List Text → List (List Text)
 columns_for options names rows =
     columns_with names (map (seen options.look.has_sequences) rows)
     (kept_columns names (count_of names rows) options.selection.columns.items
-      options.selection.dropped.items)
+    options.selection.dropped.items)
     (positions_of names (count_of names rows) options.selection.right.items)
     (positions_of names (count_of names rows) options.selection.left.items)
 

@@ -37,7 +37,7 @@ pub record KeepsRows (options : Options) (records : List (List Text))
   pub chosen :
       kept_columns (unwrap_or (names_of options.selection.has_header records) [])
       (count_of (unwrap_or (names_of options.selection.has_header records) [])
-        (drawn_rows options records))
+      (drawn_rows options records))
       options.selection.columns.items options.selection.dropped.items
       ≡ Ok (map (λ (column : DrawnColumn). column.position) columns)
 

@@ -4,8 +4,8 @@ ghost use Rattle.std.specs.Prelude.{◌≡◌, IfOk, IfErr, Ok, [], unwrap_or};
 ghost use Rattle.csv_tables.specs.Columns.{IsColumnsRefusal};
 ghost use Rattle.csv_tables.specs.Drawn.{content_of, limited, names_of, records_below};
 
-use crate::error::ColumnsError;
 use crate::columns::columns_of;
+use crate::error::ColumnsError;
 use crate::options::{DrawnColumn, Options};
 use csv_records::{Record, Records, Rows};
 use std::alloc::Global;

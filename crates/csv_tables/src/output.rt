@@ -5,15 +5,15 @@ ghost use Rattle.csv_tables.specs.Columns.{IsColumnsRefusal};
 ghost use Rattle.csv_tables.specs.Markdown.{rule_line};
 ghost use Rattle.csv_tables.specs.Drawn.{IsMarkdownText, IsOutputOf, IsTableText, IsText, IsTextOfTable, content_of, note_for, rows_table};
 
-use crate::error::ColumnsError;
 use crate::content::Content;
+use crate::error::ColumnsError;
 use crate::expanded::{between_fields, is_expanded, records_text};
 use crate::markdown::push_rule;
 use crate::options::{Look, Options};
 use crate::separators::separate_rows;
 use crate::unbroken::keep_whole;
 use comfy_table::{Result, Table};
-use csv_records::{Records};
+use csv_records::Records;
 use std::alloc::{AllocError, Global};
 use std::fmt::Write;
 

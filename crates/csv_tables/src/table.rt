@@ -5,10 +5,10 @@ ghost use Rattle.csv_tables.specs.Columns.{IsColumnsRefusal};
 ghost use Rattle.csv_tables.specs.Drawn.{arrangement_for, content_of, empty_table, headed_table, markdown_look, markdown_style, markdown_table, pairs_of, pairs_table, rows_table, table_for};
 ghost use Rattle.comfy_table.specs.TableValue.{with_rows};
 
-use crate::error::ColumnsError;
 use crate::cells::{header_of, pair_of, row_of};
 use crate::columns::name_at;
 use crate::content::Content;
+use crate::error::ColumnsError;
 use crate::options::{Look, Options};
 use comfy_table::presets::ASCII_MARKDOWN;
 use comfy_table::{ContentArrangement, LineStyle, Result, Table, TableStyle};

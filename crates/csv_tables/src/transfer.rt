@@ -5,9 +5,9 @@ ghost use Rattle.csv_tables.specs.Drawn.{IsOutputFor};
 ghost use Rattle.csv_tables.specs.Run.{IsAfter, IsInputRefusal, is_read_fault, is_write_fault};
 ghost use Rattle.devices.specs.Outcome.{Between};
 
+use crate::error::CsvError;
 use crate::options::Options;
 use crate::output::output_of;
-use crate::error::CsvError;
 use csv_records::{decoded, read_records};
 use devices::{Draw, Sink, Source};
 use std::alloc::Global;

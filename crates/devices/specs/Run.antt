@@ -22,17 +22,17 @@ abbrev pub stop_of : {E : Type 0} → ReadError → Stop E
 stop_of read.Source = Read
 stop_of read.OutOfMemory = OutOfMemory
 
-module _ {E : Type 0} (IsRefusal : Bytes → E → Type 0) where
-  -- a refusal is that of some input
-  abbrev pub IsRefusalOfSome : Stop E → Type 0
-  IsRefusalOfSome (Refused e) = (input : Bytes) × IsRefusal input e
-  IsRefusalOfSome _ = ⊤
+-- a refusal is that of some input
+abbrev pub IsRefusalOfSome : {E : Type 0} → (Bytes → E → Type 0) → Stop E → Type 0
+IsRefusalOfSome IsRefusal (Refused e) = (input : Bytes) × IsRefusal input e
+IsRefusalOfSome IsRefusal _ = ⊤
 
-  -- what the facts of a run are, by its result
-  abbrev pub IsAfter : {T : Type 0} → (Bytes → Bytes → Type 0) → Result T (Stop E) → RunFacts
-      → Type 0
-  IsAfter IsOutput (Ok _) facts = IsAfterOk IsOutput facts
-  IsAfter IsOutput (Err Read) facts = IsAfterRead facts
-  IsAfter IsOutput (Err Write) facts = IsAfterWrite IsOutput facts
-  IsAfter IsOutput (Err OutOfMemory) facts = IsAfterOutOfMemory (λ input. input ≡ []) facts
-  IsAfter IsOutput (Err (Refused e)) facts = IsAfterFault (λ input. IsRefusal input e) facts
+-- what the facts of a run are, by its result; nothing is left where the end was read and there was
+-- no memory for the input
+module _ {E : Type 0} (IsOutput : Bytes → Bytes → Type 0) (IsRefusal : Bytes → E → Type 0) where
+  abbrev pub IsAfter : {T : Type 0} → Result T (Stop E) → RunFacts → Type 0
+  IsAfter (Ok _) facts = IsAfterOk IsOutput facts
+  IsAfter (Err Read) facts = IsAfterRead facts
+  IsAfter (Err Write) facts = IsAfterWrite IsOutput facts
+  IsAfter (Err OutOfMemory) facts = IsAfterOutOfMemory (λ input. input ≡ []) facts
+  IsAfter (Err (Refused e)) facts = IsAfterFault (λ input. IsRefusal input e) facts

@@ -116,14 +116,9 @@ pub fn write_all<W: Sink>(sink: &mut W, piece: &[u8]) -> Result<(), DeviceFault>
 
 /// Reads the whole source, and writes the output for it to the sink.
 ///
-/// All memory is asked for before the first write. Where the input can't be read or has no output,
-/// or memory runs out, nothing is written. Where the output can't be written, a beginning of it was.
-///
-/// The result says which device failed: `Read` comes only where a call of the source failed,
-/// `Write` only where a call of the sink failed. After `Ok` and every other error, no call of
-/// either failed; after `Ok` the end of the source was read. That holds of all devices, the
-/// standard streams among them. Which bytes were read and written is said of devices whose bytes
-/// are known.
+/// The output is whole in memory before the first write. After `Read` the source has failed and the
+/// sink hasn't, after `Write` the sink and not the source, and after every other result neither.
+/// After `Write` a beginning of the output was written, and nothing after every other error.
 pub fn run<R: Source, W: Sink, D: Draw>(
     alloc: Global,
     source: &mut R,
@@ -135,7 +130,7 @@ pub fn run<R: Source, W: Sink, D: Draw>(
     ensures sink { W.has_failed sink.old ≡ false → W.has_failed sink.new ≡ is_write_fault result }
     ensures refused { IfErr result (IsRefusalOfSome (D.is_refusal drawing.now)) }
     ensures known { Between R.Source W.Sink (source.old, sink.old) (source.new, sink.new)
-        (IsAfter (D.is_refusal drawing.now) (D.is_output drawing.now) result) }
+        (IsAfter (D.is_output drawing.now) (D.is_refusal drawing.now) result) }
 {
     let input = read_all(alloc, source)?;
     let output = match drawing.drawn(alloc, input) {
