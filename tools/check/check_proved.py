@@ -26,7 +26,7 @@ import sys
 from definitions import LIBRARIES, PROMISES, TOP, files_of, functions_of, sources_of, text_of
 from mutations import must_fail_of, mutations_of
 from reach import unreached
-from what_is_believed import updated
+from what_is_believed import fields_of_drawing, updated
 
 sys.path.append(f"{TOP}/tools/make")  # its tools make what is compared here
 from doc_examples import wrong_examples
@@ -42,7 +42,6 @@ OVER_OTHERS = set(
 )
 CALLERS = ["test_callers", "test_csv_cases"]
 TOLD_WITH = {"comfy_run": ["devices"], "csv_tables": ["csv_records", "csv_command"]}  # by one CALLING.md
-TRIALS = ["test_definitions", *PROMISES]
 STORED = ["csvtable/stdout"]
 
 
@@ -55,10 +54,10 @@ def mutated_in(crate):
 def wrong_in_section(crate, section):
     """What doesn't agree in the section of a crate: its promises name functions, clauses and fields."""
     wrong, functions, mutated = [], functions_of(crate), mutated_in(crate)
-    fields = set(re.findall(r"pub (\w+) :", text_of("crates/comfy_table/specs/Headline.antt")))
+    fields = set(fields_of_drawing())
     for promise in re.findall(r"^Clauses(?: \(\d+ lines\))?: (.*?)\.\n\n", section + "\n\n", re.M | re.S):
         clauses, _, more = " ".join(promise.split()).partition("; ")
-        wrong += [f"no field {it}" for it in re.findall(r"`(\w+)`", more) if it not in fields | WORDS]
+        wrong += [f"no field {it}" for it in re.findall(r"`([\w.]+)`", more) if it not in fields | WORDS]
         named = re.findall(r"`([A-Z]\w+)`", clauses)
         for of_type in set(named) - WORDS:
             public = [(name, it) for name in functions for it in functions[name] if it.is_public]
@@ -92,7 +91,7 @@ def laws():
 def wrong_trials():
     """The laws that no trial shows to be false of a value, and what is named as one and is none."""
     named, false = set(), r"^-- false: (.*)\n(?=(?:--.*\n)*(?:pub )?\w+ :)"
-    for path in (it for crate in TRIALS for it in files_of(crate, "proofs/**/*Trials.antt")):
+    for path in files_of("test_definitions", "proofs/*.antt"):
         for labels in re.findall(false, text_of(path), re.M):
             named |= set(labels.split(", "))
     wrong = [f"no trial shows a value of which {it} is false" for it in laws() if it not in named]

@@ -157,40 +157,45 @@ def types_in(path):
     return found
 
 
+def by_name(pairs):
+    """For each name of the pairs, the list of what stands beside it."""
+    found = {}
+    for name, one in pairs:
+        found.setdefault(name, []).append(one)
+    return found
+
+
+def all_sources():
+    return [it for crate in LIBRARIES for it in sources_of(crate)]
+
+
 @functools.cache
 def types():
     """For each type that src/ declares, the files that do."""
-    found = {}
-    for path in (it for crate in LIBRARIES for it in sources_of(crate)):
-        for name in types_in(path):
-            found.setdefault(name, []).append(path)
-    return found
+    return by_name((name, path) for path in all_sources() for name in types_in(path))
 
 
 @functools.cache
 def members():
     """The ghost members of all libraries, by name."""
-    found = {}
-    for path in (it for crate in LIBRARIES for it in sources_of(crate)):
-        for block in blocks_in(path):
-            for name, one in members_of(path, block).items():
-                found.setdefault(name, []).append(one)
-    return found
+    blocks = [(path, block) for path in all_sources() for block in blocks_in(path)]
+    return by_name(pair for block in blocks for pair in members_of(*block).items())
 
 
 @functools.cache
 def functions_of(crate):
     """The functions of a crate, by name."""
-    found = {}
-    begins = re.compile(rf'^[ \t]*{PUBLIC}(?:extern "C" )?(?:fn|ghost) (\w+)', re.M)
-    for path in sources_of(crate):
-        text = text_of(path)
-        starts = list(begins.finditer(text))
-        for start, end in zip(starts, [it.start() for it in starts[1:]] + [len(text)]):
-            inside = [it for it in blocks_in(path) if it.start() < start.start() < it.end()]
-            one = function_in(path, start, text[start.start() : end], inside)
-            found.setdefault(start[1], []).append(one)
-    return found
+    return by_name(pair for path in sources_of(crate) for pair in functions_in(path))
+
+
+def functions_in(path):
+    """The functions of a file, each beside its name."""
+    text = text_of(path)
+    begins = rf'^[ \t]*{PUBLIC}(?:extern "C" )?(?:fn|ghost) (\w+)'
+    starts = list(re.finditer(begins, text, re.M))
+    for start, end in zip(starts, [it.start() for it in starts[1:]] + [len(text)]):
+        inside = [it for it in blocks_in(path) if it.start() < start.start() < it.end()]
+        yield start[1], function_in(path, start, text[start.start() : end], inside)
 
 
 def function_in(path, start, text, inside):

@@ -14,7 +14,7 @@ A clause stands on the words in it, on the types in the function's signature, an
 members of its block. A type of src/ stands for its model, where it has one, else for its
 declaration. What a model's fields hold is said by the clauses of calls, so their types aren't
 followed; and an invariant is proved of each value. Where a promise names fields of
-`IsTableDrawing`, these alone are followed.
+`IsTableDrawing`, such as `edges` or `edges.straight`, these alone are followed.
 
 The promise's own file comes first. Comments count as lines; clauses and headings don't. Public
 types that are declared and have no model, which callers know, are counted apart, with the first
@@ -29,6 +29,8 @@ from definitions import (
     members, path_of, text_of, types,
 )
 
+DRAWING = "crates/comfy_table/specs/Headline.antt"  # IsTableDrawing, and the records of its fields
+FIELD = r"(?:^  --.*\n)*^  pub (\w+) :.*(?:\n    .*)*"
 WORD = r"(?<![\w.'-])[A-Za-z_][\w']*(?![\w'-])"
 
 
@@ -70,15 +72,13 @@ def members_below(one):
             yield from ones
 
 
-def standing_below(starts, fields, is_followed):
+def standing_below(starts, is_followed):
     """The definitions below others, in the order of a reading; and the names of those left out."""
     found, others, waiting = {}, {}, starts[::-1]
     while waiting:
         one = waiting.pop()
         if one in found:
             continue
-        if fields and "pub record IsTableDrawing " in one.text:
-            one = with_fields(one, fields)
         found[one] = None
         names = list(below(one))
         others |= {it: None for it in names if not is_followed(it[0])}
@@ -88,20 +88,23 @@ def standing_below(starts, fields, is_followed):
     return list(found), list(others)
 
 
-def with_fields(record, fields):
-    """A record of which some fields are left, and the comments that describe none but these."""
-    head, *parts = re.split(r"\n(?=  (?:--|pub) )", record.text)
-    groups = [([], [])]
-    for part in parts:
-        is_comment = part.startswith("  --")
-        if is_comment and groups[-1][1]:
-            groups.append(([], []))
-        groups[-1][not is_comment].append(part)
-    kept = [head]
-    for comment, own in groups:
-        left = [it for it in own if re.match(r"  pub (\w+)", it)[1] in {*fields, "widths"}]
-        kept += comment + left if left == own else left
-    return replace(record, text="\n".join(kept))
+def with_fields(names):
+    """IsTableDrawing and the records of its fields, each with the named fields alone, if any."""
+    for (one,) in definitions_in(DRAWING).values():
+        kept = [it for it in re.finditer(FIELD, one.text, re.M) if it[1] in names]
+        if kept:
+            head = re.split(r"(?<= where)\n", one.text)[0]
+            yield replace(one, text="\n".join([head, *(it[0] for it in kept)]))
+
+
+def fields_of_drawing():
+    """The fields of IsTableDrawing as a page names them, those of their records by a path."""
+    def fields(name):
+        (one,) = definitions_in(DRAWING).get(name, [None])
+        return re.findall(r"^  pub (\w+) : (\w+)", one.text, re.M) if one else []
+
+    for name, of_record in fields("IsTableDrawing"):
+        yield from [name, *(f"{name}.{own}" for own, _ in fields(of_record))]
 
 
 def start_of(function, clauses):
@@ -123,9 +126,11 @@ def promises(page):
 
 
 def starts_of(crate, clauses):
-    """What a promise begins with, and the fields of IsTableDrawing that it names."""
-    functions, found = functions_of(crate), []
+    """What a promise begins with: first IsTableDrawing with the fields that it names, if any."""
+    functions = functions_of(crate)
     names, _, more = clauses.partition("; ")
+    words = re.findall(r"\w+", " ".join(re.findall(r"`([\w.]+)`", more)))
+    found = list(with_fields({"widths", *words})) if words else []
     for of_type in re.findall(r"`([A-Z]\w+)`", names):
         for one in (it for group in functions.values() for it in group):
             found += start_of(one, one.clauses) if of_type in one.places and one.is_public else []
@@ -137,7 +142,7 @@ def starts_of(crate, clauses):
             chosen = [it for it in one.clauses if not wanted or it[0] in wanted]
             if set(place[-1:]) <= one.places:
                 found += start_of(one, of_drawing or chosen)
-    return found, re.findall(r"`(\w+)`", more)
+    return found
 
 
 def all_starts(page):
@@ -146,13 +151,17 @@ def all_starts(page):
     for crate in PROMISES:
         for name, (one, *_) in functions_of(crate).items():
             if one.is_public:
-                found[f"{crate}::{name}"] = (start_of(one, one.clauses), [])
+                found[f"{crate}::{name}"] = start_of(one, one.clauses)
     return found
 
 
-def believed(starts, fields):
+def believed(starts):
     """The definitions of ours below a promise, its functions too; and names of other libraries."""
-    return standing_below(starts, fields, lambda path: crate_of(path) in LIBRARIES)
+    return standing_below(starts, lambda path: crate_of(path) in LIBRARIES)
+
+
+def is_function(one):
+    return one.is_a("fn")
 
 
 def is_declared(one):
@@ -162,7 +171,7 @@ def is_declared(one):
 
 def count_of(found):
     """How many lines definitions take, with those of the modules and blocks they stand in."""
-    counted = [it for it in found if not it.is_a("fn") and not is_declared(it)]
+    counted = [it for it in found if not is_function(it) and not is_declared(it)]
     heads = {(it.path, it.head) for it in counted if it.head}
     return sum(it.lines() for it in counted) + len(heads)
 
@@ -175,17 +184,17 @@ def updated(page):
     page = re.sub(r"the \d+ lines of definitions", f"the {lines} lines of definitions", page)
     page = re.sub(r"the \d+ ghost members", f"the {ghosts} ghost members", page)
     for label, starts in all_starts(page).items():
-        count = count_of(believed(*starts)[0])
+        count = count_of(believed(starts)[0])
         clauses = rf"(^### {label} (?:(?!^### ).)*?^Clauses)(?: \(\d+ lines\))?:"
         page = re.sub(clauses, rf"\1 ({count} lines):", page, flags=re.M | re.S)
         page = re.sub(rf"^(\|.*`{label}`.*\|) *\d+ *\|$", rf"\1 {count} |", page, flags=re.M)
     return page
 
 
-def shown(starts, fields):
+def shown(starts):
     """What a reader must believe for a promise."""
-    found, others = believed(starts, fields)
-    for path in dict.fromkeys(it.path for it in found):
+    found, others = believed(starts)
+    for path in dict.fromkeys(it.path for it in [*filter(is_function, starts), *found]):
         yield f"-- {path.removeprefix('crates/')}"
         head = ""
         for one in sorted((it for it in found if it.path == path), key=lambda it: it.line):
@@ -201,7 +210,7 @@ def shown(starts, fields):
 def lines_of_others(others):
     """A line for each other library: how many of its lines are below some names, and its own."""
     starts = [one for path, name in others for one in definitions_in(path)[name]]
-    found, _ = standing_below(starts, [], lambda path: True)
+    found, _ = standing_below(starts, lambda path: True)
     for crate in dict.fromkeys(crate_of(it.path) for it in found):
         names = ", ".join(name for path, name in others if crate_of(path) == crate)
         count = count_of([it for it in found if crate_of(it.path) == crate])
@@ -216,9 +225,9 @@ def main():
             file.write(updated(page))
     elif not sys.argv[1:]:
         for label, one in starts.items():
-            print(f"{count_of(believed(*one)[0]):5} {label}")
+            print(f"{count_of(believed(one)[0]):5} {label}")
     elif sys.argv[1] in starts:
-        print("\n".join(shown(*starts[sys.argv[1]])))
+        print("\n".join(shown(starts[sys.argv[1]])))
     else:
         sys.exit(__doc__)
 

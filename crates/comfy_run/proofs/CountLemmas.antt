@@ -15,6 +15,7 @@ use Rattle.comfy_run.specs.Counts.{EachLineHas, HasSettings, IsPrintableInput, I
 use Rattle.comfy_run.specs.Input.{input_table}
 use Rattle.comfy_run.specs.Rows.{break_of, cells_of_line, row_of_line}
 use Rattle.comfy_table.proofs.BuiltTableLemmas.{IsBuilt, IsNewColumn, columns_known, rows_known, unconstrained}
+use Rattle.comfy_table.proofs.DrawnWidthLemmas.{fills_width as width_is_filled, keeps_to_width as width_is_kept}
 use Rattle.comfy_parts.proofs.CallerLemmas.{All-at, All-every, All-found}
 use Rattle.comfy_table.specs.Drawing.{infos_of, terminated_text_of}
 use Rattle.comfy_table.specs.Headline.{IsTableDrawing}
@@ -136,12 +137,12 @@ module _ (width : Option ℕ) (arrangement : ContentArrangement) (style : TableS
     counted : IsStyleWithout 0x0A style → (P : ℕ → Type 0) (output : Text) (drawn : List Text) (drawing : IsTableDrawing table drawn) → P (line_total table drawing.widths)
         → output ≡ terminated_text_of drawn → EachLineHas P output
     counted unbroken P output drawn drawing holds same =
-        let unstyled = drawing.unstyled_lines has_settings.unstyled has_settings.no_custom_styling in (
+        let unstyled = drawing.edges.unstyled_lines has_settings.unstyled has_settings.no_custom_styling in (
           line_total table drawing.widths,
           holds,
           drawn,
           lines_of_drawing width arrangement style IsBareRow table bare unbroken output drawn drawing same,
-          subst (All (λ line. count line ≡ line_total table drawing.widths)) (sym unstyled) (drawing.equal_counts (record { printable_cells = printable_cells; indicator_adds_one_column_each = uncut drawing.widths })),
+          subst (All (λ line. count line ≡ line_total table drawing.widths)) (sym unstyled) (drawing.edges.equal_counts (record { printable_cells = printable_cells; indicator_adds_one_column_each = uncut drawing.widths })),
         )
 
 pub has_one_count : (width : Option ℕ) (arrangement : ContentArrangement) (style : TableStyle) (input output : Text) → OutputHasOneCount width arrangement style input output
@@ -153,11 +154,11 @@ keeps_to_width w style input output is (drawn, drawing, same) =
     let settings = has_settings (Some w) Dynamic style input in
     let within : ℕ → Type 0 = λ n. n ≤ enough w (input_table (Some w) Dynamic style input) in
     counted (Some w) Dynamic style input is.printable is.unbroken within output drawn drawing
-    (subst within (drawing.frame_counts style.top_border) ((drawing.keeps_to_width w settings.unconstrained settings.arrangement_is settings.width_is).frame_lines style.top_border)) same
+    (width_is_kept (input_table (Some w) Dynamic style input) w drawing.widths settings.unconstrained settings.arrangement_is settings.width_is drawing.arranged) same
 
 pub fills_width : (w : ℕ) (style : TableStyle) (input output : Text) → OutputFillsWidth w style input output
 fills_width w style input output is some (drawn, drawing, same) =
     let settings = has_settings (Some w) DynamicFullWidth style input in
     let exact : ℕ → Type 0 = λ n. n ≡ enough w (input_table (Some w) DynamicFullWidth style input) in
     counted (Some w) DynamicFullWidth style input is.printable is.unbroken exact output drawn drawing
-    (subst exact (drawing.frame_counts style.top_border) ((drawing.fills_width w settings.unconstrained settings.arrangement_is settings.width_is some).frame_lines style.top_border)) same
+    (width_is_filled (input_table (Some w) DynamicFullWidth style input) w drawing.widths settings.unconstrained settings.arrangement_is settings.width_is some drawing.arranged) same

@@ -64,7 +64,7 @@ module _ (width : Option ℕ) (arrangement : ContentArrangement) (style : TableS
         }
 
     pub lines_of_drawing : IsStyleWithout 0x0A style → (output : Text) (drawn : List Text) → IsTableDrawing table drawn → output ≡ terminated_text_of drawn → AreLinesOf output drawn
-    lines_of_drawing unbroken output drawn drawing same = record { joined = same; unbroken = drawing.without_breaks (unbroken_style unbroken) }
+    lines_of_drawing unbroken output drawn drawing same = record { joined = same; unbroken = drawing.controls.without_breaks (unbroken_style unbroken) }
 
   -- and equally wide, where the table is straight
   straight_output : (Q : RowValue → Type 0) (table : TableValue) → IsBuilt base Q table → IsStyleWithout 0x0A style → (output : Text) (drawn : List Text) (drawing : IsTableDrawing table drawn)

@@ -99,7 +99,7 @@ pub built_is_equally_wide : (base : TableValue) (plain : base.custom_styling ≡
     → (lines : List Text) (drawing : IsTableDrawing table lines) → IsStraightTable table drawing.widths → AreEquallyWide lines
 built_is_equally_wide base plain unstyled P table known lines drawing is = (
   line_total table drawing.widths,
-  subst (All (λ line. measure line ≡ line_total table drawing.widths)) (sym (drawing.unstyled_lines (ap should_style known.is ∙ unstyled) (ap (λ (t : TableValue). t.custom_styling) known.is ∙ plain))) (drawing.straight is),
+  subst (All (λ line. measure line ≡ line_total table drawing.widths)) (sym (drawing.edges.unstyled_lines (ap should_style known.is ∙ unstyled) (ap (λ (t : TableValue). t.custom_styling) known.is ∙ plain))) (drawing.edges.straight is),
 )
 
 -- a new table with a header and rows is such a table
@@ -123,7 +123,7 @@ new_tables_are_straight style header rows lines characters first each drawing =
 -- and with custom styling none of them leaves a sequence open
 pub new_tables_leave_none_open : (style : TableStyle) (header : RowValue) (rows : List RowValue) (lines : List Text) → NewTablesLeaveNoneOpen style header rows lines
 new_tables_leave_none_open style header rows lines clear drawing =
-    drawing.closed_lines refl
+    drawing.sequences.closed_lines refl
     (record {
       styling = inl (ap should_style known.is);
       style = record { indicator = ap (λ (t : TableValue). list_any (λ x. x == 0x1B) t.indicator) known.is; characters = subst (IsStyleWithout 0x1B) (sym (ap (λ (t : TableValue). t.style) known.is)) clear };

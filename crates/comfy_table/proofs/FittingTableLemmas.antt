@@ -25,7 +25,7 @@ fitting_tables_are_straight table lines drawing characters apart each =
         let row = slice_index_or (measured_rows table) k default in
         let p = slice_index_or (shown_infos (infos_of table drawing.widths)) j other in
         let own : FitsByCharacters table row p.1 cell = each k default under j other below cell found in
-        let whole = All-at (λ (c : CellValue). All IsUtf8 c.text_lines) row.cells p.0 cell (drawing.whole_texts k default under) found in
+        let whole = All-at (λ (c : CellValue). All IsUtf8 c.text_lines) row.cells p.0 cell (drawing.texts.whole_texts k default under) found in
         record {
           fit = λ i text inside. fitting_characters_fit p.1.content_width (cell_delimiter table p.1.delimiter cell) (slice_index_or cell.text_lines i text) own.delimiter (whole i text inside) (own.characters i text inside);
           cut = λ h limited more. (

@@ -1,23 +1,23 @@
 -- What a drawing over the table's infos promises.
-use Rattle.std.proofs.Common.{◌≡◌, ◌≤◌, ℕ, ◌+◌, not, List, [], ◌∷◌, Option, Some, None, map, zip, slice_index_or, unwrap_or, max, String, refl, ap, sym, subst, ◌∙◌, arith}
+use Rattle.std.proofs.Common.{◌≡◌, ◌≤◌, ℕ, ◌+◌, true, false, not, List, [], ◌∷◌, Option, Some, None, map, zip, slice_index_or, unwrap_or, max, String, refl, ap, sym, subst, ◌∙◌, arith}
 use Rattle.std.proofs.lemmas.List.Elements.{All-filter, All-head, All-nil, All-tail, All-weaker}
 use Rattle.std.proofs.lemmas.Str.{IsUtf8-string_bytes}
 use Rattle.std.specs.Char.{IsScalar}
 use Rattle.std.specs.List.{All, enumerate_from, slice_get}
 use Rattle.std.specs.Str.{IsUtf8}
 use Rattle.comfy_parts.proofs.Computing.{wrapping}
-use Rattle.comfy_parts.proofs.CallerLemmas.{All-at, All-every, All-of_map, one_character, wrapped_is_wrapped}
+use Rattle.comfy_parts.proofs.CallerLemmas.{All-at, All-of_map, one_character, wrapped_is_wrapped}
 use Rattle.comfy_table.proofs.BreakLemmas.{without_breaks}
 use Rattle.comfy_table.proofs.ClosedLineLemmas.{lines_are_closed}
 use Rattle.comfy_table.proofs.ControlLemmas.{free_of_escapes, without_controls}
 use Rattle.comfy_table.proofs.MeasuredLemmas.{HasCells, IsRowOf, rows_of, measured_kept}
 use Rattle.comfy_parts.specs.CellValue.{CellValue, ColumnInfo, ColumnValue, IsCell, IsColumn, IsDelimiter, IsRow, RowValue, info_of}
 use Rattle.comfy_parts.specs.Text.{Text, measure}
-use Rattle.comfy_table.proofs.DrawnWidthLemmas.{fills_width, keeps_to_width}
+use Rattle.comfy_table.proofs.DrawnWidthLemmas.{least_total-is}
 use Rattle.comfy_table.proofs.EqualCountLemmas.{equal_counts}
 use Rattle.comfy_table.proofs.StraightLemmas.{straight}
 use Rattle.comfy_table.proofs.CellFitLemmas.{IsWholeCell}
-use Rattle.comfy_table.specs.Straight.{EachCell}
+use Rattle.comfy_table.specs.Straight.{EachCell, EachShownCell}
 use Rattle.comfy_table.specs.Arrangement.{AreInfosOf, IsArranged}
 use Rattle.comfy_table.proofs.StylingTakenOutLemmas.{styling_taken_out}
 use Rattle.comfy_table.proofs.TableLemmas.{frame_counts}
@@ -26,8 +26,8 @@ use Rattle.comfy_table.proofs.WrittenLemmas.{cut_lines_are_closed, lines_are_res
 use Rattle.comfy_parts.specs.VisibleText.{visible_text}
 use Rattle.comfy_table.proofs.UnstyledLemmas.{unstyled_drawing}
 use Rattle.comfy_table.specs.Drawing.{drawing, drawing_of_infos, infos_of}
-use Rattle.comfy_table.specs.Headline.{EachLineCounts, IsClosedInRow, IsCutClosedInRow, IsResumedInRow, IsCutIntoSlices, IsTableDrawing, IsTextOrSlices}
-use Rattle.comfy_table.specs.Laws.{HasNoBreak, HasNoControl, IsFreeOfEscapes, LeavesNoneOpen, count, least_total, line_total, unstyled}
+use Rattle.comfy_table.specs.Headline.{AreTextsOrSlices, DrawingFillsWidth, DrawingKeepsToWidth, EachLineCounts, IsTableDrawing, IsTextOrSlices, VisibleLinesAreStraight}
+use Rattle.comfy_table.specs.Laws.{CutLinesAreClosed, HasNoBreak, HasNoControl, IsFreeOfEscapes, LeavesNoneOpen, LinesAreResumedInRow, NoneIsOpenAtTheEnd, count, line_total, unstyled}
 use Rattle.comfy_table.specs.Pieces.{shown_infos}
 use Rattle.comfy_table.specs.TableLaws.{wider_total}
 use Rattle.comfy_table.specs.TableValue.{KeepsParts, TableValue, ellipsis, header_and_rows, indicator_of, measured_rows}
@@ -49,8 +49,9 @@ whole_cell table row own kept p of_column cell is =
     (own_cell.text_lines.whole, delimiter_or cell.delimiter _ own_cell.delimiter (delimiter_or p.1.delimiter _ of_column (delimiter_or table.delimiter 0x20 own refl)))
 
 -- the lines of its text lines are these, or slices of them
-row_slices : (table : TableValue) (row : RowValue) (p : ℕ × ColumnInfo) → ((cell : CellValue) → slice_get row.cells p.0 ≡ Some cell → IsWholeCell table row p.1 cell) → IsCutIntoSlices table row p
-row_slices table row p whole cell is = grind (arith, text_or_slices)
+cell_slices : (table : TableValue) (row : RowValue) (info : ColumnInfo) (cell : CellValue)
+    → IsWholeCell table row info cell → AreTextsOrSlices table row info cell
+cell_slices table row info cell whole = grind (arith, text_or_slices)
 
 -- a table's rows and its header keep what rows keep
 all_rows : (table : TableValue) → KeepsParts table → All IsRow (header_and_rows table)
@@ -74,6 +75,13 @@ each_line_counts P table widths utf8 cells arranged meets =
       straight_lines = λ is. All-weaker (λ line. measure line ≡ line_total table widths) (λ line. P (measure line)) (λ line same. subst P (sym same) meets) (drawing (unstyled table) widths) (straight table widths utf8 cells arranged is);
     }
 
+-- what holds of each cell of a row holds of each that it has in a shown column
+each_shown : (P : RowValue → ColumnInfo → CellValue → Type 0) (rows : List RowValue)
+    → (table : TableValue) (widths : List ℕ)
+    → ((row : RowValue) (info : ColumnInfo) (cell : CellValue) → P row info cell)
+    → EachShownCell P rows table widths
+each_shown P rows table widths each k default under j other below cell found = each _ _ cell
+
 -- and promise what every drawing does
 pub table_drawing : (table : TableValue) (infos : List ColumnInfo) (lines : List Text) → IsUtf8 table.indicator → KeepsParts table → AreInfosOf table infos → lines ≡ drawing_of_infos table infos → IsTableDrawing table lines
 table_drawing table infos lines utf8 kept (widths, arranged, is) drawn =
@@ -92,37 +100,86 @@ table_drawing table infos lines utf8 kept (widths, arranged, is) drawn =
       widths = widths;
       arranged = arranged;
       drawn = whole;
-      whole_texts = texts;
-      scalar_delimiters = λ k default under j other below cell found. (cells k default under j other below cell found).1;
-      slices = λ k default under j other below. row_slices table (slice_index_or (measured_rows table) k default) (slice_index_or (shown_infos (infos_of table widths)) j other) (cells k default under j other below);
-      unstyled_lines = λ off plain. whole ∙ sym (unstyled_drawing table (infos_of table widths) off plain);
-      equal_counts = λ plain. equal_counts table widths utf8 plain arranged;
-      straight = straight table widths utf8 cells arranged;
-      without_sequences = free_lines;
-      straight_without_sequences = λ free is. All-of_map (λ text. measure text ≡ line_total table widths) visible_text lines
-          (subst (All (λ text. measure text ≡ line_total table widths)) (sym (free_lines free)) (straight table widths utf8 cells arranged is));
-      without_breaks = λ style. subst (All HasNoBreak) (sym whole) (without_breaks table widths texts (rows_of HasNoBreak (λ texts own. own.no_breaks) (measured_rows table) rows) style);
-      without_controls = λ free. All-of_map HasNoControl visible_text lines (subst (All HasNoControl) (sym (free_lines (free_of_escapes table free))) (without_controls table widths arranged.one_for_each texts free));
-      closed = λ on. All-every (λ (row : RowValue). All (IsClosedInRow table row) (shown_infos (infos_of table widths))) (header_and_rows table)
-          (λ row. All-every (IsClosedInRow table row) (shown_infos (infos_of table widths)) (λ p cell is. none_is_open_at_the_end table row p.1 cell on));
-      resumed = λ on. All-every (λ (row : RowValue). All (IsResumedInRow table row) (shown_infos (infos_of table widths))) (header_and_rows table)
-          (λ row. All-every (IsResumedInRow table row) (shown_infos (infos_of table widths)) (λ p cell is. lines_are_resumed table row p.1 cell on));
-      cut_closed = λ on. All-every (λ (row : RowValue). All (IsCutClosedInRow table row) (shown_infos (infos_of table widths))) (header_and_rows table)
-          (λ row. All-every (IsCutClosedInRow table row) (shown_infos (infos_of table widths)) (λ p cell is. cut_lines_are_closed table row p.1 cell on));
-      closed_lines = λ on alone. subst (All LeavesNoneOpen) (sym whole) (lines_are_closed table widths arranged.one_for_each on alone texts);
-      frame_counts = λ line. frame_counts table widths line arranged.one_for_each;
-      keeps_to_width = λ w none dynamic known. each_line_counts (λ n. n ≤ max w (least_total table)) table widths utf8 cells arranged (keeps_to_width table w widths none dynamic known arranged);
-      fills_width = λ w none full known some. each_line_counts (λ n. n ≡ max w (least_total table)) table widths utf8 cells arranged (fills_width table w widths none full known some arranged);
-      keeps_to_wider_total = λ w dynamic known.
-          let found = keeps_to_wider_total table w widths dynamic known arranged in
-          (found.0, found.1, each_line_counts (λ n. n ≤ max w (wider_total table found.0)) table widths utf8 cells arranged found.2);
-      keeps_to_wider_total_in_full = λ w full known.
-          let found = keeps_to_wider_total_in_full table w widths full known arranged in
-          (found.0, found.1, each_line_counts (λ n. n ≤ max w (wider_total table found.0)) table widths utf8 cells arranged found.2);
-      fills_wider_total = λ w full known some.
-          let found = fills_wider_total table w widths full known some arranged in
-          (found.0, found.1, each_line_counts (λ n. n ≡ max w (wider_total table found.0)) table widths utf8 cells arranged found.2);
+      texts = record {
+        whole_texts = texts;
+        scalar_delimiters = λ k default under j other below cell found.
+            (cells k default under j other below cell found).1;
+        slices = λ k default under j other below cell found.
+            cell_slices table (slice_index_or (measured_rows table) k default)
+            (slice_index_or (shown_infos (infos_of table widths)) j other).1 cell
+            (cells k default under j other below cell found);
+      };
+      edges = record {
+        unstyled_lines = λ off plain.
+            whole ∙ sym (unstyled_drawing table (infos_of table widths) off plain);
+        equal_counts = λ plain. equal_counts table widths utf8 plain arranged;
+        straight = straight table widths utf8 cells arranged;
+      };
+      known_width = record {
+        keeps_to_wider_total = λ w dynamic known.
+            let found = keeps_to_wider_total table w widths dynamic known arranged in
+            let P : ℕ → Type 0 = λ n. n ≤ max w (wider_total table found.0) in
+            (found.0, found.1, each_line_counts P table widths utf8 cells arranged found.2);
+        keeps_to_wider_total_in_full = λ w full known.
+            let found = keeps_to_wider_total_in_full table w widths full known arranged in
+            let P : ℕ → Type 0 = λ n. n ≤ max w (wider_total table found.0) in
+            (found.0, found.1, each_line_counts P table widths utf8 cells arranged found.2);
+        fills_wider_total = λ w full known some.
+            let found = fills_wider_total table w widths full known some arranged in
+            let P : ℕ → Type 0 = λ n. n ≡ max w (wider_total table found.0) in
+            (found.0, found.1, each_line_counts P table widths utf8 cells arranged found.2);
+      };
+      sequences = record {
+        without_sequences = free_lines;
+        closed = λ on.
+            each_shown (NoneIsOpenAtTheEnd table) (header_and_rows table) table widths
+            (λ row info cell. none_is_open_at_the_end table row info cell on);
+        resumed = λ on.
+            each_shown (LinesAreResumedInRow table) (header_and_rows table) table widths
+            (λ row info cell. lines_are_resumed table row info cell on);
+        cut_closed = λ on.
+            each_shown (CutLinesAreClosed table) (header_and_rows table) table widths
+            (λ row info cell. cut_lines_are_closed table row info cell on);
+        closed_lines = λ on alone.
+            subst (All LeavesNoneOpen) (sym whole)
+            (lines_are_closed table widths arranged.one_for_each on alone texts);
+      };
+      controls = record {
+        without_breaks = λ style.
+            let unbroken =
+            rows_of HasNoBreak (λ texts own. own.no_breaks) (measured_rows table) rows in
+            subst (All HasNoBreak) (sym whole) (without_breaks table widths texts unbroken style);
+        without_controls = λ free.
+            All-of_map HasNoControl visible_text lines
+            (subst (All HasNoControl) (sym (free_lines (free_of_escapes table free)))
+            (without_controls table widths arranged.one_for_each texts free));
+      };
     }
+
+-- where no shown column has a constraint, the wider total is the least one: so the lines keep to
+-- the width
+pub drawing_keeps_to_width : (table : TableValue) (w : ℕ) (lines : List Text)
+    → DrawingKeepsToWidth table w lines
+drawing_keeps_to_width table w lines drawn none dynamic known =
+    let found = drawn.known_width.keeps_to_wider_total w dynamic known in
+    subst (λ total. EachLineCounts (λ n. n ≤ max w total) table drawn.widths)
+    (least_total-is table w drawn.widths false none drawn.arranged found.0 found.1) found.2
+
+-- or have exactly that
+pub drawing_fills_width : (table : TableValue) (w : ℕ) (lines : List Text)
+    → DrawingFillsWidth table w lines
+drawing_fills_width table w lines drawn none full known some =
+    let found = drawn.known_width.fills_wider_total w full known some in
+    subst (λ total. EachLineCounts (λ n. n ≡ max w total) table drawn.widths)
+    (least_total-is table w drawn.widths true none drawn.arranged found.0 found.1) found.2
+
+-- what is visible of the lines is the unstyled drawing, which is straight
+pub visible_lines_are_straight : (table : TableValue) (lines : List Text)
+    → VisibleLinesAreStraight table lines
+visible_lines_are_straight table lines drawn free is =
+    let IsWide : Text → Type 0 = λ text. measure text ≡ line_total table drawn.widths in
+    All-of_map IsWide visible_text lines
+    (subst (All IsWide) (sym (drawn.sequences.without_sequences free)) (drawn.edges.straight is))
 
 -- the indicator of a new table is a character
 utf8_ellipsis : IsUtf8 ellipsis

@@ -1,5 +1,5 @@
 -- What every drawing of a table promises.
-use Rattle.std.specs.Prelude.{◌≡◌, ◌⊎◌, ℕ, ◌<◌, ◌≤◌, Bool, true, false, List, [], ◌∷◌, Some, map, max, slice_get, All, IsUtf8}
+use Rattle.std.specs.Prelude.{◌≡◌, ◌⊎◌, ℕ, ◌<◌, ◌≤◌, Bool, true, false, List, [], ◌∷◌, Some, map, max, All, IsUtf8}
 use Rattle.std.specs.Char.{IsScalar}
 use Rattle.comfy_parts.specs.CellValue.{CellValue, ColumnInfo, RowValue}
 use Rattle.comfy_parts.specs.Wrapping.{IsWrapped, lines_of_text}
@@ -13,8 +13,7 @@ use Rattle.comfy_table.specs.Dynamic.{Steps, IsArrangedBy}
 use Rattle.comfy_table.specs.Frame.{frame_line}
 use Rattle.comfy_table.specs.Laws.{CutLinesAreClosed, HasNoBreak, HasNoControl, HasSequencesInTextsAlone, HasUnbrokenStyle, IsFreeOfControls, IsFreeOfEscapes, IsPrintableTable, LeavesNoneOpen, LinesAreResumedInRow, NoConstraints, NoneIsOpenAtTheEnd, count, least_total, line_total, unstyled}
 use Rattle.comfy_table.specs.Lines.{cell_delimiter}
-use Rattle.comfy_table.specs.Pieces.{shown_infos}
-use Rattle.comfy_table.specs.Straight.{EachCell, IsStraightTable}
+use Rattle.comfy_table.specs.Straight.{EachCell, EachShownCell, IsStraightTable}
 use Rattle.comfy_table.specs.TableLaws.{shown_contents, wider_total}
 use Rattle.comfy_table.specs.TableValue.{TableValue, header_and_rows, measured_rows, should_style, table_width}
 use Rattle.comfy_table.specs.Widths.{shown_count, shown_needs}
@@ -25,28 +24,33 @@ abbrev pub IsTextOrSlices : ℕ → ℕ → Text → Type 0
 IsTextOrSlices w d text =
     (lines_of_text w d text ≡ text ∷ []) ⊎ IsWrapped w d text (lines_of_text w d text)
 
--- such are the lines of each text line of the cell that a row has in a column, if it has one
-abbrev pub IsCutIntoSlices : TableValue → RowValue → ℕ × ColumnInfo → Type 0
-IsCutIntoSlices table row p =
-    (cell : CellValue) → slice_get row.cells p.0 ≡ Some cell
-    → All (IsTextOrSlices p.1.content_width (cell_delimiter table p.1.delimiter cell))
+-- such are the lines of each text line of a cell
+abbrev pub AreTextsOrSlices : TableValue → RowValue → ColumnInfo → CellValue → Type 0
+AreTextsOrSlices table row info cell =
+    All (IsTextOrSlices info.content_width (cell_delimiter table info.delimiter cell))
     cell.text_lines
 
--- with custom styling, the lines of the cell that a row has in a column leave no sequence open
-abbrev pub IsClosedInRow : TableValue → RowValue → ℕ × ColumnInfo → Type 0
-IsClosedInRow table row p =
-    (cell : CellValue) → slice_get row.cells p.0 ≡ Some cell → NoneIsOpenAtTheEnd table row p.1 cell
+-- cells are drawn by their texts, as they are measured
+pub record KeepsTexts (table : TableValue) (widths : List ℕ) : Type 0 where
+  -- their text lines are whole characters
+  pub whole_texts : All (λ (row : RowValue). All (λ (cell : CellValue). All IsUtf8 cell.text_lines)
+      row.cells) (measured_rows table)
+  -- the delimiters of visible cells are characters
+  pub scalar_delimiters :
+      EachCell (λ row info cell. IsScalar (cell_delimiter table info.delimiter cell)) table widths
+  -- the lines of visible cells are texts or slices of them
+  pub slices : EachCell (AreTextsOrSlices table) table widths
 
--- and those that aren't cut resume the sequences that are active in the cell
-abbrev pub IsResumedInRow : TableValue → RowValue → ℕ × ColumnInfo → Type 0
-IsResumedInRow table row p =
-    (cell : CellValue) → slice_get row.cells p.0 ≡ Some cell
-    → LinesAreResumedInRow table row p.1 cell
-
--- and those that are cut are written as they are measured, closed
-abbrev pub IsCutClosedInRow : TableValue → RowValue → ℕ × ColumnInfo → Type 0
-IsCutClosedInRow table row p =
-    (cell : CellValue) → slice_get row.cells p.0 ≡ Some cell → CutLinesAreClosed table row p.1 cell
+-- the unstyled lines, which a table without styling and custom styling has, are equally wide
+pub record HasEdges (table : TableValue) (widths : List ℕ) (lines : List Text) : Type 0 where
+  pub unstyled_lines : should_style table ≡ false → table.custom_styling ≡ false
+      → lines ≡ drawing (unstyled table) widths
+  -- for printable ASCII they have the same count of characters
+  pub equal_counts : IsPrintableTable table widths
+      → All (λ line. count line ≡ line_total table widths) (drawing (unstyled table) widths)
+  -- whatever the script they take the same number of terminal columns, where the table is straight
+  pub straight : IsStraightTable table widths
+      → All (λ line. measure line ≡ line_total table widths) (drawing (unstyled table) widths)
 
 -- P holds of the number of characters of each frame line, whatever the style and the texts. It
 -- holds of that of every line as it is measured, where the table is printable ASCII. And it holds
@@ -66,75 +70,9 @@ LeadToWidths table w full widths steps =
     IsArrangedBy (room_beside_borders table w) (shown_needs table) full steps
     (shown_contents table widths)
 
--- what every drawing of a table promises
-pub record IsTableDrawing (table : TableValue) (lines : List Text) : Type 0 where
-  -- the lines are the drawing of the table over its widths
-  pub widths : List ℕ
-  pub arranged : IsArranged table widths
-  pub drawn : lines ≡ drawing table widths
-  -- the text lines of its cells, as they are measured, are whole characters
-  pub whole_texts :
-      All (λ (row : RowValue). All (λ (cell : CellValue). All IsUtf8 cell.text_lines) row.cells)
-      (measured_rows table)
-  -- the delimiters of its visible cells are characters
-  pub scalar_delimiters :
-      EachCell (λ row info cell. IsScalar (cell_delimiter table info.delimiter cell)) table widths
-  -- the lines of its visible cells, as they are measured, are texts or slices of them
-  pub slices :
-      All (λ (row : RowValue). All (IsCutIntoSlices table row)
-      (shown_infos (infos_of table widths))) (measured_rows table)
-  -- without styling and custom styling the lines are the unstyled ones
-  pub unstyled_lines : should_style table ≡ false → table.custom_styling ≡ false
-      → lines ≡ drawing (unstyled table) widths
-  -- for printable ASCII the unstyled lines have the same count of characters
-  pub equal_counts : IsPrintableTable table widths
-      → All (λ line. count line ≡ line_total table widths) (drawing (unstyled table) widths)
-  -- in terminal columns the unstyled lines are equally wide, whatever the script, where the table
-  -- is straight
-  pub straight : IsStraightTable table widths
-      → All (λ line. measure line ≡ line_total table widths) (drawing (unstyled table) widths)
-  -- without their sequences the lines are the unstyled ones, where nothing else holds ESC
-  pub without_sequences : IsFreeOfEscapes table
-      → map visible_text lines ≡ drawing (unstyled table) widths
-  -- so what is visible of the lines is equally wide too
-  pub straight_without_sequences : IsFreeOfEscapes table → IsStraightTable table widths
-      → All (λ line. measure (visible_text line) ≡ line_total table widths) lines
-  -- no line holds a line feed, where neither the style nor the indicator does
-  pub without_breaks : HasUnbrokenStyle table → All HasNoBreak lines
-  -- without its sequences no line holds a control character, where no text line as it is measured,
-  -- no character of the style and no indicator does
-  pub without_controls : IsFreeOfControls table
-      → All (λ line. HasNoControl (visible_text line)) lines
-  -- with custom styling no line of a cell leaves a sequence open, lines that aren't cut resume
-  -- those that are active, and cut lines are closed
-  pub closed : table.custom_styling ≡ true
-      → All (λ (row : RowValue). All (IsClosedInRow table row)
-      (shown_infos (infos_of table widths))) (header_and_rows table)
-  pub resumed : table.custom_styling ≡ true
-      → All (λ (row : RowValue). All (IsResumedInRow table row)
-      (shown_infos (infos_of table widths))) (header_and_rows table)
-  pub cut_closed : table.custom_styling ≡ true
-      → All (λ (row : RowValue). All (IsCutClosedInRow table row)
-      (shown_infos (infos_of table widths))) (header_and_rows table)
-  -- with custom styling no line leaves a sequence open, where sequences stand in the texts of cells
-  -- alone
-  pub closed_lines : table.custom_styling ≡ true → HasSequencesInTextsAlone table
-      → All LeavesNoneOpen lines
-  -- each frame line has the line's total, whatever the texts
-  pub frame_counts : (line : LineStyle)
-      → count (frame_line table.style line (whole_widths (infos_of table widths)))
-      ≡ line_total table widths
-  -- a known width w holds where no shown column has a constraint: under `Dynamic` a line has at
-  -- most that count, or that of borders, paddings and one terminal column for each shown column
-  pub keeps_to_width : (w : ℕ) → NoConstraints table → table.arrangement ≡ Dynamic
-      → table_width table ≡ Some w
-      → EachLineCounts (λ n. n ≤ max w (least_total table)) table widths
-  -- under `DynamicFullWidth` it has exactly that count, where a column is shown
-  pub fills_width : (w : ℕ) → NoConstraints table → table.arrangement ≡ DynamicFullWidth
-      → table_width table ≡ Some w → 0 < shown_count table
-      → EachLineCounts (λ n. n ≡ max w (least_total table)) table widths
-  -- under every constraint a line keeps to w or to the wider total of the steps that lead to the
-  -- widths
+-- a known width w holds, or the wider total of the steps that lead to the widths, if it is more: a
+-- line has at most that count, and under `DynamicFullWidth` exactly that where a column is shown
+pub record KeepsKnownWidth (table : TableValue) (widths : List ℕ) : Type 0 where
   pub keeps_to_wider_total : (w : ℕ) → table.arrangement ≡ Dynamic → table_width table ≡ Some w
       → (steps : Steps) × LeadToWidths table w false widths steps
       × EachLineCounts (λ n. n ≤ max w (wider_total table steps)) table widths
@@ -143,10 +81,48 @@ pub record IsTableDrawing (table : TableValue) (lines : List Text) : Type 0 wher
       → (steps : Steps) × LeadToWidths table w true widths steps
       × EachLineCounts (λ n. n ≤ max w (wider_total table steps)) table widths
   pub fills_wider_total : (w : ℕ) → table.arrangement ≡ DynamicFullWidth
-      → table_width table ≡ Some w
-      → 0 < shown_count table
+      → table_width table ≡ Some w → 0 < shown_count table
       → (steps : Steps) × LeadToWidths table w true widths steps
       × EachLineCounts (λ n. n ≡ max w (wider_total table steps)) table widths
+
+-- the lines are the unstyled ones but for sequences, and with custom styling none stays open
+pub record ClosesSequences (table : TableValue) (widths : List ℕ) (lines : List Text) : Type 0 where
+  -- without their sequences the lines are the unstyled ones, where nothing else holds ESC
+  pub without_sequences : IsFreeOfEscapes table
+      → map visible_text lines ≡ drawing (unstyled table) widths
+  -- with custom styling no line of a cell leaves a sequence open
+  pub closed : table.custom_styling ≡ true
+      → EachShownCell (NoneIsOpenAtTheEnd table) (header_and_rows table) table widths
+  -- those that aren't cut resume the sequences that are active in the cell
+  pub resumed : table.custom_styling ≡ true
+      → EachShownCell (LinesAreResumedInRow table) (header_and_rows table) table widths
+  -- those that are cut are written as they are measured, closed
+  pub cut_closed : table.custom_styling ≡ true
+      → EachShownCell (CutLinesAreClosed table) (header_and_rows table) table widths
+  -- no whole line leaves a sequence open, where sequences stand in the texts of cells alone
+  pub closed_lines : table.custom_styling ≡ true → HasSequencesInTextsAlone table
+      → All LeavesNoneOpen lines
+
+-- no line holds a line feed or a control character that isn't in what the table is drawn of
+pub record AddsNoControls (table : TableValue) (lines : List Text) : Type 0 where
+  -- no line feed, where neither the style nor the indicator holds one
+  pub without_breaks : HasUnbrokenStyle table → All HasNoBreak lines
+  -- without its sequences no control character, where no text line as it is measured, no character
+  -- of the style and no indicator holds one
+  pub without_controls : IsFreeOfControls table
+      → All (λ line. HasNoControl (visible_text line)) lines
+
+-- what every drawing of a table promises: its lines are the drawing over widths of the table's
+-- columns, with what holds of its texts, edges, width, sequences and control characters
+pub record IsTableDrawing (table : TableValue) (lines : List Text) : Type 0 where
+  pub widths : List ℕ
+  pub arranged : IsArranged table widths
+  pub drawn : lines ≡ drawing table widths
+  pub texts : KeepsTexts table widths
+  pub edges : HasEdges table widths lines
+  pub known_width : KeepsKnownWidth table widths
+  pub sequences : ClosesSequences table widths lines
+  pub controls : AddsNoControls table lines
 
 -- the text is that of such a drawing: its lines, joined by line feeds
 abbrev pub IsTextOf : TableValue → Text → Type 0
@@ -162,3 +138,28 @@ IsTrimmedTextOf table text =
 abbrev pub IsTerminatedTextOf : TableValue → Text → Type 0
 IsTerminatedTextOf table text =
     (lines : List Text) × IsTableDrawing table lines × (text ≡ terminated_text_of lines)
+
+-- ---- what follows for every drawing
+
+-- a known width w holds where no shown column has a constraint: under `Dynamic` a line has at most
+-- that count, or that of borders, paddings and one terminal column for each shown column
+abbrev pub DrawingKeepsToWidth : TableValue → ℕ → List Text → Type 0
+DrawingKeepsToWidth table w lines =
+    (drawn : IsTableDrawing table lines) → NoConstraints table → table.arrangement ≡ Dynamic
+    → table_width table ≡ Some w
+    → EachLineCounts (λ n. n ≤ max w (least_total table)) table drawn.widths
+
+-- under `DynamicFullWidth` it has exactly that count, where a column is shown
+abbrev pub DrawingFillsWidth : TableValue → ℕ → List Text → Type 0
+DrawingFillsWidth table w lines =
+    (drawn : IsTableDrawing table lines) → NoConstraints table
+    → table.arrangement ≡ DynamicFullWidth → table_width table ≡ Some w → 0 < shown_count table
+    → EachLineCounts (λ n. n ≡ max w (least_total table)) table drawn.widths
+
+-- what is visible of the lines of a straight table is equally wide, where nothing but the table's
+-- sequences holds ESC
+abbrev pub VisibleLinesAreStraight : TableValue → List Text → Type 0
+VisibleLinesAreStraight table lines =
+    (drawn : IsTableDrawing table lines) → IsFreeOfEscapes table
+    → IsStraightTable table drawn.widths
+    → All (λ line. measure (visible_text line) ≡ line_total table drawn.widths) lines

@@ -21,13 +21,18 @@ TextsStandApart table =
     ⊎ (All (λ (p : ℕ × ColumnValue). 1 ≤ p.1.padding.0) (shown_columns table)
     ⊎ All (λ (p : ℕ × ColumnValue). 1 ≤ p.1.padding.1) (shown_columns table))
 
--- P holds of each cell that a row has in a shown column
-abbrev pub EachCell : (RowValue → ColumnInfo → CellValue → Type 0) → TableValue → List ℕ → Type 0
-EachCell P table widths =
-    All (λ (row : RowValue). All (λ (p : ℕ × ColumnInfo). (cell : CellValue)
-    → slice_get row.cells p.0 ≡ Some cell
-    → P row p.1 cell) (shown_infos (infos_of table widths)))
-    (measured_rows table)
+-- P holds of each cell that one of these rows has in a shown column
+abbrev pub EachShownCell :
+    (RowValue → ColumnInfo → CellValue → Type 0) → List RowValue → TableValue → List ℕ → Type 0
+EachShownCell P rows table widths =
+    All (λ (row : RowValue). All (λ (p : ℕ × ColumnInfo).
+    (cell : CellValue) → slice_get row.cells p.0 ≡ Some cell → P row p.1 cell)
+    (shown_infos (infos_of table widths))) rows
+
+-- P holds of each cell that a row has in a shown column, as it is measured
+abbrev pub EachCell :
+    (RowValue → ColumnInfo → CellValue → Type 0) → TableValue → List ℕ → Type 0
+EachCell P table widths = EachShownCell P (measured_rows table) table widths
 
 -- no line of the cell is wider than its column
 abbrev pub CellLinesFit : TableValue → RowValue → ColumnInfo → CellValue → Type 0
@@ -37,10 +42,10 @@ CellLinesFit table row info cell =
 
 -- the text lines of the cell fit its column; where the row cuts the cell, its selectors agree, and
 -- no text joins the indicator
-pub record TextsFit (table : TableValue) (row : RowValue) (info : ColumnInfo)
-    (cell : CellValue) : Type 0 where
-  pub fit :
-      All (TextFits info.content_width (cell_delimiter table info.delimiter cell)) cell.text_lines
+pub record TextsFit (table : TableValue) (row : RowValue) (info : ColumnInfo) (cell : CellValue) :
+    Type 0 where
+  pub fit : All (TextFits info.content_width (cell_delimiter table info.delimiter cell))
+      cell.text_lines
   pub cut : (h : ℕ) → row.max_height ≡ Some h
       → h < length (cell_lines info.content_width (cell_delimiter table info.delimiter cell) cell)
       → All SelectorsAgree cell.text_lines × IsApart table.indicator
@@ -51,8 +56,7 @@ pub record IsShownWhole (table : TableValue) : Type 0 where
   pub no_width : width_kept table.arrangement (table_width table) ≡ None
   pub no_constraints : NoConstraints table
   pub uncut : All (λ (row : RowValue). row.max_height ≡ None) (measured_rows table)
-  pub short :
-      All (λ (row : RowValue). All (λ (cell : CellValue).
+  pub short : All (λ (row : RowValue). All (λ (cell : CellValue).
       All (λ line. measure line ≤ 65535) cell.text_lines) row.cells) (measured_rows table)
 
 -- each character of the style adds one column, no texts touch, and no line of a cell is wider than

@@ -3,4 +3,3 @@ pub mod OutputLemmas
 pub mod RecordLemmas
 pub mod ResultLemmas
 pub mod StraightLemmas
-mod Trials

@@ -16,7 +16,8 @@ use Rattle.csv_tables.specs.Drawn.{ContentValue, note_for, record_line}
 use Rattle.csv_tables.specs.Laws.{HasLines, IsStraightOutput, numbered_lines}
 use Rattle.csv_tables.specs.declared.options.Options.{Options}
 use Rattle.promises.proofs.ShownLemmas.{shows_visible}
-use Rattle.csv_promises.specs.Straight.{CountsRecords, IsStraight, ShowsColumns, counted}
+use Rattle.promises.specs.Shown.{ShowsColumns}
+use Rattle.csv_promises.specs.Straight.{CountsRecords, IsStraight, counted}
 
 -- ---- lines of texts
 

@@ -26,7 +26,7 @@ use Rattle.csv_records.specs.declared.cleaning.Kept.{Kept}
 use Rattle.csv_tables.specs.declared.options.Look.{Look}
 use Rattle.csv_tables.specs.declared.options.Options.{Options}
 use Rattle.csv_tables.proofs.CleanCharacterLemmas.{lines_pass}
-use Rattle.csv_tables.proofs.OneOutputLemmas.{read_is_one}
+use Rattle.csv_records.proofs.OneRecordLemmas.{read_is_one}
 use Rattle.csv_tables.proofs.OutputControlLemmas.{text_fields, unbroken_without}
 use Rattle.csv_tables.proofs.MarkdownWidthLemmas.{whole_is_straight}
 use Rattle.csv_tables.proofs.StraightLemmas.{IsShort, narrow_is_straight}
@@ -110,7 +110,7 @@ module _ (words : List Text) (surroundings : Surroundings) (asked : Asked) (inpu
   texts = is.are.are_records.are_records.are_text
 
   output_of_records : IsOutputOfAny options records output
-  output_of_records = subst (λ (rs : List (List Text)). IsOutputOfAny options rs output) (read_is_one options input is.made.records records is.made.are_records is.are) is.made.is_output
+  output_of_records = subst (λ (rs : List (List Text)). IsOutputOfAny options rs output) (read_is_one options.input input is.made.records records is.made.are_records is.are) is.made.is_output
 
   -- an output is straight where the law says so of one with records
   by_records : ((made : IsOutputOf options records output) → ArePlainLines true options.look records → IsStraightOutput true options records output) → IsStraight output

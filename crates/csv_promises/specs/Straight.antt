@@ -5,7 +5,7 @@ use Rattle.std.specs.List.{list_any}
 use Rattle.comfy_parts.specs.Text.{Text, measure}
 use Rattle.comfy_table.specs.Laws.{AreLinesOf}
 use Rattle.csv_records.specs.Cleaning.{turns_direction}
-use Rattle.promises.specs.Shown.{Shows}
+use Rattle.promises.specs.Shown.{ShowsColumns}
 
 -- P holds of each field of each record
 abbrev pub EachField : (Text → Type 0) → List (List Text) → Type 0
@@ -26,10 +26,6 @@ abbrev pub CountsRecords : Text → Type 0
 CountsRecords line =
     (n : ℕ) × (m : ℕ)
     × ((line ≡ counted (codes "record ") n m []) ⊎ (line ≡ counted [] n m (codes " records")))
-
--- a line shows so many terminal columns
-abbrev pub ShowsColumns : ℕ → Text → Type 0
-ShowsColumns n line = (shown : Text) × Shows line shown × (measure shown ≡ n)
 
 -- all lines of a text show the same number of terminal columns, but those that count records
 pub record IsStraight (text : Text) : Type 0 where

@@ -4,10 +4,10 @@ ghost use Rattle.std.specs.Prelude.{IfOk, IfSome, string_bytes};
 ghost use Rattle.csv_tables.specs.Drawn.{IsOutputFor};
 ghost use Rattle.promises.specs.Shown.{IsHarmless};
 
-use csv_tables::laws::outputs_hold_no_controls;
-use csv_tables::{CsvError, Options, draw};
-use csv_command::{Surroundings, asked_of, drawing_of};
 use comfy_run::run::{MemorySink, MemorySource};
+use csv_command::laws::drawings_hold_no_controls;
+use csv_command::{Surroundings, asked_of, drawing_of};
+use csv_tables::{CsvError, Options, draw};
 use std::alloc::Global;
 
 // No terminal, and neither `COLUMNS` nor `NO_COLOR`.
@@ -30,7 +30,7 @@ pub fn harmless_output(
 ) -> Option<MemorySink>
     ensures { IfSome result (λ sink. IsHarmless sink.bytes) }
 {
-    outputs_hold_no_controls();
+    drawings_hold_no_controls();
     let asked = asked_of(alloc, words, surroundings).ok()?;
     if asked.options.look.is_raw {
         return None;
@@ -44,7 +44,7 @@ pub fn harmless_output(
 pub fn harmless_drawing(alloc: Global, words: &[&str], input: &[u8]) -> Option<String>
     ensures { IfSome result (λ drawing. IsHarmless (string_bytes drawing)) }
 {
-    outputs_hold_no_controls();
+    drawings_hold_no_controls();
     let asked = asked_of(alloc, words, NO_SURROUNDINGS).ok()?;
     let look = asked.options.look;
     if look.is_raw {

@@ -3,9 +3,9 @@
 ghost use Rattle.std.specs.Prelude.{IfOk};
 ghost use Rattle.csv_promises.specs.Kept.{ShowRecords};
 
-use csv_records::Records;
-use csv_tables::{CsvError, Options, table_of};
 use comfy_table::Lines;
+use csv_records::Records;
+use csv_tables::{ColumnsError, Options, table_of};
 use std::alloc::Global;
 
 /// The lines of a table of these records. Where nothing is asked for but a style, a header in bold
@@ -15,7 +15,7 @@ pub fn lines_of_records(
     alloc: Global,
     records: Records,
     options: &Options,
-) -> Result<Lines, CsvError>
+) -> Result<Lines, ColumnsError>
     ensures { IfOk result (λ lines. ShowRecords options.now records lines) }
 {
     Ok(table_of(alloc, records, options)?.lines()?)

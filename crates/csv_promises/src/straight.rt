@@ -7,11 +7,12 @@ ghost use Rattle.csv_promises.specs.Written.{IsWritten};
 ghost use Rattle.promises.specs.Tables.{HasCharactersWithin};
 
 use crate::harmless::output_for;
-use csv_tables::laws::{outputs_are_one, outputs_are_straight};
-use csv_command::{Asked, Surroundings, asked_of};
-use csv_records::{Records, decoded, read_records};
-use csv_tables::{CsvError, Options};
 use comfy_run::run::MemorySink;
+use csv_command::{Asked, Surroundings, asked_of};
+use csv_records::laws::records_are_one;
+use csv_records::{Records, decoded, read_records};
+use csv_tables::laws::outputs_are_straight;
+use csv_tables::{CsvError, Options};
 use std::alloc::Global;
 
 /// The records of a file's bytes, and what the program writes of them for these words: nothing
@@ -30,7 +31,7 @@ pub fn straight_output(
         EachField (HasCharactersWithin 1) drawn.0 → IsStraight drawn.1.bytes) }
 {
     outputs_are_straight();
-    outputs_are_one();
+    records_are_one();
     let (_asked, records, sink) = written(alloc, words, surroundings, input, room)?;
     Some((records, sink))
 }
@@ -48,7 +49,7 @@ pub fn straight_whole_output(
     ensures { IfSome result (λ drawn. EachField IsPlainField drawn.0 → IsStraight drawn.1.bytes) }
 {
     outputs_are_straight();
-    outputs_are_one();
+    records_are_one();
     let (asked, records, sink) = written(alloc, words, surroundings, input, room)?;
     if asked.options.look.width.is_some() || asked.options.look.max_height.is_some() {
         return None;
@@ -84,5 +85,5 @@ fn records_for(alloc: Global, input: &[u8], options: &Options) -> Result<Records
 {
     let bytes = Vec::from_slice(alloc, input)?;
     let text = decoded(alloc, bytes, options.input.encoding)?;
-    read_records(alloc, text.as_str(), options)
+    Ok(read_records(alloc, text.as_str(), &options.input)?)
 }

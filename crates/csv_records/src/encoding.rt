@@ -6,8 +6,8 @@ ghost use Rattle.std.specs.String.{string_vec};
 ghost use Rattle.csv_records.specs.Encoding.{AreCharactersOf, IsRefusedIn, IsTextIn, IsUtf16Refusal, cp1252_character, cp1252_text, encoding_of, marked_order, order_of, unit, utf16_characters, without_mark};
 ghost use Rattle.csv_records.specs.Input.{IsTextRefusal, line_breaks};
 
-use crate::error::DecodeError;
 use crate::text::{line_after, text_of};
+use crate::error::DecodeError;
 use std::alloc::Global;
 use std::marker::Model;
 

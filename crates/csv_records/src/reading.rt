@@ -5,11 +5,11 @@ ghost use Rattle.csv_records.specs.Input.{line_breaks};
 ghost use Rattle.csv_records.specs.Reading.{AreRecordsIn, IsTextWithoutRecords};
 
 use crate::delimiter::{below_lines, delimited};
-use crate::error::RecordsError;
-use crate::options::InputOptions;
 use crate::quotes::unclosed_quote;
 use crate::records::{Records, records_of};
 use crate::text::line_after;
+use crate::error::RecordsError;
+use crate::options::InputOptions;
 use std::alloc::Global;
 
 /// The records of a text below the lines that are left out. An empty line is no record; `""` is an
@@ -17,7 +17,11 @@ use std::alloc::Global;
 ///
 /// `Unclosed` has the number of the line, among all of the text, where the quote opens.
 /// `SplitCharacter` comes only of a delimiter that isn't ASCII.
-pub fn read_records(alloc: Global, text: &str, options: &InputOptions) -> Result<Records, RecordsError>
+pub fn read_records(
+    alloc: Global,
+    text: &str,
+    options: &InputOptions,
+) -> Result<Records, RecordsError>
     ensures all { IfOk result (λ records. AreRecordsIn options.now text.now records) }
     ensures refused { IfErr result (λ e. IsTextWithoutRecords options.now text.now e) }
 {

@@ -10,6 +10,7 @@ use Rattle.comfy_parts.specs.CellValue.{RowValue}
 use Rattle.comfy_parts.specs.Columns.{style_characters}
 use Rattle.comfy_parts.specs.Text.{Text, measure}
 use Rattle.comfy_parts.specs.declared.style.table.ContentArrangement.TheVariants.{Dynamic, DynamicFullWidth}
+use Rattle.comfy_table.proofs.HeadlineLemmas.{drawing_fills_width, drawing_keeps_to_width}
 use Rattle.comfy_table.proofs.PartLemmas.{all_rows_are_the_table, part_has_lines_of_table}
 use Rattle.comfy_table.specs.Drawing.{drawing, drawing_of_infos, terminated_text_of}
 use Rattle.comfy_table.specs.Headline.{EachLineCounts, IsTableDrawing}
@@ -54,7 +55,7 @@ pub unbroken_lines : (look : Look) (content : ContentValue) (is_expanded has : B
     → IsTableDrawing (separated_table has (output_table is_expanded look content)) lines → All HasNoBreak lines
 unbroken_lines look content is_expanded has lines none drawing =
     let looks = drawn-is (separated has look) Any content (separated_table has (output_table is_expanded look content)) (any_drawn look content is_expanded has) in
-    drawing.without_breaks
+    drawing.controls.without_breaks
     (record {
       indicator = ap (λ (t : TableValue). list_any (λ b. b == 0x0A) t.indicator) looks;
       characters = subst (IsStyleWithout 0x0A) (sym (ap (λ (t : TableValue). t.style) looks)) (unbroken_style has look none);
@@ -154,9 +155,9 @@ module _ (w : ℕ) (look : Look) (content : ContentValue) (table : TableValue) (
       width = ap table_width looks ∙ rw wide refl
 
       by_room : (known.whole ≡ []) ⊎ HasRoom w table → EachLineCounts (IsWithin w table) table drawn.widths
-      by_room (inl none) = drawn.keeps_to_width w (unconstrained-drawn look Any content table known none) dynamic width
+      by_room (inl none) = drawing_keeps_to_width table w lines drawn (unconstrained-drawn look Any content table known none) dynamic width
       by_room (inr room) =
-          let found = drawn.keeps_to_wider_total w dynamic width in
+          let found = drawn.known_width.keeps_to_wider_total w dynamic width in
           let fits = wider-fits w table room false found.0 (shown_contents table drawn.widths) found.1 in
           weaker_counts (λ n. n ≤ max w (wider_total table found.0)) (IsWithin w table) table drawn.widths (λ n is. omega (arith, is, fits)) found.2
 
@@ -170,9 +171,9 @@ module _ (w : ℕ) (look : Look) (content : ContentValue) (table : TableValue) (
       width = ap table_width looks ∙ rw wide refl
 
       by_room : (known.whole ≡ []) ⊎ HasRoom w table → 0 < shown_count table → EachLineCounts (λ n. n ≡ max w (least_total table)) table drawn.widths
-      by_room (inl none) some = drawn.fills_width w (unconstrained-drawn look Any content table known none) full width some
+      by_room (inl none) some = drawing_fills_width table w lines drawn (unconstrained-drawn look Any content table known none) full width some
       by_room (inr room) some =
-          let found = drawn.fills_wider_total w full width some in
+          let found = drawn.known_width.fills_wider_total w full width some in
           let fits = wider-fits w table room true found.0 (shown_contents table drawn.widths) found.1 in
           weaker_counts (λ n. n ≡ max w (wider_total table found.0)) (λ n. n ≡ max w (least_total table)) table drawn.widths (λ n is. omega (arith, is, fits, least-fits w table room)) found.2
 

@@ -177,7 +177,7 @@ records_are_given_back options records output is short text made some =
       is =
           made.joined
           ∙ ap₂ (λ (t : Text) (b : Bool). t ++ note_for b options.selection.limit content.count) (drawn.is ∙ ap (λ (ls : List Text). terminated_text_of (below_first rule ls)) lines) is;
-      unbroken = subst (All HasNoBreak) lines (drawn.drawing.without_breaks (markdown_unbroken look content));
+      unbroken = subst (All HasNoBreak) lines (drawn.drawing.controls.without_breaks (markdown_unbroken look content));
       names = line_gives_back look content widths arranged some names (texts.names names refl) (All-head (IsFitting look content widths arranged) names content.rows fit);
       rows = lines_give_back look content widths arranged some content.rows texts.rows (All-tail (IsFitting look content widths arranged) names content.rows fit);
     }

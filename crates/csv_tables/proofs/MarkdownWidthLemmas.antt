@@ -17,6 +17,7 @@ use Rattle.comfy_parts.specs.declared.style.table_style.TableStyle.{TableStyle}
 use Rattle.comfy_table.proofs.BuiltTableLemmas.{IsNewColumn, built_is_straight}
 use Rattle.comfy_table.proofs.ControlLemmas.{free_of_escapes}
 use Rattle.comfy_table.proofs.DrawnWidthLemmas.{sum-whole_widths}
+use Rattle.comfy_table.proofs.HeadlineLemmas.{visible_lines_are_straight}
 use Rattle.comfy_table.proofs.MeasuredLemmas.{measured_rows-is, row_measured}
 use Rattle.comfy_table.specs.Arrangement.{IsArranged, is_full_width, room_beside_borders, width_kept, widths_at}
 use Rattle.comfy_table.specs.Drawing.{drawing, drawing_of_infos, drawn_header, drawn_row, drawn_rows, infos_of}
@@ -245,9 +246,9 @@ module _ (look : Look) (content : ContentValue) where
           (rows_of_texts IsShort empty_is_short (markdown_look look) IsShortRow (short_rows (markdown_look look) refl) (markdown_content content) each) (one_column_characters markdown_style refl) no_width
 
       by_kind : (kind : Bool) → IsSeenTable kind (markdown_look look) table → All (Is kind) lines
-      by_kind true free = drawing.straight_without_sequences (free_of_escapes table free) straight
+      by_kind true free = visible_lines_are_straight table lines drawing (free_of_escapes table free) straight
       by_kind false plain =
-          subst (All (Is false)) (sym (drawing.unstyled_lines (ap should_style known.is) (ap (λ (t : TableValue). t.custom_styling) known.is))) (drawing.straight straight)
+          subst (All (Is false)) (sym (drawing.edges.unstyled_lines (ap should_style known.is) (ap (λ (t : TableValue). t.custom_styling) known.is))) (drawing.edges.straight straight)
 
       seen_rule : (kind : Bool) → measure (visible_of kind rule) ≡ measure rule
       seen_rule true = ap measure (printable_is_seen rule (rule_is_printable content.columns (max_content_widths table)))
@@ -271,7 +272,7 @@ clear_markdown : (visible : Bool) (look : Look) (content : ContentValue) (lines 
 clear_markdown false look content lines drawing plain is = absurd (cc is)
 clear_markdown true look content lines drawing free is =
     let rule = rule_line content.columns (max_content_widths (markdown_table look content)) in
-    All-map HasNoControl visible_text (below_first rule lines) (each_below_first (λ (line : Text). HasNoControl (visible_text line)) rule lines (rule_is_clear content.columns _) (drawing.without_controls free))
+    All-map HasNoControl visible_text (below_first rule lines) (each_below_first (λ (line : Text). HasNoControl (visible_text line)) rule lines (rule_is_clear content.columns _) (drawing.controls.without_controls free))
 
 -- ---- outputs
 

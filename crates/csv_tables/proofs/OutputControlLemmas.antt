@@ -298,7 +298,7 @@ markdown_lines_of look content text drawn =
     let rule = rule_line content.columns (max_content_widths (markdown_table look content)) in
     record {
       joined = drawn.is;
-      unbroken = each_below_first HasNoBreak rule drawn.lines (printable_unbroken rule (rule_is_printable content.columns _)) (drawn.drawing.without_breaks (markdown_unbroken look content));
+      unbroken = each_below_first HasNoBreak rule drawn.lines (printable_unbroken rule (rule_is_printable content.columns _)) (drawn.drawing.controls.without_breaks (markdown_unbroken look content));
     }
 
 -- it has names, be they blank
@@ -320,14 +320,14 @@ markdown_is_clear options records output look text made drawn is =
     let own = each_content AllText options records made.content made.is_content text in
     output_of_clear options records output (below_first rule drawn.lines) (record { content = made.content; is_content = made.is_content; is_expanded = false; expansion = never_expanded options.look made.content is; text = made.text; has_lines = markdown_lines_of options.look made.content made.text drawn; joined = made.joined })
     (each_below_first IsClear rule drawn.lines (rule_is_clear made.content.columns _)
-    (drawn.drawing.without_controls (free_markdown options.look look.cleaned made.content own)))
+    (drawn.drawing.controls.without_controls (free_markdown options.look look.cleaned made.content own)))
 
 table_is_clear : (options : Options) (records : List (List Text)) (output : Text) → IsLookWithoutControls options.look → All AllText records → (made : IsOutputOf options records output) → IsTableText options.look made.content made.text → options.look.is_markdown ≡ false → HasNoStrayControl (visible_text output)
 table_is_clear options records output look text made drawn_text none =
     let has = drawn_text.drawn.has_separators in
     let own = each_content AllText options records made.content made.is_content text in
     output_of_clear options records output (drawn options records output made drawn_text none) (with_lines options records output made drawn_text none (unbroken_without options.look.style look.style))
-    (drawn_text.drawn.is_arranged.headline.without_controls (free_output options.look look made.content own drawn_text.is_expanded has))
+    (drawn_text.drawn.is_arranged.headline.controls.without_controls (free_output options.look look made.content own drawn_text.is_expanded has))
 
 pub output_without_controls : (options : Options) (records : List (List Text)) (output : Text) → OutputHoldsNoControls options records output
 output_without_controls options records output look text made = by_markdown options.look.is_markdown refl made.is_text

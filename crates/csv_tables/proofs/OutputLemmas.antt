@@ -74,7 +74,7 @@ markdown_unbroken look content = let known = any_built false (markdown_look look
 pub markdown_lines : (look : Look) (content : ContentValue) (table : TableValue) (drawing : Text) → table ≡ markdown_table look content → IsTerminatedTextOf table drawing → (widths : List ℕ) → widths ≡ max_content_widths table
     → (r : Option (Bor Text × Bor Text)) → IsSplitOnceResult 0x0A drawing r
     → MatchOption r (IsMarkdownText look content []) (λ x. IsMarkdownText look content (x.0.now ++ 0x0A ∷ (rule_line content.columns widths ++ 0x0A ∷ x.1.now)))
-markdown_lines look content table drawing is drawn widths are r split = by_result r (with_line_below rule lines drawing r own.2 (own.1.without_breaks (markdown_unbroken look content)) split)
+markdown_lines look content table drawing is drawn widths are r split = by_result r (with_line_below rule lines drawing r own.2 (own.1.controls.without_breaks (markdown_unbroken look content)) split)
   where
     own : IsTerminatedTextOf (markdown_table look content) drawing
     own = subst (λ t. IsTerminatedTextOf t drawing) is drawn

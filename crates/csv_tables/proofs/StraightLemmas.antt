@@ -171,22 +171,22 @@ IsSeenTable true look table = IsFreeOfControls table
 
 -- no control character is visible of the lines of such a table
 pub clear_lines : (visible : Bool) (look : Look) (table : TableValue) (lines : List Text) → IsTableDrawing table lines → IsSeenTable visible look table → visible ≡ true → All HasNoControl (seen_lines visible lines)
-clear_lines true look table lines drawing free is = All-map HasNoControl visible_text lines (drawing.without_controls free)
+clear_lines true look table lines drawing free is = All-map HasNoControl visible_text lines (drawing.controls.without_controls free)
 clear_lines false look table lines drawing plain is = absurd (cc is)
 
 module _ (look : Look) (no_sequences : look.has_sequences ≡ false) (content : ContentValue) (table : TableValue) (lines : List Text) (drawing : IsTableDrawing table lines) where
   -- what holds of the lines without styling holds of the lines as they are seen
   pub seen_all : (Q : RowValue → Type 0) → IsDrawn look Q content table → (visible : Bool) → IsSeenTable visible look table → (R : Text → Type 0) → All R (drawn_over (unstyled table) drawing.widths) → All R (seen_lines visible lines)
-  seen_all Q known true free R each = subst (All R) (sym (drawing.without_sequences (free_of_escapes table free))) each
+  seen_all Q known true free R each = subst (All R) (sym (drawing.sequences.without_sequences (free_of_escapes table free))) each
   seen_all Q known false plain R each =
       let looks = drawn-is look Q content table known in
       All-map R (visible_of false) lines
-      (subst (All R) (sym (drawing.unstyled_lines (ap should_style looks ∙ rw plain refl) (ap (λ (t : TableValue). t.custom_styling) looks ∙ no_sequences))) each)
+      (subst (All R) (sym (drawing.edges.unstyled_lines (ap should_style looks ∙ rw plain refl) (ap (λ (t : TableValue). t.custom_styling) looks ∙ no_sequences))) each)
 
 module _ (look : Look) (no_sequences : look.has_sequences ≡ false) (characters : IsOneColumnStyle look.style) (content : ContentValue) (table : TableValue) (lines : List Text) (drawing : IsTableDrawing table lines) where
   -- they are equally wide where the table is straight
   equally_wide : (Q : RowValue → Type 0) → IsDrawn look Q content table → (visible : Bool) → IsSeenTable visible look table → IsStraightTable table drawing.widths → AreEquallyWide (seen_lines visible lines)
-  equally_wide Q known visible seen is = (line_total table drawing.widths, seen_all look no_sequences content table lines drawing Q known visible seen (λ line. measure line ≡ line_total table drawing.widths) (drawing.straight is))
+  equally_wide Q known visible seen is = (line_total table drawing.widths, seen_all look no_sequences content table lines drawing Q known visible seen (λ line. measure line ≡ line_total table drawing.widths) (drawing.edges.straight is))
 
   module _ (Q : RowValue → Type 0) (known : IsDrawn look Q content table) where
     -- the characters are those of the look

@@ -3,6 +3,7 @@
 ghost use Rattle.std.specs.Prelude.{◌≡◌};
 ghost use Rattle.csv_tables.specs.Errors.{of_columns, of_decoding, of_records, of_stop};
 ghost use Rattle.csv_tables.specs.declared.error.ColumnsError.TheVariants as columns;
+ghost use Rattle.csv_tables.specs.declared.error.CsvError.TheVariants.{OutOfMemory};
 
 use comfy_parts::TableError;
 use csv_records::{DecodeError, RecordsError};
@@ -70,6 +71,24 @@ impl From<TableError> for ColumnsError {
     fn from(error: TableError) -> ColumnsError {
         match error {
             TableError::OutOfMemory => ColumnsError::OutOfMemory,
+        }
+    }
+}
+
+impl From<AllocError> for CsvError {
+    ghost from_gives = { λ _ e. e ≡ OutOfMemory };
+
+    fn from(_error: AllocError) -> CsvError {
+        CsvError::OutOfMemory
+    }
+}
+
+impl From<TableError> for CsvError {
+    ghost from_gives = { λ _ e. e ≡ OutOfMemory };
+
+    fn from(error: TableError) -> CsvError {
+        match error {
+            TableError::OutOfMemory => CsvError::OutOfMemory,
         }
     }
 }

@@ -1,5 +1,5 @@
 -- Columns as they are drawn, and what stands in them.
-use Rattle.std.proofs.Common.{◌≡◌, ℕ, ◌+◌, Bool, true, false, not, cond, List, [], ◌∷◌, ◌++◌, Option, Some, length, map, refl, sym, ap, ap₂, ◌∙◌, subst, arith, append_assoc, length-append, slice_index_or}
+use Rattle.std.proofs.Common.{◌≡◌, ℕ, ◌+◌, Bool, true, false, not, cond, List, [], ◌∷◌, ◌++◌, Some, length, map, refl, sym, ap, ap₂, ◌∙◌, subst, arith, append_assoc, length-append, slice_index_or}
 use Rattle.std.specs.Char.{IsScalar}
 use Rattle.std.specs.List.{All, slice_get}
 use Rattle.std.specs.Prelude.{option_map, slice_index}
@@ -73,9 +73,9 @@ whole_at table lines drawn k default under =
     scalars : All (λ (r : RowValue). All (HasScalar (row_measured custom r)) (shown_infos (infos_of table drawn.widths))) (header_and_rows table)
     scalars =
         All-of_map (λ (r : RowValue). All (HasScalar r) (shown_infos (infos_of table drawn.widths))) (row_measured custom) (header_and_rows table)
-        (subst (All (λ (r : RowValue). All (HasScalar r) (shown_infos (infos_of table drawn.widths)))) (measured_rows-is table) drawn.scalar_delimiters)
+        (subst (All (λ (r : RowValue). All (HasScalar r) (shown_infos (infos_of table drawn.widths)))) (measured_rows-is table) drawn.texts.scalar_delimiters)
 
     texts : All (λ (r : RowValue). All (λ (c : CellValue). All IsUtf8 c.text_lines) (row_measured custom r).cells) (header_and_rows table)
     texts =
         All-of_map (λ (r : RowValue). All (λ (c : CellValue). All IsUtf8 c.text_lines) r.cells) (row_measured custom) (header_and_rows table)
-        (subst (All (λ (r : RowValue). All (λ (c : CellValue). All IsUtf8 c.text_lines) r.cells)) (measured_rows-is table) drawn.whole_texts)
+        (subst (All (λ (r : RowValue). All (λ (c : CellValue). All IsUtf8 c.text_lines) r.cells)) (measured_rows-is table) drawn.texts.whole_texts)

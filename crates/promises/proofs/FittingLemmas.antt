@@ -1,8 +1,8 @@
 -- Tables in callers' words are straight.
-use Rattle.std.proofs.Common.{◌≡◌, ◌≤◌, ◌==◌, ◌&&◌, ◌||◌, inl, inr, ℕ, Bool, true, false, not, List, [], ◌∷◌, Option, Some, None, unwrap_or, refl, sym, ap, ap₂, ◌∙◌, length, subst, arith, slice_index_or, max, nat_le}
-use Rattle.std.specs.List.{All, list_all}
+use Rattle.std.proofs.Common.{◌≡◌, ◌≤◌, ◌==◌, ◌+◌, ◌&&◌, ◌||◌, inl, inr, ℕ, Bool, true, false, not, List, [], ◌∷◌, Option, Some, None, unwrap_or, refl, sym, ap, ap₂, ◌∙◌, length, subst, arith, slice_index_or, max, nat_le}
+use Rattle.std.specs.List.{All, list_all, slice_get}
 use Rattle.std.specs.Prelude.{chars, encode_utf8}
-use Rattle.std.proofs.lemmas.Bool.{and_parts}
+use Rattle.std.proofs.lemmas.Bool.{and_parts, not-true}
 use Rattle.std.proofs.lemmas.Bool.Decides.{nat_tests}
 use Rattle.std.proofs.lemmas.List.Elements.{All-filter, All-map, All-weaker}
 use Rattle.cluster_width.specs.ClusterSums.{is_presentation, selectors_agree}
@@ -15,6 +15,7 @@ use Rattle.comfy_parts.specs.declared.style.table.ContentArrangement.TheVariants
 use Rattle.comfy_parts.specs.VisibleText.{visible_text}
 use Rattle.comfy_table.proofs.ControlLemmas.{free_of_escapes}
 use Rattle.comfy_table.proofs.FittingTableLemmas.{fitting_tables_are_straight}
+use Rattle.comfy_table.proofs.HeadlineLemmas.{visible_lines_are_straight}
 use Rattle.comfy_table.proofs.InfoLemmas.{infos-known}
 use Rattle.comfy_table.proofs.MeasuredLemmas.{All-measured}
 use Rattle.comfy_table.proofs.OneDrawingLemmas.{arranged_is_one}
@@ -30,7 +31,7 @@ use Rattle.comfy_table.specs.Parts.{ArrangedValue, IsArrangedTable}
 use Rattle.comfy_table.specs.Pieces.{shown_infos}
 use Rattle.comfy_table.specs.Straight as straight
 use Rattle.comfy_table.specs.TableValue.{TableValue, header_and_rows, measured_rows, table_width, visible_cell}
-use Rattle.promises.proofs.PlacedLemmas.{measured_plain, placed}
+use Rattle.promises.proofs.PlacedLemmas.{measured_plain, placed, standing}
 use Rattle.promises.proofs.ShownLemmas.{free_of_controls, line_shows, measured_shown, shown_both, visible_clear}
 use Rattle.promises.specs.Shown.{AreShownEquallyWide, HasNoControls}
 use Rattle.promises.specs.Tables.{CharactersFit, EachShownText, EachText, HasCharactersWithin, HasPlainFrame, IsPlain, IsShownWhole, IsUnconstrained}
@@ -93,6 +94,10 @@ first_set None None c one two three = three
 
 -- ---- tables
 
+-- each character of the cell has room in the column
+abbrev CellFits : RowValue → ColumnInfo → CellValue → Type 0
+CellFits row column cell = All (HasCharactersWithin column.content_width) cell.text_lines
+
 -- no shown column has a constraint
 pub unconstrained : (table : TableValue) → IsUnconstrained table → NoConstraints table
 unconstrained table free = placed (λ (column : ColumnValue). not (is_hidden_column column)) (λ column. column.constraint ≡ None) 0 table.columns free
@@ -110,7 +115,7 @@ pub free_stay : (table : TableValue) → EachShownText HasNoControl table → Te
 free_stay table free P each =
     measured_shown (λ (text : Text). P text × HasNoControl text) P table (λ text own. (own.0, subst P (sym (visible_clear text own.1)) own.0)) (shown_both P HasNoControl table each free)
 
-module _ (table : TableValue) (stay : TextsStay table) (frame : HasPlainFrame table) where
+module _ (table : TableValue) (frame : HasPlainFrame table) where
   apart : straight.TextsStandApart table
   apart = inr (inl (placed (λ (column : ColumnValue). not (is_hidden_column column)) (λ column. 1 ≤ column.padding.0) 0 table.columns frame.paddings))
 
@@ -121,46 +126,76 @@ module _ (table : TableValue) (stay : TextsStay table) (frame : HasPlainFrame ta
       (All-filter (λ (column : ColumnValue). not (is_hidden_column column)) (λ (column : ColumnValue). IsOneColumn column.delimiter) table.columns frame.column_delimiters))
       (λ i column w one. one)
 
-  -- where each text fits each column that is drawn
+  -- where the characters of each cell fit its column
   pub fitting : (lines : List Text) (drawn : IsTableDrawing table lines)
-      → All (λ (p : ℕ × ColumnInfo). EachText (HasCharactersWithin p.1.content_width) table) (shown_infos (infos_of table drawn.widths)) → straight.IsStraightTable table drawn.widths
+      → straight.EachCell CellFits table drawn.widths → straight.IsStraightTable table drawn.widths
   fitting lines drawn each = fitting_tables_are_straight table lines drawn frame.style apart fits
     where
       fits : straight.EachCell (FitsByCharacters table) table drawn.widths
       fits k default under j other below cell found =
           let p = slice_index_or (shown_infos (infos_of table drawn.widths)) j other in
           let row = slice_index_or (measured_rows table) k default in
-          let texts : All (HasCharactersWithin p.1.content_width) cell.text_lines =
-          drawn_of_shown (HasCharactersWithin p.1.content_width) table drawn.widths drawn.arranged.one_for_each (stay (HasCharactersWithin p.1.content_width) (each j other below)) k default under j other below cell found in
           let own = All-measured table (λ (r : RowValue). All (λ (c : CellValue). IsOneColumn c.delimiter) r.cells)
           (λ r all. All-map (λ (c : CellValue). IsOneColumn c.delimiter) visible_cell r.cells all) frame.cell_delimiters k default under in
           record {
             characters = All-weaker (HasCharactersWithin p.1.content_width) (λ (text : Text). characters_fit p.1.content_width text ≡ true)
-                (text_fits p.1.content_width p.1.content_width (omega arith)) cell.text_lines texts;
+                (text_fits p.1.content_width p.1.content_width (omega arith)) cell.text_lines
+                (each k default under j other below cell found);
             delimiter = first_set cell.delimiter p.1.delimiter table.delimiter (All-at (λ (c : CellValue). IsOneColumn c.delimiter) row.cells p.0 cell own found) (delimiters drawn.widths drawn.arranged.one_for_each j other below) frame.delimiter;
             indicator = inr frame.indicator;
           }
 
   -- characters of one column fit all columns
-  pub narrow : (lines : List Text) (drawn : IsTableDrawing table lines) → EachText (HasCharactersWithin 1) table → straight.IsStraightTable table drawn.widths
-  narrow lines drawn each =
-      fitting lines drawn
-      (infos-known table drawn.widths (λ (p : ℕ × ColumnValue). Unit {0}) (λ (p : ℕ × ColumnInfo). EachText (HasCharactersWithin p.1.content_width) table) drawn.arranged.one_for_each (λ k default below. tt)
-      (λ i column w known. wider 1 (max 1 w) (omega arith) each))
+  pub narrow : TextsStay table → (lines : List Text) (drawn : IsTableDrawing table lines)
+      → EachText (HasCharactersWithin 1) table → straight.IsStraightTable table drawn.widths
+  narrow stay lines drawn each = fitting lines drawn fits
     where
-      wider : (n w : ℕ) → n ≤ w → EachText (HasCharactersWithin n) table → EachText (HasCharactersWithin w) table
-      wider n w room texts =
-          All-weaker (λ (row : RowValue). All (λ (c : CellValue). All (HasCharactersWithin n) c.text_lines) row.cells) (λ (row : RowValue). All (λ (c : CellValue). All (HasCharactersWithin w) c.text_lines) row.cells)
-          (λ row. All-weaker (λ (c : CellValue). All (HasCharactersWithin n) c.text_lines) (λ (c : CellValue). All (HasCharactersWithin w) c.text_lines) (λ c. All-weaker (HasCharactersWithin n) (HasCharactersWithin w) (more n w room) c.text_lines) row.cells)
-          (header_and_rows table) texts
+      infos : List (ℕ × ColumnInfo)
+      infos = shown_infos (infos_of table drawn.widths)
+
+      some_width : All (λ (p : ℕ × ColumnInfo). 1 ≤ p.1.content_width) infos
+      some_width =
+          infos-known table drawn.widths (λ (p : ℕ × ColumnValue). Unit {0})
+          (λ (p : ℕ × ColumnInfo). 1 ≤ p.1.content_width) drawn.arranged.one_for_each
+          (λ k default below. tt)
+          (λ i column w known. let some : 1 ≤ max 1 w = omega arith in some)
+
+      fits : straight.EachCell CellFits table drawn.widths
+      fits k default under j other below cell found =
+          let w = (slice_index_or infos j other).1.content_width in
+          All-weaker (HasCharactersWithin 1) (HasCharactersWithin w)
+          (more 1 w (some_width j other below)) cell.text_lines
+          (drawn_of_shown (HasCharactersWithin 1) table drawn.widths drawn.arranged.one_for_each
+          (stay (HasCharactersWithin 1) each) k default under j other below cell found)
 
   -- and so do those that fit the columns which are returned
-  pub as_returned : (arranged : ArrangedValue) → IsArrangedTable table arranged → (lines : List Text) (drawn : IsTableDrawing table lines) → CharactersFit table arranged.infos → straight.IsStraightTable table drawn.widths
-  as_returned arranged is lines drawn each =
-      let same : is.headline.widths ≡ drawn.widths = arranged_is_one table is.headline.widths drawn.widths is.headline.arranged drawn.arranged in
-      fitting lines drawn
-      (placed (λ (column : ColumnInfo). not column.is_hidden) (λ (column : ColumnInfo). EachText (HasCharactersWithin column.content_width) table) 0 (infos_of table drawn.widths)
-      (subst (CharactersFit table) (is.infos ∙ ap (infos_of table) same) each))
+  pub as_returned : table.custom_styling ≡ false
+      → (arranged : ArrangedValue) → IsArrangedTable table arranged
+      → (lines : List Text) (drawn : IsTableDrawing table lines)
+      → CharactersFit table arranged.infos → straight.IsStraightTable table drawn.widths
+  as_returned plain arranged is lines drawn each =
+      fitting lines drawn (subst (All Fits) (sym (measured_plain table plain)) fits)
+    where
+      infos : List ColumnInfo
+      infos = infos_of table drawn.widths
+
+      Fits : RowValue → Type 0
+      Fits row = All (λ (p : ℕ × ColumnInfo). (cell : CellValue)
+          → slice_get row.cells p.0 ≡ Some cell → CellFits row p.1 cell) (shown_infos infos)
+
+      same : is.headline.widths ≡ drawn.widths
+      same =
+          arranged_is_one table is.headline.widths drawn.widths is.headline.arranged drawn.arranged
+
+      known : CharactersFit table infos
+      known = subst (CharactersFit table) (is.infos ∙ ap (infos_of table) same) each
+
+      fits : All Fits (header_and_rows table)
+      fits k default under j other below cell found =
+          let p = slice_index_or (shown_infos infos) j other in
+          let at = standing (λ (column : ColumnInfo). not column.is_hidden) infos 0 infos
+          (λ i. let same : 0 + i ≡ i = omega arith in ap (slice_get infos) same) j other below in
+          known k default under p.0 p.1 at.0 (not-true p.1.is_hidden at.1) cell found
 
   -- a table as wide as its texts
   pub whole : (widths : List ℕ) → measured_rows table ≡ header_and_rows table → table.arrangement ≡ Disabled → IsShownWhole table → straight.IsStraightTable table widths
@@ -179,7 +214,7 @@ module _ (table : TableValue) (stay : TextsStay table) (frame : HasPlainFrame ta
 -- the lines of a straight table are equally wide
 pub equally_wide : (table : TableValue) (plain : IsPlain table) (lines : List Text) (drawn : IsTableDrawing table lines) → straight.IsStraightTable table drawn.widths → AreEquallyWide lines
 equally_wide table plain lines drawn is =
-    (line_total table drawn.widths, subst (All (λ line. measure line ≡ line_total table drawn.widths)) (sym (drawn.unstyled_lines plain.no_styles plain.no_sequences)) (drawn.straight is))
+    (line_total table drawn.widths, subst (All (λ line. measure line ≡ line_total table drawn.widths)) (sym (drawn.edges.unstyled_lines plain.no_styles plain.no_sequences)) (drawn.edges.straight is))
 
 -- and with styles what they show is
 pub shown_equally_wide : (table : TableValue) (lines : List Text) (drawn : IsTableDrawing table lines) → HasNoControls table → straight.IsStraightTable table drawn.widths → AreShownEquallyWide lines
@@ -187,5 +222,5 @@ shown_equally_wide table lines drawn free is =
     let clear = free_of_controls table free in (
       line_total table drawn.widths,
       λ k line below.
-          (visible_text (slice_index_or lines k line), line_shows (slice_index_or lines k line) (drawn.without_controls clear k line below), drawn.straight_without_sequences (free_of_escapes table clear) is k line below),
+          (visible_text (slice_index_or lines k line), line_shows (slice_index_or lines k line) (drawn.controls.without_controls clear k line below), visible_lines_are_straight table lines drawn (free_of_escapes table clear) is k line below),
     )

@@ -9,6 +9,7 @@ use Rattle.comfy_parts.specs.Text.{Text, measure}
 use Rattle.comfy_parts.specs.declared.style.table.ContentArrangement.{ContentArrangement}
 use Rattle.comfy_parts.specs.declared.style.table.ContentArrangement.TheVariants.{Dynamic, DynamicFullWidth}
 use Rattle.comfy_parts.specs.declared.style.table_style.TableStyle.{TableStyle}
+use Rattle.comfy_table.proofs.HeadlineLemmas.{drawing_fills_width, drawing_keeps_to_width}
 use Rattle.comfy_table.proofs.InfoLemmas.{columns_from}
 use Rattle.comfy_table.specs.Frame.{border_count, draws_left_border, draws_right_border, draws_vertical_lines}
 use Rattle.comfy_table.specs.Headline.{IsTableDrawing}
@@ -17,8 +18,8 @@ use Rattle.comfy_table.specs.Straight as straight
 use Rattle.comfy_table.specs.TableValue.{is_tty, width_or_terminal, TableValue}
 use Rattle.comfy_table.specs.Widths.{shown_count}
 use Rattle.promises.proofs.FittingLemmas.{narrow, plain_stay, unconstrained}
-use Rattle.promises.specs.Tables.{EachText, HasCharactersWithin, HasPlainFrame, IsFree, IsPlain, shown}
-use Rattle.promises.specs.Widths.{frame_room}
+use Rattle.promises.specs.Tables.{EachText, HasCharactersWithin, HasPlainFrame, IsPlain, shown}
+use Rattle.promises.specs.Widths.{IsFree, frame_room}
 
 -- borders at both sides, and one between each two columns
 borders : (style : TableStyle) (n : ℕ) → 0 < n → border_count style n ≤ n + 1
@@ -65,16 +66,13 @@ shown_columns-count table = (counted 0 table.columns).1
 least : (table : TableValue) → IsFree table → least_total table ≤ frame_room table
 least table free =
     let own = counted 0 table.columns in
-    let some : 0 < shown_count table = omega (arith, own.1, free.some_column) in
+    let some : 0 < shown_count table = omega (arith, own.1, free.0) in
     omega (arith, own.0, borders table.style (shown_count table) some)
 
--- a table with other settings has as plain a frame, and as free columns
+-- a table with other settings has as plain a frame
 same_frame : (table : TableValue) (width : Option ℕ) (arrangement : ContentArrangement) → HasPlainFrame table → HasPlainFrame (record table { set_width = width; arrangement = arrangement })
 same_frame table width arrangement is =
     record { style = is.style; delimiter = is.delimiter; column_delimiters = is.column_delimiters; cell_delimiters = is.cell_delimiters; indicator = is.indicator; paddings = is.paddings }
-
-same_free : (table : TableValue) (width : Option ℕ) (arrangement : ContentArrangement) → IsFree table → IsFree (record table { set_width = width; arrangement = arrangement })
-same_free table width arrangement is = record { some_column = is.some_column; no_constraint = is.no_constraint }
 
 module _ (old new : TableValue) (w : ℕ) (lines : List Text) where
   -- under `Dynamic` no line is wider than the width, or than this
@@ -83,11 +81,11 @@ module _ (old new : TableValue) (w : ℕ) (lines : List Text) where
   within set =
       rw set (λ drawn plain frame free each.
       let table : TableValue = record old { set_width = Some w; arrangement = Dynamic } in
-      let own = same_free old (Some w) Dynamic free in
-      let straight = narrow table (plain_stay table plain.no_sequences) (same_frame old (Some w) Dynamic frame) lines drawn each in
+      let straight = narrow table (same_frame old (Some w) Dynamic frame)
+      (plain_stay table plain.no_sequences) lines drawn each in
       let known : All (λ line. measure line ≤ max w (least_total table)) lines =
-      subst (All (λ line. measure line ≤ max w (least_total table))) (sym (drawn.unstyled_lines plain.no_styles plain.no_sequences)) ((drawn.keeps_to_width w (unconstrained table own.no_constraint) refl refl).straight_lines straight) in
-      let enough : least_total table ≤ frame_room table = least table own in
+      subst (All (λ line. measure line ≤ max w (least_total table))) (sym (drawn.edges.unstyled_lines plain.no_styles plain.no_sequences)) ((drawing_keeps_to_width table w lines drawn (unconstrained table free.1) refl refl).straight_lines straight) in
+      let enough : least_total table ≤ frame_room table = least table free in
       All-weaker (λ line. measure line ≤ max w (least_total table)) (λ line. measure line ≤ max w (frame_room old)) (λ line is. omega (arith, is, enough)) lines known)
 
   -- under `DynamicFullWidth` each is as wide as the width, where that has room for it
@@ -96,12 +94,12 @@ module _ (old new : TableValue) (w : ℕ) (lines : List Text) where
   over set =
       rw set (λ drawn plain frame free each room.
       let table : TableValue = record old { set_width = Some w; arrangement = DynamicFullWidth } in
-      let own = same_free old (Some w) DynamicFullWidth free in
-      let straight = narrow table (plain_stay table plain.no_sequences) (same_frame old (Some w) DynamicFullWidth frame) lines drawn each in
-      let some : 0 < shown_count table = omega (arith, (counted 0 old.columns).1, free.some_column) in
+      let straight = narrow table (same_frame old (Some w) DynamicFullWidth frame)
+      (plain_stay table plain.no_sequences) lines drawn each in
+      let some : 0 < shown_count table = omega (arith, (counted 0 old.columns).1, free.0) in
       let known : All (λ line. measure line ≡ max w (least_total table)) lines =
-      subst (All (λ line. measure line ≡ max w (least_total table))) (sym (drawn.unstyled_lines plain.no_styles plain.no_sequences)) ((drawn.fills_width w (unconstrained table own.no_constraint) refl refl some).straight_lines straight) in
-      let enough : least_total table ≤ frame_room table = least table own in
+      subst (All (λ line. measure line ≡ max w (least_total table))) (sym (drawn.edges.unstyled_lines plain.no_styles plain.no_sequences)) ((drawing_fills_width table w lines drawn (unconstrained table free.1) refl refl some).straight_lines straight) in
+      let enough : least_total table ≤ frame_room table = least table free in
       All-weaker (λ line. measure line ≡ max w (least_total table)) (λ line. measure line ≡ w) (λ line is. omega (arith, is, enough, room)) lines known)
 
 -- under `Dynamic` no line of a straight table is wider than the width, or than what the frame takes
@@ -109,7 +107,7 @@ pub fitting_within : (table : TableValue) (w : ℕ) (lines : List Text) (drawn :
     → table.arrangement ≡ Dynamic → table.set_width ≡ Some w → All (λ line. measure line ≤ max w (frame_room table)) lines
 fitting_within table w lines drawn plain free is dynamic width =
     let known : All (λ line. measure line ≤ max w (least_total table)) lines =
-    subst (All (λ line. measure line ≤ max w (least_total table))) (sym (drawn.unstyled_lines plain.no_styles plain.no_sequences))
-    ((drawn.keeps_to_width w (unconstrained table free.no_constraint) dynamic (ap (λ (o : Option ℕ). width_or_terminal o (is_tty table) table.terminal.width) width)).straight_lines is) in
+    subst (All (λ line. measure line ≤ max w (least_total table))) (sym (drawn.edges.unstyled_lines plain.no_styles plain.no_sequences))
+    ((drawing_keeps_to_width table w lines drawn (unconstrained table free.1) dynamic (ap (λ (o : Option ℕ). width_or_terminal o (is_tty table) table.terminal.width) width)).straight_lines is) in
     let enough : least_total table ≤ frame_room table = least table free in
     All-weaker (λ line. measure line ≤ max w (least_total table)) (λ line. measure line ≤ max w (frame_room table)) (λ line own. omega (arith, own, enough)) lines known

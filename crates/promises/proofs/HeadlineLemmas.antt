@@ -1,38 +1,37 @@
 -- Every drawing is one of frame lines and of rows of padded pieces.
-use Rattle.std.proofs.Common.{◌≡◌, ◌==◌, ◌||◌, ◌<◌, ◌≤◌, ℕ, zero, suc, ◌+◌, ◌-◌, Bool, true, false, List, [], ◌∷◌, ◌++◌, Option, Some, None, length, map, take, drop, flat_map, refl, sym, ap, ap₂, ◌∙◌, subst, arith, append_assoc, append-nil, slice_index_or, unwrap_or, max, min, nat_le}
+use Rattle.std.proofs.Common.{◌≡◌, ◌==◌, ◌||◌, ◌<◌, ◌≤◌, ℕ, zero, suc, ◌+◌, ◌-◌, Bool, true, false, List, [], ◌∷◌, ◌++◌, Option, Some, None, length, map, take, drop, flat_map, refl, sym, ap, ap₂, ◌∙◌, subst, arith, append_assoc, append-nil, slice_index_or, max, min, nat_le}
 use Rattle.std.specs.Char.{IsScalar}
 use Rattle.std.specs.List.{All, AllZip, concat, join_by, slice_get}
 use Rattle.std.specs.Int.{is_in_range}
 use Rattle.std.proofs.lemmas.Str.{chars-nil}
-use Rattle.std.specs.Prelude.{chars, nat_lt, if◌then◌else◌, option_map, option_to_list, slice_index, MatchOption}
+use Rattle.std.specs.Prelude.{chars, nat_lt, if◌then◌else◌, option_to_list, slice_index, MatchOption}
 use Rattle.std.specs.Str.{IsUtf8}
 use Rattle.std.proofs.lemmas.Bool.{and_parts, cond_both, or_parts}
 use Rattle.std.proofs.lemmas.Bool.Decides.{nat_tests}
-use Rattle.std.proofs.lemmas.List.{length-map, map-append, take-map}
-use Rattle.std.proofs.lemmas.List.Elements.{All-append, All-cons, All-from_recursion, All-head, All-nil, All-tail, All-take, All-weaker, recursion_from_All}
+use Rattle.std.proofs.lemmas.List.{length-map, take-map}
+use Rattle.std.proofs.lemmas.List.Elements.{All-cons, All-from_recursion, All-head, All-nil, All-tail, All-take, All-weaker}
 use Rattle.std.proofs.lemmas.Simd.{map-map}
-use Rattle.comfy_parts.proofs.CallerLemmas.{All-at, All-every, All-of_map, All-others, Shows-clear, join_by-map, lines_keep_the_text, lines_visible, measure-nil, measure-printable, visible-closed, visible_text-is, wrapped_is_wrapped}
+use Rattle.comfy_parts.proofs.CallerLemmas.{All-every, All-of_map, All-others, Shows-clear, join_by-map, lines_keep_the_text, lines_visible, measure-nil, measure-printable, visible-closed, visible_text-is, wrapped_is_wrapped}
 use Rattle.comfy_parts.specs.CellValue.{CellValue, ColumnInfo, ColumnValue, RowValue, info_of, info_width}
 use Rattle.comfy_parts.specs.Text.{AddsOneColumnEach, Text, greatest, is_printable_ascii, measure, spaces}
 use Rattle.comfy_parts.specs.VisibleLines.{CellLine, line_texts}
 use Rattle.comfy_parts.specs.VisibleText.{closed, visible_text}
 use Rattle.comfy_parts.specs.Wrapping.{IsSlicesWhere, lines_of_text, wrapped}
-use Rattle.comfy_parts.specs.declared.style.cell.CellAlignment.{CellAlignment}
 use Rattle.comfy_parts.specs.declared.style.table_style.ContentLineStyle.{ContentLineStyle}
-use Rattle.comfy_parts.specs.declared.style.table_style.LineStyle.{LineStyle}
 use Rattle.comfy_table.proofs.CutLemmas.{measured_of, whole-measured}
+use Rattle.comfy_table.proofs.DrawnWidthLemmas.{fills_width, keeps_to_width}
 use Rattle.comfy_table.proofs.SpaceLemmas.{free_before-le, padded-is, spaces-append}
 use Rattle.comfy_table.proofs.StyledLemmas.{KeptByDrawing, keeps_spaces, keeps_style_begin, keeps_style_end}
+use Rattle.comfy_table.proofs.TableLemmas.{frame_counts}
 use Rattle.comfy_table.proofs.TextKindLemmas.{byte_kind}
-use Rattle.comfy_table.proofs.ThreePlacesLemmas.{every-le-greatest}
 use Rattle.comfy_table.specs.Drawing.{drawing, drawn_header, drawn_row, infos_of, whole_widths}
 use Rattle.comfy_table.specs.Frame.{frame_line, optional_frame_line}
 use Rattle.comfy_table.specs.Headline.{IsTableDrawing}
-use Rattle.comfy_table.specs.Laws.{AddsOneColumnEachWhereWritten, HasNoEscape, HasPrintableCells, HasStyleWithout, IsFreeOfEscapes, IsPrintableCell, IsPrintableTable, count, least_total, line_total}
-use Rattle.comfy_table.specs.Lines.{as_measured, cell_delimiter, cell_lines, cut_line, cut_text, cut_to_height, cut_to_limit, whole_lines}
-use Rattle.comfy_table.specs.Pieces.{blank_piece, cell_alignment, free_before, free_places, padded, piece, pieces_at, pieces_of_optional, row_cell_lines, shown_infos}
+use Rattle.comfy_table.specs.Laws.{AddsOneColumnEachWhereWritten, HasNoEscape, HasPrintableCells, HasStyleWithout, IsFreeOfEscapes, IsPrintableCell, IsPrintableTable, count, line_total}
+use Rattle.comfy_table.specs.Lines.{as_measured, cell_delimiter, cell_lines, cut_line, cut_to_limit, whole_lines}
+use Rattle.comfy_table.specs.Pieces.{blank_piece, cell_alignment, free_before, free_places, padded, piece, pieces_of_optional, row_cell_lines, shown_infos}
 use Rattle.comfy_table.specs.Styling.{style_begin, style_end, styled}
-use Rattle.comfy_table.specs.TableValue.{TableValue, column_cells, header_and_rows, measured_cell, measured_rows, should_style, shown_columns}
+use Rattle.comfy_table.specs.TableValue.{TableValue, column_cells, measured_cell, measured_rows, should_style, shown_columns}
 use Rattle.comfy_table.specs.Widths.{shown_count}
 use Rattle.promises.proofs.FittingLemmas.{unconstrained}
 use Rattle.promises.proofs.FrameLemmas.{shown_columns-count}
@@ -390,17 +389,16 @@ headline table lines drawn =
       are_rows = rows_are table drawn.widths long table.rows (All-others (λ (row : RowValue). All (IsWholeAt table row) (shown_columns table)) table.header table.rows (whole_at table lines drawn));
       drawn = drawn.drawn ∙ drawing_is table drawn.widths long;
       total = line_total table drawn.widths;
-      frame_total = λ line. ap (λ ws. count (frame_line table.style line ws)) (sym (widths_are table drawn.widths long)) ∙ drawn.frame_counts line;
+      frame_total = λ line. ap (λ ws. count (frame_line table.style line ws)) (sym (widths_are table drawn.widths long)) ∙ frame_counts table drawn.widths line long;
       rows_total = λ printable even plain.
-          subst (All (λ line. count line ≡ line_total table drawn.widths)) (sym (drawn.unstyled_lines plain.no_styles plain.no_sequences)) (drawn.equal_counts (even_table table drawn.widths printable even));
+          subst (All (λ line. count line ≡ line_total table drawn.widths)) (sym (drawn.edges.unstyled_lines plain.no_styles plain.no_sequences)) (drawn.edges.equal_counts (even_table table drawn.widths printable even));
       styled_total = λ printable even style.
           All-of_map (λ text. count text ≡ line_total table drawn.widths) visible_text lines
-          (subst (All (λ line. count line ≡ line_total table drawn.widths)) (sym (drawn.without_sequences (printable_free table printable style))) (drawn.equal_counts (even_table table drawn.widths printable even)));
-      keeps_to_width = λ w known free dynamic.
-          subst (λ n. n ≤ max w (least_total table)) (drawn.frame_counts table.style.top_border) ((drawn.keeps_to_width w (unconstrained table free) dynamic known).frame_lines table.style.top_border);
+          (subst (All (λ line. count line ≡ line_total table drawn.widths)) (sym (drawn.sequences.without_sequences (printable_free table printable style))) (drawn.edges.equal_counts (even_table table drawn.widths printable even)));
+      keeps_to_width = λ w known free dynamic. keeps_to_width table w drawn.widths (unconstrained table free) dynamic known drawn.arranged;
       fills_width = λ w known free full some.
           let one : 0 < shown_count table = omega (arith, shown_columns-count table, some) in
-          subst (λ n. n ≡ max w (least_total table)) (drawn.frame_counts table.style.top_border) ((drawn.fills_width w (unconstrained table free) full known one).frame_lines table.style.top_border);
+          fills_width table w drawn.widths (unconstrained table free) full known one drawn.arranged;
     }
   where
     long : length drawn.widths ≡ length table.columns

@@ -1,5 +1,5 @@
 -- Where the texts of a table stand in its drawing.
-use Rattle.std.proofs.Common.{◌≡◌, ◌<◌, ◌≤◌, ℕ, ◌+◌, Bool, true, false, not, cond, List, [], ◌∷◌, ◌++◌, Option, Some, None, length, map, flat_map, refl, sym, ap, ◌∙◌, subst, arith, ap₂, append_assoc, append-nil, length-append, slice_index_or, unwrap_or, max, nat_le}
+use Rattle.std.proofs.Common.{◌≡◌, ◌<◌, ◌≤◌, ℕ, Bool, true, false, not, List, [], ◌∷◌, ◌++◌, Option, Some, None, length, map, flat_map, refl, sym, ap, ◌∙◌, subst, arith, ap₂, append_assoc, append-nil, slice_index_or, unwrap_or, max, nat_le}
 use Rattle.std.specs.Char.{IsScalar}
 use Rattle.std.specs.List.{All, AllZip, concat, join_by, range_with_len, slice_get}
 use Rattle.std.specs.Prelude.{if◌then◌else◌, option_map, option_to_list, slice_index, MatchOption}
@@ -30,7 +30,7 @@ use Rattle.comfy_table.specs.Drawing.{drawing, drawn_header, drawn_row, drawn_ro
 use Rattle.comfy_table.specs.Frame.{character, content_line, draws_left_border, draws_right_border, draws_vertical_lines, optional_frame_line}
 use Rattle.comfy_table.specs.Headline.{IsTableDrawing}
 use Rattle.comfy_table.specs.Lines.{as_measured, cell_delimiter, cell_lines, cut_line, cut_to_limit, whole_lines}
-use Rattle.comfy_table.specs.Pieces.{blank_piece, padded, piece, pieces_at, pieces_of_optional, row_cell_lines, row_height, row_line, shown_infos, spaces_after, spaces_before}
+use Rattle.comfy_table.specs.Pieces.{blank_piece, padded, piece, pieces_at, pieces_of_optional, row_cell_lines, row_height, row_line, spaces_after, spaces_before}
 use Rattle.comfy_table.specs.Styling.{style_begin, style_end, styled}
 use Rattle.comfy_table.specs.TableValue.{TableValue, header_and_rows, measured_cell, should_style, shown_columns, cell_content_width, column_cells, column_content_width, measured_rows, table_width}
 use Rattle.promises.proofs.DrawnColumnLemmas.{IsWholeAt, columns-drawn, drawn_column, whole_at}

@@ -6,4 +6,3 @@ pub mod HeadlineLemmas
 pub mod KeptLemmas
 pub mod PlacedLemmas
 pub mod ShownLemmas
-mod Trials

@@ -1,6 +1,6 @@
 -- Columns with their positions, and rows as they are measured.
-use Rattle.std.proofs.Common.{◌≡◌, ℕ, ◌+◌, Bool, true, false, cond, List, [], ◌∷◌, ap, ◌∙◌, map, refl}
-use Rattle.std.specs.List.{All, enumerate_from, filter}
+use Rattle.std.proofs.Common.{◌≡◌, ℕ, suc, ◌+◌, Bool, true, false, cond, List, [], ◌∷◌, Some, ap, ◌∙◌, arith, map, refl}
+use Rattle.std.specs.List.{All, enumerate_from, filter, slice_get}
 use Rattle.std.proofs.lemmas.List.Elements.{All-cons, All-head, All-nil, All-tail}
 use Rattle.comfy_parts.specs.CellValue.{RowValue}
 use Rattle.comfy_table.proofs.MeasuredLemmas.{measured_rows-is, row_measured}
@@ -19,6 +19,32 @@ placed {A} test P n (x ∷ xs) each = by_test (test x) each (λ more. placed tes
         → All (λ (p : ℕ × A). P p.1) (cond b ((n, x) ∷ later) later)
     by_test true each rest = All-cons (λ (p : ℕ × A). P p.1) (n, x) later (All-head P x (filter test xs) each) (rest (All-tail P x (filter test xs) each))
     by_test false each rest = rest each
+
+-- and each of these stands at its position, and passes the test
+pub standing : {A : Type 0} (test : A → Bool) (all : List A) (n : ℕ) (xs : List A)
+    → ((k : ℕ) → slice_get all (n + k) ≡ slice_get xs k)
+    → All (λ (p : ℕ × A). (slice_get all p.0 ≡ Some p.1) × (test p.1 ≡ true))
+    (filter (λ (p : ℕ × A). test p.1) (enumerate_from n xs))
+standing {A} test all n [] same =
+    All-nil (λ (p : ℕ × A). (slice_get all p.0 ≡ Some p.1) × (test p.1 ≡ true))
+standing {A} test all n (x ∷ xs) same = by_test (test x) refl (standing test all (n + 1) xs next)
+  where
+    Stands : ℕ × A → Type 0
+    Stands p = (slice_get all p.0 ≡ Some p.1) × (test p.1 ≡ true)
+
+    later : List (ℕ × A)
+    later = filter (λ (p : ℕ × A). test p.1) (enumerate_from (n + 1) xs)
+
+    next : (k : ℕ) → slice_get all (n + 1 + k) ≡ slice_get xs k
+    next k = let at : n + 1 + k ≡ n + suc k = omega arith in ap (slice_get all) at ∙ same (suc k)
+
+    here : slice_get all n ≡ Some x
+    here = let at : n ≡ n + 0 = omega arith in ap (slice_get all) at ∙ same 0
+
+    by_test : (b : Bool) → test x ≡ b → All Stands later
+        → All Stands (cond b ((n, x) ∷ later) later)
+    by_test true passes rest = All-cons Stands (n, x) later (here, passes) rest
+    by_test false passes rest = rest
 
 -- ---- rows as they are measured
 

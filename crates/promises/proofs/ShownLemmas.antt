@@ -137,4 +137,4 @@ free_of_controls table free =
     }
 
 pub harmless : (table : TableValue) (text : Text) → IsTextOf table text → HasNoControls table → IsHarmless text
-harmless table text (lines, drawn, is) free = subst IsHarmless (sym is) (joined lines (drawn.without_controls (free_of_controls table free)))
+harmless table text (lines, drawn, is) free = subst IsHarmless (sym is) (joined lines (drawn.controls.without_controls (free_of_controls table free)))

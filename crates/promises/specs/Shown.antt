@@ -23,10 +23,13 @@ abbrev pub IsHarmless : Text → Type 0
 IsHarmless text =
     (shown : Text) × Shows text shown × NoCharPasses (λ c. is_control c && not (c == 0x0A)) shown
 
--- all lines show the same number of terminal columns
+-- a line shows so many terminal columns
+abbrev pub ShowsColumns : ℕ → Text → Type 0
+ShowsColumns n line = (shown : Text) × Shows line shown × (measure shown ≡ n)
+
+-- all lines show the same number
 abbrev pub AreShownEquallyWide : List Text → Type 0
-AreShownEquallyWide lines =
-    (n : ℕ) × All (λ line. (shown : Text) × Shows line shown × (measure shown ≡ n)) lines
+AreShownEquallyWide lines = (n : ℕ) × All (ShowsColumns n) lines
 
 -- no character of a shown text, of the indicator and of the style is a control character
 pub record HasNoControls (table : TableValue) : Type 0 where

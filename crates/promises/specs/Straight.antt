@@ -20,7 +20,7 @@ AreStraightWhole table lines =
     IsPlain table → HasPlainFrame table → table.arrangement ≡ Disabled → IsShownWhole table
     → AreEquallyWide lines
 
--- where each character fits these columns
+-- where each character fits its column, one of these
 abbrev pub AreStraightWhereCharactersFit : TableValue → List ColumnInfo → List Text → Type 0
 AreStraightWhereCharactersFit table columns lines =
     IsPlain table → HasPlainFrame table → CharactersFit table columns → AreEquallyWide lines

@@ -1,5 +1,5 @@
 -- Tables as callers make them, and how wide their lines are shown.
-use Rattle.std.specs.Prelude.{◌≡◌, ◌==◌, ◌&&◌, ℕ, ◌<◌, ◌≤◌, true, false, not, None, Some, List, All, chars, encode_utf8, filter, length, nat_le, slice_get}
+use Rattle.std.specs.Prelude.{◌≡◌, ◌==◌, ◌&&◌, ℕ, ◌≤◌, true, false, not, None, Some, List, All, chars, encode_utf8, filter, nat_le, slice_get}
 use Rattle.std.specs.List.{list_all}
 use Rattle.comfy_parts.specs.CellValue.{CellValue, ColumnInfo, ColumnValue, RowValue, is_hidden_column}
 use Rattle.comfy_parts.specs.Columns.{IsApart, IsOneColumn, IsOneColumnStyle}
@@ -31,11 +31,6 @@ shown table = filter (λ (column : ColumnValue). not (is_hidden_column column)) 
 abbrev pub IsUnconstrained : TableValue → Type 0
 IsUnconstrained table = All (λ (column : ColumnValue). column.constraint ≡ None) (shown table)
 
--- there is one of these, and none has a constraint
-pub record IsFree (table : TableValue) : Type 0 where
-  pub some_column : 0 < length (shown table)
-  pub no_constraint : All (λ (column : ColumnValue). column.constraint ≡ None) (shown table)
-
 -- neither colours nor attributes are written, and texts aren't searched for sequences
 pub record IsPlain (table : TableValue) : Type 0 where
   pub no_styles : should_style table ≡ false
@@ -65,8 +60,9 @@ pub record IsShownWhole (table : TableValue) : Type 0 where
   pub uncut : All (λ (row : RowValue). row.max_height ≡ None) (header_and_rows table)
   pub short : EachText (λ text. measure text ≤ 65535) table
 
--- each character of each text fits each column that is drawn
+-- each character of a cell's text fits its column, where that is drawn
 abbrev pub CharactersFit : TableValue → List ColumnInfo → Type 0
 CharactersFit table columns =
-    All (λ (column : ColumnInfo). EachText (HasCharactersWithin column.content_width) table)
-    (filter (λ (column : ColumnInfo). not column.is_hidden) columns)
+    All (λ (row : RowValue). (i : ℕ) (column : ColumnInfo) → slice_get columns i ≡ Some column
+    → column.is_hidden ≡ false → (cell : CellValue) → slice_get row.cells i ≡ Some cell
+    → All (HasCharactersWithin column.content_width) cell.text_lines) (header_and_rows table)

@@ -1,15 +1,19 @@
 -- Lines that keep to a width.
-use Rattle.std.specs.Prelude.{◌≡◌, ℕ, ◌+◌, ◌≤◌, List, Some, All, max, sum_by}
+use Rattle.std.specs.Prelude.{◌≡◌, ℕ, ◌+◌, ◌<◌, ◌≤◌, List, Some, All, length, max, sum_by}
 use Rattle.comfy_parts.specs.CellValue.{ColumnInfo, ColumnValue}
 use Rattle.comfy_parts.specs.Text.{Text, measure}
 use Rattle.comfy_parts.specs.declared.style.table.ContentArrangement.TheVariants.{Dynamic}
 use Rattle.comfy_table.specs.TableValue.{TableValue}
-use Rattle.promises.specs.Tables.{CharactersFit, EachText, HasCharactersWithin, HasPlainFrame, IsFree, IsPlain, shown}
+use Rattle.promises.specs.Tables.{CharactersFit, EachText, HasCharactersWithin, HasPlainFrame, IsPlain, IsUnconstrained, shown}
 
 -- a border at each side of each shown column, its paddings, and one terminal column for texts
 abbrev pub frame_room : TableValue → ℕ
 frame_room table =
     1 + sum_by (λ (column : ColumnValue). column.padding.0 + 1 + column.padding.1 + 1) (shown table)
+
+-- a column is shown, and none of these has a constraint
+abbrev pub IsFree : TableValue → Type 0
+IsFree table = (0 < length (shown table)) × IsUnconstrained table
 
 -- the texts of a table without styles and constraints have characters of one terminal column
 abbrev pub IsNarrow : TableValue → Type 0
@@ -26,7 +30,7 @@ abbrev pub FillWidth : TableValue → ℕ → List Text → Type 0
 FillWidth table w lines =
     IsNarrow table → frame_room table ≤ w → All (λ line. measure line ≡ w) lines
 
--- no line is wider where each character fits these columns
+-- no line is wider where each character fits its column, one of these
 abbrev pub KeepToWidthWhereCharactersFit : TableValue → List ColumnInfo → List Text → Type 0
 KeepToWidthWhereCharactersFit table columns lines =
     (w : ℕ) → table.set_width ≡ Some w → table.arrangement ≡ Dynamic

@@ -20,7 +20,7 @@ pub fn straight_whole_lines(table: &Table) -> Result<Lines>
     table.lines()
 }
 
-/// Where each character has room in each column, all lines are equally wide, whatever the script.
+/// Where each character has room in its column, all lines are equally wide, whatever the script.
 /// The columns are returned with the lines.
 pub fn straight_fitting_lines(table: &Table) -> Result<(ArrangedTable<'_>, Lines)>
     ensures { IfOk result (λ drawn. AreStraightWhereCharactersFit table.now drawn.0.infos drawn.1) }

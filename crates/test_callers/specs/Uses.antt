@@ -1,5 +1,5 @@
 -- What the callers in `uses` say of drawings and of rows.
-use Rattle.std.specs.Prelude.{◌≡◌, ◌≤◌, ◌==◌, ◌∷◌, ◌++◌, ℕ, [], List, Some, false, All, map, slice_get}
+use Rattle.std.specs.Prelude.{◌≡◌, ◌≤◌, ◌==◌, ◌∷◌, ◌++◌, ℕ, [], List, Some, false, All, map}
 use Rattle.std.specs.List.{concat, slice_split}
 use Rattle.comfy_parts.specs.CellValue.{CellValue, ColumnInfo, RowValue, info_of, new_column, plain_cell, plain_row}
 use Rattle.comfy_parts.specs.Laws.{characters_without}
@@ -12,7 +12,8 @@ use Rattle.comfy_parts.specs.declared.style.table_style.LineStyle.{LineStyle}
 use Rattle.comfy_table.specs.Drawing.{drawing, infos_of, whole_widths}
 use Rattle.comfy_table.specs.Frame.{frame_line}
 use Rattle.comfy_table.specs.Laws.{FillsWidth, HasUnbrokenStyle, IsPrintableTable, KeepsToWidth, NoConstraints, count, least_total, unstyled}
-use Rattle.comfy_table.specs.Pieces.{row_cell_lines, shown_infos}
+use Rattle.comfy_table.specs.Pieces.{row_cell_lines}
+use Rattle.comfy_table.specs.Straight.{EachShownCell}
 use Rattle.comfy_table.specs.TableLaws.{FillsWiderTotal, FrameCounts, FrameFillsWidth, FrameKeepsToWidth, IsAtMostThreeOver, KeepsToWiderTotal, KeepsToWiderTotalInFull, TableIsFull, TableIsLevelled, TableKeepsContents, TableLevelIsBest}
 use Rattle.comfy_table.specs.TableValue.{TableValue, constrained, header_and_rows, new_table, should_style, table_width, with_header, with_row}
 use Rattle.test_callers.specs.declared.uses.items.NumberRows.{NumberRows}
@@ -88,9 +89,7 @@ abbrev pub IsDrawnWithCells : (RowValue → ColumnInfo → CellValue → Type 0)
     → Type 0
 IsDrawnWithCells P table lines =
     (widths : List ℕ) × (lines ≡ drawing table widths)
-    × All (λ (row : RowValue). All (λ (p : ℕ × ColumnInfo). (cell : CellValue)
-    → slice_get row.cells p.0 ≡ Some cell
-    → P row p.1 cell) (shown_infos (infos_of table widths))) (header_and_rows table)
+    × EachShownCell P (header_and_rows table) table widths
 
 -- the rows that the iterator still gives: each number that is left, in a list of its own
 abbrev pub rows_left : NumberRows → List (List ℕ)

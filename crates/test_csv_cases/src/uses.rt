@@ -9,12 +9,13 @@ ghost use Rattle.csv_tables.specs.Drawn.{IsOutputFor};
 ghost use Rattle.csv_tables.specs.Laws.{IsLookWithoutControls};
 ghost use Rattle.test_csv_cases.specs.Uses.{GivesInputBack};
 
-use csv_records::laws::cleaned_fields_hold_no_controls;
-use csv_tables::laws::{markdown_lines_give_back_their_fields, outputs_hold_no_controls};
-use csv_records::{Kept, cleaned};
-use csv_tables::{CsvError, Options, draw};
-use csv_command::{Surroundings, asked_of};
 use comfy_run::run::{MemorySink, MemorySource};
+use csv_command::laws::drawings_hold_no_controls;
+use csv_command::{Surroundings, asked_of};
+use csv_records::laws::cleaned_fields_hold_no_controls;
+use csv_records::{Kept, cleaned};
+use csv_tables::laws::{markdown_lines_give_back_their_fields, outputs_hold_no_controls};
+use csv_tables::{CsvError, Options, draw};
 use std::alloc::{AllocError, Global};
 
 // Nothing of a field is left as it is.
@@ -79,7 +80,7 @@ pub fn output_for_words(
 ) -> Option<MemorySink>
     ensures { IfSome result (λ sink. HasNoStrayControl (visible_text sink.bytes)) }
 {
-    outputs_hold_no_controls();
+    drawings_hold_no_controls();
     let asked = asked_of(alloc, words, surroundings).ok()?;
     if asked.options.look.is_raw {
         return None;

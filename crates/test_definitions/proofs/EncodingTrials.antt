@@ -89,12 +89,12 @@ no_break = record { before = 0x0A0D ∷ []; after = []; first = refl; numbered =
 -- ---- what laws refuse
 
 -- a letter that isn't ASCII
--- false: comfy_csv_parts::laws::ascii_is_its_own_text
+-- false: csv_records::laws::ascii_is_its_own_text
 accent_is_another_text : ¬ (IsTextIn Cp1252 (0xE9 ∷ []) (0xE9 ∷ []))
 unfolding encode
 accent_is_another_text own = let is : 0xE9 ∷ [] ≡ 0xC3 ∷ 0xA9 ∷ [] = own in cc is
 
 -- an input without a mark
--- false: comfy_csv_parts::laws::texts_in_utf16_are_read_back
+-- false: csv_records::laws::texts_in_utf16_are_read_back
 without_mark_is_utf8 : ¬ (encoding_of None (0x61 ∷ 0x00 ∷ []) ≡ Utf16)
 without_mark_is_utf8 same = let is : Utf8 ≡ Utf16 = same in cc is

@@ -5,7 +5,7 @@ use Rattle.std.specs.Str.{chars}
 use Rattle.std.specs.List.{All, AllAdjacentBelow, AllZip, slice_split}
 use Rattle.std.proofs.lemmas.List.Elements.{All-cons, All-head, All-nil}
 use Rattle.comfy_parts.proofs.Computing.{wrapping}
-use Rattle.comfy_parts.specs.CellValue.{CellValue, new_column, plain_cell, plain_row}
+use Rattle.comfy_parts.specs.CellValue.{CellValue, new_column, plain_cell}
 use Rattle.comfy_parts.specs.Columns.{IsOneColumnPreset, IsOneColumnStyle}
 use Rattle.comfy_parts.specs.Comparisons.{EqIsSame}
 use Rattle.comfy_parts.specs.Laws.{EndsBetweenElements, IsCutOutsideNarrow, IsLongestHead, IsResumedLine, SameButOneDelimiter, characters_without, element_around}
@@ -18,6 +18,7 @@ use Rattle.comfy_parts.specs.declared.style.table.ContentArrangement.TheVariants
 use Rattle.comfy_parts.specs.declared.style.table_style.TableStyle.{TableStyle}
 use Rattle.comfy_table.specs.Drawing.{text_of}
 use Rattle.comfy_table.specs.Dynamic.{Steps}
+use Rattle.comfy_table.specs.Headline.{EachLineCounts}
 use Rattle.comfy_table.specs.Laws.{IsFreeOfEscapes, count, least_total, line_total}
 use Rattle.comfy_table.specs.Levels.{IsLevelled}
 use Rattle.comfy_table.specs.NewTables.{AreEquallyWide}
@@ -233,6 +234,11 @@ long_frame_line : ¬ (count (codes "+----+") ≤ max 5 (least_total table))
 unfolding wrapping
 long_frame_line fits = let is : 6 ≤ 5 = fits in omega (arith, is)
 
+-- false: comfy_table::laws::drawings_keep_to_the_width
+wide_drawing : ¬ (EachLineCounts (λ n. n ≤ max 5 (least_total table)) table (2 ∷ []))
+unfolding wrapping
+wide_drawing counts = let is : 6 ≤ 5 = counts.frame_lines ascii_full.top_border in omega (arith, is)
+
 -- false: comfy_table::laws::widths_keep_to_the_width
 wide_column : ¬ (line_total table (2 ∷ []) ≤ max 5 (least_total table))
 unfolding wrapping
@@ -303,7 +309,8 @@ line_with_a_line_feed :
     ¬ (slice_split (λ b. b == 0x0A) (text_of (codes "a\nb" ∷ [])) ≡ codes "a\nb" ∷ [])
 line_with_a_line_feed found = let is : ab ≡ codes "a\nb" ∷ [] = found in cc is
 
--- false: comfy_table::laws::new_tables_are_straight
+-- false: comfy_table::laws::new_tables_are_straight, promises::straight_lines
+-- false: promises::straight_whole_lines, promises::straight_fitting_lines
 shorter_line : ¬ (AreEquallyWide (codes "ab" ∷ codes "a" ∷ []))
 unfolding wrapping
 shorter_line (n, all) =
@@ -315,6 +322,17 @@ shorter_line (n, all) =
 number_sign_in_a_table : ¬ (IsStraightTable (rows_of numbered (("ab" ∷ []) ∷ [])) (2 ∷ []))
 number_sign_in_a_table straight =
     number_sign_adds_two (straight.characters 0 (Some 0x23) (omega arith))
+
+-- what is visible of the line is as wide as the table
+abbrev IsVisiblyStraight : Text → Type 0
+IsVisiblyStraight line = measure (visible_text line) ≡ line_total table (2 ∷ [])
+
+-- false: comfy_table::laws::visible_lines_are_straight
+short_line_in_bold : ¬ (All IsVisiblyStraight (codes "\u{1b}[1m+---+" ∷ []))
+unfolding wrapping
+short_line_in_bold all =
+    let is : ◌≡◌ {A = ℕ} 5 6 = All-head IsVisiblyStraight (codes "\u{1b}[1m+---+") [] all in
+    omega (arith, is)
 
 -- false: comfy_table::laws::tables_without_controls_have_no_escape
 escape_in_a_cell : ¬ (IsFreeOfEscapes (rows_of ascii_full (("\u{1b}" ∷ []) ∷ [])))

@@ -3,6 +3,7 @@ mod ArgumentTrials
 mod ClosedLineTrials
 mod ColumnTrials
 mod ControlTrials
+mod CsvPromiseTrials
 mod DrawingTrials
 mod EncodingTrials
 mod HiddenColumnTrials
@@ -17,6 +18,7 @@ mod OutputTrials
 mod PartTrials
 mod PremiseTrials
 mod PresetTrials
+mod PromiseTrials
 mod QuoteTrials
 mod ReadingTrials
 mod RecordTrials

@@ -64,7 +64,7 @@ missing_field_is_given_back : GivesBack look columns (codes "a" ∷ []) (codes "
 unfolding wrapping lib.Utf8.encode chars field_at
 missing_field_is_given_back = refl
 
--- false: comfy_csv::laws::markdown_lines_give_back_their_fields
+-- false: csv_tables::laws::markdown_lines_give_back_their_fields
 other_order_is_not : ¬ (GivesBack look columns (codes "a" ∷ codes "b" ∷ []) (codes "| a | b |"))
 unfolding wrapping lib.Utf8.encode chars field_at
 other_order_is_not is = true≢false (ap (λ (parts : List (List ℕ)). slice_index (slice_index_or parts 1 []) 0 == 0x61) is)

@@ -10,7 +10,7 @@ use Rattle.csv_records.specs.NumberLaws.{AreOfNumber}
 -- ---- numbers
 
 -- a point has no digit, and an `x` stands in no number
--- false: comfy_csv_parts::laws::numbers_are_made_of_digits
+-- false: csv_records::laws::numbers_are_made_of_digits
 no_digit : ¬ (AreOfNumber (codes "."))
 no_digit is = cc is.digit
 
@@ -44,7 +44,7 @@ by_number = ((0, 1), refl, omega arith, omega arith)
 by_name : Chooses names 2 (codes "a") 0
 by_name = ((0, 1), refl, omega arith, omega arith)
 
--- false: comfy_csv_parts::laws::drawn_columns_are_chosen
+-- false: csv_tables::laws::drawn_columns_are_chosen
 twice : ¬ (AreDistinct (0 ∷ 0 ∷ []))
 twice each = each 0 1 0 (omega arith) (omega arith) refl
 

@@ -87,7 +87,7 @@ cleaned_is_harmless : HasNoStrayControl (visible_text (field_text look (codes "\
 unfolding wrapping lib.Utf8.encode chars
 cleaned_is_harmless = harmless (codes "�[2J") refl
 
--- false: comfy_csv_parts::laws::cleaned_fields_hold_no_controls
+-- false: csv_records::laws::cleaned_fields_hold_no_controls
 raw_is_harmful : ¬ (HasNoStrayControl (visible_text (field_text (record look { is_raw = true }) (codes "\u{1b}[2J"))))
 unfolding wrapping lib.Utf8.encode chars
 raw_is_harmful = harmful (codes "\u{1b}[2J") refl
@@ -131,7 +131,7 @@ raw_is_written : visible_text (output (record look { is_raw = true })) ≡ utf8 
 unfolding wrapping lib.Utf8.encode chars field_at
 raw_is_written = refl
 
--- false: comfy_csv::laws::outputs_hold_no_controls
+-- false: csv_tables::laws::outputs_hold_no_controls, csv_command::laws::drawings_hold_no_controls
 raw_output_is_harmful : ¬ (HasNoStrayControl (visible_text (output (record look { is_raw = true }))))
 raw_output_is_harmful none =
     harmful (codes "+--------+\n| a      |\n+========+\n| \u{1b}[2J\u{9b}J |\n+--------+\n") refl (subst HasNoStrayControl raw_is_written none)
@@ -141,6 +141,6 @@ raw_output_is_harmful none =
 styles_for_words : IsStyleWithoutControls (style_for (Some (codes "UTF8_FULL")))
 styles_for_words = refl
 
--- false: comfy_csv_parts::laws::styles_for_words_hold_no_controls
+-- false: csv_command::laws::styles_for_words_hold_no_controls
 a_style_with_tabs : ¬ (IsStyleWithoutControls with_tabs)
 a_style_with_tabs is = true≢false is

@@ -12,7 +12,8 @@ use Rattle.comfy_table.proofs.BreakLemmas.{terminated_lines}
 use Rattle.comfy_table.specs.Laws.{AreLinesOf, HasNoBreak, IsStyleWithout, count}
 
 -- the lines of a text stand between its line feeds
-found : (text : Text) (lines : List Text) → AreLinesOf text lines → slice_split (λ b. b == 0x0A) text ≡ lines ++ [] ∷ []
+pub found : (text : Text) (lines : List Text) → AreLinesOf text lines
+    → slice_split (λ b. b == 0x0A) text ≡ lines ++ [] ∷ []
 found text lines are = ap (slice_split (λ b. b == 0x0A)) are.joined ∙ terminated_lines lines are.unbroken
 
 -- one line
@@ -23,7 +24,8 @@ one_line line (x ∷ y ∷ []) is = absurd (cc is)
 one_line line (x ∷ y ∷ z ∷ more) is = absurd (cc is)
 
 -- two lines
-two_lines : (first second : Text) (lines : List Text) → first ∷ second ∷ [] ∷ [] ≡ lines ++ [] ∷ [] → lines ≡ first ∷ second ∷ []
+pub two_lines : (first second : Text) (lines : List Text)
+    → first ∷ second ∷ [] ∷ [] ≡ lines ++ [] ∷ [] → lines ≡ first ∷ second ∷ []
 two_lines first second [] is = absurd (cc is)
 two_lines first second (x ∷ []) is = absurd (cc is)
 two_lines first second (x ∷ y ∷ []) is = cc is

@@ -1,5 +1,5 @@
 -- Outputs of which the conclusions of laws are false.
-use Rattle.std.proofs.Common.{◌≡◌, ◌==◌, ◌<◌, ◌+◌, ◌≤◌, ℕ, Bool, true, false, not, List, [], ◌∷◌, ◌++◌, None, Some, append-nil, arith, codes, length, map, refl, sym, ap, ◌∙◌, subst}
+use Rattle.std.proofs.Common.{◌≡◌, ◌==◌, ℕ, Bool, true, false, List, [], ◌∷◌, ◌++◌, None, append-nil, arith, codes, refl, sym, ap, ◌∙◌, subst}
 use Rattle.std.specs.List.{All, slice_split}
 use Rattle.std.proofs.lemmas.Bool.{true≢false}
 use Rattle.std.proofs.lemmas.List.Elements.{All-head, All-tail}
@@ -15,8 +15,9 @@ use Rattle.csv_tables.specs.declared.options.Expansion.TheVariants.{Never}
 use Rattle.csv_tables.specs.declared.options.Look.{Look}
 use Rattle.csv_tables.specs.declared.options.Options.{Options}
 use Rattle.csv_tables.specs.declared.options.RowSeparators.TheVariants.{Styled}
-use Rattle.csv_tables.specs.Laws.{EachLineHas, HasLines, IsOutputWith, IsStraightOutput, IsWithin, seen_lines}
-use Rattle.csv_tables.specs.OneOutput.{AreSameAsked, AreSameOptions}
+use Rattle.csv_tables.specs.Laws.{EachLineHas, HasLines, IsOutputWith, IsStraightOutput, seen_lines}
+use Rattle.csv_command.specs.Laws.{AreSameAsked}
+use Rattle.csv_tables.specs.OneOutput.{AreSameOptions}
 use Rattle.comfy_table.specs.TableValue.{TableValue}
 
 -- rows are never expanded, and all are drawn
@@ -24,7 +25,7 @@ abbrev look : Look
 look = record { style = ascii_full; separators = Styled; expansion = Never; width = None; fills_width = false; max_height = None; has_bold_header = false; has_sequences = false; keeps_bidi = false; is_raw = false; is_markdown = false }
 
 abbrev drawn_by : Options → Options
-drawn_by options = record options { limit = None; look = look }
+drawn_by options = record options { selection = record options.selection { limit = None }; look = look }
 
 -- the lines of an output by these options stand between its line feeds
 lines_of_output : (options : Options) (records : List (List Text)) (output : Text) (lines : List Text) → IsOutputWith (drawn_by options) records output lines → slice_split (λ b. b == 0x0A) output ≡ lines ++ [] ∷ []
@@ -53,7 +54,7 @@ unfolding wrapping encode
 two_columns true = refl
 two_columns false = refl
 
--- false: comfy_csv::laws::outputs_are_straight
+-- false: csv_tables::laws::outputs_are_straight
 two_widths_are_not_straight : (visible : Bool) (options : Options) (records : List (List Text)) → ¬ (IsStraightOutput visible (drawn_by options) records (codes "ab\na\n"))
 two_widths_are_not_straight visible options records is =
     let are = two_lines (codes "ab") (codes "a") is.lines (lines_of_output options records (codes "ab\na\n") is.lines is.is_output) in
@@ -72,13 +73,14 @@ unended [] is = cc is
 unended (a ∷ []) is = cc is
 unended (a ∷ b ∷ more) is = cc is
 
--- false: comfy_csv::laws::outputs_keep_to_a_width
+-- false: csv_tables::laws::outputs_keep_to_a_width
 unended_output_has_no_lines : (P : TableValue → ℕ → Type 0) (options : Options) (records : List (List Text)) → ¬ (EachLineHas P (drawn_by options) records (codes "ab"))
 unended_output_has_no_lines P options records is = unended is.lines (lines_of_output options records (codes "ab") is.lines is.is_output)
 
--- false: comfy_csv::laws::outputs_are_one
+-- false: csv_tables::laws::outputs_are_one
 others_are_not_the_same : (options : Options) → ¬ (AreSameOptions (drawn_by options) (record (drawn_by options) { look = record look { is_raw = true } }))
 others_are_not_the_same options is = true≢false (sym (ap (λ (l : Look). l.is_raw) is.look))
 
+-- false: csv_command::laws::drawings_are_one
 raw_fields_are_not_asked : (asked : Asked) → ¬ (AreSameAsked (record asked { options = drawn_by asked.options }) (record asked { options = record (drawn_by asked.options) { look = record look { is_raw = true } } }))
 raw_fields_are_not_asked asked is = others_are_not_the_same asked.options is.options

@@ -41,6 +41,6 @@ doubled : list_all (λ n. is_in_quoted_field (state_after 0x2C (codes "x\n" ++ 0
 doubled = refl
 
 -- two quotes
--- false: comfy_csv_parts::laws::unclosed_quotes_stand_alone
+-- false: csv_records::laws::unclosed_quotes_stand_alone
 other_quote : ¬ (codes "\"a" ≡ codes "\"b")
 other_quote same = let is : ◌≡◌ {A = ℕ} 0x61 0x62 = cc same in omega (arith, is)

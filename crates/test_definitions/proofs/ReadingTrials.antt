@@ -16,6 +16,7 @@ use Rattle.csv_command.specs.Words.{delimiter_for, encoding_for}
 use Rattle.csv_records.specs.declared.delimiter.Delimiter.{Delimiter}
 use Rattle.csv_records.specs.declared.delimiter.Delimiter.TheVariants.{Auto, Byte, NamedOrTab}
 use Rattle.csv_records.specs.declared.encoding.Encoding.TheVariants.{Cp1252, Utf16, Utf8}
+use Rattle.csv_records.specs.declared.error.DecodeError.TheVariants as decode
 use Rattle.csv_tables.specs.declared.error.CsvError.TheVariants as err
 
 abbrev texts : List String → List Text
@@ -103,6 +104,6 @@ names_of_inputs = refl
 reasons : map reading_reason (Some io.NotFound ∷ Some io.IsADirectory ∷ Some io.PermissionDenied ∷ Some io.TimedOut ∷ None ∷ []) ≡ texts ("no such file" ∷ "is a directory" ∷ "permission denied" ∷ "can't be read" ∷ "can't be read" ∷ [])
 reasons = refl
 
-hinted : map (λ encoding. reason_for encoding None (err.NotUtf8 12)) (None ∷ Some Utf8 ∷ []) ≡ texts ("line 12 isn't UTF-8; try -e cp1252" ∷ "line 12 isn't UTF-8" ∷ [])
+hinted : map (λ encoding. reason_for encoding None (err.Decode (decode.NotUtf8 12))) (None ∷ Some Utf8 ∷ []) ≡ texts ("line 12 isn't UTF-8; try -e cp1252" ∷ "line 12 isn't UTF-8" ∷ [])
 unfolding digits
 hinted = refl

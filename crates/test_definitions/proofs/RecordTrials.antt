@@ -339,25 +339,29 @@ said_in_lines = refl
 -- ---- what laws refuse
 
 -- two records, and a table of one row
--- false: comfy_csv::laws::tables_keep_their_rows
+-- false: csv_tables::laws::tables_keep_their_rows
 row_is_missing :
     ¬ (length seven.rows ≡ length (limited {A = List Text} None ((codes "a" ∷ []) ∷ (codes "b" ∷ []) ∷ [])))
 row_is_missing same = let is : ◌≡◌ {A = ℕ} 1 2 = same in omega (arith, is)
 
--- false: comfy_csv::laws::printable_texts_make_printable_tables
+-- false: csv_records::laws::records_are_one
+one_record_is_not_none : ¬ (◌≡◌ {A = List (List Text)} [] ((codes "a" ∷ []) ∷ []))
+one_record_is_not_none same = cc same
+
+-- false: csv_tables::laws::printable_texts_make_printable_tables
 tab_is_not_printable : ¬ (All (λ text. is_printable_ascii text ≡ true) (codes "\t" ∷ []))
 tab_is_not_printable all = let is : false ≡ true = all 0 (codes "\t") (omega arith) in cc is
 
--- false: comfy_csv_parts::laws::escaped_texts_are_read_back
+-- false: csv_tables::laws::escaped_texts_are_read_back
 line_break_is_read : ¬ (unescaped (codes "<br>") ≡ codes "<br>")
 line_break_is_read same = let is : 0x0A ∷ [] ≡ codes "<br>" = same in cc is
 
--- false: comfy_csv_parts::laws::lines_are_left_out_as_they_are_counted
+-- false: csv_records::laws::lines_are_left_out_as_they_are_counted
 one_break : ¬ (line_breaks_of (codes "a\n") ≡ 2)
 one_break same = let is : ◌≡◌ {A = ℕ} 1 2 = same in omega (arith, is)
 
 -- a byte that no text has
--- false: comfy_csv_parts::laws::records_of_texts_are_texts
+-- false: csv_records::laws::records_of_texts_are_texts
 byte_is_no_text : ¬ (All AllText (((0xFF ∷ []) ∷ []) ∷ []))
 unfolding AllText is_utf8 chars
 byte_is_no_text all =

@@ -42,7 +42,7 @@ number_sign_adds_two adds =
     omega (arith, one, wide_number_sign_measures_two, nothing_measures_nothing, selector_measures_nothing)
 
 -- no text joins the indicator of a new table
-ellipsis_is_apart : IsApart (utf8 "…")
+pub ellipsis_is_apart : IsApart (utf8 "…")
 ellipsis_is_apart = frame_apart 0x2026 [] refl
 
 -- ---- styles

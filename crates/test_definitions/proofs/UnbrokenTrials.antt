@@ -59,7 +59,7 @@ no_width : constraints None ≡ None ∷ []
 no_width = refl
 
 -- a column of six for its seven letters
--- false: comfy_csv::laws::numbers_and_dates_are_whole
+-- false: csv_tables::laws::numbers_and_dates_are_whole
 narrower_than_its_content : ¬ (column_content_width seven 0 ≤ slice_index (6 ∷ []) 0)
 unfolding wrapping
 narrower_than_its_content fits = let is : 7 ≤ 6 = fits in omega (arith, is)

@@ -1,5 +1,5 @@
-//! Tests of the libraries: what no clause says, above all that calls succeed where there is memory.
-//! Expected values come from outside. Nothing stands on this crate.
+//! Tests of the libraries, and of the promises on them: what no clause says, above all that calls
+//! succeed where there is memory. Expected values come from outside. Nothing stands on this crate.
 #![tactic(auto)]
 
 #[cfg(test)]

@@ -4,5 +4,6 @@ mod counted;
 mod devices;
 mod large;
 mod program;
+mod promised;
 mod records;
 mod sizes;

@@ -2,7 +2,7 @@
 
 use comfy_parts::{IntoRow, Row};
 use comfy_run::run::MemorySink;
-use comfy_table::Table;
+use comfy_table::{Lines, Table};
 use std::alloc::{Alloc, Global};
 use std::fmt::Debug;
 use std::process::Abort;
@@ -38,6 +38,15 @@ pub fn table_of<T: IntoRow>(rt: &(impl Abort + Alloc<A = Global>), row: T) -> Ta
 /// Compares the drawing of a table with a text.
 pub fn assert_drawn(rt: &impl Abort, table: &Table, wanted: &str) {
     assert_given(rt, table.to_text(), wanted);
+}
+
+/// Compares lines with those of a text.
+pub fn assert_lines(rt: &impl Abort, lines: Lines, wanted: &str) {
+    let mut wanted = wanted.split('\n');
+    for line in lines {
+        assert!(rt; wanted.next() == Some(line.as_str()));
+    }
+    assert!(rt; wanted.next().is_none());
 }
 
 /// A sink in memory with room for so many bytes, and the call at which it fails.

@@ -1,18 +1,20 @@
 //! Callers that draw and look at cells whose texts hold sequences.
 
-ghost use Rattle.std.specs.Prelude.{◌==◌, ◌≡◌, ◌<◌, All, IfOk, Some, length, map, not, slice_get, string_bytes, true};
+ghost use Rattle.std.specs.Prelude.{◌==◌, ◌≡◌, ◌<◌, All, IfOk, List, Some, ℕ, length, map, not, slice_get, string_bytes, true};
 ghost use Rattle.std.specs.List.{list_any, slice_split};
 ghost use Rattle.comfy_parts.specs.Text.{measure};
 ghost use Rattle.comfy_parts.specs.VisibleLines.{line_texts};
 ghost use Rattle.comfy_parts.specs.VisibleText.{closed, has_escape, visible_text};
 ghost use Rattle.comfy_table.specs.Laws.{CutLinesAreClosed, HasNoControl, IsFreeOfControls, IsFreeOfEscapes, LeavesNoneOpen, LinesAreResumedInRow, NoneIsOpenAtTheEnd};
+ghost use Rattle.comfy_table.specs.NewTables.{AreEquallyWide};
+ghost use Rattle.comfy_table.specs.Straight.{IsStraightTable};
 ghost use Rattle.test_callers.specs.Uses.{IsDrawnWithCells, IsUnstyledDrawing, table_of_two};
 
 use comfy_parts::content_split::leaves_sequence_open;
 use comfy_parts::for_tables::{has_escape, measured_lines, written_lines};
 use comfy_table::laws::{
     lines_are_found_in_their_texts, new_tables_leave_no_sequence_open,
-    tables_without_controls_have_no_escape,
+    tables_without_controls_have_no_escape, visible_lines_are_straight,
 };
 use comfy_table::utils::formatting::content_split::ColumnDisplayInfo;
 use comfy_table::{Cell, Lines, Result, Row, Table};
@@ -30,6 +32,17 @@ pub fn drawn_with_sequences(table: &mut Table) -> Result<Lines>
         → IsUnstyledDrawing table.new (map visible_text lines)) }
 {
     table.custom_styling();
+    table.lines()
+}
+
+/// Draws a table, with colours or without. What is visible of its lines is equally wide, where the
+/// table is straight over any widths, and neither its texts nor its indicator and style hold ESC.
+pub fn drawn_in_colour(table: &Table) -> Result<Lines>
+    ensures { IfOk result (λ lines. IsFreeOfEscapes table.now
+        → ((widths : List ℕ) → IsStraightTable table.now widths)
+        → AreEquallyWide (map visible_text lines)) }
+{
+    visible_lines_are_straight();
     table.lines()
 }
 

@@ -2,11 +2,11 @@
 //! them follows from the rules, since each is one piece many times over.
 
 use crate::support::{assert_bytes, sink_of};
-use csv_records::Delimiter;
-use csv_tables::{Expansion, Look, Options, RowSeparators, draw};
 use comfy_run::run::{FromReader, MemorySource, Settings, ToWriter, run};
 use comfy_table::ContentArrangement;
 use comfy_table::presets::ASCII_FULL;
+use csv_records::{Delimiter, InputOptions};
+use csv_tables::{Expansion, Look, Options, RowSeparators, Selection, draw};
 use std::alloc::{Alloc, AllocError, Global};
 use std::process::Abort;
 
@@ -238,16 +238,20 @@ fn assert_streamed(
 // How records are drawn in this width.
 pub(super) fn options(alloc: Global, width: Option<u16>, has_sequences: bool) -> Options {
     Options {
-        encoding: None,
-        skip: 0,
-        delimiter: Delimiter::Auto,
-        has_quotes: true,
-        has_header: true,
-        limit: None,
-        columns: Vec::new(alloc),
-        dropped: Vec::new(alloc),
-        right: Vec::new(alloc),
-        left: Vec::new(alloc),
+        input: InputOptions {
+            encoding: None,
+            skip: 0,
+            delimiter: Delimiter::Auto,
+            has_quotes: true,
+        },
+        selection: Selection {
+            has_header: true,
+            limit: None,
+            columns: Vec::new(alloc),
+            dropped: Vec::new(alloc),
+            right: Vec::new(alloc),
+            left: Vec::new(alloc),
+        },
         look: Look {
             style: ASCII_FULL,
             separators: RowSeparators::Styled,

@@ -1,8 +1,8 @@
 //! The words of `csvtable`'s errors, delimiters that its words can't ask for, and encodings.
 
 use super::large::options;
-use csv_records::{Delimiter, Encoding, decoded, read_records};
-use csv_tables::{CsvError, Options, table_of};
+use csv_records::{DecodeError, Delimiter, Encoding, RecordsError, decoded, read_records};
+use csv_tables::{ColumnsError, CsvError, Options, table_of};
 use std::alloc::{Alloc, Global};
 use std::process::Abort;
 
@@ -13,16 +13,24 @@ fn assert_words(rt: &(impl Abort + Alloc<A = Global>), error: &CsvError, wanted:
 
 #[test]
 fn refusals_have_their_words(rt: HostRuntime) {
-    assert_words(&rt, &CsvError::NotUtf8(3), "line 3 isn't UTF-8");
-    assert_words(&rt, &CsvError::NotUtf16(3), "line 3 isn't UTF-16");
     assert_words(
         &rt,
-        &CsvError::Unclosed(3),
+        &CsvError::Decode(DecodeError::NotUtf8(3)),
+        "line 3 isn't UTF-8",
+    );
+    assert_words(
+        &rt,
+        &CsvError::Decode(DecodeError::NotUtf16(3)),
+        "line 3 isn't UTF-16",
+    );
+    assert_words(
+        &rt,
+        &CsvError::Records(RecordsError::Unclosed(3)),
         "a quote that opens in line 3 is never closed",
     );
     assert_words(
         &rt,
-        &CsvError::SplitCharacter,
+        &CsvError::Records(RecordsError::SplitCharacter),
         "the delimiter splits a character",
     );
 }
@@ -38,10 +46,14 @@ fn between(alloc: Global, delimiter: u8) -> Options {
 #[test]
 fn delimiters_that_are_not_ascii(rt: HostRuntime) {
     for delimiter in [195, 169] {
-        let split = read_records(rt.alloc(), "a,b\né,d\n", &between(rt.alloc(), delimiter));
-        assert!(rt; matches!(&split, Err(CsvError::SplitCharacter)));
+        let split = read_records(
+            rt.alloc(),
+            "a,b\né,d\n",
+            &between(rt.alloc(), delimiter).input,
+        );
+        assert!(rt; matches!(&split, Err(RecordsError::SplitCharacter)));
     }
-    let whole = read_records(rt.alloc(), "a,b\né,d\n", &between(rt.alloc(), 255));
+    let whole = read_records(rt.alloc(), "a,b\né,d\n", &between(rt.alloc(), 255).input);
     let whole = whole.expect(&rt, "records");
     assert!(rt; whole.rows().len() == 2);
     let second = whole.rows().rows_behind(1).first().expect(&rt, "a record");
@@ -54,7 +66,7 @@ fn delimiters_that_are_not_ascii(rt: HostRuntime) {
 fn records_become_a_table(rt: HostRuntime) {
     let text = "name,days\noats,3\nrye,14\n";
     let mut options = between(rt.alloc(), b',');
-    let records = read_records(rt.alloc(), text, &options).expect(&rt, "records");
+    let records = read_records(rt.alloc(), text, &options.input).expect(&rt, "records");
     let table = table_of(rt.alloc(), records, &options).expect(&rt, "a table");
     assert!(rt; table.row_count() == 2);
     let drawing = table.to_text().expect(&rt, "memory");
@@ -63,9 +75,9 @@ fn records_become_a_table(rt: HostRuntime) {
     assert!(rt; drawing.contains(rows));
     let word = String::from_str(rt.alloc(), "weeks").expect(&rt, "memory");
     options.selection.columns.push(word).expect(&rt, "memory");
-    let records = read_records(rt.alloc(), text, &options).expect(&rt, "records");
+    let records = read_records(rt.alloc(), text, &options.input).expect(&rt, "records");
     let refused = table_of(rt.alloc(), records, &options);
-    assert!(rt; matches!(&refused, Err(CsvError::NoColumn(name)) if name.as_str() == "weeks"));
+    assert!(rt; matches!(&refused, Err(ColumnsError::NoColumn(name)) if name.as_str() == "weeks"));
 }
 
 fn assert_decoded<const N: usize>(
@@ -95,5 +107,5 @@ fn inputs_are_decoded(rt: HostRuntime) {
     assert_decoded(&rt, [0xC3, 0xA9], None, "é");
     let lone = Vec::from_array(rt.alloc(), [0x0A, 0x00, 0x3D, 0xD8]).expect(&rt, "memory");
     let refused = decoded(rt.alloc(), lone, Some(Encoding::Utf16));
-    assert!(rt; matches!(&refused, Err(CsvError::NotUtf16(2))));
+    assert!(rt; matches!(&refused, Err(DecodeError::NotUtf16(2))));
 }

@@ -1,9 +1,9 @@
 //! Inputs just above sizes at which a program might give up: no clause says that it doesn't.
 
 use super::large::options;
-use csv_tables::{Options, RowSeparators, draw};
-use csv_records::shown_text;
 use comfy_run::run::{FromReader, ToWriter};
+use csv_records::shown_text;
+use csv_tables::{Options, RowSeparators, draw};
 use std::alloc::{Alloc, AllocError, Global};
 use std::process::Abort;
 

@@ -4,6 +4,8 @@ use Rattle.promises.proofs.straight.straight_lines.Goals as goal
 
 pub returns : goal.returns
 returns c =
+    let table = c.args.table.now in
     IfOk-weaker c.lines.result _ _
-    (λ lines drawn plain frame each. equally_wide c.args.table.now plain lines drawn (narrow c.args.table.now (plain_stay c.args.table.now plain.no_sequences) frame lines drawn each))
+    (λ lines drawn plain frame each. equally_wide table plain lines drawn
+    (narrow table frame (plain_stay table plain.no_sequences) lines drawn each))
     c.lines.ensures.headline

@@ -4,6 +4,8 @@ use Rattle.promises.proofs.straight.straight_styled_lines.Goals as goal
 
 pub returns : goal.returns
 returns c =
+    let table = c.args.table.now in
     IfOk-weaker c.lines.result _ _
-    (λ lines drawn free frame each. shown_equally_wide c.args.table.now lines drawn free (narrow c.args.table.now (free_stay c.args.table.now free.texts) frame lines drawn each))
+    (λ lines drawn free frame each. shown_equally_wide table lines drawn free
+    (narrow table frame (free_stay table free.texts) lines drawn each))
     c.lines.ensures.headline

@@ -18,4 +18,4 @@ pub returns : goal.returns
 returns c =
     let asked = c.in_ok-asked.asked in
     let is = of_ok _ c.asked_of.result asked c.in_ok-asked.ensures.value c.asked_of.ensures.ok in
-    then_some _ _ c.output_for.result c.ok-2.result c.ok-2.ensures.value (λ sink made. c.outputs_hold_no_controls.ensures.asked _ c.args.surroundings asked c.args.input.now _ is c.if-asked.false made) c.output_for.ensures
+    then_some _ _ c.output_for.result c.ok-2.result c.ok-2.ensures.value (λ sink made. c.drawings_hold_no_controls.ensures.asked _ c.args.surroundings asked c.args.input.now _ is c.if-asked.false made) c.output_for.ensures

@@ -23,7 +23,7 @@ returns c =
     let table : TableValue = text_within c.args.width c.args.text.now in
     let drawn : IsTableDrawing table lines = subst (λ (t : TableValue). IsTableDrawing t lines) (search rules) known in
     let one = one_width drawn.widths drawn.arranged.one_for_each in
-    let cells = All-head (λ (row : RowValue). All (λ (cell : CellValue). All IsUtf8 cell.text_lines) row.cells) row [] drawn.whole_texts in
+    let cells = All-head (λ (row : RowValue). All (λ (cell : CellValue). All IsUtf8 cell.text_lines) row.cells) row [] drawn.texts.whole_texts in
     let whole = All-head (λ (cell : CellValue). All IsUtf8 cell.text_lines) (plain_cell c.args.text.now) [] cells in
     (one.0, drawn.drawn ∙ ap (drawing table) one.1, c.cells_keep_their_text.ensures table row (info_of (new_column 0) one.0) (plain_cell c.args.text.now) refl refl whole))
     c.lines.ensures.headline

@@ -18,8 +18,8 @@ returns c =
     let table : TableValue = table_within w c.args.header c.args.row in
     let told : IsTerminatedTextOf table (string_bytes text) = subst (λ (t : TableValue). IsTerminatedTextOf t (string_bytes text)) (grind (arith, common_steps)) printed in
     let drawn : IsTableDrawing table told.0 = told.1 in
-    let few : All (λ line. count line ≤ max w (least_total table)) told.0 = subst (All (λ line. count line ≤ max w (least_total table))) (sym (drawn.unstyled_lines refl refl)) ((drawn.keeps_to_width w free refl refl).printable_lines (plain drawn.widths)) in
-    let found = c.lines_are_found_in_their_texts.ensures.terminated told.0 (drawn.without_breaks (record { indicator = refl; characters = refl })) in
+    let few : All (λ line. count line ≤ max w (least_total table)) told.0 = subst (All (λ line. count line ≤ max w (least_total table))) (sym (drawn.edges.unstyled_lines refl refl)) ((c.drawings_keep_to_the_width.ensures.dynamic table w told.0 drawn free refl refl).printable_lines (plain drawn.widths)) in
+    let found = c.lines_are_found_in_their_texts.ensures.terminated told.0 (drawn.controls.without_breaks (record { indicator = refl; characters = refl })) in
     subst (All (λ line. count line ≤ w)) (sym (ap (slice_split (λ b. b == 0x0A)) told.2 ∙ found))
     (All-append (λ line. count line ≤ w) told.0 ([] ∷ [])
     (All-weaker (λ line. count line ≤ max w (least_total table)) (λ line. count line ≤ w) (λ line own. omega (arith, own, enough)) told.0 few)

@@ -17,6 +17,6 @@ returns c =
     let told : IsTerminatedTextOf table (string_bytes text) = subst (λ (t : TableValue). IsTerminatedTextOf t (string_bytes text)) (grind (arith, common_steps)) printed in
     let drawn : IsTableDrawing table told.0 = told.1 in
     let closed : All LeavesNoneOpen told.0 = c.new_tables_leave_no_sequence_open.ensures ascii_full c.args.header (c.args.row ∷ []) told.0 refl drawn in
-    let found = c.lines_are_found_in_their_texts.ensures.terminated told.0 (drawn.without_breaks (record { indicator = refl; characters = refl })) in
+    let found = c.lines_are_found_in_their_texts.ensures.terminated told.0 (drawn.controls.without_breaks (record { indicator = refl; characters = refl })) in
     subst (All LeavesNoneOpen) (sym (ap (slice_split (λ b. b == 0x0A)) told.2 ∙ found)) (All-append LeavesNoneOpen told.0 ([] ∷ []) closed (All-cons LeavesNoneOpen [] [] refl (All-nil LeavesNoneOpen))))
     c.to_terminated_text.ensures

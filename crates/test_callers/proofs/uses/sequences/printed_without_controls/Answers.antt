@@ -17,8 +17,8 @@ returns c =
     let table : TableValue = table_of_two c.args.header c.args.row in
     let told : IsTerminatedTextOf table (string_bytes text) = subst (λ (t : TableValue). IsTerminatedTextOf t (string_bytes text)) (grind (arith, common_steps)) printed in
     let drawn : IsTableDrawing table told.0 = told.1 in
-    let visible : map visible_text told.0 ≡ told.0 = drawn.without_sequences (c.tables_without_controls_have_no_escape.ensures table free) ∙ sym (drawn.unstyled_lines refl refl) in
-    let none : All HasNoControl told.0 = subst (All HasNoControl) visible (All-map HasNoControl visible_text told.0 (drawn.without_controls free)) in
-    let found = c.lines_are_found_in_their_texts.ensures.terminated told.0 (drawn.without_breaks (record { indicator = refl; characters = refl })) in
+    let visible : map visible_text told.0 ≡ told.0 = drawn.sequences.without_sequences (c.tables_without_controls_have_no_escape.ensures table free) ∙ sym (drawn.edges.unstyled_lines refl refl) in
+    let none : All HasNoControl told.0 = subst (All HasNoControl) visible (All-map HasNoControl visible_text told.0 (drawn.controls.without_controls free)) in
+    let found = c.lines_are_found_in_their_texts.ensures.terminated told.0 (drawn.controls.without_breaks (record { indicator = refl; characters = refl })) in
     subst (All HasNoControl) (sym (ap (slice_split (λ b. b == 0x0A)) told.2 ∙ found)) (All-append HasNoControl told.0 ([] ∷ []) none (All-cons HasNoControl [] [] ([], refl, tt) (All-nil HasNoControl))))
     c.to_terminated_text.ensures

@@ -1,43 +1,23 @@
--- Texts and lines that the promises refuse, and records for which a promise is made.
-use Rattle.std.proofs.Common.{◌≡◌, ◌⊎◌, inl, inr, ◌==◌, ◌+◌, ◌<◌, ◌≤◌, ℕ, List, [], None, ◌∷◌, ◌++◌, arith, codes, decimal, length, length-append, refl, sym, ap, ◌∙◌, subst, ◌&&◌, not, true, false}
-use Rattle.std.specs.List.{All, AllByRecursion, slice_split}
+-- Lines that the promises on files refuse, and records for which one is made.
+use Rattle.std.proofs.Common.{◌≡◌, ◌⊎◌, inl, inr, ◌+◌, ◌<◌, ◌≤◌, ℕ, List, [], None, ◌∷◌, ◌++◌, arith, codes, decimal, length, length-append, refl, sym, ap, ◌∙◌, subst, true, false}
+use Rattle.std.specs.List.{All, AllByRecursion}
 use Rattle.std.proofs.lemmas.List.Elements.{All-from_recursion, All-head, All-tail}
-use Rattle.std.specs.Char.{is_control}
 use Rattle.std.specs.Global.{Vec}
-use Rattle.std.specs.Str.{NoCharPasses}
-use Rattle.std.proofs.lemmas.Str.{NoCharPasses-byte}
 use lib.Utf8.{encode}
 use Rattle.comfy_parts.proofs.Computing.{wrapping}
 use Rattle.comfy_parts.specs.Presets.{utf8_full}
 use Rattle.comfy_parts.specs.Text.{Text, is_printable_ascii, measure}
-use Rattle.comfy_table.proofs.BreakLemmas.{terminated_lines}
-use Rattle.comfy_table.specs.Laws.{AreLinesOf}
 use Rattle.csv_tables.specs.declared.options.Expansion.TheVariants.{Auto}
 use Rattle.csv_tables.specs.declared.options.Look.{Look}
 use Rattle.csv_tables.specs.declared.options.Options.{Options}
 use Rattle.csv_tables.specs.declared.options.RowSeparators.TheVariants.{Styled}
-use Rattle.promises.specs.Kept.{StandIn}
-use Rattle.promises.specs.Shown.{IsHarmless, Shows}
-use Rattle.promises.specs.Shown.Shows.{nothing, byte, sequence}
+use Rattle.promises.specs.Shown.{ShowsColumns}
 use Rattle.csv_promises.specs.Kept.{AsksForNothing, EachHasALine, IsPlainRecord}
-use Rattle.csv_promises.specs.Straight.{CountsRecords, IsStraight, ShowsColumns, counted}
+use Rattle.csv_promises.specs.Straight.{CountsRecords, IsStraight, counted}
+use Rattle.test_definitions.proofs.OutputLineTrials.{found, two_lines}
+use Rattle.test_definitions.proofs.PromiseTrials.{none_in_nothing, shows_itself, turned_round}
 
 -- ---- straight edges
-
--- the lines of a text stand between its line feeds
-only_lines : (text : Text) (lines : List Text) → AreLinesOf text lines → slice_split (λ b. b == 0x0A) text ≡ lines ++ [] ∷ []
-only_lines text lines are = ap (slice_split (λ b. b == 0x0A)) are.joined ∙ terminated_lines lines are.unbroken
-
--- two lines are these two
-two_lines : (first second : Text) (lines : List Text) → first ∷ second ∷ [] ∷ [] ≡ lines ++ [] ∷ [] → lines ≡ first ∷ second ∷ []
-two_lines first second [] is = absurd (cc is)
-two_lines first second (a ∷ []) is = absurd (cc is)
-two_lines first second (a ∷ b ∷ []) is = let one : first ≡ a = cc is in let other : second ≡ b = cc is in cc (one, other)
-two_lines first second (a ∷ b ∷ c ∷ more) is = absurd (longer more (cc is))
-  where
-    longer : (more : List Text) → ¬ ([] ∷ [] ≡ c ∷ (more ++ [] ∷ []))
-    longer [] same = cc same
-    longer (d ∷ ds) same = cc same
 
 -- a line that counts has more than ten characters
 long_count : (before : Text) (n m : ℕ) (behind : Text) → length before + 4 + length behind ≤ length (counted before n m behind)
@@ -52,28 +32,6 @@ no_count : (line : Text) → length line ≤ 10 → ¬ (CountsRecords line)
 no_count line short (n, m, inl is) = let same = ap length is in let long = long_count (codes "record ") n m [] in absurd (omega (arith, same, long, short))
 no_count line short (n, m, inr is) = let same = ap length is in let long = long_count [] n m (codes " records") in absurd (omega (arith, same, long, short))
 
--- letters show themselves
-shows_nothing : {text shown : Text} → Shows text shown → text ≡ [] → shown ≡ []
-shows_nothing nothing is = refl
-shows_nothing (byte b text shown clear rest) is = absurd (cc is)
-shows_nothing (sequence code text shown all rest) is = absurd (cc is)
-
-shows_letter : {text shown : Text} → Shows text shown → text ≡ codes "a" → shown ≡ codes "a"
-shows_letter nothing is = absurd (cc is)
-shows_letter (byte b text shown clear rest) is =
-    let letter : b ≡ 0x61 = cc is in
-    let end : text ≡ [] = cc is in
-    let own : shown ≡ [] = shows_nothing rest end in cc own
-shows_letter (sequence code text shown all rest) is = let letter : ◌≡◌ {A = ℕ} 0x1B 0x61 = cc is in absurd (omega (arith, letter))
-
-shows_letters : {text shown : Text} → Shows text shown → text ≡ codes "ba" → shown ≡ codes "ba"
-shows_letters nothing is = absurd (cc is)
-shows_letters (byte b text shown clear rest) is =
-    let letter : b ≡ 0x62 = cc is in
-    let end : text ≡ codes "a" = cc is in
-    let own : shown ≡ codes "a" = shows_letter rest end in cc own
-shows_letters (sequence code text shown all rest) is = let letter : ◌≡◌ {A = ℕ} 0x1B 0x62 = cc is in absurd (omega (arith, letter))
-
 one_column : measure (codes "a") ≡ 1
 unfolding wrapping encode
 one_column = refl
@@ -84,7 +42,9 @@ two_columns = refl
 
 -- false: csv_promises::straight_output, csv_promises::straight_whole_output
 two_widths_are_not_straight : ¬ (IsStraight (codes "ba\na\n"))
-two_widths_are_not_straight is = by_lines (two_lines (codes "ba") (codes "a") is.lines (only_lines (codes "ba\na\n") is.lines is.are))
+two_widths_are_not_straight is =
+    by_lines
+    (two_lines (codes "ba") (codes "a") is.lines (found (codes "ba\na\n") is.lines is.are))
   where
     Good : Text → Type 0
     Good line = CountsRecords line ⊎ ShowsColumns is.columns line
@@ -98,26 +58,11 @@ two_widths_are_not_straight is = by_lines (two_lines (codes "ba") (codes "a") is
         let all : All Good (codes "ba" ∷ codes "a" ∷ []) = subst (All Good) are is.show in
         let first = columns_of (codes "ba") (omega arith) (All-head Good (codes "ba") (codes "a" ∷ []) all) in
         let second = columns_of (codes "a") (omega arith) (All-head Good (codes "a") [] (All-tail Good (codes "ba") (codes "a" ∷ []) all)) in
-        let wide : is.columns ≡ 2 = sym first.2 ∙ ap measure (shows_letters first.1 refl) ∙ two_columns in
-        let narrow : is.columns ≡ 1 = sym second.2 ∙ ap measure (shows_letter second.1 refl) ∙ one_column in
+        let wide : is.columns ≡ 2 =
+        sym first.2 ∙ ap measure (shows_itself first.1 refl) ∙ two_columns in
+        let narrow : is.columns ≡ 1 =
+        sym second.2 ∙ ap measure (shows_itself second.1 refl) ∙ one_column in
         absurd (omega (arith, wide, narrow))
-
--- ---- harmless texts
-
-shows_bell : {text shown : Text} → Shows text shown → text ≡ 0x07 ∷ [] → shown ≡ 0x07 ∷ []
-shows_bell nothing is = is
-shows_bell (byte b text shown clear rest) is =
-    let end : text ≡ [] = cc is in
-    let own : shown ≡ [] = shows_nothing rest end in cc (is, own)
-shows_bell (sequence code text shown all rest) is = absurd (cc is)
-
--- false: csv_promises::harmless_output, csv_promises::harmless_drawing
-bell_is_harmful : ¬ (IsHarmless (0x07 ∷ []))
-bell_is_harmful (shown, shows, none) =
-    let p = λ (c : ℕ). is_control c && not (c == 0x0A) in
-    let own : NoCharPasses p (0x07 ∷ []) = subst (NoCharPasses p) (shows_bell shows refl) none in
-    let is : true ≡ false = NoCharPasses-byte p (0x07 ∷ []) 0 own (omega arith) (omega arith) in
-    cc is
 
 -- ---- records
 
@@ -131,7 +76,12 @@ no_words words = record words { len = 0; items = []; ok = (refl, omega arith) }
 
 -- options that ask for a header in bold, and for nothing else of a table
 abbrev asking : Options → Options
-asking options = record options { has_header = true; limit = None; columns = no_words options.selection.columns; dropped = no_words options.selection.dropped; look = bold }
+asking options =
+    let own = options.selection in
+    record options {
+      selection = record own { has_header = true; limit = None; columns = no_words own.columns; dropped = no_words own.dropped };
+      look = bold;
+    }
 
 asks_for_nothing : (options : Options) → AsksForNothing (asking options)
 asks_for_nothing options = record { all_records = refl; none_chosen = refl; none_dropped = refl; no_width = refl; uncut = refl; no_markdown = refl; no_sequences = refl }
@@ -143,27 +93,18 @@ are_plain = All-from_recursion IsPlainRecord ((codes "day" ∷ codes "text" ∷ 
     is_plain : (fields : List Text) → 0 < length fields → AllByRecursion (λ field. is_printable_ascii field ≡ true) fields → AllByRecursion (λ field. length field ≤ 65535) fields → IsPlainRecord fields
     is_plain fields some printable short = record { some_field = some; printable = All-from_recursion (λ field. is_printable_ascii field ≡ true) fields printable; short = All-from_recursion (λ field. length field ≤ 65535) fields short }
 
--- nothing stands in an empty list
-none_in_nothing : {A : Type 0} (before part behind : List A) (x : A) → ¬ ([] ≡ before ++ ((x ∷ part) ++ behind))
-none_in_nothing [] part behind x is = cc is
-none_in_nothing (b ∷ before) part behind x is = cc is
-
--- the field at the right stands at the left
-turned_round : (line : Text) → line ≡ codes "ba" → ¬ (StandIn (codes "a" ∷ codes "b" ∷ []) line)
-turned_round line is (before, behind, made, (between, rest, are, end)) = by_before before (sym is ∙ made)
-  where
-    by_before : (before : Text) → ¬ (codes "ba" ≡ before ++ (0x61 ∷ behind))
-    by_before [] same = let letter : ◌≡◌ {A = ℕ} 0x62 0x61 = cc same in absurd (omega (arith, letter))
-    by_before (x ∷ []) same = let gone : [] ≡ behind = cc same in none_in_nothing between [] rest 0x62 (gone ∙ are)
-    by_before (x ∷ y ∷ more) same = none_in_nothing more [] behind 0x61 (let end : [] ≡ more ++ (0x61 ∷ behind) = cc same in end)
-
 -- false: csv_promises::lines_of_records
 fields_are_turned_round : ¬ (EachHasALine ((codes "a" ∷ codes "b" ∷ []) ∷ []) (codes "ba" ∷ []))
 fields_are_turned_round ([], stand, each) = each
 fields_are_turned_round (line ∷ drawn, (before, behind, made, later), (fields, more)) = by_before before made
   where
+    other : ¬ (◌≡◌ {A = ℕ} 0x62 0x61)
+    other is = omega (arith, is)
+
     by_before : (before : List Text) → ¬ (codes "ba" ∷ [] ≡ before ++ (line ∷ behind))
-    by_before [] same = let own : codes "ba" ≡ line = cc same in turned_round line (sym own) fields
+    by_before [] same =
+        let own : codes "ba" ≡ line = cc same in
+        turned_round 0x62 0x61 line other (sym own) fields
     by_before (x ∷ before) same = none_in_nothing before [] behind line (let end : [] ≡ before ++ (line ∷ behind) = cc same in end)
 
 -- two records share a line

@@ -1,5 +1,5 @@
 -- Tables for which the premises of the promises hold, and texts that these promises refuse.
-use Rattle.std.proofs.Common.{◌≡◌, ◌==◌, ◌&&◌, ◌≤◌, ◌<◌, ℕ, zero, suc, true, false, not, List, [], ◌∷◌, ◌++◌, ◌∙◌, length, max, Contains, Some, None, codes, refl, sym, ap, subst, arith, slice_index_or}
+use Rattle.std.proofs.Common.{◌≡◌, ◌==◌, ◌&&◌, ◌≤◌, ◌<◌, ℕ, zero, suc, Bool, true, false, not, List, [], ◌∷◌, ◌++◌, ◌∙◌, length, max, Contains, Some, None, codes, refl, sym, ap, subst, arith, slice_index_or}
 use Rattle.std.specs.List.{All, AllZip, concat, slice_get}
 use Rattle.std.specs.Char.{is_control}
 use Rattle.std.specs.Prelude.{encode_utf8_all}
@@ -7,43 +7,40 @@ use Rattle.std.specs.Str.{NoCharPasses, chars}
 use Prim.Native.String.{String}
 use lib.Utf8.{encode}
 use Rattle.std.proofs.lemmas.Bool.{or_parts}
-use Rattle.std.proofs.lemmas.List.Elements.{All-from_recursion}
+use Rattle.std.proofs.lemmas.List.Elements.{All-from_recursion, All-head}
+use Rattle.std.proofs.lemmas.Option.{same_Some}
 use Rattle.std.proofs.lemmas.Str.{NoCharPasses-byte}
-use Rattle.comfy_parts.proofs.CallerLemmas.{All-at, All-every, frame_adds, frame_apart, one_column_characters}
+use Rattle.comfy_parts.proofs.CallerLemmas.{All-at, All-every, frame_adds, one_column_characters}
 use Rattle.comfy_parts.proofs.Computing.{wrapping}
 use Rattle.comfy_parts.specs.CellValue.{ColumnInfo, info_of, new_column, CellValue, ColumnValue, RowValue, plain_cell, plain_row}
-use Rattle.comfy_parts.specs.Columns.{IsApart, IsOneColumn}
+use Rattle.comfy_parts.specs.Columns.{IsOneColumn}
 use Rattle.comfy_parts.specs.Presets.{utf8_full}
 use Rattle.comfy_parts.specs.Text.{HasNo, Text, measure}
 use Rattle.comfy_parts.specs.declared.style.column.ColumnConstraint.TheVariants.{Hidden}
 use Rattle.comfy_table.specs.HiddenColumns.{without_hidden}
-use Rattle.comfy_table.specs.TableValue.{cell_content_width, TableValue, ellipsis, header_and_rows, new_table, shown_columns, with_header, with_row, constrained}
-use Rattle.comfy_table.specs.NewTables.{AreEquallyWide}
+use Rattle.comfy_table.specs.TableValue.{cell_content_width, TableValue, header_and_rows, shown_columns, constrained}
 use Rattle.promises.specs.Added.{HasRoomFor, Stay}
 use Rattle.promises.specs.Headline.{IsHeadline}
 use Rattle.promises.specs.Kept.{AreSameBut, AreShown, ShowsRow, ShowsWholeRow, StandIn}
 use Rattle.promises.specs.Shown.{AreShownEquallyWide, HasNoControls, IsHarmless, Shows}
 use Rattle.promises.specs.Shown.Shows.{nothing, byte, sequence}
-use Rattle.promises.specs.Tables.{CharactersFit, EachShownText, EachText, HasCharactersWithin, HasPlainFrame, IsFree, IsPlain, IsShownWhole}
-use Rattle.promises.specs.Widths.{frame_room}
+use Rattle.promises.specs.Tables.{CharactersFit, EachShownText, EachText, HasCharactersWithin, HasPlainFrame, IsPlain, IsShownWhole}
+use Rattle.promises.specs.Widths.{IsFree, frame_room}
+use Rattle.test_definitions.proofs.StraightTrials.{ellipsis_is_apart}
+use Rattle.test_definitions.proofs.TrialTables as tables
+use Rattle.test_definitions.proofs.TrialTables.{utf8}
 
 -- ---- a table
 
-abbrev utf8 : String → Text
-utf8 s = encode_utf8_all (codes s)
-
 abbrev row_of : String → String → RowValue
-row_of first second = plain_row (plain_cell (utf8 first) ∷ plain_cell (utf8 second) ∷ [])
+row_of first second = tables.row_of (first ∷ second ∷ [])
 
 -- a header and a row of two cells
 abbrev table_of : String → String → TableValue
-table_of first second = with_row (row_of first second) (with_header (row_of "day" "text") (new_table utf8_full))
+table_of first second =
+    tables.table_of utf8_full ("day" ∷ "text" ∷ []) ((first ∷ second ∷ []) ∷ [])
 
 -- ---- premises that hold
-
-ellipsis_is_apart : IsApart ellipsis
-unfolding encode
-ellipsis_is_apart = frame_apart 0x2026 [] refl
 
 is_plain : (first second : String) → IsPlain (table_of first second)
 is_plain first second = record { no_styles = refl; no_sequences = refl }
@@ -52,7 +49,7 @@ space : IsOneColumn None
 space = frame_adds 0x20 refl
 
 has_plain_frame : (first second : String) → HasPlainFrame (table_of first second)
-unfolding wrapping
+unfolding wrapping encode
 has_plain_frame first second =
     record {
       style = one_column_characters utf8_full refl;
@@ -67,7 +64,11 @@ has_plain_frame first second =
     own one other = All-from_recursion (λ (cell : CellValue). IsOneColumn cell.delimiter) (row_of one other).cells (space, (space, tt))
 
 is_free : (first second : String) → IsFree (table_of first second)
-is_free first second = record { some_column = omega arith; no_constraint = All-from_recursion (λ (column : ColumnValue). column.constraint ≡ None) (table_of first second).columns (refl, (refl, tt)) }
+is_free first second = (
+  omega arith,
+  All-from_recursion (λ (column : ColumnValue). column.constraint ≡ None)
+      (table_of first second).columns (refl, (refl, tt)),
+)
 
 -- P holds of each of the four texts
 each_of : (P : Text → Type 0) (first second : String) → P (utf8 "day") → P (utf8 "text") → All P (plain_cell (utf8 first)).text_lines → All P (plain_cell (utf8 second)).text_lines → EachText P (table_of first second)
@@ -97,19 +98,62 @@ is_shown_whole : IsShownWhole (table_of "京都" "김철수")
 unfolding wrapping encode
 is_shown_whole =
     record {
-      no_constraint = (is_free "京都" "김철수").no_constraint;
+      no_constraint = (is_free "京都" "김철수").1;
       uncut = All-from_recursion (λ (row : RowValue). row.max_height ≡ None) (header_and_rows (table_of "京都" "김철수")) (refl, (refl, tt));
       short = each_of (λ text. measure text ≤ 65535) "京都" "김철수" (omega arith) (omega arith) (All-from_recursion (λ text. measure text ≤ 65535) (utf8 "京都" ∷ []) (omega arith, tt)) (All-from_recursion (λ text. measure text ≤ 65535) (utf8 "김철수" ∷ []) (omega arith, tt));
     }
 
--- columns of four and six terminal columns have room for each of these characters
-characters_fit_columns : CharactersFit (table_of "京都" "김철수") (info_of (new_column 0) 4 ∷ info_of (new_column 1) 6 ∷ [])
+-- two columns of these content widths
+abbrev columns_of : ℕ → ℕ → List ColumnInfo
+columns_of n w = info_of (new_column 0) n ∷ info_of (new_column 1) w ∷ []
+
+-- the characters of a row's cells fit these columns
+abbrev FitColumns : List ColumnInfo → RowValue → Type 0
+FitColumns columns row = (i : ℕ) (column : ColumnInfo) → slice_get columns i ≡ Some column
+    → column.is_hidden ≡ false → (cell : CellValue) → slice_get row.cells i ≡ Some cell
+    → All (HasCharactersWithin column.content_width) cell.text_lines
+
+-- so do those of two cells, where each fits its own
+two_fit : (n w : ℕ) (one other : CellValue)
+    → All (HasCharactersWithin (max 1 n)) one.text_lines
+    → All (HasCharactersWithin (max 1 w)) other.text_lines
+    → FitColumns (columns_of n w) (plain_row (one ∷ other ∷ []))
+two_fit n w one other first second = at
+  where
+    fit : (a b : ColumnInfo) (x y : CellValue) → Some a ≡ Some b → Some x ≡ Some y
+        → All (HasCharactersWithin a.content_width) x.text_lines
+        → All (HasCharactersWithin b.content_width) y.text_lines
+    fit a b x y columns cells own =
+        subst (λ (c : ColumnInfo). All (HasCharactersWithin c.content_width) y.text_lines)
+        (same_Some a b columns)
+        (subst (λ (c : CellValue). All (HasCharactersWithin a.content_width) c.text_lines)
+        (same_Some x y cells) own)
+
+    at : FitColumns (columns_of n w) (plain_row (one ∷ other ∷ []))
+    at zero column is visible cell found =
+        fit (info_of (new_column 0) n) column one cell is found first
+    at (suc zero) column is visible cell found =
+        fit (info_of (new_column 1) w) column other cell is found second
+    at (suc (suc i)) column is visible cell found = absurd (cc found)
+
+-- each character has room in its own column: digits in one of one terminal column, Chinese in one
+-- of two
+characters_fit_their_columns : CharactersFit (table_of "17" "京都") (columns_of 1 2)
 unfolding wrapping encode
-characters_fit_columns =
-    All-from_recursion (λ (column : ColumnInfo). EachText (HasCharactersWithin column.content_width) (table_of "京都" "김철수")) (info_of (new_column 0) 4 ∷ info_of (new_column 1) 6 ∷ []) (
-      each_of (HasCharactersWithin 4) "京都" "김철수" refl refl (All-from_recursion (HasCharactersWithin 4) (utf8 "京都" ∷ []) (refl, tt)) (All-from_recursion (HasCharactersWithin 4) (utf8 "김철수" ∷ []) (refl, tt)),
-      (each_of (HasCharactersWithin 6) "京都" "김철수" refl refl (All-from_recursion (HasCharactersWithin 6) (utf8 "京都" ∷ []) (refl, tt)) (All-from_recursion (HasCharactersWithin 6) (utf8 "김철수" ∷ []) (refl, tt)), tt),
+characters_fit_their_columns =
+    All-from_recursion (FitColumns (columns_of 1 2)) (header_and_rows (table_of "17" "京都")) (
+      two_fit 1 2 (plain_cell (utf8 "day")) (plain_cell (utf8 "text")) (one_line 1 "day" refl)
+          (one_line 2 "text" refl),
+      (
+        two_fit 1 2 (plain_cell (utf8 "17")) (plain_cell (utf8 "京都")) (one_line 1 "17" refl)
+            (one_line 2 "京都" refl),
+        tt,
+      ),
     )
+  where
+    one_line : (w : ℕ) (s : String) → HasCharactersWithin w (utf8 s)
+        → All (HasCharactersWithin w) (utf8 s ∷ [])
+    one_line w s own = All-from_recursion (HasCharactersWithin w) (utf8 s ∷ []) (own, tt)
 
 -- what holds of all texts holds of the shown ones
 shown_of_all : (P : Text → Type 0) (table : TableValue) → EachText P table → EachShownText P table
@@ -165,6 +209,15 @@ widening_is_refused : ¬ (HasCharactersWithin 2 (encode_utf8_all (0xFE01 ∷ [])
 unfolding wrapping encode
 widening_is_refused is = cc is
 
+-- a character of two columns in a column of one, though the other one has room
+wide_in_the_narrow_column : ¬ (CharactersFit (table_of "京" "17") (columns_of 1 2))
+unfolding wrapping encode
+wide_in_the_narrow_column fit =
+    let own : All (HasCharactersWithin 1) (utf8 "京" ∷ []) =
+    fit 1 (row_of "京" "17") (omega arith) 0 (info_of (new_column 0) 1) refl refl
+    (plain_cell (utf8 "京")) refl in
+    wide_is_refused (All-head (HasCharactersWithin 1) (utf8 "京") [] own)
+
 -- a text in bold is harmless, and shows the text
 bold_shows : Shows (codes "\u{1b}[1ma\u{1b}[0m") (codes "a")
 bold_shows = sequence (codes "1") (codes "a\u{1b}[0m") (codes "a") refl (byte 0x61 (codes "\u{1b}[0m") [] refl (sequence (codes "0") [] [] refl nothing))
@@ -187,22 +240,22 @@ clear_screen (sequence code text shown all rest) is = no_end code (cc is)
     no_end (x ∷ y ∷ []) same = cc same
     no_end (x ∷ y ∷ z ∷ zs) same = cc same
 
--- a bell shows itself, so it is no harmless text
-bell_shows : {text shown : Text} → Shows text shown → text ≡ 0x07 ∷ [] → shown ≡ 0x07 ∷ []
-bell_shows nothing is = is
-bell_shows (byte b text shown clear rest) is = let end : text ≡ [] = cc is in let own : shown ≡ [] = nothing_left rest end in cc (is, own)
-  where
-    nothing_left : {xs ys : Text} → Shows xs ys → xs ≡ [] → ys ≡ []
-    nothing_left nothing same = same
-    nothing_left (byte c text shown clear rest) same = absurd (cc same)
-    nothing_left (sequence code text shown all rest) same = absurd (cc same)
-bell_shows (sequence code text shown all rest) is = absurd (cc is)
+-- a text without ESC shows itself alone
+pub shows_itself : {text shown : Text} → Shows text shown → HasNo 0x1B text → shown ≡ text
+shows_itself nothing none = refl
+shows_itself (byte b text shown clear rest) none =
+    ap (λ (t : Text). b ∷ t) (shows_itself rest (or_parts (b == 0x1B) _ none).1)
+shows_itself (sequence code text shown all rest) none = absurd (cc none)
 
+-- a bell does, so it is no harmless text
 -- false: promises::harmless_text, csv_promises::harmless_output, csv_promises::harmless_drawing
 bell_is_harmful : ¬ (IsHarmless (0x07 ∷ []))
 bell_is_harmful (shown, shows, none) =
-    let own : NoCharPasses (λ c. is_control c && not (c == 0x0A)) (0x07 ∷ []) = subst (NoCharPasses (λ c. is_control c && not (c == 0x0A))) (bell_shows shows refl) none in
-    let is : true ≡ false = NoCharPasses-byte (λ c. is_control c && not (c == 0x0A)) (0x07 ∷ []) 0 own (omega arith) (omega arith) in
+    let speaks : ℕ → Bool = λ c. is_control c && not (c == 0x0A) in
+    let own : NoCharPasses speaks (0x07 ∷ []) =
+    subst (NoCharPasses speaks) (shows_itself shows refl) none in
+    let is : true ≡ false =
+    NoCharPasses-byte speaks (0x07 ∷ []) 0 own (omega arith) (omega arith) in
     cc is
 
 -- a text that lost a character isn't the same, one that lost a space is
@@ -214,39 +267,30 @@ lost_letter : ¬ (AreSameBut 0x20 (codes "a") (codes "a b"))
 unfolding chars
 lost_letter is = let same : 0x61 ∷ [] ≡ 0x61 ∷ 0x62 ∷ [] = is in absurd (cc same)
 
--- nothing stands in an empty line
-none_in_nothing : (before part behind : Text) (c : ℕ) → ¬ ([] ≡ before ++ ((c ∷ part) ++ behind))
-none_in_nothing [] part behind c is = cc is
-none_in_nothing (b ∷ before) part behind c is = cc is
+-- nothing stands in an empty list
+pub none_in_nothing : {A : Type 0} (before part behind : List A) (x : A)
+    → ¬ ([] ≡ before ++ ((x ∷ part) ++ behind))
+none_in_nothing [] part behind x is = cc is
+none_in_nothing (b ∷ before) part behind x is = cc is
 
--- texts that stand the other way round aren't those of the line
-turned_round : ¬ (StandIn (codes "b" ∷ codes "a" ∷ []) (codes "ab"))
-turned_round (before, behind, is, (between, rest, are, end)) = by_before before is
+-- letters that stand the other way round aren't those of the line
+pub turned_round : (x y : ℕ) (line : Text) → ¬ (x ≡ y) → line ≡ x ∷ y ∷ []
+    → ¬ (StandIn ((y ∷ []) ∷ (x ∷ []) ∷ []) line)
+turned_round x y line other is (before, behind, made, (between, rest, are, end)) =
+    by_before before (sym is ∙ made)
   where
-    by_before : (before : Text) → ¬ (codes "ab" ≡ before ++ (0x62 ∷ behind))
-    by_before [] same = let letter : ◌≡◌ {A = ℕ} 0x61 0x62 = cc same in absurd (omega (arith, letter))
-    by_before (x ∷ []) same = let gone : [] ≡ behind = cc same in none_in_nothing between [] rest 0x61 (gone ∙ are)
-    by_before (x ∷ y ∷ more) same = none_in_nothing more [] behind 0x62 (let end : [] ≡ more ++ (0x62 ∷ behind) = cc same in end)
+    by_before : (before : Text) → ¬ (x ∷ y ∷ [] ≡ before ++ (y ∷ behind))
+    by_before [] same = other (cc same)
+    by_before (a ∷ []) same =
+        let gone : [] ≡ behind = cc same in none_in_nothing between [] rest x (gone ∙ are)
+    by_before (a ∷ b ∷ more) same =
+        none_in_nothing more [] behind y (let end : [] ≡ more ++ (y ∷ behind) = cc same in end)
 
 -- ---- what no call returns
 
 -- lines of two widths
 uneven : List Text
 uneven = codes "ab" ∷ codes "a" ∷ []
-
--- false: promises::straight_lines, promises::straight_whole_lines, promises::straight_fitting_lines
-uneven_is_not_straight : ¬ (AreEquallyWide uneven)
-unfolding wrapping uneven
-uneven_is_not_straight (n, each) =
-    let two : 2 ≡ n = each 0 [] (omega arith) in
-    let one : 1 ≡ n = each 1 [] (omega arith) in
-    absurd (omega (arith, two, one))
-
--- a text without ESC shows itself alone
-shows_itself : {text shown : Text} → Shows text shown → HasNo 0x1B text → shown ≡ text
-shows_itself nothing none = refl
-shows_itself (byte b text shown clear rest) none = ap (λ (t : Text). b ∷ t) (shows_itself rest (or_parts (b == 0x1B) _ none).1)
-shows_itself (sequence code text shown all rest) none = absurd (cc none)
 
 -- false: promises::straight_styled_lines
 uneven_is_not_shown_straight : ¬ (AreShownEquallyWide uneven)
@@ -270,9 +314,8 @@ narrower_than_the_width each = let eight : 8 ≡ 9 = each 0 [] (omega arith) in 
 
 -- what stands in nothing is nothing
 nothing_inside : {A : Type 0} (before part behind : List A) → [] ≡ before ++ (part ++ behind) → part ≡ []
-nothing_inside [] [] behind is = refl
-nothing_inside [] (x ∷ part) behind is = absurd (cc is)
-nothing_inside (b ∷ before) part behind is = absurd (cc is)
+nothing_inside before [] behind is = refl
+nothing_inside before (x ∷ part) behind is = absurd (none_in_nothing before part behind x is)
 
 -- a list that is no longer than another one without elements is none
 no_longer : {A B : Type 0} (xs : List A) (ys : List B) → ys ≡ [] → length xs ≤ length ys → xs ≡ []

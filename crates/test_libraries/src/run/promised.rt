@@ -1,0 +1,70 @@
+//! The functions of `csv_promises`, each called on a file of two records: no clause says that they
+//! return what they speak of.
+
+use super::large::options;
+use crate::support::{assert_bytes, assert_lines};
+use comfy_run::run::MemorySink;
+use csv_command::Surroundings;
+use csv_promises::harmless::{harmless_drawing, harmless_output};
+use csv_promises::kept::lines_of_records;
+use csv_promises::straight::{straight_output, straight_whole_output};
+use csv_records::{Records, read_records};
+use std::alloc::{Alloc, Global};
+use std::process::Abort;
+
+const FILE: &str = "name,days\noats,3\n";
+
+// A column of numbers stands at the right.
+const DRAWN: &str = "\
++------+------+
+| name | days |
++=============+
+| oats |    3 |
++------+------+
+";
+
+// In a terminal the header is bold: sequences stand round each piece, with its paddings.
+const DRAWN_IN_A_TERMINAL: &str = "\
++------+------+
+|\u{1b}[1m name \u{1b}[0m|\u{1b}[1m days \u{1b}[0m|
++=============+
+| oats |    3 |
++------+------+
+";
+
+// No width is kept to, in a terminal too.
+const WORDS: [&str; 5] = ["csvtable", "-s", "ascii", "-w", "0"];
+
+const TERMINAL: Surroundings<'static> = Surroundings {
+    is_terminal: true,
+    columns: None,
+    no_color: None,
+};
+
+// Compares the records of the file, and what is written of them.
+fn assert_written(rt: &impl Abort, written: Option<(Records, MemorySink)>) {
+    let (records, sink) = written.expect(rt, "a drawing");
+    assert!(rt; records.rows().len() == 2);
+    assert_bytes(rt, sink.bytes(), DRAWN_IN_A_TERMINAL);
+}
+
+#[test]
+fn promised_outputs_are_those_of_the_program(rt: HostRuntime) {
+    let input = FILE.as_bytes();
+    let narrow = straight_output(rt.alloc(), &WORDS, TERMINAL, input, 200);
+    assert_written(&rt, narrow);
+    let whole = straight_whole_output(rt.alloc(), &WORDS, TERMINAL, input, 200);
+    assert_written(&rt, whole);
+    let sink = harmless_output(rt.alloc(), &WORDS, TERMINAL, input, 200).expect(&rt, "a drawing");
+    assert_bytes(&rt, sink.bytes(), DRAWN_IN_A_TERMINAL);
+    let drawing = harmless_drawing(rt.alloc(), &WORDS, input).expect(&rt, "a drawing");
+    assert!(rt; drawing.as_str() == DRAWN);
+}
+
+#[test]
+fn promised_lines_are_those_of_the_records(rt: HostRuntime) {
+    let options = options(rt.alloc(), None, false);
+    let records = read_records(rt.alloc(), FILE, &options.input).expect(&rt, "records");
+    let lines = lines_of_records(rt.alloc(), records, &options).expect(&rt, "a table");
+    assert_lines(&rt, lines, DRAWN.trim_end());
+}
