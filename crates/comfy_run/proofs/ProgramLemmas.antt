@@ -1,7 +1,9 @@
 -- What the program reports, and which settings it runs with.
 use Rattle.std.proofs.Common.{◌≡◌, Bool, true, [], ◌++◌, Option, Some, Result, Ok, Err, OnOk, OnErr, refl, sym, append-nil, ap, subst, ◌∙◌}
 use Rattle.comfy_parts.specs.Text.{Text}
-use Rattle.devices.specs.Outcome.{RunFacts, IsBeginningOnly}
+use Rattle.devices.specs.Outcome.{Between, IsBeginningOnly}
+use Rattle.devices.specs.declared.device.Sink as sink
+use Rattle.devices.specs.declared.device.Source as source
 use Rattle.comfy_run.specs.Program.{Reports}
 use Rattle.comfy_run.specs.Run.{IsAfter}
 use Rattle.comfy_run.specs.declared.error.RunError.{RunError}
@@ -23,6 +25,7 @@ nothing_reported old failed = λ had known. ([], [], known ∙ ap Some (sym (app
 pub same_settings : (a b : Settings) (x : Option Settings) → Some a ≡ x → x ≡ Some b → a ≡ b
 same_settings a b x first second = cc
 
--- what holds under settings holds under the same ones
-pub after_same : {T : Type 0} (a b : Settings) (r : Result T RunError) (facts : RunFacts) → a ≡ b → IsAfter a r facts → IsAfter b r facts
-after_same a b r facts same after = subst (λ (s : Settings). IsAfter s r facts) same after
+-- what is said of a run under settings is said under the same ones
+pub same_run : {T R W : Type 0} (of_source : source.Ghosts R) (of_sink : sink.Ghosts W) {a b : Settings} (r : Result T RunError) (old new : R × W) → a ≡ b
+    → Between of_source of_sink old new (IsAfter a r) → Between of_source of_sink old new (IsAfter b r)
+same_run of_source of_sink r old new same = subst (λ (s : Settings). Between of_source of_sink old new (IsAfter s r)) same

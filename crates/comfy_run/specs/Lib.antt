@@ -1,7 +1,6 @@
 pub mod Arguments
 pub mod Counts
 pub mod Input
-pub mod Outcome
 pub mod Parts
 pub mod Program
 pub mod Rows

@@ -6,7 +6,7 @@ ghost use Rattle.comfy_run.specs.Run.{run_error_of};
 ghost use Rattle.comfy_run.specs.declared.error.RunError.TheVariants.{Table};
 
 use comfy_parts::TableError;
-use devices::ReadError;
+use devices::Stop;
 use std::alloc::AllocError;
 use thiserror::Error;
 
@@ -43,13 +43,15 @@ impl From<AllocError> for RunError {
     }
 }
 
-impl From<ReadError> for RunError {
+impl From<Stop<RunError>> for RunError {
     ghost from_gives = { λ x e. e ≡ run_error_of x };
 
-    fn from(error: ReadError) -> RunError {
-        match error {
-            ReadError::Source => RunError::Read,
-            ReadError::OutOfMemory => RunError::Table(TableError::OutOfMemory),
+    fn from(stop: Stop<RunError>) -> RunError {
+        match stop {
+            Stop::Read => RunError::Read,
+            Stop::Write => RunError::Write,
+            Stop::OutOfMemory => RunError::Table(TableError::OutOfMemory),
+            Stop::Refused(error) => error,
         }
     }
 }

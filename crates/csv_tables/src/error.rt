@@ -1,12 +1,13 @@
 //! Why no drawing was written.
 
 ghost use Rattle.std.specs.Prelude.{◌≡◌};
-ghost use Rattle.csv_tables.specs.Errors.{of_columns, of_decoding, of_records};
+ghost use Rattle.csv_tables.specs.Errors.{of_columns, of_decoding, of_records, of_stop};
 ghost use Rattle.csv_tables.specs.declared.error.ColumnsError.TheVariants as columns;
 ghost use Rattle.csv_tables.specs.declared.error.CsvError.TheVariants.{OutOfMemory};
 
 use comfy_parts::TableError;
 use csv_records::{DecodeError, RecordsError};
+use devices::Stop;
 use std::alloc::{AllocError, AllocFailed};
 use thiserror::Error;
 
@@ -121,6 +122,19 @@ impl From<ColumnsError> for CsvError {
         match error {
             ColumnsError::OutOfMemory => CsvError::OutOfMemory,
             fault => CsvError::Columns(fault),
+        }
+    }
+}
+
+impl From<Stop<CsvError>> for CsvError {
+    ghost from_gives = { λ x e. e ≡ of_stop x };
+
+    fn from(stop: Stop<CsvError>) -> CsvError {
+        match stop {
+            Stop::Read => CsvError::Read,
+            Stop::Write => CsvError::Write,
+            Stop::OutOfMemory => CsvError::OutOfMemory,
+            Stop::Refused(error) => error,
         }
     }
 }

@@ -1,5 +1,5 @@
 //! Where bytes come from and where they go to: readers, writers and memory; all that a source has
-//! left, and all of a piece for a sink; a process's arguments.
+//! left, all of a piece for a sink, and a run from one to the other; a process's arguments.
 #![tactic(auto)]
 
 mod device;
@@ -12,4 +12,4 @@ pub use device::{DeviceFault, Sink, Source};
 pub use memory::{MemorySink, MemorySource};
 pub use process::arguments_of_process;
 pub use stream::{FromReader, ToWriter};
-pub use transfer::{ReadError, read_all, write_all};
+pub use transfer::{Draw, ReadError, Stop, read_all, run, write_all};

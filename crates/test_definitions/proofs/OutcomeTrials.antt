@@ -9,9 +9,14 @@ use Rattle.comfy_parts.specs.CellValue.{IsColumn, IsRow}
 use Rattle.comfy_run.specs.Input.{IsOutputFor, input_table}
 use Rattle.comfy_table.proofs.HeadlineLemmas.{table_drawing, utf8_indicator}
 use Rattle.comfy_table.specs.TableValue.{KeepsParts, TableValue}
-use Rattle.comfy_run.specs.Outcome.{IsAfterOk, IsAfterRead, IsAfterWrite}
-use Rattle.devices.specs.Outcome.{RunFacts}
+use Rattle.comfy_run.specs.Run.{IsDrawnFrom}
+use Rattle.comfy_run.specs.declared.settings.Settings.{Settings}
+use Rattle.devices.specs.Outcome.{IsAfterOk, IsAfterRead, IsAfterWrite, RunFacts}
 use Rattle.test_definitions.proofs.TrialTables.{at_widths}
+
+-- the settings of these runs
+abbrev plain : Settings
+plain = record { width = None; arrangement = Disabled; style = ascii_full }
 
 -- the table of an empty input
 abbrev no_table : TableValue
@@ -27,21 +32,21 @@ both_lines = (codes "++" ∷ codes "++" ∷ [], table_drawing no_table [] (codes
 abbrev all_written : RunFacts
 all_written = record { input = []; end_was_read = true; written = codes "++\n++\n"; read_failed = false; write_failed = false }
 
-after_ok : IsAfterOk None Disabled ascii_full all_written
-after_ok = record { no_device_failed = record { no_read_failed = refl; no_write_failed = refl }; has_text = record { whole = refl; is_text = ([], (refl, refl)) }; output = both_lines }
+after_ok : IsAfterOk (IsDrawnFrom plain) all_written
+after_ok = record { no_device_failed = record { no_read_failed = refl; no_write_failed = refl }; whole = refl; output = (([], (refl, refl)), both_lines) }
 
 -- the writer failed after the first line
 abbrev half_written : RunFacts
 half_written = record { input = []; end_was_read = true; written = codes "++\n"; read_failed = false; write_failed = true }
 
-after_write : IsAfterWrite None Disabled ascii_full half_written
+after_write : IsAfterWrite (IsDrawnFrom plain) half_written
 after_write =
     record {
       failed = refl;
       no_read_failed = refl;
-      has_text = record { whole = refl; is_text = ([], (refl, refl)) };
+      whole = refl;
       output = codes "++\n++\n";
-      is_output = both_lines;
+      is_output = (([], (refl, refl)), both_lines);
       beginning = record { rest = codes "++\n"; joins = refl; some_are_missing = omega arith };
     }
 
@@ -49,5 +54,5 @@ after_write =
 abbrev half_read : RunFacts
 half_read = record { input = 0xE2 ∷ 0x9C ∷ []; end_was_read = false; written = []; read_failed = true; write_failed = false }
 
-after_read : IsAfterRead None Disabled ascii_full half_read
-after_read = record { failed = refl; no_write_failed = refl; nothing_written = refl; text = λ whole. absurd (cc whole) }
+after_read : IsAfterRead half_read
+after_read = record { failed = refl; no_write_failed = refl; nothing_written = refl; nothing_left = λ whole. absurd (cc whole) }

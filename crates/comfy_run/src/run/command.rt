@@ -48,21 +48,7 @@ pub fn program<R: Source, W: Sink, F: Sink>(
         (F.has_failed messages.new)
         × (R.has_failed source.new ≡ is_read_fault answer)
         × (W.has_failed sink.old ≡ false → W.has_failed sink.new ≡ is_write_fault answer)
-        × Between
-        (record {
-          remaining = R.remaining source.old;
-          end_was_read = R.end_was_read source.old;
-          read_failed = R.has_failed source.old;
-          taken = W.taken sink.old;
-          write_failed = W.has_failed sink.old;
-        })
-        (record {
-          remaining = R.remaining source.new;
-          end_was_read = R.end_was_read source.new;
-          read_failed = R.has_failed source.new;
-          taken = W.taken sink.new;
-          write_failed = W.has_failed sink.new;
-        })
+        × Between R.Source W.Sink (source.old, sink.old) (source.new, sink.new)
         (IsAfter settings answer) }
     ensures done { result ≡ 0
         → (R.end_was_read source.new ≡ true) × (R.has_failed source.new ≡ false)

@@ -1,14 +1,14 @@
 //! Reads a whole input, draws its table, and writes the drawing.
 
-ghost use Rattle.std.specs.Prelude.{◌≡◌, List, ℕ, true, false, Some, OnOk, IfOk, IfErr, IsUtf8, string_bytes};
+ghost use Rattle.std.specs.Prelude.{◌≡◌, true, false, OnOk, IfOk, string_bytes};
 ghost use Rattle.comfy_run.specs.Input.{IsOutputFor};
-ghost use Rattle.comfy_run.specs.Run.{IsAfter, IsRefusal, is_read_fault, is_write_fault};
+ghost use Rattle.comfy_run.specs.Run.{IsAfter, IsDrawnFrom, IsRefusal, is_read_fault, is_write_fault};
 ghost use Rattle.devices.specs.Outcome.{Between};
 
 use crate::error::RunError;
 use crate::run::input::table_of;
 use crate::settings::Settings;
-use devices::{DeviceFault, Sink, Source, read_all, write_all};
+use devices::{Draw, Sink, Source};
 use std::alloc::Global;
 
 /// Reads the whole source, and writes the drawing of its table to the sink, each line followed by a
@@ -37,51 +37,25 @@ pub fn run<R: Source, W: Sink>(
     ensures ended { OnOk result (R.end_was_read source.new ≡ true) }
     ensures source { R.has_failed source.new ≡ is_read_fault result }
     ensures sink { W.has_failed sink.old ≡ false → W.has_failed sink.new ≡ is_write_fault result }
-    ensures known { Between
-        (record {
-          remaining = R.remaining source.old;
-          end_was_read = R.end_was_read source.old;
-          read_failed = R.has_failed source.old;
-          taken = W.taken sink.old;
-          write_failed = W.has_failed sink.old;
-        })
-        (record {
-          remaining = R.remaining source.new;
-          end_was_read = R.end_was_read source.new;
-          read_failed = R.has_failed source.new;
-          taken = W.taken sink.new;
-          write_failed = W.has_failed sink.new;
-        })
+    ensures known { Between R.Source W.Sink (source.old, sink.old) (source.new, sink.new)
         (IsAfter settings result) }
 {
-    let output = output_for(alloc, source, settings)?;
-    match write_all(sink, output.as_bytes()) {
-        Ok(()) => Ok(()),
-        Err(DeviceFault) => Err(RunError::Write),
-    }
+    Ok(devices::run(alloc, source, sink, &settings)?)
 }
 
-// Reads the whole source, and draws its table into one text.
-fn output_for<R: Source>(
-    alloc: Global,
-    source: &mut R,
-    settings: Settings,
-) -> Result<String, RunError>
-    ensures ended { OnOk result (R.end_was_read source.new ≡ true) }
-    ensures fault { R.has_failed source.new ≡ is_read_fault result }
-    ensures no_write { is_write_fault result ≡ false }
-    ensures output { IfOk result (λ output. (input : List ℕ) → R.remaining source.old ≡ Some input
-        → IsUtf8 input × IsOutputFor settings.width settings.arrangement settings.style input
-        (string_bytes output)) }
-    ensures refused { IfErr result (λ e. (input : List ℕ) → R.remaining source.old ≡ Some input
-        → IsRefusal e input (R.end_was_read source.new) (R.has_failed source.new)) }
-{
-    let input = read_all(alloc, source)?;
-    let Ok(text) = simdutf8::compat::from_utf8(input.as_slice()) else {
-        return Err(RunError::NotUtf8);
-    };
-    let output = drawing_of(alloc, text, settings)?;
-    Ok(output)
+impl Draw for Settings {
+    type Error = RunError;
+
+    ghost is_output = { IsDrawnFrom };
+
+    ghost is_refusal = { λ _. IsRefusal };
+
+    fn drawn(&self, alloc: Global, input: Vec<u8>) -> Result<String, RunError> {
+        let Ok(text) = simdutf8::compat::from_utf8(input.as_slice()) else {
+            return Err(RunError::NotUtf8);
+        };
+        Ok(drawing_of(alloc, text, *self)?)
+    }
 }
 
 /// The drawing of the table that a text stands for, each line followed by a line feed: what `run`

@@ -9,4 +9,4 @@ returns c =
     let empty = c.in_ok-sink.ensures in
     let happened = c.in_ok-run.ensures.known c.args.input.now [] (ap (λ (s : MemorySourceValue). Some (left_in s)) fresh) (ap (λ (s : MemorySinkValue). Some s.bytes) empty)
     (ap (λ (s : MemorySourceValue). s.failed) fresh) (ap (λ (s : MemorySinkValue). s.failed) empty) in
-    rw (ap (λ (taken : Option (List ℕ)). unwrap_or taken []) happened.1) happened.2.output
+    rw (ap (λ (taken : Option (List ℕ)). unwrap_or taken []) happened.1) happened.2.output.1

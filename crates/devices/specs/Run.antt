@@ -1,0 +1,38 @@
+-- What a run ensures, by its result.
+use Rattle.std.specs.Prelude.{◌≡◌, ⊤, Bool, true, false, [], Result, Ok, Err}
+use Rattle.devices.specs.Device.{Bytes}
+use Rattle.devices.specs.Outcome.{IsAfterFault, IsAfterOk, IsAfterOutOfMemory, IsAfterRead, IsAfterWrite, RunFacts}
+use Rattle.devices.specs.declared.transfer.ReadError.{ReadError}
+use Rattle.devices.specs.declared.transfer.ReadError.TheVariants as read
+use Rattle.devices.specs.declared.transfer.Stop.{Stop}
+use Rattle.devices.specs.declared.transfer.Stop.TheVariants.{OutOfMemory, Read, Refused, Write}
+
+-- the result says that the source failed
+abbrev pub is_read_fault : {T E : Type 0} → Result T (Stop E) → Bool
+is_read_fault (Err Read) = true
+is_read_fault _ = false
+
+-- the result says that the sink failed
+abbrev pub is_write_fault : {T E : Type 0} → Result T (Stop E) → Bool
+is_write_fault (Err Write) = true
+is_write_fault _ = false
+
+-- why a run stopped whose source wasn't read to its end
+abbrev pub stop_of : {E : Type 0} → ReadError → Stop E
+stop_of read.Source = Read
+stop_of read.OutOfMemory = OutOfMemory
+
+-- a refusal is that of some input
+abbrev pub IsRefusalOfSome : {E : Type 0} → (Bytes → E → Type 0) → Stop E → Type 0
+IsRefusalOfSome IsRefusal (Refused e) = (input : Bytes) × IsRefusal input e
+IsRefusalOfSome IsRefusal _ = ⊤
+
+-- what the facts of a run are, by its result; nothing is left where the end was read and there was
+-- no memory for the input
+module _ {E : Type 0} (IsOutput : Bytes → Bytes → Type 0) (IsRefusal : Bytes → E → Type 0) where
+  abbrev pub IsAfter : {T : Type 0} → Result T (Stop E) → RunFacts → Type 0
+  IsAfter (Ok _) facts = IsAfterOk IsOutput facts
+  IsAfter (Err Read) facts = IsAfterRead facts
+  IsAfter (Err Write) facts = IsAfterWrite IsOutput facts
+  IsAfter (Err OutOfMemory) facts = IsAfterOutOfMemory (λ input. input ≡ []) facts
+  IsAfter (Err (Refused e)) facts = IsAfterFault (λ input. IsRefusal input e) facts
