@@ -26,7 +26,7 @@ class Word:
         return ([f"-{self.letter}"] if self.letter else []) + ([f"--{self.name}"] if self.name else [])
 
 
-SOURCE = text_of("crates/csv_command/src/words.rt")
+SOURCE = text_of("crates/csv_command/src/options.rt")
 WORDS = [Word(*it) for it in re.findall(WORD, SOURCE)]
 OPTIONS = [it for it in WORDS if it.kind != "File"]
 VERSION = re.search(r'\.version\("(.+?)"\)', SOURCE)[1]

@@ -6,8 +6,8 @@ use Rattle.std.specs.Prelude.{IsUtf8, Option, Some}
 use Rattle.comfy_parts.specs.Text.{Text}
 use Rattle.csv_command.specs.Refusals.{IsRefusedFor}
 use Rattle.csv_command.specs.declared.drawing.Refusal.{Refusal}
-use Rattle.csv_command.specs.declared.drawing.Refusal.TheVariants.{Words, Input, OutOfMemory}
-use Rattle.comfy_run.specs.Input.{IsOutputFor}
+use Rattle.csv_command.specs.declared.drawing.Refusal.TheVariants.{Arguments, Input, OutOfMemory}
+use Rattle.comfy_run.specs.Input.{RendersInput}
 use Rattle.comfy_run.specs.declared.settings.Settings.{Settings}
 use Rattle.comfy_c.specs.Calls.{IsCommandLine, IsCsvRefusal, IsDrawnAs, IsHanded, with_front}
 
@@ -34,13 +34,13 @@ module _ (P : Text → Type 0) (bytes buffer : Text) {text after : Text} {needed
 -- ---- tab-separated text
 
 -- the output for a text that is the input's, under the settings that are asked for
-pub drawn_as : {asked : Option Settings} {settings : Settings} {input text drawing : Text} → Some settings ≡ asked → text ≡ input → IsUtf8 input → IsUtf8 drawing → IsOutputFor settings.width settings.arrangement settings.style text drawing → IsDrawnAs asked input drawing
-drawn_as asked same whole whole_drawing output = rw (← asked) (whole, whole_drawing, rw same at output)
+pub drawn_as : {invocation : Option Settings} {settings : Settings} {input text drawing : Text} → Some settings ≡ invocation → text ≡ input → IsUtf8 input → IsUtf8 drawing → RendersInput settings.width settings.arrangement settings.style text drawing → IsDrawnAs invocation input drawing
+drawn_as invocation same whole whole_drawing output = rw (← invocation) (whole, whole_drawing, rw same at output)
 
 -- ---- CSV
 
 -- why there is no drawing for words that a text stands for
 pub refused_for : (text input : Text) (line : List Text) → IsUtf8 text → IsCommandLine text line → (refusal : Refusal) → IsRefusedFor line input refusal → IsCsvRefusal text input refusal
-refused_for text input line is_text are (Words message) is = (IsUtf8-string_bytes message, inl (record { is_text = is_text; words = line; are_words = are; is_so = is }))
+refused_for text input line is_text are (Arguments message) is = (IsUtf8-string_bytes message, inl (record { is_text = is_text; words = line; are_words = are; is_so = is }))
 refused_for text input line is_text are (Input message) is = (IsUtf8-string_bytes message, record { is_text = is_text; words = line; are_words = are; is_so = is })
 refused_for text input line is_text are OutOfMemory is = tt

@@ -4,12 +4,12 @@ use Rattle.comfy_parts.specs.Presets.{preset_at}
 use Rattle.comfy_parts.specs.Text.{HasNo, Text}
 use Rattle.comfy_parts.specs.declared.style.table.ContentArrangement.{ContentArrangement}
 use Rattle.comfy_parts.specs.declared.style.table.ContentArrangement.TheVariants.{Disabled, Dynamic, DynamicFullWidth}
-use Rattle.csv_command.specs.Ending.{word_not_utf8}
-use Rattle.csv_command.specs.Refusals.{IsDrawnFor, IsSaidOfInput, IsSaidOfWords}
+use Rattle.csv_command.specs.Ending.{argument_not_utf8}
+use Rattle.csv_command.specs.Refusals.{IsRendered, IsSaidOfInput, IsSaidOfArguments}
 use Rattle.csv_command.specs.declared.drawing.Refusal.{Refusal}
-use Rattle.csv_command.specs.declared.drawing.Refusal.TheVariants.{Words, Input, OutOfMemory}
+use Rattle.csv_command.specs.declared.drawing.Refusal.TheVariants.{Arguments, Input, OutOfMemory}
 use Rattle.comfy_run.specs.Arguments.{settings_with}
-use Rattle.comfy_run.specs.Input.{IsOutputFor}
+use Rattle.comfy_run.specs.Input.{RendersInput}
 use Rattle.comfy_run.specs.declared.settings.Settings.{Settings}
 
 -- ---- the buffer
@@ -46,7 +46,7 @@ settings_for width arrangement style =
 abbrev pub IsDrawnAs : Option Settings → Text → Text → Type 0
 IsDrawnAs None input output = ⊥
 IsDrawnAs (Some settings) input output =
-    IsUtf8 input × IsUtf8 output × IsOutputFor settings.width settings.arrangement settings.style
+    IsUtf8 input × IsUtf8 output × RendersInput settings.width settings.arrangement settings.style
     input output
 
 -- ---- CSV
@@ -77,7 +77,7 @@ pub record IsForWords (P : List Text → Type 0) (bytes : Text) : Type 0 where
 -- the drawing for words and an input
 abbrev pub IsCsvDrawing : Text → Text → Text → Type 0
 IsCsvDrawing bytes input drawing =
-    IsUtf8 drawing × IsForWords (λ words. IsDrawnFor words input drawing) bytes
+    IsUtf8 drawing × IsForWords (λ words. IsRendered words input drawing) bytes
 
 -- the line on an input that can't be drawn as words ask
 abbrev pub IsInputMessage : Text → Text → Text → Type 0
@@ -87,11 +87,11 @@ IsInputMessage bytes input message =
 -- the text on words that ask for no drawing, or aren't UTF-8
 abbrev pub IsWordsMessage : Text → Text → Type 0
 IsWordsMessage bytes message =
-    IsUtf8 message × (IsForWords (λ words. IsSaidOfWords words message) bytes ⊎ ¬ (IsUtf8 bytes)
-    × (message ≡ word_not_utf8))
+    IsUtf8 message × (IsForWords (λ words. IsSaidOfArguments words message) bytes ⊎ ¬ (IsUtf8 bytes)
+    × (message ≡ argument_not_utf8))
 
 -- why there is no drawing
 abbrev pub IsCsvRefusal : Text → Text → Refusal → Type 0
 IsCsvRefusal bytes input (Input message) = IsInputMessage bytes input (string_bytes message)
 IsCsvRefusal bytes input OutOfMemory = Unit {0}
-IsCsvRefusal bytes input (Words message) = IsWordsMessage bytes (string_bytes message)
+IsCsvRefusal bytes input (Arguments message) = IsWordsMessage bytes (string_bytes message)

@@ -5,7 +5,7 @@ ghost use Rattle.comfy_c.specs.Calls.{IsHanded, IsCsvDrawing, IsCsvRefusal, IsIn
 
 use crate::room::{DRAWN, OUT_OF_MEMORY, ROOM_TOO_SMALL, put};
 use crate::words::command_line;
-use csv_command::{Refusal, WORD_NOT_UTF8, drawing_of};
+use csv_command::{ARGUMENT_NOT_UTF8, Refusal, render_csv};
 use std::alloc::Global;
 
 // What a call returns besides.
@@ -62,7 +62,7 @@ pub extern "C" fn comfy_csv_draw(
     ensures needed_kept { result ≡ 3 → needed.new ≡ needed.old }
 {
     let Ok(text) = simdutf8::compat::from_utf8(words) else {
-        put(WORD_NOT_UTF8.as_bytes(), output, needed);
+        put(ARGUMENT_NOT_UTF8.as_bytes(), output, needed);
         return WORDS_REFUSED;
     };
     match drawing_for(alloc, text, input) {
@@ -78,7 +78,7 @@ pub extern "C" fn comfy_csv_draw(
             INPUT_REFUSED
         }
         Err(Refusal::OutOfMemory) => OUT_OF_MEMORY,
-        Err(Refusal::Words(message)) => {
+        Err(Refusal::Arguments(message)) => {
             put(message.as_bytes(), output, needed);
             WORDS_REFUSED
         }
@@ -92,5 +92,5 @@ fn drawing_for(alloc: Global, text: &str, input: &[u8]) -> Result<String, Refusa
     ensures refused { IfErr result (λ refusal. IsCsvRefusal text.now input.now refusal) }
 {
     let words = command_line(alloc, text)?;
-    drawing_of(alloc, words.as_slice(), input)
+    render_csv(alloc, words.as_slice(), input)
 }

@@ -4,7 +4,7 @@ ghost use Rattle.std.specs.Prelude.{◌≡◌, ◌≢◌, ◌≤◌, ◌<◌, No
 ghost use Rattle.comfy_c.specs.Calls.{IsDrawnAs, arrangements, settings_for};
 
 use crate::room::{DRAWN, OUT_OF_MEMORY, ROOM_TOO_SMALL, put};
-use comfy_run::run::{Settings, drawing_of};
+use comfy_run::run::{Settings, render_tsv};
 use comfy_table::ContentArrangement;
 use comfy_table::presets::by_position;
 use std::alloc::Global;
@@ -15,7 +15,7 @@ const NOT_UTF8: u32 = 2;
 
 const UNKNOWN_SETTING: u32 = 4;
 
-/// Draws the table of tab-separated text into the caller's buffer, as `comfy_run::run::drawing_of`
+/// Draws the table of tab-separated text into the caller's buffer, as `comfy_run::run::render_tsv`
 /// draws it.
 ///
 /// `width` is the table's width in terminal columns, and a number above 65535 stands for none.
@@ -65,7 +65,7 @@ pub extern "C" fn comfy_table_draw(
     let Ok(text) = simdutf8::compat::from_utf8(input) else {
         return NOT_UTF8;
     };
-    let Ok(drawing) = drawing_of(alloc, text, settings) else {
+    let Ok(drawing) = render_tsv(alloc, text, settings) else {
         return OUT_OF_MEMORY;
     };
     if put(drawing.as_bytes(), output, needed) {

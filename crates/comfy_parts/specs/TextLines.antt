@@ -3,20 +3,20 @@ use Rattle.std.specs.Prelude.{◌≡◌, ◌==◌, ℕ, true, false, List, [], �
 use Rattle.std.specs.List.{list_any}
 use Rattle.comfy_parts.specs.Text.{Text, measure}
 use Rattle.comfy_parts.specs.VisibleText.{has_escape, visible_text}
-use Rattle.comfy_parts.specs.declared.cell.text_lines.Kept.{Kept}
-use Rattle.comfy_parts.specs.declared.cell.text_lines.Kept.TheVariants as kept
+use Rattle.comfy_parts.specs.declared.cell.text_lines.Storage.{Storage}
+use Rattle.comfy_parts.specs.declared.cell.text_lines.Storage.TheVariants as kept
 use Rattle.comfy_parts.specs.declared.cell.text_lines.Texts.{Texts}
-use Rattle.comfy_parts.specs.declared.cell.text_lines.Texts.TheVariants.{One, Several}
+use Rattle.comfy_parts.specs.declared.cell.text_lines.Texts.TheVariants.{Multiple, Single}
 
 -- the texts
 abbrev pub texts_of : Texts → List Text
-texts_of (One text width) = string_bytes text ∷ []
-texts_of (Several texts widths) = map string_bytes texts.items
+texts_of (Single text width) = string_bytes text ∷ []
+texts_of (Multiple texts widths) = map string_bytes texts.items
 
 -- their kept widths
 abbrev pub widths_of : Texts → List ℕ
-widths_of (One text width) = width ∷ []
-widths_of (Several texts widths) = widths.items
+widths_of (Single text width) = width ∷ []
+widths_of (Multiple texts widths) = widths.items
 
 -- some lines are the visible ones of others, each with its measure beside it
 pub record AreVisible (whole visible : Texts) : Type 0 where
@@ -41,11 +41,11 @@ pub record IsClearLine (text : Text) (columns : ℕ) : Type 0 where
   pub width : columns ≡ measure text
 
 -- the text lines that are kept
-abbrev pub kept_texts : Kept → List Text
-kept_texts (kept.One text width) = string_bytes text ∷ []
-kept_texts (kept.Several several) = texts_of several.value.whole
+abbrev pub kept_texts : Storage → List Text
+kept_texts (kept.Plain text width) = string_bytes text ∷ []
+kept_texts (kept.Boxed several) = texts_of several.value.whole
 
 -- a single one is such a text, and others are kept with what is visible of them
-abbrev pub KeepsMeasured : Kept → Type 0
-KeepsMeasured (kept.One text width) = IsClearLine (string_bytes text) width
-KeepsMeasured (kept.Several several) = AreMeasured several.value.whole several.value.visible
+abbrev pub KeepsMeasured : Storage → Type 0
+KeepsMeasured (kept.Plain text width) = IsClearLine (string_bytes text) width
+KeepsMeasured (kept.Boxed several) = AreMeasured several.value.whole several.value.visible

@@ -25,7 +25,7 @@ pub use lines::{WrappedLines, wrapped_lines};
 pub use prefix::split_long_word;
 pub(crate) use sequences::cursor::Cursor;
 pub(crate) use sequences::has_escape;
-pub(crate) use sequences::written::{is_written_whole, push_lines};
+pub(crate) use sequences::written::{needs_no_rewrite, push_lines};
 pub use sequences::{leaves_sequence_open, sequence_len, visible_text};
 use std::alloc::Global;
 pub use width::measure_text_width;

@@ -7,7 +7,7 @@ use Rattle.comfy_parts.specs.Text.{Text}
 use Rattle.comfy_parts.specs.declared.style.table.ContentArrangement.{ContentArrangement}
 use Rattle.comfy_parts.specs.declared.style.table.ContentArrangement.TheVariants.{Dynamic, DynamicFullWidth}
 use Rattle.comfy_parts.specs.declared.style.table_style.TableStyle.{TableStyle}
-use Rattle.comfy_run.specs.Input.{IsOutputFor, input_table}
+use Rattle.comfy_run.specs.Input.{RendersInput, input_table}
 use Rattle.comfy_table.specs.Arrangement.{IsArranged}
 use Rattle.comfy_table.specs.Laws.{AreLinesOf, HasPrintableCells, IsStyleWithout, NoConstraints, count, least_total, line_total}
 use Rattle.comfy_table.specs.TableValue.{TableValue, should_style, table_width}
@@ -59,7 +59,7 @@ pub record IsPrintedInLines (style : TableStyle) (input : Text) : Type 0 where
 -- under every arrangement all lines have as many characters as the full width
 abbrev pub OutputHasOneCount : Option ℕ → ContentArrangement → TableStyle → Text → Text → Type 0
 OutputHasOneCount width arrangement style input output =
-    IsPrintedInLines style input → IsOutputFor width arrangement style input output
+    IsPrintedInLines style input → RendersInput width arrangement style input output
     → EachLineHas (IsTotalOf (input_table width arrangement style input)) output
 
 -- the width, or borders, paddings and one character for each column, whichever is more
@@ -69,7 +69,7 @@ enough w table = max w (least_total table)
 -- under `Dynamic` a line has at most so many characters
 abbrev pub OutputKeepsToWidth : ℕ → TableStyle → Text → Text → Type 0
 OutputKeepsToWidth w style input output =
-    IsPrintedInLines style input → IsOutputFor (Some w) Dynamic style input output
+    IsPrintedInLines style input → RendersInput (Some w) Dynamic style input output
     → EachLineHas (λ n. n ≤ enough w (input_table (Some w) Dynamic style input)) output
 
 -- under `DynamicFullWidth` it has exactly so many, where there is a column
@@ -77,5 +77,5 @@ abbrev pub OutputFillsWidth : ℕ → TableStyle → Text → Text → Type 0
 OutputFillsWidth w style input output =
     IsPrintedInLines style input
     → 0 < shown_count (input_table (Some w) DynamicFullWidth style input)
-    → IsOutputFor (Some w) DynamicFullWidth style input output
+    → RendersInput (Some w) DynamicFullWidth style input output
     → EachLineHas (λ n. n ≡ enough w (input_table (Some w) DynamicFullWidth style input)) output

@@ -5,7 +5,7 @@ use Rattle.std.specs.Str.Lines.{lines}
 use Rattle.comfy_parts.specs.Text.{Text}
 use Rattle.comfy_parts.specs.declared.style.table.ContentArrangement.{ContentArrangement}
 use Rattle.comfy_parts.specs.declared.style.table_style.TableStyle.{TableStyle}
-use Rattle.comfy_table.specs.Headline.{IsTerminatedTextOf}
+use Rattle.comfy_table.specs.Headline.{TerminatesLines}
 use Rattle.comfy_table.specs.TableValue.{TableValue, new_table, with_header, with_row}
 use Rattle.comfy_run.specs.Rows.{row_of_line}
 
@@ -25,6 +25,6 @@ input_table width arrangement style text =
 
 -- the bytes written for an input: a drawing of its table, with all that a drawing promises, each
 -- line followed by a line feed
-abbrev pub IsOutputFor : Option ℕ → ContentArrangement → TableStyle → Text → Text → Type 0
-IsOutputFor width arrangement style text output =
-    IsTerminatedTextOf (input_table width arrangement style text) output
+abbrev pub RendersInput : Option ℕ → ContentArrangement → TableStyle → Text → Text → Type 0
+RendersInput width arrangement style text output =
+    TerminatesLines (input_table width arrangement style text) output

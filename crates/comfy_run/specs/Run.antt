@@ -2,7 +2,7 @@
 use Rattle.std.specs.Prelude.{◌≡◌, Bool, true, false, Result, Ok, Err, IsUtf8}
 use Rattle.comfy_parts.specs.Text.{Text}
 use Rattle.comfy_parts.specs.declared.error.TableError.TheVariants as memory
-use Rattle.comfy_run.specs.Input.{IsOutputFor}
+use Rattle.comfy_run.specs.Input.{RendersInput}
 use Rattle.comfy_run.specs.declared.error.RunError.{RunError}
 use Rattle.comfy_run.specs.declared.error.RunError.TheVariants.{Read, Write, NotUtf8, Table}
 use Rattle.comfy_run.specs.declared.settings.Settings.{Settings}
@@ -13,7 +13,7 @@ use Rattle.devices.specs.declared.transfer.Stop.TheVariants as stop
 -- the input is UTF-8, and the output is a drawing of its table
 abbrev pub IsDrawnFrom : Settings → Text → Text → Type 0
 IsDrawnFrom settings input output =
-    IsUtf8 input × IsOutputFor settings.width settings.arrangement settings.style input output
+    IsUtf8 input × RendersInput settings.width settings.arrangement settings.style input output
 
 -- the input isn't UTF-8
 abbrev pub IsNoText : Text → Type 0

@@ -6,7 +6,7 @@ use Rattle.comfy_parts.specs.Columns.{IsOneColumnStyle, presets_all}
 use Rattle.comfy_parts.specs.Text.{Text, measure}
 use Rattle.comfy_parts.specs.declared.style.table.ContentArrangement.{ContentArrangement}
 use Rattle.comfy_parts.specs.declared.style.table_style.TableStyle.{TableStyle}
-use Rattle.comfy_run.specs.Input.{IsOutputFor, input_table}
+use Rattle.comfy_run.specs.Input.{RendersInput, input_table}
 use Rattle.comfy_run.specs.Rows.{cells_of_line}
 use Rattle.comfy_table.specs.Arrangement.{IsArranged, width_kept}
 use Rattle.comfy_table.specs.FittingTables.{CharactersFitColumn}
@@ -40,7 +40,7 @@ module _ (width : Option ℕ) (arrangement : ContentArrangement) (style : TableS
   WholeOutputIsStraight =
       IsStraightStyle style → width_kept arrangement width ≡ None
       → EachText (λ text. measure text ≤ 65535) input
-      → IsOutputFor width arrangement style input output → IsStraightOutput output
+      → RendersInput width arrangement style input output → IsStraightOutput output
 
   -- each character of each text fits its column, whatever the widths are
   abbrev pub EachCharacterFits : Type 0
@@ -52,4 +52,4 @@ module _ (width : Option ℕ) (arrangement : ContentArrangement) (style : TableS
   abbrev pub FittingOutputIsStraight : Type 0
   FittingOutputIsStraight =
       IsStraightStyle style → EachCharacterFits
-      → IsOutputFor width arrangement style input output → IsStraightOutput output
+      → RendersInput width arrangement style input output → IsStraightOutput output

@@ -13,4 +13,4 @@ pub use devices::{
     arguments_of_process, read_all, write_all,
 };
 pub use process::run_with_arguments;
-pub use transfer::{drawing_of, run};
+pub use transfer::{render_tsv, run};

@@ -12,8 +12,8 @@ use Rattle.comfy_table.proofs.OneDrawingLemmas.{arranged_is_one}
 use Rattle.comfy_table.proofs.OtherRowLemmas.{header_same, row_same}
 use Rattle.comfy_table.specs.AddedRows.{HasColumnsFor, IsWithinContents, RowIsAddedBelow, ShownLinesStay, added_lines, bottom_lines, lines_above_bottom}
 use Rattle.comfy_table.specs.Arrangement.{IsArranged, hidden_columns, is_full_width, room_beside_borders, width_kept, widths_at}
-use Rattle.comfy_table.specs.Drawing.{drawing, drawing_of_infos, drawn_header, drawn_row, drawn_rows, infos_of, whole_widths}
-use Rattle.comfy_table.specs.Dynamic.{IsDynamic}
+use Rattle.comfy_table.specs.Drawing.{drawing, drawing_of_infos, drawn_header, drawn_row, drawn_rows, infos_of, outer_widths}
+use Rattle.comfy_table.specs.Dynamic.{IsDynamicLayout}
 use Rattle.comfy_table.specs.Frame.{optional_frame_line}
 use Rattle.comfy_table.specs.TableValue.{TableValue, cell_content_width, cells_at, cells_with_header, column_content_width, measured_cell, shown_columns, table_width, with_other_rows, with_row}
 use Rattle.comfy_table.specs.Widths.{capped_content, disabled_width, fixed_by_constraint, shown_count, shown_needs, upper_boundary}
@@ -34,7 +34,7 @@ module _ (table : TableValue) (row : RowValue) where
 
   module _ (infos : List ColumnInfo) where
     abbrev separator : List Text
-    separator = optional_frame_line table.style table.style.row_separator (whole_widths infos)
+    separator = optional_frame_line table.style table.style.row_separator (outer_widths infos)
 
     rows_are : drawn_rows longer infos (table.rows ++ row ∷ []) ≡ drawn_rows table infos table.rows ++ added_lines table infos row
     rows_are =
@@ -47,11 +47,11 @@ module _ (table : TableValue) (row : RowValue) where
     regrouped top header rows bottom = ap (λ (ls : List Text). top ++ ls) (sym (append_assoc header rows bottom)) ∙ sym (append_assoc top (header ++ rows) bottom)
 
     above_is : drawing_of_infos table infos ≡ lines_above_bottom table infos ++ bottom_lines table infos
-    above_is = regrouped (optional_frame_line table.style table.style.top_border (whole_widths infos)) (drawn_header table infos table.header) (drawn_rows table infos table.rows) (bottom_lines table infos)
+    above_is = regrouped (optional_frame_line table.style table.style.top_border (outer_widths infos)) (drawn_header table infos table.header) (drawn_rows table infos table.rows) (bottom_lines table infos)
 
     longer_is : drawing_of_infos longer infos ≡ lines_above_bottom table infos ++ (added_lines table infos row ++ bottom_lines table infos)
     longer_is =
-        let top = optional_frame_line table.style table.style.top_border (whole_widths infos) in
+        let top = optional_frame_line table.style table.style.top_border (outer_widths infos) in
         let rows = drawn_rows table infos table.rows in
         let added = added_lines table infos row in
         ap (λ (header : List Text). top ++ (header ++ (drawn_rows longer infos (table.rows ++ row ∷ []) ++ bottom_lines table infos))) (header_same table (table.rows ++ row ∷ []) infos table.header)
@@ -119,7 +119,7 @@ module _ (table : TableValue) (row : RowValue) where
         shown = widths_at widths (shown_columns table)
 
         Are : TableValue → Option ℕ → Type 0
-        Are t o = MatchOption o (shown ≡ map (disabled_width t) (shown_columns t)) (λ w. IsDynamic (room_beside_borders t w) (shown_needs t) (is_full_width t.arrangement) shown)
+        Are t o = MatchOption o (shown ≡ map (disabled_width t) (shown_columns t)) (λ w. IsDynamicLayout (room_beside_borders t w) (shown_needs t) (is_full_width t.arrangement) shown)
 
   -- so the lines that were shown stay
   pub shown_lines_stay : (lines others : List Text) → ShownLinesStay table row lines others

@@ -7,7 +7,7 @@ use Rattle.std.proofs.lemmas.List.FromFn.{length-enumerate_from}
 use Rattle.comfy_parts.specs.CellValue.{ColumnInfo, ColumnValue, info_of, is_hidden_column}
 use Rattle.comfy_table.specs.AllWidths.{all_widths, given_in_order}
 use Rattle.comfy_table.specs.Arrangement.{IsArranged, is_full_width, room_beside_borders, widths_at, width_kept}
-use Rattle.comfy_table.specs.Dynamic.{IsDynamic, added}
+use Rattle.comfy_table.specs.Dynamic.{IsDynamicLayout, added}
 use Rattle.comfy_table.specs.TableValue.{TableValue, column_content_width, table_width, shown_columns}
 use Rattle.comfy_table.specs.Widths.{ColumnNeeds, disabled_width, needs_of, shown_count, shown_needs}
 use Rattle.comfy_table.proofs.BudgetLemmas.{length-contents_after}
@@ -22,7 +22,7 @@ length-added (x ∷ xs) [] same = absurd (omega arith)
 length-added (x ∷ xs) (y ∷ ys) same = ap suc (length-added xs ys (omega arith))
 
 -- one dynamic width for each column
-pub length-dynamic : (room : ℕ) (columns : List ColumnNeeds) (full : Bool) (widths : List ℕ) → IsDynamic room columns full widths → length widths ≡ length columns
+pub length-dynamic : (room : ℕ) (columns : List ColumnNeeds) (full : Bool) (widths : List ℕ) → IsDynamicLayout room columns full widths → length widths ≡ length columns
 length-dynamic room columns full widths dynamic = grind (arith, length-added, length-contents_after, length-even_spread)
 
 -- ---- the given widths
@@ -104,13 +104,13 @@ from_start all i = let moved : 0 + i ≡ i = omega arith in ap (slice_index all)
 
 -- where a width is kept, the dynamic widths are the table's
 pub arranged_by_widths : (table : TableValue) (w : ℕ) (widths : List ℕ) → width_kept table.arrangement (table_width table) ≡ Some w
-    → IsDynamic (room_beside_borders table w) (shown_needs table) (is_full_width table.arrangement) widths → IsArranged table (all_widths table widths)
+    → IsDynamicLayout (room_beside_borders table w) (shown_needs table) (is_full_width table.arrangement) widths → IsArranged table (all_widths table widths)
 arranged_by_widths table w widths kept dynamic = record {
   one_for_each = length-given_in_order table widths (enumerate_from 0 table.columns) ∙ length-enumerate_from 0 table.columns;
   hidden_widths = hidden_given table (all_widths table widths) widths 0 table.columns (from_start (all_widths table widths));
   shown_widths =
-      subst (λ (o : Option ℕ). MatchOption o (shown ≡ map (disabled_width table) (shown_columns table)) (λ v. IsDynamic (room_beside_borders table v) (shown_needs table) (is_full_width table.arrangement) shown)) (sym kept)
-      (subst (λ (ws : List ℕ). IsDynamic (room_beside_borders table w) (shown_needs table) (is_full_width table.arrangement) ws) (sym shown_is) dynamic);
+      subst (λ (o : Option ℕ). MatchOption o (shown ≡ map (disabled_width table) (shown_columns table)) (λ v. IsDynamicLayout (room_beside_borders table v) (shown_needs table) (is_full_width table.arrangement) shown)) (sym kept)
+      (subst (λ (ws : List ℕ). IsDynamicLayout (room_beside_borders table w) (shown_needs table) (is_full_width table.arrangement) ws) (sym shown_is) dynamic);
 }
   where
     shown : List ℕ

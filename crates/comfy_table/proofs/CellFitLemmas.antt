@@ -60,8 +60,8 @@ module _ (table : TableValue) (row : RowValue) (info : ColumnInfo) (cell : CellV
   whole = All-flat_map IsUtf8 (lines_of_text w d) cell.text_lines (All-weaker IsUtf8 (λ text. All IsUtf8 (lines_of_text w d text)) (lines_of_text-utf8 w d) cell.text_lines known.0)
 
   -- all lines are whole characters, cut ones too
-  whole_lines : All IsUtf8 (measured_in_row table row info cell)
-  whole_lines =
+  uncut_lines : All IsUtf8 (measured_in_row table row info cell)
+  uncut_lines =
       All-cut IsUtf8 IsUtf8 (cut_text w table.indicator) row.max_height lines whole (λ line own. own)
       (λ h limited below line own. IsUtf8-append (head _ line) (fitting_indicator w table.indicator) (head-utf8 _ _ own) (cond_both (nat_lt w (measure table.indicator)) _ _ IsUtf8 (λ _. IsUtf8-nil) (λ _. indicator)))
 
@@ -69,7 +69,7 @@ module _ (table : TableValue) (row : RowValue) (info : ColumnInfo) (cell : CellV
   pub lines-fit : CellLinesFit table row info cell → HasFittingLines table row info cell
   lines-fit narrow k default below =
       record {
-        whole = whole_lines k default below;
+        whole = uncut_lines k default below;
         fits = All-of_map (λ (line : CellLine). measure line.measured ≤ w) as_measured (measured_in_row table row info cell) (subst (All (λ (line : CellLine). measure line.measured ≤ w)) (row-unstyled table row info cell) narrow) k default below;
       }
 

@@ -21,7 +21,7 @@ use Rattle.comfy_table.proofs.SpaceLemmas.{no_styles, spaces-append}
 use Rattle.comfy_table.proofs.StyledLemmas.{KeptByDrawing, KeptByJoining, keeps_spaces}
 use Rattle.comfy_table.proofs.TextKindLemmas.{byte_kind, byte_style}
 use Rattle.comfy_table.proofs.WrittenLemmas.{keeps_lines, none_is_open_at_the_end}
-use Rattle.comfy_table.specs.Drawing.{drawing, drawn_row, infos_of, whole_widths}
+use Rattle.comfy_table.specs.Drawing.{drawing, drawn_row, infos_of, outer_widths}
 use Rattle.comfy_table.specs.Frame.{optional_frame_line}
 use Rattle.comfy_table.specs.Laws.{EndsItsStyling, HasNoEscape, HasSequencesInTextsAlone, LeavesNoneOpen}
 use Rattle.comfy_table.specs.Pieces.{blank_piece, cell_pieces, free_before, free_places, cell_alignment, padded, piece, pieces_at, pieces_of_optional, row_cell_lines, row_line, shown_infos}
@@ -174,10 +174,10 @@ module _ (table : TableValue) (on : table.custom_styling ≡ true) (mark : HasNo
         At-or OpensNone (pieces_at table row p) k (blank_piece p.1) (opens_column row p (known j other below)) (opens_spaces (info_width p.1)))))
 
     -- a frame line
-    opens_frame : (line : LineStyle) → IsClearFrame HasNoEscape line → All OpensNone (optional_frame_line table.style line (whole_widths infos))
+    opens_frame : (line : LineStyle) → IsClearFrame HasNoEscape line → All OpensNone (optional_frame_line table.style line (outer_widths infos))
     opens_frame line clear =
-        All-from_recursion OpensNone (optional_frame_line table.style line (whole_widths infos))
-        (every-second OpensNone _ (optional_frame_line table.style line (whole_widths infos)) (frame_kept HasNoEscape (λ shown text. OpensNone text) opens_joined table.style line (whole_widths infos) clear))
+        All-from_recursion OpensNone (optional_frame_line table.style line (outer_widths infos))
+        (every-second OpensNone _ (optional_frame_line table.style line (outer_widths infos)) (frame_kept HasNoEscape (λ shown text. OpensNone text) opens_joined table.style line (outer_widths infos) clear))
 
 -- ---- tables
 

@@ -16,7 +16,7 @@ use Rattle.comfy_parts.specs.CellValue.{ColumnInfo}
 use Rattle.comfy_parts.specs.Text.{Text, spaces, is_printable_ascii}
 use Rattle.comfy_parts.specs.declared.style.table_style.LineStyle.{LineStyle}
 use Rattle.comfy_parts.specs.declared.style.table_style.TableStyle.{TableStyle}
-use Rattle.comfy_table.specs.Drawing.{whole_widths}
+use Rattle.comfy_table.specs.Drawing.{outer_widths}
 use Rattle.comfy_table.specs.Frame.{border_count, character, between_borders, frame_line, draws_left_border, draws_right_border, draws_vertical_lines}
 use Rattle.comfy_table.specs.Laws.{count}
 use Rattle.comfy_table.specs.Pieces.{shown_infos}
@@ -165,10 +165,10 @@ HasCount-frame_line style line widths =
 -- whatever the style, a frame line has the border characters and the whole widths of the shown columns
 abbrev pub FrameLinesCount : TableStyle → LineStyle → List ColumnInfo → Type 0
 FrameLinesCount style line infos =
-    count (frame_line style line (whole_widths infos)) ≡ border_count style (length (shown_infos infos)) + sum (whole_widths infos)
+    count (frame_line style line (outer_widths infos)) ≡ border_count style (length (shown_infos infos)) + sum (outer_widths infos)
 
 -- a frame line has the border characters and the whole widths
 pub frame_lines_count : (style : TableStyle) (line : LineStyle) (infos : List ColumnInfo) → FrameLinesCount style line infos
 frame_lines_count style line infos =
-    count-is _ _ (HasCount-frame_line style line (whole_widths infos))
-    ∙ ap (λ n. border_count style n + sum (whole_widths infos)) (length-map (shown_infos infos) _)
+    count-is _ _ (HasCount-frame_line style line (outer_widths infos))
+    ∙ ap (λ n. border_count style n + sum (outer_widths infos)) (length-map (shown_infos infos) _)

@@ -12,7 +12,7 @@ use Rattle.comfy_parts.specs.VisibleLines.{CellLine}
 use Rattle.std.proofs.lemmas.Simd.{map-map}
 use Rattle.comfy_table.proofs.MeasuredLemmas.{cell_measured}
 use Rattle.comfy_table.specs.Laws.{unstyled}
-use Rattle.comfy_table.specs.Lines.{as_measured, cell_delimiter, cell_lines, cut_line, cut_text, cut_to_height, cut_to_limit, whole_lines}
+use Rattle.comfy_table.specs.Lines.{as_measured, cell_delimiter, cell_lines, cut_line, cut_text, cut_to_height, cut_to_limit, uncut_lines}
 use Rattle.comfy_table.specs.Pieces.{blank_piece, cell_pieces, padded, pieces_at, pieces_of_optional, row_cell_lines}
 use Rattle.comfy_table.specs.TableValue.{TableValue}
 
@@ -49,7 +49,7 @@ abbrev pub measured_of : List CellLine → List Text
 measured_of lines = map (λ (line : CellLine). line.measured) lines
 
 -- of those of a cell it is the lines of what is measured of the cell
-pub whole-measured : (custom : Bool) (w d : ℕ) (cell : CellValue) → measured_of (whole_lines custom w d cell) ≡ cell_lines w d (cell_measured custom cell)
+pub whole-measured : (custom : Bool) (w d : ℕ) (cell : CellValue) → measured_of (uncut_lines custom w d cell) ≡ cell_lines w d (cell_measured custom cell)
 whole-measured true w d cell = visible_lines w d cell.text_lines
 whole-measured false w d cell = as_they_are (cell_lines w d cell)
   where

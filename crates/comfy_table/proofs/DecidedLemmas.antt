@@ -6,11 +6,11 @@ use Rattle.std.proofs.lemmas.List.{append_assoc, length-map}
 use Rattle.std.proofs.lemmas.List.Elements.{All-map}
 use Rattle.std.proofs.lemmas.List.FromFn.{length-enumerate_from}
 use Rattle.std.proofs.lemmas.List.Sums.{sum_by-append}
-use Rattle.comfy_table.specs.Deciding.{HasRoomToSpread, HasSettled, HasTaken, HasTakenInTurn, decided, filled, final_widths, offer_by_rule, shared_evenly, undecided_count, with_room_spread}
-use Rattle.comfy_table.specs.Dynamic.{IsDynamic, IsLevel, IsTakenInOrder, Placed, Share, Steps, added, all_shares, content_room, contents_after, even_columns, even_shares, fixed_shares, others, places_of, room_left, room_of_others, room_of_unsettled, settled_at, settled_shares, share_at, total, undecided, unsettled, widened}
+use Rattle.comfy_table.specs.Deciding.{HasRoomToSpread, HasSettled, HasTaken, HasGoneRound, decided, filled, final_widths, offer_by_rule, shared_evenly, undecided_count, with_room_spread}
+use Rattle.comfy_table.specs.Dynamic.{IsDynamicLayout, IsLevel, IsTakenInOrder, Placed, Share, Steps, added, all_shares, content_room, contents_after, even_columns, even_shares, fixed_shares, others, places_of, room_left, room_of_others, room_of_unsettled, settled_at, settled_shares, share_at, total, undecided, unsettled, widened}
 use Rattle.comfy_table.specs.Widths.{ColumnNeeds, even_spread}
 use Rattle.comfy_table.specs.declared.utils.arrangement.dynamic.budget.Budget.{Budget}
-use Rattle.comfy_table.specs.declared.utils.arrangement.dynamic.taking.Rule.TheVariants.{Lower, Shrunk}
+use Rattle.comfy_table.specs.declared.utils.arrangement.dynamic.round_robin.Rule.TheVariants.{Lower, Shrunk}
 use Rattle.comfy_parts.proofs.CallerLemmas.{All-every}
 use Rattle.comfy_table.proofs.FilledWidthLemmas.{filled-decided, filled-widths_of, fixed-widths_of, undecided-fixed}
 use Rattle.comfy_table.proofs.PlacedWidthLemmas.{width_at, widths_of}
@@ -20,7 +20,7 @@ use Rattle.comfy_table.proofs.TakingLemmas.{count_at-shares_of}
 use Rattle.comfy_table.proofs.GivenLemmas.{IsGiven, undecided_left, undecided_count_left, one_left, given_more, taken_by_rule, share_at-le_total}
 
 module _ (room : ℕ) (needs : List ColumnNeeds) (start lower settled shrunk : Budget) (widths_are : start.widths.items ≡ map (λ (c : ColumnNeeds). c.fixed) needs) (room_is : start.room ≡ content_room room needs)
-    (by_lower : HasTakenInTurn Lower needs start lower) (by_level : HasSettled needs lower settled) (by_lines : HasTakenInTurn Shrunk needs settled shrunk) where
+    (by_lower : HasGoneRound Lower needs start lower) (by_level : HasSettled needs lower settled) (by_lines : HasGoneRound Shrunk needs settled shrunk) where
   -- the steps
   abbrev steps : Steps
   steps = record { lower = by_lower.0; level = by_level.0; shrunk = by_lines.0 }
@@ -133,7 +133,7 @@ module _ (room : ℕ) (needs : List ColumnNeeds) (start lower settled shrunk : B
   final_is full = grind (arith, count_left, widened_is, eqb-true, shared_is)
 
   -- the steps lead to a dynamic arrangement
-  pub decided_is_dynamic : (full : Bool) → IsDynamic room needs full (final_widths full shrunk)
+  pub decided_is_dynamic : (full : Bool) → IsDynamicLayout room needs full (final_widths full shrunk)
   decided_is_dynamic full = (steps, record { lower_taken = lower_taken; level_found = level_found; shrunk_taken = shrunk_taken; widths_are = final_is full })
 
   -- ---- sizes

@@ -8,7 +8,7 @@ use Rattle.comfy_parts.specs.CellValue.{ColumnInfo, ColumnValue, info_of, is_hid
 use Rattle.std.specs.Prelude.{MatchOption}
 use Rattle.comfy_table.specs.Arrangement.{IsArranged, is_full_width, room_beside_borders, widths_at, width_kept}
 use Rattle.comfy_table.specs.Drawing.{infos_of}
-use Rattle.comfy_table.specs.Dynamic.{IsDynamic}
+use Rattle.comfy_table.specs.Dynamic.{IsDynamicLayout}
 use Rattle.comfy_table.specs.DisabledWidths.{width_by_content, widths_by_content}
 use Rattle.comfy_table.specs.TableValue.{TableValue, column_content_width, table_width, shown_columns}
 use Rattle.comfy_table.specs.Widths.{disabled_width, shown_count, shown_needs}
@@ -67,7 +67,7 @@ arranged_by_content table none =
       one_for_each = length-map (enumerate_from 0 table.columns) (width_by_content table) ∙ length-enumerate_from 0 table.columns;
       hidden_widths = picked_by_content table (λ p. max 1 (column_content_width table p.0)) is_hidden_column (hidden_width table);
       shown_widths =
-          subst (λ (o : Option ℕ). MatchOption o (shown ≡ map (disabled_width table) (shown_columns table)) (λ w. IsDynamic (room_beside_borders table w) (shown_needs table) (is_full_width table.arrangement) shown)) (sym none)
+          subst (λ (o : Option ℕ). MatchOption o (shown ≡ map (disabled_width table) (shown_columns table)) (λ w. IsDynamicLayout (room_beside_borders table w) (shown_needs table) (is_full_width table.arrangement) shown)) (sym none)
           (picked_by_content table (disabled_width table) (λ (c : ColumnValue). not (is_hidden_column c)) (visible_width table));
     }
 

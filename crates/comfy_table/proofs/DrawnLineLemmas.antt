@@ -13,7 +13,7 @@ use Rattle.comfy_table.proofs.CutLemmas.{no_limit, measured_of, whole-measured}
 use Rattle.std.proofs.lemmas.Simd.{map-map}
 use Rattle.comfy_table.proofs.MeasuredLemmas.{cell_measured}
 use Rattle.comfy_table.specs.DrawnLines.{DrawnLine, drawn_line, drawn_text, with_texts}
-use Rattle.comfy_table.specs.Lines.{as_measured, cell_delimiter, cell_lines, cut_line, cut_to_limit, whole_lines}
+use Rattle.comfy_table.specs.Lines.{as_measured, cell_delimiter, cell_lines, cut_line, cut_to_limit, uncut_lines}
 use Rattle.comfy_table.specs.Pieces.{row_cell_lines}
 use Rattle.comfy_table.specs.TableValue.{TableValue}
 
@@ -24,7 +24,7 @@ all_as_measured (line ∷ lines) each =
     λ i. record { measured = line.measured; written = each.0 i } ∷ all_as_measured lines each.1 i
 
 -- such are those of a cell without custom styling, or without ESC
-pub without_custom_styling : (custom : Bool) (w d : ℕ) (cell : CellValue) → (custom && list_any has_escape cell.text_lines) ≡ false → whole_lines custom w d cell ≡ map as_measured (cell_lines w d (cell_measured custom cell))
+pub without_custom_styling : (custom : Bool) (w d : ℕ) (cell : CellValue) → (custom && list_any has_escape cell.text_lines) ≡ false → uncut_lines custom w d cell ≡ map as_measured (cell_lines w d (cell_measured custom cell))
 without_custom_styling false w d cell none = refl
 without_custom_styling true w d cell none =
     all_as_measured (line_texts w d cell.text_lines) (clear_written w d cell.text_lines none) ∙ ap (map as_measured) (whole-measured true w d cell)
@@ -45,7 +45,7 @@ all_texts (line ∷ lines) = ap (λ (more : List DrawnLine). drawn_line line ∷
 module _ (table : TableValue) (row : RowValue) (info : ColumnInfo) (cell : CellValue) where
   -- the lines of the cell
   abbrev whole : List CellLine
-  whole = whole_lines table.custom_styling info.content_width (cell_delimiter table info.delimiter cell) cell
+  whole = uncut_lines table.custom_styling info.content_width (cell_delimiter table info.delimiter cell) cell
 
   -- and of what is measured of it
   abbrev measured : List Text

@@ -9,8 +9,8 @@ use Rattle.comfy_parts.specs.CellValue.{ColumnValue, ColumnInfo, column_padding,
 use Rattle.comfy_parts.specs.declared.style.table.ContentArrangement.{ContentArrangement}
 use Rattle.comfy_parts.specs.declared.style.table.ContentArrangement.TheVariants.{Dynamic, DynamicFullWidth}
 use Rattle.comfy_table.specs.Arrangement.{IsArranged, width_kept, is_full_width, room_beside_borders, widths_at}
-use Rattle.comfy_table.specs.Drawing.{infos_of, whole_widths}
-use Rattle.comfy_table.specs.Dynamic.{Share, Steps, IsArrangedBy, IsDynamic, contents_after, added, even_columns, room_left}
+use Rattle.comfy_table.specs.Drawing.{infos_of, outer_widths}
+use Rattle.comfy_table.specs.Dynamic.{Share, Steps, IsArrangedBy, IsDynamicLayout, contents_after, added, even_columns, room_left}
 use Rattle.comfy_table.specs.Frame.{border_count}
 use Rattle.comfy_table.specs.Laws.{NoConstraints, KeepsToWidth, FillsWidth, line_total, least_total, least_with_steps}
 use Rattle.comfy_table.specs.Levels.{IsUnconstrained}
@@ -72,9 +72,9 @@ sum-drawn_from widths n (column ∷ more) (w ∷ ws) same at each =
         )
 
 -- the whole widths of a table whose visible widths are at least 1
-pub sum-whole_widths : (table : TableValue) (widths : List ℕ) → length widths ≡ length table.columns → AllByRecursion (λ (w : ℕ). 1 ≤ w) (widths_at widths (shown_columns table))
-    → sum (whole_widths (infos_of table widths)) ≡ sum_by (λ (p : ℕ × ColumnValue). column_padding p.1) (shown_columns table) + sum (widths_at widths (shown_columns table))
-sum-whole_widths table widths same each =
+pub sum-outer_widths : (table : TableValue) (widths : List ℕ) → length widths ≡ length table.columns → AllByRecursion (λ (w : ℕ). 1 ≤ w) (widths_at widths (shown_columns table))
+    → sum (outer_widths (infos_of table widths)) ≡ sum_by (λ (p : ℕ × ColumnValue). column_padding p.1) (shown_columns table) + sum (widths_at widths (shown_columns table))
+sum-outer_widths table widths same each =
     sum-drawn_from widths 0 table.columns widths same (λ k. let here : 0 + k ≡ k = omega arith in ap (λ (i : ℕ). get_or widths i 0) here) each
 
 -- ---- the needs of a table without constraints
@@ -132,7 +132,7 @@ some_width room columns plain full steps widths arranged =
 
 -- the visible widths of a table whose width is known are dynamic
 pub dynamic_widths : (table : TableValue) (arrangement : ContentArrangement) (w : ℕ) (widths : List ℕ) → width_kept arrangement (Some w) ≡ Some w → table.arrangement ≡ arrangement → table_width table ≡ Some w → IsArranged table widths
-    → IsDynamic (room_beside_borders table w) (shown_needs table) (is_full_width arrangement) (widths_at widths (shown_columns table))
+    → IsDynamicLayout (room_beside_borders table w) (shown_needs table) (is_full_width arrangement) (widths_at widths (shown_columns table))
 dynamic_widths table arrangement w widths kept same known arranged = grind arith
 
 module _ (table : TableValue) (w : ℕ) (widths : List ℕ) (full : Bool) (none : NoConstraints table) (arranged : IsArranged table widths)
@@ -140,7 +140,7 @@ module _ (table : TableValue) (w : ℕ) (widths : List ℕ) (full : Bool) (none 
   -- a line's total is the border characters, the paddings and the widths
   line_total-is : line_total table widths ≡ border_count table.style (shown_count table) + (sum_by (λ (column : ColumnNeeds). column.padding) (shown_needs table) + sum (widths_at widths (shown_columns table)))
   line_total-is =
-      let drawn = sum-whole_widths table widths arranged.one_for_each (some_width (room_beside_borders table w) (shown_needs table) (unconstrained_shown table none) full steps (widths_at widths (shown_columns table)) by) in
+      let drawn = sum-outer_widths table widths arranged.one_for_each (some_width (room_beside_borders table w) (shown_needs table) (unconstrained_shown table none) full steps (widths_at widths (shown_columns table)) by) in
       omega (arith, drawn, paddings_of_needs table (shown_columns table))
 
   -- the least total is the border characters, the paddings and one for each column

@@ -15,7 +15,7 @@ use Rattle.comfy_table.proofs.CellCountLemmas.{IsCountedLine, row_cell_lines-cou
 use Rattle.comfy_table.proofs.CountLemmas.{HasCount, HasCount-spaces, HasCount-joined, HasCount-frame_line, count-is}
 use Rattle.comfy_parts.proofs.CallerLemmas.{All-every, All-given, All-join_by, All-others, AllZip-map, At-or}
 use Rattle.comfy_table.proofs.InfoLemmas.{columns_from, infos_from, infos-known}
-use Rattle.comfy_table.specs.Drawing.{infos_of, whole_widths, drawn_row, drawn_header, drawn_rows, drawing_of_infos, drawing}
+use Rattle.comfy_table.specs.Drawing.{infos_of, outer_widths, drawn_row, drawn_header, drawn_rows, drawing_of_infos, drawing}
 use Rattle.comfy_table.specs.Frame.{border_count, content_line, frame_line, is_drawn, optional_frame_line}
 use Rattle.comfy_table.specs.Laws.{count, unstyled, line_total, IsPrintableCell, AddsOneColumnEachWhereWritten, IsPrintableTable}
 use Rattle.comfy_table.specs.Pieces.{blank_piece, pieces_at, row_line, row_lines, row_height, shown_infos}
@@ -63,10 +63,10 @@ All-row P table infos line row each =
 
 -- what holds of the frame lines and of the lines of each row holds of each line of the drawing
 pub All-drawing : (P : Text → Type 0) (table : TableValue) (infos : List ColumnInfo) (Known : RowValue → Type 0)
-    → All P (optional_frame_line table.style table.style.top_border (whole_widths infos))
-    → All P (optional_frame_line table.style table.style.header_separator (whole_widths infos))
-    → All P (optional_frame_line table.style table.style.row_separator (whole_widths infos))
-    → All P (optional_frame_line table.style table.style.bottom_border (whole_widths infos))
+    → All P (optional_frame_line table.style table.style.top_border (outer_widths infos))
+    → All P (optional_frame_line table.style table.style.header_separator (outer_widths infos))
+    → All P (optional_frame_line table.style table.style.row_separator (outer_widths infos))
+    → All P (optional_frame_line table.style table.style.bottom_border (outer_widths infos))
     → ((row : RowValue) → Known row → All P (drawn_row table infos table.style.header_lines row))
     → ((row : RowValue) → Known row → All P (drawn_row table infos table.style.content_lines row))
     → All Known (option_to_list table.header ++ table.rows) → All P (drawing_of_infos table infos)
@@ -74,7 +74,7 @@ All-drawing P table infos Known top below_header between bottom as_header as_con
     All-append P _ _ top
     (All-append P (drawn_header table infos table.header) _ (header_lines table.header each)
     (All-append P (drawn_rows table infos table.rows) _
-    (All-join_by P (drawn_row table infos table.style.content_lines) (optional_frame_line table.style table.style.row_separator (whole_widths infos)) table.rows between
+    (All-join_by P (drawn_row table infos table.style.content_lines) (optional_frame_line table.style table.style.row_separator (outer_widths infos)) table.rows between
     (All-weaker Known (λ row. All P (drawn_row table infos table.style.content_lines row)) as_content table.rows (All-others Known table.header table.rows each)))
     bottom))
   where
@@ -85,24 +85,24 @@ All-drawing P table infos Known top below_header between bottom as_header as_con
 module _ (table : TableValue) (infos : List ColumnInfo) where
   -- the characters of a line
   abbrev total_of : ℕ
-  total_of = border_count table.style (length (whole_widths infos)) + sum (whole_widths infos)
+  total_of = border_count table.style (length (outer_widths infos)) + sum (outer_widths infos)
 
   -- each line of a row has them
   row_counted : (line : ContentLineStyle) (row : RowValue) → All (ArePiecesCounted table row) (shown_infos infos) → All (HasCount total_of) (drawn_row (unstyled table) infos line row)
   row_counted line row each =
       All-row (HasCount total_of) (unstyled table) infos line row
       (λ k.
-      HasCount-joined table.style line.left line.junction line.right (whole_widths infos) (row_line (unstyled table) infos row k)
+      HasCount-joined table.style line.left line.junction line.right (outer_widths infos) (row_line (unstyled table) infos row k)
       (AllZip-map HasCount (λ (p : ℕ × ColumnInfo). info_width p.1) (λ (p : ℕ × ColumnInfo). slice_index_or (pieces_at (unstyled table) row p) k (blank_piece p.1)) (shown_infos infos)
       (All-weaker (ArePiecesCounted table row) (λ (p : ℕ × ColumnInfo). HasCount (info_width p.1) (slice_index_or (pieces_at (unstyled table) row p) k (blank_piece p.1)))
       (λ p counted. At-or (HasCount (info_width p.1)) (pieces_at (unstyled table) row p) k (blank_piece p.1) counted (HasCount-spaces (info_width p.1))) (shown_infos infos) each)))
 
   -- a frame line that is drawn has them
-  frame_counted : (line : LineStyle) → All (HasCount total_of) (optional_frame_line table.style line (whole_widths infos))
+  frame_counted : (line : LineStyle) → All (HasCount total_of) (optional_frame_line table.style line (outer_widths infos))
   frame_counted line =
       cond_both (is_drawn line) _ [] (All (HasCount total_of))
-      (λ _. All-cons (HasCount total_of) (frame_line table.style line (whole_widths infos)) []
-      (HasCount-frame_line table.style line (whole_widths infos)) (All-nil (HasCount total_of)))
+      (λ _. All-cons (HasCount total_of) (frame_line table.style line (outer_widths infos)) []
+      (HasCount-frame_line table.style line (outer_widths infos)) (All-nil (HasCount total_of)))
       (λ _. All-nil (HasCount total_of))
 
   -- all lines have them
@@ -120,9 +120,9 @@ EqualCounts table widths =
 -- all lines of a printable table have the same count
 pub equal_counts : (table : TableValue) (widths : List ℕ) → EqualCounts table widths
 equal_counts table widths utf8 plain arranged =
-    let columns : length (whole_widths infos) ≡ shown_count table =
+    let columns : length (outer_widths infos) ≡ shown_count table =
     length-map (shown_infos infos) _ ∙ length-infos_from 0 table.columns widths arranged.one_for_each in
-    All-weaker (HasCount (total_of table infos)) (λ line. count line ≡ line_total table widths) (λ line has. count-is _ line has ∙ ap (λ n. border_count table.style n + sum (whole_widths infos)) columns) (drawing (unstyled table) widths)
+    All-weaker (HasCount (total_of table infos)) (λ line. count line ≡ line_total table widths) (λ line has. count-is _ line has ∙ ap (λ n. border_count table.style n + sum (outer_widths infos)) columns) (drawing (unstyled table) widths)
     (drawing_counted table infos each)
   where
     infos : List ColumnInfo

@@ -1,11 +1,11 @@
 -- The widths while they are decided: those that shares give, and the columns that are left.
 use Rattle.std.proofs.Common.{◌≡◌, ◌≤◌, ℕ, Bool, true, false, cond, ◌==◌, List, [], ◌∷◌, ◌++◌, length, Some, find, option_map, unwrap_or, sym, ap, ◌∙◌, subst, arith}
 use Rattle.std.proofs.lemmas.List.Sums.{sum_by-cons}
-use Rattle.comfy_table.specs.Deciding.{HasTaken, HasTakenInTurn, offer_by_rule, undecided_among, undecided_count, with_shares}
+use Rattle.comfy_table.specs.Deciding.{HasTaken, HasGoneRound, offer_by_rule, undecided_among, undecided_count, with_shares}
 use Rattle.comfy_table.specs.Dynamic.{IsTakenInOrder, Placed, Share, places_of, share_at, total, without_shares}
 use Rattle.comfy_table.specs.Widths.{ColumnNeeds}
 use Rattle.comfy_table.specs.declared.utils.arrangement.dynamic.budget.Budget.{Budget}
-use Rattle.comfy_table.specs.declared.utils.arrangement.dynamic.taking.Rule.{Rule}
+use Rattle.comfy_table.specs.declared.utils.arrangement.dynamic.round_robin.Rule.{Rule}
 use Rattle.comfy_table.proofs.PlacedWidthLemmas.{one_each-more, undecided_among-widths_of, undecided_count-widths_of, widths_of, with_shares-widths_of, without_shares-append}
 use Rattle.comfy_table.proofs.ShareLemmas.{IsAmong, IsOneEach}
 use Rattle.comfy_table.proofs.StepLemmas.{one_each-places}
@@ -42,7 +42,7 @@ given_more needs shares order left old new given among taken =
 
 -- the shares that a rule takes, in turn
 pub taken_by_rule : (rule : Rule) (room : ℕ) (needs : List ColumnNeeds) (shares : List Share) (left : List Placed) (old new : Budget) (given : IsGiven needs shares left old) → old.room ≡ room
-    → (taken : HasTakenInTurn rule needs old new) → IsTakenInOrder left (offer_by_rule rule room left) taken.0
+    → (taken : HasGoneRound rule needs old new) → IsTakenInOrder left (offer_by_rule rule room left) taken.0
 taken_by_rule rule room needs shares left old new given room_is taken =
     subst (λ (r : ℕ). IsTakenInOrder left (offer_by_rule rule r left) taken.0) room_is
     (subst (λ (ps : List Placed). IsTakenInOrder ps (offer_by_rule rule old.room ps) taken.0) (undecided_left needs shares left old given) taken.1)

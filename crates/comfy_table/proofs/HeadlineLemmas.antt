@@ -26,7 +26,7 @@ use Rattle.comfy_table.proofs.WrittenLemmas.{cut_lines_are_closed, lines_are_res
 use Rattle.comfy_parts.specs.VisibleText.{visible_text}
 use Rattle.comfy_table.proofs.UnstyledLemmas.{unstyled_drawing}
 use Rattle.comfy_table.specs.Drawing.{drawing, drawing_of_infos, infos_of}
-use Rattle.comfy_table.specs.Headline.{AreTextsOrSlices, DrawingFillsWidth, DrawingKeepsToWidth, EachLineCounts, IsTableDrawing, IsTextOrSlices, VisibleLinesAreStraight}
+use Rattle.comfy_table.specs.Headline.{AreTextsOrSlices, DrawingFillsWidth, DrawingKeepsToWidth, LineWidthsSatisfy, IsTableDrawing, IsTextOrSlices, VisibleLinesAreStraight}
 use Rattle.comfy_table.specs.Laws.{CutLinesAreClosed, HasNoBreak, HasNoControl, IsFreeOfEscapes, LeavesNoneOpen, LinesAreResumedInRow, NoneIsOpenAtTheEnd, count, line_total, unstyled}
 use Rattle.comfy_table.specs.Pieces.{shown_infos}
 use Rattle.comfy_table.specs.TableLaws.{wider_total}
@@ -67,7 +67,7 @@ info_delimiters n (column ∷ columns) (width ∷ widths) kept =
 
 -- what a line's total meets, each line's count does
 each_line_counts : (P : ℕ → Type 0) (table : TableValue) (widths : List ℕ) → IsUtf8 table.indicator → EachCell (IsWholeCell table) table widths → IsArranged table widths → P (line_total table widths)
-    → EachLineCounts P table widths
+    → LineWidthsSatisfy P table widths
 each_line_counts P table widths utf8 cells arranged meets =
     record {
       frame_lines = λ line. subst P (sym (frame_counts table widths line arranged.one_for_each)) meets;
@@ -162,7 +162,7 @@ pub drawing_keeps_to_width : (table : TableValue) (w : ℕ) (lines : List Text)
     → DrawingKeepsToWidth table w lines
 drawing_keeps_to_width table w lines drawn none dynamic known =
     let found = drawn.known_width.keeps_to_wider_total w dynamic known in
-    subst (λ total. EachLineCounts (λ n. n ≤ max w total) table drawn.widths)
+    subst (λ total. LineWidthsSatisfy (λ n. n ≤ max w total) table drawn.widths)
     (least_total-is table w drawn.widths false none drawn.arranged found.0 found.1) found.2
 
 -- or have exactly that
@@ -170,7 +170,7 @@ pub drawing_fills_width : (table : TableValue) (w : ℕ) (lines : List Text)
     → DrawingFillsWidth table w lines
 drawing_fills_width table w lines drawn none full known some =
     let found = drawn.known_width.fills_wider_total w full known some in
-    subst (λ total. EachLineCounts (λ n. n ≡ max w total) table drawn.widths)
+    subst (λ total. LineWidthsSatisfy (λ n. n ≡ max w total) table drawn.widths)
     (least_total-is table w drawn.widths true none drawn.arranged found.0 found.1) found.2
 
 -- what is visible of the lines is the unstyled drawing, which is straight

@@ -18,8 +18,8 @@ use Rattle.comfy_table.proofs.OneDrawingLemmas.{arranged_is_one, drawing_is_one}
 use Rattle.comfy_table.specs.AllWidths.{all_widths}
 use Rattle.comfy_table.specs.Arrangement.{AreShownWidths, IsArranged, IsDrawingOf, is_full_width, room_beside_borders, width_kept, widths_at}
 use Rattle.comfy_table.specs.DisabledWidths.{widths_by_content}
-use Rattle.comfy_table.specs.Drawing.{drawing, drawn_header, drawn_row, drawn_rows, infos_of, whole_widths}
-use Rattle.comfy_table.specs.Dynamic.{IsDynamic}
+use Rattle.comfy_table.specs.Drawing.{drawing, drawn_header, drawn_row, drawn_rows, infos_of, outer_widths}
+use Rattle.comfy_table.specs.Dynamic.{IsDynamicLayout}
 use Rattle.comfy_table.specs.Frame.{border_count, content_line, optional_frame_line}
 use Rattle.comfy_table.specs.HiddenColumns.{HiddenColumnsTellNothing, IsDrawnWithoutHidden, beside_shown, is_shown, shown_row, without_hidden}
 use Rattle.comfy_table.specs.Pieces.{blank_piece, pieces_at, pieces_of_optional, row_height, row_line, shown_infos}
@@ -165,7 +165,7 @@ module _ (table : TableValue) where
   -- widths of the shown columns are those of the table without the others
   abbrev Are : ℕ → List ColumnNeeds → List ℕ → List ℕ → Type 0
   Are n needs disabled widths =
-      MatchOption (width_kept table.arrangement (table_width table)) (widths ≡ disabled) (λ w. IsDynamic (w - border_count table.style n) needs (is_full_width table.arrangement) widths)
+      MatchOption (width_kept table.arrangement (table_width table)) (widths ≡ disabled) (λ w. IsDynamicLayout (w - border_count table.style n) needs (is_full_width table.arrangement) widths)
 
   shown_widths_same : (widths : List ℕ) → AreShownWidths table widths ≡ AreShownWidths (without_hidden table) widths
   shown_widths_same widths =
@@ -257,7 +257,7 @@ module _ (table : TableValue) (widths : List ℕ) (long : length widths ≡ leng
       ∙ sym (map-map g (drawn_with kept) (shown_columns (without_hidden table)))
       ∙ sym (ap (map g) (infos-are kept 0 (filter is_shown table.columns) kept (from_start kept) (length-beside table.columns widths long)))
 
-  whole_same : whole_widths infos ≡ whole_widths others
+  whole_same : outer_widths infos ≡ outer_widths others
   whole_same = infos_same (λ p. info_width p.1) (λ p. info_width p.1) (λ i j info at. refl)
 
   pieces_same : (row : RowValue) (i j : ℕ) (info : ColumnInfo) → IsMoved table.columns i j → pieces_at table row (i, info) ≡ pieces_at (without_hidden table) (shown_row table.columns row) (j, info)
@@ -288,7 +288,7 @@ module _ (table : TableValue) (widths : List ℕ) (long : length widths ≡ leng
   rows_same : drawn_rows table infos table.rows ≡ drawn_rows (without_hidden table) others (map (shown_row table.columns) table.rows)
   rows_same =
       (λ k. join_by (λ (row : RowValue). row_same table.style.content_lines row k) (optional_frame_line table.style table.style.row_separator (whole_same k)) table.rows)
-      ∙ sym (join_by-map (drawn_row (without_hidden table) others table.style.content_lines) (shown_row table.columns) (optional_frame_line table.style table.style.row_separator (whole_widths others)) table.rows)
+      ∙ sym (join_by-map (drawn_row (without_hidden table) others table.style.content_lines) (shown_row table.columns) (optional_frame_line table.style table.style.row_separator (outer_widths others)) table.rows)
 
   -- the drawing stays
   drawing_same : drawing table widths ≡ drawing (without_hidden table) (beside_shown table.columns widths)
@@ -304,7 +304,7 @@ has_widths table widths None none are = (widths_by_content table, arranged_by_co
 has_widths table widths (Some w) kept are = (
   all_widths table widths,
   arranged_by_widths table w widths kept
-      (subst (λ (o : Option ℕ). MatchOption o (widths ≡ map (disabled_width table) (shown_columns table)) (λ v. IsDynamic (room_beside_borders table v) (shown_needs table) (is_full_width table.arrangement) widths)) kept are),
+      (subst (λ (o : Option ℕ). MatchOption o (widths ≡ map (disabled_width table) (shown_columns table)) (λ v. IsDynamicLayout (room_beside_borders table v) (shown_needs table) (is_full_width table.arrangement) widths)) kept are),
 )
 
 pub is_drawn_without_hidden : (table : TableValue) (lines : List Text) → IsDrawnWithoutHidden table lines

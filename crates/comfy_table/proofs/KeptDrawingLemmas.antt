@@ -19,7 +19,7 @@ use Rattle.comfy_parts.proofs.CallerLemmas.{All-at, All-every, All-of_map, All-o
 use Rattle.comfy_table.proofs.MeasuredLemmas.{IsRowOf, cell_measured, get_measured, header_measured, row_measured, rows_measured, measured_rows-is}
 use Rattle.comfy_table.proofs.StyledLemmas.{KeptByDrawing, KeptByJoining, keeps_nothing, keeps_piece, keeps_spaces}
 use Rattle.comfy_table.proofs.WrittenLemmas.{keeps_lines}
-use Rattle.comfy_table.specs.Drawing.{whole_widths, drawn_row, drawn_header, drawn_rows, drawing_of_infos}
+use Rattle.comfy_table.specs.Drawing.{outer_widths, drawn_row, drawn_header, drawn_rows, drawing_of_infos}
 use Rattle.comfy_table.specs.Frame.{character, between_borders, content_line, is_drawn, optional_frame_line, draws_left_border, draws_right_border, draws_vertical_lines}
 use Rattle.comfy_table.specs.Laws.{unstyled}
 use Rattle.comfy_parts.specs.VisibleLines.{CellLine}
@@ -191,13 +191,13 @@ module _ (C : Text → Type 0) (R : Text → Text → Type 0) (kept : KeptByDraw
     -- all lines, and the unstyled ones
     drawing_kept : IsClearStyle C table.style → All (λ (row : RowValue). IsClearRow C infos (measured row)) (header_and_rows table) → AllZip R (drawing_of_infos (unstyled table) infos) (drawing_of_infos table infos)
     drawing_kept style each =
-        AllZip-append R (optional_frame_line table.style table.style.top_border (whole_widths infos)) _ (optional_frame_line table.style table.style.top_border (whole_widths infos)) _
-        (frame_kept C R kept.joins table.style table.style.top_border (whole_widths infos) style.top_border)
+        AllZip-append R (optional_frame_line table.style table.style.top_border (outer_widths infos)) _ (optional_frame_line table.style table.style.top_border (outer_widths infos)) _
+        (frame_kept C R kept.joins table.style table.style.top_border (outer_widths infos) style.top_border)
         (AllZip-append R (drawn_header (unstyled table) infos (unstyled table).header) _ (drawn_header table infos table.header) _
         (subst (λ (header : Option RowValue). AllZip R (drawn_header (unstyled table) infos header) (drawn_header table infos table.header)) (sym (header_measured table.custom_styling table.header)) (header_kept table.header each))
         (AllZip-append R (drawn_rows (unstyled table) infos (unstyled table).rows) _ (drawn_rows table infos table.rows) _
         (subst (λ (rows : List RowValue). AllZip R (drawn_rows (unstyled table) infos rows) (drawn_rows table infos table.rows)) (sym (rows_measured table.custom_styling table.rows)) (rows_kept (All-others IsClearMeasured table.header table.rows each)))
-        (frame_kept C R kept.joins table.style table.style.bottom_border (whole_widths infos) style.bottom_border)))
+        (frame_kept C R kept.joins table.style table.style.bottom_border (outer_widths infos) style.bottom_border)))
       where
         IsClearMeasured : RowValue → Type 0
         IsClearMeasured row = IsClearRow C infos (measured row)
@@ -207,15 +207,15 @@ module _ (C : Text → Type 0) (R : Text → Text → Type 0) (kept : KeptByDraw
         header_kept (Some row) each =
             AllZip-append R (drawn_row (unstyled table) infos table.style.header_lines (measured row)) _ (drawn_row table infos table.style.header_lines row) _
             (row_kept table.style.header_lines row style.header_lines (All-head IsClearMeasured row table.rows each))
-            (frame_kept C R kept.joins table.style table.style.header_separator (whole_widths infos) style.header_separator)
+            (frame_kept C R kept.joins table.style table.style.header_separator (outer_widths infos) style.header_separator)
 
         rows_kept : All IsClearMeasured table.rows → AllZip R (drawn_rows (unstyled table) infos (map measured table.rows)) (drawn_rows table infos table.rows)
         rows_kept each =
             subst (λ (lines : List Text). AllZip R lines (drawn_rows table infos table.rows))
-            (sym (join_by-map (drawn_row (unstyled table) infos table.style.content_lines) measured (optional_frame_line table.style table.style.row_separator (whole_widths infos)) table.rows))
+            (sym (join_by-map (drawn_row (unstyled table) infos table.style.content_lines) measured (optional_frame_line table.style table.style.row_separator (outer_widths infos)) table.rows))
             (AllZip-join_by R (λ (row : RowValue). drawn_row (unstyled table) infos table.style.content_lines (measured row)) (drawn_row table infos table.style.content_lines)
-            (optional_frame_line table.style table.style.row_separator (whole_widths infos)) (optional_frame_line table.style table.style.row_separator (whole_widths infos)) table.rows
-            (frame_kept C R kept.joins table.style table.style.row_separator (whole_widths infos) style.row_separator)
+            (optional_frame_line table.style table.style.row_separator (outer_widths infos)) (optional_frame_line table.style table.style.row_separator (outer_widths infos)) table.rows
+            (frame_kept C R kept.joins table.style table.style.row_separator (outer_widths infos) style.row_separator)
             (All-weaker IsClearMeasured (λ row. AllZip R (drawn_row (unstyled table) infos table.style.content_lines (measured row)) (drawn_row table infos table.style.content_lines row))
             (λ row cells. row_kept table.style.content_lines row style.content_lines cells) table.rows each))
 

@@ -8,7 +8,7 @@ use Rattle.comfy_table.proofs.OneWidthLemmas.{dynamic_is_one}
 use Rattle.comfy_table.specs.AddedRows.{DrawingIsOne}
 use Rattle.comfy_table.specs.Arrangement.{IsArranged, is_full_width, room_beside_borders, widths_at, width_kept}
 use Rattle.comfy_table.specs.Drawing.{drawing}
-use Rattle.comfy_table.specs.Dynamic.{IsDynamic}
+use Rattle.comfy_table.specs.Dynamic.{IsDynamicLayout}
 use Rattle.comfy_table.specs.HiddenColumns.{is_shown}
 use Rattle.comfy_table.specs.TableValue.{TableValue, shown_columns, table_width}
 use Rattle.comfy_table.specs.Widths.{disabled_width, shown_needs}
@@ -54,8 +54,8 @@ arranged_is_one table ws vs first second =
     same_lists ws vs (first.one_for_each ∙ sym second.one_for_each) (λ i below. moved i (omega (arith, below, first.one_for_each)))
   where
     of_shown : (o : Option ℕ) (xs ys : List ℕ)
-        → MatchOption o (xs ≡ map (disabled_width table) (shown_columns table)) (λ w. IsDynamic (room_beside_borders table w) (shown_needs table) (is_full_width table.arrangement) xs)
-        → MatchOption o (ys ≡ map (disabled_width table) (shown_columns table)) (λ w. IsDynamic (room_beside_borders table w) (shown_needs table) (is_full_width table.arrangement) ys) → xs ≡ ys
+        → MatchOption o (xs ≡ map (disabled_width table) (shown_columns table)) (λ w. IsDynamicLayout (room_beside_borders table w) (shown_needs table) (is_full_width table.arrangement) xs)
+        → MatchOption o (ys ≡ map (disabled_width table) (shown_columns table)) (λ w. IsDynamicLayout (room_beside_borders table w) (shown_needs table) (is_full_width table.arrangement) ys) → xs ≡ ys
     of_shown None xs ys one other = one ∙ sym other
     of_shown (Some w) xs ys one other = dynamic_is_one (room_beside_borders table w) (shown_needs table) (is_full_width table.arrangement) xs ys one other
 

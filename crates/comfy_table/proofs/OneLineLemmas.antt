@@ -12,7 +12,7 @@ use Rattle.comfy_parts.specs.Wrapping.{lines_of_text}
 use Rattle.comfy_table.proofs.DrawnLineLemmas.{without_custom_styling}
 use Rattle.comfy_table.proofs.MeasuredLemmas.{cell_measured}
 use Rattle.comfy_table.specs.DrawnLines.{drawn_line}
-use Rattle.comfy_table.specs.Lines.{as_measured, cell_lines, whole_lines}
+use Rattle.comfy_table.specs.Lines.{as_measured, cell_lines, uncut_lines}
 
 -- the only width of what is measured of a single text line
 pub only_width : (custom : Bool) (texts : List Text) (text : Text) (widths : List ℕ) → texts ≡ text ∷ [] → widths ≡ map measure (if custom then map visible_text texts else texts)
@@ -25,7 +25,7 @@ only_width custom texts text widths single are = one ∙ ap (λ (ns : List ℕ).
 module _ (custom : Bool) (w d : ℕ) (cell : CellValue) (text : Text) (columns : ℕ) where
   -- the cell has this one line
   abbrev pub IsOneLine : Type 0
-  IsOneLine = record { columns = columns; written = text } ∷ [] ≡ map drawn_line (whole_lines custom w d cell)
+  IsOneLine = record { columns = columns; written = text } ∷ [] ≡ map drawn_line (uncut_lines custom w d cell)
 
   -- so has a cell of one text line that fits and has no text of its own
   pub measured_line : cell.text_lines ≡ text ∷ [] → map measure (cell_measured custom cell).text_lines ≡ columns ∷ [] → columns ≤ w → (custom && list_any has_escape cell.text_lines) ≡ false → IsOneLine
@@ -47,4 +47,4 @@ module _ (custom : Bool) (w d : ℕ) (cell : CellValue) (text : Text) (columns :
       let e = sym (ap (λ (b : Bool). map measure (if b then map visible_text cell.text_lines else cell.text_lines)) on ∙ ap (λ (ts : List Text). map measure (map visible_text ts)) single) ∙ wide in
       ap (λ (ns : List ℕ). slice_index_or ns 0 0) e in
       ap (λ n. record { columns = n; written = text } ∷ []) (sym width)
-      ∙ sym (ap (map drawn_line) (ap (λ (b : Bool). whole_lines b w d cell) on ∙ ap (line_texts w d) single ∙ line_of_whole w d text (omega (arith, width, fits)) whole))
+      ∙ sym (ap (map drawn_line) (ap (λ (b : Bool). uncut_lines b w d cell) on ∙ ap (line_texts w d) single ∙ line_of_whole w d text (omega (arith, width, fits)) whole))

@@ -5,7 +5,7 @@ use Rattle.std.specs.Prelude.{slice_index_or}
 use Rattle.comfy_parts.specs.CellValue.{CellValue, ColumnInfo, RowValue}
 use Rattle.comfy_parts.specs.Text.{Text, greatest}
 use Rattle.comfy_parts.specs.declared.style.table_style.ContentLineStyle.{ContentLineStyle}
-use Rattle.comfy_table.specs.Drawing.{drawn_header, drawn_row, whole_widths}
+use Rattle.comfy_table.specs.Drawing.{drawn_header, drawn_row, outer_widths}
 use Rattle.comfy_table.specs.Frame.{content_line, optional_frame_line}
 use Rattle.comfy_table.specs.Pieces.{blank_piece, pieces_of_optional, row_lines, shown_infos}
 use Rattle.comfy_table.specs.TableValue.{TableValue, with_other_rows}
@@ -31,4 +31,4 @@ module _ (table : TableValue) (rows : List RowValue) (infos : List ColumnInfo) w
 
   pub header_same : (header : Option RowValue) → drawn_header other infos header ≡ drawn_header table infos header
   header_same None = refl
-  header_same (Some header) = ap (λ (lines : List Text). lines ++ optional_frame_line table.style table.style.header_separator (whole_widths infos)) (row_same table.style.header_lines header)
+  header_same (Some header) = ap (λ (lines : List Text). lines ++ optional_frame_line table.style table.style.header_separator (outer_widths infos)) (row_same table.style.header_lines header)

@@ -8,7 +8,7 @@ use Rattle.comfy_parts.proofs.CallerLemmas.{every-append, every-parts}
 use Rattle.comfy_parts.specs.CellValue.{ColumnInfo, RowValue}
 use Rattle.comfy_parts.specs.Text.{Text}
 use Rattle.comfy_table.proofs.OtherRowLemmas.{header_same, row_same}
-use Rattle.comfy_table.specs.Drawing.{drawing_of_infos, drawn_header, drawn_row, drawn_rows, whole_widths}
+use Rattle.comfy_table.specs.Drawing.{drawing_of_infos, drawn_header, drawn_row, drawn_rows, outer_widths}
 use Rattle.comfy_table.specs.Frame.{optional_frame_line}
 use Rattle.comfy_table.specs.Laws.{unstyled}
 use Rattle.comfy_table.specs.Parts.{AllRowsAreTheTable, PartHasLinesOfTable, PartIsUnstyled, with_rows_alone}
@@ -51,13 +51,13 @@ module _ {X Y : Type 0} (P : Y → Type 0) (f : X → List Y) (separator : List 
 -- a table with other rows is drawn as the table draws them
 pub other_rows_drawn : (table : TableValue) (rows : List RowValue) (infos : List ColumnInfo)
     → drawing_of_infos (with_other_rows rows table) infos
-    ≡ optional_frame_line table.style table.style.top_border (whole_widths infos) ++ (drawn_header table infos table.header ++ (drawn_rows table infos rows ++ optional_frame_line table.style table.style.bottom_border (whole_widths infos)))
+    ≡ optional_frame_line table.style table.style.top_border (outer_widths infos) ++ (drawn_header table infos table.header ++ (drawn_rows table infos rows ++ optional_frame_line table.style table.style.bottom_border (outer_widths infos)))
 other_rows_drawn table rows infos = λ i. framed (header_same table rows infos table.header i) (λ row. row_same table rows infos table.style.content_lines row i)
   where
     framed : List Text → (RowValue → List Text) → List Text
     framed header drawn =
-        optional_frame_line table.style table.style.top_border (whole_widths infos)
-        ++ (header ++ (join_by drawn (optional_frame_line table.style table.style.row_separator (whole_widths infos)) rows ++ optional_frame_line table.style table.style.bottom_border (whole_widths infos)))
+        optional_frame_line table.style table.style.top_border (outer_widths infos)
+        ++ (header ++ (join_by drawn (optional_frame_line table.style table.style.row_separator (outer_widths infos)) rows ++ optional_frame_line table.style table.style.bottom_border (outer_widths infos)))
 
 -- what holds of each line of a table holds of each line of a part
 part_keeps_lines : (P : Text → Type 0) (table : TableValue) (infos : List ColumnInfo) (first count : ℕ) → All P (drawing_of_infos table infos) → All P (drawing_of_infos (with_rows_alone first count table) infos)
@@ -66,13 +66,13 @@ part_keeps_lines P table infos first count all =
     (every-append P top _ one.0 (every-append P header _ two.0 (every-append P _ bottom rows three.1))))
   where
     top : List Text
-    top = optional_frame_line table.style table.style.top_border (whole_widths infos)
+    top = optional_frame_line table.style table.style.top_border (outer_widths infos)
 
     bottom : List Text
-    bottom = optional_frame_line table.style table.style.bottom_border (whole_widths infos)
+    bottom = optional_frame_line table.style table.style.bottom_border (outer_widths infos)
 
     separator : List Text
-    separator = optional_frame_line table.style table.style.row_separator (whole_widths infos)
+    separator = optional_frame_line table.style table.style.row_separator (outer_widths infos)
 
     header : List Text
     header = drawn_header table infos table.header

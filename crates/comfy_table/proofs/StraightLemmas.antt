@@ -10,7 +10,7 @@ use Rattle.comfy_parts.specs.Text.{Text, measure}
 use Rattle.comfy_parts.specs.declared.style.table_style.ContentLineStyle.{ContentLineStyle}
 use Rattle.comfy_parts.specs.declared.style.table_style.LineStyle.{LineStyle}
 use Rattle.comfy_table.proofs.EqualCountLemmas.{All-drawing, All-row, length-infos_from}
-use Rattle.comfy_table.specs.Drawing.{infos_of, whole_widths, drawn_row, drawing_of_infos, drawing}
+use Rattle.comfy_table.specs.Drawing.{infos_of, outer_widths, drawn_row, drawing_of_infos, drawing}
 use Rattle.comfy_table.specs.Frame.{border_count, content_line, draws_vertical_lines, frame_line, is_drawn, optional_frame_line}
 use Rattle.comfy_table.specs.Laws.{line_total, unstyled}
 use Rattle.comfy_table.specs.Pieces.{blank_piece, pieces_at, row_line, shown_infos}
@@ -46,7 +46,7 @@ module _ (table : TableValue) (infos : List ColumnInfo) (Follows : Text → Type
     (blanks : All (λ (p : ℕ × ColumnInfo). IsGoodPiece Follows (draws_vertical_lines table.style) (info_width p.1) (blank_piece p.1)) (shown_infos infos)) where
   -- the columns of a line
   abbrev total_of : ℕ
-  total_of = border_count table.style (length (whole_widths infos)) + sum (whole_widths infos)
+  total_of = border_count table.style (length (outer_widths infos)) + sum (outer_widths infos)
 
   -- a line has them
   abbrev HasTotal : Text → Type 0
@@ -62,7 +62,7 @@ module _ (table : TableValue) (infos : List ColumnInfo) (Follows : Text → Type
 
       at : (k : ℕ) → HasTotal (content_line table.style line (row_line (unstyled table) infos row k))
       at k =
-          HasMeasure-joined Follows table.style line.left line.junction line.right (whole_widths infos) (row_line (unstyled table) infos row k) follows left junction right
+          HasMeasure-joined Follows table.style line.left line.junction line.right (outer_widths infos) (row_line (unstyled table) infos row k) follows left junction right
           (AllZip-map (IsPiece Follows _) (λ (p : ℕ × ColumnInfo). info_width p.1) (λ (p : ℕ × ColumnInfo). slice_index_or (pieces_at (unstyled table) row p) k (blank_piece p.1)) (shown_infos infos)
           (λ j other below.
           let p = slice_index_or (shown_infos infos) j other in
@@ -70,11 +70,11 @@ module _ (table : TableValue) (infos : List ColumnInfo) (Follows : Text → Type
           record { has = good.has; fronts = good.fronts _ junction }))
 
   -- a frame line that is drawn has them
-  frame_measured : (line : LineStyle) → IsOneColumn line.left → IsOneColumn line.fill → IsOneColumn line.junction → IsOneColumn line.right → All HasTotal (optional_frame_line table.style line (whole_widths infos))
+  frame_measured : (line : LineStyle) → IsOneColumn line.left → IsOneColumn line.fill → IsOneColumn line.junction → IsOneColumn line.right → All HasTotal (optional_frame_line table.style line (outer_widths infos))
   frame_measured line left fill junction right =
       cond_both (is_drawn line) _ [] (All HasTotal)
-      (λ _. All-cons HasTotal (frame_line table.style line (whole_widths infos)) []
-      (HasMeasure-any Follows _ _ (HasMeasure-frame_line table.style line (whole_widths infos) left fill junction right)) (All-nil HasTotal))
+      (λ _. All-cons HasTotal (frame_line table.style line (outer_widths infos)) []
+      (HasMeasure-any Follows _ _ (HasMeasure-frame_line table.style line (outer_widths infos) left fill junction right)) (All-nil HasTotal))
       (λ _. All-nil HasTotal)
 
   -- all lines have them
@@ -99,7 +99,7 @@ module _ (table : TableValue) (infos : List ColumnInfo) (Follows : Text → Type
 straight_lines : (table : TableValue) (widths : List ℕ) → All IsOneColumn (style_characters table.style) → TextsStandApart table → EachCell (HasFittingLines table) table widths → IsArranged table widths
     → All (λ line. measure line ≡ line_total table widths) (drawing (unstyled table) widths)
 straight_lines table widths characters apart lines_fit arranged =
-    subst (λ n. All (λ line. measure line ≡ border_count table.style n + sum (whole_widths infos)) (drawing (unstyled table) widths)) columns (by_case apart)
+    subst (λ n. All (λ line. measure line ≡ border_count table.style n + sum (outer_widths infos)) (drawing (unstyled table) widths)) columns (by_case apart)
   where
     infos : List ColumnInfo
     infos = infos_of table widths
@@ -107,10 +107,10 @@ straight_lines table widths characters apart lines_fit arranged =
     v : Bool
     v = draws_vertical_lines table.style
 
-    columns : length (whole_widths infos) ≡ shown_count table
+    columns : length (outer_widths infos) ≡ shown_count table
     columns = length-map (shown_infos infos) _ ∙ length-infos_from 0 table.columns widths arranged.one_for_each
 
-    by_case : TextsStandApart table → All (λ line. measure line ≡ border_count table.style (length (whole_widths infos)) + sum (whole_widths infos)) (drawing (unstyled table) widths)
+    by_case : TextsStandApart table → All (λ line. measure line ≡ border_count table.style (length (outer_widths infos)) + sum (outer_widths infos)) (drawing (unstyled table) widths)
     by_case (inl drawn) =
         drawing_straight table infos IsApart apart_follows characters (λ j other below. good-junction v _ _ drawn (HasMeasure-any IsApart _ _ (HasMeasure-spaces _)))
         (λ k default under j other below.

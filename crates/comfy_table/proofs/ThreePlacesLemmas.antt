@@ -12,7 +12,7 @@ use Rattle.comfy_parts.specs.declared.style.column.ColumnConstraint.{ColumnConst
 use Rattle.comfy_parts.specs.declared.style.table.ContentArrangement.{ContentArrangement}
 use Rattle.comfy_parts.specs.declared.style.table.ContentArrangement.TheVariants.{Dynamic}
 use Rattle.comfy_table.specs.Arrangement.{AreShownWidths, width_kept, is_full_width, room_beside_borders}
-use Rattle.comfy_table.specs.Dynamic.{Share, IsArrangedBy, IsDynamic, contents_after, content_room}
+use Rattle.comfy_table.specs.Dynamic.{Share, IsArrangedBy, IsDynamicLayout, contents_after, content_room}
 use Rattle.comfy_table.specs.Laws.{IsPrintableCell, NoConstraints, HasPrintableCells}
 use Rattle.comfy_table.specs.TableLaws.{IsAtMostThreeOver, shown_contents}
 use Rattle.comfy_table.specs.Levels.{IsUnconstrained}
@@ -133,7 +133,7 @@ disabled-le table (p ∷ more) none = (omega (arith, is), disabled-le table more
 three_places : (table : TableValue) (visible : List ℕ) → ((w : ℕ) → table_width table ≡ Some w → w ≤ 65535) → NoConstraints table → HasPrintableCells table → table.arrangement ≡ Dynamic → AreShownWidths table visible
     → AllZip (λ (column : ColumnNeeds) (width : ℕ). width ≤ column.content + 3) (shown_needs table) visible
 three_places table visible small none plain dynamic are =
-    by_width (table_width table) small (subst (λ (a : ContentArrangement). MatchOption (width_kept a (table_width table)) (visible ≡ map (disabled_width table) (shown_columns table)) (λ w. IsDynamic (room_beside_borders table w) (shown_needs table) (is_full_width a) visible)) dynamic are)
+    by_width (table_width table) small (subst (λ (a : ContentArrangement). MatchOption (width_kept a (table_width table)) (visible ≡ map (disabled_width table) (shown_columns table)) (λ w. IsDynamicLayout (room_beside_borders table w) (shown_needs table) (is_full_width a) visible)) dynamic are)
   where
     constraints : AllByRecursion (λ (p : ℕ × ColumnValue). p.1.constraint ≡ None) (shown_columns table)
     constraints = recursion_from_All (λ (p : ℕ × ColumnValue). p.1.constraint ≡ None) (shown_columns table) none
@@ -142,7 +142,7 @@ three_places table visible small none plain dynamic are =
     within = every_within table (shown_columns table) (recursion_from_All (λ (p : ℕ × ColumnValue). All (IsPrintableCell table p.1.delimiter) (column_cells table p.0)) (shown_columns table) plain)
 
     by_width : (o : Option ℕ) → ((w : ℕ) → o ≡ Some w → w ≤ 65535)
-        → MatchOption (width_kept Dynamic o) (visible ≡ map (disabled_width table) (shown_columns table)) (λ w. IsDynamic (room_beside_borders table w) (shown_needs table) (is_full_width Dynamic) visible)
+        → MatchOption (width_kept Dynamic o) (visible ≡ map (disabled_width table) (shown_columns table)) (λ w. IsDynamicLayout (room_beside_borders table w) (shown_needs table) (is_full_width Dynamic) visible)
         → AllZip (λ (column : ColumnNeeds) (width : ℕ). width ≤ column.content + 3) (shown_needs table) visible
     by_width None few is = subst (AllZip (λ (column : ColumnNeeds) (width : ℕ). width ≤ column.content + 3) (shown_needs table)) (sym is) (disabled-le table (shown_columns table) constraints)
     by_width (Some w) few (steps, arranged) =

@@ -4,7 +4,7 @@ use Rattle.std.specs.List.{join_by, range_with_len}
 use Rattle.comfy_parts.specs.CellValue.{CellValue, ColumnInfo, RowValue}
 use Rattle.comfy_parts.specs.Text.{greatest}
 use Rattle.comfy_parts.specs.declared.style.table_style.ContentLineStyle.{ContentLineStyle}
-use Rattle.comfy_table.specs.Drawing.{drawing_of_infos, drawn_header, drawn_row, drawn_rows, whole_widths}
+use Rattle.comfy_table.specs.Drawing.{drawing_of_infos, drawn_header, drawn_row, drawn_rows, outer_widths}
 use Rattle.comfy_table.specs.Frame.{content_line, optional_frame_line}
 use Rattle.comfy_table.specs.Laws.{unstyled}
 use Rattle.comfy_table.specs.Pieces.{blank_piece, pieces_of_optional, row_height, row_line, row_lines, shown_infos}
@@ -29,10 +29,10 @@ module _ (table : TableValue) (infos : List ColumnInfo) (off : should_style tabl
 
   same_header : (header : Option RowValue) → drawn_header (unstyled table) infos header ≡ drawn_header table infos header
   same_header None = refl
-  same_header (Some header) = λ i. same_row table.style.header_lines header i ++ optional_frame_line table.style table.style.header_separator (whole_widths infos)
+  same_header (Some header) = λ i. same_row table.style.header_lines header i ++ optional_frame_line table.style table.style.header_separator (outer_widths infos)
 
   same_rows : (rows : List RowValue) → drawn_rows (unstyled table) infos rows ≡ drawn_rows table infos rows
-  same_rows rows = λ i. join_by (λ row. same_row table.style.content_lines row i) (optional_frame_line table.style table.style.row_separator (whole_widths infos)) rows
+  same_rows rows = λ i. join_by (λ row. same_row table.style.content_lines row i) (optional_frame_line table.style table.style.row_separator (outer_widths infos)) rows
 
   -- the whole drawing
   pub unstyled_drawing : drawing_of_infos (unstyled table) infos ≡ drawing_of_infos table infos

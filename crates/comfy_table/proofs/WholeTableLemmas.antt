@@ -10,7 +10,7 @@ use Rattle.comfy_parts.specs.declared.style.column.ColumnConstraint.{ColumnConst
 use Rattle.comfy_parts.proofs.CallerLemmas.{All-at, All-given, All-same_map}
 use Rattle.comfy_table.specs.Arrangement.{IsArranged, is_full_width, room_beside_borders, width_kept, widths_at}
 use Rattle.comfy_table.specs.Drawing.{infos_of}
-use Rattle.comfy_table.specs.Dynamic.{IsDynamic}
+use Rattle.comfy_table.specs.Dynamic.{IsDynamicLayout}
 use Rattle.comfy_table.specs.Pieces.{shown_infos}
 use Rattle.comfy_table.specs.Laws.{NoConstraints}
 use Rattle.comfy_table.specs.TableValue.{TableValue, cell_content_width, column_cells, column_content_width, measured_rows, shown_columns, table_width}
@@ -40,7 +40,7 @@ whole_lines_fit table widths no_width no_constraints short arranged = each
   where
     shown : widths_at widths (shown_columns table) ≡ map (disabled_width table) (shown_columns table)
     shown =
-        subst (λ (o : Option ℕ). MatchOption o (widths_at widths (shown_columns table) ≡ map (disabled_width table) (shown_columns table)) (λ w. IsDynamic (room_beside_borders table w) (shown_needs table) (is_full_width table.arrangement) (widths_at widths (shown_columns table)))) no_width arranged.shown_widths
+        subst (λ (o : Option ℕ). MatchOption o (widths_at widths (shown_columns table) ≡ map (disabled_width table) (shown_columns table)) (λ w. IsDynamicLayout (room_beside_borders table w) (shown_needs table) (is_full_width table.arrangement) (widths_at widths (shown_columns table)))) no_width arranged.shown_widths
 
     -- a column without a constraint at its width by content
     Known : ℕ × ColumnValue → Type 0

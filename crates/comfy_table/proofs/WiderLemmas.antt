@@ -8,7 +8,7 @@ use Rattle.comfy_parts.specs.declared.style.column.ColumnConstraint.{ColumnConst
 use Rattle.comfy_parts.specs.declared.style.column.ColumnConstraint.TheVariants.{Hidden, ContentWidth, Absolute, LowerBoundary, UpperBoundary, Boundaries}
 use Rattle.comfy_parts.specs.declared.style.table.ContentArrangement.TheVariants.{Dynamic, DynamicFullWidth}
 use Rattle.comfy_table.proofs.BudgetLemmas.{keeps_to_wider_bound, fills_wider_bound}
-use Rattle.comfy_table.proofs.DrawnWidthLemmas.{sum-whole_widths, paddings_of_needs, dynamic_widths, every_added}
+use Rattle.comfy_table.proofs.DrawnWidthLemmas.{sum-outer_widths, paddings_of_needs, dynamic_widths, every_added}
 use Rattle.comfy_parts.proofs.CallerLemmas.{every-always, every-append, every-map, every-places, every-weaker}
 use Rattle.comfy_table.proofs.ShareLemmas.{count_at, share_at-where}
 use Rattle.comfy_table.proofs.SpreadLemmas.{IsPartOf, every-even_spread, shares_beside, every-shares_beside}
@@ -140,7 +140,7 @@ keeps_to_wider_bound_in_full room (column ∷ more) steps widths arranged =
 line_total-parts : (table : TableValue) (w : ℕ) (widths : List ℕ) (full : Bool) (steps : Steps) → IsArranged table widths → IsArrangedBy (room_beside_borders table w) (shown_needs table) full steps (shown_contents table widths)
     → line_total table widths ≡ border_count table.style (shown_count table) + (sum_by (λ (column : ColumnNeeds). column.padding) (shown_needs table) + sum (shown_contents table widths))
 line_total-parts table w widths full steps arranged by =
-    let drawn = sum-whole_widths table widths arranged.one_for_each (every_width_has_place (room_beside_borders table w) (shown_needs table) (every_early table (shown_columns table)) full steps (shown_contents table widths) by) in
+    let drawn = sum-outer_widths table widths arranged.one_for_each (every_width_has_place (room_beside_borders table w) (shown_needs table) (every_early table (shown_columns table)) full steps (shown_contents table widths) by) in
     omega (arith, drawn, paddings_of_needs table (shown_columns table))
 
 -- under `Dynamic` a line keeps to the width, or to the wider total

@@ -19,7 +19,7 @@ use Rattle.comfy_table.proofs.TextKindLemmas.{cut_text-kept, lines-kept}
 use Rattle.comfy_table.proofs.MeasuredLemmas.{cell_measured}
 use Rattle.comfy_table.proofs.StyledLemmas.{KeptByDrawing}
 use Rattle.comfy_table.specs.Laws.{CutLinesAreClosed, LinesAreResumedInRow, NoneIsOpenAtTheEnd}
-use Rattle.comfy_table.specs.Lines.{as_measured, cell_delimiter, cell_lines, cut_line, cut_text, cut_to_limit, uncut_count, whole_lines}
+use Rattle.comfy_table.specs.Lines.{as_measured, cell_delimiter, cell_lines, cut_line, cut_text, cut_to_limit, uncut_count, uncut_lines}
 use Rattle.comfy_table.specs.TableValue.{TableValue}
 
 -- those that aren't cut stand as they were
@@ -55,7 +55,7 @@ module _ (table : TableValue) (row : RowValue) (info : ColumnInfo) (cell : CellV
 
   -- the lines of the cell in the row, with custom styling or without
   abbrev lines_with : Bool → List CellLine
-  lines_with custom = cut_to_limit (cut_line custom w table.indicator) row.max_height (whole_lines custom w d cell)
+  lines_with custom = cut_to_limit (cut_line custom w table.indicator) row.max_height (uncut_lines custom w d cell)
 
   -- ---- with custom styling
 
@@ -71,14 +71,14 @@ module _ (table : TableValue) (row : RowValue) (info : ColumnInfo) (cell : CellV
   pub lines_are_resumed : table.custom_styling ≡ true → LinesAreResumedInRow table row info cell
   lines_are_resumed on =
       let n : ℕ = uncut_count row.max_height (line_texts w d cell.text_lines) in
-      subst (λ custom. AllZip IsResumedLine (take (uncut_count row.max_height (whole_lines custom w d cell)) (line_starts w d cell.text_lines)) (take (uncut_count row.max_height (whole_lines custom w d cell)) (lines_with custom))) (sym on)
+      subst (λ custom. AllZip IsResumedLine (take (uncut_count row.max_height (uncut_lines custom w d cell)) (line_starts w d cell.text_lines)) (take (uncut_count row.max_height (uncut_lines custom w d cell)) (lines_with custom))) (sym on)
       (subst (AllZip IsResumedLine (take n (line_starts w d cell.text_lines))) (sym (uncut-are (cut_line true w table.indicator) row.max_height (line_texts w d cell.text_lines)))
       (AllZip-take IsResumedLine n (line_starts w d cell.text_lines) (line_texts w d cell.text_lines) (lines_resumed w d cell.text_lines)))
 
   -- a line that is cut is written as it is measured, closed
   pub cut_lines_are_closed : table.custom_styling ≡ true → CutLinesAreClosed table row info cell
   cut_lines_are_closed on =
-      subst (λ custom. All IsClosedLine (drop (uncut_count row.max_height (whole_lines custom w d cell)) (lines_with custom))) (sym on)
+      subst (λ custom. All IsClosedLine (drop (uncut_count row.max_height (uncut_lines custom w d cell)) (lines_with custom))) (sym on)
       (All-from_recursion IsClosedLine (drop (uncut_count row.max_height (line_texts w d cell.text_lines)) (lines_with true)) (closed_behind w table.indicator row.max_height (line_texts w d cell.text_lines)))
 
   -- ---- what stays true of what is measured and what is written
@@ -88,9 +88,9 @@ module _ (table : TableValue) (row : RowValue) (info : ColumnInfo) (cell : CellV
   measured_each P custom gives each =
       All-flat_map P (lines_of_text w d) (cell_measured custom cell).text_lines (All-weaker P (λ text. All P (lines_of_text w d text)) gives (cell_measured custom cell).text_lines each)
 
-  of_whole : (P : Text → Type 0) (custom : Bool) → All P (cell_lines w d (cell_measured custom cell)) → All (λ (line : CellLine). P line.measured) (whole_lines custom w d cell)
+  of_whole : (P : Text → Type 0) (custom : Bool) → All P (cell_lines w d (cell_measured custom cell)) → All (λ (line : CellLine). P line.measured) (uncut_lines custom w d cell)
   of_whole P custom each =
-      All-of_map P (λ (line : CellLine). line.measured) (whole_lines custom w d cell) (subst (All P) (sym (whole-measured custom w d cell)) each)
+      All-of_map P (λ (line : CellLine). line.measured) (uncut_lines custom w d cell) (subst (All P) (sym (whole-measured custom w d cell)) each)
 
   module _ (C : Text → Type 0) (R : Text → Text → Type 0) (kept : KeptByDrawing C R) where
     -- whole characters of the kind
@@ -103,7 +103,7 @@ module _ (table : TableValue) (row : RowValue) (info : ColumnInfo) (cell : CellV
         measured_each Own custom (λ text is k default below. (lines_of_text-utf8 w d text is.0 k default below, lines-kept C kept.joins.kind w d text is.0 is.1 k default below)) own
 
     -- the lines that aren't cut
-    keeps_whole : (custom : Bool) → All Own (cell_measured custom cell).text_lines → All (λ (line : CellLine). R line.measured line.written) (whole_lines custom w d cell)
+    keeps_whole : (custom : Bool) → All Own (cell_measured custom cell).text_lines → All (λ (line : CellLine). R line.measured line.written) (uncut_lines custom w d cell)
     keeps_whole true own =
         λ k default below.
         let line : CellLine = slice_index_or (line_texts w d cell.text_lines) k default in
@@ -121,7 +121,7 @@ module _ (table : TableValue) (row : RowValue) (info : ColumnInfo) (cell : CellV
     -- all lines
     pub keeps_lines : (custom : Bool) → C table.indicator → All IsUtf8 (cell_measured custom cell).text_lines → All C (cell_measured custom cell).text_lines → All (λ (line : CellLine). R line.measured line.written) (lines_with custom)
     keeps_lines custom mark utf8 clear =
-        All-cut (λ line. R line.measured line.written × Own line.measured) (λ line. R line.measured line.written) (cut_line custom w table.indicator) row.max_height (whole_lines custom w d cell)
+        All-cut (λ line. R line.measured line.written × Own line.measured) (λ line. R line.measured line.written) (cut_line custom w table.indicator) row.max_height (uncut_lines custom w d cell)
         (λ k default below. (keeps_whole custom own k default below, of_whole Own custom (own_lines custom own) k default below))
         (λ line is. is.0)
         (λ h limited below line is. keeps_cut custom line (cut_text-kept C kept.joins.kind w table.indicator line.measured mark is.1.0 is.1.1))

@@ -4,7 +4,7 @@ use Rattle.std.specs.Prelude.{◌≡◌, ℕ, ◌≤◌, List, [], ◌++◌, Non
 use Rattle.comfy_parts.specs.CellValue.{CellValue, ColumnInfo, RowValue}
 use Rattle.comfy_parts.specs.Text.{Text}
 use Rattle.comfy_table.specs.Arrangement.{IsDrawingOf, width_kept}
-use Rattle.comfy_table.specs.Drawing.{drawing, drawn_header, drawn_row, drawn_rows, infos_of, whole_widths}
+use Rattle.comfy_table.specs.Drawing.{drawing, drawn_header, drawn_row, drawn_rows, infos_of, outer_widths}
 use Rattle.comfy_table.specs.Frame.{optional_frame_line}
 use Rattle.comfy_table.specs.TableValue.{TableValue, cell_content_width, column_content_width, measured_cell, table_width, with_row}
 
@@ -17,18 +17,18 @@ module _ (table : TableValue) (infos : List ColumnInfo) where
   -- the lines of a drawing above its bottom border
   abbrev pub lines_above_bottom : List Text
   lines_above_bottom =
-      optional_frame_line table.style table.style.top_border (whole_widths infos)
+      optional_frame_line table.style table.style.top_border (outer_widths infos)
       ++ (drawn_header table infos table.header ++ drawn_rows table infos table.rows)
 
   -- the bottom border, where there is one
   abbrev pub bottom_lines : List Text
-  bottom_lines = optional_frame_line table.style table.style.bottom_border (whole_widths infos)
+  bottom_lines = optional_frame_line table.style table.style.bottom_border (outer_widths infos)
 
   -- the lines that a further row adds: the row separator where a row stands before it, and its own
   abbrev pub added_lines : RowValue → List Text
   added_lines row =
       (if nat_lt 0 (length table.rows)
-      then optional_frame_line table.style table.style.row_separator (whole_widths infos)
+      then optional_frame_line table.style table.style.row_separator (outer_widths infos)
       else []) ++ drawn_row table infos table.style.content_lines row
 
 -- each cell of the row has a column

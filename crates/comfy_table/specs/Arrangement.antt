@@ -7,7 +7,7 @@ use Rattle.comfy_parts.specs.Text.{Text}
 use Rattle.comfy_parts.specs.declared.style.table.ContentArrangement.{ContentArrangement}
 use Rattle.comfy_parts.specs.declared.style.table.ContentArrangement.TheVariants.{Disabled, DynamicFullWidth}
 use Rattle.comfy_table.specs.Drawing.{drawing, infos_of}
-use Rattle.comfy_table.specs.Dynamic.{IsDynamic}
+use Rattle.comfy_table.specs.Dynamic.{IsDynamicLayout}
 use Rattle.comfy_table.specs.Frame.{border_count}
 use Rattle.comfy_table.specs.TableValue.{TableValue, table_width, shown_columns, column_content_width}
 use Rattle.comfy_table.specs.Widths.{disabled_width, shown_needs, shown_count}
@@ -40,7 +40,7 @@ abbrev pub AreShownWidths : TableValue → List ℕ → Type 0
 AreShownWidths table widths =
     MatchOption (width_kept table.arrangement (table_width table))
     (widths ≡ map (disabled_width table) (shown_columns table))
-    (λ w. IsDynamic (room_beside_borders table w) (shown_needs table)
+    (λ w. IsDynamicLayout (room_beside_borders table w) (shown_needs table)
     (is_full_width table.arrangement) widths)
 
 -- one content width for each column, in list order; a hidden column has its content's

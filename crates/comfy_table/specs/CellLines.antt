@@ -3,14 +3,14 @@ use Rattle.std.specs.Prelude.{ℕ, List, [], ◌∷◌, Option, Some, None, opti
 use Rattle.comfy_parts.specs.CellValue.{CellValue}
 use Rattle.comfy_table.specs.DrawnLines.{DrawnLine}
 use Rattle.comfy_table.specs.declared.utils.formatting.cell_lines.CellLines.{CellLines}
-use Rattle.comfy_table.specs.declared.utils.formatting.cell_lines.CellLines.TheVariants.{Missing, One, Several}
+use Rattle.comfy_table.specs.declared.utils.formatting.cell_lines.CellLines.TheVariants.{Missing, Multiple, Single}
 
 -- the cell and its lines, from the top
 abbrev pub lines_of : CellLines → Option (CellValue × List DrawnLine)
 lines_of Missing = None
-lines_of (One cell columns text) =
+lines_of (Single cell columns text) =
     Some (cell.now, record { columns = columns; written = text.now } ∷ [])
-lines_of (Several cell lines) = Some (cell.now, lines.items)
+lines_of (Multiple cell lines) = Some (cell.now, lines.items)
 
 -- line k, counted from 0, with its cell
 abbrev pub line_at : ℕ → Option (CellValue × List DrawnLine) → Option (CellValue × DrawnLine)

@@ -6,8 +6,8 @@ use Rattle.comfy_table.specs.Lines.{longest_line}
 use Rattle.comfy_table.specs.TableValue.{TableValue}
 use Rattle.comfy_table.specs.Widths.{ColumnNeeds, even_spread}
 use Rattle.comfy_table.specs.declared.utils.arrangement.dynamic.budget.Budget.{Budget}
-use Rattle.comfy_table.specs.declared.utils.arrangement.dynamic.taking.Rule.{Rule}
-use Rattle.comfy_table.specs.declared.utils.arrangement.dynamic.taking.Rule.TheVariants.{Lower, Shrunk}
+use Rattle.comfy_table.specs.declared.utils.arrangement.dynamic.round_robin.Rule.{Rule}
+use Rattle.comfy_table.specs.declared.utils.arrangement.dynamic.round_robin.Rule.TheVariants.{Lower, Shrunk}
 use Rattle.comfy_table.specs.declared.utils.arrangement.dynamic.needs.WidthNeeds.{WidthNeeds}
 
 -- what the width of a shown column depends on, as it is kept beside the column
@@ -74,8 +74,8 @@ abbrev pub position_after : ℕ → ℕ → ℕ
 position_after n position = if nat_lt (position + 1) n then position + 1 else 0
 
 -- columns have taken their widths by a rule, in turn, until none took one
-abbrev pub HasTakenInTurn : Rule → List ColumnNeeds → Budget → Budget → Type 0
-HasTakenInTurn rule needs old new =
+abbrev pub HasGoneRound : Rule → List ColumnNeeds → Budget → Budget → Type 0
+HasGoneRound rule needs old new =
     (order : List Share) × IsTakenInOrder (undecided_among needs old.widths.items)
     (offer_by_rule rule old.room (undecided_among needs old.widths.items)) order
     × HasTaken order old new

@@ -14,8 +14,8 @@ abbrev pub infos_of : TableValue → List ℕ → List ColumnInfo
 infos_of table widths = map (λ (p : ColumnValue × ℕ). info_of p.0 p.1) (zip table.columns widths)
 
 -- the whole widths of the shown columns, in list order
-abbrev pub whole_widths : List ColumnInfo → List ℕ
-whole_widths infos = map (λ (p : ℕ × ColumnInfo). info_width p.1) (shown_infos infos)
+abbrev pub outer_widths : List ColumnInfo → List ℕ
+outer_widths infos = map (λ (p : ℕ × ColumnInfo). info_width p.1) (shown_infos infos)
 
 module _ (table : TableValue) (infos : List ColumnInfo) where
   -- the lines of a row, framed as header lines or as content lines
@@ -27,21 +27,21 @@ module _ (table : TableValue) (infos : List ColumnInfo) where
   drawn_header None = []
   drawn_header (Some header) =
       drawn_row table.style.header_lines header
-      ++ optional_frame_line table.style table.style.header_separator (whole_widths infos)
+      ++ optional_frame_line table.style table.style.header_separator (outer_widths infos)
 
   -- the rows' lines, with the row separator between each two rows
   abbrev pub drawn_rows : List RowValue → List Text
   drawn_rows rows =
       join_by (drawn_row table.style.content_lines)
-      (optional_frame_line table.style table.style.row_separator (whole_widths infos)) rows
+      (optional_frame_line table.style table.style.row_separator (outer_widths infos)) rows
 
   -- top border, header, rows, bottom border
   abbrev pub drawing_of_infos : List Text
   drawing_of_infos =
-      optional_frame_line table.style table.style.top_border (whole_widths infos)
+      optional_frame_line table.style table.style.top_border (outer_widths infos)
       ++ (drawn_header table.header
       ++ (drawn_rows table.rows ++ optional_frame_line table.style table.style.bottom_border
-      (whole_widths infos)))
+      (outer_widths infos)))
 
 -- the drawing of a table whose columns have these content widths, in list order
 abbrev pub drawing : TableValue → List ℕ → List Text

@@ -8,7 +8,7 @@ use Rattle.comfy_parts.specs.VisibleText.{visible_text}
 use Rattle.comfy_parts.specs.declared.style.table.ContentArrangement.TheVariants.{Dynamic, DynamicFullWidth}
 use Rattle.comfy_parts.specs.declared.style.table_style.LineStyle.{LineStyle}
 use Rattle.comfy_table.specs.Arrangement.{IsArranged, room_beside_borders}
-use Rattle.comfy_table.specs.Drawing.{drawing, infos_of, terminated_text_of, text_of, trimmed_text_of, whole_widths}
+use Rattle.comfy_table.specs.Drawing.{drawing, infos_of, terminated_text_of, text_of, trimmed_text_of, outer_widths}
 use Rattle.comfy_table.specs.Dynamic.{Steps, IsArrangedBy}
 use Rattle.comfy_table.specs.Frame.{frame_line}
 use Rattle.comfy_table.specs.Laws.{CutLinesAreClosed, HasNoBreak, HasNoControl, HasSequencesInTextsAlone, HasUnbrokenStyle, IsFreeOfControls, IsFreeOfEscapes, IsPrintableTable, LeavesNoneOpen, LinesAreResumedInRow, NoConstraints, NoneIsOpenAtTheEnd, count, least_total, line_total, unstyled}
@@ -55,9 +55,9 @@ pub record HasEdges (table : TableValue) (widths : List ℕ) (lines : List Text)
 -- P holds of the number of characters of each frame line, whatever the style and the texts. It
 -- holds of that of every line as it is measured, where the table is printable ASCII. And it holds
 -- of the terminal columns of every line as it is measured, where the table is straight.
-pub record EachLineCounts (P : ℕ → Type 0) (table : TableValue) (widths : List ℕ) : Type 0 where
+pub record LineWidthsSatisfy (P : ℕ → Type 0) (table : TableValue) (widths : List ℕ) : Type 0 where
   pub frame_lines : (line : LineStyle)
-      → P (count (frame_line table.style line (whole_widths (infos_of table widths))))
+      → P (count (frame_line table.style line (outer_widths (infos_of table widths))))
   pub printable_lines : IsPrintableTable table widths
       → All (λ line. P (count line)) (drawing (unstyled table) widths)
   pub straight_lines : IsStraightTable table widths
@@ -75,15 +75,15 @@ LeadToWidths table w full widths steps =
 pub record KeepsKnownWidth (table : TableValue) (widths : List ℕ) : Type 0 where
   pub keeps_to_wider_total : (w : ℕ) → table.arrangement ≡ Dynamic → table_width table ≡ Some w
       → (steps : Steps) × LeadToWidths table w false widths steps
-      × EachLineCounts (λ n. n ≤ max w (wider_total table steps)) table widths
+      × LineWidthsSatisfy (λ n. n ≤ max w (wider_total table steps)) table widths
   pub keeps_to_wider_total_in_full : (w : ℕ) → table.arrangement ≡ DynamicFullWidth
       → table_width table ≡ Some w
       → (steps : Steps) × LeadToWidths table w true widths steps
-      × EachLineCounts (λ n. n ≤ max w (wider_total table steps)) table widths
+      × LineWidthsSatisfy (λ n. n ≤ max w (wider_total table steps)) table widths
   pub fills_wider_total : (w : ℕ) → table.arrangement ≡ DynamicFullWidth
       → table_width table ≡ Some w → 0 < shown_count table
       → (steps : Steps) × LeadToWidths table w true widths steps
-      × EachLineCounts (λ n. n ≡ max w (wider_total table steps)) table widths
+      × LineWidthsSatisfy (λ n. n ≡ max w (wider_total table steps)) table widths
 
 -- the lines are the unstyled ones but for sequences, and with custom styling none stays open
 pub record ClosesSequences (table : TableValue) (widths : List ℕ) (lines : List Text) : Type 0 where
@@ -125,18 +125,18 @@ pub record IsTableDrawing (table : TableValue) (lines : List Text) : Type 0 wher
   pub controls : AddsNoControls table lines
 
 -- the text is that of such a drawing: its lines, joined by line feeds
-abbrev pub IsTextOf : TableValue → Text → Type 0
-IsTextOf table text = (lines : List Text) × IsTableDrawing table lines × (text ≡ text_of lines)
+abbrev pub JoinsLines : TableValue → Text → Type 0
+JoinsLines table text = (lines : List Text) × IsTableDrawing table lines × (text ≡ text_of lines)
 
 -- the text is that of such a drawing: its lines without their trailing white space, joined by line
 -- feeds
-abbrev pub IsTrimmedTextOf : TableValue → Text → Type 0
-IsTrimmedTextOf table text =
+abbrev pub JoinsTrimmedLines : TableValue → Text → Type 0
+JoinsTrimmedLines table text =
     (lines : List Text) × IsTableDrawing table lines × (text ≡ trimmed_text_of lines)
 
 -- the text is that of such a drawing: each of its lines followed by a line feed
-abbrev pub IsTerminatedTextOf : TableValue → Text → Type 0
-IsTerminatedTextOf table text =
+abbrev pub TerminatesLines : TableValue → Text → Type 0
+TerminatesLines table text =
     (lines : List Text) × IsTableDrawing table lines × (text ≡ terminated_text_of lines)
 
 -- ---- what follows for every drawing
@@ -147,14 +147,14 @@ abbrev pub DrawingKeepsToWidth : TableValue → ℕ → List Text → Type 0
 DrawingKeepsToWidth table w lines =
     (drawn : IsTableDrawing table lines) → NoConstraints table → table.arrangement ≡ Dynamic
     → table_width table ≡ Some w
-    → EachLineCounts (λ n. n ≤ max w (least_total table)) table drawn.widths
+    → LineWidthsSatisfy (λ n. n ≤ max w (least_total table)) table drawn.widths
 
 -- under `DynamicFullWidth` it has exactly that count, where a column is shown
 abbrev pub DrawingFillsWidth : TableValue → ℕ → List Text → Type 0
 DrawingFillsWidth table w lines =
     (drawn : IsTableDrawing table lines) → NoConstraints table
     → table.arrangement ≡ DynamicFullWidth → table_width table ≡ Some w → 0 < shown_count table
-    → EachLineCounts (λ n. n ≡ max w (least_total table)) table drawn.widths
+    → LineWidthsSatisfy (λ n. n ≡ max w (least_total table)) table drawn.widths
 
 -- what is visible of the lines of a straight table is equally wide, where nothing but the table's
 -- sequences holds ESC

@@ -13,10 +13,10 @@ use Rattle.comfy_parts.specs.VisibleText.{closed, parts, open_after}
 use Rattle.comfy_parts.specs.declared.style.table.ContentArrangement.TheVariants.{Dynamic, DynamicFullWidth}
 use Rattle.comfy_parts.specs.declared.style.table_style.TableStyle.{TableStyle}
 use Rattle.comfy_table.specs.Arrangement.{IsArranged}
-use Rattle.comfy_table.specs.Drawing.{infos_of, terminated_text_of, text_of, whole_widths}
-use Rattle.comfy_table.specs.Dynamic.{Steps, IsDynamic, fixed_shares, places_of, total}
+use Rattle.comfy_table.specs.Drawing.{infos_of, terminated_text_of, text_of, outer_widths}
+use Rattle.comfy_table.specs.Dynamic.{Steps, IsDynamicLayout, fixed_shares, places_of, total}
 use Rattle.comfy_table.specs.Frame.{border_count}
-use Rattle.comfy_table.specs.Lines.{cell_lines, cell_delimiter, fitting_indicator, uncut_count, whole_lines}
+use Rattle.comfy_table.specs.Lines.{cell_lines, cell_delimiter, fitting_indicator, uncut_count, uncut_lines}
 use Rattle.comfy_table.specs.Pieces.{shown_infos, row_cell_lines}
 use Rattle.comfy_table.specs.TableValue.{TableValue, table_width, shown_columns, column_cells, header_and_rows, measured_cell, measured_table, measured_rows, should_style}
 use Rattle.comfy_table.specs.Widths.{ColumnNeeds, shown_count}
@@ -34,7 +34,7 @@ unstyled table = record (measured_table table) { no_tty = true; enforce_styling 
 -- the border characters of a line, and the whole widths of the shown columns
 abbrev pub line_total : TableValue → List ℕ → ℕ
 line_total table widths =
-    border_count table.style (shown_count table) + sum (whole_widths (infos_of table widths))
+    border_count table.style (shown_count table) + sum (outer_widths (infos_of table widths))
 
 -- borders, paddings and one terminal column for each shown column
 abbrev pub least_total : TableValue → ℕ
@@ -106,7 +106,8 @@ least_with_steps columns steps =
 -- one list of widths is dynamic
 abbrev pub DynamicIsOne : ℕ → List ColumnNeeds → Bool → List ℕ → List ℕ → Type 0
 DynamicIsOne room columns full widths others =
-    IsDynamic room columns full widths → IsDynamic room columns full others → widths ≡ others
+    IsDynamicLayout room columns full widths → IsDynamicLayout room columns full others
+    → widths ≡ others
 
 -- ---- texts
 
@@ -206,7 +207,7 @@ NoneIsOpenAtTheEnd table row info cell =
 -- how many lines of a cell in a row stand as they are
 abbrev pub uncut_in_row : TableValue → RowValue → ColumnInfo → CellValue → ℕ
 uncut_in_row table row info cell =
-    uncut_count row.max_height (whole_lines table.custom_styling info.content_width
+    uncut_count row.max_height (uncut_lines table.custom_styling info.content_width
     (cell_delimiter table info.delimiter cell) cell)
 
 -- with custom styling, before each visible byte of a line that isn't cut the sequences are open

@@ -6,7 +6,7 @@ use Rattle.comfy_parts.specs.Text.{Text, measure, spaces, greatest}
 use Rattle.comfy_parts.specs.declared.style.cell.CellAlignment.{CellAlignment}
 use Rattle.comfy_parts.specs.declared.style.cell.CellAlignment.TheVariants.{Left, Right, Center}
 use Rattle.comfy_parts.specs.VisibleLines.{CellLine}
-use Rattle.comfy_table.specs.Lines.{cell_delimiter, cut_line, cut_to_limit, whole_lines}
+use Rattle.comfy_table.specs.Lines.{cell_delimiter, cut_line, cut_to_limit, uncut_lines}
 use Rattle.comfy_table.specs.Styling.{styled}
 use Rattle.comfy_table.specs.TableValue.{TableValue, should_style, header_and_rows}
 
@@ -64,7 +64,7 @@ blank_piece info = spaces (info_width info)
 abbrev pub row_cell_lines : TableValue → RowValue → ColumnInfo → CellValue → List CellLine
 row_cell_lines table row info cell =
     cut_to_limit (cut_line table.custom_styling info.content_width table.indicator) row.max_height
-    (whole_lines table.custom_styling info.content_width
+    (uncut_lines table.custom_styling info.content_width
     (cell_delimiter table info.delimiter cell) cell)
 
 -- the pieces of a cell in one column of a row, from the top

@@ -9,7 +9,7 @@ use Rattle.comfy_parts.specs.Wrapping.{lines_of_text}
 use Rattle.comfy_parts.specs.declared.style.table.ContentArrangement.TheVariants.{Dynamic, DynamicFullWidth}
 use Rattle.comfy_parts.specs.declared.style.table_style.LineStyle.{LineStyle}
 use Rattle.comfy_table.specs.Arrangement.{IsArranged, room_beside_borders, widths_at}
-use Rattle.comfy_table.specs.Drawing.{infos_of, whole_widths}
+use Rattle.comfy_table.specs.Drawing.{infos_of, outer_widths}
 use Rattle.comfy_table.specs.Dynamic.{Steps, IsArrangedBy, content_room}
 use Rattle.comfy_table.specs.Frame.{border_count, frame_line}
 use Rattle.comfy_table.specs.Laws.{count, line_total, least_total, least_with_steps, NoConstraints, HasPrintableCells, IsPrintableCell}
@@ -28,7 +28,7 @@ shown_contents table widths = widths_at widths (shown_columns table)
 abbrev pub FrameCounts : TableValue → List ℕ → LineStyle → Type 0
 FrameCounts table widths line =
     length widths ≡ length table.columns
-    → count (frame_line table.style line (whole_widths (infos_of table widths)))
+    → count (frame_line table.style line (outer_widths (infos_of table widths)))
     ≡ line_total table widths
 
 -- under `Dynamic` a frame line keeps to the width, or to borders, paddings and one terminal column
@@ -37,7 +37,7 @@ abbrev pub FrameKeepsToWidth : TableValue → ℕ → List ℕ → LineStyle →
 FrameKeepsToWidth table w widths line =
     NoConstraints table → table.arrangement ≡ Dynamic → table_width table ≡ Some w
     → IsArranged table widths
-    → count (frame_line table.style line (whole_widths (infos_of table widths)))
+    → count (frame_line table.style line (outer_widths (infos_of table widths)))
     ≤ max w (least_total table)
 
 -- under `DynamicFullWidth` it has exactly that many characters, where a column is shown
@@ -46,7 +46,7 @@ FrameFillsWidth table w widths line =
     NoConstraints table → table.arrangement ≡ DynamicFullWidth → table_width table ≡ Some w
     → 0 < shown_count table
     → IsArranged table widths
-    → count (frame_line table.style line (whole_widths (infos_of table widths)))
+    → count (frame_line table.style line (outer_widths (infos_of table widths)))
     ≡ max w (least_total table)
 
 -- ---- totals under every constraint

@@ -1,5 +1,5 @@
 pub mod NamedStyleLemmas
-pub mod OneAskedLemmas
+pub mod OneInvocationLemmas
 pub mod OneParseLemmas
 pub mod ProgramLemmas
 pub mod RefusalLemmas

@@ -1,4 +1,4 @@
--- Commands whose rules differ only in where the names of values are held find the same in the same words.
+-- Commands whose rules differ only in where the names of values are held find the same in the same arguments.
 use Rattle.std.proofs.Common.{◌≡◌, ℕ, zero, suc, ◌==◌, Bool, true, false, not, ◌&&◌, ◌||◌, List, [], ◌∷◌, ◌++◌, Option, Some, None, chars, fold, drop, is_some, length, map, option_map, slice_get, refl, sym, ap, ap₂, ◌∙◌, unwrap_or}
 use Rattle.std.specs.Option.{option_map_or}
 use Rattle.std.specs.Prelude.{bytes_eq, encode_utf8, find, if◌then◌else◌}
@@ -86,7 +86,7 @@ module _ (c : List Rule) where
       reacted_with : List Row → Held
       reacted_with rows = record h { rows = rows; pending = None }
 
-  -- ---- words
+  -- ---- arguments
 
   same_option : (a : Rule) (v : Option Text) (h : Held) → option_met e (erased a) v h ≡ option_met c a v h
   same_option a (Some v) h = ap (λ (own : Held). (own, done)) (same_reacted a (v ∷ []) h)
@@ -195,9 +195,9 @@ module _ (c : List Rule) where
   unfolding walked
   same_walked names w word = same_from names w.stopped w word
 
-  same_walk : (names : Names) (w : Walk) (words : List Text) → fold (walked e names) w words ≡ fold (walked c names) w words
+  same_walk : (names : Names) (w : Walk) (arguments : List Text) → fold (walked e names) w arguments ≡ fold (walked c names) w arguments
   same_walk names w [] = refl
-  same_walk names w (word ∷ words) = ap (λ (v : Walk). fold (walked e names) v words) (same_walked names w word) ∙ same_walk names (walked c names w word) words
+  same_walk names w (word ∷ arguments) = ap (λ (v : Walk). fold (walked e names) v arguments) (same_walked names w word) ∙ same_walk names (walked c names w word) arguments
 
 -- defaults of the rules that are left
 same_default : (rows : List Row) (a : Rule) → with_default rows (erased a) ≡ with_default rows a
@@ -207,11 +207,11 @@ same_defaults : (rows : List Row) (rules : List Rule) → fold with_default rows
 same_defaults rows [] = refl
 same_defaults rows (a ∷ rules) = ap (λ (rs : List Row). fold with_default rs (map erased rules)) (same_default rows a) ∙ same_defaults (with_default rows a) rules
 
-same_rows : (rules : List Rule) (names : Names) (words : List Text) → rows_after (map erased rules) names words ≡ rows_after rules names words
-same_rows rules names words =
-    ap (λ (w : Walk). finished (map erased rules) w.held) (same_walk rules names (walk_from nothing_held) words)
-    ∙ ap (λ (h : Held). fold with_default h.rows (map erased rules)) (same_settled rules (walk rules names nothing_held words).held)
-    ∙ same_defaults (settled rules (walk rules names nothing_held words).held).rows rules
+same_rows : (rules : List Rule) (names : Names) (arguments : List Text) → rows_after (map erased rules) names arguments ≡ rows_after rules names arguments
+same_rows rules names arguments =
+    ap (λ (w : Walk). finished (map erased rules) w.held) (same_walk rules names (walk_from nothing_held) arguments)
+    ∙ ap (λ (h : Held). fold with_default h.rows (map erased rules)) (same_settled rules (walk rules names nothing_held arguments).held)
+    ∙ same_defaults (settled rules (walk rules names nothing_held arguments).held).rows rules
 
 -- ---- rules as they are built
 
@@ -259,19 +259,19 @@ all_rules rules = (rules ++ help_rule ∷ []) ++ version_rule ∷ []
 erased_all : (rules : List Rule) → all_rules (map erased rules) ≡ map erased (all_rules rules)
 erased_all rules = sym (map-append erased (rules ++ help_rule ∷ []) (version_rule ∷ []) ∙ ap (λ (rs : List Rule). rs ++ version_rule ∷ []) (map-append erased rules (help_rule ∷ [])))
 
--- what it finds in words, by its rules
-found_by : (app : App) → IsCsvtable app → (words : List Text) → matches_of app words ≡ rows_after (filled_from 1 (all_rules (map erased app.top.rules))) [] (drop 1 words)
-found_by app is words =
-    ap (λ (own : App). matches_of (with_rules own app.top.rules) words) is.is_wordless
-    ∙ sym (ap (λ (rs : List Rule). rows_after (filled_from 1 rs) [] (drop 1 words)) (erased_all app.top.rules)
-    ∙ ap (λ (rs : List Rule). rows_after rs [] (drop 1 words)) (same_filled_from 1 (all_rules app.top.rules))
-    ∙ same_rows (filled_from 1 (all_rules app.top.rules)) [] (drop 1 words))
+-- what it finds in arguments, by its rules
+found_by : (app : App) → IsCsvtable app → (arguments : List Text) → matches_of app arguments ≡ rows_after (filled_from 1 (all_rules (map erased app.top.rules))) [] (drop 1 arguments)
+found_by app is arguments =
+    ap (λ (own : App). matches_of (with_rules own app.top.rules) arguments) is.is_wordless
+    ∙ sym (ap (λ (rs : List Rule). rows_after (filled_from 1 rs) [] (drop 1 arguments)) (erased_all app.top.rules)
+    ∙ ap (λ (rs : List Rule). rows_after rs [] (drop 1 arguments)) (same_filled_from 1 (all_rules app.top.rules))
+    ∙ same_rows (filled_from 1 (all_rules app.top.rules)) [] (drop 1 arguments))
 
 own_rules : (app : App) → IsCsvtable app → map erased app.top.rules ≡ map (λ (p : Rule × List Text). p.0) csvtable_rules
 own_rules app is = sym (map-map (λ (p : Rule × List Text). p.0) bare app.top.rules) ∙ ap (map (λ (p : Rule × List Text). p.0)) is.rules
 
 -- the program's commands find the same
-pub finds_are_one : (app other : App) → IsCsvtable app → IsCsvtable other → (words : List Text) → matches_of app words ≡ matches_of other words
-finds_are_one app other is also words =
+pub finds_are_one : (app other : App) → IsCsvtable app → IsCsvtable other → (arguments : List Text) → matches_of app arguments ≡ matches_of other arguments
+finds_are_one app other is also arguments =
     let rules = own_rules app is ∙ sym (own_rules other also) in
-    found_by app is words ∙ ap (λ (rs : List Rule). rows_after (filled_from 1 (all_rules rs)) [] (drop 1 words)) rules ∙ sym (found_by other also words)
+    found_by app is arguments ∙ ap (λ (rs : List Rule). rows_after (filled_from 1 (all_rules rs)) [] (drop 1 arguments)) rules ∙ sym (found_by other also arguments)

@@ -9,10 +9,10 @@ use Rattle.clap.specs.declared.error.kind.ErrorKind.TheVariants.{OutOfMemory}
 use Rattle.comfy_parts.specs.Text.{Text}
 use Rattle.csv_command.specs.Program.{IsCsvtable, bare, csvtable_rules, with_rules, wordless}
 use Rattle.csv_command.specs.Rules.{lettered, of_kind, rule_for, with_values}
-use Rattle.csv_command.specs.Words.{AreNotTaken}
-use Rattle.csv_command.specs.declared.words.Kind.{Kind}
-use Rattle.csv_command.specs.declared.words.Kind.TheVariants as kind
-use Rattle.csv_command.specs.declared.words.Word.{Word}
+use Rattle.csv_command.specs.Arguments.{AreNotTaken}
+use Rattle.csv_command.specs.declared.options.Kind.{Kind}
+use Rattle.csv_command.specs.declared.options.Kind.TheVariants as kind
+use Rattle.csv_command.specs.declared.options.OptionSpec.{OptionSpec}
 
 lettered_simple : (letter : Option ℕ) (name : Text) → (lettered letter (new_rule name)).is_simple ≡ true
 lettered_simple None name = refl
@@ -32,16 +32,16 @@ stays_simple kind.Encoding name rule h = h
 not_global : (arg : Arg) → is_simple_arg arg ≡ true → arg.global ≡ false
 not_global arg h = search (rules, tests)
 
--- no word's argument is global
-pub local : (arg : Arg) (word : Word) → bare (rule_of arg) ≡ rule_for word → arg.global ≡ false
+-- no argument's argument is global
+pub local : (arg : Arg) (word : OptionSpec) → bare (rule_of arg) ≡ rule_for word → arg.global ≡ false
 unfolding rule_for
 local arg word is =
     not_global arg (ap (λ (known : Rule × List Text). known.0.is_simple) is ∙ stays_simple word.kind word.name.now _ (lettered_simple word.letter word.name.now))
 
--- one more rule, for one more word
-pub one_more : (words : List Word) (i : ℕ) (word : Word) (had : List Rule) (rule : Rule) → i < length words → map bare had ≡ map rule_for (take i words)
-    → bare rule ≡ rule_for (slice_index_or words i word) → map bare (had ++ rule ∷ []) ≡ map rule_for (take (i + 1) words)
-one_more words i word had rule inside same new = grind (arith, common_steps)
+-- one more rule, for one more argument
+pub one_more : (arguments : List OptionSpec) (i : ℕ) (word : OptionSpec) (had : List Rule) (rule : Rule) → i < length arguments → map bare had ≡ map rule_for (take i arguments)
+    → bare rule ≡ rule_for (slice_index_or arguments i word) → map bare (had ++ rule ∷ []) ≡ map rule_for (take (i + 1) arguments)
+one_more arguments i word had rule inside same new = grind (arith, common_steps)
 
 -- ---- such a command is simple
 
@@ -91,15 +91,15 @@ restored_is_free from = refl
 pub csvtable_is_free : (app : App) → IsCsvtable app → is_simple_and_free app ≡ true
 csvtable_is_free = by_rules (λ app. is_simple_and_free app ≡ true) restored_is_free
 
--- where the words would be taken, no memory is the only fault; else the kind is among those of the words
-pub not_taken : (app : App) (words : List Text) (e : Error) → IsCsvtable app → (takes app words ≡ true → kind_of e ≡ OutOfMemory) → HasKind (fault_of app words) e
-    → kind_of e ≢ OutOfMemory → AreNotTaken words (kind_of e)
-not_taken app words e is passes kinds other = by_test (takes app words) refl
+-- where the arguments would be taken, no memory is the only fault; else the kind is among those of the arguments
+pub not_taken : (app : App) (arguments : List Text) (e : Error) → IsCsvtable app → (takes app arguments ≡ true → kind_of e ≡ OutOfMemory) → HasKind (fault_of app arguments) e
+    → kind_of e ≢ OutOfMemory → AreNotTaken arguments (kind_of e)
+not_taken app arguments e is passes kinds other = by_test (takes app arguments) refl
   where
-    known : HasKind (fault_of app words) e → IsAmong (kind_of e) (fault_of app words)
+    known : HasKind (fault_of app arguments) e → IsAmong (kind_of e) (fault_of app arguments)
     known (inl none) = absurd (other none)
     known (inr among) = among
 
-    by_test : (b : Bool) → takes app words ≡ b → AreNotTaken words (kind_of e)
+    by_test : (b : Bool) → takes app arguments ≡ b → AreNotTaken arguments (kind_of e)
     by_test true is_taken = absurd (other (passes is_taken))
     by_test false is_refused = record { app = app; is_csvtable = is; not_taken = is_refused; is_kind = known kinds }

@@ -1,16 +1,16 @@
--- What is said of words that ask for no drawing, and of an input that can't be drawn as they ask.
+-- What is said of arguments that ask for no drawing, and of an input that can't be drawn as they ask.
 use Rattle.std.proofs.Common.{◌≡◌, ◌≢◌, ◌⊎◌, inl, inr, List, refl}
 use Rattle.clap.specs.Words.{kind_of}
 use Rattle.clap.specs.declared.error.Error.{Error}
 use Rattle.clap.specs.declared.error.kind.ErrorKind.{ErrorKind}
 use Rattle.clap.specs.declared.error.kind.ErrorKind.TheVariants as kind
 use Rattle.comfy_parts.specs.Text.{Text}
-use Rattle.csv_command.specs.Refusals.{IsRefusalByKind, IsRefusalOfInput, IsRefusedFor, no_surroundings}
+use Rattle.csv_command.specs.Refusals.{IsRefusalByKind, IsRefusalOfInput, IsRefusedFor, not_a_terminal}
 use Rattle.csv_tables.specs.Run.{IsInputFault, IsInputRefusal}
 use Rattle.csv_command.specs.declared.drawing.Refusal.{Refusal}
-use Rattle.csv_command.specs.declared.drawing.Refusal.TheVariants.{Words, Input, OutOfMemory}
-use Rattle.csv_command.specs.Words.{AreFoundInVain, AreNotTaken, IsAsked, IsWordRefusal}
-use Rattle.csv_command.specs.declared.arguments.Asked.{Asked}
+use Rattle.csv_command.specs.declared.drawing.Refusal.TheVariants.{Arguments, Input, OutOfMemory}
+use Rattle.csv_command.specs.Arguments.{AreFoundInVain, AreNotTaken, IsParsed, IsRefusedBy}
+use Rattle.csv_command.specs.declared.arguments.Invocation.{Invocation}
 use Rattle.csv_tables.specs.declared.error.CsvError.{CsvError}
 use Rattle.csv_tables.specs.declared.error.CsvError.TheVariants as err
 use Rattle.csv_tables.specs.declared.options.Options.{Options}
@@ -21,17 +21,17 @@ fault_of options input err.OutOfMemory other why = absurd (other refl)
 fault_of options input e other why = why
 
 -- so the refusal is of the input
-pub refused_input : (words : List Text) (input : Text) (asked : Asked) → IsAsked words no_surroundings asked → (e : CsvError) → IsInputRefusal asked.options input e → (refusal : Refusal) → IsRefusalOfInput asked e refusal → IsRefusedFor words input refusal
-refused_input words input asked is_asked e why (Words message) is = absurd is
-refused_input words input asked is_asked e why (Input message) is = record { asked = asked; is_asked = is_asked; error = e; is_fault = fault_of asked.options input e is.0 why; is_line = is.1 }
-refused_input words input asked is_asked e why OutOfMemory is = tt
+pub refused_input : (arguments : List Text) (input : Text) (invocation : Invocation) → IsParsed arguments not_a_terminal invocation → (e : CsvError) → IsInputRefusal invocation.options input e → (refusal : Refusal) → IsRefusalOfInput invocation e refusal → IsRefusedFor arguments input refusal
+refused_input arguments input invocation is_asked e why (Arguments message) is = absurd is
+refused_input arguments input invocation is_asked e why (Input message) is = record { invocation = invocation; is_asked = is_asked; error = e; is_fault = fault_of invocation.options input e is.0 why; is_line = is.1 }
+refused_input arguments input invocation is_asked e why OutOfMemory is = tt
 
--- where clap has something to say, the words are at fault
-pub refused_words : (words : List Text) (input : Text) (e : Error) → IsWordRefusal words e → (refusal : Refusal) → IsRefusalByKind (kind_of e) refusal → IsRefusedFor words input refusal
-refused_words words input e why (Words message) is = record { in_vain = by_reason (why is.0); harmless = is.1 }
+-- where clap has something to say, the arguments are at fault
+pub refused_arguments : (arguments : List Text) (input : Text) (e : Error) → IsRefusedBy arguments e → (refusal : Refusal) → IsRefusalByKind (kind_of e) refusal → IsRefusedFor arguments input refusal
+refused_arguments arguments input e why (Arguments message) is = record { in_vain = by_reason (why is.0); harmless = is.1 }
   where
-    by_reason : (AreNotTaken words (kind_of e) ⊎ (AreFoundInVain words × (kind_of e ≡ kind.InvalidValue))) → ((k : ErrorKind) × AreNotTaken words k) ⊎ AreFoundInVain words
+    by_reason : (AreNotTaken arguments (kind_of e) ⊎ (AreFoundInVain arguments × (kind_of e ≡ kind.InvalidValue))) → ((k : ErrorKind) × AreNotTaken arguments k) ⊎ AreFoundInVain arguments
     by_reason (inl not_taken) = inl (kind_of e, not_taken)
     by_reason (inr in_vain) = inr in_vain.0
-refused_words words input e why (Input message) is = absurd is
-refused_words words input e why OutOfMemory is = tt
+refused_arguments arguments input e why (Input message) is = absurd is
+refused_arguments arguments input e why OutOfMemory is = tt

@@ -1,4 +1,4 @@
--- Each style that words can ask for has characters of one terminal column.
+-- Each style that arguments can ask for has characters of one terminal column.
 use Rattle.std.proofs.Common.{◌≡◌, true, List, [], ◌∷◌, Option, Some, None, codes, option_map, unwrap_or, refl, subst, sym}
 use Rattle.std.proofs.lemmas.Bool.{and_parts, cond_both}
 use Rattle.std.specs.List.{find, list_all}
@@ -11,9 +11,9 @@ use Rattle.comfy_parts.specs.declared.style.table_style.TableStyle.{TableStyle}
 use Rattle.clap.specs.Words.{first_value}
 use Rattle.csv_command.proofs.StyleLemmas.{styles_without_controls}
 use Rattle.csv_tables.specs.Controls.{IsStyleWithoutControls}
-use Rattle.csv_command.specs.Words.{IsAsked}
-use Rattle.csv_command.specs.declared.arguments.Asked.{Asked}
-use Rattle.csv_command.specs.declared.arguments.Surroundings.{Surroundings}
+use Rattle.csv_command.specs.Arguments.{IsParsed}
+use Rattle.csv_command.specs.declared.arguments.Invocation.{Invocation}
+use Rattle.csv_command.specs.declared.arguments.OutputContext.{OutputContext}
 use Rattle.csv_command.specs.Styles.{is_named, own_styles, style_for, style_within}
 
 -- a style, or `UTF8_FULL` in the place of none, has such characters
@@ -36,11 +36,11 @@ styles_are_one_column None = one_column_characters (style_for None) refl
 styles_are_one_column (Some word) =
     one_column_characters (style_for (Some word)) (first_frame (style_within own_styles word) (style_within named_presets word) (found_frame own_styles word refl) (found_frame named_presets word refl))
 
--- ---- styles of words
+-- ---- styles of arguments
 
-module _ (words : List Text) (surroundings : Surroundings) (asked : Asked) (is : IsAsked words surroundings asked) where
-  pub asked_style_is_one_column : IsOneColumnStyle asked.options.look.style
-  asked_style_is_one_column = subst IsOneColumnStyle (sym is.options.look.style) (styles_are_one_column (first_value is.found (codes "style")))
+module _ (arguments : List Text) (context : OutputContext) (invocation : Invocation) (is : IsParsed arguments context invocation) where
+  pub parsed_style_is_one_column : IsOneColumnStyle invocation.options.look.style
+  parsed_style_is_one_column = subst IsOneColumnStyle (sym is.options.look.style) (styles_are_one_column (first_value is.found (codes "style")))
 
-  pub asked_style_without_controls : IsStyleWithoutControls asked.options.look.style
-  asked_style_without_controls = subst IsStyleWithoutControls (sym is.options.look.style) (styles_without_controls (first_value is.found (codes "style")))
+  pub parsed_style_without_controls : IsStyleWithoutControls invocation.options.look.style
+  parsed_style_without_controls = subst IsStyleWithoutControls (sym is.options.look.style) (styles_without_controls (first_value is.found (codes "style")))

@@ -1,4 +1,4 @@
--- No style that words can ask for has a control character.
+-- No style that arguments can ask for has a control character.
 use Rattle.std.proofs.Common.{◌≡◌, ℕ, Bool, false, List, [], ◌∷◌, Option, Some, None, option_map, unwrap_or, refl}
 use Rattle.std.proofs.lemmas.Bool.{cond_both, or_parts}
 use Rattle.std.specs.Char.{is_control}

@@ -6,7 +6,7 @@ use Rattle.clap.specs.Words.{ReadsOne}
 use Rattle.csv_records.proofs.NumeralLemmas.{read}
 use Rattle.csv_records.specs.Numerals.{number_for}
 
--- what `get_one` gives of what clap found, at a type that reads words as `parse` reads numbers of so many bits
+-- what `get_one` gives of what clap found, at a type that reads arguments as `parse` reads numbers of so many bits
 module _ (bits : ℕ) (E : Type 0) (G : List ℕ → Result ℕ E → Type 0) (only : (word : List ℕ) (r : Result ℕ E) → G word r → ParsesUnsigned bits 10 word r) where
   of_word : (word : List ℕ) (number : Option ℕ) → ReadsOne G word number → number ≡ number_for bits (without_leading_plus word)
   of_word word (Some n) h = read bits word {E = E} (Ok n) (only word (Ok n) h)

@@ -8,7 +8,7 @@ use Rattle.clap.specs.declared.error.kind.ErrorKind.TheVariants as kind
 use Rattle.comfy_parts.specs.Text.{Text}
 use Rattle.csv_records.specs.Cleaning.{is_harmful, nothing_kept}
 use Rattle.csv_records.specs.Shown.{shown_text}
-use Rattle.csv_command.specs.declared.arguments.Asked.{Asked}
+use Rattle.csv_command.specs.declared.arguments.Invocation.{Invocation}
 use Rattle.csv_records.specs.declared.encoding.Encoding.{Encoding}
 use Rattle.csv_records.specs.declared.error.DecodeError.{DecodeError}
 use Rattle.csv_records.specs.declared.error.DecodeError.TheVariants as decode
@@ -18,7 +18,7 @@ use Rattle.csv_tables.specs.declared.error.ColumnsError.{ColumnsError}
 use Rattle.csv_tables.specs.declared.error.ColumnsError.TheVariants as columns
 use Rattle.csv_tables.specs.declared.error.CsvError.{CsvError}
 use Rattle.csv_tables.specs.declared.error.CsvError.TheVariants as err
-use Rattle.csv_command.specs.declared.ending.Drawing.{Drawing}
+use Rattle.csv_command.specs.declared.ending.Outcome.{Outcome}
 use Rattle.csv_command.specs.declared.ending.Ending.{Ending}
 use Rattle.csv_command.specs.declared.ending.Said.{Said}
 use Rattle.csv_command.specs.declared.ending.Said.TheVariants as said
@@ -89,14 +89,14 @@ about true file = (codes "csvtable: " ++ input_name file) ++ codes ": "
 about false file = codes "csvtable: "
 
 -- the line on an error
-abbrev pub message_for : Asked → Option IoErrorKind → CsvError → Text
-message_for asked fault e =
-    (about (is_of_input e) (option_map string_bytes asked.file)
-    ++ reason_for asked.options.input.encoding fault e) ++ codes "\n"
+abbrev pub message_for : Invocation → Option IoErrorKind → CsvError → Text
+message_for invocation fault e =
+    (about (is_of_input e) (option_map string_bytes invocation.file)
+    ++ reason_for invocation.options.input.encoding fault e) ++ codes "\n"
 
--- the line where a word isn't UTF-8
-abbrev pub word_not_utf8 : Text
-word_not_utf8 = codes "csvtable: a word isn't UTF-8\n"
+-- the line where an argument isn't UTF-8
+abbrev pub argument_not_utf8 : Text
+argument_not_utf8 = codes "csvtable: a word isn't UTF-8\n"
 
 -- the line where the output can't be written
 abbrev pub output_unwritten : Text
@@ -109,7 +109,7 @@ no_memory = codes "csvtable: out of memory\n"
 abbrev pub text_of : Said → Text
 text_of said.Nothing = []
 text_of said.OutOfMemory = no_memory
-text_of said.NotUtf8 = word_not_utf8
+text_of said.NotUtf8 = argument_not_utf8
 text_of said.Unwritten = output_unwritten
 text_of (said.Text text) = string_bytes text
 
@@ -139,16 +139,16 @@ pub record IsMessage (n : ℕ) (P : Text → Type 0) (ending : Ending) : Type 0 
   pub said : Says P ending.said
 
 -- the end after an error, by whether the reader of the output has ended: then nothing is said
-abbrev pub IsEndOfError : Drawing → CsvError → Bool → Ending → Type 0
+abbrev pub IsEndOfError : Outcome → CsvError → Bool → Ending → Type 0
 IsEndOfError drawing err.Write true ending = IsSilent 1 ending
 IsEndOfError drawing err.Write false ending = IsLine 1 said.Unwritten ending
 IsEndOfError drawing err.OutOfMemory is_unread ending = IsLine 1 said.OutOfMemory ending
 IsEndOfError drawing e is_unread ending =
-    IsMessage 1 (λ text. text ≡ message_for drawing.asked.now drawing.fault e) ending
+    IsMessage 1 (λ text. text ≡ message_for drawing.invocation.now drawing.fault e) ending
 
 -- the end of a drawing, by its result
-abbrev pub IsEndOfDrawing : Drawing → Ending → Type 0
-IsEndOfDrawing drawing ending =
+abbrev pub IsEndOfOutcome : Outcome → Ending → Type 0
+IsEndOfOutcome drawing ending =
     MatchResult drawing.result (λ _. IsSilent 0 ending)
     (λ e. IsEndOfError drawing e drawing.is_unread ending)
 
@@ -163,14 +163,14 @@ pub record IsHelp (ending : Ending) : Type 0 where
   pub said : Says IsHarmless ending.said
 
 -- the end where clap has something to say, by its kind
-abbrev pub IsEndOfWords : ErrorKind → Ending → Type 0
-IsEndOfWords kind.OutOfMemory ending = IsLine 1 said.OutOfMemory ending
-IsEndOfWords kind.DisplayHelp ending = IsHelp ending
-IsEndOfWords kind.DisplayVersion ending = IsHelp ending
-IsEndOfWords _ ending = IsMessage 2 IsHarmless ending
+abbrev pub IsEndOfRefusal : ErrorKind → Ending → Type 0
+IsEndOfRefusal kind.OutOfMemory ending = IsLine 1 said.OutOfMemory ending
+IsEndOfRefusal kind.DisplayHelp ending = IsHelp ending
+IsEndOfRefusal kind.DisplayVersion ending = IsHelp ending
+IsEndOfRefusal _ ending = IsMessage 2 IsHarmless ending
 
--- the end where words couldn't be read, by the kind of fault: one isn't UTF-8, or there is no
+-- the end where arguments couldn't be read, by the kind of fault: one isn't UTF-8, or there is no
 -- memory
-abbrev pub IsEndWithoutWords : IoErrorKind → Ending → Type 0
-IsEndWithoutWords io.InvalidData ending = IsLine 2 said.NotUtf8 ending
-IsEndWithoutWords _ ending = IsLine 1 said.OutOfMemory ending
+abbrev pub IsEndWithoutArguments : IoErrorKind → Ending → Type 0
+IsEndWithoutArguments io.InvalidData ending = IsLine 2 said.NotUtf8 ending
+IsEndWithoutArguments _ ending = IsLine 1 said.OutOfMemory ending

@@ -1,39 +1,41 @@
--- What is so of all that words ask for.
+-- What is so of all that arguments ask for.
 use Rattle.std.specs.Prelude.{◌≡◌, false, List, option_map, string_bytes}
 use Rattle.comfy_parts.specs.Text.{Text}
 use Rattle.comfy_parts.specs.VisibleText.{visible_text}
-use Rattle.csv_command.specs.Refusals.{IsDrawnFor, no_surroundings}
-use Rattle.csv_command.specs.Words.{IsAsked}
-use Rattle.csv_command.specs.declared.arguments.Asked.{Asked}
-use Rattle.csv_command.specs.declared.arguments.Surroundings.{Surroundings}
+use Rattle.csv_command.specs.Refusals.{IsRendered, not_a_terminal}
+use Rattle.csv_command.specs.Arguments.{IsParsed}
+use Rattle.csv_command.specs.declared.arguments.Invocation.{Invocation}
+use Rattle.csv_command.specs.declared.arguments.OutputContext.{OutputContext}
 use Rattle.csv_tables.specs.Controls.{HasNoStrayControl}
-use Rattle.csv_tables.specs.Drawn.{IsOutputFor}
+use Rattle.csv_tables.specs.Drawn.{RendersInput}
 use Rattle.csv_tables.specs.OneOutput.{AreSameOptions}
 
--- nor of any output that words ask for, unless they ask for raw fields
-abbrev pub AskedOutputHoldsNoControls : List Text → Surroundings → Asked → Text → Text → Type 0
-AskedOutputHoldsNoControls words surroundings asked input output =
-    IsAsked words surroundings asked → asked.options.look.is_raw ≡ false
-    → IsOutputFor asked.options input output
+-- nor of any output that arguments ask for, unless they ask for raw fields
+abbrev pub ParsedOutputHoldsNoControls : List Text → OutputContext → Invocation → Text → Text
+    → Type 0
+ParsedOutputHoldsNoControls arguments context invocation input output =
+    IsParsed arguments context invocation → invocation.options.look.is_raw ≡ false
+    → RendersInput invocation.options input output
     → HasNoStrayControl (visible_text output)
 
--- nothing harmful is visible of a drawing for words, unless they ask for raw fields
-abbrev pub DrawnHoldsNoControls : List Text → Asked → Text → Text → Type 0
-DrawnHoldsNoControls words asked input drawing =
-    IsAsked words no_surroundings asked → asked.options.look.is_raw ≡ false
-    → IsDrawnFor words input drawing → HasNoStrayControl (visible_text drawing)
+-- nothing harmful is visible of a drawing for arguments, unless they ask for raw fields
+abbrev pub DrawnHoldsNoControls : List Text → Invocation → Text → Text → Type 0
+DrawnHoldsNoControls arguments invocation input drawing =
+    IsParsed arguments not_a_terminal invocation → invocation.options.look.is_raw ≡ false
+    → IsRendered arguments input drawing → HasNoStrayControl (visible_text drawing)
 
 -- two things that are asked for are the same but for where their texts are held
-pub record AreSameAsked (asked other : Asked) : Type 0 where
-  pub options : AreSameOptions asked.options other.options
-  pub file : option_map string_bytes asked.file ≡ option_map string_bytes other.file
+pub record AreSameInvocations (invocation other : Invocation) : Type 0 where
+  pub options : AreSameOptions invocation.options other.options
+  pub file : option_map string_bytes invocation.file ≡ option_map string_bytes other.file
 
--- the same words ask for one thing, where the output goes to the same place
-abbrev pub AskedIsOne : List Text → Surroundings → Asked → Asked → Type 0
-AskedIsOne words surroundings asked other =
-    IsAsked words surroundings asked → IsAsked words surroundings other → AreSameAsked asked other
+-- the same arguments ask for one thing, where the output goes to the same place
+abbrev pub InvocationIsOne : List Text → OutputContext → Invocation → Invocation → Type 0
+InvocationIsOne arguments context invocation other =
+    IsParsed arguments context invocation → IsParsed arguments context other
+    → AreSameInvocations invocation other
 
--- so two drawings for the same words and bytes are equal
+-- so two drawings for the same arguments and bytes are equal
 abbrev pub DrawnIsOne : List Text → Text → Text → Text → Type 0
-DrawnIsOne words input drawing other =
-    IsDrawnFor words input drawing → IsDrawnFor words input other → drawing ≡ other
+DrawnIsOne arguments input drawing other =
+    IsRendered arguments input drawing → IsRendered arguments input other → drawing ≡ other

@@ -1,7 +1,7 @@
+pub mod Arguments
 pub mod Ending
 pub mod Laws
 pub mod Program
 pub mod Refusals
 pub mod Rules
 pub mod Styles
-pub mod Words

@@ -1,4 +1,4 @@
--- The words that `csvtable` knows, as clap has them.
+-- The arguments that `csvtable` knows, as clap has them.
 use Rattle.std.specs.Prelude.{◌≡◌, ℕ, ◌-◌, ◌^◌, pos, true, List, [], ◌∷◌, Option, Some, None, codes, map}
 use Rattle.clap.specs.Words.{App, Rule, new_app, new_rule}
 use Rattle.clap.specs.declared.builder.action.ArgAction.TheVariants.{SetTrue}
@@ -88,8 +88,8 @@ bare rule = (record rule { parser = unnamed rule.parser }, value_names rule.pars
 abbrev pub with_rules : App → List Rule → App
 with_rules app rules = record app { top = record app.top { rules = rules } }
 
--- the program's command without its words: it has a version, and of two equal options the last one
--- counts
+-- the program's command without its arguments: it has a version, and of two equal options the last
+-- one counts
 abbrev pub wordless : App
 wordless =
     record (new_app (codes "csvtable")) {
@@ -97,7 +97,7 @@ wordless =
           { has_version = true; args_override_self = true };
     }
 
--- a command that reads words as the program does
+-- a command that reads arguments as the program does
 pub record IsCsvtable (app : App) : Type 0 where
   pub is_wordless : with_rules app [] ≡ wordless
   pub rules : map bare app.top.rules ≡ csvtable_rules

@@ -1,59 +1,60 @@
--- What comes of words and an input, the output going to no terminal: a drawing, or why there is
+-- What comes of arguments and an input, the output going to no terminal: a drawing, or why there is
 -- none.
 use Rattle.std.specs.Prelude.{◌≡◌, ◌≢◌, ◌⊎◌, false, List, None, string_bytes}
 use Rattle.clap.specs.declared.error.kind.ErrorKind.{ErrorKind}
 use Rattle.clap.specs.declared.error.kind.ErrorKind.TheVariants as kind
 use Rattle.comfy_parts.specs.Text.{Text}
-use Rattle.csv_command.specs.Words.{AreFoundInVain, AreNotTaken, IsAsked}
-use Rattle.csv_command.specs.declared.arguments.Asked.{Asked}
-use Rattle.csv_command.specs.declared.arguments.Surroundings.{Surroundings}
+use Rattle.csv_command.specs.Arguments.{AreFoundInVain, AreNotTaken, IsParsed}
+use Rattle.csv_command.specs.declared.arguments.Invocation.{Invocation}
+use Rattle.csv_command.specs.declared.arguments.OutputContext.{OutputContext}
 use Rattle.csv_tables.specs.declared.error.CsvError.{CsvError}
 use Rattle.csv_tables.specs.declared.error.CsvError.TheVariants as err
-use Rattle.csv_tables.specs.Drawn.{IsOutputFor}
+use Rattle.csv_tables.specs.Drawn.{RendersInput}
 use Rattle.csv_command.specs.Ending.{IsHarmless, message_for}
 use Rattle.csv_tables.specs.Run.{IsInputFault}
 use Rattle.csv_command.specs.declared.drawing.Refusal.{Refusal}
-use Rattle.csv_command.specs.declared.drawing.Refusal.TheVariants.{Words, Input, OutOfMemory}
+use Rattle.csv_command.specs.declared.drawing.Refusal.TheVariants.{Arguments, Input, OutOfMemory}
 
 -- no terminal, and neither COLUMNS nor NO_COLOR
-abbrev pub no_surroundings : Surroundings
-no_surroundings = record { is_terminal = false; columns = None; no_color = None }
+abbrev pub not_a_terminal : OutputContext
+not_a_terminal = record { is_terminal = false; columns = None; no_color = None }
 
--- the output for the input, as the words ask for it
-pub record IsDrawnFor (words : List Text) (input drawing : Text) : Type 0 where
-  pub asked : Asked
-  pub is_asked : IsAsked words no_surroundings asked
-  pub is_output : IsOutputFor asked.options input drawing
+-- the output for the input, as the arguments ask for it
+pub record IsRendered (arguments : List Text) (input drawing : Text) : Type 0 where
+  pub invocation : Invocation
+  pub is_asked : IsParsed arguments not_a_terminal invocation
+  pub is_output : RendersInput invocation.options input drawing
 
--- the line on an input that can't be drawn as the words ask
-pub record IsSaidOfInput (words : List Text) (input message : Text) : Type 0 where
-  pub asked : Asked
-  pub is_asked : IsAsked words no_surroundings asked
+-- the line on an input that can't be drawn as the arguments ask
+pub record IsSaidOfInput (arguments : List Text) (input message : Text) : Type 0 where
+  pub invocation : Invocation
+  pub is_asked : IsParsed arguments not_a_terminal invocation
   pub error : CsvError
-  pub is_fault : IsInputFault asked.options input error
-  pub is_line : message ≡ message_for asked None error
+  pub is_fault : IsInputFault invocation.options input error
+  pub is_line : message ≡ message_for invocation None error
 
--- the text on words that ask for no drawing
-pub record IsSaidOfWords (words : List Text) (message : Text) : Type 0 where
-  pub in_vain : ((kind : ErrorKind) × AreNotTaken words kind) ⊎ AreFoundInVain words
+-- the text on arguments that ask for no drawing
+pub record IsSaidOfArguments (arguments : List Text) (message : Text) : Type 0 where
+  pub in_vain : ((kind : ErrorKind) × AreNotTaken arguments kind) ⊎ AreFoundInVain arguments
   pub harmless : IsHarmless message
 
 -- why there is no drawing
 abbrev pub IsRefusedFor : List Text → Text → Refusal → Type 0
-IsRefusedFor words input (Words message) = IsSaidOfWords words (string_bytes message)
-IsRefusedFor words input (Input message) = IsSaidOfInput words input (string_bytes message)
-IsRefusedFor words input OutOfMemory = Unit {0}
+IsRefusedFor arguments input (Arguments message) =
+    IsSaidOfArguments arguments (string_bytes message)
+IsRefusedFor arguments input (Input message) = IsSaidOfInput arguments input (string_bytes message)
+IsRefusedFor arguments input OutOfMemory = Unit {0}
 
--- the refusal of words for which clap has something to say, by its kind
+-- the refusal of arguments for which clap has something to say, by its kind
 abbrev pub IsRefusalByKind : ErrorKind → Refusal → Type 0
-IsRefusalByKind found (Words message) =
+IsRefusalByKind found (Arguments message) =
     (found ≢ kind.OutOfMemory) × IsHarmless (string_bytes message)
 IsRefusalByKind found (Input message) = ⊥
 IsRefusalByKind found OutOfMemory = Unit {0}
 
 -- the refusal of an input, by the error that it comes of
-abbrev pub IsRefusalOfInput : Asked → CsvError → Refusal → Type 0
-IsRefusalOfInput asked e (Words message) = ⊥
-IsRefusalOfInput asked e (Input message) =
-    (e ≢ err.OutOfMemory) × (string_bytes message ≡ message_for asked None e)
-IsRefusalOfInput asked e OutOfMemory = Unit {0}
+abbrev pub IsRefusalOfInput : Invocation → CsvError → Refusal → Type 0
+IsRefusalOfInput invocation e (Arguments message) = ⊥
+IsRefusalOfInput invocation e (Input message) =
+    (e ≢ err.OutOfMemory) × (string_bytes message ≡ message_for invocation None e)
+IsRefusalOfInput invocation e OutOfMemory = Unit {0}

@@ -1,4 +1,4 @@
--- Private: what a word of the program's table is for clap.
+-- Private: what an argument of the program's table is for clap.
 use Rattle.std.specs.Prelude.{ℕ, ◌-◌, ◌^◌, pos, true, List, [], Option, Some, None}
 use Rattle.clap.specs.Words.{Rule, new_rule}
 use Rattle.clap.specs.declared.builder.action.ArgAction.TheVariants.{SetTrue}
@@ -6,9 +6,9 @@ use Rattle.clap.specs.declared.builder.value_parser.ValueParser.TheVariants as v
 use Rattle.comfy_parts.specs.Text.{Text}
 use Rattle.csv_command.specs.Program.{bare, encodings, whens}
 use Rattle.csv_command.specs.Styles.{style_names}
-use Rattle.csv_command.specs.declared.words.Kind.{Kind}
-use Rattle.csv_command.specs.declared.words.Kind.TheVariants as kind
-use Rattle.csv_command.specs.declared.words.Word.{Word}
+use Rattle.csv_command.specs.declared.options.Kind.{Kind}
+use Rattle.csv_command.specs.declared.options.Kind.TheVariants as kind
+use Rattle.csv_command.specs.declared.options.OptionSpec.{OptionSpec}
 
 abbrev pub lettered : Option ℕ → Rule → Rule
 lettered None rule = rule
@@ -26,14 +26,14 @@ with_values kind.Encoding known =
     (record known.0 { parser = Some vp.String; ignore_case = true }, encodings)
 with_values _ known = known
 
--- a word with a value or without one
+-- an argument with a value or without one
 abbrev pub of_kind : Kind → Text → Rule → Rule
 of_kind kind.File name rule = record rule { value_names = 1 }
 of_kind kind.Flag name rule = record rule { long = Some name; action = Some SetTrue }
 of_kind kind.Letter name rule = record rule { action = Some SetTrue }
 of_kind kind name rule = record rule { long = Some name; value_names = 1 }
 
-unfoldable pub rule_for : Word → Rule × List Text
+unfoldable pub rule_for : OptionSpec → Rule × List Text
 rule_for word =
     with_values word.kind
     (bare (of_kind word.kind word.name.now (lettered word.letter (new_rule word.name.now))))

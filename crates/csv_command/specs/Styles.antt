@@ -1,4 +1,4 @@
--- The styles that words name.
+-- The styles that arguments name.
 use Rattle.std.specs.Prelude.{Bool, true, ◌||◌, List, [], ◌∷◌, ◌++◌, Option, Some, None, codes, find, map, option_map, unwrap_or}
 use Rattle.std.specs.Option.{option_or}
 use Rattle.std.specs.Str.{str_eq_ignore_ascii_case}
@@ -7,7 +7,7 @@ use Rattle.comfy_parts.specs.StyleModifiers.{with_rounded_corners}
 use Rattle.comfy_parts.specs.Text.{Text}
 use Rattle.comfy_parts.specs.declared.style.table_style.TableStyle.{TableStyle}
 
--- a word is this name, in any case of letters
+-- an argument is this name, in any case of letters
 abbrev pub is_named : Text → Text → Bool
 is_named name word = str_eq_ignore_ascii_case name word
 
@@ -30,7 +30,7 @@ own_styles =
 abbrev pub style_names : List Text
 style_names = map (λ entry. entry.0) own_styles ++ map (λ entry. entry.0) named_presets
 
--- the style of the first of these names that a word is
+-- the style of the first of these names that an argument is
 abbrev pub style_within : List (Text × TableStyle) → Text → Option TableStyle
 style_within styles word =
     option_map (λ entry. entry.1) (find (λ entry. is_named entry.0 word) styles)

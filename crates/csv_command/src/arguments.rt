@@ -1,14 +1,14 @@
-//! The words after the program's name, and what they ask for.
+//! The arguments after the program's name, and what they ask for.
 
 ghost use Rattle.std.specs.Prelude.{◌≡◌, ◌≢◌, ◌==◌, ◌&&◌, IfOk, IfErr, Some, codes, map, option_map, string_bytes};
 ghost use Rattle.std.specs.List.{list_any, slice_split};
 ghost use Rattle.clap.specs.Words.{app_of, first_value, found_of, kind_of};
 ghost use Rattle.clap.specs.declared.error.kind.ErrorKind.TheVariants.{InvalidValue, OutOfMemory};
 ghost use Rattle.csv_command.specs.Program.{IsCsvtable};
-ghost use Rattle.csv_command.specs.Words.{InputIsAsked, IsAsked, IsWordRefusal, LookIsAsked, OptionsAreAsked, SelectionIsAsked, are_exclusive, delimiter_by, delimiter_for, encoding_for, expansion_for, file_for, has_end, is_bold_for, is_bold_there, is_given, is_markdown_in, separators_for, some_columns, some_width, terminal_width, wanted_delimiter, wants_color, width_for, words_in};
+ghost use Rattle.csv_command.specs.Arguments.{IsInputParsed, IsParsed, IsRefusedBy, IsLookParsed, AreOptionsParsed, IsSelectionParsed, are_exclusive, delimiter_by, delimiter_for, encoding_for, expansion_for, file_for, has_end, is_bold_for, is_bold_there, is_given, is_markdown_in, separators_for, some_columns, some_width, terminal_width, wanted_delimiter, wants_color, width_for, words_in};
 
+use crate::options::command;
 use crate::styles::{is_compact, is_named, style_names, style_of};
-use crate::words::command;
 use clap::error::ErrorKind;
 use clap::parser::ArgMatches;
 use clap::{Command, Error};
@@ -38,18 +38,18 @@ static NOT_BESIDE_MARKDOWN: [&str; 7] = [
     "raw",
 ];
 
-/// What the words ask for.
+/// What the arguments ask for.
 #[derive(Debug)]
-pub struct Asked {
+pub struct Invocation {
     /// How the records are drawn.
     pub options: Options,
     /// The file to read; standard input where there is none.
     pub file: Option<String>,
 }
 
-impl Drop for Asked {
+impl Drop for Invocation {
     fn drop(self) {
-        let Asked {
+        let Invocation {
             options: _,
             file: _,
         } = self;
@@ -58,7 +58,7 @@ impl Drop for Asked {
 
 /// What is known of where the output goes.
 #[derive(Clone, Copy, Debug)]
-pub struct Surroundings<'a> {
+pub struct OutputContext<'a> {
     /// Whether standard output is a terminal.
     pub is_terminal: bool,
     /// What the environment has as `COLUMNS`, where that is text.
@@ -67,36 +67,36 @@ pub struct Surroundings<'a> {
     pub no_color: Option<&'a str>,
 }
 
-/// What these words ask for; the first one is the program's name. Help, the version and words that
-/// aren't known are returned as errors, as clap has them, and so are options that exclude each
-/// other, and a delimiter that is none. All that is asked for follows from the values that clap
-/// finds for the program's options, and from the surroundings.
-pub fn asked_of<'a>(
+/// What these arguments ask for; the first one is the program's name. Help, the version and
+/// arguments that aren't known are returned as errors, as clap has them, and so are options that
+/// exclude each other, and a delimiter that is none. All that is asked for follows from the values
+/// that clap finds for the program's options, and from the context.
+pub fn parse<'a>(
     alloc: Global,
-    words: &'a [&'a str],
-    surroundings: Surroundings<'_>,
-) -> Result<Asked, Error>
-    ensures ok { IfOk result (λ asked.
-        IsAsked (map (λ w. w.now) words.entry.now) surroundings.entry asked) }
-    ensures refused { IfErr result (λ e. IsWordRefusal (map (λ w. w.now) words.entry.now) e) }
+    arguments: &'a [&'a str],
+    context: OutputContext<'_>,
+) -> Result<Invocation, Error>
+    ensures ok { IfOk result (λ invocation.
+        IsParsed (map (λ w. w.now) arguments.entry.now) context.entry invocation) }
+    ensures refused { IfErr result (λ e. IsRefusedBy (map (λ w. w.now) arguments.entry.now) e) }
 {
     let styles = style_names(alloc)?;
     let mut command = command(alloc, styles.as_slice())?;
-    asked_by(alloc, &mut command, words, surroundings)
+    parse_by(alloc, &mut command, arguments, context)
 }
 
-fn asked_by<'a>(
+fn parse_by<'a>(
     alloc: Global,
     command: &mut Command<'a>,
-    words: &'a [&'a str],
-    surroundings: Surroundings<'_>,
-) -> Result<Asked, Error>
+    arguments: &'a [&'a str],
+    context: OutputContext<'_>,
+) -> Result<Invocation, Error>
     requires { IsCsvtable (app_of command.old) }
-    ensures ok { IfOk result (λ asked.
-        IsAsked (map (λ w. w.now) words.entry.now) surroundings.entry asked) }
-    ensures refused { IfErr result (λ e. IsWordRefusal (map (λ w. w.now) words.entry.now) e) }
+    ensures ok { IfOk result (λ invocation.
+        IsParsed (map (λ w. w.now) arguments.entry.now) context.entry invocation) }
+    ensures refused { IfErr result (λ e. IsRefusedBy (map (λ w. w.now) arguments.entry.now) e) }
 {
-    let matches = command.try_get_matches_from_mut(words)?;
+    let matches = command.try_get_matches_from_mut(arguments)?;
     if are_exclusive(&matches) {
         return Err(refusal(
             command,
@@ -106,7 +106,7 @@ fn asked_by<'a>(
         ));
     }
     match wanted_delimiter(&matches) {
-        Some(delimiter) => Ok(asked_with(alloc, &matches, delimiter, surroundings)?),
+        Some(delimiter) => Ok(invocation_of(alloc, &matches, delimiter, context)?),
         None => Err(refusal(
             command,
             "the delimiter is one ASCII character, `tab` or `auto`; it's no quote and no line end",
@@ -115,25 +115,25 @@ fn asked_by<'a>(
 }
 
 // What the matches ask for, the delimiter being known.
-fn asked_with<'a>(
+fn invocation_of<'a>(
     alloc: Global,
     matches: &ArgMatches<'a>,
     delimiter: Delimiter,
-    surroundings: Surroundings<'_>,
-) -> Result<Asked, AllocError>
+    context: OutputContext<'_>,
+) -> Result<Invocation, AllocError>
     requires { wanted_delimiter (found_of matches.now) ≡ Some delimiter }
-    ensures options { IfOk result (λ asked.
-        OptionsAreAsked surroundings.entry (found_of matches.now) asked.options) }
-    ensures file { IfOk result (λ asked. option_map string_bytes asked.file
+    ensures options { IfOk result (λ invocation.
+        AreOptionsParsed context.entry (found_of matches.now) invocation.options) }
+    ensures file { IfOk result (λ invocation. option_map string_bytes invocation.file
         ≡ file_for (first_value (found_of matches.now) (codes "file"))) }
 {
-    Ok(Asked {
-        options: options_of(alloc, matches, delimiter, surroundings)?,
+    Ok(Invocation {
+        options: options_of(alloc, matches, delimiter, context)?,
         file: file_of(alloc, matches.get_str("file"))?,
     })
 }
 
-// The words are refused for this reason.
+// The arguments are refused for this reason.
 fn refusal<'a>(command: &mut Command<'a>, reason: &str) -> Error
     ensures { (kind_of result ≢ OutOfMemory) → kind_of result ≡ InvalidValue }
 {
@@ -185,7 +185,7 @@ fn is_given<'a>(matches: &ArgMatches<'a>, id: &str) -> bool
     }
 }
 
-// The file that a word names; none for standard input.
+// The file that an argument names; none for standard input.
 fn file_of(alloc: Global, word: Option<&str>) -> Result<Option<String>, AllocError>
     ensures { IfOk result (λ file. option_map string_bytes file
         ≡ file_for (option_map (λ w. w.now) word.entry)) }
@@ -207,7 +207,7 @@ fn wanted_delimiter<'a>(matches: &ArgMatches<'a>) -> Option<Delimiter>
     }
 }
 
-// What a word asks for, of a file with this name.
+// What an argument asks for, of a file with this name.
 fn delimiter_of(word: Option<&str>, file: Option<&str>) -> Option<Delimiter>
     ensures { result ≡ delimiter_for (option_map (λ w. w.now) word.entry)
         (option_map (λ f. f.now) file.entry) }
@@ -222,7 +222,7 @@ fn delimiter_of(word: Option<&str>, file: Option<&str>) -> Option<Delimiter>
     }
 }
 
-// What is taken for a file of this name where no word says more.
+// What is taken for a file of this name where no argument says more.
 fn delimiter_by(file: Option<&str>) -> Delimiter
     ensures { result ≡ delimiter_by (option_map (λ f. f.now) file.entry) }
 {
@@ -257,22 +257,22 @@ fn options_of<'a>(
     alloc: Global,
     matches: &ArgMatches<'a>,
     delimiter: Delimiter,
-    surroundings: Surroundings<'_>,
+    context: OutputContext<'_>,
 ) -> Result<Options, AllocError>
     requires { wanted_delimiter (found_of matches.now) ≡ Some delimiter }
     ensures { IfOk result (λ options.
-        OptionsAreAsked surroundings.entry (found_of matches.now) options) }
+        AreOptionsParsed context.entry (found_of matches.now) options) }
 {
     Ok(Options {
         input: input_of(matches, delimiter),
         selection: selection_of(alloc, matches)?,
-        look: look_of(matches, surroundings),
+        look: look_of(matches, context),
     })
 }
 
 fn input_of<'a>(matches: &ArgMatches<'a>, delimiter: Delimiter) -> InputOptions
     requires { wanted_delimiter (found_of matches.now) ≡ Some delimiter }
-    ensures { InputIsAsked (found_of matches.now) result }
+    ensures { IsInputParsed (found_of matches.now) result }
 {
     InputOptions {
         encoding: encoding_of(matches.get_str("encoding")),
@@ -283,7 +283,7 @@ fn input_of<'a>(matches: &ArgMatches<'a>, delimiter: Delimiter) -> InputOptions
 }
 
 fn selection_of<'a>(alloc: Global, matches: &ArgMatches<'a>) -> Result<Selection, AllocError>
-    ensures { IfOk result (λ selection. SelectionIsAsked (found_of matches.now) selection) }
+    ensures { IfOk result (λ selection. IsSelectionParsed (found_of matches.now) selection) }
 {
     Ok(Selection {
         has_header: !is_given(matches, "no-header"),
@@ -295,8 +295,8 @@ fn selection_of<'a>(alloc: Global, matches: &ArgMatches<'a>) -> Result<Selection
     })
 }
 
-fn look_of<'a>(matches: &ArgMatches<'a>, surroundings: Surroundings<'_>) -> Look
-    ensures { LookIsAsked surroundings.entry (found_of matches.now) result }
+fn look_of<'a>(matches: &ArgMatches<'a>, context: OutputContext<'_>) -> Look
+    ensures { IsLookParsed context.entry (found_of matches.now) result }
 {
     let style = matches.get_str("style");
     Look {
@@ -310,10 +310,10 @@ fn look_of<'a>(matches: &ArgMatches<'a>, surroundings: Surroundings<'_>) -> Look
             is_given(matches, "all-expanded"),
             matches.get_str("expanded"),
         ),
-        width: width_of(matches.get_one::<u16>("width"), surroundings),
+        width: width_of(matches.get_one::<u16>("width"), context),
         fills_width: is_given(matches, "full"),
         max_height: matches.get_one::<usize>("max-height"),
-        has_bold_header: is_bold(matches.get_str("color"), surroundings),
+        has_bold_header: is_bold(matches.get_str("color"), context),
         has_sequences: is_given(matches, "ansi"),
         keeps_bidi: is_given(matches, "bidi"),
         is_raw: is_given(matches, "raw"),
@@ -350,12 +350,12 @@ fn expansion_of(is_always: bool, word: Option<&str>) -> Expansion
 }
 
 // The width that was asked for, else that of the terminal; 0 is none.
-fn width_of(asked: Option<u16>, surroundings: Surroundings<'_>) -> Option<u16>
-    ensures { result ≡ width_for asked surroundings.entry }
+fn width_of(invocation: Option<u16>, context: OutputContext<'_>) -> Option<u16>
+    ensures { result ≡ width_for invocation context.entry }
 {
-    match asked {
+    match invocation {
         Some(width) => some_width(width),
-        None if surroundings.is_terminal => Some(terminal_width(surroundings.columns)),
+        None if context.is_terminal => Some(terminal_width(context.columns)),
         None => None,
     }
 }
@@ -389,21 +389,21 @@ fn some_columns(columns: usize) -> Option<u16>
     }
 }
 
-fn is_bold(word: Option<&str>, surroundings: Surroundings<'_>) -> bool
-    ensures { result ≡ is_bold_for (option_map (λ w. w.now) word.entry) surroundings.entry }
+fn is_bold(word: Option<&str>, context: OutputContext<'_>) -> bool
+    ensures { result ≡ is_bold_for (option_map (λ w. w.now) word.entry) context.entry }
 {
     match word {
         Some("always") => true,
         Some("never") => false,
-        _ => is_bold_there(surroundings),
+        _ => is_bold_there(context),
     }
 }
 
 // Whether the header is in bold where nothing says when.
-fn is_bold_there(surroundings: Surroundings<'_>) -> bool
-    ensures { result ≡ is_bold_there surroundings.entry }
+fn is_bold_there(context: OutputContext<'_>) -> bool
+    ensures { result ≡ is_bold_there context.entry }
 {
-    surroundings.is_terminal && wants_color(surroundings.no_color)
+    context.is_terminal && wants_color(context.no_color)
 }
 
 fn wants_color(no_color: Option<&str>) -> bool

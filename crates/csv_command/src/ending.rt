@@ -3,9 +3,9 @@
 ghost use Rattle.std.specs.Prelude.{◌≡◌, IfErr, IfOk, option_map, string_bytes, true};
 ghost use Rattle.clap.specs.Words.{kind_of};
 ghost use Rattle.csv_command.specs.declared.ending.Said.TheVariants.{OutOfMemory, Text};
-ghost use Rattle.csv_command.specs.Ending.{IsEndOfDrawing, IsEndOfWords, IsEndWithoutWords, IsHarmless, IsSilent, about, columns_reason, decoding_reason, encoding_hint, is_of_input, message_for, reading_reason, reason_for, records_reason, text_of};
+ghost use Rattle.csv_command.specs.Ending.{IsEndOfOutcome, IsEndOfRefusal, IsEndWithoutArguments, IsHarmless, IsSilent, about, columns_reason, decoding_reason, encoding_hint, is_of_input, message_for, reading_reason, reason_for, records_reason, text_of};
 
-use crate::arguments::Asked;
+use crate::arguments::Invocation;
 use clap::error::{Error, ErrorKind};
 use csv_records::{DecodeError, Encoding, RecordsError, shown_text};
 use csv_tables::{ColumnsError, CsvError};
@@ -20,8 +20,8 @@ const MISUSED: u8 = 2;
 // Why there is no drawing where memory ran out.
 const OUT_OF_MEMORY: &str = "out of memory";
 
-/// The line where a word isn't UTF-8.
-pub const WORD_NOT_UTF8: &str = "csvtable: a word isn't UTF-8\n";
+/// The line where an argument isn't UTF-8.
+pub const ARGUMENT_NOT_UTF8: &str = "csvtable: a word isn't UTF-8\n";
 
 /// How the program ends.
 #[derive(Drop)]
@@ -39,7 +39,7 @@ pub(crate) struct Ending {
 pub(crate) enum Said {
     Nothing,
     OutOfMemory,
-    /// That a word isn't UTF-8.
+    /// That an argument isn't UTF-8.
     NotUtf8,
     /// That the output can't be written.
     Unwritten,
@@ -54,7 +54,7 @@ impl Said {
         match self {
             Said::Nothing => "",
             Said::OutOfMemory => "csvtable: out of memory\n",
-            Said::NotUtf8 => WORD_NOT_UTF8,
+            Said::NotUtf8 => ARGUMENT_NOT_UTF8,
             Said::Unwritten => "csvtable: the output can't be written\n",
             Said::Text(text) => text.as_str(),
         }
@@ -63,9 +63,9 @@ impl Said {
 
 /// What came of a drawing.
 #[derive(Drop)]
-pub(crate) struct Drawing<'a> {
-    /// What words asked for.
-    pub asked: &'a Asked,
+pub(crate) struct Outcome<'a> {
+    /// What arguments asked for.
+    pub invocation: &'a Invocation,
     /// Whether it was written.
     pub result: Result<(), CsvError>,
     /// With which error the input couldn't be opened or read.
@@ -75,8 +75,8 @@ pub(crate) struct Drawing<'a> {
 }
 
 /// How the program ends after a drawing. Where the reader of the output has ended, nothing is said.
-pub(crate) fn ending_of_drawing(alloc: Global, drawing: &Drawing<'_>) -> Ending
-    ensures { IsEndOfDrawing drawing.now result }
+pub(crate) fn ending_of_outcome(alloc: Global, drawing: &Outcome<'_>) -> Ending
+    ensures { IsEndOfOutcome drawing.now result }
 {
     match &drawing.result {
         Ok(()) => silent(0),
@@ -84,16 +84,16 @@ pub(crate) fn ending_of_drawing(alloc: Global, drawing: &Drawing<'_>) -> Ending
         Err(CsvError::Write) => message(FAILED, Said::Unwritten),
         Err(CsvError::OutOfMemory) => message(FAILED, Said::OutOfMemory),
         Err(error) => {
-            let text = message_of(alloc, drawing.asked, drawing.fault, error);
+            let text = message_of(alloc, drawing.invocation, drawing.fault, error);
             message(FAILED, said_of(text))
         }
     }
 }
 
-/// How the program ends where clap has something to say: help, the version, or why words aren't
+/// How the program ends where clap has something to say: help, the version, or why arguments aren't
 /// known.
-pub(crate) fn ending_of_words(alloc: Global, error: &Error) -> Ending
-    ensures { IsEndOfWords (kind_of error.now) result }
+pub(crate) fn ending_of_refusal(alloc: Global, error: &Error) -> Ending
+    ensures { IsEndOfRefusal (kind_of error.now) result }
 {
     match error.kind() {
         ErrorKind::OutOfMemory => message(FAILED, Said::OutOfMemory),
@@ -106,10 +106,10 @@ pub(crate) fn ending_of_words(alloc: Global, error: &Error) -> Ending
     }
 }
 
-/// How the program ends where words couldn't be read: one isn't UTF-8, or there is no memory for
-/// them.
-pub(crate) fn ending_without_words(kind: io::ErrorKind) -> Ending
-    ensures { IsEndWithoutWords kind result }
+/// How the program ends where arguments couldn't be read: one isn't UTF-8, or there is no memory
+/// for them.
+pub(crate) fn ending_without_arguments(kind: io::ErrorKind) -> Ending
+    ensures { IsEndWithoutArguments kind result }
 {
     match kind {
         io::ErrorKind::InvalidData => message(MISUSED, Said::NotUtf8),
@@ -151,14 +151,14 @@ fn said_of(text: Result<String, AllocError>) -> Said
 /// The line on an error. The fault is that of the input where it can't be opened or read.
 pub(crate) fn message_of(
     alloc: Global,
-    asked: &Asked,
+    invocation: &Invocation,
     fault: Option<io::ErrorKind>,
     error: &CsvError,
 ) -> Result<String, AllocError>
-    ensures { IfOk result (λ text. string_bytes text ≡ message_for asked.now fault error.now) }
+    ensures { IfOk result (λ text. string_bytes text ≡ message_for invocation.now fault error.now) }
 {
-    let mut text = about(alloc, is_of_input(error), &asked.file)?;
-    let reason = reason_of(alloc, asked.options.input.encoding, fault, error)?;
+    let mut text = about(alloc, is_of_input(error), &invocation.file)?;
+    let reason = reason_of(alloc, invocation.options.input.encoding, fault, error)?;
     text.push_str(reason.as_str())?;
     text.push('\n')?;
     Ok(text)
@@ -276,7 +276,7 @@ fn encoding_hint(encoding: Option<Encoding>) -> &'static str
     }
 }
 
-/// What clap says, with nothing in it that speaks to the terminal: its text holds words as they
+/// What clap says, with nothing in it that speaks to the terminal: its text holds arguments as they
 /// were typed.
 pub(crate) fn text_of_clap(alloc: Global, error: &Error) -> Result<String, AllocError>
     ensures { IfOk result (λ text. IsHarmless (string_bytes text)) }

@@ -1,8 +1,10 @@
-//! What only asks the system: the words, the streams, the environment and the file. What is made of
-//! it stands in `ending` and in `asked_of`.
+//! What only asks the system: the arguments, the streams, the environment and the file. What is
+//! made of it stands in `ending` and in `parse`.
 
-use crate::arguments::{Asked, Surroundings, asked_of};
-use crate::ending::{Drawing, Ending, ending_of_drawing, ending_of_words, ending_without_words};
+use crate::arguments::{Invocation, OutputContext, parse};
+use crate::ending::{
+    Ending, Outcome, ending_of_outcome, ending_of_refusal, ending_without_arguments,
+};
 use csv_tables::{CsvError, draw};
 use devices::{FromReader, ToWriter, arguments_of_process, write_all};
 use std::alloc::AllocError;
@@ -12,10 +14,10 @@ use std::io::{IsTerminal, Read};
 use std::process::ExitCode;
 use std::{env, io};
 
-/// Runs the program over the standard streams, with the words after the process's name, and returns
-/// its status: 0 where the drawing was written, 1 with a line on standard error after an error, 2
-/// with a reason where the words aren't known. Where a pipe has no reader any more, the status is
-/// 1, and nothing is said.
+/// Runs the program over the standard streams, with the arguments after the process's name, and
+/// returns its status: 0 where the drawing was written, 1 with a line on standard error after an
+/// error, 2 with a reason where the arguments aren't known. Where a pipe has no reader any more,
+/// the status is 1, and nothing is said.
 ///
 /// ```
 /// fn main(rt: HostRuntime) -> ExitCode {
@@ -24,8 +26,8 @@ use std::{env, io};
 /// ```
 pub fn run_with_arguments(rt: &HostRuntime) -> ExitCode {
     let ending = match arguments_of_process(rt) {
-        Ok(words) => run_with_words(rt, words.as_slice()),
-        Err(error) => ending_without_words(error.kind()),
+        Ok(arguments) => run_with(rt, arguments.as_slice()),
+        Err(error) => ending_without_arguments(error.kind()),
     };
     end(rt, &ending)
 }
@@ -44,27 +46,27 @@ fn end(rt: &HostRuntime, ending: &Ending) -> ExitCode {
     }
 }
 
-fn run_with_words(rt: &HostRuntime, words: &[String]) -> Ending {
-    match asked(rt, words) {
-        Ok(asked) => run(rt, &asked),
-        Err(error) => ending_of_words(rt.alloc(), &error),
+fn run_with(rt: &HostRuntime, arguments: &[String]) -> Ending {
+    match invocation(rt, arguments) {
+        Ok(invocation) => run(rt, &invocation),
+        Err(error) => ending_of_refusal(rt.alloc(), &error),
     }
 }
 
-// What the words ask for, here.
-fn asked(rt: &HostRuntime, words: &[String]) -> Result<Asked, clap::Error> {
-    let mut texts = Vec::with_capacity(rt.alloc(), words.len())?;
-    for word in words {
+// What the arguments ask for, here.
+fn invocation(rt: &HostRuntime, arguments: &[String]) -> Result<Invocation, clap::Error> {
+    let mut texts = Vec::with_capacity(rt.alloc(), arguments.len())?;
+    for word in arguments {
         texts.push(word.as_str())?;
     }
     let columns = variable(rt, "COLUMNS")?;
     let no_color = variable(rt, "NO_COLOR")?;
-    let surroundings = Surroundings {
+    let context = OutputContext {
         is_terminal: rt.stdout().is_terminal(),
         columns: columns.as_ref().map(|text| text.as_str()),
         no_color: no_color.as_ref().map(|text| text.as_str()),
     };
-    asked_of(rt.alloc(), texts.as_slice(), surroundings)
+    parse(rt.alloc(), texts.as_slice(), context)
 }
 
 // A variable of the environment, where it is set and is text.
@@ -77,14 +79,14 @@ fn variable(rt: &HostRuntime, name: &str) -> Result<Option<String>, AllocError> 
 }
 
 // Draws the file, or standard input.
-fn run(rt: &HostRuntime, asked: &Asked) -> Ending {
+fn run(rt: &HostRuntime, invocation: &Invocation) -> Ending {
     let mut sink = ToWriter::new(rt.stdout());
-    let (result, fault) = drawn(rt, &mut sink, asked);
+    let (result, fault) = drawn(rt, &mut sink, invocation);
     let is_unread = sink.is_unread();
-    ending_of_drawing(
+    ending_of_outcome(
         rt.alloc(),
-        &Drawing {
-            asked,
+        &Outcome {
+            invocation,
             result,
             fault,
             is_unread,
@@ -95,12 +97,12 @@ fn run(rt: &HostRuntime, asked: &Asked) -> Ending {
 // What came of it, and with which error the input couldn't be opened or read.
 type Drawn = (Result<(), CsvError>, Option<io::ErrorKind>);
 
-fn drawn(rt: &HostRuntime, sink: &mut ToWriter<io::Stdout>, asked: &Asked) -> Drawn {
-    let Some(path) = &asked.file else {
-        return drawn_from(rt, rt.stdin(), sink, asked);
+fn drawn(rt: &HostRuntime, sink: &mut ToWriter<io::Stdout>, invocation: &Invocation) -> Drawn {
+    let Some(path) = &invocation.file else {
+        return drawn_from(rt, rt.stdin(), sink, invocation);
     };
     match File::open(rt, path.as_str()) {
-        Ok(file) => drawn_from(rt, file, sink, asked),
+        Ok(file) => drawn_from(rt, file, sink, invocation),
         Err(error) => (Err(CsvError::Read), Some(error.kind())),
     }
 }
@@ -109,9 +111,9 @@ fn drawn_from<R: Read + Drop>(
     rt: &HostRuntime,
     reader: R,
     sink: &mut ToWriter<io::Stdout>,
-    asked: &Asked,
+    invocation: &Invocation,
 ) -> Drawn {
     let mut source = FromReader::new(reader);
-    let result = draw(rt.alloc(), &mut source, sink, &asked.options);
+    let result = draw(rt.alloc(), &mut source, sink, &invocation.options);
     (result, source.fault())
 }

@@ -1,4 +1,4 @@
-//! The styles that words name: those of the program's own names, and the presets.
+//! The styles that arguments name: those of the program's own names, and the presets.
 
 ghost use Rattle.std.specs.Prelude.{◌≡◌, IfOk, map, option_map};
 ghost use Rattle.csv_command.specs.Styles.{compact_style, is_compact, is_named, named_style, own_styles, style_for, style_names, style_within};

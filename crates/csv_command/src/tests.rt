@@ -1,7 +1,9 @@
 //! What the program says at its end, where no clause can: that there is memory for it.
 
-use crate::arguments::{Asked, Surroundings, asked_of};
-use crate::ending::{Drawing, Ending, ending_of_drawing, ending_of_words, ending_without_words};
+use crate::arguments::{Invocation, OutputContext, parse};
+use crate::ending::{
+    Ending, Outcome, ending_of_outcome, ending_of_refusal, ending_without_arguments,
+};
 use csv_records::{DecodeError, RecordsError};
 use csv_tables::{ColumnsError, CsvError};
 use std::alloc::{Alloc, Global};
@@ -9,7 +11,7 @@ use std::io::ErrorKind;
 use std::process::Abort;
 
 // Where the output goes: to no terminal.
-const NOWHERE: Surroundings<'static> = Surroundings {
+const NOWHERE: OutputContext<'static> = OutputContext {
     is_terminal: false,
     columns: None,
     no_color: None,
@@ -22,26 +24,26 @@ fn assert_says(rt: &impl Abort, ending: &Ending, status: u8, is_message: bool, t
     assert!(rt; ending.is_message == is_message, "where {text} goes");
 }
 
-// What these words ask for.
-fn asked_by<'a>(rt: &(impl Abort + Alloc<A = Global>), words: &'a [&'a str]) -> Asked {
-    asked_of(rt.alloc(), words, NOWHERE).expect(rt, "words")
+// What these arguments ask for.
+fn parse_by<'a>(rt: &(impl Abort + Alloc<A = Global>), arguments: &'a [&'a str]) -> Invocation {
+    parse(rt.alloc(), arguments, NOWHERE).expect(rt, "arguments")
 }
 
 // What is said where a drawing ends with this error, the input being at fault so.
 fn assert_message(
     rt: &(impl Abort + Alloc<A = Global>),
-    asked: &Asked,
+    invocation: &Invocation,
     error: CsvError,
     fault: Option<ErrorKind>,
     text: &str,
 ) {
-    let drawing = Drawing {
-        asked,
+    let drawing = Outcome {
+        invocation,
         result: Err(error),
         fault,
         is_unread: false,
     };
-    assert_says(rt, &ending_of_drawing(rt.alloc(), &drawing), 1, true, text);
+    assert_says(rt, &ending_of_outcome(rt.alloc(), &drawing), 1, true, text);
 }
 
 fn name(rt: &(impl Abort + Alloc<A = Global>), name: &str) -> String {
@@ -51,8 +53,8 @@ fn name(rt: &(impl Abort + Alloc<A = Global>), name: &str) -> String {
 // A file is named, and the reason said why it can't be read.
 #[test]
 fn a_file_that_can_not_be_read(rt: HostRuntime) {
-    let words = ["csvtable", "a.csv"];
-    let asked = asked_by(&rt, &words);
+    let arguments = ["csvtable", "a.csv"];
+    let invocation = parse_by(&rt, &arguments);
     let reasons = [
         (Some(ErrorKind::NotFound), "csvtable: a.csv: no such file\n"),
         (
@@ -70,7 +72,7 @@ fn a_file_that_can_not_be_read(rt: HostRuntime) {
         (None, "csvtable: a.csv: can't be read\n"),
     ];
     for (fault, text) in reasons {
-        assert_message(&rt, &asked, CsvError::Read, fault, text);
+        assert_message(&rt, &invocation, CsvError::Read, fault, text);
     }
 }
 
@@ -78,12 +80,12 @@ fn a_file_that_can_not_be_read(rt: HostRuntime) {
 // program.
 #[test]
 fn an_input_that_can_not_be_drawn(rt: HostRuntime) {
-    let words = ["csvtable", "bank.csv"];
-    let asked = asked_by(&rt, &words);
+    let arguments = ["csvtable", "bank.csv"];
+    let invocation = parse_by(&rt, &arguments);
     let text = "csvtable: bank.csv: line 2 isn't UTF-8; try -e cp1252\n";
     assert_message(
         &rt,
-        &asked,
+        &invocation,
         CsvError::Decode(DecodeError::NotUtf8(2)),
         None,
         text,
@@ -91,7 +93,7 @@ fn an_input_that_can_not_be_drawn(rt: HostRuntime) {
     let text = "csvtable: bank.csv: line 3 isn't UTF-16\n";
     assert_message(
         &rt,
-        &asked,
+        &invocation,
         CsvError::Decode(DecodeError::NotUtf16(3)),
         None,
         text,
@@ -99,29 +101,29 @@ fn an_input_that_can_not_be_drawn(rt: HostRuntime) {
     let text = "csvtable: bank.csv: the delimiter splits a character\n";
     assert_message(
         &rt,
-        &asked,
+        &invocation,
         CsvError::Records(RecordsError::SplitCharacter),
         None,
         text,
     );
 
-    let words = ["csvtable", "a.csv"];
-    let asked = asked_by(&rt, &words);
+    let arguments = ["csvtable", "a.csv"];
+    let invocation = parse_by(&rt, &arguments);
     let text = "csvtable: a.csv: a quote that opens in line 2 is never closed; try --no-quotes\n";
     assert_message(
         &rt,
-        &asked,
+        &invocation,
         CsvError::Records(RecordsError::Unclosed(2)),
         None,
         text,
     );
 
-    let words = ["csvtable", "-e", "utf-8"];
-    let asked = asked_by(&rt, &words);
+    let arguments = ["csvtable", "-e", "utf-8"];
+    let invocation = parse_by(&rt, &arguments);
     let text = "csvtable: standard input: line 2 isn't UTF-8\n";
     assert_message(
         &rt,
-        &asked,
+        &invocation,
         CsvError::Decode(DecodeError::NotUtf8(2)),
         None,
         text,
@@ -131,34 +133,34 @@ fn an_input_that_can_not_be_drawn(rt: HostRuntime) {
 // A name that was typed or read speaks to no terminal.
 #[test]
 fn columns_that_can_not_be_drawn(rt: HostRuntime) {
-    let words = ["csvtable"];
-    let asked = asked_by(&rt, &words);
+    let arguments = ["csvtable"];
+    let invocation = parse_by(&rt, &arguments);
     let error = CsvError::Columns(ColumnsError::NoColumn(name(&rt, "z\u{1b}[2J")));
     let text = "csvtable: standard input: no column z\u{fffd}[2J\n";
-    assert_message(&rt, &asked, error, None, text);
+    assert_message(&rt, &invocation, error, None, text);
     let error = CsvError::Columns(ColumnsError::TwoSides(name(&rt, "b")));
     let text = "csvtable: standard input: column b can't stand at the right and at the left\n";
-    assert_message(&rt, &asked, error, None, text);
+    assert_message(&rt, &invocation, error, None, text);
 }
 
 #[test]
 fn a_drawing_that_ends(rt: HostRuntime) {
-    let words = ["csvtable", "a.csv"];
-    let asked = asked_by(&rt, &words);
+    let arguments = ["csvtable", "a.csv"];
+    let invocation = parse_by(&rt, &arguments);
     let text = "csvtable: the output can't be written\n";
-    assert_message(&rt, &asked, CsvError::Write, None, text);
+    assert_message(&rt, &invocation, CsvError::Write, None, text);
     let text = "csvtable: out of memory\n";
-    assert_message(&rt, &asked, CsvError::OutOfMemory, None, text);
+    assert_message(&rt, &invocation, CsvError::OutOfMemory, None, text);
     for (result, status) in [(Ok(()), 0), (Err(CsvError::Write), 1)] {
-        let drawing = Drawing {
-            asked: &asked,
+        let drawing = Outcome {
+            invocation: &invocation,
             result,
             fault: None,
             is_unread: true,
         };
         assert_says(
             &rt,
-            &ending_of_drawing(rt.alloc(), &drawing),
+            &ending_of_outcome(rt.alloc(), &drawing),
             status,
             true,
             "",
@@ -166,21 +168,21 @@ fn a_drawing_that_ends(rt: HostRuntime) {
     }
 }
 
-// How the program ends where clap has something to say of these words.
-fn ending_by<'a>(rt: &(impl Abort + Alloc<A = Global>), words: &'a [&'a str]) -> Ending {
-    match asked_of(rt.alloc(), words, NOWHERE) {
-        Ok(_asked) => ending_without_words(ErrorKind::Other),
-        Err(error) => ending_of_words(rt.alloc(), &error),
+// How the program ends where clap has something to say of these arguments.
+fn ending_by<'a>(rt: &(impl Abort + Alloc<A = Global>), arguments: &'a [&'a str]) -> Ending {
+    match parse(rt.alloc(), arguments, NOWHERE) {
+        Ok(_asked) => ending_without_arguments(ErrorKind::Other),
+        Err(error) => ending_of_refusal(rt.alloc(), &error),
     }
 }
 
-// By clap's layout: what the program does, how it is called, its words, and what stands behind
+// By clap's layout: what the program does, how it is called, its arguments, and what stands behind
 // them.
 #[test]
 fn help_is_an_output(rt: HostRuntime) {
-    for word in ["-h", "--help"] {
-        let words = ["csvtable", word];
-        let ending = ending_by(&rt, &words);
+    for argument in ["-h", "--help"] {
+        let arguments = ["csvtable", argument];
+        let ending = ending_by(&rt, &arguments);
         assert!(rt; ending.status == 0 && !ending.is_message);
         let text = ending.said.text();
         assert!(rt;
@@ -192,9 +194,15 @@ fn help_is_an_output(rt: HostRuntime) {
         assert!(rt; text.contains("\n  -h, --help              Print help\n"));
         assert!(rt; text.ends_with("alias csvtable='COLUMNS=$COLUMNS csvtable'\n"));
     }
-    for word in ["-V", "--version"] {
-        let words = ["csvtable", word];
-        assert_says(&rt, &ending_by(&rt, &words), 0, false, "csvtable 2.0.0\n");
+    for argument in ["-V", "--version"] {
+        let arguments = ["csvtable", argument];
+        assert_says(
+            &rt,
+            &ending_by(&rt, &arguments),
+            0,
+            false,
+            "csvtable 2.0.0\n",
+        );
     }
 }
 
@@ -207,7 +215,8 @@ Usage: csvtable [OPTIONS] [FILE]
 For more information, try '--help'.
 ";
 
-// A word that isn't known, one without its value, two that exclude each other, and two delimiters.
+// An argument that isn't known, one without its value, two that exclude each other, and two
+// delimiters.
 #[test]
 fn mistakes_are_messages(rt: HostRuntime) {
     let text = "error: unexpected argument 'b.csv' found
@@ -216,24 +225,36 @@ Usage: csvtable [OPTIONS] [FILE]
 
 For more information, try '--help'.
 ";
-    let words = ["csvtable", "a.csv", "b.csv"];
-    assert_says(&rt, &ending_by(&rt, &words), 2, true, text);
+    let arguments = ["csvtable", "a.csv", "b.csv"];
+    assert_says(&rt, &ending_by(&rt, &arguments), 2, true, text);
     let text = "error: a value is required for '--width <N>' but none was supplied
 
 For more information, try '--help'.
 ";
-    let words = ["csvtable", "-w"];
-    assert_says(&rt, &ending_by(&rt, &words), 2, true, text);
-    let words = ["csvtable", "--rows", "--no-rows"];
-    assert_says(&rt, &ending_by(&rt, &words), 2, true, OPTIONS_THAT_EXCLUDE);
-    let words = ["csvtable", "-t", "-d", ","];
-    assert_says(&rt, &ending_by(&rt, &words), 2, true, OPTIONS_THAT_EXCLUDE);
+    let arguments = ["csvtable", "-w"];
+    assert_says(&rt, &ending_by(&rt, &arguments), 2, true, text);
+    let arguments = ["csvtable", "--rows", "--no-rows"];
+    assert_says(
+        &rt,
+        &ending_by(&rt, &arguments),
+        2,
+        true,
+        OPTIONS_THAT_EXCLUDE,
+    );
+    let arguments = ["csvtable", "-t", "-d", ","];
+    assert_says(
+        &rt,
+        &ending_by(&rt, &arguments),
+        2,
+        true,
+        OPTIONS_THAT_EXCLUDE,
+    );
 }
 
 #[test]
 fn words_that_can_not_be_read(rt: HostRuntime) {
-    let ending = ending_without_words(ErrorKind::InvalidData);
+    let ending = ending_without_arguments(ErrorKind::InvalidData);
     assert_says(&rt, &ending, 2, true, "csvtable: a word isn't UTF-8\n");
-    let ending = ending_without_words(ErrorKind::OutOfMemory);
+    let ending = ending_without_arguments(ErrorKind::OutOfMemory);
     assert_says(&rt, &ending, 1, true, "csvtable: out of memory\n");
 }

@@ -20,9 +20,9 @@ use Rattle.csv_records.proofs.CleaningLemmas.{drawn_so}
 use Rattle.csv_tables.specs.Cells.{field_text, kept_by, kept_for_markdown, marked}
 use Rattle.csv_records.specs.Cleaning.{cleaned, is_replaced, turns_direction}
 use Rattle.csv_tables.specs.Controls.{IsStyleWithoutControls}
-use Rattle.csv_command.specs.declared.arguments.Asked.{Asked}
-use Rattle.csv_command.specs.declared.arguments.Surroundings.{Surroundings}
-use Rattle.csv_records.specs.declared.cleaning.Kept.{Kept}
+use Rattle.csv_command.specs.declared.arguments.Invocation.{Invocation}
+use Rattle.csv_command.specs.declared.arguments.OutputContext.{OutputContext}
+use Rattle.csv_records.specs.declared.cleaning.CleanOptions.{CleanOptions}
 use Rattle.csv_tables.specs.declared.options.Look.{Look}
 use Rattle.csv_tables.specs.declared.options.Options.{Options}
 use Rattle.csv_tables.proofs.CleanCharacterLemmas.{lines_pass}
@@ -30,9 +30,9 @@ use Rattle.csv_records.proofs.OneRecordLemmas.{read_is_one}
 use Rattle.csv_tables.proofs.OutputControlLemmas.{text_fields, unbroken_without}
 use Rattle.csv_tables.proofs.MarkdownWidthLemmas.{whole_is_straight}
 use Rattle.csv_tables.proofs.StraightLemmas.{IsShort, narrow_is_straight}
-use Rattle.csv_command.proofs.StyleColumnLemmas.{asked_style_is_one_column, asked_style_without_controls}
+use Rattle.csv_command.proofs.StyleColumnLemmas.{parsed_style_is_one_column, parsed_style_without_controls}
 use Rattle.csv_tables.proofs.TextTableLemmas.{EachLine}
-use Rattle.csv_tables.specs.Drawn.{IsOutputOf, IsOutputOfAny}
+use Rattle.csv_tables.specs.Drawn.{RendersRecords, RendersAnyRecords}
 use Rattle.csv_tables.specs.Laws.{ArePlainLines, EachText, IsStraightOutput}
 use Rattle.promises.proofs.FittingLemmas.{text_fits}
 use Rattle.promises.specs.Tables.{HasCharactersWithin}
@@ -74,7 +74,7 @@ module _ (look : Look) (tidy : look.is_raw ≡ false) (unkept : look.has_sequenc
       unbroken : HasNoBreak field
       unbroken = none_by_characters is_control 0x0A (omega arith) refl field (chars field, encodes-chars field utf8, no_controls (chars field) is.plain)
 
-      kept : Kept
+      kept : CleanOptions
       kept = kept_by look
 
       none_replaced : (cs : List ℕ) → list_any (λ c. is_control c || turns_direction c) cs ≡ false → list_any (is_replaced kept) cs ≡ false
@@ -96,30 +96,30 @@ module _ (look : Look) (tidy : look.is_raw ≡ false) (unkept : look.has_sequenc
 
 -- ---- outputs
 
-module _ (words : List Text) (surroundings : Surroundings) (asked : Asked) (input : Text) (records : List (List Text)) (output : Text) (is : IsWritten words surroundings asked input records output) where
+module _ (words : List Text) (context : OutputContext) (invocation : Invocation) (input : Text) (records : List (List Text)) (output : Text) (is : IsWritten words context invocation input records output) where
   abbrev options : Options
-  options = asked.options
+  options = invocation.options
 
   clear : IsStyleWithoutControls options.look.style
-  clear = asked_style_without_controls words surroundings asked is.is_asked
+  clear = parsed_style_without_controls words context invocation is.is_asked
 
   one_column : IsOneColumnStyle options.look.style
-  one_column = asked_style_is_one_column words surroundings asked is.is_asked
+  one_column = parsed_style_is_one_column words context invocation is.is_asked
 
   texts : All AllText records
   texts = is.are.are_records.are_records.are_text
 
-  output_of_records : IsOutputOfAny options records output
-  output_of_records = subst (λ (rs : List (List Text)). IsOutputOfAny options rs output) (read_is_one options.input input is.made.records records is.made.are_records is.are) is.made.is_output
+  output_of_records : RendersAnyRecords options records output
+  output_of_records = subst (λ (rs : List (List Text)). RendersAnyRecords options rs output) (read_is_one options.input input is.made.records records is.made.are_records is.are) is.made.is_output
 
   -- an output is straight where the law says so of one with records
-  by_records : ((made : IsOutputOf options records output) → ArePlainLines true options.look records → IsStraightOutput true options records output) → IsStraight output
+  by_records : ((made : RendersRecords options records output) → ArePlainLines true options.look records → IsStraightOutput true options records output) → IsStraight output
   by_records straight = any records output_of_records texts straight
     where
       plain : (rs : List (List Text)) → All AllText rs → ArePlainLines true options.look rs
       plain rs text = record { seen = (record { cleaned = is.tidy; style = clear }, text); unbroken = unbroken_without options.look.style clear; no_sequences = is.unkept }
 
-      any : (rs : List (List Text)) → IsOutputOfAny options rs output → All AllText rs → ((made : IsOutputOf options rs output) → ArePlainLines true options.look rs → IsStraightOutput true options rs output) → IsStraight output
+      any : (rs : List (List Text)) → RendersAnyRecords options rs output → All AllText rs → ((made : RendersRecords options rs output) → ArePlainLines true options.look rs → IsStraightOutput true options rs output) → IsStraight output
       any [] nothing text law = subst IsStraight (sym nothing) nothing_is_straight
       any (r ∷ rs) drawn text law = straight_text options (r ∷ rs) output is.no_markdown (law drawn (plain (r ∷ rs) text))
 

@@ -1,17 +1,17 @@
 //! No file speaks to your terminal.
 
 ghost use Rattle.std.specs.Prelude.{IfOk, IfSome, string_bytes};
-ghost use Rattle.csv_tables.specs.Drawn.{IsOutputFor};
+ghost use Rattle.csv_tables.specs.Drawn.{RendersInput};
 ghost use Rattle.promises.specs.Shown.{IsHarmless};
 
 use comfy_run::run::{MemorySink, MemorySource};
 use csv_command::laws::drawings_hold_no_controls;
-use csv_command::{Surroundings, asked_of, drawing_of};
+use csv_command::{OutputContext, parse, render_csv};
 use csv_tables::{CsvError, Options, draw};
 use std::alloc::Global;
 
 // No terminal, and neither `COLUMNS` nor `NO_COLOR`.
-const NO_SURROUNDINGS: Surroundings<'static> = Surroundings {
+const NOT_A_TERMINAL: OutputContext<'static> = OutputContext {
     is_terminal: false,
     columns: None,
     no_color: None,
@@ -24,18 +24,18 @@ const NO_SURROUNDINGS: Surroundings<'static> = Surroundings {
 pub fn harmless_output(
     alloc: Global,
     words: &[&str],
-    surroundings: Surroundings<'_>,
+    context: OutputContext<'_>,
     input: &[u8],
     room: usize,
 ) -> Option<MemorySink>
     ensures { IfSome result (λ sink. IsHarmless sink.bytes) }
 {
     drawings_hold_no_controls();
-    let asked = asked_of(alloc, words, surroundings).ok()?;
-    if asked.options.look.is_raw {
+    let invocation = parse(alloc, words, context).ok()?;
+    if invocation.options.look.is_raw {
         return None;
     }
-    output_for(alloc, input, room, &asked.options).ok()
+    output_for(alloc, input, room, &invocation.options).ok()
 }
 
 /// What a caller gets as a value for these words and these bytes, for no terminal: nothing where
@@ -45,12 +45,12 @@ pub fn harmless_drawing(alloc: Global, words: &[&str], input: &[u8]) -> Option<S
     ensures { IfSome result (λ drawing. IsHarmless (string_bytes drawing)) }
 {
     drawings_hold_no_controls();
-    let asked = asked_of(alloc, words, NO_SURROUNDINGS).ok()?;
-    let look = asked.options.look;
+    let invocation = parse(alloc, words, NOT_A_TERMINAL).ok()?;
+    let look = invocation.options.look;
     if look.is_raw {
         return None;
     }
-    drawing_of(alloc, words, input).ok()
+    render_csv(alloc, words, input).ok()
 }
 
 /// A sink that holds the output for an input.
@@ -60,7 +60,7 @@ pub(crate) fn output_for(
     room: usize,
     options: &Options,
 ) -> Result<MemorySink, CsvError>
-    ensures { IfOk result (λ sink. IsOutputFor options.now input.now sink.bytes) }
+    ensures { IfOk result (λ sink. RendersInput options.now input.now sink.bytes) }
 {
     let mut source = MemorySource::new(input, 0);
     let mut sink = MemorySink::new(alloc, room, 0)?;

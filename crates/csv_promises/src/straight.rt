@@ -8,7 +8,7 @@ ghost use Rattle.promises.specs.Tables.{HasCharactersWithin};
 
 use crate::harmless::output_for;
 use comfy_run::run::MemorySink;
-use csv_command::{Asked, Surroundings, asked_of};
+use csv_command::{Invocation, OutputContext, parse};
 use csv_records::laws::records_are_one;
 use csv_records::{Records, decoded, read_records};
 use csv_tables::laws::outputs_are_straight;
@@ -23,7 +23,7 @@ use std::alloc::Global;
 pub fn straight_output(
     alloc: Global,
     words: &[&str],
-    surroundings: Surroundings<'_>,
+    context: OutputContext<'_>,
     input: &[u8],
     room: usize,
 ) -> Option<(Records, MemorySink)>
@@ -32,7 +32,7 @@ pub fn straight_output(
 {
     outputs_are_straight();
     records_are_one();
-    let (_asked, records, sink) = written(alloc, words, surroundings, input, room)?;
+    let (_asked, records, sink) = written(alloc, words, context, input, room)?;
     Some((records, sink))
 }
 
@@ -42,7 +42,7 @@ pub fn straight_output(
 pub fn straight_whole_output(
     alloc: Global,
     words: &[&str],
-    surroundings: Surroundings<'_>,
+    context: OutputContext<'_>,
     input: &[u8],
     room: usize,
 ) -> Option<(Records, MemorySink)>
@@ -50,8 +50,8 @@ pub fn straight_whole_output(
 {
     outputs_are_straight();
     records_are_one();
-    let (asked, records, sink) = written(alloc, words, surroundings, input, room)?;
-    if asked.options.look.width.is_some() || asked.options.look.max_height.is_some() {
+    let (invocation, records, sink) = written(alloc, words, context, input, room)?;
+    if invocation.options.look.width.is_some() || invocation.options.look.max_height.is_some() {
         return None;
     }
     Some((records, sink))
@@ -61,22 +61,22 @@ pub fn straight_whole_output(
 fn written(
     alloc: Global,
     words: &[&str],
-    surroundings: Surroundings<'_>,
+    context: OutputContext<'_>,
     input: &[u8],
     room: usize,
-) -> Option<(Asked, Records, MemorySink)>
+) -> Option<(Invocation, Records, MemorySink)>
     ensures { IfSome result (λ w.
-        IsWritten (map (λ x. x.now) words.entry.now) surroundings.entry w.0 input.now w.1
+        IsWritten (map (λ x. x.now) words.entry.now) context.entry w.0 input.now w.1
         w.2.bytes) }
 {
-    let asked = asked_of(alloc, words, surroundings).ok()?;
-    let look = asked.options.look;
+    let invocation = parse(alloc, words, context).ok()?;
+    let look = invocation.options.look;
     if look.is_raw || look.has_sequences || look.is_markdown {
         return None;
     }
-    let records = records_for(alloc, input, &asked.options).ok()?;
-    let sink = output_for(alloc, input, room, &asked.options).ok()?;
-    Some((asked, records, sink))
+    let records = records_for(alloc, input, &invocation.options).ok()?;
+    let sink = output_for(alloc, input, room, &invocation.options).ok()?;
+    Some((invocation, records, sink))
 }
 
 // The records of an input.

@@ -15,24 +15,24 @@ use Rattle.comfy_parts.specs.Text.{Text, is_printable_ascii}
 use Rattle.comfy_parts.specs.VisibleText.{Part, parts}
 use Rattle.csv_records.proofs.PieceLemmas.{apart, sequence-IsAscii, sequence_of}
 use Rattle.csv_records.specs.Cleaning.{CleanedText, after_character, after_piece, cleaned, is_harmful, is_replaced, pieces, start, turns_direction}
-use Rattle.csv_records.specs.declared.cleaning.Kept.{Kept}
+use Rattle.csv_records.specs.declared.cleaning.CleanOptions.{CleanOptions}
 
 -- ---- characters
 
 -- pieces that are characters are written so
-pub each_character : (kept : Kept) (cs : List ℕ) (s : CleanedText) → fold (after_piece kept) s (map visible_part cs) ≡ fold (after_character kept) s cs
+pub each_character : (kept : CleanOptions) (cs : List ℕ) (s : CleanedText) → fold (after_piece kept) s (map visible_part cs) ≡ fold (after_character kept) s cs
 each_character kept [] s = refl
 each_character kept (c ∷ cs) s = each_character kept cs (after_character kept s c)
 
 -- no character is harmful where none is replaced
-none_harmful : (kept : Kept) (cs : List ℕ) → list_any (is_replaced kept) cs ≡ false → list_any (is_harmful kept) cs ≡ false
+none_harmful : (kept : CleanOptions) (cs : List ℕ) → list_any (is_replaced kept) cs ≡ false → list_any (is_harmful kept) cs ≡ false
 none_harmful kept [] none = refl
 none_harmful kept (c ∷ cs) none =
     let each = or_parts (is_replaced kept c) (list_any (is_replaced kept) cs) none in
     rw each.0 (none_harmful kept cs each.1)
 
 -- a harmless character that breaks no line isn't replaced, so it is no control character
-other : (kept : Kept) (c n : ℕ) → is_harmful kept c ≡ false → (c == 0x0A) ≡ false → is_control n ≡ true → (c == n) ≡ false
+other : (kept : CleanOptions) (c n : ℕ) → is_harmful kept c ≡ false → (c == 0x0A) ≡ false → is_control n ≡ true → (c == n) ≡ false
 other kept c n harmless no_break control = by_test (c == n) refl
   where
     by_test : (v : Bool) → (c == n) ≡ v → v ≡ false
@@ -42,12 +42,12 @@ other kept c n harmless no_break control = by_test (c == n) refl
 -- ---- what stays
 
 -- the pieces of a text, before any rest, are written as they are
-pub record Stays (kept : Kept) (text : Text) : Type 0 where
+pub record Stays (kept : CleanOptions) (text : Text) : Type 0 where
   pub found_as : List Part
   pub found : (rest : List ℕ) → pieces kept.sequences (chars text ++ rest) ≡ found_as ++ pieces kept.sequences rest
   pub written : (s : CleanedText) → s.after_return ≡ false → ((fold (after_piece kept) s found_as).text ≡ s.text ++ text) × ((fold (after_piece kept) s found_as).after_return ≡ false)
 
-module _ (kept : Kept) where
+module _ (kept : CleanOptions) where
   pub Stays-nil : Stays kept []
   Stays-nil =
       record {
@@ -160,23 +160,23 @@ module _ (kept : Kept) where
           ∙ append-nil stays.found_as
 
 -- so is a field of which no character is replaced
-pub drawn_so : (kept : Kept) (field : Text) → IsUtf8 field → list_any (is_replaced kept) (chars field) ≡ false → field ≡ cleaned kept field
+pub drawn_so : (kept : CleanOptions) (field : Text) → IsUtf8 field → list_any (is_replaced kept) (chars field) ≡ false → field ≡ cleaned kept field
 drawn_so kept field utf8 none =
     sym (stays_cleaned kept field (subst (Stays kept) (encodes-chars field utf8) (Stays-characters kept (chars field) (scalars-chars field utf8) (none_harmful kept (chars field) none))))
 
 -- no character of printable ASCII is
-plain : (kept : Kept) (c : ℕ) → is_in_range 0x20 0x7E c ≡ true → is_replaced kept c ≡ false
+plain : (kept : CleanOptions) (c : ℕ) → is_in_range 0x20 0x7E c ≡ true → is_replaced kept c ≡ false
 plain kept c printable = by_kept kept.directions
   where
     by_kept : (directions : Bool) → (is_control c || (not directions && turns_direction c)) ≡ false
     by_kept true = grind (arith, tests)
     by_kept false = grind (arith, tests)
 
-all_plain : (kept : Kept) (text : Text) → is_printable_ascii text ≡ true → list_any (is_replaced kept) text ≡ false
+all_plain : (kept : CleanOptions) (text : Text) → is_printable_ascii text ≡ true → list_any (is_replaced kept) text ≡ false
 all_plain kept [] printable = refl
 all_plain kept (c ∷ cs) printable =
     let both = and_parts (is_in_range 0x20 0x7E c) (is_printable_ascii cs) printable in
     rw (plain kept c both.0) (all_plain kept cs both.1)
 
-pub none_replaced : (kept : Kept) (field : Text) → is_printable_ascii field ≡ true → list_any (is_replaced kept) (chars field) ≡ false
+pub none_replaced : (kept : CleanOptions) (field : Text) → is_printable_ascii field ≡ true → list_any (is_replaced kept) (chars field) ≡ false
 none_replaced kept field printable = ap (list_any (is_replaced kept)) (chars-IsAscii field (ascii-printable field printable)) ∙ all_plain kept field printable

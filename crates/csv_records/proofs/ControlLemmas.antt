@@ -14,12 +14,12 @@ use Rattle.comfy_parts.specs.VisibleText.{Part, parts}
 use Rattle.csv_records.proofs.PieceLemmas.{sequence-IsAscii, sequence_of}
 use Rattle.csv_records.proofs.CleaningLemmas.{Stays, Stays-append, Stays-characters, Stays-nil, Stays-sequence, each_character, no_escape, stays_cleaned}
 use Rattle.csv_records.specs.Cleaning.{CleanedText, HoldsNoControls, IsCleanedOnce, after_character, after_piece, blanks_after, blanks_at, cleaned, is_harmful, is_replaced, pieces, shown, start, visible_of}
-use Rattle.csv_records.specs.declared.cleaning.Kept.{Kept}
+use Rattle.csv_records.specs.declared.cleaning.CleanOptions.{CleanOptions}
 
 -- ---- texts that show harmless characters
 
 -- before any rest, the text shows harmless characters
-record IsHarmless (kept : Kept) (text : Text) : Type 0 where
+record IsHarmless (kept : CleanOptions) (text : Text) : Type 0 where
   seen : List ℕ
   scalars : all_scalars seen ≡ true
   harmless : list_any (is_harmful kept) seen ≡ false
@@ -33,13 +33,13 @@ scalars-append (x ∷ xs) ys front back =
     let both = and_parts (scalar_of x) (all_scalars xs) front in
     rw both.0 (scalars-append xs ys both.1 back)
 
-no_escapes : (kept : Kept) (cs : List ℕ) → list_any (is_harmful kept) cs ≡ false → HasNo 0x1B (encode_utf8_all cs)
+no_escapes : (kept : CleanOptions) (cs : List ℕ) → list_any (is_harmful kept) cs ≡ false → HasNo 0x1B (encode_utf8_all cs)
 no_escapes kept [] harmless = refl
 no_escapes kept (c ∷ cs) harmless =
     let each = or_parts (is_harmful kept c) (list_any (is_harmful kept) cs) harmless in
     HasNo-append 0x1B (encode_utf8 c) (encode_utf8_all cs) (encoded_clear 0x1B c (omega arith) (no_escape kept c each.0)) (no_escapes kept cs each.1)
 
-module _ (kept : Kept) where
+module _ (kept : CleanOptions) where
   Harmless-nil : IsHarmless kept []
   Harmless-nil = record { seen = []; scalars = refl; harmless = refl; shows = λ rest. refl; utf8 = IsUtf8-nil; stays = Stays-nil kept }
 

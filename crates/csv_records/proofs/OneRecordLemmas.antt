@@ -7,7 +7,7 @@ use Rattle.csv.specs.Reading.{AreRecords, Reached, strip_bom}
 use Rattle.csv.specs.declared.parser.Config.{Config}
 use Rattle.csv.specs.declared.parser.State.{State}
 use Rattle.csv.specs.declared.parser.State.TheVariants as st
-use Rattle.csv_records.specs.Encoding.{IsTextIn, encoding_of}
+use Rattle.csv_records.specs.Encoding.{IsDecoded, encoding_of}
 use Rattle.csv_records.specs.Input.{config_for}
 use Rattle.csv_records.specs.Reading.{RecordsAreOne, parted}
 use Rattle.csv_records.specs.declared.encoding.Encoding.{Encoding}
@@ -43,7 +43,7 @@ some_each (c ∷ cs) (d ∷ ds) is =
     let rest : map Some cs ≡ map Some ds = cc is in
     ap₂ (λ (a : ℕ) (b : List ℕ). a ∷ b) first (some_each cs ds rest)
 
-text_is_one : (encoding : Encoding) (input text other : Text) → IsTextIn encoding input text → IsTextIn encoding input other → text ≡ other
+text_is_one : (encoding : Encoding) (input text other : Text) → IsDecoded encoding input text → IsDecoded encoding input other → text ≡ other
 text_is_one Utf8 input text other first second = first.1 ∙ sym second.1
 text_is_one Cp1252 input text other first second = first ∙ sym second
 text_is_one Utf16 input text other first second =

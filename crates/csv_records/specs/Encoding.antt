@@ -105,10 +105,10 @@ module _ (read : List (Option ℕ)) where
 -- ---- the text of an input
 
 -- this is the text of an input in an encoding
-abbrev pub IsTextIn : Encoding → Text → Text → Type 0
-IsTextIn Utf8 input text = IsUtf8 input × (text ≡ input)
-IsTextIn Cp1252 input text = text ≡ cp1252_text input
-IsTextIn Utf16 input text = AreCharactersOf (utf16_characters input) text
+abbrev pub IsDecoded : Encoding → Text → Text → Type 0
+IsDecoded Utf8 input text = IsUtf8 input × (text ≡ input)
+IsDecoded Cp1252 input text = text ≡ cp1252_text input
+IsDecoded Utf16 input text = AreCharactersOf (utf16_characters input) text
 
 -- why an input in an encoding has no text
 abbrev pub IsRefusedIn : Encoding → Text → DecodeError → Type 0
@@ -120,7 +120,7 @@ IsRefusedIn Utf16 input e = IsUtf16Refusal (utf16_characters input) e
 
 -- ASCII is its own text in UTF-8 and in Windows-1252
 abbrev pub IsItsOwnText : Text → Type 0
-IsItsOwnText input = IsAscii input → IsTextIn Utf8 input input × IsTextIn Cp1252 input input
+IsItsOwnText input = IsAscii input → IsDecoded Utf8 input input × IsDecoded Cp1252 input input
 
 abbrev pub unit_bytes : ByteOrder → ℕ → Text
 unit_bytes LittleEndian u = to_le_bytes w16 u
@@ -136,4 +136,4 @@ abbrev pub IsReadBack : ByteOrder → List ℕ → Type 0
 IsReadBack order characters =
     let input = written_utf16 order characters in
     all_scalars characters ≡ true
-    → (encoding_of None input ≡ Utf16) × IsTextIn Utf16 input (encode_utf8_all characters)
+    → (encoding_of None input ≡ Utf16) × IsDecoded Utf16 input (encode_utf8_all characters)

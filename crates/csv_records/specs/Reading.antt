@@ -4,7 +4,7 @@ use Rattle.comfy_parts.specs.Text.{Text}
 use Rattle.csv.specs.Reading.{strip_bom}
 use Rattle.csv.specs.declared.parser.State.TheVariants as st
 use Rattle.csv_records.specs.Delimiter.{below_lines, delimited}
-use Rattle.csv_records.specs.Encoding.{IsTextIn, encoding_of}
+use Rattle.csv_records.specs.Encoding.{IsDecoded, encoding_of}
 use Rattle.csv_records.specs.Input.{AreRecordsOf, SplitsCharacter, line_breaks}
 use Rattle.csv_records.specs.Quotes.{IsUnclosed, state_after}
 use Rattle.csv_records.specs.declared.error.RecordsError.{RecordsError}
@@ -12,8 +12,8 @@ use Rattle.csv_records.specs.declared.error.RecordsError.TheVariants.{OutOfMemor
 use Rattle.csv_records.specs.declared.options.InputOptions.{InputOptions}
 
 -- an input has this text, in the encoding that is asked for or found
-abbrev pub IsTextFor : InputOptions → Text → Text → Type 0
-IsTextFor options input text = IsTextIn (encoding_of options.encoding input) input text
+abbrev pub IsDecodedBy : InputOptions → Text → Text → Type 0
+IsDecodedBy options input text = IsDecoded (encoding_of options.encoding input) input text
 
 -- the byte between the fields of a text, and what holds its records: not the lines that are left
 -- out, nor one that names the byte
@@ -53,7 +53,7 @@ IsTextWithoutRecords options text OutOfMemory = Unit {0}
 pub record AreRecordsFor (options : InputOptions) (input : Text) (records : List
     (List Text)) : Type 0 where
   pub text : Text
-  pub is_text : IsTextFor options input text
+  pub is_text : IsDecodedBy options input text
   pub are_records : AreRecordsIn options text records
 
 -- the records of an input are one list

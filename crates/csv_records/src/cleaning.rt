@@ -20,7 +20,7 @@ const STOP: usize = 4;
 
 /// What of a field is left as it is.
 #[derive(Clone, Copy, Debug)]
-pub struct Kept {
+pub struct CleanOptions {
     /// Whether SGR sequences are. They take no terminal columns.
     pub sequences: bool,
     /// Whether characters that turn the direction of text are: U+202A to U+202E, and U+2066 to
@@ -32,7 +32,7 @@ pub struct Kept {
 /// by what is visible of its line since the last TAB. A line feed, a carriage return, or both in
 /// this order reversed, are one line feed. Every other control character, and each that turns the
 /// direction of text, becomes U+FFFD, unless it is kept.
-pub fn cleaned(alloc: Global, field: &str, kept: Kept) -> Result<String, AllocError>
+pub fn cleaned(alloc: Global, field: &str, kept: CleanOptions) -> Result<String, AllocError>
     ensures { IfOk result (λ text. string_bytes text ≡ cleaned kept field.now) }
 {
     if is_clean(field, kept) {
@@ -51,21 +51,21 @@ pub fn cleaned(alloc: Global, field: &str, kept: Kept) -> Result<String, AllocEr
 
 // Whether no character of a field is replaced. Most fields are printable ASCII, which is seen
 // faster.
-fn is_clean(field: &str, kept: Kept) -> bool
+fn is_clean(field: &str, kept: CleanOptions) -> bool
     ensures { result ≡ not (list_any (is_replaced kept) (chars field.now)) }
 {
     is_printable(field.as_bytes()) || !has_replaced(field, kept)
 }
 
 // Whether a character of a field is drawn as another one.
-fn has_replaced(field: &str, kept: Kept) -> bool
+fn has_replaced(field: &str, kept: CleanOptions) -> bool
     ensures { result ≡ list_any (is_replaced kept) (chars field.now) }
 {
     field.chars().any(|c| is_replaced(c, kept))
 }
 
 /// Whether a character is drawn as another one.
-fn is_replaced(c: char, kept: Kept) -> bool
+fn is_replaced(c: char, kept: CleanOptions) -> bool
     ensures { result ≡ is_replaced kept c }
 {
     c.is_control() || !kept.directions && turns_direction(c)
@@ -178,7 +178,7 @@ impl Cleaner {
     }
 
     // Writes a piece as it is drawn.
-    fn push_piece(&mut self, piece: Piece<'_>, kept: Kept) -> Result<(), AllocError>
+    fn push_piece(&mut self, piece: Piece<'_>, kept: CleanOptions) -> Result<(), AllocError>
         ensures { OnOk result (self.new ≡ after_piece kept self.old (part_of piece.entry)) }
     {
         match piece {
@@ -191,7 +191,7 @@ impl Cleaner {
     }
 
     // Writes a character as it is drawn.
-    fn push(&mut self, c: char, kept: Kept) -> Result<(), AllocError>
+    fn push(&mut self, c: char, kept: CleanOptions) -> Result<(), AllocError>
         ensures { OnOk result (self.new ≡ after_character kept self.old c) }
     {
         let follows_return = self.after_return;
@@ -227,7 +227,7 @@ fn blanks_after(seen: &str) -> &'static str
 }
 
 // A character as it is drawn.
-pub(crate) fn shown(c: char, kept: Kept) -> char
+pub(crate) fn shown(c: char, kept: CleanOptions) -> char
     ensures { result ≡ shown kept c }
 {
     if is_replaced(c, kept) { '\u{fffd}' } else { c }

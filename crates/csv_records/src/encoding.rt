@@ -3,11 +3,11 @@
 ghost use Rattle.std.specs.Prelude.{◌≡◌, ◌+◌, IfErr, IfOk, IsUtf8, string_bytes};
 ghost use Rattle.std.specs.Iterator.{YieldsFirst, item_count};
 ghost use Rattle.std.specs.String.{string_vec};
-ghost use Rattle.csv_records.specs.Encoding.{AreCharactersOf, IsRefusedIn, IsTextIn, IsUtf16Refusal, cp1252_character, cp1252_text, encoding_of, marked_order, order_of, unit, utf16_characters, without_mark};
+ghost use Rattle.csv_records.specs.Encoding.{AreCharactersOf, IsRefusedIn, IsDecoded, IsUtf16Refusal, cp1252_character, cp1252_text, encoding_of, marked_order, order_of, unit, utf16_characters, without_mark};
 ghost use Rattle.csv_records.specs.Input.{IsTextRefusal, line_breaks};
 
-use crate::text::{line_after, text_of};
 use crate::error::DecodeError;
+use crate::text::{line_after, text_of};
 use std::alloc::Global;
 use std::marker::Model;
 
@@ -36,7 +36,7 @@ pub fn decoded(
     encoding: Option<Encoding>,
 ) -> Result<String, DecodeError>
     ensures text { IfOk result (λ text.
-        IsTextIn (encoding_of encoding input.items) input.items (string_bytes text)) }
+        IsDecoded (encoding_of encoding input.items) input.items (string_bytes text)) }
     ensures not_copied { IfOk result
         (λ text. encoding_of encoding input.items ≡ Encoding.Utf8 → string_vec text ≡ input) }
     ensures refused { IfErr result (λ e.

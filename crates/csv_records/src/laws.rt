@@ -10,7 +10,7 @@ ghost use Rattle.csv_records.specs.Input.{RecordsAreText};
 ghost use Rattle.csv_records.specs.NumberLaws.{IsOfDigits, SignsAreAlike};
 ghost use Rattle.csv_records.specs.Quotes.{IsUnclosed};
 ghost use Rattle.csv_records.specs.Reading.{RecordsAreOne};
-ghost use Rattle.csv_records.specs.declared.cleaning.Kept.{Kept};
+ghost use Rattle.csv_records.specs.declared.cleaning.CleanOptions.{CleanOptions};
 ghost use Rattle.csv_records.specs.declared.encoding.ByteOrder.{ByteOrder};
 ghost use Rattle.csv_records.specs.declared.options.InputOptions.{InputOptions};
 
@@ -54,8 +54,8 @@ pub fn texts_in_utf16_are_read_back()
 /// were kept. No character of it turns the direction of text, unless these are kept. Cleaned once
 /// more, it stays as it is.
 pub fn cleaned_fields_hold_no_controls()
-    ensures none { (kept : Kept) (field : List ℕ) → HoldsNoControls kept field }
-    ensures once { (kept : Kept) (field : List ℕ) → IsCleanedOnce kept field }
+    ensures none { (kept : CleanOptions) (field : List ℕ) → HoldsNoControls kept field }
+    ensures once { (kept : CleanOptions) (field : List ℕ) → IsCleanedOnce kept field }
 {}
 
 /// A number has a digit, and no characters but digits, signs, marks, spaces, `e` or `E`,

@@ -18,7 +18,7 @@ mod shown;
 mod text;
 
 pub use characters::split_first;
-pub use cleaning::{Kept, cleaned};
+pub use cleaning::{CleanOptions, cleaned};
 pub use delimiter::{Delimiter, only_ascii};
 pub use encoding::{Encoding, decoded};
 pub use error::{DecodeError, RecordsError};

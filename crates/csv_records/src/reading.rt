@@ -5,11 +5,11 @@ ghost use Rattle.csv_records.specs.Input.{line_breaks};
 ghost use Rattle.csv_records.specs.Reading.{AreRecordsIn, IsTextWithoutRecords};
 
 use crate::delimiter::{below_lines, delimited};
+use crate::error::RecordsError;
+use crate::options::InputOptions;
 use crate::quotes::unclosed_quote;
 use crate::records::{Records, records_of};
 use crate::text::line_after;
-use crate::error::RecordsError;
-use crate::options::InputOptions;
 use std::alloc::Global;
 
 /// The records of a text below the lines that are left out. An empty line is no record; `""` is an

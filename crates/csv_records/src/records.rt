@@ -7,8 +7,8 @@ ghost use Rattle.csv.specs.Records.{field_at, fields_of};
 ghost use Rattle.csv_records.specs.Input.{AreRecordsOf, IsReadingRefusal, IsRecordRefusal};
 ghost use Rattle.csv_records.specs.Started.{IsStarted};
 
-use csv::{Error, ErrorKind, Reader, ReaderBuilder, StringRecord};
 use crate::error::RecordsError;
+use csv::{Error, ErrorKind, Reader, ReaderBuilder, StringRecord};
 use std::alloc::{AllocError, Global};
 use std::marker::Model;
 

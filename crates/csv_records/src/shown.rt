@@ -5,10 +5,10 @@ ghost use Rattle.std.specs.List.{list_any};
 ghost use Rattle.csv_records.specs.Cleaning.{is_harmful, nothing_kept};
 ghost use Rattle.csv_records.specs.Shown.{shown_in, shown_text};
 
-use crate::cleaning::{Kept, shown};
+use crate::cleaning::{CleanOptions, shown};
 use std::alloc::{AllocError, Global};
 
-const NOTHING_KEPT: Kept = Kept {
+const NOTHING_KEPT: CleanOptions = CleanOptions {
     sequences: false,
     directions: false,
 };

@@ -16,7 +16,7 @@ use Rattle.csv_records.specs.Cleaning.{cleaned}
 use Rattle.csv_tables.specs.Columns.{columns_for, name_at}
 use Rattle.csv_tables.specs.Drawn.{ContentValue, content_of, content_with, drawn_rows, empty_table, headed_table, limited, names_of, ok_map, pairs_of, pairs_table, records_below, rows_table}
 use Rattle.csv_tables.specs.Markdown.{escaped}
-use Rattle.csv_records.specs.declared.cleaning.Kept.{Kept}
+use Rattle.csv_records.specs.declared.cleaning.CleanOptions.{CleanOptions}
 use Rattle.csv_tables.specs.declared.options.Look.{Look}
 use Rattle.csv_tables.specs.declared.options.Options.{Options}
 use Rattle.csv_tables.specs.declared.options.DrawnColumn.{DrawnColumn}
@@ -52,7 +52,7 @@ each_name P names i number each = by_field names i each
     by_field (f ∷ fs) zero each = All-head P f fs each
     by_field (f ∷ fs) (suc j) each = by_field fs j (All-tail P f fs each)
 
-blank_cleaned : (kept : Kept) → cleaned kept [] ≡ []
+blank_cleaned : (kept : CleanOptions) → cleaned kept [] ≡ []
 blank_cleaned kept = stays_cleaned kept [] (Stays-nil kept)
 
 -- the empty field is drawn as it is

@@ -16,7 +16,7 @@ use Rattle.csv_records.proofs.CleaningLemmas.{each_character}
 use Rattle.csv_tables.proofs.TextLineLemmas.{lines-front, lines_of, text_lines}
 use Rattle.csv_tables.specs.Cells.{field_text, kept_by, kept_for_markdown, marked}
 use Rattle.csv_records.specs.Cleaning.{CleanedText, after_character, after_piece, blanks_after, blanks_at, cleaned, is_replaced, pieces, shown, start}
-use Rattle.csv_records.specs.declared.cleaning.Kept.{Kept}
+use Rattle.csv_records.specs.declared.cleaning.CleanOptions.{CleanOptions}
 use Rattle.csv_tables.specs.declared.options.Look.{Look}
 use Rattle.csv_tables.proofs.TextTableLemmas.{EachLine}
 
@@ -89,7 +89,7 @@ module _ (p : ℕ → Bool) where
 
 -- ---- cleaning
 
-module _ (p : ℕ → Bool) (space : p 0x20 ≡ true) (replacement : p 0xFFFD ≡ true) (kept : Kept) where
+module _ (p : ℕ → Bool) (space : p 0x20 ≡ true) (replacement : p 0xFFFD ≡ true) (kept : CleanOptions) where
   abbrev q : ℕ → Bool
   q c = or_feed p c
 

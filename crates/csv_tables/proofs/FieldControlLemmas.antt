@@ -13,7 +13,7 @@ use Rattle.csv_tables.proofs.MarkedLemmas.{marked-harmless}
 use Rattle.csv_tables.specs.Cells.{field_text, kept_by, kept_for_markdown, marked}
 use Rattle.csv_records.specs.Cleaning.{cleaned, is_harmful, turns_direction, visible_of}
 use Rattle.csv_tables.specs.Controls.{HasNoStrayControl, is_stray_control}
-use Rattle.csv_records.specs.declared.cleaning.Kept.{Kept}
+use Rattle.csv_records.specs.declared.cleaning.CleanOptions.{CleanOptions}
 use Rattle.csv_tables.specs.declared.options.Look.{Look}
 
 visible_whole : (keeps : Bool) (text : Text) → IsUtf8 text → IsUtf8 (visible_of keeps text)
@@ -27,14 +27,14 @@ visible-harmless true text none =
 visible-harmless false text none = none
 
 -- what isn't harmful is no such control character
-stray : (kept : Kept) (c : ℕ) → is_harmful kept c ≡ false → is_stray_control c ≡ false
+stray : (kept : CleanOptions) (c : ℕ) → is_harmful kept c ≡ false → is_stray_control c ≡ false
 stray kept c harmless = by_tests (is_control c) (c == 0x0A) (not kept.directions && turns_direction c) harmless
   where
     by_tests : (control feed turns : Bool) → (control || turns) && not feed ≡ false → control && not feed ≡ false
     by_tests true feed turns none = none
     by_tests false feed turns none = refl
 
-none_stray : (kept : Kept) (cs : List ℕ) → list_any (is_harmful kept) cs ≡ false → NonePass is_stray_control cs
+none_stray : (kept : CleanOptions) (cs : List ℕ) → list_any (is_harmful kept) cs ≡ false → NonePass is_stray_control cs
 none_stray kept [] none = tt
 none_stray kept (c ∷ cs) none =
     let each = or_parts (is_harmful kept c) (list_any (is_harmful kept) cs) none in

@@ -20,7 +20,7 @@ use Rattle.csv_tables.specs.Cells.{field_text, kept_by, kept_for_markdown, marke
 use Rattle.csv_records.specs.Cleaning.{cleaned}
 use Rattle.csv_tables.specs.Laws.{PrintableFieldsStay}
 use Rattle.csv_tables.specs.Markdown.{escaped, escaped_after, escaped_character, is_special}
-use Rattle.csv_records.specs.declared.cleaning.Kept.{Kept}
+use Rattle.csv_records.specs.declared.cleaning.CleanOptions.{CleanOptions}
 use Rattle.csv_tables.specs.declared.options.Look.{Look}
 
 abbrev is_printable : ℕ → Bool
@@ -100,7 +100,7 @@ number_is_short n = let few = digits_are_few 64 n [] in omega (arith, few)
 pub fields_stay : (look : Look) (field : Text) → PrintableFieldsStay look field
 fields_stay look field printable = one_line (field_text look field) (by_flags look.is_markdown look.is_raw)
   where
-    clean : (kept : Kept) → is_printable_ascii (cleaned kept field) ≡ true
+    clean : (kept : CleanOptions) → is_printable_ascii (cleaned kept field) ≡ true
     clean kept = ap is_printable_ascii (sym (drawn_so kept field (IsUtf8-printable field printable) (none_replaced kept field printable))) ∙ printable
 
     by_flags : (is_markdown is_raw : Bool) → is_printable_ascii (if is_markdown then marked (cleaned (kept_for_markdown look) field) else if is_raw then field else cleaned (kept_by look) field) ≡ true

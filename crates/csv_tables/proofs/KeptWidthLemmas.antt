@@ -21,7 +21,7 @@ use Rattle.csv_tables.proofs.WholeColumnLemmas.{all_shown}
 use Rattle.csv_tables.proofs.WholeTableLemmas.{drawn-is, whole_separated}
 use Rattle.csv_tables.specs.Drawn.{ContentValue, arrangement_for, empty_table, output_table, rows_table, separated_table}
 use Rattle.csv_tables.specs.Laws.{UnbrokenColumnIsWhole}
-use Rattle.csv_tables.specs.Unbroken.{kept_whole, unbroken_columns, whole_columns, with_whole}
+use Rattle.csv_tables.specs.Unbroken.{kept_unbroken, unbroken_columns, constrained_columns, with_constrained}
 use Rattle.csv_tables.specs.declared.options.Look.{Look}
 
 -- the column at a place has this fixed width
@@ -89,27 +89,27 @@ fixed_is_kept room columns full steps k x at = by_test (full && (length (even_co
 
 -- the column at a place is as wide as its content
 whole_need : (table : TableValue) (whole : List Bool) (columns : List ColumnValue) (n i : ℕ) → slice_get whole i ≡ Some true → i < length columns
-    → IsFixedAt (map (needs_of table) (enumerate_from n (whole_columns whole columns))) i (max 1 (column_content_width table (n + i)))
+    → IsFixedAt (map (needs_of table) (enumerate_from n (constrained_columns whole columns))) i (max 1 (column_content_width table (n + i)))
 whole_need table [] columns n i is below = absurd (cc is)
 whole_need table (b ∷ bs) [] n i is below = absurd (omega (arith, below))
 whole_need table (false ∷ bs) (c ∷ cs) n zero is below = absurd (cc is)
 whole_need table (true ∷ bs) (c ∷ cs) n zero is below = let place : n ≡ n + 0 = omega arith in (_, refl, ap (λ (j : ℕ). Some (max 1 (column_content_width table j))) place)
 whole_need table (b ∷ bs) (c ∷ cs) n (suc i) is below =
     let place : (n + 1) + i ≡ n + suc i = omega arith in
-    subst (λ (j : ℕ). IsFixedAt (map (needs_of table) (enumerate_from (n + 1) (whole_columns bs cs))) i (max 1 (column_content_width table j))) place (whole_need table bs cs (n + 1) i is (omega (arith, below)))
+    subst (λ (j : ℕ). IsFixedAt (map (needs_of table) (enumerate_from (n + 1) (constrained_columns bs cs))) i (max 1 (column_content_width table j))) place (whole_need table bs cs (n + 1) i is (omega (arith, below)))
 
-same_length : (whole : List Bool) (columns : List ColumnValue) → length (whole_columns whole columns) ≡ length columns
+same_length : (whole : List Bool) (columns : List ColumnValue) → length (constrained_columns whole columns) ≡ length columns
 same_length [] columns = refl
 same_length (b ∷ bs) [] = refl
 same_length (b ∷ bs) (c ∷ cs) = ap suc (same_length bs cs)
 
 module _ (table : TableValue) (new : AllByRecursion IsNewColumn table.columns) (whole : List Bool) (w : ℕ) (widths : List ℕ) (i : ℕ) where
   abbrev with : TableValue
-  with = with_whole whole table
+  with = with_constrained whole table
 
   pub whole_is_kept : width_kept with.arrangement (Some w) ≡ Some w → table_width with ≡ Some w → slice_get whole i ≡ Some true → i < length table.columns → IsArranged with widths → column_content_width table i ≤ slice_index widths i
   whole_is_kept kept known is below arranged =
-      let columns = whole_columns whole table.columns in
+      let columns = constrained_columns whole table.columns in
       let all = all_shown whole table.columns new in
       let found = dynamic_widths with with.arrangement w widths kept refl known arranged in
       let fixed = subst (λ (ps : List (ℕ × ColumnValue)). IsFixedAt (map (needs_of with) ps) i (max 1 (column_content_width with (0 + i)))) (sym all) (whole_need with whole table.columns 0 i is below) in
@@ -142,8 +142,8 @@ unbroken_is_whole w look content has widths i wide fits is below arranged =
     drawn : TableValue
     drawn = separated_table has (output_table false look content)
 
-    same : drawn ≡ with_whole whole (separated_table has rows)
-    same = ap (separated_table has) (ap (λ o. kept_whole o whole rows) wide ∙ kept-test w whole rows true (le-leb _ _ fits)) ∙ whole_separated has whole rows
+    same : drawn ≡ with_constrained whole (separated_table has rows)
+    same = ap (separated_table has) (ap (λ o. kept_unbroken o whole rows) wide ∙ kept-test w whole rows true (le-leb _ _ fits)) ∙ whole_separated has whole rows
 
     looks : drawn ≡ record (empty_table (separated has look)) { columns = drawn.columns; header = drawn.header; rows = drawn.rows }
     looks = drawn-is (separated has look) Any content drawn (any_drawn look content false has)

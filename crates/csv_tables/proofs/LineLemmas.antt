@@ -13,7 +13,7 @@ use Rattle.comfy_parts.specs.declared.style.table.ContentArrangement.TheVariants
 use Rattle.comfy_table.proofs.HeadlineLemmas.{drawing_fills_width, drawing_keeps_to_width}
 use Rattle.comfy_table.proofs.PartLemmas.{all_rows_are_the_table, part_has_lines_of_table}
 use Rattle.comfy_table.specs.Drawing.{drawing, drawing_of_infos, terminated_text_of}
-use Rattle.comfy_table.specs.Headline.{EachLineCounts, IsTableDrawing}
+use Rattle.comfy_table.specs.Headline.{LineWidthsSatisfy, IsTableDrawing}
 use Rattle.comfy_table.specs.Laws.{HasNoBreak, IsStyleWithout, count, least_total, unstyled}
 use Rattle.comfy_table.specs.Parts.{ArrangedValue, part_lines}
 use Rattle.comfy_table.specs.TableLaws.{shown_contents, wider_total}
@@ -23,7 +23,7 @@ use Rattle.csv_tables.proofs.BuiltLemmas.{Built, built, plain_table}
 use Rattle.csv_tables.proofs.SeparatorLemmas.{condensed-all, separated}
 use Rattle.csv_tables.proofs.WholeTableLemmas.{HasRoom, IsDrawn, drawn-is, drawn_table-is, least-fits, unconstrained-drawn, wider-fits}
 use Rattle.csv_tables.specs.Cells.{row_for}
-use Rattle.csv_tables.specs.Drawn.{ContentValue, IsOutputOf, IsTableText, IsText, condensed_style, empty_table, is_expanded_for, is_expanded_in, output_table, pairs_of, rows_table, separated_table, table_text}
+use Rattle.csv_tables.specs.Drawn.{ContentValue, RendersRecords, RendersAsTable, RendersContent, condensed_style, empty_table, is_expanded_for, is_expanded_in, output_table, pairs_of, rows_table, separated_table, table_text}
 use Rattle.csv_tables.specs.Laws.{EachLineHas, HasLines, IsFilling, IsOutputWith, IsWithin, OutputFillsWidth, OutputKeepsToWidth}
 use Rattle.csv_tables.specs.declared.options.Look.{Look}
 use Rattle.csv_tables.specs.declared.options.Options.{Options}
@@ -85,14 +85,14 @@ drawn_lines true content arranged unbroken = (
 )
 
 -- an output that isn't for Markdown is the text of a table
-pub is_table_text : (options : Options) (records : List (List Text)) (output : Text) (made : IsOutputOf options records output) → options.look.is_markdown ≡ false → IsTableText options.look made.content made.text
-is_table_text options records output made none = subst (λ b. IsText b options.look made.content made.text) none made.is_text
+pub is_table_text : (options : Options) (records : List (List Text)) (output : Text) (made : RendersRecords options records output) → options.look.is_markdown ≡ false → RendersAsTable options.look made.content made.text
+is_table_text options records output made none = subst (λ b. RendersContent b options.look made.content made.text) none made.is_text
 
 -- records for Markdown are never expanded
 pub never_expanded : (look : Look) (content : ContentValue) → look.is_markdown ≡ true → false ≡ is_expanded_for look content
 never_expanded look content is = ap (λ b. not b && is_expanded_in look.expansion look.width (rows_table look content)) (sym is)
 
-module _ (options : Options) (records : List (List Text)) (output : Text) (made : IsOutputOf options records output) (text : IsTableText options.look made.content made.text) (none : options.look.is_markdown ≡ false) where
+module _ (options : Options) (records : List (List Text)) (output : Text) (made : RendersRecords options records output) (text : RendersAsTable options.look made.content made.text) (none : options.look.is_markdown ≡ false) where
   abbrev pub drawn_table : TableValue
   drawn_table = separated_table text.drawn.has_separators (output_table text.is_expanded options.look made.content)
 
@@ -126,14 +126,14 @@ module _ (options : Options) (records : List (List Text)) (output : Text) (made 
             (subst (HasLines text.is_expanded made.content (drawing_of_infos text.drawn.arranged.table text.drawn.arranged.infos)) (sym is)
             (drawn_lines text.is_expanded made.content text.drawn.arranged (subst (λ (u : TableValue). All HasNoBreak (drawing_of_infos u text.drawn.arranged.infos)) same unbroken)))
 
-    has_lines : (P : TableValue → ℕ → Type 0) → EachLineCounts (P drawn_table) drawn_table text.drawn.is_arranged.headline.widths → EachLineHas P options records output
+    has_lines : (P : TableValue → ℕ → Type 0) → LineWidthsSatisfy (P drawn_table) drawn_table text.drawn.is_arranged.headline.widths → EachLineHas P options records output
     has_lines P counts =
         record { lines = drawn; is_output = with_lines; table = drawn_table; is_table = (text.drawn.has_separators, ap (λ e. separated_table text.drawn.has_separators (output_table e options.look made.content)) expansion); drawing = text.drawn.is_arranged.headline; counts = counts }
 
 -- ---- widths
 
 -- what follows for each count
-weaker_counts : (P R : ℕ → Type 0) (table : TableValue) (widths : List ℕ) → ((n : ℕ) → P n → R n) → EachLineCounts P table widths → EachLineCounts R table widths
+weaker_counts : (P R : ℕ → Type 0) (table : TableValue) (widths : List ℕ) → ((n : ℕ) → P n → R n) → LineWidthsSatisfy P table widths → LineWidthsSatisfy R table widths
 weaker_counts P R table widths gives counts =
     record {
       frame_lines = λ line. gives _ (counts.frame_lines line);
@@ -145,7 +145,7 @@ module _ (w : ℕ) (look : Look) (content : ContentValue) (table : TableValue) (
   looks : table ≡ record (empty_table look) { columns = table.columns; header = table.header; rows = table.rows }
   looks = drawn-is look Any content table known
 
-  keeps : look.fills_width ≡ false → EachLineCounts (IsWithin w table) table drawn.widths
+  keeps : look.fills_width ≡ false → LineWidthsSatisfy (IsWithin w table) table drawn.widths
   keeps kept = by_room (known.room w wide)
     where
       dynamic : table.arrangement ≡ Dynamic
@@ -154,14 +154,14 @@ module _ (w : ℕ) (look : Look) (content : ContentValue) (table : TableValue) (
       width : table_width table ≡ Some w
       width = ap table_width looks ∙ rw wide refl
 
-      by_room : (known.whole ≡ []) ⊎ HasRoom w table → EachLineCounts (IsWithin w table) table drawn.widths
+      by_room : (known.whole ≡ []) ⊎ HasRoom w table → LineWidthsSatisfy (IsWithin w table) table drawn.widths
       by_room (inl none) = drawing_keeps_to_width table w lines drawn (unconstrained-drawn look Any content table known none) dynamic width
       by_room (inr room) =
           let found = drawn.known_width.keeps_to_wider_total w dynamic width in
           let fits = wider-fits w table room false found.0 (shown_contents table drawn.widths) found.1 in
           weaker_counts (λ n. n ≤ max w (wider_total table found.0)) (IsWithin w table) table drawn.widths (λ n is. omega (arith, is, fits)) found.2
 
-  fills : look.fills_width ≡ true → EachLineCounts (IsFilling w table) table drawn.widths
+  fills : look.fills_width ≡ true → LineWidthsSatisfy (IsFilling w table) table drawn.widths
   fills filled = record { frame_lines = λ line some. (exact some).frame_lines line; printable_lines = λ is k default below some. (exact some).printable_lines is k default below; straight_lines = λ is k default below some. (exact some).straight_lines is k default below }
     where
       full : table.arrangement ≡ DynamicFullWidth
@@ -170,14 +170,14 @@ module _ (w : ℕ) (look : Look) (content : ContentValue) (table : TableValue) (
       width : table_width table ≡ Some w
       width = ap table_width looks ∙ rw wide refl
 
-      by_room : (known.whole ≡ []) ⊎ HasRoom w table → 0 < shown_count table → EachLineCounts (λ n. n ≡ max w (least_total table)) table drawn.widths
+      by_room : (known.whole ≡ []) ⊎ HasRoom w table → 0 < shown_count table → LineWidthsSatisfy (λ n. n ≡ max w (least_total table)) table drawn.widths
       by_room (inl none) some = drawing_fills_width table w lines drawn (unconstrained-drawn look Any content table known none) full width some
       by_room (inr room) some =
           let found = drawn.known_width.fills_wider_total w full width some in
           let fits = wider-fits w table room true found.0 (shown_contents table drawn.widths) found.1 in
           weaker_counts (λ n. n ≡ max w (wider_total table found.0)) (λ n. n ≡ max w (least_total table)) table drawn.widths (λ n is. omega (arith, is, fits, least-fits w table room)) found.2
 
-      exact : 0 < shown_count table → EachLineCounts (λ n. n ≡ max w (least_total table)) table drawn.widths
+      exact : 0 < shown_count table → LineWidthsSatisfy (λ n. n ≡ max w (least_total table)) table drawn.widths
       exact = by_room (known.room w wide)
 
 -- a look with lines between rows or without them keeps its other settings

@@ -11,7 +11,7 @@ use Rattle.comfy_parts.specs.declared.style.table_style.ContentLineStyle.{Conten
 use Rattle.comfy_parts.specs.declared.style.table_style.TableStyle.{TableStyle}
 use Rattle.comfy_table.proofs.MeasuredLemmas.{row_measured}
 use Rattle.comfy_table.specs.Arrangement.{IsArranged, widths_at}
-use Rattle.comfy_table.specs.Drawing.{drawing, drawn_header, drawn_row, drawn_rows, infos_of, terminated_text_of, whole_widths}
+use Rattle.comfy_table.specs.Drawing.{drawing, drawn_header, drawn_row, drawn_rows, infos_of, terminated_text_of, outer_widths}
 use Rattle.comfy_table.specs.Frame.{content_line, optional_frame_line}
 use Rattle.comfy_table.specs.Laws.{HasNoBreak}
 use Rattle.comfy_table.specs.Pieces.{row_height, row_line, shown_infos}
@@ -31,7 +31,7 @@ use Rattle.csv_tables.proofs.OutputLemmas.{markdown_unbroken}
 use Rattle.csv_tables.proofs.RowLemmas.{with_rows-rows}
 use Rattle.csv_tables.proofs.StraightLemmas.{IsShort, empty_is_short}
 use Rattle.csv_tables.proofs.TextTableLemmas.{EachLine, blank}
-use Rattle.csv_tables.specs.Drawn.{ContentValue, IsMarkdownText, IsText, below_first, headed_table, markdown_look, markdown_style, markdown_table, note_for}
+use Rattle.csv_tables.specs.Drawn.{ContentValue, RendersAsMarkdown, RendersContent, below_first, headed_table, markdown_look, markdown_style, markdown_table, note_for}
 use Rattle.csv_tables.specs.MarkdownLines.{GivesBack, MarkdownGivesRecordsBack}
 
 module _ (look : Look) (content : ContentValue) (widths : List ℕ) (arranged : IsArranged (markdown_table look content) widths) where
@@ -114,18 +114,18 @@ module _ (look : Look) (content : ContentValue) (widths : List ℕ) (arranged : 
         ap (drawn_header drawn infos) (headed look content).has_header
         ∙ ap₂ (λ (a b : List Text). a ++ b)
         (one_line drawn.style.header_lines names some own ∙ ap (λ (style : TableStyle). content_line style style.header_lines (first_line drawn look content.columns names places) ∷ []) own_style)
-        (ap (λ (style : TableStyle). optional_frame_line style style.header_separator (whole_widths infos)) own_style)
+        (ap (λ (style : TableStyle). optional_frame_line style style.header_separator (outer_widths infos)) own_style)
 
     row_line_is : (fields : List Text) → IsFitting fields → drawn_row drawn infos drawn.style.content_lines (markdown_row look content.columns fields) ≡ line_of fields ∷ []
     row_line_is fields own =
         one_line drawn.style.content_lines fields some own ∙ ap (λ (style : TableStyle). content_line style style.content_lines (first_line drawn look content.columns fields places) ∷ []) own_style
 
     others : (rows : List (List Text)) → All IsFitting rows
-        → flat_map (λ (row : RowValue). optional_frame_line drawn.style drawn.style.row_separator (whole_widths infos) ++ drawn_row drawn infos drawn.style.content_lines row) (map (row_for (markdown_look look) content.columns) rows) ≡ map line_of rows
+        → flat_map (λ (row : RowValue). optional_frame_line drawn.style drawn.style.row_separator (outer_widths infos) ++ drawn_row drawn infos drawn.style.content_lines row) (map (row_for (markdown_look look) content.columns) rows) ≡ map line_of rows
     others [] each = refl
     others (fields ∷ rows) each =
         ap₂ (λ (a b : List Text). a ++ b)
-        (ap₂ (λ (a b : List Text). a ++ b) (ap (λ (style : TableStyle). optional_frame_line style style.row_separator (whole_widths infos)) own_style) (row_line_is fields (All-head IsFitting fields rows each))) (others rows (All-tail IsFitting fields rows each))
+        (ap₂ (λ (a b : List Text). a ++ b) (ap (λ (style : TableStyle). optional_frame_line style style.row_separator (outer_widths infos)) own_style) (row_line_is fields (All-head IsFitting fields rows each))) (others rows (All-tail IsFitting fields rows each))
 
     rows_lines : (rows : List (List Text)) → All IsFitting rows → drawn_rows drawn infos (map (row_for (markdown_look look) content.columns) rows) ≡ map line_of rows
     rows_lines [] each = refl
@@ -133,10 +133,10 @@ module _ (look : Look) (content : ContentValue) (widths : List ℕ) (arranged : 
 
     lines_are : All IsFitting (names ∷ content.rows) → drawing drawn widths ≡ line_of names ∷ map line_of content.rows
     lines_are each =
-        ap₂ (λ (a b : List Text). a ++ b) (ap (λ (style : TableStyle). optional_frame_line style style.top_border (whole_widths infos)) own_style)
+        ap₂ (λ (a b : List Text). a ++ b) (ap (λ (style : TableStyle). optional_frame_line style style.top_border (outer_widths infos)) own_style)
         (ap₂ (λ (a b : List Text). a ++ b) (names_line (All-head IsFitting names content.rows each))
         (ap₂ (λ (a b : List Text). a ++ b) (ap (drawn_rows drawn infos) own_rows ∙ rows_lines content.rows (All-tail IsFitting names content.rows each))
-        (ap (λ (style : TableStyle). optional_frame_line style style.bottom_border (whole_widths infos)) own_style) ∙ append-nil (map line_of content.rows)))
+        (ap (λ (style : TableStyle). optional_frame_line style style.bottom_border (outer_widths infos)) own_style) ∙ append-nil (map line_of content.rows)))
 
     line_gives_back : (fields : List Text) → AllText fields → IsFitting fields → GivesBack look content.columns fields (line_of fields)
     line_gives_back fields text own =
@@ -159,7 +159,7 @@ records_are_given_back options records output is short text made some =
     let look = options.look in
     let content = made.content in
     let Short = All (EachLine IsShort (markdown_look look)) in
-    let drawn : IsMarkdownText look content made.text = subst (λ b. IsText b look content made.text) is made.is_text in
+    let drawn : RendersAsMarkdown look content made.text = subst (λ b. RendersContent b look content made.text) is made.is_text in
     let fields : All Short records = All-weaker (All (EachLine IsShort look)) Short (λ fields. All-weaker (EachLine IsShort look) (EachLine IsShort (markdown_look look)) (drawn_for_markdown look is) fields) records short in
     let each = with_names Short (All-nil (EachLine IsShort (markdown_look look))) content (each_content Short options records content made.is_content fields) in
     let texts = with_names AllText none content (each_content AllText options records content made.is_content text) in

@@ -16,12 +16,12 @@ use Rattle.comfy_parts.specs.declared.style.column.ColumnConstraint.{ColumnConst
 use Rattle.comfy_parts.specs.declared.style.table_style.TableStyle.{TableStyle}
 use Rattle.comfy_table.proofs.BuiltTableLemmas.{IsNewColumn, built_is_straight}
 use Rattle.comfy_table.proofs.ControlLemmas.{free_of_escapes}
-use Rattle.comfy_table.proofs.DrawnWidthLemmas.{sum-whole_widths}
+use Rattle.comfy_table.proofs.DrawnWidthLemmas.{sum-outer_widths}
 use Rattle.comfy_table.proofs.HeadlineLemmas.{visible_lines_are_straight}
 use Rattle.comfy_table.proofs.MeasuredLemmas.{measured_rows-is, row_measured}
 use Rattle.comfy_table.specs.Arrangement.{IsArranged, is_full_width, room_beside_borders, width_kept, widths_at}
 use Rattle.comfy_table.specs.Drawing.{drawing, drawing_of_infos, drawn_header, drawn_row, drawn_rows, infos_of}
-use Rattle.comfy_table.specs.Dynamic.{IsDynamic}
+use Rattle.comfy_table.specs.Dynamic.{IsDynamicLayout}
 use Rattle.comfy_table.specs.Frame.{border_count, optional_frame_line}
 use Rattle.comfy_table.specs.Headline.{IsTableDrawing}
 use Rattle.comfy_table.specs.Laws.{HasNoControl, line_total}
@@ -42,7 +42,7 @@ use Rattle.csv_tables.proofs.LineLemmas.{Any, any_built, never_expanded}
 use Rattle.csv_tables.proofs.StraightLemmas.{IsSeenTable, IsShort, empty_is_short, rows_are_straight, short_rows}
 use Rattle.csv_tables.proofs.TextTableLemmas.{EachLine, rows_of_texts}
 use Rattle.csv_tables.specs.Laws.{AreSeen, EachText, IsLookWithoutControls, IsStraightOutput, MarkdownOutputIsStraight, WholeOutputIsStraight, seen_lines}
-use Rattle.csv_tables.specs.Drawn.{ContentValue, IsMarkdownText, IsOutputOf, IsText, content_of, below_first, headed_table, empty_table, markdown_content, markdown_look, markdown_style, markdown_table}
+use Rattle.csv_tables.specs.Drawn.{ContentValue, RendersAsMarkdown, RendersRecords, RendersContent, content_of, below_first, headed_table, empty_table, markdown_content, markdown_look, markdown_style, markdown_table}
 
 -- ---- a header with a cell for each column
 
@@ -210,13 +210,13 @@ module _ (look : Look) (content : ContentValue) where
   module _ (widths : List ℕ) (arranged : IsArranged table widths) where
     pub by_contents : widths_at widths (shown_columns table) ≡ map content_at (enumerate_from 0 table.columns)
     by_contents =
-        subst (λ (o : Option ℕ). MatchOption o (widths_at widths (shown_columns table) ≡ map (disabled_width table) (shown_columns table)) (λ w. IsDynamic (room_beside_borders table w) (shown_needs table) (is_full_width table.arrangement) (widths_at widths (shown_columns table)))) no_width arranged.shown_widths
+        subst (λ (o : Option ℕ). MatchOption o (widths_at widths (shown_columns table) ≡ map (disabled_width table) (shown_columns table)) (λ w. IsDynamicLayout (room_beside_borders table w) (shown_needs table) (is_full_width table.arrangement) (widths_at widths (shown_columns table)))) no_width arranged.shown_widths
         ∙ ap (map (disabled_width table)) all_columns ∙ contents 0 table.columns known.columns
 
     -- the line below the header is as wide as the others
     rule_is_as_wide : 0 < length content.columns → measure (rule_line content.columns (max_content_widths table)) ≡ line_total table widths
     rule_is_as_wide some =
-        let whole = sum-whole_widths table widths arranged.one_for_each (subst (AllByRecursion (λ (w : ℕ). 1 ≤ w)) (sym by_contents) (each_some (enumerate_from 0 table.columns))) in
+        let whole = sum-outer_widths table widths arranged.one_for_each (subst (AllByRecursion (λ (w : ℕ). 1 ≤ w)) (sym by_contents) (each_some (enumerate_from 0 table.columns))) in
         let sums : sum (widths_at widths (shown_columns table)) ≡ sum (map content_at (enumerate_from 0 table.columns)) = ap sum by_contents in
         let two_each : sum_by (λ (p : ℕ × ColumnValue). column_padding p.1) (shown_columns table) ≡ 2 * length table.columns =
         ap (sum_by (λ (p : ℕ × ColumnValue). column_padding p.1)) all_columns ∙ paddings 0 table.columns known.columns in
@@ -299,11 +299,11 @@ seen_markdown false options records content is any = refl
 seen_markdown true options records content is (clear, text) = let cleaned = clear.cleaned in free_markdown options.look cleaned content (each_content AllText options records content is text)
 
 markdown_straight : (visible : Bool) (options : Options) (records : List (List Text)) (output : Text) → AreSeenInMarkdown visible options.look records → options.look.is_markdown ≡ true
-    → EachText IsShort options.look records → IsOutputOf options records output → IsStraightOutput visible options records output
+    → EachText IsShort options.look records → RendersRecords options records output → IsStraightOutput visible options records output
 markdown_straight visible options records output own is short made =
     let look = options.look in
     let Short = All (EachLine IsShort (markdown_look look)) in
-    let text : IsMarkdownText look made.content made.text = subst (λ b. IsText b look made.content made.text) is made.is_text in
+    let text : RendersAsMarkdown look made.content made.text = subst (λ b. RendersContent b look made.content made.text) is made.is_text in
     let fields : All Short records = All-weaker (All (EachLine IsShort look)) Short (λ fields. All-weaker (EachLine IsShort look) (EachLine IsShort (markdown_look look)) (drawn_for_markdown look is) fields) records short in
     let each = with_names Short (All-nil (EachLine IsShort (markdown_look look))) made.content (each_content Short options records made.content made.is_content fields) in
     let seen = seen_markdown visible options records made.content made.is_content own in

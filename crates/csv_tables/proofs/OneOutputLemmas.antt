@@ -19,7 +19,7 @@ use Rattle.csv_tables.specs.declared.options.Look.{Look}
 use Rattle.csv_tables.specs.declared.options.Options.{Options}
 use Rattle.csv_tables.specs.declared.options.RowSeparators.{RowSeparators}
 use Rattle.csv_tables.specs.declared.options.RowSeparators.TheVariants.{Styled, Needed, Never}
-use Rattle.csv_tables.specs.Drawn.{ContentValue, HasSeparators, IsMarkdownText, IsOutputOf, IsOutputOfAny, IsText, IsTextOfTable, below_first, content_of, content_with, drawn_rows, limited, markdown_table, names_of, note_for, ok_map, output_table, records_below, separated_table, separators_in, table_text}
+use Rattle.csv_tables.specs.Drawn.{ContentValue, HasSeparators, RendersAsMarkdown, RendersRecords, RendersAnyRecords, RendersContent, RendersTable, below_first, content_of, content_with, drawn_rows, limited, markdown_table, names_of, note_for, ok_map, output_table, records_below, separated_table, separators_in, table_text}
 use Rattle.csv_tables.specs.OneOutput.{AreSameOptions, OutputIsOne, OutputOfIsOne}
 use Rattle.csv_records.proofs.OneRecordLemmas.{read_is_one}
 use Rattle.csv_records.specs.Reading.{AreRecordsFor}
@@ -99,30 +99,30 @@ one_arranged table arranged other first second =
     made t infos = record { table = t; infos = infos }
 
 module _ (look : Look) (content : ContentValue) (text other : Text) where
-  one_table : (is_expanded : Bool) → IsTextOfTable is_expanded look content text → IsTextOfTable is_expanded look content other → text ≡ other
+  one_table : (is_expanded : Bool) → RendersTable is_expanded look content text → RendersTable is_expanded look content other → text ≡ other
   one_table is_expanded first second =
       let table = output_table is_expanded look content in
       let has = one_answer (separators_in is_expanded look.separators) (separated_table false table) first.has_separators second.has_separators first.separators second.separators in
       let arranged = one_arranged (separated_table first.has_separators table) first.arranged second.arranged first.is_arranged (subst (λ h. IsArrangedTable (separated_table h table) second.arranged) (sym has) second.is_arranged) in
       first.is ∙ ap (table_text is_expanded content) arranged ∙ sym second.is
 
-  one_markdown : IsMarkdownText look content text → IsMarkdownText look content other → text ≡ other
+  one_markdown : RendersAsMarkdown look content text → RendersAsMarkdown look content other → text ≡ other
   one_markdown first second =
       let table = markdown_table look content in
       let lines = drawing_is_one table first.lines second.lines (first.drawing.widths, first.drawing.arranged, first.drawing.drawn) (second.drawing.widths, second.drawing.arranged, second.drawing.drawn) in
       first.is ∙ ap (λ (ls : List Text). terminated_text_of (below_first (rule_line content.columns (max_content_widths table)) ls)) lines ∙ sym second.is
 
-  one_text : (is_markdown : Bool) → IsText is_markdown look content text → IsText is_markdown look content other → text ≡ other
+  one_text : (is_markdown : Bool) → RendersContent is_markdown look content text → RendersContent is_markdown look content other → text ≡ other
   one_text true first second = one_markdown first second
   one_text false first second =
-      one_table first.is_expanded first.drawn (subst (λ e. IsTextOfTable e look content other) (second.expansion ∙ sym first.expansion) second.drawn)
+      one_table first.is_expanded first.drawn (subst (λ e. RendersTable e look content other) (second.expansion ∙ sym first.expansion) second.drawn)
 
 -- ---- outputs
 
 pub output_of_is_one : (options : Options) (records : List (List Text)) (output other : Text) → OutputOfIsOne options records output other
 output_of_is_one options records output other first second =
     let same : first.content ≡ second.content = same_value first.content second.content (sym first.is_content ∙ second.is_content) in
-    let own = subst (λ (c : ContentValue). IsText options.look.is_markdown options.look c second.text) (sym same) second.is_text in
+    let own = subst (λ (c : ContentValue). RendersContent options.look.is_markdown options.look c second.text) (sym same) second.is_text in
     let text = one_text options.look first.content first.text second.text options.look.is_markdown first.is_text own in
     first.joined ∙ ap₂ (λ (t : Text) (c : ContentValue). t ++ note_for options.look.is_markdown options.selection.limit c.count) text same ∙ sym second.joined
   where
@@ -130,25 +130,25 @@ output_of_is_one options records output other first second =
     same_value c d is = cc is
 
 -- an output by other options that are the same
-with_same : (options others : Options) → AreSameOptions options others → (records : List (List Text)) (output : Text) → IsOutputOf others records output → IsOutputOf options records output
+with_same : (options others : Options) → AreSameOptions options others → (records : List (List Text)) (output : Text) → RendersRecords others records output → RendersRecords options records output
 with_same options others same records output made =
     record {
       content = made.content;
       is_content = same_content options others same records ∙ made.is_content;
       text = made.text;
-      is_text = subst (λ (l : Look). IsText l.is_markdown l made.content made.text) (sym same.look) made.is_text;
+      is_text = subst (λ (l : Look). RendersContent l.is_markdown l made.content made.text) (sym same.look) made.is_text;
       joined = made.joined ∙ ap₂ (λ (l : Look) (limit : Option ℕ). made.text ++ note_for l.is_markdown limit made.content.count) (sym same.look) (sym same.limit);
     }
 
 pub output_is_one : (options others : Options) (input output other : Text) → OutputIsOne options others input output other
 output_is_one options others input output other same first second =
-    any first.records first.is_output (subst (λ (rs : List (List Text)). IsOutputOfAny others rs other) (sym records) second.is_output)
+    any first.records first.is_output (subst (λ (rs : List (List Text)). RendersAnyRecords others rs other) (sym records) second.is_output)
   where
     records : first.records ≡ second.records
     records =
         read_is_one options.input input first.records second.records first.are_records
         (subst (λ (own : InputOptions). AreRecordsFor own input second.records) (sym same.input) second.are_records)
 
-    any : (rs : List (List Text)) → IsOutputOfAny options rs output → IsOutputOfAny others rs other → output ≡ other
+    any : (rs : List (List Text)) → RendersAnyRecords options rs output → RendersAnyRecords others rs other → output ≡ other
     any [] nothing also = nothing ∙ sym also
     any (r ∷ rs) own also = output_of_is_one options (r ∷ rs) output other own (with_same options others same (r ∷ rs) other also)

@@ -38,7 +38,7 @@ use Rattle.csv_tables.proofs.OutputLemmas.{markdown_unbroken}
 use Rattle.csv_tables.proofs.SeparatorLemmas.{condensed-all, separated}
 use Rattle.csv_tables.proofs.TextTableLemmas.{EachLine, MakesRows, cells_each, pair_each, rows_of_texts, table_of_texts}
 use Rattle.csv_tables.proofs.WholeTableLemmas.{IsDrawn, drawn-is, drawn_plain, drawn_table-is, measured-drawn}
-use Rattle.csv_tables.specs.Drawn.{ContentValue, IsMarkdownText, IsOutputOf, IsOutputOfAny, IsTableText, IsText, below_first, condensed_style, markdown_content, markdown_look, markdown_table, note_for, output_table, record_line, rows_table, separated_table}
+use Rattle.csv_tables.specs.Drawn.{ContentValue, RendersAsMarkdown, RendersRecords, RendersAnyRecords, RendersAsTable, RendersContent, below_first, condensed_style, markdown_content, markdown_look, markdown_table, note_for, output_table, record_line, rows_table, separated_table}
 use Rattle.csv_tables.specs.Laws.{HasLines, InputIsDrawnWithoutControls, IsLookWithoutControls, IsOutputWith, OutputHoldsNoControls}
 
 -- ---- rows
@@ -292,7 +292,7 @@ each_below_first P line [] own each = each
 each_below_first P line (first ∷ rest) own each = All-cons P first (line ∷ rest) (All-head P first rest each) (All-cons P line rest own (All-tail P first rest each))
 
 -- the lines of a text for Markdown
-pub markdown_lines_of : (look : Look) (content : ContentValue) (text : Text) (drawn : IsMarkdownText look content text)
+pub markdown_lines_of : (look : Look) (content : ContentValue) (text : Text) (drawn : RendersAsMarkdown look content text)
     → AreLinesOf text (below_first (rule_line content.columns (max_content_widths (markdown_table look content))) drawn.lines)
 markdown_lines_of look content text drawn =
     let rule = rule_line content.columns (max_content_widths (markdown_table look content)) in
@@ -314,7 +314,7 @@ titled content own = record { names = λ names is. by_names content.names own.na
 pub free_markdown : (look : Look) → look.is_raw ≡ false → (content : ContentValue) → EachOf AllText content → IsFreeOfControls (markdown_table look content)
 free_markdown look cleaned content text = free_rows (markdown_look look) (record { cleaned = cleaned; style = refl }) (markdown_content content) (titled content text)
 
-markdown_is_clear : (options : Options) (records : List (List Text)) (output : Text) → IsLookWithoutControls options.look → All AllText records → (made : IsOutputOf options records output) → IsMarkdownText options.look made.content made.text → options.look.is_markdown ≡ true → HasNoStrayControl (visible_text output)
+markdown_is_clear : (options : Options) (records : List (List Text)) (output : Text) → IsLookWithoutControls options.look → All AllText records → (made : RendersRecords options records output) → RendersAsMarkdown options.look made.content made.text → options.look.is_markdown ≡ true → HasNoStrayControl (visible_text output)
 markdown_is_clear options records output look text made drawn is =
     let rule = rule_line made.content.columns (max_content_widths (markdown_table options.look made.content)) in
     let own = each_content AllText options records made.content made.is_content text in
@@ -322,7 +322,7 @@ markdown_is_clear options records output look text made drawn is =
     (each_below_first IsClear rule drawn.lines (rule_is_clear made.content.columns _)
     (drawn.drawing.controls.without_controls (free_markdown options.look look.cleaned made.content own)))
 
-table_is_clear : (options : Options) (records : List (List Text)) (output : Text) → IsLookWithoutControls options.look → All AllText records → (made : IsOutputOf options records output) → IsTableText options.look made.content made.text → options.look.is_markdown ≡ false → HasNoStrayControl (visible_text output)
+table_is_clear : (options : Options) (records : List (List Text)) (output : Text) → IsLookWithoutControls options.look → All AllText records → (made : RendersRecords options records output) → RendersAsTable options.look made.content made.text → options.look.is_markdown ≡ false → HasNoStrayControl (visible_text output)
 table_is_clear options records output look text made drawn_text none =
     let has = drawn_text.drawn.has_separators in
     let own = each_content AllText options records made.content made.is_content text in
@@ -332,7 +332,7 @@ table_is_clear options records output look text made drawn_text none =
 pub output_without_controls : (options : Options) (records : List (List Text)) (output : Text) → OutputHoldsNoControls options records output
 output_without_controls options records output look text made = by_markdown options.look.is_markdown refl made.is_text
   where
-    by_markdown : (b : Bool) → options.look.is_markdown ≡ b → IsText b options.look made.content made.text → HasNoStrayControl (visible_text output)
+    by_markdown : (b : Bool) → options.look.is_markdown ≡ b → RendersContent b options.look made.content made.text → HasNoStrayControl (visible_text output)
     by_markdown true is drawn = markdown_is_clear options records output look text made drawn is
     by_markdown false none drawn = table_is_clear options records output look text made drawn none
 
@@ -340,6 +340,6 @@ output_without_controls options records output look text made = by_markdown opti
 pub input_without_controls : (options : Options) (input output : Text) → InputIsDrawnWithoutControls options input output
 input_without_controls options input output look made = any made.records made.are_records.are_records.are_records.are_text made.is_output
   where
-    any : (records : List (List Text)) → All AllText records → IsOutputOfAny options records output → HasNoStrayControl (visible_text output)
+    any : (records : List (List Text)) → All AllText records → RendersAnyRecords options records output → HasNoStrayControl (visible_text output)
     any [] text is = rw is (NoCharPasses-nil is_stray_control)
     any (first ∷ rest) text is = output_without_controls options (first ∷ rest) output look text is

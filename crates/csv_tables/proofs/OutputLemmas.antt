@@ -11,13 +11,13 @@ use Rattle.std.proofs.Common.{Bor}
 use Rattle.comfy_parts.specs.Text.{Text}
 use Rattle.comfy_table.specs.Drawing.{terminated_text_of}
 use Rattle.comfy_table.specs.Parts.{ArrangedValue, IsArrangedTable}
-use Rattle.comfy_table.specs.Headline.{IsTerminatedTextOf}
+use Rattle.comfy_table.specs.Headline.{TerminatesLines}
 use Rattle.comfy_table.specs.Laws.{HasNoBreak, HasUnbrokenStyle}
 use Rattle.comfy_table.specs.TableValue.{TableValue, max_content_widths}
 use Rattle.csv_tables.specs.declared.options.Look.{Look}
 use Rattle.csv_tables.specs.Markdown.{rule_line}
 use Rattle.csv_tables.proofs.LineLemmas.{any_built}
-use Rattle.csv_tables.specs.Drawn.{ContentValue, IsMarkdownText, IsTextOfTable, below_first, markdown_content, markdown_look, markdown_table, output_table, separators_in, table_text}
+use Rattle.csv_tables.specs.Drawn.{ContentValue, RendersAsMarkdown, RendersTable, below_first, markdown_content, markdown_look, markdown_table, output_table, separators_in, table_text}
 use Rattle.csv_tables.specs.Separators.{AreRowsSeparated}
 
 -- ---- a line below the first one
@@ -71,13 +71,13 @@ pub markdown_unbroken : (look : Look) (content : ContentValue) → HasUnbrokenSt
 markdown_unbroken look content = let known = any_built false (markdown_look look) (markdown_content content) in subst HasUnbrokenStyle (sym known.is) (record { indicator = refl; characters = refl })
 
 -- the text of such a table, by what stands at the two sides of the first line feed of its drawing
-pub markdown_lines : (look : Look) (content : ContentValue) (table : TableValue) (drawing : Text) → table ≡ markdown_table look content → IsTerminatedTextOf table drawing → (widths : List ℕ) → widths ≡ max_content_widths table
+pub markdown_lines : (look : Look) (content : ContentValue) (table : TableValue) (drawing : Text) → table ≡ markdown_table look content → TerminatesLines table drawing → (widths : List ℕ) → widths ≡ max_content_widths table
     → (r : Option (Bor Text × Bor Text)) → IsSplitOnceResult 0x0A drawing r
-    → MatchOption r (IsMarkdownText look content []) (λ x. IsMarkdownText look content (x.0.now ++ 0x0A ∷ (rule_line content.columns widths ++ 0x0A ∷ x.1.now)))
+    → MatchOption r (RendersAsMarkdown look content []) (λ x. RendersAsMarkdown look content (x.0.now ++ 0x0A ∷ (rule_line content.columns widths ++ 0x0A ∷ x.1.now)))
 markdown_lines look content table drawing is drawn widths are r split = by_result r (with_line_below rule lines drawing r own.2 (own.1.controls.without_breaks (markdown_unbroken look content)) split)
   where
-    own : IsTerminatedTextOf (markdown_table look content) drawing
-    own = subst (λ t. IsTerminatedTextOf t drawing) is drawn
+    own : TerminatesLines (markdown_table look content) drawing
+    own = subst (λ t. TerminatesLines t drawing) is drawn
 
     lines : List Text
     lines = own.0
@@ -88,11 +88,11 @@ markdown_lines look content table drawing is drawn widths are r split = by_resul
     same : rule ≡ rule_line content.columns (max_content_widths (markdown_table look content))
     same = ap (rule_line content.columns) (are ∙ ap max_content_widths is)
 
-    made : (text : Text) → text ≡ terminated_text_of (below_first rule lines) → IsMarkdownText look content text
+    made : (text : Text) → text ≡ terminated_text_of (below_first rule lines) → RendersAsMarkdown look content text
     made text whole = record { lines = lines; drawing = own.1; is = whole ∙ ap (λ (t : Text). terminated_text_of (below_first t lines)) same }
 
     by_result : (r : Option (Bor Text × Bor Text)) → MatchOption r (terminated_text_of (below_first rule lines) ≡ []) (λ x. x.0.now ++ 0x0A ∷ (rule ++ 0x0A ∷ x.1.now) ≡ terminated_text_of (below_first rule lines))
-        → MatchOption r (IsMarkdownText look content []) (λ x. IsMarkdownText look content (x.0.now ++ 0x0A ∷ (rule ++ 0x0A ∷ x.1.now)))
+        → MatchOption r (RendersAsMarkdown look content []) (λ x. RendersAsMarkdown look content (x.0.now ++ 0x0A ∷ (rule ++ 0x0A ∷ x.1.now)))
     by_result None none = made [] (sym none)
     by_result (Some x) some = made _ some
 
@@ -103,6 +103,6 @@ module _ (look : Look) (content : ContentValue) (is_expanded : Bool) where
   table = output_table is_expanded look content
 
   -- the text of a table after its lines between rows were left out where they aren't wanted
-  pub text_of_table : (after : TableValue) (arranged : ArrangedValue) (text : Text) → AreRowsSeparated (separators_in is_expanded look.separators) table after → IsArrangedTable after arranged → text ≡ table_text is_expanded content arranged → IsTextOfTable is_expanded look content text
+  pub text_of_table : (after : TableValue) (arranged : ArrangedValue) (text : Text) → AreRowsSeparated (separators_in is_expanded look.separators) table after → IsArrangedTable after arranged → text ≡ table_text is_expanded content arranged → RendersTable is_expanded look content text
   text_of_table after arranged text made found is =
       record { has_separators = made.has_separators; separators = made.separators; arranged = arranged; is_arranged = subst (λ t. IsArrangedTable t arranged) made.table found; is = is }

@@ -7,7 +7,7 @@ use Rattle.csv_records.specs.Encoding.{IsRefusedIn, encoding_of}
 use Rattle.csv_records.specs.declared.encoding.Encoding.{Encoding}
 use Rattle.csv_records.specs.declared.error.DecodeError.{DecodeError}
 use Rattle.csv_records.specs.declared.error.DecodeError.TheVariants as decode
-use Rattle.csv_tables.specs.Drawn.{IsOutputFor}
+use Rattle.csv_tables.specs.Drawn.{RendersInput}
 use Rattle.csv_tables.specs.Errors.{of_decoding, of_stop}
 use Rattle.csv_tables.specs.Run.{IsAfter, IsInputRefusal}
 use Rattle.csv_tables.specs.declared.error.CsvError.{CsvError}
@@ -18,7 +18,7 @@ use Rattle.devices.specs.Run.{IsAfter as IsAfterRun}
 use Rattle.devices.specs.declared.transfer.Stop.{Stop}
 use Rattle.devices.specs.declared.transfer.Stop.TheVariants.{OutOfMemory, Read, Refused, Write}
 
-pub after_stop : (T : Type 0) (options : Options) (stop : Stop CsvError) (facts : RunFacts) → IsAfterRun (IsOutputFor options) (IsInputRefusal options) {T = T} (Err stop) facts
+pub after_stop : (T : Type 0) (options : Options) (stop : Stop CsvError) (facts : RunFacts) → IsAfterRun (RendersInput options) (IsInputRefusal options) {T = T} (Err stop) facts
     → IsAfter {T = T} options (Err (of_stop stop)) facts
 after_stop T options Read facts after = after
 after_stop T options Write facts after = after

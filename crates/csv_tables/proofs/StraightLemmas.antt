@@ -33,7 +33,7 @@ use Rattle.csv_tables.proofs.WholeColumnLemmas.{IsPaddedColumn}
 use Rattle.csv_tables.proofs.WholeTableLemmas.{IsDrawn, columns-drawn, drawn-is, drawn_table-is, padded-drawn, rows-drawn, unconstrained-drawn}
 use Rattle.csv_tables.specs.Cells.{cell_for, field_or_blank, field_text, with_weight}
 use Rattle.csv_records.specs.Cleaning.{visible_of}
-use Rattle.csv_tables.specs.Drawn.{ContentValue, IsOutputOf, IsTableText, content_of, is_expanded_for, output_table, separated_table}
+use Rattle.csv_tables.specs.Drawn.{ContentValue, RendersRecords, RendersAsTable, content_of, is_expanded_for, output_table, separated_table}
 use Rattle.csv_tables.specs.Laws.{ArePlainLines, AreSeen, CanBeCut, EachText, FittingOutputIsStraight, IsStraightOutput, IsDrawnTable, NarrowLinesHave, NarrowOutputIsStraight, WholeOutputIsStraight, seen_lines}
 use Rattle.csv_tables.specs.declared.options.Look.{Look}
 use Rattle.csv_tables.specs.declared.options.Options.{Options}
@@ -280,11 +280,11 @@ whole_texts : (look : Look) (records : List (List Text)) → EachText IsShort lo
 whole_texts look records short (inl uncut) k fields under j field below i text inside = (short k fields under j field below i text inside, inl uncut)
 whole_texts look records short (inr agree) k fields under j field below i text inside = (short k fields under j field below i text inside, inr (agree k fields under j field below i text inside))
 
-module _ (visible : Bool) (options : Options) (records : List (List Text)) (output : Text) (none : options.look.is_markdown ≡ false) (characters : IsOneColumnStyle options.look.style) (plain : ArePlainLines visible options.look records) (made : IsOutputOf options records output) where
+module _ (visible : Bool) (options : Options) (records : List (List Text)) (output : Text) (none : options.look.is_markdown ≡ false) (characters : IsOneColumnStyle options.look.style) (plain : ArePlainLines visible options.look records) (made : RendersRecords options records output) where
   abbrev look : Look
   look = options.look
 
-  abbrev text : IsTableText look made.content made.text
+  abbrev text : RendersAsTable look made.content made.text
   text = is_table_text options records output made none
 
   abbrev has : Bool

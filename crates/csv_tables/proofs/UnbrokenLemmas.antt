@@ -4,8 +4,8 @@ use Rattle.std.specs.List.{slice_get}
 use Rattle.std.specs.Prelude.{if◌then◌else◌}
 use Rattle.comfy_parts.specs.CellValue.{ColumnValue}
 use Rattle.comfy_table.specs.TableValue.{TableValue, max_content_widths}
-use Rattle.csv_tables.specs.Unbroken.{framed_width, kept_whole, needed_content, needed_contents, whole_column, whole_columns, with_whole}
-use Rattle.csv_tables.specs.WholeAt.{whole_at}
+use Rattle.csv_tables.specs.Unbroken.{framed_width, kept_unbroken, needed_content, needed_contents, constrained_column, constrained_columns, with_constrained}
+use Rattle.csv_tables.specs.ConstrainedAt.{constrained_at}
 
 -- one content more
 needed-more : (unbroken : List Bool) (contents : List ℕ) (i content : ℕ) → i < length contents → content ≡ get_or contents i 0
@@ -21,31 +21,31 @@ needed-more [] (c ∷ cs) (suc i) content below is = ap (λ (xs : List ℕ). nee
 needed-more (b ∷ bs) (c ∷ cs) (suc i) content below is = ap (λ (xs : List ℕ). needed_content b c ∷ xs) (needed-more bs cs i content (omega (arith, below)) is)
 
 -- one column more
-whole-more : (unbroken : List Bool) (i : ℕ) (columns : List ColumnValue) → i < length unbroken → get_or unbroken i false ≡ true → whole_columns (take (suc i) unbroken) columns ≡ whole_at i (whole_columns (take i unbroken) columns)
+whole-more : (unbroken : List Bool) (i : ℕ) (columns : List ColumnValue) → i < length unbroken → get_or unbroken i false ≡ true → constrained_columns (take (suc i) unbroken) columns ≡ constrained_at i (constrained_columns (take i unbroken) columns)
 whole-more [] i columns below is = absurd (omega (arith, below))
 whole-more (b ∷ bs) zero [] below is = refl
 whole-more (b ∷ bs) zero (c ∷ cs) below is = rw is refl
 whole-more (b ∷ bs) (suc i) [] below is = refl
-whole-more (b ∷ bs) (suc i) (c ∷ cs) below is = ap (λ (xs : List ColumnValue). whole_column b c ∷ xs) (whole-more bs i cs (omega (arith, below)) is)
+whole-more (b ∷ bs) (suc i) (c ∷ cs) below is = ap (λ (xs : List ColumnValue). constrained_column b c ∷ xs) (whole-more bs i cs (omega (arith, below)) is)
 
-broken-more : (unbroken : List Bool) (i : ℕ) (columns : List ColumnValue) → i < length unbroken → get_or unbroken i false ≡ false → whole_columns (take (suc i) unbroken) columns ≡ whole_columns (take i unbroken) columns
+broken-more : (unbroken : List Bool) (i : ℕ) (columns : List ColumnValue) → i < length unbroken → get_or unbroken i false ≡ false → constrained_columns (take (suc i) unbroken) columns ≡ constrained_columns (take i unbroken) columns
 broken-more [] i columns below is = absurd (omega (arith, below))
 broken-more (b ∷ bs) zero [] below is = refl
 broken-more (b ∷ bs) zero (c ∷ cs) below is = rw is refl
 broken-more (b ∷ bs) (suc i) [] below is = refl
-broken-more (b ∷ bs) (suc i) (c ∷ cs) below is = ap (λ (xs : List ColumnValue). whole_column b c ∷ xs) (broken-more bs i cs (omega (arith, below)) is)
+broken-more (b ∷ bs) (suc i) (c ∷ cs) below is = ap (λ (xs : List ColumnValue). constrained_column b c ∷ xs) (broken-more bs i cs (omega (arith, below)) is)
 
 -- a column is replaced
-pub whole_at-set : (columns : List ColumnValue) (i : ℕ) (default : ColumnValue) → i < length columns → set columns i (whole_column true (get_or columns i default)) ≡ whole_at i columns
-whole_at-set [] i default below = absurd (omega (arith, below))
-whole_at-set (c ∷ cs) zero default below = refl
-whole_at-set (c ∷ cs) (suc i) default below = ap (λ (xs : List ColumnValue). c ∷ xs) (whole_at-set cs i default (omega (arith, below)))
+pub constrained_at-set : (columns : List ColumnValue) (i : ℕ) (default : ColumnValue) → i < length columns → set columns i (constrained_column true (get_or columns i default)) ≡ constrained_at i columns
+constrained_at-set [] i default below = absurd (omega (arith, below))
+constrained_at-set (c ∷ cs) zero default below = refl
+constrained_at-set (c ∷ cs) (suc i) default below = ap (λ (xs : List ColumnValue). c ∷ xs) (constrained_at-set cs i default (omega (arith, below)))
 
 -- or there is none
-pub whole_at-past : (columns : List ColumnValue) (i : ℕ) → length columns ≤ i → whole_at i columns ≡ columns
-whole_at-past [] i past = refl
-whole_at-past (c ∷ cs) zero past = absurd (omega (arith, past))
-whole_at-past (c ∷ cs) (suc i) past = ap (λ (xs : List ColumnValue). c ∷ xs) (whole_at-past cs i (omega (arith, past)))
+pub constrained_at-past : (columns : List ColumnValue) (i : ℕ) → length columns ≤ i → constrained_at i columns ≡ columns
+constrained_at-past [] i past = refl
+constrained_at-past (c ∷ cs) zero past = absurd (omega (arith, past))
+constrained_at-past (c ∷ cs) (suc i) past = ap (λ (xs : List ColumnValue). c ∷ xs) (constrained_at-past cs i (omega (arith, past)))
 
 -- no contents
 pub needed-none : (unbroken : List Bool) → needed_contents unbroken [] ≡ []
@@ -57,15 +57,15 @@ pub needed-next : (unbroken : List Bool) (contents : List ℕ) (i content : ℕ)
     → needed_contents unbroken (take (i + 1) contents) ≡ needed_contents unbroken (take i contents) ++ needed_content (unwrap_or (slice_get unbroken i) false) content ∷ []
 needed-next unbroken contents i content below is = rw add-one (needed-more unbroken contents i content below is)
 
-pub whole-next : (unbroken : List Bool) (i : ℕ) (columns : List ColumnValue) → i < length unbroken → get_or unbroken i false ≡ true → whole_columns (take (i + 1) unbroken) columns ≡ whole_at i (whole_columns (take i unbroken) columns)
+pub whole-next : (unbroken : List Bool) (i : ℕ) (columns : List ColumnValue) → i < length unbroken → get_or unbroken i false ≡ true → constrained_columns (take (i + 1) unbroken) columns ≡ constrained_at i (constrained_columns (take i unbroken) columns)
 whole-next unbroken i columns below is = rw add-one (whole-more unbroken i columns below is)
 
-pub broken-next : (unbroken : List Bool) (i : ℕ) (columns : List ColumnValue) → i < length unbroken → get_or unbroken i false ≡ false → whole_columns (take (i + 1) unbroken) columns ≡ whole_columns (take i unbroken) columns
+pub broken-next : (unbroken : List Bool) (i : ℕ) (columns : List ColumnValue) → i < length unbroken → get_or unbroken i false ≡ false → constrained_columns (take (i + 1) unbroken) columns ≡ constrained_columns (take i unbroken) columns
 broken-next unbroken i columns below is = rw add-one (broken-more unbroken i columns below is)
 
 -- ---- tables
 
 -- whether there is room
 pub kept-test : (width : ℕ) (unbroken : List Bool) (table : TableValue) (b : Bool) → nat_le (framed_width table.style (needed_contents unbroken (max_content_widths table))) width ≡ b
-    → kept_whole (Some width) unbroken table ≡ (if b then with_whole unbroken table else table)
-kept-test width unbroken table b is = ap (λ b. if b then with_whole unbroken table else table) is
+    → kept_unbroken (Some width) unbroken table ≡ (if b then with_constrained unbroken table else table)
+kept-test width unbroken table b is = ap (λ b. if b then with_constrained unbroken table else table) is

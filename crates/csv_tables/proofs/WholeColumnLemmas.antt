@@ -10,7 +10,7 @@ use Rattle.comfy_table.proofs.TakingLemmas.{next_taken-where}
 use Rattle.comfy_table.specs.Dynamic.{IsTakenAfter, Placed, Share, average, content_room, fixed_shares, lower_of_boundary, lower_offer, places_of, total, undecided}
 use Rattle.comfy_table.specs.TableValue.{TableValue, column_content_width}
 use Rattle.comfy_table.specs.Widths.{ColumnNeeds, fixed_by_constraint, lower_boundary, needs_of, shown_count}
-use Rattle.csv_tables.specs.Unbroken.{needed_content, needed_contents, whole_column, whole_columns}
+use Rattle.csv_tables.specs.Unbroken.{needed_content, needed_contents, constrained_column, constrained_columns}
 
 -- ---- what columns need
 
@@ -85,7 +85,7 @@ needs-cons column content columns contents own more =
 
 module _ (table : TableValue) where
   -- a column that is as wide as its content, or a new one
-  need : (is_whole : Bool) (i : ℕ) (column : ColumnValue) → IsNewColumn column → IsNeed (needs_of table (i, whole_column is_whole column)) (needed_content is_whole (column_content_width table i))
+  need : (is_whole : Bool) (i : ℕ) (column : ColumnValue) → IsNewColumn column → IsNeed (needs_of table (i, constrained_column is_whole column)) (needed_content is_whole (column_content_width table i))
   need true i column new =
       let one : column.padding.0 ≡ 1 = ap (λ (x : ℕ × ℕ). x.0) new.padding in
       let other : column.padding.1 ≡ 1 = ap (λ (x : ℕ × ℕ). x.1) new.padding in
@@ -97,18 +97,18 @@ module _ (table : TableValue) where
       record { padding = omega (arith, one, other); least = omega (arith, free); most = omega (arith, free); no_lower = ap (lower_boundary table (shown_count table)) new.no_constraint }
 
   pub needs : (whole : List Bool) (columns : List ColumnValue) (n : ℕ) → AllByRecursion IsNewColumn columns
-      → AreNeeds (map (needs_of table) (enumerate_from n (whole_columns whole columns))) (needed_contents whole (map (column_content_width table) (range_with_len n (length columns))))
+      → AreNeeds (map (needs_of table) (enumerate_from n (constrained_columns whole columns))) (needed_contents whole (map (column_content_width table) (range_with_len n (length columns))))
   needs [] [] n new = record { count = refl; room = omega arith; least = omega arith; no_lower = tt }
   needs [] (column ∷ columns) n new = needs-cons _ _ _ _ (need false n column new.0) (needs [] columns (n + 1) new.1)
   needs (is_whole ∷ more) [] n new = record { count = refl; room = omega arith; least = omega arith; no_lower = tt }
   needs (is_whole ∷ more) (column ∷ columns) n new = needs-cons _ _ _ _ (need is_whole n column new.0) (needs more columns (n + 1) new.1)
 
 -- none of them is hidden
-shown : (is_whole : Bool) (column : ColumnValue) → IsNewColumn column → not (is_hidden_column (whole_column is_whole column)) ≡ true
+shown : (is_whole : Bool) (column : ColumnValue) → IsNewColumn column → not (is_hidden_column (constrained_column is_whole column)) ≡ true
 shown true column new = refl
 shown false column new = ap (λ c. not (is_hidden_constraint c)) new.no_constraint
 
-each_shown : (whole : List Bool) (columns : List ColumnValue) → AllByRecursion IsNewColumn columns → AllByRecursion (λ (column : ColumnValue). not (is_hidden_column column) ≡ true) (whole_columns whole columns)
+each_shown : (whole : List Bool) (columns : List ColumnValue) → AllByRecursion IsNewColumn columns → AllByRecursion (λ (column : ColumnValue). not (is_hidden_column column) ≡ true) (constrained_columns whole columns)
 each_shown [] [] new = tt
 each_shown [] (column ∷ columns) new = (shown false column new.0, each_shown [] columns new.1)
 each_shown (is_whole ∷ more) [] new = tt
@@ -116,21 +116,21 @@ each_shown (is_whole ∷ more) (column ∷ columns) new = (shown is_whole column
 
 -- so all of them are shown
 pub all_shown : (whole : List Bool) (columns : List ColumnValue) → AllByRecursion IsNewColumn columns
-    → filter (λ (p : ℕ × ColumnValue). not (is_hidden_column p.1)) (enumerate_from 0 (whole_columns whole columns)) ≡ enumerate_from 0 (whole_columns whole columns)
+    → filter (λ (p : ℕ × ColumnValue). not (is_hidden_column p.1)) (enumerate_from 0 (constrained_columns whole columns)) ≡ enumerate_from 0 (constrained_columns whole columns)
 all_shown whole columns new =
-    filter_all (λ (p : ℕ × ColumnValue). not (is_hidden_column p.1)) (enumerate_from 0 (whole_columns whole columns))
-    (every-places (λ (column : ColumnValue). not (is_hidden_column column) ≡ true) 0 (whole_columns whole columns) (each_shown whole columns new))
+    filter_all (λ (p : ℕ × ColumnValue). not (is_hidden_column p.1)) (enumerate_from 0 (constrained_columns whole columns))
+    (every-places (λ (column : ColumnValue). not (is_hidden_column column) ≡ true) 0 (constrained_columns whole columns) (each_shown whole columns new))
 
 -- their paddings and their delimiter are those of new columns
 pub record IsPaddedColumn (column : ColumnValue) : Type 0 where
   pub padding : column.padding ≡ (1, 1)
   pub no_delimiter : column.delimiter ≡ None
 
-padded_column : (is_whole : Bool) (column : ColumnValue) → IsNewColumn column → IsPaddedColumn (whole_column is_whole column)
+padded_column : (is_whole : Bool) (column : ColumnValue) → IsNewColumn column → IsPaddedColumn (constrained_column is_whole column)
 padded_column true column new = record { padding = new.padding; no_delimiter = new.no_delimiter }
 padded_column false column new = record { padding = new.padding; no_delimiter = new.no_delimiter }
 
-pub padded_columns : (whole : List Bool) (columns : List ColumnValue) → AllByRecursion IsNewColumn columns → AllByRecursion IsPaddedColumn (whole_columns whole columns)
+pub padded_columns : (whole : List Bool) (columns : List ColumnValue) → AllByRecursion IsNewColumn columns → AllByRecursion IsPaddedColumn (constrained_columns whole columns)
 padded_columns [] [] new = tt
 padded_columns [] (column ∷ columns) new = (padded_column false column new.0, padded_columns [] columns new.1)
 padded_columns (is_whole ∷ more) [] new = tt

@@ -22,7 +22,7 @@ use Rattle.csv_tables.proofs.BuiltLemmas.{Built, plain_table}
 use Rattle.csv_tables.proofs.SeparatorLemmas.{restyled, separated}
 use Rattle.csv_tables.proofs.WholeColumnLemmas.{AreNeeds, IsPaddedColumn, all_shown, are_fixed, fixed_or_one, lower-none, needs, padded_columns}
 use Rattle.csv_tables.specs.Drawn.{ContentValue, condensed_style, empty_table, output_table, rows_table, separated_table}
-use Rattle.csv_tables.specs.Unbroken.{framed_width, kept_whole, needed_contents, unbroken_columns, whole_columns, with_whole}
+use Rattle.csv_tables.specs.Unbroken.{framed_width, kept_unbroken, needed_contents, unbroken_columns, constrained_columns, with_constrained}
 use Rattle.csv_tables.specs.declared.options.Look.{Look}
 
 -- ---- room
@@ -52,11 +52,11 @@ module _ (w : ℕ) (table : TableValue) (room : HasRoom w table) where
       omega (arith, framed, fixed.no_more, fixed.widths, ap total none, ap length none)
 
 -- columns that are new, or as wide as their contents, need no more than that
-pub room_for : (w : ℕ) (whole : List Bool) (table : TableValue) → AllByRecursion IsNewColumn table.columns → framed_width table.style (needed_contents whole (max_content_widths table)) ≤ w → HasRoom w (with_whole whole table)
+pub room_for : (w : ℕ) (whole : List Bool) (table : TableValue) → AllByRecursion IsNewColumn table.columns → framed_width table.style (needed_contents whole (max_content_widths table)) ≤ w → HasRoom w (with_constrained whole table)
 room_for w whole table new fits =
     record {
       contents = needed_contents whole (max_content_widths table);
-      needs = subst (λ (ps : List (ℕ × ColumnValue)). AreNeeds (map (needs_of (with_whole whole table)) ps) (needed_contents whole (max_content_widths table))) (sym (all_shown whole table.columns new)) (needs (with_whole whole table) whole table.columns 0 new);
+      needs = subst (λ (ps : List (ℕ × ColumnValue)). AreNeeds (map (needs_of (with_constrained whole table)) ps) (needed_contents whole (max_content_widths table))) (sym (all_shown whole table.columns new)) (needs (with_constrained whole table) whole table.columns 0 new);
       fits = fits;
     }
 
@@ -85,7 +85,7 @@ still_fits : (w : ℕ) (has : Bool) (table : TableValue) (whole : List Bool) →
 still_fits w true table whole fits = fits
 still_fits w false table whole fits = omega (arith, fits, fewer_borders table.style (length (needed_contents whole (max_content_widths table))))
 
-pub whole_separated : (has : Bool) (whole : List Bool) (table : TableValue) → separated_table has (with_whole whole table) ≡ with_whole whole (separated_table has table)
+pub whole_separated : (has : Bool) (whole : List Bool) (table : TableValue) → separated_table has (with_constrained whole table) ≡ with_constrained whole (separated_table has table)
 whole_separated true whole table = refl
 whole_separated false whole table = refl
 
@@ -97,7 +97,7 @@ module _ (look : Look) (Q : RowValue → Type 0) (content : ContentValue) where
     pub plain : TableValue
     pub known : Built look Q content plain
     pub whole : List Bool
-    pub is_whole : table ≡ with_whole whole plain
+    pub is_whole : table ≡ with_constrained whole plain
     pub no_width : look.width ≡ None → whole ≡ []
     pub room : (w : ℕ) → look.width ≡ Some w → (whole ≡ []) ⊎ HasRoom w table
 
@@ -110,7 +110,7 @@ module _ (look : Look) (Q : RowValue → Type 0) (content : ContentValue) where
     pub drawn-is : table ≡ record (empty_table look) { columns = table.columns; header = table.header; rows = table.rows }
     drawn-is =
         subst (λ (t : TableValue). t ≡ record (empty_table look) { columns = t.columns; header = t.header; rows = t.rows }) (sym drawn.is_whole)
-        (ap (λ (t : TableValue). record t { columns = whole_columns drawn.whole drawn.plain.columns }) drawn.known.is)
+        (ap (λ (t : TableValue). record t { columns = constrained_columns drawn.whole drawn.plain.columns }) drawn.known.is)
 
     -- its rows are those
     pub measured-drawn : (R : RowValue → Type 0) → ((row : RowValue) → Q row → R (row_measured look.has_sequences row)) → All R (measured_rows table)
@@ -125,7 +125,7 @@ module _ (look : Look) (Q : RowValue → Type 0) (content : ContentValue) where
         let each = padded_columns drawn.whole drawn.plain.columns (recursion_from_All IsNewColumn drawn.plain.columns drawn.known.columns) in
         subst (λ (t : TableValue). All (λ (p : ℕ × ColumnValue). IsPaddedColumn p.1) (shown_columns t)) (sym drawn.is_whole)
         (All-filter (λ (p : ℕ × ColumnValue). not (is_hidden_column p.1)) (λ (p : ℕ × ColumnValue). IsPaddedColumn p.1) _
-        (All-from_recursion (λ (p : ℕ × ColumnValue). IsPaddedColumn p.1) _ (every-places IsPaddedColumn 0 (whole_columns drawn.whole drawn.plain.columns) each)))
+        (All-from_recursion (λ (p : ℕ × ColumnValue). IsPaddedColumn p.1) _ (every-places IsPaddedColumn 0 (constrained_columns drawn.whole drawn.plain.columns) each)))
 
     pub padded-drawn : All (λ (p : ℕ × ColumnValue). 1 ≤ p.1.padding.0) (shown_columns table)
     padded-drawn =
@@ -135,7 +135,7 @@ module _ (look : Look) (Q : RowValue → Type 0) (content : ContentValue) where
     -- and no constraint, where none is as wide as its content
     pub unconstrained-drawn : drawn.whole ≡ [] → NoConstraints table
     unconstrained-drawn none =
-        subst NoConstraints (sym (drawn.is_whole ∙ ap (λ (whole : List Bool). with_whole whole drawn.plain) none)) (unconstrained (empty_table look) Q drawn.plain drawn.known)
+        subst NoConstraints (sym (drawn.is_whole ∙ ap (λ (whole : List Bool). with_constrained whole drawn.plain) none)) (unconstrained (empty_table look) Q drawn.plain drawn.known)
 
 -- the table that is drawn of some records
 pub drawn_table-is : (look : Look) (Q : RowValue → Type 0) (content : ContentValue) (is_expanded has : Bool) → Built (separated has look) Q content (plain_table is_expanded (separated has look) content)
@@ -161,23 +161,23 @@ drawn_table-is look Q content false has known = by_width look.width refl
     new : AllByRecursion IsNewColumn (separated_table has rows).columns
     new = subst (λ (t : TableValue). AllByRecursion IsNewColumn t.columns) same (recursion_from_All IsNewColumn plain.columns known.columns)
 
-    with_room : (w : ℕ) → framed_width rows.style (needed_contents whole (max_content_widths rows)) ≤ w → HasRoom w (separated_table has (with_whole whole rows))
+    with_room : (w : ℕ) → framed_width rows.style (needed_contents whole (max_content_widths rows)) ≤ w → HasRoom w (separated_table has (with_constrained whole rows))
     with_room w fits = subst (HasRoom w) (sym (whole_separated has whole rows)) (room_for w whole (separated_table has rows) new (still_fits w has rows whole fits))
 
-    by_width : (o : Option ℕ) → look.width ≡ o → IsDrawn (separated has look) Q content (separated_table has (kept_whole o whole rows))
+    by_width : (o : Option ℕ) → look.width ≡ o → IsDrawn (separated has look) Q content (separated_table has (kept_unbroken o whole rows))
     by_width None is = own
     by_width (Some w) is = by_test (nat_le (framed_width rows.style (needed_contents whole (max_content_widths rows))) w) refl
       where
-        by_test : (b : Bool) → nat_le (framed_width rows.style (needed_contents whole (max_content_widths rows))) w ≡ b → IsDrawn (separated has look) Q content (separated_table has (if b then with_whole whole rows else rows))
+        by_test : (b : Bool) → nat_le (framed_width rows.style (needed_contents whole (max_content_widths rows))) w ≡ b → IsDrawn (separated has look) Q content (separated_table has (if b then with_constrained whole rows else rows))
         by_test false test = own
         by_test true test =
             record {
               plain = plain;
               known = known;
               whole = whole;
-              is_whole = whole_separated has whole rows ∙ ap (with_whole whole) (sym same);
+              is_whole = whole_separated has whole rows ∙ ap (with_constrained whole) (sym same);
               no_width = λ none. absurd (cc (kept has none, is));
-              room = λ v wide. inr (subst (λ n. HasRoom n (separated_table has (with_whole whole rows))) (same_width v wide) (with_room w (leb-true _ w test)));
+              room = λ v wide. inr (subst (λ n. HasRoom n (separated_table has (with_constrained whole rows))) (same_width v wide) (with_room w (leb-true _ w test)));
             }
           where
             kept : (b : Bool) → {o : Option ℕ} → (separated b look).width ≡ o → look.width ≡ o

@@ -8,7 +8,7 @@ use Rattle.comfy_parts.specs.declared.style.cell.CellAlignment.{CellAlignment}
 use Rattle.csv.specs.Records.{field_at}
 use Rattle.csv_records.specs.Cleaning.{cleaned}
 use Rattle.csv_tables.specs.Markdown.{escaped}
-use Rattle.csv_records.specs.declared.cleaning.Kept.{Kept}
+use Rattle.csv_records.specs.declared.cleaning.CleanOptions.{CleanOptions}
 use Rattle.csv_tables.specs.declared.options.Look.{Look}
 use Rattle.csv_tables.specs.declared.options.DrawnColumn.{DrawnColumn}
 
@@ -21,10 +21,10 @@ abbrev pub marked : Text → Text
 marked text = encode_utf8_all (escaped (chars text))
 
 -- what of a field a look leaves as it is; for Markdown no sequences
-abbrev pub kept_by : Look → Kept
+abbrev pub kept_by : Look → CleanOptions
 kept_by look = record { sequences = look.has_sequences; directions = look.keeps_bidi }
 
-abbrev pub kept_for_markdown : Look → Kept
+abbrev pub kept_for_markdown : Look → CleanOptions
 kept_for_markdown look = record { sequences = false; directions = look.keeps_bidi }
 
 -- a field as its cell has it: left raw, or cleaned; for Markdown it is cleaned and escaped

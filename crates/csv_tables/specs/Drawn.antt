@@ -24,7 +24,7 @@ use Rattle.csv_tables.specs.declared.options.Options.{Options}
 use Rattle.csv_tables.specs.declared.options.RowSeparators.{RowSeparators}
 use Rattle.csv_tables.specs.declared.options.RowSeparators.TheVariants.{Styled, Needed, Never}
 use Rattle.csv_tables.specs.declared.options.DrawnColumn.{DrawnColumn}
-use Rattle.csv_tables.specs.Unbroken.{framed_width, kept_whole, unbroken_columns}
+use Rattle.csv_tables.specs.Unbroken.{framed_width, kept_unbroken, unbroken_columns}
 
 -- ---- records
 
@@ -124,7 +124,7 @@ pairs_table look content =
 abbrev pub output_table : Bool → Look → ContentValue → TableValue
 output_table true look content = pairs_table look content
 output_table false look content =
-    kept_whole look.width (unbroken_columns look.has_sequences content.columns content.rows)
+    kept_unbroken look.width (unbroken_columns look.has_sequences content.columns content.rows)
     (rows_table look content)
 
 -- ---- lines between rows
@@ -206,7 +206,7 @@ table_text true content arranged =
 table_text false content arranged = part_text arranged 0 (length arranged.table.rows)
 
 -- the text of such a table, with lines between rows or without
-pub record IsTextOfTable (is_expanded : Bool) (look : Look) (content : ContentValue)
+pub record RendersTable (is_expanded : Bool) (look : Look) (content : ContentValue)
     (text : Text) : Type 0 where
   pub has_separators : Bool
   pub separators :
@@ -226,10 +226,10 @@ markdown_style =
     }
 
 -- the text of a table of rows, or of expanded records
-pub record IsTableText (look : Look) (content : ContentValue) (text : Text) : Type 0 where
+pub record RendersAsTable (look : Look) (content : ContentValue) (text : Text) : Type 0 where
   pub is_expanded : Bool
   pub expansion : is_expanded ≡ is_expanded_in look.expansion look.width (rows_table look content)
-  pub drawn : IsTextOfTable is_expanded look content text
+  pub drawn : RendersTable is_expanded look content text
 
 -- for Markdown a record is one line, whatever else is wanted
 abbrev pub markdown_look : Look → Look
@@ -257,16 +257,16 @@ below_first line [] = []
 below_first line (first ∷ rest) = first ∷ line ∷ rest
 
 -- the text of a table for Markdown: the line below the header says which columns stand at the right
-pub record IsMarkdownText (look : Look) (content : ContentValue) (text : Text) : Type 0 where
+pub record RendersAsMarkdown (look : Look) (content : ContentValue) (text : Text) : Type 0 where
   pub lines : List Text
   pub drawing : IsTableDrawing (markdown_table look content) lines
   pub is :
       text ≡ terminated_text_of (below_first
       (rule_line content.columns (max_content_widths (markdown_table look content))) lines)
 
-abbrev pub IsText : Bool → Look → ContentValue → Text → Type 0
-IsText true look content text = IsMarkdownText look content text
-IsText false look content text = IsTableText look content text
+abbrev pub RendersContent : Bool → Look → ContentValue → Text → Type 0
+RendersContent true look content text = RendersAsMarkdown look content text
+RendersContent false look content text = RendersAsTable look content text
 
 -- the line on records that aren't drawn, in Markdown below an empty one
 abbrev pub note_for : Bool → Option ℕ → ℕ → Text
@@ -278,22 +278,22 @@ note_for is_markdown (Some limit) count =
     else []
 
 -- the output for some records: the text of their table, and the line on records that aren't drawn
-pub record IsOutputOf (options : Options) (records : List (List Text))
+pub record RendersRecords (options : Options) (records : List (List Text))
     (output : Text) : Type 0 where
   pub content : ContentValue
   pub is_content : content_of options records ≡ Ok content
   pub text : Text
-  pub is_text : IsText options.look.is_markdown options.look content text
+  pub is_text : RendersContent options.look.is_markdown options.look content text
   pub joined :
       output ≡ text ++ note_for options.look.is_markdown options.selection.limit content.count
 
 -- the output for the records of an input: nothing where there are none
-abbrev pub IsOutputOfAny : Options → List (List Text) → Text → Type 0
-IsOutputOfAny options [] output = output ≡ []
-IsOutputOfAny options (first ∷ rest) output = IsOutputOf options (first ∷ rest) output
+abbrev pub RendersAnyRecords : Options → List (List Text) → Text → Type 0
+RendersAnyRecords options [] output = output ≡ []
+RendersAnyRecords options (first ∷ rest) output = RendersRecords options (first ∷ rest) output
 
 -- the output for an input is that for its records
-pub record IsOutputFor (options : Options) (input output : Text) : Type 0 where
+pub record RendersInput (options : Options) (input output : Text) : Type 0 where
   pub records : List (List Text)
   pub are_records : AreRecordsFor options.input input records
-  pub is_output : IsOutputOfAny options records output
+  pub is_output : RendersAnyRecords options records output

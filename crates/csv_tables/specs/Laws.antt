@@ -8,7 +8,7 @@ use Rattle.comfy_parts.specs.VisibleText.{visible_text}
 use Rattle.comfy_table.specs.Arrangement.{IsArranged}
 use Rattle.comfy_table.specs.Drawing.{terminated_text_of}
 use Rattle.comfy_table.specs.FittingTables.{CharactersFitColumn}
-use Rattle.comfy_table.specs.Headline.{EachLineCounts, IsTableDrawing}
+use Rattle.comfy_table.specs.Headline.{LineWidthsSatisfy, IsTableDrawing}
 use Rattle.comfy_table.specs.Laws.{AreLinesOf, HasNoBreak, HasNoControl, IsPrintableTable, IsStyleWithout, count, least_total}
 use Rattle.comfy_table.specs.NewTables.{AreEquallyWide}
 use Rattle.comfy_table.specs.Straight.{EachCell}
@@ -18,7 +18,7 @@ use Rattle.csv_tables.specs.Cells.{field_text, row_for}
 use Rattle.csv_records.specs.Cleaning.{visible_of}
 use Rattle.csv_tables.specs.Columns.{count_of, kept_columns}
 use Rattle.csv_tables.specs.Controls.{HasNoStrayControl, IsStyleWithoutControls}
-use Rattle.csv_tables.specs.Drawn.{ContentValue, IsOutputFor, IsOutputOf, content_of, drawn_rows, is_expanded_for, names_of, note_for, output_table, record_line, rows_table, separated_table, table_for}
+use Rattle.csv_tables.specs.Drawn.{ContentValue, RendersInput, RendersRecords, content_of, drawn_rows, is_expanded_for, names_of, note_for, output_table, record_line, rows_table, separated_table, table_for}
 use Rattle.csv_tables.specs.Unbroken.{framed_width, needed_contents, unbroken_columns}
 use Rattle.csv.specs.Records.{AllText}
 use Rattle.csv_tables.specs.declared.options.Look.{Look}
@@ -88,7 +88,7 @@ pub record EachLineHas (P : TableValue → ℕ → Type 0) (options : Options)
   pub table : TableValue
   pub is_table : IsDrawnTable options.look is_output.content table
   pub drawing : IsTableDrawing table lines
-  pub counts : EachLineCounts (P table) table drawing.widths
+  pub counts : LineWidthsSatisfy (P table) table drawing.widths
 
 -- a count keeps to a width, or to borders, paddings and one for each column
 abbrev pub IsWithin : ℕ → TableValue → ℕ → Type 0
@@ -103,7 +103,7 @@ abbrev pub OutputKeepsToWidth : ℕ → Options → List (List Text) → Text �
 OutputKeepsToWidth w options records output =
     options.look.is_markdown ≡ false → options.look.width ≡ Some w
     → options.look.fills_width ≡ false → options.look.has_sequences ≡ false
-    → IsStyleWithout 0x0A options.look.style → IsOutputOf options records output
+    → IsStyleWithout 0x0A options.look.style → RendersRecords options records output
     → EachLineHas (IsWithin w) options records output
 
 -- where the width is filled, it fills it
@@ -111,7 +111,7 @@ abbrev pub OutputFillsWidth : ℕ → Options → List (List Text) → Text → 
 OutputFillsWidth w options records output =
     options.look.is_markdown ≡ false → options.look.width ≡ Some w
     → options.look.fills_width ≡ true → options.look.has_sequences ≡ false
-    → IsStyleWithout 0x0A options.look.style → IsOutputOf options records output
+    → IsStyleWithout 0x0A options.look.style → RendersRecords options records output
     → EachLineHas (IsFilling w) options records output
 
 -- ---- what is visible of lines
@@ -187,21 +187,21 @@ WholeOutputIsStraight visible options records output =
     IsOneColumnStyle options.look.style → ArePlainLines visible options.look records
     → options.look.width ≡ None → CanBeCut options.look records
     → EachText (λ text. measure text ≤ 65535) options.look records
-    → IsOutputOf options records output
+    → RendersRecords options records output
     → IsStraightOutput visible options records output
 
 -- for Markdown whatever the look asks for besides
 abbrev pub MarkdownOutputIsStraight : Options → List (List Text) → Text → Type 0
 MarkdownOutputIsStraight options records output =
     options.look.is_markdown ≡ true → EachText (λ text. measure text ≤ 65535) options.look records
-    → IsOutputOf options records output → IsStraightOutput false options records output
+    → RendersRecords options records output → IsStraightOutput false options records output
 
 -- under every width, where no character takes more than one terminal column
 abbrev pub NarrowOutputIsStraight : Bool → Options → List (List Text) → Text → Type 0
 NarrowOutputIsStraight visible options records output =
     options.look.is_markdown ≡ false → IsOneColumnStyle options.look.style
     → ArePlainLines visible options.look records → EachText (CharactersFit 1) options.look records
-    → IsOutputOf options records output
+    → RendersRecords options records output
     → IsStraightOutput visible options records output
 
 -- and under every width each line is counted in terminal columns then
@@ -225,7 +225,7 @@ abbrev pub FittingOutputIsStraight : Bool → Options → List (List Text) → T
 FittingOutputIsStraight visible options records output =
     options.look.is_markdown ≡ false → IsOneColumnStyle options.look.style
     → ArePlainLines visible options.look records → CharactersFitEachWidth options records
-    → IsOutputOf options records output
+    → RendersRecords options records output
     → IsStraightOutput visible options records output
 
 -- a field of printable ASCII is drawn as such text
@@ -247,11 +247,11 @@ PrintableTextsMakePrintableTable options records table widths =
 -- then nothing harmful is visible of an output for records that are text
 abbrev pub OutputHoldsNoControls : Options → List (List Text) → Text → Type 0
 OutputHoldsNoControls options records output =
-    IsLookWithoutControls options.look → All AllText records → IsOutputOf options records output
+    IsLookWithoutControls options.look → All AllText records → RendersRecords options records output
     → HasNoStrayControl (visible_text output)
 
 -- nor of the output for any input
 abbrev pub InputIsDrawnWithoutControls : Options → Text → Text → Type 0
 InputIsDrawnWithoutControls options input output =
-    IsLookWithoutControls options.look → IsOutputFor options input output
+    IsLookWithoutControls options.look → RendersInput options input output
     → HasNoStrayControl (visible_text output)

@@ -12,4 +12,4 @@ pub mod OneOutput
 pub mod Run
 pub mod Separators
 pub mod Unbroken
-pub mod WholeAt
+pub mod ConstrainedAt

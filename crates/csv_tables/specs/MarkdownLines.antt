@@ -12,7 +12,7 @@ use Rattle.csv_tables.specs.Markdown.{rule_line, unescaped}
 use Rattle.csv_tables.specs.declared.options.DrawnColumn.{DrawnColumn}
 use Rattle.csv_tables.specs.declared.options.Look.{Look}
 use Rattle.csv_tables.specs.declared.options.Options.{Options}
-use Rattle.csv_tables.specs.Drawn.{ContentValue, IsOutputOf, content_of, markdown_table, note_for}
+use Rattle.csv_tables.specs.Drawn.{ContentValue, RendersRecords, content_of, markdown_table, note_for}
 use Rattle.csv_tables.specs.Laws.{EachText}
 
 -- ---- a line
@@ -86,6 +86,6 @@ pub record GivesRecordsBack (options : Options) (records : List (List Text))
 abbrev pub MarkdownGivesRecordsBack : Options → List (List Text) → Text → Type 0
 MarkdownGivesRecordsBack options records output =
     options.look.is_markdown ≡ true → EachText (λ text. measure text ≤ 65535) options.look records
-    → All AllText records → (made : IsOutputOf options records output)
+    → All AllText records → (made : RendersRecords options records output)
     → 0 < length made.content.columns
     → GivesRecordsBack options records output

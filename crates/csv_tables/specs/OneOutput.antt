@@ -2,7 +2,7 @@
 use Rattle.std.specs.Prelude.{◌≡◌, List, map, string_bytes}
 use Rattle.comfy_parts.specs.Text.{Text}
 use Rattle.csv_tables.specs.declared.options.Options.{Options}
-use Rattle.csv_tables.specs.Drawn.{IsOutputFor, IsOutputOf}
+use Rattle.csv_tables.specs.Drawn.{RendersInput, RendersRecords}
 
 -- two options are the same but for where their texts are held
 pub record AreSameOptions (options others : Options) : Type 0 where
@@ -26,10 +26,10 @@ pub record AreSameOptions (options others : Options) : Type 0 where
 -- two outputs for one input by such options are equal
 abbrev pub OutputIsOne : Options → Options → Text → Text → Text → Type 0
 OutputIsOne options others input output other =
-    AreSameOptions options others → IsOutputFor options input output
-    → IsOutputFor others input other → output ≡ other
+    AreSameOptions options others → RendersInput options input output
+    → RendersInput others input other → output ≡ other
 
 -- so are two outputs for the same records
 abbrev pub OutputOfIsOne : Options → List (List Text) → Text → Text → Type 0
 OutputOfIsOne options records output other =
-    IsOutputOf options records output → IsOutputOf options records other → output ≡ other
+    RendersRecords options records output → RendersRecords options records other → output ≡ other

@@ -3,9 +3,9 @@ use Rattle.std.specs.Prelude.{◌≡◌, ◌≢◌, Bool, true, false, List, [],
 use Rattle.comfy_parts.specs.Text.{Text}
 use Rattle.devices.specs.Outcome.{IsAfterFault, IsAfterOk, IsAfterOutOfMemory, IsAfterRead, IsAfterWrite, RunFacts}
 use Rattle.csv_tables.specs.Columns.{IsColumnsRefusal}
-use Rattle.csv_tables.specs.Drawn.{IsOutputFor, content_of}
+use Rattle.csv_tables.specs.Drawn.{RendersInput, content_of}
 use Rattle.csv_records.specs.Encoding.{IsRefusedIn, encoding_of}
-use Rattle.csv_records.specs.Reading.{AreRecordsFor, IsTextFor, IsTextWithoutRecords}
+use Rattle.csv_records.specs.Reading.{AreRecordsFor, IsDecodedBy, IsTextWithoutRecords}
 use Rattle.csv_records.specs.declared.encoding.Encoding.TheVariants.{Utf8}
 use Rattle.csv_records.specs.declared.error.DecodeError.TheVariants as decode
 use Rattle.csv_records.specs.declared.error.RecordsError.TheVariants as records
@@ -30,7 +30,7 @@ abbrev pub IsInputFault : Options → Text → CsvError → Type 0
 IsInputFault options input (Decode e) =
     (e ≢ decode.OutOfMemory) × IsRefusedIn (encoding_of options.input.encoding input) input e
 IsInputFault options input (Records e) =
-    (e ≢ records.OutOfMemory) × (text : Text) × IsTextFor options.input input text
+    (e ≢ records.OutOfMemory) × (text : Text) × IsDecodedBy options.input input text
     × IsTextWithoutRecords options.input text e
 IsInputFault options input (Columns e) =
     (e ≢ columns.OutOfMemory) × (found : List (List Text))
@@ -49,8 +49,8 @@ IsInputRefusal options input e = IsInputFault options input e
 
 -- what the facts of a call are, by its result
 abbrev pub IsAfter : {T : Type 0} → Options → Result T CsvError → RunFacts → Type 0
-IsAfter options (Ok _) facts = IsAfterOk (IsOutputFor options) facts
+IsAfter options (Ok _) facts = IsAfterOk (RendersInput options) facts
 IsAfter options (Err Read) facts = IsAfterRead facts
-IsAfter options (Err Write) facts = IsAfterWrite (IsOutputFor options) facts
+IsAfter options (Err Write) facts = IsAfterWrite (RendersInput options) facts
 IsAfter options (Err OutOfMemory) facts = IsAfterOutOfMemory (IsUtf8IfWanted options) facts
 IsAfter options (Err e) facts = IsAfterFault (λ input. IsInputFault options input e) facts

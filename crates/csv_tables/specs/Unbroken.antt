@@ -56,25 +56,26 @@ needed_contents (is_unbroken ∷ more) (content ∷ contents) =
     needed_content is_unbroken content ∷ needed_contents more contents
 
 -- a column that is as wide as its content
-abbrev pub whole_column : Bool → ColumnValue → ColumnValue
-whole_column is_unbroken column =
+abbrev pub constrained_column : Bool → ColumnValue → ColumnValue
+constrained_column is_unbroken column =
     if is_unbroken then record column { constraint = Some ContentWidth } else column
 
-abbrev pub whole_columns : List Bool → List ColumnValue → List ColumnValue
-whole_columns [] columns = columns
-whole_columns (is_unbroken ∷ more) [] = []
-whole_columns (is_unbroken ∷ more) (column ∷ columns) =
-    whole_column is_unbroken column ∷ whole_columns more columns
+abbrev pub constrained_columns : List Bool → List ColumnValue → List ColumnValue
+constrained_columns [] columns = columns
+constrained_columns (is_unbroken ∷ more) [] = []
+constrained_columns (is_unbroken ∷ more) (column ∷ columns) =
+    constrained_column is_unbroken column ∷ constrained_columns more columns
 
 -- a table with such columns
-abbrev pub with_whole : List Bool → TableValue → TableValue
-with_whole unbroken table = record table { columns = whole_columns unbroken table.columns }
+abbrev pub with_constrained : List Bool → TableValue → TableValue
+with_constrained unbroken table =
+    record table { columns = constrained_columns unbroken table.columns }
 
 -- so is a table where a width is kept that has room for all these columns, and for what the others
 -- need; else it stays
-abbrev pub kept_whole : Option ℕ → List Bool → TableValue → TableValue
-kept_whole None unbroken table = table
-kept_whole (Some width) unbroken table =
+abbrev pub kept_unbroken : Option ℕ → List Bool → TableValue → TableValue
+kept_unbroken None unbroken table = table
+kept_unbroken (Some width) unbroken table =
     if nat_le (framed_width table.style (needed_contents unbroken (max_content_widths table))) width
-    then with_whole unbroken table
+    then with_constrained unbroken table
     else table

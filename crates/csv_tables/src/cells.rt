@@ -8,7 +8,7 @@ use crate::markdown::escaped;
 use crate::options::{DrawnColumn, Look};
 use comfy_parts::style::{Attribute, CellAlignment};
 use comfy_parts::{Cell, Cells, IntoRow, Result, Row};
-use csv_records::{Kept, Record, cleaned};
+use csv_records::{CleanOptions, Record, cleaned};
 use std::alloc::Global;
 
 /// The row of a record: a cell for each column, blank where the record has no such field.
@@ -121,20 +121,20 @@ fn field_text(alloc: Global, field: &str, look: &Look) -> Result<String>
 }
 
 // What of a field a look leaves as it is.
-fn kept_by(look: &Look) -> Kept
+fn kept_by(look: &Look) -> CleanOptions
     ensures { result ≡ kept_by look.now }
 {
-    Kept {
+    CleanOptions {
         sequences: look.has_sequences,
         directions: look.keeps_bidi,
     }
 }
 
 // What of it is left as it is for Markdown.
-fn kept_for_markdown(look: &Look) -> Kept
+fn kept_for_markdown(look: &Look) -> CleanOptions
     ensures { result ≡ kept_for_markdown look.now }
 {
-    Kept {
+    CleanOptions {
         sequences: false,
         directions: look.keeps_bidi,
     }

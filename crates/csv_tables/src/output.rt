@@ -4,7 +4,7 @@ ghost use Rattle.std.specs.Prelude.{◌≡◌, ◌∷◌, ◌++◌, IfOk, IfErr,
 ghost use Rattle.csv_tables.specs.Columns.{IsColumnsRefusal};
 ghost use Rattle.csv_tables.specs.Markdown.{rule_line};
 ghost use Rattle.csv_tables.specs.KeptContents.{AreKeptContents};
-ghost use Rattle.csv_tables.specs.Drawn.{IsMarkdownText, IsOutputOf, IsTableText, IsText, IsTextOfTable, content_of, note_for, rows_table};
+ghost use Rattle.csv_tables.specs.Drawn.{RendersAsMarkdown, RendersRecords, RendersAsTable, RendersContent, RendersTable, content_of, note_for, rows_table};
 
 use crate::content::Content;
 use crate::error::ColumnsError;
@@ -12,7 +12,7 @@ use crate::expanded::{between_fields, is_expanded, records_text};
 use crate::markdown::push_rule;
 use crate::options::{Look, Options};
 use crate::separators::separate_rows;
-use crate::unbroken::keep_whole;
+use crate::unbroken::keep_unbroken;
 use comfy_table::{Result, Table};
 use csv_records::Records;
 use std::alloc::{AllocError, Global};
@@ -24,7 +24,8 @@ pub(crate) fn output_of(
     records: Records,
     options: &Options,
 ) -> std::result::Result<String, ColumnsError>
-    ensures output { IfOk result (λ output. IsOutputOf options.now records (string_bytes output)) }
+    ensures output { IfOk result (λ output.
+        RendersRecords options.now records (string_bytes output)) }
     ensures refused { IfErr result (λ e. IsColumnsRefusal e (content_of options.now records)) }
 {
     let content = Content::new(alloc, records, options)?;
@@ -40,7 +41,7 @@ pub(crate) fn output_of(
 }
 
 fn drawn_text(content: Content, look: &Look) -> Result<String>
-    ensures { IfOk result (λ text. IsText look.now.is_markdown look.now content
+    ensures { IfOk result (λ text. RendersContent look.now.is_markdown look.now content
         (string_bytes text)) }
 {
     if look.is_markdown {
@@ -52,7 +53,7 @@ fn drawn_text(content: Content, look: &Look) -> Result<String>
 
 // The text of a table of rows, or of expanded records.
 fn table_text(content: Content, look: &Look) -> Result<String>
-    ensures { IfOk result (λ text. IsTableText look.now content (string_bytes text)) }
+    ensures { IfOk result (λ text. RendersAsTable look.now content (string_bytes text)) }
 {
     let table = content.rows_table(look)?;
     let contents = kept_contents(content.alloc, &table, look)?;
@@ -77,9 +78,9 @@ fn kept_contents(alloc: Global, table: &Table, look: &Look) -> Result<Vec<u16>>
 fn rows_text(content: Content, mut table: Table, contents: &[u16], look: &Look) -> Result<String>
     requires rows { table ≡ rows_table look.now content }
     requires contents { AreKeptContents look.now.width table contents.now }
-    ensures { IfOk result (λ text. IsTextOfTable false look.now content (string_bytes text)) }
+    ensures { IfOk result (λ text. RendersTable false look.now content (string_bytes text)) }
 {
-    keep_whole(&mut table, contents, &content, look)?;
+    keep_unbroken(&mut table, contents, &content, look)?;
     separate_rows(&mut table, look.separators)?;
     let mut text = String::new(content.alloc);
     // The table has all that is drawn, and the text needs as much memory as the records gave.
@@ -91,7 +92,7 @@ fn rows_text(content: Content, mut table: Table, contents: &[u16], look: &Look) 
 
 // The text of expanded records.
 fn expanded_text(content: Content, look: &Look) -> Result<String>
-    ensures { IfOk result (λ text. IsTextOfTable true look.now content (string_bytes text)) }
+    ensures { IfOk result (λ text. RendersTable true look.now content (string_bytes text)) }
 {
     let mut table = content.pairs_table(look)?;
     separate_rows(&mut table, between_fields(look.separators))?;
@@ -101,7 +102,7 @@ fn expanded_text(content: Content, look: &Look) -> Result<String>
 
 // The text of a table for Markdown.
 fn markdown_text(content: Content, look: &Look) -> Result<String>
-    ensures { IfOk result (λ text. IsMarkdownText look.now content (string_bytes text)) }
+    ensures { IfOk result (λ text. RendersAsMarkdown look.now content (string_bytes text)) }
 {
     let table = content.markdown_table(look)?;
     let widths = table.column_max_content_widths()?;

@@ -1,7 +1,7 @@
 //! Reads an input, draws the table of its records, and writes the drawing.
 
 ghost use Rattle.std.specs.Prelude.{◌≡◌, true, false, OnOk, IfOk, IfErr, string_bytes};
-ghost use Rattle.csv_tables.specs.Drawn.{IsOutputFor};
+ghost use Rattle.csv_tables.specs.Drawn.{RendersInput};
 ghost use Rattle.csv_tables.specs.Run.{IsAfter, IsInputRefusal, is_read_fault, is_write_fault};
 ghost use Rattle.devices.specs.Outcome.{Between};
 
@@ -9,7 +9,7 @@ use crate::error::CsvError;
 use crate::options::Options;
 use crate::output::output_of;
 use csv_records::{decoded, read_records};
-use devices::{Draw, Sink, Source};
+use devices::{Render, Sink, Source};
 use std::alloc::Global;
 
 /// Reads the whole source, and writes the drawing of the table of its records to the sink, each
@@ -41,14 +41,14 @@ pub fn draw<R: Source, W: Sink>(
     Ok(devices::run(alloc, source, sink, options)?)
 }
 
-impl Draw for Options {
+impl Render for Options {
     type Error = CsvError;
 
-    ghost is_output = { IsOutputFor };
+    ghost is_output = { RendersInput };
 
     ghost is_refusal = { IsInputRefusal };
 
-    fn drawn(&self, alloc: Global, input: Vec<u8>) -> Result<String, CsvError> {
+    fn render(&self, alloc: Global, input: Vec<u8>) -> Result<String, CsvError> {
         output_of_input(alloc, input, self)
     }
 }
@@ -56,7 +56,7 @@ impl Draw for Options {
 /// The output for an input that was read whole.
 pub fn output_of_input(alloc: Global, input: Vec<u8>, options: &Options) -> Result<String, CsvError>
     ensures output { IfOk result (λ output.
-        IsOutputFor options.now input.items (string_bytes output)) }
+        RendersInput options.now input.items (string_bytes output)) }
     ensures refused { IfErr result (λ e. IsInputRefusal options.now input.items e) }
 {
     let text = decoded(alloc, input, options.input.encoding)?;

@@ -4,8 +4,8 @@ ghost use Rattle.std.specs.Prelude.{◌≡◌, ◌-◌, ◌^◌, IfOk, OnOk, Som
 ghost use Rattle.std.specs.List.{list_all};
 ghost use Rattle.csv_tables.specs.Columns.{seen};
 ghost use Rattle.csv_tables.specs.KeptContents.{AreKeptContents};
-ghost use Rattle.csv_tables.specs.Unbroken.{framed_width, is_of_dates, is_unbroken, is_unbroken_column, kept_whole, needed_content, needed_contents, unbroken_columns, whole_column, with_whole};
-ghost use Rattle.csv_tables.specs.WholeAt.{whole_at};
+ghost use Rattle.csv_tables.specs.Unbroken.{framed_width, is_of_dates, is_unbroken, is_unbroken_column, kept_unbroken, needed_content, needed_contents, unbroken_columns, constrained_column, with_constrained};
+ghost use Rattle.csv_tables.specs.ConstrainedAt.{constrained_at};
 
 use crate::columns::seen_field;
 use crate::content::Content;
@@ -23,7 +23,7 @@ const NEEDED_CONTENT: u16 = 8;
 
 /// Lets the columns of numbers and dates be as wide as their contents, where a width is kept that
 /// has room for all of them and for what the other columns need. The contents are the table's.
-pub(crate) fn keep_whole(
+pub(crate) fn keep_unbroken(
     table: &mut Table,
     contents: &[u16],
     content: &Content,
@@ -31,7 +31,7 @@ pub(crate) fn keep_whole(
 ) -> Result<()>
     requires { AreKeptContents look.now.width table.old contents.now }
     ensures { OnOk result (table.new
-        ≡ kept_whole look.now.width
+        ≡ kept_unbroken look.now.width
         (unbroken_columns look.now.has_sequences content.now.columns content.now.rows) table.old) }
 {
     let Some(width) = look.width else {
@@ -40,7 +40,7 @@ pub(crate) fn keep_whole(
     let unbroken = unbroken_columns(content, look.has_sequences)?;
     let needed = needed_contents(content.alloc, unbroken.as_slice(), contents)?;
     if has_room(table, needed.as_slice(), width) {
-        set_whole(table, unbroken.as_slice());
+        constrain_columns(table, unbroken.as_slice());
     }
     Ok(())
 }
@@ -119,26 +119,26 @@ pub(crate) fn framed_width(table: &Table, contents: &[u16]) -> usize
 }
 
 // Lets these columns be as wide as their contents.
-fn set_whole(table: &mut Table, unbroken: &[bool])
-    ensures { table.new ≡ with_whole unbroken.now table.old }
+fn constrain_columns(table: &mut Table, unbroken: &[bool])
+    ensures { table.new ≡ with_constrained unbroken.now table.old }
 {
     for (at, is_unbroken) in unbroken.iter().enumerate() {
         if *is_unbroken {
-            set_whole_at(table, at);
+            constrain_at(table, at);
         }
     }
 }
 
-fn set_whole_at(table: &mut Table, at: usize)
-    ensures { table.new ≡ record table.old { columns = whole_at at table.old.columns } }
+fn constrain_at(table: &mut Table, at: usize)
+    ensures { table.new ≡ record table.old { columns = constrained_at at table.old.columns } }
 {
     if let Some(column) = table.column_mut(at) {
-        set_whole_column(column);
+        constrain_column(column);
     }
 }
 
-fn set_whole_column(column: &mut Column)
-    ensures { column.new ≡ whole_column true column.old }
+fn constrain_column(column: &mut Column)
+    ensures { column.new ≡ constrained_column true column.old }
 {
     column.set_constraint(ColumnConstraint::ContentWidth);
 }

@@ -12,4 +12,4 @@ pub use device::{DeviceFault, Sink, Source};
 pub use memory::{MemorySink, MemorySource};
 pub use process::arguments_of_process;
 pub use stream::{FromReader, ToWriter};
-pub use transfer::{Draw, ReadError, Stop, read_all, run, write_all};
+pub use transfer::{ReadError, Render, Stop, read_all, run, write_all};

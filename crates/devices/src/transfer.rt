@@ -55,7 +55,7 @@ impl<E> From<ReadError> for Stop<E> {
 }
 
 /// What makes a drawing, or any other text, of an input.
-pub trait Draw {
+pub trait Render {
     /// Why an input has no output.
     type Error: Drop;
 
@@ -66,7 +66,7 @@ pub trait Draw {
     ghost is_refusal: { Self → List ℕ → Self.Error → Type 0 };
 
     /// The output for an input that was read whole.
-    fn drawn(&self, alloc: Global, input: Vec<u8>) -> Result<String, Self::Error>
+    fn render(&self, alloc: Global, input: Vec<u8>) -> Result<String, Self::Error>
         ensures output { IfOk result (λ output.
             is_output self.now input.items (string_bytes output)) }
         ensures refused { IfErr result (λ e. is_refusal self.now input.items e) };
@@ -119,7 +119,7 @@ pub fn write_all<W: Sink>(sink: &mut W, piece: &[u8]) -> Result<(), DeviceFault>
 /// The output is whole in memory before the first write. After `Read` the source has failed and the
 /// sink hasn't, after `Write` the sink and not the source, and after every other result neither.
 /// After `Write` a beginning of the output was written, and nothing after every other error.
-pub fn run<R: Source, W: Sink, D: Draw>(
+pub fn run<R: Source, W: Sink, D: Render>(
     alloc: Global,
     source: &mut R,
     sink: &mut W,
@@ -133,7 +133,7 @@ pub fn run<R: Source, W: Sink, D: Draw>(
         (IsAfter (D.is_output drawing.now) (D.is_refusal drawing.now) result) }
 {
     let input = read_all(alloc, source)?;
-    let output = match drawing.drawn(alloc, input) {
+    let output = match drawing.render(alloc, input) {
         Ok(output) => output,
         Err(error) => return Err(Stop::Refused(error)),
     };

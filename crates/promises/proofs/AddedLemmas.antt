@@ -9,7 +9,7 @@ use Rattle.comfy_parts.specs.declared.style.table.ContentArrangement.{ContentArr
 use Rattle.comfy_parts.specs.declared.style.table.ContentArrangement.TheVariants.{Disabled}
 use Rattle.comfy_table.specs.AddedRows.{IsWithinContents, ShownLinesStay, added_lines, bottom_lines, lines_above_bottom}
 use Rattle.comfy_table.specs.Arrangement.{IsDrawingOf, width_kept}
-use Rattle.comfy_table.specs.Drawing.{infos_of, whole_widths}
+use Rattle.comfy_table.specs.Drawing.{infos_of, outer_widths}
 use Rattle.comfy_table.specs.Frame.{frame_line, is_drawn}
 use Rattle.comfy_table.specs.TableValue.{TableValue, cell_content_width, column_content_width, header_and_rows, measured_cell, table_width, with_row}
 use Rattle.promises.proofs.PlacedLemmas.{measured_plain}
@@ -46,7 +46,7 @@ within_contents table row plain room i cell found =
 bottom_is_one : (table : TableValue) (widths : List ℕ) → length (bottom_lines table (infos_of table widths)) ≤ 1
 bottom_is_one table widths = by_test (is_drawn table.style.bottom_border)
   where
-    by_test : (b : Bool) → length (if b then frame_line table.style table.style.bottom_border (whole_widths (infos_of table widths)) ∷ [] else []) ≤ 1
+    by_test : (b : Bool) → length (if b then frame_line table.style table.style.bottom_border (outer_widths (infos_of table widths)) ∷ [] else []) ≤ 1
     by_test true = omega arith
     by_test false = omega arith
 

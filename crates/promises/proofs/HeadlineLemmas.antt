@@ -24,11 +24,11 @@ use Rattle.comfy_table.proofs.SpaceLemmas.{free_before-le, padded-is, spaces-app
 use Rattle.comfy_table.proofs.StyledLemmas.{KeptByDrawing, keeps_spaces, keeps_style_begin, keeps_style_end}
 use Rattle.comfy_table.proofs.TableLemmas.{frame_counts}
 use Rattle.comfy_table.proofs.TextKindLemmas.{byte_kind}
-use Rattle.comfy_table.specs.Drawing.{drawing, drawn_header, drawn_row, infos_of, whole_widths}
+use Rattle.comfy_table.specs.Drawing.{drawing, drawn_header, drawn_row, infos_of, outer_widths}
 use Rattle.comfy_table.specs.Frame.{frame_line, optional_frame_line}
 use Rattle.comfy_table.specs.Headline.{IsTableDrawing}
 use Rattle.comfy_table.specs.Laws.{AddsOneColumnEachWhereWritten, HasNoEscape, HasPrintableCells, HasStyleWithout, IsFreeOfEscapes, IsPrintableCell, IsPrintableTable, count, line_total}
-use Rattle.comfy_table.specs.Lines.{as_measured, cell_delimiter, cell_lines, cut_line, cut_to_limit, whole_lines}
+use Rattle.comfy_table.specs.Lines.{as_measured, cell_delimiter, cell_lines, cut_line, cut_to_limit, uncut_lines}
 use Rattle.comfy_table.specs.Pieces.{blank_piece, cell_alignment, free_before, free_places, padded, piece, pieces_of_optional, row_cell_lines, shown_infos}
 use Rattle.comfy_table.specs.Styling.{style_begin, style_end, styled}
 use Rattle.comfy_table.specs.TableValue.{TableValue, column_cells, measured_cell, measured_rows, should_style, shown_columns}
@@ -104,7 +104,7 @@ module _ {A : Type 0} (cut : A → A) where
       by_test false taller = take-append-one (h - 1) lines _ (grind (arith, nat_tests, taller))
 
 -- what is written of the lines before one is cut
-all_written : (custom : Bool) (w d : ℕ) (cell : CellValue) → All (IsWritten custom) (whole_lines custom w d cell)
+all_written : (custom : Bool) (w d : ℕ) (cell : CellValue) → All (IsWritten custom) (uncut_lines custom w d cell)
 all_written true w d cell = All-from_recursion (IsWritten true) (line_texts w d cell.text_lines) (lines_visible w d cell.text_lines)
 all_written false w d cell = as_they_are (cell_lines w d cell)
   where
@@ -138,7 +138,7 @@ lines_of_cell table row column w cell scalar utf8 =
     v = max 1 w
 
     whole : List CellLine
-    whole = whole_lines table.custom_styling v d cell
+    whole = uncut_lines table.custom_styling v d cell
 
     cut_lines : List CellLine
     cut_lines = row_cell_lines table row (info_of column w) cell
@@ -309,7 +309,7 @@ module _ (table : TableValue) (widths : List ℕ) (long : length widths ≡ leng
   abbrev infos : List ColumnInfo
   infos = infos_of table widths
 
-  widths_are : whole_widths infos ≡ widths_shown table content_at
+  widths_are : outer_widths infos ≡ widths_shown table content_at
   widths_are =
       ap (map (λ (p : ℕ × ColumnInfo). info_width p.1)) (columns-drawn table widths long)
       ∙ map-map (λ (p : ℕ × ColumnInfo). info_width p.1) (drawn_column widths) (shown_columns table)
@@ -335,8 +335,8 @@ module _ (table : TableValue) (widths : List ℕ) (long : length widths ≡ leng
       ++ (drawn_header table infos table.header ++ (join_by (λ block. block) (framed table content_at table.style.row_separator) (map (drawn_row table infos table.style.content_lines) table.rows)
       ++ framed table content_at table.style.bottom_border))
   drawing_is =
-      ap (λ (rows : List Text). optional_frame_line table.style table.style.top_border (whole_widths infos) ++ (drawn_header table infos table.header ++ (rows ++ optional_frame_line table.style table.style.bottom_border (whole_widths infos))))
-      (sym (join_by-map (λ (block : List Text). block) (drawn_row table infos table.style.content_lines) (optional_frame_line table.style table.style.row_separator (whole_widths infos)) table.rows))
+      ap (λ (rows : List Text). optional_frame_line table.style table.style.top_border (outer_widths infos) ++ (drawn_header table infos table.header ++ (rows ++ optional_frame_line table.style table.style.bottom_border (outer_widths infos))))
+      (sym (join_by-map (λ (block : List Text). block) (drawn_row table infos table.style.content_lines) (optional_frame_line table.style table.style.row_separator (outer_widths infos)) table.rows))
       ∙ ap (λ ws. optional_frame_line table.style table.style.top_border ws ++ (drawn_header table infos table.header
       ++ (join_by (λ (block : List Text). block) (optional_frame_line table.style table.style.row_separator ws) (map (drawn_row table infos table.style.content_lines) table.rows) ++ optional_frame_line table.style table.style.bottom_border ws)))
       widths_are

@@ -25,11 +25,11 @@ use Rattle.comfy_parts.specs.declared.style.table_style.LineStyle.{LineStyle}
 use Rattle.comfy_table.proofs.KeptLemmas.{cell_keeps_its_text}
 use Rattle.comfy_table.proofs.ThreePlacesLemmas.{every-le-greatest}
 use Rattle.comfy_table.specs.Arrangement.{IsArranged, is_full_width, room_beside_borders, width_kept, widths_at}
-use Rattle.comfy_table.specs.Dynamic.{IsDynamic}
-use Rattle.comfy_table.specs.Drawing.{drawing, drawn_header, drawn_row, drawn_rows, infos_of, whole_widths}
+use Rattle.comfy_table.specs.Dynamic.{IsDynamicLayout}
+use Rattle.comfy_table.specs.Drawing.{drawing, drawn_header, drawn_row, drawn_rows, infos_of, outer_widths}
 use Rattle.comfy_table.specs.Frame.{character, content_line, draws_left_border, draws_right_border, draws_vertical_lines, optional_frame_line}
 use Rattle.comfy_table.specs.Headline.{IsTableDrawing}
-use Rattle.comfy_table.specs.Lines.{as_measured, cell_delimiter, cell_lines, cut_line, cut_to_limit, whole_lines}
+use Rattle.comfy_table.specs.Lines.{as_measured, cell_delimiter, cell_lines, cut_line, cut_to_limit, uncut_lines}
 use Rattle.comfy_table.specs.Pieces.{blank_piece, padded, piece, pieces_at, pieces_of_optional, row_cell_lines, row_height, row_line, spaces_after, spaces_before}
 use Rattle.comfy_table.specs.Styling.{style_begin, style_end, styled}
 use Rattle.comfy_table.specs.TableValue.{TableValue, header_and_rows, measured_cell, should_style, shown_columns, cell_content_width, column_cells, column_content_width, measured_rows, table_width}
@@ -165,8 +165,8 @@ module _ (table : TableValue) (plain : table.custom_styling ≡ false) where
       → row_cell_lines table row info cell ≡ map as_measured (cell_lines info.content_width (cell_delimiter table info.delimiter cell) cell)
   uncut_lines row info cell uncut =
       let d = cell_delimiter table info.delimiter cell in
-      ap (λ (limit : Option ℕ). cut_to_limit (cut_line table.custom_styling info.content_width table.indicator) limit (whole_lines table.custom_styling info.content_width d cell)) uncut
-      ∙ ap (λ (custom : Bool). whole_lines custom info.content_width d cell) plain
+      ap (λ (limit : Option ℕ). cut_to_limit (cut_line table.custom_styling info.content_width table.indicator) limit (uncut_lines table.custom_styling info.content_width d cell)) uncut
+      ∙ ap (λ (custom : Bool). uncut_lines custom info.content_width d cell) plain
 
   are_texts : (row : RowValue) (info : ColumnInfo) (cell : CellValue) → row.max_height ≡ None → IsScalar (cell_delimiter table info.delimiter cell) → All IsUtf8 (measured_cell table cell).text_lines
       → AreSameBut (cell_delimiter table info.delimiter cell) (concat (written_of (row_cell_lines table row info cell))) (concat cell.text_lines)
@@ -261,7 +261,7 @@ module _ (table : TableValue) (widths : List ℕ) (Is : RowValue → Type 0) (Sh
   shows_each line (row ∷ rows) whole = (shows line row (All-head Is row rows whole), shows_each line rows (All-tail Is row rows whole))
 
   abbrev frame : LineStyle → List Text
-  frame line = optional_frame_line table.style line (whole_widths (infos_of table widths))
+  frame line = optional_frame_line table.style line (outer_widths (infos_of table widths))
 
   rows_stand : StandIn (map (drawn_row table (infos_of table widths) table.style.content_lines) table.rows) (drawn_rows table (infos_of table widths) table.rows ++ frame table.style.bottom_border)
   rows_stand =
@@ -332,7 +332,7 @@ module _ (table : TableValue) (plain : table.custom_styling ≡ false) (widths :
 
   by_content : widths_at widths (shown_columns table) ≡ map (disabled_width table) (shown_columns table)
   by_content =
-      subst (λ (o : Option ℕ). MatchOption o (widths_at widths (shown_columns table) ≡ map (disabled_width table) (shown_columns table)) (λ w. IsDynamic (room_beside_borders table w) (shown_needs table) (is_full_width table.arrangement) (widths_at widths (shown_columns table))))
+      subst (λ (o : Option ℕ). MatchOption o (widths_at widths (shown_columns table) ≡ map (disabled_width table) (shown_columns table)) (λ w. IsDynamicLayout (room_beside_borders table w) (shown_needs table) (is_full_width table.arrangement) (widths_at widths (shown_columns table))))
       (ap (λ (a : ContentArrangement). width_kept a (table_width table)) disabled) arranged.shown_widths
 
   contents_at : (i : ℕ) → All (λ (row : RowValue). (cell : CellValue) → slice_get row.cells i ≡ Some cell → cell_content_width cell ≤ column_content_width table i) (header_and_rows table)

@@ -15,7 +15,7 @@ use Rattle.comfy_parts.specs.Text.{Text}
 use Rattle.comfy_parts.specs.VisibleText.{visible_bytes, visible_text}
 use Rattle.comfy_table.proofs.MeasuredLemmas.{cell_measured, get_measured, measured_rows-is, row_measured}
 use Rattle.comfy_table.specs.Drawing.{text_of}
-use Rattle.comfy_table.specs.Headline.{IsTextOf}
+use Rattle.comfy_table.specs.Headline.{JoinsLines}
 use Rattle.comfy_table.specs.Laws as laws
 use Rattle.comfy_table.specs.Laws.{HasNoControl, HasNoEscape, IsFreeOfControls}
 use Rattle.comfy_table.specs.TableValue.{TableValue, column_cells, header_and_rows, shown_columns}
@@ -136,5 +136,5 @@ free_of_controls table free =
       characters = free.style;
     }
 
-pub harmless : (table : TableValue) (text : Text) → IsTextOf table text → HasNoControls table → IsHarmless text
+pub harmless : (table : TableValue) (text : Text) → JoinsLines table text → HasNoControls table → IsHarmless text
 harmless table text (lines, drawn, is) free = subst IsHarmless (sym is) (joined lines (drawn.controls.without_controls (free_of_controls table free)))

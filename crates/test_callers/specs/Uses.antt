@@ -9,7 +9,7 @@ use Rattle.comfy_parts.specs.VisibleLines.{CellLine}
 use Rattle.comfy_parts.specs.declared.style.column.ColumnConstraint.TheVariants.{Hidden}
 use Rattle.comfy_parts.specs.declared.style.table.ContentArrangement.TheVariants.{Dynamic}
 use Rattle.comfy_parts.specs.declared.style.table_style.LineStyle.{LineStyle}
-use Rattle.comfy_table.specs.Drawing.{drawing, infos_of, whole_widths}
+use Rattle.comfy_table.specs.Drawing.{drawing, infos_of, outer_widths}
 use Rattle.comfy_table.specs.Frame.{frame_line}
 use Rattle.comfy_table.specs.Laws.{FillsWidth, HasUnbrokenStyle, IsPrintableTable, KeepsToWidth, NoConstraints, count, least_total, unstyled}
 use Rattle.comfy_table.specs.Pieces.{row_cell_lines}
@@ -23,7 +23,7 @@ abbrev pub HasFrameOf : ℕ → TableValue → List Text → Type 0
 HasFrameOf n table lines =
     (widths : List ℕ) × (lines ≡ drawing table widths)
     × ((line : LineStyle)
-    → count (frame_line table.style line (whole_widths (infos_of table widths))) ≡ n)
+    → count (frame_line table.style line (outer_widths (infos_of table widths))) ≡ n)
 
 -- a table of a header and a row that keeps to a width
 abbrev pub table_within : ℕ → RowValue → RowValue → TableValue

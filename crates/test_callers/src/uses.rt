@@ -4,7 +4,7 @@
 ghost use Rattle.std.specs.Prelude.{◌≡◌, ◌<◌, [], ◌∷◌, IfOk, None, OnErr, OnOk, Some, false, if◌then◌else◌, max, string_bytes};
 ghost use Rattle.comfy_parts.specs.CellValue.{number_cell, plain_cell, plain_row, with_cell};
 ghost use Rattle.comfy_parts.specs.Presets.{ascii_full};
-ghost use Rattle.comfy_run.specs.Input.{IsOutputFor};
+ghost use Rattle.comfy_run.specs.Input.{RendersInput};
 ghost use Rattle.comfy_table.specs.Arrangement.{IsDrawingOf};
 ghost use Rattle.comfy_table.specs.Laws.{NoConstraints, least_total};
 ghost use Rattle.comfy_table.specs.TableValue.{new_table, should_style, with_header, with_row};
@@ -108,7 +108,8 @@ pub fn drawn_unstyled(table: &Table) -> comfy_table::Result<Lines>
 
 /// A sink that holds the output for an input, both in memory.
 pub fn output_for(alloc: Global, input: &[u8], room: usize) -> Result<MemorySink, RunError>
-    ensures { IfOk result (λ sink. IsOutputFor None ContentArrangement.Disabled ascii_full input.now
+    ensures { IfOk result (λ sink. RendersInput None ContentArrangement.Disabled ascii_full
+        input.now
         sink.bytes) }
 {
     let mut source = MemorySource::new(input, 0);

@@ -2,7 +2,7 @@
 
 use crate::text::push_text;
 use crate::uses::output_for;
-use csv_command::{Asked, Surroundings, asked_of};
+use csv_command::{Invocation, OutputContext, parse};
 use std::alloc::{AllocError, Global};
 
 // How many bytes an output has at most.
@@ -95,13 +95,13 @@ impl Case {
     /// The output for the input, or what is said where there is none.
     pub fn drawn(&self) -> Result<String, AllocError> {
         let words = self.all_words()?;
-        let surroundings = Surroundings {
+        let context = OutputContext {
             is_terminal: self.is_terminal,
             columns: self.columns.as_ref().map(|text| text.as_str()),
             no_color: self.no_color.as_ref().map(|text| text.as_str()),
         };
-        match asked_of(self.alloc, words.as_slice(), surroundings) {
-            Ok(asked) => self.drawn_as(&asked),
+        match parse(self.alloc, words.as_slice(), context) {
+            Ok(invocation) => self.drawn_as(&invocation),
             Err(error) => format!(in self.alloc; "{error}"),
         }
     }
@@ -116,8 +116,8 @@ impl Case {
         Ok(words)
     }
 
-    fn drawn_as(&self, asked: &Asked) -> Result<String, AllocError> {
-        match output_for(self.alloc, self.input.as_slice(), ROOM, &asked.options) {
+    fn drawn_as(&self, invocation: &Invocation) -> Result<String, AllocError> {
+        match output_for(self.alloc, self.input.as_slice(), ROOM, &invocation.options) {
             Ok(sink) => self.written(sink.bytes()),
             Err(error) => format!(in self.alloc; "{error}\n"),
         }

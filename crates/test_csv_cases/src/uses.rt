@@ -5,21 +5,21 @@ ghost use Rattle.std.specs.List.{list_any};
 ghost use Rattle.comfy_parts.specs.VisibleText.{visible_text};
 ghost use Rattle.csv_records.specs.Cleaning.{is_harmful, nothing_kept};
 ghost use Rattle.csv_tables.specs.Controls.{HasNoStrayControl};
-ghost use Rattle.csv_tables.specs.Drawn.{IsOutputFor};
+ghost use Rattle.csv_tables.specs.Drawn.{RendersInput};
 ghost use Rattle.csv_tables.specs.Laws.{IsLookWithoutControls};
 ghost use Rattle.test_csv_cases.specs.Uses.{GivesInputBack};
 
 use comfy_run::run::{MemorySink, MemorySource};
 use csv_command::laws::drawings_hold_no_controls;
-use csv_command::{Surroundings, asked_of};
+use csv_command::{OutputContext, parse};
 use csv_records::laws::cleaned_fields_hold_no_controls;
-use csv_records::{Kept, cleaned};
+use csv_records::{CleanOptions, cleaned};
 use csv_tables::laws::{markdown_lines_give_back_their_fields, outputs_hold_no_controls};
 use csv_tables::{CsvError, Options, draw};
 use std::alloc::{AllocError, Global};
 
 // Nothing of a field is left as it is.
-const NOTHING_KEPT: Kept = Kept {
+const NOTHING_KEPT: CleanOptions = CleanOptions {
     sequences: false,
     directions: false,
 };
@@ -31,7 +31,7 @@ pub fn output_for(
     room: usize,
     options: &Options,
 ) -> Result<MemorySink, CsvError>
-    ensures { IfOk result (λ sink. IsOutputFor options.now input.now sink.bytes) }
+    ensures { IfOk result (λ sink. RendersInput options.now input.now sink.bytes) }
 {
     let mut source = MemorySource::new(input, 0);
     let mut sink = MemorySink::new(alloc, room, 0)?;
@@ -76,16 +76,16 @@ pub fn output_for_words(
     input: &[u8],
     room: usize,
     words: &[&str],
-    surroundings: Surroundings<'_>,
+    context: OutputContext<'_>,
 ) -> Option<MemorySink>
     ensures { IfSome result (λ sink. HasNoStrayControl (visible_text sink.bytes)) }
 {
     drawings_hold_no_controls();
-    let asked = asked_of(alloc, words, surroundings).ok()?;
-    if asked.options.look.is_raw {
+    let invocation = parse(alloc, words, context).ok()?;
+    if invocation.options.look.is_raw {
         return None;
     }
-    output_for(alloc, input, room, &asked.options).ok()
+    output_for(alloc, input, room, &invocation.options).ok()
 }
 
 /// A field in which no control character stands but line feeds, and none that turns the direction

@@ -8,28 +8,28 @@ use Rattle.comfy_run.specs.Arguments.{arrangement_for, settings_for, width_for}
 use Rattle.comfy_run.specs.declared.settings.Settings.{Settings}
 
 -- the settings that these words ask for
-abbrev asked : List String → Option Settings
-asked words = settings_for (map (λ (word : String). record { ref_ptr = (0, 0); now = codes word }) words)
+abbrev invocation : List String → Option Settings
+invocation words = settings_for (map (λ (word : String). record { ref_ptr = (0, 0); now = codes word }) words)
 
-no_words : asked [] ≡ Some (record { width = None; arrangement = Disabled; style = ascii_full })
+no_words : invocation [] ≡ Some (record { width = None; arrangement = Disabled; style = ascii_full })
 no_words = refl
 
-one_word : asked ("20" ∷ []) ≡ Some (record { width = Some 20; arrangement = Disabled; style = ascii_full })
+one_word : invocation ("20" ∷ []) ≡ Some (record { width = Some 20; arrangement = Disabled; style = ascii_full })
 one_word = refl
 
-two_words : asked ("0" ∷ "dynamic" ∷ []) ≡ Some (record { width = Some 0; arrangement = Dynamic; style = ascii_full })
+two_words : invocation ("0" ∷ "dynamic" ∷ []) ≡ Some (record { width = Some 0; arrangement = Dynamic; style = ascii_full })
 two_words = refl
 
-three_words : asked ("-" ∷ "disabled" ∷ "ASCII_MARKDOWN" ∷ []) ≡ Some (record { width = None; arrangement = Disabled; style = ascii_markdown })
+three_words : invocation ("-" ∷ "disabled" ∷ "ASCII_MARKDOWN" ∷ []) ≡ Some (record { width = None; arrangement = Disabled; style = ascii_markdown })
 three_words = refl
 
-all_of_them : asked ("40" ∷ "full" ∷ "UTF8_FULL" ∷ []) ≡ Some (record { width = Some 40; arrangement = DynamicFullWidth; style = utf8_full })
+all_of_them : invocation ("40" ∷ "full" ∷ "UTF8_FULL" ∷ []) ≡ Some (record { width = Some 40; arrangement = DynamicFullWidth; style = utf8_full })
 all_of_them = refl
 
-four_words : asked ("-" ∷ "disabled" ∷ "ASCII_FULL" ∷ "-" ∷ []) ≡ None
+four_words : invocation ("-" ∷ "disabled" ∷ "ASCII_FULL" ∷ "-" ∷ []) ≡ None
 four_words = refl
 
-unknown_style : asked ("20" ∷ "full" ∷ "FANCY" ∷ []) ≡ None
+unknown_style : invocation ("20" ∷ "full" ∷ "FANCY" ∷ []) ≡ None
 unknown_style = refl
 
 -- a hyphen, the numbers at both ends, and leading zeros

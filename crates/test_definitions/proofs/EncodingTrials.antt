@@ -3,7 +3,7 @@ use Rattle.std.proofs.Common.{◌≡◌, [], ◌∷◌, Some, None, map, refl}
 use Rattle.std.specs.Char.Utf16.{utf16_chars}
 use lib.Utf8.{encode}
 use Rattle.comfy_parts.specs.Text.{Text}
-use Rattle.csv_records.specs.Encoding.{IsFirstUnpaired, IsTextIn, cp1252_character, encoding_of, utf16_characters}
+use Rattle.csv_records.specs.Encoding.{IsFirstUnpaired, IsDecoded, cp1252_character, encoding_of, utf16_characters}
 use Rattle.csv_records.specs.declared.encoding.Encoding.TheVariants.{Cp1252, Utf16, Utf8}
 
 -- ---- which encoding
@@ -14,7 +14,7 @@ found : map (encoding_of None) ((0xFF ∷ 0xFE ∷ 0x61 ∷ 0x00 ∷ []) ∷ (0x
 found = refl
 
 -- what is asked for is taken, whatever mark there is
-asked_for : map (λ asked. encoding_of (Some asked) (0xFF ∷ 0xFE ∷ [])) (Utf8 ∷ Cp1252 ∷ Utf16 ∷ []) ≡ Utf8 ∷ Cp1252 ∷ Utf16 ∷ []
+asked_for : map (λ invocation. encoding_of (Some invocation) (0xFF ∷ 0xFE ∷ [])) (Utf8 ∷ Cp1252 ∷ Utf16 ∷ []) ≡ Utf8 ∷ Cp1252 ∷ Utf16 ∷ []
 asked_for = refl
 
 -- ---- Windows-1252
@@ -28,7 +28,7 @@ open_bytes : map cp1252_character (0x81 ∷ 0x8D ∷ 0x8F ∷ 0x90 ∷ 0x9D ∷ 
 open_bytes = refl
 
 -- `é€` becomes UTF-8
-text_of_cp1252 : IsTextIn Cp1252 (0xE9 ∷ 0x80 ∷ []) (0xC3 ∷ 0xA9 ∷ 0xE2 ∷ 0x82 ∷ 0xAC ∷ [])
+text_of_cp1252 : IsDecoded Cp1252 (0xE9 ∷ 0x80 ∷ []) (0xC3 ∷ 0xA9 ∷ 0xE2 ∷ 0x82 ∷ 0xAC ∷ [])
 unfolding encode
 text_of_cp1252 = refl
 
@@ -38,15 +38,15 @@ text_of_cp1252 = refl
 abbrev euro : Text
 euro = 0x61 ∷ 0xE2 ∷ 0x82 ∷ 0xAC ∷ []
 
-little_endian : IsTextIn Utf16 (0xFF ∷ 0xFE ∷ 0x61 ∷ 0x00 ∷ 0xAC ∷ 0x20 ∷ []) euro
+little_endian : IsDecoded Utf16 (0xFF ∷ 0xFE ∷ 0x61 ∷ 0x00 ∷ 0xAC ∷ 0x20 ∷ []) euro
 unfolding utf16_chars encode
 little_endian = record { characters = 0x61 ∷ 0x20AC ∷ []; are_all = refl; spell = refl }
 
-big_endian : IsTextIn Utf16 (0xFE ∷ 0xFF ∷ 0x00 ∷ 0x61 ∷ 0x20 ∷ 0xAC ∷ []) euro
+big_endian : IsDecoded Utf16 (0xFE ∷ 0xFF ∷ 0x00 ∷ 0x61 ∷ 0x20 ∷ 0xAC ∷ []) euro
 unfolding utf16_chars encode
 big_endian = record { characters = 0x61 ∷ 0x20AC ∷ []; are_all = refl; spell = refl }
 
-without_mark : IsTextIn Utf16 (0x61 ∷ 0x00 ∷ 0xAC ∷ 0x20 ∷ []) euro
+without_mark : IsDecoded Utf16 (0x61 ∷ 0x00 ∷ 0xAC ∷ 0x20 ∷ []) euro
 unfolding utf16_chars encode
 without_mark = record { characters = 0x61 ∷ 0x20AC ∷ []; are_all = refl; spell = refl }
 
@@ -61,7 +61,7 @@ unfolding utf16_chars
 second_mark = refl
 
 -- two units of a pair are one character, U+1F600
-pair : IsTextIn Utf16 (0x3D ∷ 0xD8 ∷ 0x00 ∷ 0xDE ∷ []) (0xF0 ∷ 0x9F ∷ 0x98 ∷ 0x80 ∷ [])
+pair : IsDecoded Utf16 (0x3D ∷ 0xD8 ∷ 0x00 ∷ 0xDE ∷ []) (0xF0 ∷ 0x9F ∷ 0x98 ∷ 0x80 ∷ [])
 unfolding utf16_chars encode
 pair = record { characters = 0x1F600 ∷ []; are_all = refl; spell = refl }
 
@@ -90,7 +90,7 @@ no_break = record { before = 0x0A0D ∷ []; after = []; first = refl; numbered =
 
 -- a letter that isn't ASCII
 -- false: csv_records::laws::ascii_is_its_own_text
-accent_is_another_text : ¬ (IsTextIn Cp1252 (0xE9 ∷ []) (0xE9 ∷ []))
+accent_is_another_text : ¬ (IsDecoded Cp1252 (0xE9 ∷ []) (0xE9 ∷ []))
 unfolding encode
 accent_is_another_text own = let is : 0xE9 ∷ [] ≡ 0xC3 ∷ 0xA9 ∷ [] = own in cc is
 

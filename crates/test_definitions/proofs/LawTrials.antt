@@ -18,7 +18,7 @@ use Rattle.comfy_parts.specs.declared.style.table.ContentArrangement.TheVariants
 use Rattle.comfy_parts.specs.declared.style.table_style.TableStyle.{TableStyle}
 use Rattle.comfy_table.specs.Drawing.{text_of}
 use Rattle.comfy_table.specs.Dynamic.{Steps}
-use Rattle.comfy_table.specs.Headline.{EachLineCounts}
+use Rattle.comfy_table.specs.Headline.{LineWidthsSatisfy}
 use Rattle.comfy_table.specs.Laws.{IsFreeOfEscapes, count, least_total, line_total}
 use Rattle.comfy_table.specs.Levels.{IsLevelled}
 use Rattle.comfy_table.specs.NewTables.{AreEquallyWide}
@@ -235,7 +235,7 @@ unfolding wrapping
 long_frame_line fits = let is : 6 ≤ 5 = fits in omega (arith, is)
 
 -- false: comfy_table::laws::drawings_keep_to_the_width
-wide_drawing : ¬ (EachLineCounts (λ n. n ≤ max 5 (least_total table)) table (2 ∷ []))
+wide_drawing : ¬ (LineWidthsSatisfy (λ n. n ≤ max 5 (least_total table)) table (2 ∷ []))
 unfolding wrapping
 wide_drawing counts = let is : 6 ≤ 5 = counts.frame_lines ascii_full.top_border in omega (arith, is)
 

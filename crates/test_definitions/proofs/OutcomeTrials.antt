@@ -6,7 +6,7 @@ use Rattle.comfy_parts.specs.Presets.{ascii_full}
 use Rattle.comfy_parts.specs.declared.style.table.ContentArrangement.TheVariants.{Disabled}
 use Rattle.std.proofs.lemmas.List.Elements.{All-nil}
 use Rattle.comfy_parts.specs.CellValue.{IsColumn, IsRow}
-use Rattle.comfy_run.specs.Input.{IsOutputFor, input_table}
+use Rattle.comfy_run.specs.Input.{RendersInput, input_table}
 use Rattle.comfy_table.proofs.HeadlineLemmas.{table_drawing, utf8_indicator}
 use Rattle.comfy_table.specs.TableValue.{KeepsParts, TableValue}
 use Rattle.comfy_run.specs.Run.{IsDrawnFrom}
@@ -25,7 +25,7 @@ no_table = input_table None Disabled ascii_full []
 kept : KeepsParts no_table
 kept = record { columns = All-nil IsColumn; header = tt; rows = All-nil IsRow; delimiter = tt }
 
-abbrev both_lines : IsOutputFor None Disabled ascii_full [] (codes "++\n++\n")
+abbrev both_lines : RendersInput None Disabled ascii_full [] (codes "++\n++\n")
 unfolding wrapping
 both_lines = (codes "++" ∷ codes "++" ∷ [], table_drawing no_table [] (codes "++" ∷ codes "++" ∷ []) (utf8_indicator {A = Global} None) kept ([], at_widths refl refl refl, refl) refl, refl)
 

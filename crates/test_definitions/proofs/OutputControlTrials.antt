@@ -141,6 +141,6 @@ raw_output_is_harmful none =
 styles_for_words : IsStyleWithoutControls (style_for (Some (codes "UTF8_FULL")))
 styles_for_words = refl
 
--- false: csv_command::laws::styles_for_words_hold_no_controls
+-- false: csv_command::laws::named_styles_hold_no_controls
 a_style_with_tabs : ¬ (IsStyleWithoutControls with_tabs)
 a_style_with_tabs is = true≢false is

@@ -10,13 +10,13 @@ use Rattle.comfy_parts.specs.Text.{Text, measure}
 use Rattle.comfy_table.proofs.BreakLemmas.{terminated_lines}
 use Rattle.comfy_table.specs.Laws.{AreLinesOf}
 use Rattle.csv_records.specs.Cleaning.{visible_of}
-use Rattle.csv_command.specs.declared.arguments.Asked.{Asked}
+use Rattle.csv_command.specs.declared.arguments.Invocation.{Invocation}
 use Rattle.csv_tables.specs.declared.options.Expansion.TheVariants.{Never}
 use Rattle.csv_tables.specs.declared.options.Look.{Look}
 use Rattle.csv_tables.specs.declared.options.Options.{Options}
 use Rattle.csv_tables.specs.declared.options.RowSeparators.TheVariants.{Styled}
 use Rattle.csv_tables.specs.Laws.{EachLineHas, HasLines, IsOutputWith, IsStraightOutput, seen_lines}
-use Rattle.csv_command.specs.Laws.{AreSameAsked}
+use Rattle.csv_command.specs.Laws.{AreSameInvocations}
 use Rattle.csv_tables.specs.OneOutput.{AreSameOptions}
 use Rattle.comfy_table.specs.TableValue.{TableValue}
 
@@ -82,5 +82,5 @@ others_are_not_the_same : (options : Options) → ¬ (AreSameOptions (drawn_by o
 others_are_not_the_same options is = true≢false (sym (ap (λ (l : Look). l.is_raw) is.look))
 
 -- false: csv_command::laws::drawings_are_one
-raw_fields_are_not_asked : (asked : Asked) → ¬ (AreSameAsked (record asked { options = drawn_by asked.options }) (record asked { options = record (drawn_by asked.options) { look = record look { is_raw = true } } }))
-raw_fields_are_not_asked asked is = others_are_not_the_same asked.options is.options
+raw_fields_are_not_parsed : (invocation : Invocation) → ¬ (AreSameInvocations (record invocation { options = drawn_by invocation.options }) (record invocation { options = record (drawn_by invocation.options) { look = record look { is_raw = true } } }))
+raw_fields_are_not_parsed invocation is = others_are_not_the_same invocation.options is.options

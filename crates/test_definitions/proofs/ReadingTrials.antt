@@ -12,7 +12,7 @@ use Rattle.comfy_parts.specs.Text.{Text}
 use Rattle.csv_command.specs.Ending.{input_name, reading_reason, reason_for}
 use Rattle.csv_records.specs.Delimiter.{below_lines, delimited, delimiter_in}
 use Rattle.csv_tables.specs.Unbroken.{is_unbroken}
-use Rattle.csv_command.specs.Words.{delimiter_for, encoding_for}
+use Rattle.csv_command.specs.Arguments.{delimiter_for, encoding_for}
 use Rattle.csv_records.specs.declared.delimiter.Delimiter.{Delimiter}
 use Rattle.csv_records.specs.declared.delimiter.Delimiter.TheVariants.{Auto, Byte, NamedOrTab}
 use Rattle.csv_records.specs.declared.encoding.Encoding.TheVariants.{Cp1252, Utf16, Utf8}

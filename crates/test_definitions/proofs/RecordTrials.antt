@@ -12,7 +12,7 @@ use Rattle.ucd_category.proofs.Computing.{ucd_category}
 use Rattle.csv.specs.Records.{AllText, field_at}
 use Rattle.csv_records.specs.Cleaning.{after_piece, pieces, start}
 use Rattle.csv_records.specs.Input.{line_breaks as line_breaks_of, line_of}
-use Rattle.csv_records.specs.declared.cleaning.Kept.{Kept}
+use Rattle.csv_records.specs.declared.cleaning.CleanOptions.{CleanOptions}
 use Rattle.csv_tables.specs.Columns.{alignment_for, columns_with, missing, position_named, positions_of_word, seen, two_sided}
 use Rattle.csv_tables.specs.Drawn.{condensed_style, is_expanded_in, least_width, limited, note_for, record_line}
 use Rattle.csv_tables.specs.Markdown.{rule_line}
@@ -25,11 +25,11 @@ use Rattle.csv_records.specs.Number.{is_neutral, is_number}
 use Rattle.clap.proofs.OnLiterals.{clap_on_literals}
 use Rattle.clap.specs.Words.{first_of, matches_of}
 use Rattle.csv_command.specs.Program.{csvtable_rules, with_rules, wordless}
-use Rattle.csv_command.specs.Words.{file_for, is_bold_for, separators_for, terminal_width, wants_color, width_for, words_in}
+use Rattle.csv_command.specs.Arguments.{file_for, is_bold_for, separators_for, terminal_width, wants_color, width_for, words_in}
 use Rattle.csv_records.specs.Numerals.{number_for}
 use Rattle.csv_records.specs.Shown.{shown_in}
 use Rattle.csv_command.specs.Styles.{style_for}
-use Rattle.csv_command.specs.declared.arguments.Surroundings.{Surroundings}
+use Rattle.csv_command.specs.declared.arguments.OutputContext.{OutputContext}
 use Rattle.csv_tables.specs.declared.options.RowSeparators.TheVariants.{Styled, Needed, Never}
 use Rattle.comfy_parts.specs.Presets.{nothing, utf8_full, utf8_full_condensed}
 use Rattle.comfy_parts.specs.StyleModifiers.{with_rounded_corners}
@@ -77,7 +77,7 @@ telling_fields = refl
 
 -- ---- fields as they are drawn
 
-abbrev drawn_with : Kept → List ℕ → Text
+abbrev drawn_with : CleanOptions → List ℕ → Text
 drawn_with kept characters = (fold (after_piece kept) start (pieces kept.sequences characters)).text
 
 abbrev drawn : Bool → List ℕ → Text
@@ -299,13 +299,13 @@ terminal_widths :
 terminal_widths = refl
 
 -- in a terminal: nothing asked for, 0, a width
-abbrev terminal : Surroundings
+abbrev terminal : OutputContext
 terminal = record { is_terminal = true; columns = None; no_color = None }
 
-widths_kept : map (λ (asked : Option ℕ). width_for asked terminal) (None ∷ Some 0 ∷ Some 7 ∷ []) ≡ Some 80 ∷ None ∷ Some 7 ∷ []
+widths_kept : map (λ (invocation : Option ℕ). width_for invocation terminal) (None ∷ Some 0 ∷ Some 7 ∷ []) ≡ Some 80 ∷ None ∷ Some 7 ∷ []
 widths_kept = refl
 
-widths_elsewhere : map (λ (asked : Option ℕ). width_for asked (record terminal { is_terminal = false })) (None ∷ Some 0 ∷ Some 7 ∷ []) ≡ None ∷ None ∷ Some 7 ∷ []
+widths_elsewhere : map (λ (invocation : Option ℕ). width_for invocation (record terminal { is_terminal = false })) (None ∷ Some 0 ∷ Some 7 ∷ []) ≡ None ∷ None ∷ Some 7 ∷ []
 widths_elsewhere = refl
 
 colors : map wants_color (None ∷ Some [] ∷ Some (codes "1") ∷ []) ≡ true ∷ true ∷ false ∷ []

@@ -10,7 +10,7 @@ use Rattle.comfy_parts.specs.declared.style.column.ColumnConstraint.{ColumnConst
 use Rattle.comfy_parts.specs.declared.style.table.ContentArrangement.{ContentArrangement}
 use Rattle.comfy_parts.specs.declared.style.table_style.TableStyle.{TableStyle}
 use Rattle.comfy_table.specs.Arrangement.{AreShownWidths, IsArranged, hidden_columns, widths_at}
-use Rattle.comfy_table.specs.Dynamic.{IsDynamic, IsLevel, IsTakenInOrder, Steps, content_room, lower_offer, others, room_of_others, room_of_unsettled, shrunk_offer, undecided, unsettled, widened}
+use Rattle.comfy_table.specs.Dynamic.{IsDynamicLayout, IsLevel, IsTakenInOrder, Steps, content_room, lower_offer, others, room_of_others, room_of_unsettled, shrunk_offer, undecided, unsettled, widened}
 use Rattle.comfy_table.specs.TableValue.{TableValue, column_content_width, new_table, shown_columns, with_header, with_rows}
 use Rattle.comfy_table.specs.Widths.{ColumnNeeds}
 
@@ -91,5 +91,5 @@ at_widths one hidden visible = record { one_for_each = one; hidden_widths = hidd
 -- those of the shown columns, by the steps of a dynamic arrangement
 pub by_steps : {room : ℕ} {columns : List ColumnNeeds} {full : Bool} {widths : List ℕ} (steps : Steps) → IsTakenInOrder (undecided room columns) (lower_offer (content_room room columns) (undecided room columns)) steps.lower
     → IsLevel (room_of_others room columns steps.lower) (others room columns steps.lower) steps.level
-    → IsTakenInOrder (unsettled room columns steps) (shrunk_offer (room_of_unsettled room columns steps) (unsettled room columns steps)) steps.shrunk → widths ≡ widened room columns full steps → IsDynamic room columns full widths
+    → IsTakenInOrder (unsettled room columns steps) (shrunk_offer (room_of_unsettled room columns steps) (unsettled room columns steps)) steps.shrunk → widths ≡ widened room columns full steps → IsDynamicLayout room columns full widths
 by_steps steps lower level shrunk are = (steps, record { lower_taken = lower; level_found = level; shrunk_taken = shrunk; widths_are = are })

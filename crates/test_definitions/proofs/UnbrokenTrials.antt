@@ -12,7 +12,7 @@ use Rattle.comfy_parts.specs.Text.{Text}
 use Rattle.comfy_parts.specs.declared.style.column.ColumnConstraint.{ColumnConstraint}
 use Rattle.comfy_parts.specs.declared.style.column.ColumnConstraint.TheVariants.{ContentWidth}
 use Rattle.comfy_table.specs.TableValue.{TableValue, column_content_width, new_table, with_rows}
-use Rattle.csv_tables.specs.Unbroken.{framed_width, is_unbroken, is_unbroken_column, kept_whole, needed_contents}
+use Rattle.csv_tables.specs.Unbroken.{framed_width, is_unbroken, is_unbroken_column, kept_unbroken, needed_contents}
 
 abbrev texts : List String → List Text
 texts words = map (λ (word : String). codes word) words
@@ -45,7 +45,7 @@ abbrev seven : TableValue
 seven = with_rows (plain_row (plain_cell (codes "letters") ∷ []) ∷ []) (new_table ascii_full)
 
 abbrev constraints : Option ℕ → List (Option ColumnConstraint)
-constraints width = map (λ (column : ColumnValue). column.constraint) (kept_whole width (true ∷ []) seven).columns
+constraints width = map (λ (column : ColumnValue). column.constraint) (kept_unbroken width (true ∷ []) seven).columns
 
 room : constraints (Some 11) ≡ Some ContentWidth ∷ []
 unfolding wrapping

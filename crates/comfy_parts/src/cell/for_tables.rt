@@ -38,10 +38,10 @@ pub fn has_escape(cell: &Cell) -> bool
 
 /// Whether a text line is written as it is where it is a cell's only line and SGR sequences count
 /// nothing. This is found faster than a copy is made.
-pub fn is_written_whole(text: &str) -> bool
+pub fn needs_no_rewrite(text: &str) -> bool
     ensures { result ≡ true → line_text [] text.now 0 (length (visible_text text.now)) ≡ text.now }
 {
-    crate::content_split::is_written_whole(text)
+    crate::content_split::needs_no_rewrite(text)
 }
 
 /// The texts that are written for the lines of the cell in a column where SGR sequences count

@@ -18,21 +18,21 @@ use std::slice;
 // The text lines of a cell.
 #[derive(Drop)]
 pub(crate) struct TextLines {
-    kept: Kept,
+    kept: Storage,
 }
 
 #[derive(Drop)]
-enum Kept {
+enum Storage {
     // a single text line without ESC, as most cells have: this takes no memory but its text's
-    One { text: String, width: usize },
+    Plain { text: String, width: usize },
     // any others, behind a box, so that a cell stays small
-    Several(Box<Several>),
+    Boxed(Box<BoxedLines>),
 }
 
 // Text lines, and what is visible of them where ESC stands in one. A table asks for the visible
 // ones again and again, and each time without memory, so they are kept.
 #[derive(Drop)]
-struct Several {
+struct BoxedLines {
     whole: Texts,
     visible: Option<Texts>,
 }
@@ -40,11 +40,11 @@ struct Several {
 // Texts, and the columns that each takes, in the same order. A single one takes no list.
 #[derive(Drop)]
 enum Texts {
-    One {
+    Single {
         text: String,
         width: usize,
     },
-    Several {
+    Multiple {
         texts: Vec<String>,
         widths: Vec<usize>,
     },
@@ -70,7 +70,7 @@ impl TextLines {
     {
         if let Some(width) = clear_width(text.as_str()) {
             return Ok(TextLines {
-                kept: Kept::One { text, width },
+                kept: Storage::Plain { text, width },
             });
         }
         TextLines::several(alloc, text)
@@ -84,9 +84,9 @@ impl TextLines {
     {
         let whole = Texts::of_text(alloc, text)?;
         let visible = whole.visible(alloc)?;
-        let several = Several { whole, visible };
+        let several = BoxedLines { whole, visible };
         Ok(TextLines {
-            kept: Kept::Several(Box::new(alloc, several)?),
+            kept: Storage::Boxed(Box::new(alloc, several)?),
         })
     }
 
@@ -96,8 +96,8 @@ impl TextLines {
         ensures widths { result.1.now ≡ map measure self.now }
     {
         match &self.kept {
-            Kept::One { text, width } => (slice::from_ref(text), slice::from_ref(width)),
-            Kept::Several(several) => several.whole.measured(),
+            Storage::Plain { text, width } => (slice::from_ref(text), slice::from_ref(width)),
+            Storage::Boxed(several) => several.whole.measured(),
         }
     }
 
@@ -108,8 +108,8 @@ impl TextLines {
         ensures widths { result.1.now ≡ map measure (map visible_text self.now) }
     {
         match &self.kept {
-            Kept::One { text, width } => (slice::from_ref(text), slice::from_ref(width)),
-            Kept::Several(several) => match &several.visible {
+            Storage::Plain { text, width } => (slice::from_ref(text), slice::from_ref(width)),
+            Storage::Boxed(several) => match &several.visible {
                 Some(visible) => visible.measured(),
                 None => several.whole.measured(),
             },
@@ -121,8 +121,8 @@ impl TextLines {
         ensures { result ≡ list_any has_escape self.now }
     {
         match &self.kept {
-            Kept::One { .. } => false,
-            Kept::Several(several) => several.visible.is_some(),
+            Storage::Plain { .. } => false,
+            Storage::Boxed(several) => several.visible.is_some(),
         }
     }
 }
@@ -143,14 +143,14 @@ impl Texts {
             texts.push(String::from_str(alloc, line)?)?;
             widths.push(measure_text_width(line))?;
         }
-        Ok(Texts::Several { texts, widths })
+        Ok(Texts::Multiple { texts, widths })
     }
 
     fn one(text: String) -> Texts
         ensures texts { texts_of result ≡ string_bytes text ∷ [] }
         ensures widths { widths_of result ≡ map measure (string_bytes text ∷ []) }
     {
-        Texts::One {
+        Texts::Single {
             width: measure_text_width(text.as_str()),
             text,
         }
@@ -162,8 +162,8 @@ impl Texts {
         ensures widths { result.1.now ≡ widths_of self.now }
     {
         match self {
-            Texts::One { text, width } => (slice::from_ref(text), slice::from_ref(width)),
-            Texts::Several { texts, widths } => (texts.as_slice(), widths.as_slice()),
+            Texts::Single { text, width } => (slice::from_ref(text), slice::from_ref(width)),
+            Texts::Multiple { texts, widths } => (texts.as_slice(), widths.as_slice()),
         }
     }
 
@@ -186,8 +186,8 @@ impl Texts {
             return Ok(None);
         }
         Ok(Some(match self {
-            Texts::One { text, .. } => Texts::one(visible_text(alloc, text.as_str())?),
-            Texts::Several { texts, .. } => visible_lines(alloc, texts.as_slice())?,
+            Texts::Single { text, .. } => Texts::one(visible_text(alloc, text.as_str())?),
+            Texts::Multiple { texts, .. } => visible_lines(alloc, texts.as_slice())?,
         }))
     }
 }
@@ -204,7 +204,7 @@ fn visible_lines(alloc: Global, lines: &[String]) -> Result<Texts>
         widths.push(measure_text_width(visible.as_str()))?;
         texts.push(visible)?;
     }
-    Ok(Texts::Several { texts, widths })
+    Ok(Texts::Multiple { texts, widths })
 }
 
 // The columns of a text that is one text line without ESC; none for any other.
@@ -239,29 +239,29 @@ impl Clone for TextLines {
 
     fn clone(&self) -> std::result::Result<TextLines, AllocError> {
         let kept = match &self.kept {
-            Kept::One { text, width } => Kept::One {
+            Storage::Plain { text, width } => Storage::Plain {
                 text: text.clone()?,
                 width: *width,
             },
-            Kept::Several(several) => Kept::Several(several.clone()?),
+            Storage::Boxed(several) => Storage::Boxed(several.clone()?),
         };
         Ok(TextLines { kept })
     }
 }
 
-impl Clone for Several {
+impl Clone for BoxedLines {
     ghost use Rattle.comfy_parts.specs.TextLines.{AreMeasured};
 
     ghost is_clone = { λ source copy. (texts_of copy.whole ≡ texts_of source.whole)
         × (AreMeasured source.whole source.visible → AreMeasured copy.whole copy.visible) };
 
-    fn clone(&self) -> std::result::Result<Several, AllocError> {
+    fn clone(&self) -> std::result::Result<BoxedLines, AllocError> {
         let whole = self.whole.clone()?;
         let visible = match &self.visible {
             Some(visible) => Some(visible.clone()?),
             None => None,
         };
-        Ok(Several { whole, visible })
+        Ok(BoxedLines { whole, visible })
     }
 }
 
@@ -271,11 +271,11 @@ impl Clone for Texts {
 
     fn clone(&self) -> std::result::Result<Texts, AllocError> {
         match self {
-            Texts::One { text, width } => Ok(Texts::One {
+            Texts::Single { text, width } => Ok(Texts::Single {
                 text: text.clone()?,
                 width: *width,
             }),
-            Texts::Several { texts, widths } => Ok(Texts::Several {
+            Texts::Multiple { texts, widths } => Ok(Texts::Multiple {
                 texts: texts.clone()?,
                 widths: widths.clone()?,
             }),

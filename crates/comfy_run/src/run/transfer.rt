@@ -1,14 +1,14 @@
 //! Reads a whole input, draws its table, and writes the drawing.
 
 ghost use Rattle.std.specs.Prelude.{◌≡◌, true, false, OnOk, IfOk, string_bytes};
-ghost use Rattle.comfy_run.specs.Input.{IsOutputFor};
+ghost use Rattle.comfy_run.specs.Input.{RendersInput};
 ghost use Rattle.comfy_run.specs.Run.{IsAfter, IsDrawnFrom, IsRefusal, is_read_fault, is_write_fault};
 ghost use Rattle.devices.specs.Outcome.{Between};
 
 use crate::error::RunError;
 use crate::run::input::table_of;
 use crate::settings::Settings;
-use devices::{Draw, Sink, Source};
+use devices::{Render, Sink, Source};
 use std::alloc::Global;
 
 /// Reads the whole source, and writes the drawing of its table to the sink, each line followed by a
@@ -43,18 +43,18 @@ pub fn run<R: Source, W: Sink>(
     Ok(devices::run(alloc, source, sink, &settings)?)
 }
 
-impl Draw for Settings {
+impl Render for Settings {
     type Error = RunError;
 
     ghost is_output = { IsDrawnFrom };
 
     ghost is_refusal = { λ _. IsRefusal };
 
-    fn drawn(&self, alloc: Global, input: Vec<u8>) -> Result<String, RunError> {
+    fn render(&self, alloc: Global, input: Vec<u8>) -> Result<String, RunError> {
         let Ok(text) = simdutf8::compat::from_utf8(input.as_slice()) else {
             return Err(RunError::NotUtf8);
         };
-        Ok(drawing_of(alloc, text, *self)?)
+        Ok(render_tsv(alloc, text, *self)?)
     }
 }
 
@@ -63,11 +63,11 @@ impl Draw for Settings {
 /// between TABs.
 ///
 /// ```
-/// let drawing = drawing_of(rt.alloc(), "name\tdays\noats\t3\n", settings)?;
+/// let drawing = render_tsv(rt.alloc(), "name\tdays\noats\t3\n", settings)?;
 /// ```
-pub fn drawing_of(alloc: Global, text: &str, settings: Settings) -> comfy_table::Result<String>
+pub fn render_tsv(alloc: Global, text: &str, settings: Settings) -> comfy_table::Result<String>
     ensures { IfOk result (λ output.
-        IsOutputFor settings.width settings.arrangement settings.style text.now
+        RendersInput settings.width settings.arrangement settings.style text.now
         (string_bytes output)) }
 {
     table_of(alloc, text, settings)?.to_terminated_text()

@@ -3,7 +3,7 @@
 ghost use Rattle.std.specs.Prelude.{◌≡◌, IfOk, map, string_bytes};
 ghost use Rattle.std.specs.Iterator.{YieldsFirstBy, item_count};
 ghost use Rattle.comfy_table.specs.Arrangement.{IsDrawingOf};
-ghost use Rattle.comfy_table.specs.Headline.{IsTableDrawing, IsTerminatedTextOf, IsTextOf, IsTrimmedTextOf};
+ghost use Rattle.comfy_table.specs.Headline.{IsTableDrawing, TerminatesLines, JoinsLines, JoinsTrimmedLines};
 
 use crate::table::Table;
 use crate::utils::formatting::OutputForm;
@@ -101,7 +101,7 @@ impl Table {
     /// let drawing = table.to_text()?;
     /// ```
     pub fn to_text(&self) -> Result<String>
-        ensures { IfOk result (λ text. IsTextOf self.now (string_bytes text)) }
+        ensures { IfOk result (λ text. JoinsLines self.now (string_bytes text)) }
     {
         let mut text = drawn(self, OutputForm::Joined)?.into_text();
         // the last line's line feed
@@ -111,7 +111,7 @@ impl Table {
 
     /// The drawn lines, each without its trailing white space, joined by line feeds.
     pub fn trim_fmt(&self) -> Result<String>
-        ensures { IfOk result (λ text. IsTrimmedTextOf self.now (string_bytes text)) }
+        ensures { IfOk result (λ text. JoinsTrimmedLines self.now (string_bytes text)) }
     {
         let mut text = drawn(self, OutputForm::Trimmed)?.into_text();
         // the last line's line feed
@@ -123,7 +123,7 @@ impl Table {
     /// style nor the truncation indicator holds a line feed, the lines are what stands before each
     /// one.
     pub fn to_terminated_text(&self) -> Result<String>
-        ensures { IfOk result (λ text. IsTerminatedTextOf self.now (string_bytes text)) }
+        ensures { IfOk result (λ text. TerminatesLines self.now (string_bytes text)) }
     {
         Ok(drawn(self, OutputForm::Joined)?.into_text())
     }

@@ -5,7 +5,7 @@ ghost use Rattle.comfy_parts.specs.Presets.{utf8_full};
 ghost use Rattle.comfy_parts.specs.Text.{Text};
 ghost use Rattle.comfy_table.specs.Arrangement.{IsArranged, IsDrawingOf};
 ghost use Rattle.comfy_table.specs.Drawing.{infos_of};
-ghost use Rattle.comfy_table.specs.Headline.{IsTerminatedTextOf, IsTextOf, IsTrimmedTextOf};
+ghost use Rattle.comfy_table.specs.Headline.{TerminatesLines, JoinsLines, JoinsTrimmedLines};
 ghost use Rattle.comfy_table.specs.NewTables.{AreEquallyWide, IsShortRow};
 ghost use Rattle.comfy_table.specs.Pieces.{row_lines};
 ghost use Rattle.comfy_table.specs.TableValue.{header_and_rows, max_content_widths, new_table, with_header, with_rows};
@@ -42,7 +42,7 @@ pub fn drawn_height(table: &Table) -> Result<usize>
 
 /// A title, and the text of a table after it.
 pub fn titled(alloc: Global, title: &str, table: &Table) -> Result<String>
-    ensures { IfOk result (λ text. (drawn : Text) × IsTextOf table.now drawn
+    ensures { IfOk result (λ text. (drawn : Text) × JoinsLines table.now drawn
         × (string_bytes text ≡ title.now ++ drawn)) }
 {
     let mut text = String::from_str(alloc, title)?;
@@ -52,8 +52,8 @@ pub fn titled(alloc: Global, title: &str, table: &Table) -> Result<String>
 
 /// A table as it is printed, and after it another one without trailing white space.
 pub fn printed_before(first: &Table, second: &Table) -> Result<String>
-    ensures { IfOk result (λ text. (one other : Text) × IsTerminatedTextOf first.now one
-        × IsTrimmedTextOf second.now other × (string_bytes text ≡ one ++ other)) }
+    ensures { IfOk result (λ text. (one other : Text) × TerminatesLines first.now one
+        × JoinsTrimmedLines second.now other × (string_bytes text ≡ one ++ other)) }
 {
     let mut text = first.to_terminated_text()?;
     text.push_str(second.trim_fmt()?.as_str())?;

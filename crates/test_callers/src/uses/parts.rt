@@ -3,7 +3,7 @@
 ghost use Rattle.std.specs.Prelude.{◌≡◌, ◌++◌, IfOk, OnOk, nat_lt, string_bytes};
 ghost use Rattle.std.specs.List.{list_any};
 ghost use Rattle.comfy_parts.specs.Text.{Text};
-ghost use Rattle.comfy_table.specs.Headline.{IsTerminatedTextOf};
+ghost use Rattle.comfy_table.specs.Headline.{TerminatesLines};
 ghost use Rattle.comfy_table.specs.Parts.{ArrangedValue, IsArrangedTable, row_heights};
 ghost use Rattle.test_callers.specs.Uses.{AppendsPageWithin};
 
@@ -26,7 +26,7 @@ pub fn push_page(table: &Table, text: &mut String, first: usize, count: usize) -
 
 /// A table in one part: as a program prints it.
 pub fn in_one_part(table: &Table, text: &mut String) -> Result<()>
-    ensures { OnOk result ((part : Text) × IsTerminatedTextOf table.now part
+    ensures { OnOk result ((part : Text) × TerminatesLines table.now part
         × (string_bytes text.new ≡ string_bytes text.old ++ part)) }
 {
     parts_have_lines_of_the_table();

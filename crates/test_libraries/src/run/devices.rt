@@ -3,7 +3,7 @@
 use super::program::SMALL;
 use crate::support::{assert_bytes, assert_given, sink_of};
 use comfy_run::run::{
-    FromReader, MemorySink, MemorySource, RunError, Settings, Sink, Source, ToWriter, drawing_of,
+    FromReader, MemorySink, MemorySource, RunError, Settings, Sink, Source, ToWriter, render_tsv,
     run,
 };
 use comfy_table::presets::ASCII_FULL;
@@ -57,7 +57,7 @@ fn assert_unwritten<W: Sink>(rt: &(impl Abort + Alloc<A = Global>), sink: &mut W
 
 #[test]
 fn a_text_in_memory_is_drawn(rt: HostRuntime) {
-    let drawing = drawing_of(rt.alloc(), "a\tb\nc\td\n", PLAIN);
+    let drawing = render_tsv(rt.alloc(), "a\tb\nc\td\n", PLAIN);
     assert_given(&rt, drawing, SMALL);
 }
 

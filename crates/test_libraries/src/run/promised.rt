@@ -4,7 +4,7 @@
 use super::large::options;
 use crate::support::{assert_bytes, assert_lines};
 use comfy_run::run::MemorySink;
-use csv_command::Surroundings;
+use csv_command::OutputContext;
 use csv_promises::harmless::{harmless_drawing, harmless_output};
 use csv_promises::kept::lines_of_records;
 use csv_promises::straight::{straight_output, straight_whole_output};
@@ -35,7 +35,7 @@ const DRAWN_IN_A_TERMINAL: &str = "\
 // No width is kept to, in a terminal too.
 const WORDS: [&str; 5] = ["csvtable", "-s", "ascii", "-w", "0"];
 
-const TERMINAL: Surroundings<'static> = Surroundings {
+const TERMINAL: OutputContext<'static> = OutputContext {
     is_terminal: true,
     columns: None,
     no_color: None,

@@ -42,33 +42,33 @@ fn rows_of_several_kinds_are_added(rt: HostRuntime) {
 }
 
 // What a predicate answers, that counts how often it was asked.
-fn answer(asked: &Cell<usize>, yes: bool) -> bool {
-    asked.set(asked.get().saturating_add(1));
+fn answer(invocation: &Cell<usize>, yes: bool) -> bool {
+    invocation.set(invocation.get().saturating_add(1));
     yes
 }
 
 // Offers a row to a new table. The predicate is asked once.
 fn offer_row(rt: &(impl Abort + Alloc<A = Global>), yes: bool, wanted: &str) {
-    let asked = Cell::new(0);
+    let invocation = Cell::new(0);
     let mut table = Table::new(rt.alloc());
     table
-        .add_row_if(|_count, _row| answer(&asked, yes), ["a"])
+        .add_row_if(|_count, _row| answer(&invocation, yes), ["a"])
         .expect(rt, "memory");
-    assert_number(rt, asked.get(), 1);
+    assert_number(rt, invocation.get(), 1);
     assert_drawn(rt, &table, wanted);
 }
 
 // Offers rows to a new table. The predicate is asked once.
 fn offer_rows(rt: &(impl Abort + Alloc<A = Global>), yes: bool, wanted: &str) {
-    let asked = Cell::new(0);
+    let invocation = Cell::new(0);
     let mut table = Table::new(rt.alloc());
     table
         .add_rows_if(
-            |_count, _rows| answer(&asked, yes),
+            |_count, _rows| answer(&invocation, yes),
             [["a", "b"], ["c", "d"]],
         )
         .expect(rt, "memory");
-    assert_number(rt, asked.get(), 1);
+    assert_number(rt, invocation.get(), 1);
     assert_drawn(rt, &table, wanted);
 }
 

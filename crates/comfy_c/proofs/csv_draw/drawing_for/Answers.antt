@@ -11,11 +11,11 @@ pub returns-clause-drawn : goal.returns-clause-drawn
 returns-clause-drawn c =
     let line : List Text = map (λ (word : Bor Text). word.now) c.as_slice.result.now in
     let are : IsCommandLine c.args.text.now line = rw c.as_slice.ensures.value c.in_ok-words.ensures in
-    IfOk-weaker c.drawing_of.result _ _
-    (λ drawing is. (IsUtf8-string_bytes drawing, record { is_text = c.utf8.text; words = line; are_words = are; is_so = is })) c.drawing_of.ensures.drawn
+    IfOk-weaker c.render_csv.result _ _
+    (λ drawing is. (IsUtf8-string_bytes drawing, record { is_text = c.utf8.text; words = line; are_words = are; is_so = is })) c.render_csv.ensures.drawn
 
 pub returns-clause-refused : goal.returns-clause-refused
 returns-clause-refused c =
     let line : List Text = map (λ (word : Bor Text). word.now) c.as_slice.result.now in
     let are : IsCommandLine c.args.text.now line = rw c.as_slice.ensures.value c.in_ok-words.ensures in
-    IfErr-weaker c.drawing_of.result _ _ (λ refusal is. refused_for c.args.text.now c.args.input.now line c.utf8.text are refusal is) c.drawing_of.ensures.refused
+    IfErr-weaker c.render_csv.result _ _ (λ refusal is. refused_for c.args.text.now c.args.input.now line c.utf8.text are refusal is) c.render_csv.ensures.refused

@@ -8,13 +8,13 @@ pub returns-then-put-clause-drawn : goal.returns-then-put-clause-drawn
 returns-then-put-clause-drawn c is = (
   search (rules, tests),
   in_front (IsDrawnAs (settings_for c.args.width c.args.arrangement c.args.style) c.args.input.now) c.as_bytes.result.now c.args.output.now c.put.ensures.needed c.put.ensures.output c.as_bytes.ensures.value
-      (drawn_as c.in-Some.ensures c.in-Ok.ensures.cases.0 c.in-Ok.ensures.cases.1 (IsUtf8-string_bytes c.in-Ok-drawing_of.drawing) c.in-Ok-drawing_of.ensures) (sym c.put.ensures.fits ∙ c.if-put.true),
+      (drawn_as c.in-Some.ensures c.in-Ok.ensures.cases.0 c.in-Ok.ensures.cases.1 (IsUtf8-string_bytes c.in-Ok-render_tsv.drawing) c.in-Ok-render_tsv.ensures) (sym c.put.ensures.fits ∙ c.if-put.true),
 )
 
 pub returns-clause-room_too_small : goal.returns-clause-room_too_small
 returns-clause-room_too_small c is = (
   search (rules, tests),
-  string_bytes c.in-Ok-drawing_of.drawing,
+  string_bytes c.in-Ok-render_tsv.drawing,
   c.put.ensures.needed ∙ ap length c.as_bytes.ensures.value,
-  drawn_as c.in-Some.ensures c.in-Ok.ensures.cases.0 c.in-Ok.ensures.cases.1 (IsUtf8-string_bytes c.in-Ok-drawing_of.drawing) c.in-Ok-drawing_of.ensures,
+  drawn_as c.in-Some.ensures c.in-Ok.ensures.cases.0 c.in-Ok.ensures.cases.1 (IsUtf8-string_bytes c.in-Ok-render_tsv.drawing) c.in-Ok-render_tsv.ensures,
 )

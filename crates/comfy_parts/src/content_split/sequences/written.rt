@@ -61,7 +61,7 @@ fn push_wrapped(
 /// Whether a text that is a cell's only line is written as it is: each reset in it follows visible
 /// text and closes a sequence, and none is open at its end. Other texts may be written as they are
 /// too.
-pub(crate) fn is_written_whole(text: &str) -> bool
+pub(crate) fn needs_no_rewrite(text: &str) -> bool
     ensures { result ≡ true → line_text [] text.now 0 (length (visible_text text.now)) ≡ text.now }
 {
     let mut is_open = false;

@@ -8,14 +8,14 @@
 
 ghost use Rattle.std.specs.Prelude.{◌≡◌, IfOk};
 ghost use Rattle.comfy_table.specs.Arrangement.{is_full_width, room_beside_borders};
-ghost use Rattle.comfy_table.specs.Dynamic.{IsDynamic};
+ghost use Rattle.comfy_table.specs.Dynamic.{IsDynamicLayout};
 ghost use Rattle.comfy_table.specs.Widths.{shown_needs};
 
 mod budget;
 mod level;
 mod needs;
+mod round_robin;
 mod spread;
-mod taking;
 
 use crate::table::Table;
 use budget::Budget;
@@ -23,31 +23,31 @@ use comfy_parts::Result;
 use comfy_parts::style::ContentArrangement;
 use level::settle;
 use needs::shown_needs;
+use round_robin::{Candidates, Rule};
 use spread::final_widths;
-use taking::{Rule, Takers};
 
 // The content widths of the shown columns of a table of this width, in list order.
 pub fn dynamic_widths(table: &Table, width: u16) -> Result<Vec<u16>>
     ensures { IfOk result (λ widths.
-        IsDynamic (room_beside_borders table.now width) (shown_needs table.now)
+        IsDynamicLayout (room_beside_borders table.now width) (shown_needs table.now)
         (is_full_width table.now.arrangement) widths.items) }
 {
     let visible = shown_needs(table)?;
     let columns = visible.as_slice();
     let mut budget = Budget::new(table, columns, width)?;
-    let lower = Takers {
+    let lower = Candidates {
         table,
         columns,
         rule: Rule::Lower,
     };
-    lower.take_in_turn(&mut budget);
+    lower.go_round(&mut budget);
     settle(columns, &mut budget);
-    let shrunk = Takers {
+    let shrunk = Candidates {
         table,
         columns,
         rule: Rule::Shrunk,
     };
-    shrunk.take_in_turn(&mut budget);
+    shrunk.go_round(&mut budget);
     final_widths(&budget, fills_width(table), *table.columns.allocator())
 }
 

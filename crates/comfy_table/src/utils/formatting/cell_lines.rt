@@ -8,7 +8,7 @@ ghost use Rattle.comfy_parts.specs.VisibleText.{has_escape};
 ghost use Rattle.comfy_parts.specs.Wrapping.{lines_of_text, wrapped};
 ghost use Rattle.comfy_table.specs.CellLines.{line_at, lines_of};
 ghost use Rattle.comfy_table.specs.DrawnLines.{drawn_line, drawn_text, with_texts};
-ghost use Rattle.comfy_table.specs.Lines.{as_measured, cell_delimiter, cell_lines, cut_line, cut_text, fitting_indicator, whole_lines};
+ghost use Rattle.comfy_table.specs.Lines.{as_measured, cell_delimiter, cell_lines, cut_line, cut_text, fitting_indicator, uncut_lines};
 ghost use Rattle.comfy_table.specs.Pieces.{row_cell_lines};
 ghost use Rattle.comfy_table.specs.TableValue.{measured_cell};
 
@@ -17,7 +17,7 @@ use crate::utils::formatting::styling::push_reset;
 use comfy_parts::content_split::{
     ColumnDisplayInfo, leaves_sequence_open, measure_text_width, split_long_word, wrapped_lines,
 };
-use comfy_parts::for_tables::{has_escape, is_written_whole, written_lines};
+use comfy_parts::for_tables::{has_escape, needs_no_rewrite, written_lines};
 use comfy_parts::{Cell, Result, Row};
 use std::borrow::CowStr;
 use std::marker::Model;
@@ -44,8 +44,8 @@ pub enum CellLines<'a> {
     // no cell stands in the column
     Missing,
     // the columns and the text of one text line that fits and is written as it is
-    One(&'a Cell, usize, &'a str),
-    Several(&'a Cell, Vec<Line<'a>>),
+    Single(&'a Cell, usize, &'a str),
+    Multiple(&'a Cell, Vec<Line<'a>>),
 }
 
 impl<'a> CellLines<'a> {
@@ -58,10 +58,10 @@ impl<'a> CellLines<'a> {
     {
         match self {
             CellLines::Missing => None,
-            CellLines::One(cell, columns, text) => {
+            CellLines::Single(cell, columns, text) => {
                 (position == 0).then_some((*cell, *columns, *text))
             }
-            CellLines::Several(cell, lines) => {
+            CellLines::Multiple(cell, lines) => {
                 let line = lines.get(position)?;
                 Some((*cell, line.columns, line.text.as_str()))
             }
@@ -84,10 +84,10 @@ pub fn row_cell_lines<'a>(
     // the clause of a limit says that it is at least 1
     let _limit = row.height_limit();
     if let Some((columns, text)) = only_line(table, cell, info) {
-        return Ok(CellLines::One(cell, columns, text));
+        return Ok(CellLines::Single(cell, columns, text));
     }
     let lines = listed_lines(table, row, cell, info, empty_list(spare))?;
-    Ok(CellLines::Several(cell, lines))
+    Ok(CellLines::Multiple(cell, lines))
 }
 
 // A list without lines, in the memory of a spare one.
@@ -108,7 +108,7 @@ fn only_line<'a>(
     ensures { IfSome result (λ line. record {
       columns = line.0;
       written = line.1.now;
-    } ∷ [] ≡ map drawn_line (whole_lines table.now.custom_styling info.now.content_width
+    } ∷ [] ≡ map drawn_line (uncut_lines table.now.custom_styling info.now.content_width
         (cell_delimiter table.now info.now.delimiter cell.now) cell.now)) }
 {
     let texts = cell.text_lines();
@@ -117,7 +117,7 @@ fn only_line<'a>(
         return None;
     }
     let text = texts[0].as_str();
-    if is_custom_styled(table, cell) && !is_written_whole(text) {
+    if is_custom_styled(table, cell) && !needs_no_rewrite(text) {
         return None;
     }
     Some((widths[0], text))
@@ -146,11 +146,11 @@ fn listed_lines<'a>(
     let measured = cell_lines(table, cell, info, list)?;
     let height = row.height_limit().unwrap_or(measured.len());
     if measured.len() <= height {
-        return whole_lines(table, cell, info, measured);
+        return uncut_lines(table, cell, info, measured);
     }
     let kept = height.saturating_sub(1);
     let cut = cut_line(table, measured[kept].text.as_str(), info)?;
-    let mut lines = whole_lines(table, cell, info, measured)?;
+    let mut lines = uncut_lines(table, cell, info, measured)?;
     lines.truncate(kept);
     lines.push(cut)?;
     Ok(lines)
@@ -219,7 +219,7 @@ fn push_wrapped<'a>(
 
 // Lines of a cell as they are measured, with what is written for each.
 #[inline(always)]
-fn whole_lines<'a>(
+fn uncut_lines<'a>(
     table: &Table,
     cell: &Cell,
     info: &ColumnDisplayInfo,
@@ -229,7 +229,7 @@ fn whole_lines<'a>(
         (cell_lines info.now.content_width (cell_delimiter table.now info.now.delimiter cell.now)
         (measured_cell table.now cell.now)) }
     ensures { IfOk result (λ lines. lines.items
-        ≡ map drawn_line (whole_lines table.now.custom_styling info.now.content_width
+        ≡ map drawn_line (uncut_lines table.now.custom_styling info.now.content_width
         (cell_delimiter table.now info.now.delimiter cell.now) cell.now)) }
 {
     if !is_custom_styled(table, cell) {

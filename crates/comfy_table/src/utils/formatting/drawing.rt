@@ -3,7 +3,7 @@
 ghost use Rattle.std.specs.Prelude.{◌≡◌, [], nat_lt, IfOk, OnErr, OnOk, Some, map, string_bytes, option_to_list, if◌then◌else◌};
 ghost use Rattle.std.specs.List.{join_by, range_with_len};
 ghost use Rattle.comfy_table.specs.DrawnCells.{greatest_height, piece_at};
-ghost use Rattle.comfy_table.specs.Drawing.{drawing_of_infos, drawn_header, drawn_rows, whole_widths};
+ghost use Rattle.comfy_table.specs.Drawing.{drawing_of_infos, drawn_header, drawn_rows, outer_widths};
 ghost use Rattle.comfy_table.specs.Frame.{optional_frame_line};
 ghost use Rattle.comfy_table.specs.Gaps.{gap_line, row_between};
 ghost use Rattle.comfy_table.specs.Output.{BeginsWith, with_lines, with_written};
@@ -107,7 +107,7 @@ impl<'a> Writer<'a> {
     fn write_frame_line(&mut self, style: &LineStyle) -> Result<()>
         ensures ok { OnOk result (self.new
             ≡ with_written (optional_frame_line self.old.table.style style.now
-            (whole_widths self.old.infos)) self.old) }
+            (outer_widths self.old.infos)) self.old) }
         ensures err { OnErr result (BeginsWith self.new.output.text self.old.output.text) }
     {
         if !is_drawn(style) {

@@ -45,8 +45,8 @@ impl<'a> DrawnCell<'a> {
         ensures { result ≡ length self.now.pieces }
     {
         match &self.lines {
-            CellLines::Missing | CellLines::One(_, _, _) => 1,
-            CellLines::Several(_, lines) => lines.len(),
+            CellLines::Missing | CellLines::Single(_, _, _) => 1,
+            CellLines::Multiple(_, lines) => lines.len(),
         }
     }
 
@@ -125,7 +125,7 @@ fn take_lists<'a>(cells: &mut Vec<DrawnCell<'a>>, spare: &mut Vec<Vec<Line<'a>>>
     ensures { OnOk result (cells.new.items ≡ []) }
 {
     while let Some(cell) = cells.pop() {
-        if let CellLines::Several(_, lines) = cell.lines
+        if let CellLines::Multiple(_, lines) = cell.lines
             && lines.capacity() <= KEPT_LINES
         {
             spare.push(lines)?;

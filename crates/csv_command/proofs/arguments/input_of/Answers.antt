@@ -2,7 +2,7 @@ use Rattle.std.proofs.Common.{◌∙◌, not, ap}
 use Rattle.std.specs.Option.{unwrap_or}
 use Rattle.std.specs.Str.Parse.{ParsesUnsigned, ExplainsUnsignedError, HasUnsignedDigitsIfOk}
 use Rattle.csv_command.proofs.ValueLemmas.{of_found}
-use Rattle.csv_command.specs.Words.{encoding_for}
+use Rattle.csv_command.specs.Arguments.{encoding_for}
 use Rattle.csv_command.proofs.arguments.input_of.Goals as goal
 
 pub returns : goal.returns

@@ -2,7 +2,7 @@ use Rattle.std.proofs.Common.{◌∙◌, ap, refl}
 use Rattle.std.specs.Str.Parse.{ParsesUnsigned, ExplainsUnsignedError, HasUnsignedDigitsIfOk}
 use Rattle.csv_command.proofs.ValueLemmas.{of_found}
 use Rattle.csv_command.specs.Styles.{style_for}
-use Rattle.csv_command.specs.Words.{expansion_for, is_bold_for, separators_for, width_for}
+use Rattle.csv_command.specs.Arguments.{expansion_for, is_bold_for, separators_for, width_for}
 use Rattle.csv_command.proofs.arguments.look_of.Goals as goal
 
 pub returns : goal.returns
@@ -13,10 +13,10 @@ returns c =
       style = c.style_of.ensures ∙ ap style_for c.get_str-style.ensures;
       separators = c.separators_of.ensures ∙ ap (separators_for c.is_given.result c.is_given-2.result) c.get_str-style.ensures ∙ rw (c.is_given.ensures, c.is_given-2.ensures) refl;
       expansion = c.expansion_of.ensures ∙ ap (λ word. expansion_for c.is_given-3.result word) c.get_str.ensures ∙ rw c.is_given-3.ensures refl;
-      width = c.width_of.ensures ∙ ap (λ number. width_for number c.args.surroundings) width;
+      width = c.width_of.ensures ∙ ap (λ number. width_for number c.args.context) width;
       full = c.is_given-4.ensures;
       height = height;
-      bold = c.is_bold.ensures ∙ ap (λ word. is_bold_for word c.args.surroundings) c.get_str-2.ensures;
+      bold = c.is_bold.ensures ∙ ap (λ word. is_bold_for word c.args.context) c.get_str-2.ensures;
       sequences = c.is_given-5.ensures;
       bidi = c.is_given-6.ensures;
       raw = c.is_given-7.ensures;

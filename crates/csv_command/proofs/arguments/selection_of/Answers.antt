@@ -1,7 +1,7 @@
 use Rattle.std.proofs.Common.{◌∙◌, not, ap}
 use Rattle.std.specs.Str.Parse.{ParsesUnsigned, ExplainsUnsignedError, HasUnsignedDigitsIfOk}
 use Rattle.csv_command.proofs.ValueLemmas.{of_found}
-use Rattle.csv_command.specs.Words.{words_in}
+use Rattle.csv_command.specs.Arguments.{words_in}
 use Rattle.csv_command.proofs.arguments.selection_of.Goals as goal
 
 pub returns : goal.returns

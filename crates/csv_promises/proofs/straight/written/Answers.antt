@@ -4,7 +4,7 @@ use Rattle.csv_promises.proofs.straight.written.Goals as goal
 pub returns : goal.returns
 returns c =
     record {
-      is_asked = of_ok _ c.asked_of.result c.in_ok-asked.asked c.in_ok-asked.ensures.value c.asked_of.ensures.ok;
+      is_asked = of_ok _ c.parse.result c.in_ok-invocation.invocation c.in_ok-invocation.ensures.value c.parse.ensures.ok;
       tidy = c.if-look.false;
       unkept = c.if-look-2.false;
       no_markdown = c.if-look-3.false;

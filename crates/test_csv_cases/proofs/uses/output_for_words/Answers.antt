@@ -16,6 +16,6 @@ then_some P Q (Err e) o is gives own = subst (λ o. IfSome o Q) (sym is) tt
 
 pub returns : goal.returns
 returns c =
-    let asked = c.in_ok-asked.asked in
-    let is = of_ok _ c.asked_of.result asked c.in_ok-asked.ensures.value c.asked_of.ensures.ok in
-    then_some _ _ c.output_for.result c.ok-2.result c.ok-2.ensures.value (λ sink made. c.drawings_hold_no_controls.ensures.asked _ c.args.surroundings asked c.args.input.now _ is c.if-asked.false made) c.output_for.ensures
+    let invocation = c.in_ok-invocation.invocation in
+    let is = of_ok _ c.parse.result invocation c.in_ok-invocation.ensures.value c.parse.ensures.ok in
+    then_some _ _ c.output_for.result c.ok-2.result c.ok-2.ensures.value (λ sink made. c.drawings_hold_no_controls.ensures.invocation _ c.args.context invocation c.args.input.now _ is c.if-invocation.false made) c.output_for.ensures

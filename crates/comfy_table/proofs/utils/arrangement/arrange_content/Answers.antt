@@ -3,7 +3,7 @@ use Rattle.std.proofs.lemmas.Result.{IfOk-weaker}
 use Rattle.comfy_table.specs.AllWidths.{all_widths}
 use Rattle.comfy_table.specs.Arrangement.{is_full_width, room_beside_borders, width_kept}
 use Rattle.comfy_table.specs.DisabledWidths.{widths_by_content}
-use Rattle.comfy_table.specs.Dynamic.{IsDynamic}
+use Rattle.comfy_table.specs.Dynamic.{IsDynamicLayout}
 use Rattle.comfy_table.specs.TableValue.{table_width}
 use Rattle.comfy_table.specs.Widths.{shown_needs}
 use Rattle.comfy_table.proofs.AllWidthsLemmas.{arranged_by_widths}
@@ -15,7 +15,7 @@ returns-in_ok-widths-in-Some c =
     let table = c.args.table.now in
     let w = c.in-Some.width in
     let kept : width_kept table.arrangement (table_width table) ≡ Some w = sym c.kept_width.ensures ∙ c.in-Some.is in
-    let dynamic = subst (λ (ws : List ℕ). IsDynamic (room_beside_borders table w) (shown_needs table) (is_full_width table.arrangement) ws) (sym c.as_slice.ensures.value) c.in_ok-widths-in-Some.ensures in
+    let dynamic = subst (λ (ws : List ℕ). IsDynamicLayout (room_beside_borders table w) (shown_needs table) (is_full_width table.arrangement) ws) (sym c.as_slice.ensures.value) c.in_ok-widths-in-Some.ensures in
     IfOk-weaker c.infos_with.result _ _ (λ infos same. (all_widths table c.as_slice.result.now, arranged_by_widths table w c.as_slice.result.now kept dynamic, same)) c.infos_with.ensures
 
 pub returns-in-None : goal.returns-in-None

@@ -4,7 +4,7 @@ use Rattle.std.proofs.lemmas.List.Elements.{All-append, All-cons, All-nil, All-w
 use Rattle.std.proofs.lemmas.Grind.{common_steps}
 use Rattle.std.proofs.lemmas.Str.{chars-nil}
 use Rattle.std.proofs.lemmas.Result.{IfOk-weaker}
-use Rattle.comfy_table.specs.Headline.{IsTableDrawing, IsTerminatedTextOf}
+use Rattle.comfy_table.specs.Headline.{IsTableDrawing, TerminatesLines}
 use Rattle.comfy_table.specs.Laws.{count, least_total}
 use Rattle.comfy_table.specs.TableValue.{TableValue}
 use Rattle.test_callers.specs.Uses.{table_within}
@@ -16,7 +16,7 @@ returns c =
     (λ text printed free plain enough.
     let w = c.args.width in
     let table : TableValue = table_within w c.args.header c.args.row in
-    let told : IsTerminatedTextOf table (string_bytes text) = subst (λ (t : TableValue). IsTerminatedTextOf t (string_bytes text)) (grind (arith, common_steps)) printed in
+    let told : TerminatesLines table (string_bytes text) = subst (λ (t : TableValue). TerminatesLines t (string_bytes text)) (grind (arith, common_steps)) printed in
     let drawn : IsTableDrawing table told.0 = told.1 in
     let few : All (λ line. count line ≤ max w (least_total table)) told.0 = subst (All (λ line. count line ≤ max w (least_total table))) (sym (drawn.edges.unstyled_lines refl refl)) ((c.drawings_keep_to_the_width.ensures.dynamic table w told.0 drawn free refl refl).printable_lines (plain drawn.widths)) in
     let found = c.lines_are_found_in_their_texts.ensures.terminated told.0 (drawn.controls.without_breaks (record { indicator = refl; characters = refl })) in

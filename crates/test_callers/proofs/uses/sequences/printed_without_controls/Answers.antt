@@ -4,7 +4,7 @@ use Rattle.std.proofs.lemmas.List.Elements.{All-append, All-cons, All-map, All-n
 use Rattle.std.proofs.lemmas.Grind.{common_steps}
 use Rattle.std.proofs.lemmas.Result.{IfOk-weaker}
 use Rattle.comfy_parts.specs.VisibleText.{visible_text}
-use Rattle.comfy_table.specs.Headline.{IsTableDrawing, IsTerminatedTextOf}
+use Rattle.comfy_table.specs.Headline.{IsTableDrawing, TerminatesLines}
 use Rattle.comfy_table.specs.Laws.{HasNoControl}
 use Rattle.comfy_table.specs.TableValue.{TableValue}
 use Rattle.test_callers.specs.Uses.{table_of_two}
@@ -15,7 +15,7 @@ returns c =
     IfOk-weaker c.to_terminated_text.result _ _
     (λ text printed free.
     let table : TableValue = table_of_two c.args.header c.args.row in
-    let told : IsTerminatedTextOf table (string_bytes text) = subst (λ (t : TableValue). IsTerminatedTextOf t (string_bytes text)) (grind (arith, common_steps)) printed in
+    let told : TerminatesLines table (string_bytes text) = subst (λ (t : TableValue). TerminatesLines t (string_bytes text)) (grind (arith, common_steps)) printed in
     let drawn : IsTableDrawing table told.0 = told.1 in
     let visible : map visible_text told.0 ≡ told.0 = drawn.sequences.without_sequences (c.tables_without_controls_have_no_escape.ensures table free) ∙ sym (drawn.edges.unstyled_lines refl refl) in
     let none : All HasNoControl told.0 = subst (All HasNoControl) visible (All-map HasNoControl visible_text told.0 (drawn.controls.without_controls free)) in

@@ -3,7 +3,7 @@ use Rattle.std.proofs.lemmas.List.{length-map}
 use Rattle.std.proofs.lemmas.Result.{IfOk-weaker}
 use Rattle.comfy_table.specs.Arrangement.{is_full_width, room_beside_borders}
 use Rattle.comfy_table.specs.Deciding.{all_needs, final_widths, needs_in, undecided_among}
-use Rattle.comfy_table.specs.Dynamic.{IsDynamic, settled_shares}
+use Rattle.comfy_table.specs.Dynamic.{IsDynamicLayout, settled_shares}
 use Rattle.comfy_table.specs.Widths.{ColumnNeeds, shown_needs}
 use Rattle.comfy_table.proofs.DecidedLemmas.{decided_is_dynamic, has_room_to_spread}
 use Rattle.comfy_table.proofs.UndecidedLemmas.{length-with_shares}
@@ -12,11 +12,11 @@ use Rattle.comfy_table.proofs.utils.arrangement.dynamic.dynamic_widths.Goals as 
 pub settle-requires : goal.settle-requires
 settle-requires c = grind (arith, length-with_shares, length-map)
 
-pub take_in_turn-requires-2-clause-widths : goal.take_in_turn-requires-2-clause-widths
-take_in_turn-requires-2-clause-widths c =
+pub go_round-requires-2-clause-widths : goal.go_round-requires-2-clause-widths
+go_round-requires-2-clause-widths c =
     let settled = c.settle.ensures c.args.table.now in
-    let taken = c.take_in_turn.ensures in
-    let lower = c.take_in_turn.new.budget.widths.items in
+    let taken = c.go_round.ensures in
+    let lower = c.go_round.new.budget.widths.items in
     let columns = c.as_slice-columns.result.now in
     let needs = all_needs c.args.table.now columns in
     ap length settled.2.widths
@@ -27,9 +27,9 @@ take_in_turn-requires-2-clause-widths c =
     ∙ length-map needs (λ (n : ColumnNeeds). n.fixed)
     ∙ length-map columns (needs_in c.args.table.now)
 
-pub take_in_turn-requires-2-clause-room : goal.take_in_turn-requires-2-clause-room
-take_in_turn-requires-2-clause-room c =
-    let lower = c.take_in_turn.ensures in
+pub go_round-requires-2-clause-room : goal.go_round-requires-2-clause-room
+go_round-requires-2-clause-room c =
+    let lower = c.go_round.ensures in
     let settled = c.settle.ensures c.args.table.now in
     omega (arith, settled.2.room, lower.2.room, c.in_ok-budget.ensures.room, c.ranges.width.fits)
 
@@ -37,8 +37,8 @@ pub final_widths-requires : goal.final_widths-requires
 final_widths-requires c =
     let table = c.args.table.now in
     let columns = c.as_slice-columns.result.now in
-    has_room_to_spread (room_beside_borders table c.args.width) (all_needs table columns) c.in_ok-budget.budget c.take_in_turn.new.budget c.settle.new.budget c.take_in_turn-2.new.budget
-    c.in_ok-budget.ensures.widths c.in_ok-budget.ensures.room c.take_in_turn.ensures (c.settle.ensures table) c.take_in_turn-2.ensures (omega (arith, c.ranges.width.fits))
+    has_room_to_spread (room_beside_borders table c.args.width) (all_needs table columns) c.in_ok-budget.budget c.go_round.new.budget c.settle.new.budget c.go_round-2.new.budget
+    c.in_ok-budget.ensures.widths c.in_ok-budget.ensures.room c.go_round.ensures (c.settle.ensures table) c.go_round-2.ensures (omega (arith, c.ranges.width.fits))
 
 pub returns : goal.returns
 returns c =
@@ -47,9 +47,9 @@ returns c =
     let needs : all_needs table columns ≡ shown_needs table = ap (all_needs table) c.as_slice-columns.ensures.value ∙ c.in_ok-visible.ensures in
     IfOk-weaker c.final_widths.result _ _
     (λ widths is.
-    let all = decided_is_dynamic (room_beside_borders table c.args.width) (all_needs table columns) c.in_ok-budget.budget c.take_in_turn.new.budget c.settle.new.budget c.take_in_turn-2.new.budget
-    c.in_ok-budget.ensures.widths c.in_ok-budget.ensures.room c.take_in_turn.ensures (c.settle.ensures table) c.take_in_turn-2.ensures (is_full_width table.arrangement) in
-    let as_final : widths.items ≡ final_widths (is_full_width table.arrangement) c.take_in_turn-2.new.budget = is ∙ ap (λ (full : Bool). final_widths full c.take_in_turn-2.new.budget) c.fills_width.ensures in
-    subst (λ (ns : List ColumnNeeds). IsDynamic (room_beside_borders table c.args.width) ns (is_full_width table.arrangement) widths.items) needs
-    (subst (IsDynamic (room_beside_borders table c.args.width) (all_needs table columns) (is_full_width table.arrangement)) (sym as_final) all))
+    let all = decided_is_dynamic (room_beside_borders table c.args.width) (all_needs table columns) c.in_ok-budget.budget c.go_round.new.budget c.settle.new.budget c.go_round-2.new.budget
+    c.in_ok-budget.ensures.widths c.in_ok-budget.ensures.room c.go_round.ensures (c.settle.ensures table) c.go_round-2.ensures (is_full_width table.arrangement) in
+    let as_final : widths.items ≡ final_widths (is_full_width table.arrangement) c.go_round-2.new.budget = is ∙ ap (λ (full : Bool). final_widths full c.go_round-2.new.budget) c.fills_width.ensures in
+    subst (λ (ns : List ColumnNeeds). IsDynamicLayout (room_beside_borders table c.args.width) ns (is_full_width table.arrangement) widths.items) needs
+    (subst (IsDynamicLayout (room_beside_borders table c.args.width) (all_needs table columns) (is_full_width table.arrangement)) (sym as_final) all))
     c.final_widths.ensures

@@ -1,7 +1,7 @@
 use Rattle.std.proofs.Common.{◌≡◌, subst, ap, ◌∙◌, arith}
 use Rattle.std.specs.Prelude.{OnOk}
 use Rattle.comfy_table.proofs.OutputLemmas.{four-written}
-use Rattle.comfy_table.specs.Drawing.{drawn_header, drawn_rows, whole_widths}
+use Rattle.comfy_table.specs.Drawing.{drawn_header, drawn_rows, outer_widths}
 use Rattle.comfy_table.specs.Frame.{optional_frame_line}
 use Rattle.comfy_table.specs.Output.{WriterValue, with_written}
 use Rattle.comfy_table.proofs.utils.formatting.drawing.Writer.write.Goals as goal
@@ -11,7 +11,7 @@ returns-clause-ok c =
     let start = c.args.self.now in
     let table = start.table in
     let infos = start.infos in
-    let widths = whole_widths infos in
+    let widths = outer_widths infos in
     let top = optional_frame_line table.style table.style.top_border widths in
     let header = drawn_header table infos table.header in
     let rows = drawn_rows table infos table.rows in

@@ -1,7 +1,7 @@
 use Rattle.std.proofs.Common.{◌≡◌, subst, ap, ◌∙◌, arith}
 use Rattle.std.specs.Prelude.{OnOk}
 use Rattle.comfy_table.proofs.OutputLemmas.{written-append}
-use Rattle.comfy_table.specs.Drawing.{whole_widths}
+use Rattle.comfy_table.specs.Drawing.{outer_widths}
 use Rattle.comfy_table.specs.Frame.{optional_frame_line}
 use Rattle.comfy_table.specs.Gaps.{RowGapsValue, row_between, row_gaps}
 use Rattle.comfy_table.specs.Output.{WriterValue, with_written}
@@ -11,7 +11,7 @@ pub returns-clause-ok : goal.returns-clause-ok
 returns-clause-ok c =
     let start = c.args.self.now in
     let lines = row_between (row_gaps start.table.style start.table.style.header_lines) start.table start.infos c.args.header.now in
-    let separator = optional_frame_line start.table.style start.table.style.header_separator (whole_widths start.infos) in
+    let separator = optional_frame_line start.table.style start.table.style.header_separator (outer_widths start.infos) in
     let gaps : c.in_ok-gaps.gaps ≡ row_gaps start.table.style start.table.style.header_lines = grind arith in
     let drawn : c.write_row.new.self ≡ with_written (row_between c.in_ok-gaps.gaps start.table start.infos c.args.header.now) start = grind arith in
     let framed : OnOk c.write_frame_line.result (c.write_frame_line.new.self ≡ with_written separator c.write_row.new.self) = grind (arith, drawn) in

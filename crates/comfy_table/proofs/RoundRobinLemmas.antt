@@ -1,0 +1,195 @@
+-- The loop in which columns take a width in turn: what it keeps, and what it leads to.
+use Rattle.std.proofs.Common.{◌≡◌, ◌<◌, ◌≤◌, ℕ, zero, suc, ◌+◌, ◌-◌, ◌*◌, ◌/◌, true, List, [], ◌∷◌, ◌++◌, length, Option, Some, None, slice_get, not, ◌&&◌, ◌==◌, refl, sym, ap, ap₂, ◌∙◌, subst, arith, inl, inr, ⊎_elim}
+use Rattle.std.specs.Prelude.{◌⊎◌, slice_set}
+use Rattle.std.proofs.lemmas.Bool.{cases_lt, eq-eqb, and_parts}
+use Rattle.std.proofs.lemmas.Option.{slice_get_within}
+use Rattle.std.proofs.lemmas.List.Sums.{sum_by_push}
+use Rattle.comfy_table.specs.Deciding.{HasTaken, HasGoneRound, average_room, is_undecided, offer_by_rule, position_after, undecided_among, undecided_count, width_at, width_by_rule, with_shares}
+use Rattle.comfy_table.specs.Dynamic.{Placed, Share, going_round, next_taken, total, without_shares}
+use Rattle.comfy_table.specs.Widths.{ColumnNeeds}
+use Rattle.comfy_table.specs.declared.utils.arrangement.dynamic.budget.Budget.{Budget}
+use Rattle.comfy_table.specs.declared.utils.arrangement.dynamic.round_robin.Rule.{Rule}
+use Rattle.comfy_table.proofs.TakenLemmas.{IsTakenSoFar, place_after, so_far-ends, so_far-push}
+use Rattle.comfy_table.proofs.TakingLemmas.{shares_of}
+use Rattle.comfy_table.proofs.TurnLemmas.{IsBetween, none_next, some_next}
+use Rattle.comfy_table.proofs.UndecidedLemmas.{is_undecided-set, length-undecided_among, length-with_shares, undecided_among-with_shares}
+
+-- one of the last places before this one, of so many, going round n places
+abbrev pub IsBehind : ℕ → ℕ → ℕ → ℕ → Type 0
+IsBehind n place passed i = (i < n) × (((i < place) × (place ≤ i + passed)) ⊎ ((place ≤ i) × (n + place ≤ i + passed)))
+
+-- one position on, it is the position itself or was passed before
+behind_one_more : (n place passed i : ℕ) → place < n → IsBehind n (position_after n place) (passed + 1) i → (place ≡ i) ⊎ IsBehind n place passed i
+behind_one_more n place passed i within = grind arith
+
+-- what was passed, and the position itself, are passed at the next one
+behind_next : (n place passed i : ℕ) → place < n → passed < n → IsBehind n place passed i ⊎ (place ≡ i) → IsBehind n (position_after n place) (passed + 1) i
+behind_next n place passed i within fewer behind = grind arith
+
+-- all positions are passed where as many were
+all_behind : (n place passed i : ℕ) → place < n → n ≤ passed → i < n → IsBehind n place passed i
+all_behind n place passed i within all below =
+    ⊎_elim (λ earlier. (below, inl (earlier, omega (arith, within, all)))) (λ later. (below, inr (later, omega (arith, later, all)))) (cases_lt i place)
+
+-- the positions since one that is passed are passed
+between_behind : (n place passed from i : ℕ) → place < n → i < n → IsBehind n place passed from ⊎ (place ≡ from) → IsBetween from place i → IsBehind n place passed i
+between_behind n place passed from i within below since between = grind arith
+
+-- the last one taken is that from which the next is looked for
+place_after-push : (candidates : List Placed) (offer : List Share → Placed → Option ℕ) (from : ℕ) (order : List Share) (t : Share) → place_after candidates offer from (order ++ t ∷ []) ≡ t.0
+place_after-push candidates offer from [] t = refl
+place_after-push candidates offer from (s ∷ order) t = place_after-push candidates offer s.0 order t
+
+-- one share more
+with_shares-push : (order : List Share) (t : Share) (widths : List (Option ℕ)) → with_shares (order ++ t ∷ []) widths ≡ slice_set (with_shares order widths) t.0 (Some t.1)
+with_shares-push [] t widths = refl
+with_shares-push (s ∷ order) t widths = with_shares-push order t (slice_set widths s.0 (Some s.1))
+
+-- a width that is set is one undecided column fewer
+pub count-set : (widths : List (Option ℕ)) (i width : ℕ) → is_undecided widths i ≡ true → undecided_count (slice_set widths i (Some width)) + 1 ≡ undecided_count widths
+count-set [] i width left = absurd (cc left)
+count-set (None ∷ widths) zero width left = omega arith
+count-set (Some w ∷ widths) zero width left = absurd (cc left)
+count-set (None ∷ widths) (suc i) width left = omega (arith, count-set widths i width left)
+count-set (Some w ∷ widths) (suc i) width left = count-set widths i width left
+
+-- one undecided column fewer outweighs the places that are passed
+pub fewer_undecided : (count count' n passed passed' : ℕ) → count' + 1 ≡ count → passed < n → count' * (n + 1) + (n - passed') < count * (n + 1) + (n - passed)
+fewer_undecided count count' n passed passed' fewer below = grind arith
+
+-- a column that takes a width is undecided
+pub record Takes (rule : Rule) (average : ℕ) (needs : List ColumnNeeds) (widths : List (Option ℕ)) (place width : ℕ) : Type 0 where
+  pub column : ColumnNeeds
+  pub found : slice_get needs place ≡ Some column
+  pub left : is_undecided widths place ≡ true
+  pub takes : width_by_rule rule average column ≡ Some width
+
+module _ (rule : Rule) (average : ℕ) (needs : List ColumnNeeds) (widths : List (Option ℕ)) (place : ℕ) where
+  -- the width at a place
+  pub width_at-some : (width : ℕ) → width_at rule average needs widths place ≡ Some width → Takes rule average needs widths place width
+  width_at-some width is = grind arith
+
+  -- it leaves one undecided column fewer
+  pub count-taken : (width : ℕ) → width_at rule average needs widths place ≡ Some width → undecided_count (slice_set widths place (Some width)) + 1 ≡ undecided_count widths
+  count-taken width is = count-set widths place width (width_at-some width is).left
+
+  -- without one, an undecided column takes nothing
+  pub width_at-none : width_at rule average needs widths place ≡ None → (d : ColumnNeeds) → slice_get needs place ≡ Some d → is_undecided widths place ≡ true → width_by_rule rule average d ≡ None
+  width_at-none is d found left = grind arith
+
+module _ (rule : Rule) (needs : List ColumnNeeds) (old : Budget) where
+  -- the columns that may take a width
+  abbrev candidates : List Placed
+  candidates = undecided_among needs old.widths.items
+
+  -- what they are offered
+  abbrev offer : List Share → Placed → Option ℕ
+  offer = offer_by_rule rule old.room candidates
+
+  -- what the loop keeps: the columns taken so far, and that the last places that were passed take nothing
+  pub record IsTurn (now : Budget) (place passed average : ℕ) : Type 0 where
+    pub order : List Share
+    pub so_far : IsTakenSoFar candidates offer 0 [] order
+    pub taken : HasTaken order old now
+    pub within : 0 < length needs → place < length needs
+    pub average_is : average ≡ average_room now
+    pub nothing : (i : ℕ) (d : ColumnNeeds) → slice_get needs i ≡ Some d → IsBehind (length needs) place passed i → is_undecided now.widths.items i ≡ true → width_by_rule rule average d ≡ None
+    pub since : IsBehind (length needs) place passed (place_after candidates offer 0 order) ⊎ (place ≡ place_after candidates offer 0 order)
+
+  module _ (same_length : length old.widths.items ≡ length needs) (now : Budget) (place passed average : ℕ) (turn : IsTurn now place passed average) where
+    -- the columns that are left
+    left_is : without_shares turn.order candidates ≡ undecided_among needs now.widths.items
+    left_is = sym (undecided_among-with_shares needs turn.order old.widths.items) ∙ sym (ap (undecided_among needs) turn.taken.widths)
+
+    -- they are counted
+    length_now : length now.widths.items ≡ length needs
+    length_now = ap length turn.taken.widths ∙ length-with_shares turn.order old.widths.items ∙ same_length
+
+    -- their average room
+    average_now : (old.room - total turn.order) / length (without_shares turn.order candidates) ≡ average
+    average_now =
+        ap₂ (λ (room n : ℕ). room / n) (sym turn.taken.room) (ap length left_is ∙ length-undecided_among needs now.widths.items length_now) ∙ sym turn.average_is
+
+    -- the next one is looked for among the undecided columns, at the average
+    next_is : (from : ℕ) → next_taken candidates offer from turn.order ≡ slice_get (shares_of (λ (p : Placed). width_by_rule rule average p.1) (going_round from (undecided_among needs now.widths.items))) 0
+    next_is from =
+        ap₂ (λ (a : ℕ) (ps : List Placed). slice_get (shares_of (λ (p : Placed). width_by_rule rule a p.1) (going_round from ps)) 0) average_now left_is
+
+    -- a place that takes nothing is passed
+    pub turn_passes : passed < length needs → width_at rule average needs now.widths.items place ≡ None → IsTurn now (position_after (length needs) place) (passed + 1) average
+    turn_passes fewer none =
+        let place_within : place < length needs → position_after (length needs) place < length needs = λ within. grind arith in
+        let within : place < length needs = turn.within (omega (arith, fewer)) in
+        record {
+          order = turn.order;
+          so_far = turn.so_far;
+          taken = turn.taken;
+          within = λ some. place_within within;
+          average_is = turn.average_is;
+          nothing = λ i d found behind left.
+              ⊎_elim (λ here. width_at-none rule average needs now.widths.items place none d (ap (slice_get needs) here ∙ found) (ap (is_undecided now.widths.items) here ∙ left))
+              (λ before. turn.nothing i d found before left) (behind_one_more (length needs) place passed i within behind);
+          since = inl (behind_next (length needs) place passed (place_after candidates offer 0 turn.order) within fewer turn.since);
+        }
+
+    -- where as many places were passed as there are columns, none takes anything any more
+    pub turn_ends : length needs ≤ passed → HasGoneRound rule needs old now
+    turn_ends all = (
+      turn.order,
+      so_far-ends candidates offer 0 [] turn.order turn.so_far
+          (next_is (place_after candidates offer 0 turn.order)
+          ∙ none_next needs now.widths.items (λ (p : Placed). width_by_rule rule average p.1) (place_after candidates offer 0 turn.order)
+          (λ i d found left. let below : i < length needs = slice_get_within needs i d found in
+          turn.nothing i d found (all_behind (length needs) place passed i (turn.within (omega (arith, below))) all below) left)),
+      turn.taken,
+    )
+
+    -- a place that takes a width is passed too, and the average may have changed
+    pub turn_takes : (width : ℕ) → passed < length needs → width_at rule average needs now.widths.items place ≡ Some width → (new : Budget) (passed' average' : ℕ)
+        → new.widths.items ≡ slice_set now.widths.items place (Some width) → new.room ≡ now.room - width → average' ≡ average_room new → (passed' ≡ 1) ⊎ ((average' ≡ average) × (passed' ≡ passed + 1))
+        → IsTurn new (position_after (length needs) place) passed' average'
+    turn_takes width fewer some new passed' average' widths_are room_is average_is by =
+        let place_within : place < length needs → position_after (length needs) place < length needs = λ below. grind arith in
+        let takes = width_at-some rule average needs now.widths.items place width some in
+        let below : place < length needs = slice_get_within needs place takes.column takes.found in
+        let from = place_after candidates offer 0 turn.order in
+        let t : Share = (place, width) in
+        let next : next_taken candidates offer from ([] ++ turn.order) ≡ Some t =
+        next_is from
+        ∙ some_next needs now.widths.items (λ (p : Placed). width_by_rule rule average p.1) from place takes.column width takes.found takes.left takes.takes
+        (λ i d found between left. turn.nothing i d found (between_behind (length needs) place passed from i below (slice_get_within needs i d found) turn.since between) left) in
+        let last : place_after candidates offer 0 (turn.order ++ t ∷ []) ≡ place = place_after-push candidates offer 0 turn.order t in
+        record {
+          order = turn.order ++ t ∷ [];
+          so_far = so_far-push candidates offer 0 [] turn.order t turn.so_far next;
+          taken = record {
+            widths = widths_are ∙ ap (λ (ws : List (Option ℕ)). slice_set ws place (Some width)) turn.taken.widths ∙ sym (with_shares-push turn.order t old.widths.items);
+            room = omega (arith, room_is, turn.taken.room, sum_by_push (λ (s : Share). s.1) turn.order t);
+          };
+          within = λ _. place_within below;
+          average_is = average_is;
+          nothing = nothing_new (is_undecided-set now.widths.items place);
+          since = inl (subst (IsBehind (length needs) (position_after (length needs) place) passed') (sym last) (here_behind below));
+        }
+      where
+        here_behind : place < length needs → IsBehind (length needs) (position_after (length needs) place) passed' place
+        here_behind below =
+            ⊎_elim (λ one. subst (λ (n : ℕ). IsBehind (length needs) (position_after (length needs) place) n place) (sym one) (behind_next (length needs) place 0 place below (omega (arith, below)) (inr refl)))
+            (λ more. subst (λ (n : ℕ). IsBehind (length needs) (position_after (length needs) place) n place) (sym more.1) (behind_next (length needs) place passed place below fewer (inr refl))) by
+
+        -- the columns that are left after the next position were left after this one
+        nothing_new : ((j w : ℕ) → is_undecided (slice_set now.widths.items place (Some w)) j ≡ (is_undecided now.widths.items j && not (place == j)))
+            → (i : ℕ) (d : ColumnNeeds) → slice_get needs i ≡ Some d → IsBehind (length needs) (position_after (length needs) place) passed' i → is_undecided new.widths.items i ≡ true → width_by_rule rule average' d ≡ None
+        nothing_new set i d found behind left =
+            let place_now : slice_get needs i ≡ Some d → place < length needs = λ found. turn.within (omega (arith, slice_get_within needs i d found)) in
+            let both : (is_undecided now.widths.items i && not (place == i)) ≡ true = sym (set i width) ∙ ap (λ (ws : List (Option ℕ)). is_undecided ws i) (sym widths_are) ∙ left in
+            let parts = and_parts (is_undecided now.widths.items i) (not (place == i)) both in
+            let other : place ≡ i → width_by_rule rule average' d ≡ None = λ same. let is : (place == i) ≡ true = eq-eqb place i same in absurd (cc (parts.1, is)) in
+            ⊎_elim
+            (λ one.
+            ⊎_elim other (λ before. absurd (⊎_elim (λ near. omega (arith, near.0, near.1)) (λ far. omega (arith, far.1, before.0)) before.1))
+            (behind_one_more (length needs) place 0 i (place_now found) (subst (λ (n : ℕ). IsBehind (length needs) (position_after (length needs) place) n i) one behind)))
+            (λ more.
+            ⊎_elim other (λ before. ap (λ (a : ℕ). width_by_rule rule a d) more.0 ∙ turn.nothing i d found before parts.0)
+            (behind_one_more (length needs) place passed i (place_now found) (subst (λ (n : ℕ). IsBehind (length needs) (position_after (length needs) place) n i) more.1 behind)))
+            by

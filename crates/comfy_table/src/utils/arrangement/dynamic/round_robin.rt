@@ -1,0 +1,121 @@
+//! Columns that take a width one after another, going round the list until none takes one.
+
+ghost use Rattle.std.specs.Prelude.{◌≡◌, ◌<◌, ◌≤◌, length};
+ghost use Rattle.comfy_parts.specs.CellValue.{column_padding};
+ghost use Rattle.comfy_table.specs.Deciding.{HasGoneRound, all_needs, needs_in, position_after, width_at};
+ghost use Rattle.comfy_table.specs.Dynamic.{lower_of_boundary, shrunk_at};
+
+use super::budget::Budget;
+use super::needs::WidthNeeds;
+use crate::table::Table;
+use crate::utils::arrangement::helper::absolute_width_with_padding;
+use crate::utils::arrangement::longest::column_longest_line;
+use comfy_parts::content_split::ColumnDisplayInfo;
+
+// By what an undecided column takes its width.
+#[derive(Copy, Clone)]
+pub enum Rule {
+    // by a lower boundary above the average
+    Lower,
+    // by lines that leave three or more terminal columns of the average free
+    Shrunk,
+}
+
+// The columns that a rule is tried on.
+#[derive(Drop)]
+pub struct Candidates<'a> {
+    pub table: &'a Table,
+    pub columns: &'a [WidthNeeds<'a>],
+    pub rule: Rule,
+}
+
+impl<'a> Candidates<'a> {
+    // Lets the columns take their widths in turn, until none takes one. A width that is taken
+    // changes the room, and with it the average. No column is tried twice at one average.
+    pub fn go_round(&self, budget: &mut Budget)
+        requires widths { length budget.old.widths.items ≡ length self.now.columns.now }
+        requires room { budget.old.room ≤ 65535 }
+        ensures { HasGoneRound self.now.rule
+            (all_needs self.now.table.now self.now.columns.now) budget.old budget.new }
+    {
+        let mut position = 0;
+        // how many columns before the position, going round, take nothing at the average
+        let mut passed = 0;
+        let mut undecided = budget.undecided();
+        let mut average = budget.average(undecided);
+        while passed < self.columns.len() {
+            passed += 1;
+            if let Some(width) = self.width_at(budget, position, average) {
+                budget.claim(position, width);
+                undecided -= 1;
+                let average_now = budget.average(undecided);
+                if average_now != average {
+                    average = average_now;
+                    passed = 1;
+                }
+            }
+            position = self.position_after(position);
+        }
+    }
+
+    // The position after this one, going round.
+    fn position_after(&self, position: usize) -> usize
+        requires { position < length self.now.columns.now }
+        ensures { result ≡ position_after (length self.now.columns.now) position }
+    {
+        if position + 1 < self.columns.len() {
+            position + 1
+        } else {
+            0
+        }
+    }
+
+    // The width that the column at a position takes at this average, where it is undecided and
+    // takes one.
+    fn width_at(&self, budget: &Budget, position: usize, average: usize) -> Option<u16>
+        requires { average ≤ 65535 }
+        ensures { result ≡ width_at self.now.rule average
+            (all_needs self.now.table.now self.now.columns.now) budget.now.widths.items position }
+    {
+        if !budget.is_undecided(position) {
+            return None;
+        }
+        let column = self.columns.get(position)?;
+        match self.rule {
+            Rule::Lower => lower_width(column, average),
+            Rule::Shrunk => shrunk_width(self.table, column, average),
+        }
+    }
+}
+
+// What a column takes by its lower boundary, where that is above the average.
+fn lower_width(column: &WidthNeeds<'_>, average: usize) -> Option<u16>
+    ensures { result ≡ lower_of_boundary average
+        (column_padding column.now.column.now) column.now.lower }
+{
+    match column.lower {
+        Some(lower) if average < usize::from(lower) => {
+            Some(absolute_width_with_padding(column.column, lower))
+        }
+        _ => None,
+    }
+}
+
+// What a column shrinks to where it has this average room: its longest line there, if that leaves
+// three or more terminal columns free.
+fn shrunk_width(table: &Table, column: &WidthNeeds<'_>, average: usize) -> Option<u16>
+    requires { average ≤ 65535 }
+    ensures { result ≡ shrunk_at average (needs_in table.now column.now) }
+{
+    if average < 3 {
+        return None;
+    }
+    let info = ColumnDisplayInfo::new(column.column, average as u16);
+    let limit = average - 3;
+    let longest = column_longest_line(table, column.position, &info, limit);
+    if longest <= limit {
+        Some((longest as u16).max(1))
+    } else {
+        None
+    }
+}

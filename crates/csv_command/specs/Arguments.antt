@@ -1,0 +1,256 @@
+-- What arguments on the command line ask for.
+use Rattle.std.specs.Prelude.{◌≡◌, ◌≢◌, ◌⊎◌, ◌-◌, ℕ, Bool, true, false, not, ◌==◌, ◌&&◌, ◌||◌, nat_le, nat_lt, List, [], ◌∷◌, Option, Some, None, bytes_eq, codes, drop, length, map, option_and_then, option_map, string_bytes, unwrap_or, if◌then◌else◌}
+use Rattle.std.specs.List.{list_any, slice_split}
+use Rattle.std.specs.Option.{option_map_or}
+use Rattle.std.specs.Str.{str_eq_ignore_ascii_case}
+use Rattle.std.specs.Str.Parse.{without_leading_plus}
+use Rattle.clap.specs.Words.{App, IsAmong, fault_of, first_value, kind_of, matches_of, one_text, rows_of, takes}
+use Rattle.clap.specs.declared.error.Error.{Error}
+use Rattle.clap.specs.declared.error.kind.ErrorKind.{ErrorKind}
+use Rattle.clap.specs.declared.error.kind.ErrorKind.TheVariants.{InvalidValue, OutOfMemory}
+use Rattle.clap.specs.declared.parser.matches.Found.{Found}
+use Rattle.comfy_parts.specs.Text.{Text}
+use Rattle.csv_records.specs.Delimiter.{only_ascii}
+use Rattle.csv_records.specs.Numerals.{number_for}
+use Rattle.csv_command.specs.Program.{IsCsvtable}
+use Rattle.csv_command.specs.Styles.{is_compact, is_named, style_for}
+use Rattle.csv_command.specs.declared.arguments.Invocation.{Invocation}
+use Rattle.csv_command.specs.declared.arguments.OutputContext.{OutputContext}
+use Rattle.csv_records.specs.declared.delimiter.Delimiter.{Delimiter}
+use Rattle.csv_records.specs.declared.delimiter.Delimiter.TheVariants.{Auto as AutoDelimiter, NamedOrTab, Byte}
+use Rattle.csv_records.specs.declared.encoding.Encoding.{Encoding}
+use Rattle.csv_records.specs.declared.encoding.Encoding.TheVariants.{Cp1252, Utf16, Utf8}
+use Rattle.csv_tables.specs.declared.options.Expansion.{Expansion}
+use Rattle.csv_tables.specs.declared.options.Expansion.TheVariants.{Always, Auto, Never as NeverExpanded}
+use Rattle.csv_tables.specs.declared.options.Look.{Look}
+use Rattle.csv_records.specs.declared.options.InputOptions.{InputOptions}
+use Rattle.csv_tables.specs.declared.options.Options.{Options}
+use Rattle.csv_tables.specs.declared.options.Selection.{Selection}
+use Rattle.csv_tables.specs.declared.options.RowSeparators.{RowSeparators}
+use Rattle.csv_tables.specs.declared.options.RowSeparators.TheVariants.{Styled, Needed, Never}
+
+-- a path ends so, in any case of letters
+abbrev pub has_end : Text → Text → Bool
+has_end end path = str_eq_ignore_ascii_case (drop (length path - length end) path) end
+
+-- what stands between fields where no argument says so: found in the input, or TAB in a file with
+-- such a name
+abbrev pub delimiter_by : Option Text → Delimiter
+delimiter_by None = AutoDelimiter
+delimiter_by (Some path) =
+    if has_end (codes ".tsv") path || has_end (codes ".tab") path then NamedOrTab else AutoDelimiter
+
+-- what an argument asks for: TAB for `tab` and `\t`, else the argument's only character
+abbrev pub delimiter_for : Option Text → Option Text → Option Delimiter
+delimiter_for None file = Some (delimiter_by file)
+delimiter_for (Some word) file =
+    if is_named (codes "auto") word then Some (delimiter_by file)
+    else if is_named (codes "tab") word || is_named (0x5C ∷ codes "t") word then Some (Byte 0x09)
+    else option_map Byte (only_ascii word)
+
+-- the encoding of a name; `latin1` is Windows-1252
+abbrev pub encoding_for : Option Text → Option Encoding
+encoding_for None = None
+encoding_for (Some name) =
+    if is_named (codes "utf-8") name
+    then Some Utf8
+    else if is_named (codes "utf-16") name
+    then Some Utf16
+    else Some Cp1252
+
+-- a width, where it isn't 0
+abbrev pub some_width : ℕ → Option ℕ
+some_width width = if width == 0 then None else Some width
+
+-- a number of terminal columns from 1 to 65535
+abbrev pub some_columns : ℕ → Option ℕ
+some_columns columns = if nat_lt 0 columns && nat_le columns 65535 then Some columns else None
+
+-- the width of a terminal: that of `COLUMNS`, where it is such a number, else 80
+abbrev pub terminal_width : Option Text → ℕ
+terminal_width None = 80
+terminal_width (Some columns) = unwrap_or (option_and_then some_columns (number_for 64 columns)) 80
+
+-- the width that is kept: the one that was asked for, else the terminal's; 0 is none
+abbrev pub width_for : Option ℕ → OutputContext → Option ℕ
+width_for (Some width) context = some_width width
+width_for None context =
+    if context.is_terminal
+    then Some (terminal_width (option_map (λ c. c.now) context.columns))
+    else None
+
+-- colours are wanted: `NO_COLOR` is missing or empty
+abbrev pub wants_color : Option Text → Bool
+wants_color None = true
+wants_color (Some text) = length text == 0
+
+-- the header is in bold where nothing says when: in a terminal where colours are wanted
+abbrev pub is_bold_there : OutputContext → Bool
+is_bold_there context =
+    context.is_terminal && wants_color (option_map (λ c. c.now) context.no_color)
+
+-- whether the header is in bold: always, never, or else by where the output goes
+abbrev pub is_bold_for : Option Text → OutputContext → Bool
+is_bold_for None context = is_bold_there context
+is_bold_for (Some word) context =
+    if bytes_eq word (codes "always") then true
+    else if bytes_eq word (codes "never") then false
+    else is_bold_there context
+
+-- the number that was found for an option; a plus may stand before it
+abbrev pub number_found : ℕ → Found → Text → Option ℕ
+number_found bits found id =
+    option_and_then (λ word. number_for bits (without_leading_plus word)) (one_text found id)
+
+-- an option is given: a value was found for it, and not the one of a flag that isn't set
+abbrev pub is_given : Found → Text → Bool
+is_given found id =
+    option_map_or (λ value. not (bytes_eq value (codes "false"))) (first_value found id) false
+
+-- what is to stand between fields
+abbrev pub wanted_delimiter : Found → Option Delimiter
+wanted_delimiter found =
+    if is_given found (codes "tabs")
+    then Some (Byte 0x09)
+    else delimiter_for (first_value found (codes "delimiter")) (first_value found (codes "file"))
+
+-- a table for Markdown is asked for, by its own argument or as a style
+abbrev pub is_markdown_in : Found → Bool
+is_markdown_in found =
+    is_given found (codes "markdown")
+    || option_map_or (is_named (codes "markdown")) (first_value found (codes "style")) false
+
+-- both of two options are given
+abbrev pub are_both_given : Found → Text × Text → Bool
+are_both_given found pair = is_given found pair.0 && is_given found pair.1
+
+-- the options that exclude each other
+abbrev pub exclusive_options : List (Text × Text)
+exclusive_options =
+    (codes "tabs", codes "delimiter") ∷ (codes "markdown", codes "style")
+    ∷ (codes "rows", codes "no-rows") ∷ (codes "all-expanded", codes "expanded") ∷ []
+
+-- those that a table for Markdown excludes
+abbrev pub not_beside_markdown : List Text
+not_beside_markdown =
+    codes "width" ∷ codes "full" ∷ codes "all-expanded" ∷ codes "expanded" ∷ codes "max-height"
+    ∷ codes "ansi" ∷ codes "raw" ∷ []
+
+-- the options that were found exclude each other
+abbrev pub are_exclusive : Found → Bool
+are_exclusive found =
+    list_any (are_both_given found) exclusive_options
+    || (is_markdown_in found && list_any (is_given found) not_beside_markdown)
+
+-- where lines between rows are drawn: by the arguments for them, else by the style
+abbrev pub separators_for : Bool → Bool → Option Text → RowSeparators
+separators_for has_rows has_none style =
+    if has_rows
+    then Styled
+    else if has_none
+    then Never
+    else if is_compact style
+    then Needed
+    else Styled
+
+-- when a record is drawn as a table of its own: always, or as an argument says, else where columns
+-- would be too narrow
+abbrev pub expansion_for : Bool → Option Text → Expansion
+expansion_for true word = Always
+expansion_for false None = Auto
+expansion_for false (Some word) =
+    if bytes_eq word (codes "always")
+    then Always
+    else if bytes_eq word (codes "never")
+    then NeverExpanded
+    else Auto
+
+-- the file to read: none without an argument, and none for a hyphen
+abbrev pub file_for : Option Text → Option Text
+file_for None = None
+file_for (Some word) = if bytes_eq word (codes "-") then None else Some word
+
+-- the words of a list, which stand between commas; none without a list
+abbrev pub words_in : Option Text → List Text
+words_in None = []
+words_in (Some list) = slice_split (λ b. b == 0x2C) list
+
+-- a look that follows from the values that were found for options, and from where the output goes
+pub record IsLookParsed (context : OutputContext) (found : Found) (look : Look) : Type 0 where
+  pub style : look.style ≡ style_for (first_value found (codes "style"))
+  pub separators :
+      look.separators ≡ separators_for (is_given found (codes "rows"))
+      (is_given found (codes "no-rows")) (first_value found (codes "style"))
+  pub expansion :
+      look.expansion ≡ expansion_for (is_given found (codes "all-expanded"))
+      (first_value found (codes "expanded"))
+  pub width : look.width ≡ width_for (number_found 16 found (codes "width")) context
+  pub full : look.fills_width ≡ is_given found (codes "full")
+  pub height : look.max_height ≡ number_found 64 found (codes "max-height")
+  pub bold : look.has_bold_header ≡ is_bold_for (first_value found (codes "color")) context
+  pub sequences : look.has_sequences ≡ is_given found (codes "ansi")
+  pub bidi : look.keeps_bidi ≡ is_given found (codes "bidi")
+  pub raw : look.is_raw ≡ is_given found (codes "raw")
+  pub markdown : look.is_markdown ≡ is_markdown_in found
+
+-- how the input is read, by such values
+pub record IsInputParsed (found : Found) (input : InputOptions) : Type 0 where
+  pub encoding : input.encoding ≡ encoding_for (first_value found (codes "encoding"))
+  pub skip : input.skip ≡ unwrap_or (number_found 64 found (codes "skip")) 0
+  pub delimiter : wanted_delimiter found ≡ Some input.delimiter
+  pub quotes : input.has_quotes ≡ not (is_given found (codes "no-quotes"))
+
+-- which records and columns are drawn
+pub record IsSelectionParsed (found : Found) (selection : Selection) : Type 0 where
+  pub header : selection.has_header ≡ not (is_given found (codes "no-header"))
+  pub limit : selection.limit ≡ number_found 64 found (codes "limit")
+  pub columns : map string_bytes selection.columns.items
+      ≡ words_in (first_value found (codes "columns"))
+  pub dropped : map string_bytes selection.dropped.items
+      ≡ words_in (first_value found (codes "drop"))
+  pub right : map string_bytes selection.right.items
+      ≡ words_in (first_value found (codes "right"))
+  pub left : map string_bytes selection.left.items ≡ words_in (first_value found (codes "left"))
+
+-- options that follow from such values
+pub record AreOptionsParsed (context : OutputContext) (found : Found)
+    (options : Options) : Type 0 where
+  pub input : IsInputParsed found options.input
+  pub selection : IsSelectionParsed found options.selection
+  pub look : IsLookParsed context found options.look
+
+-- the values that clap finds in the arguments by the program's command
+pub record AreFound (arguments : List Text) (found : Found) : Type 0 where
+  pub app : App
+  pub is_csvtable : IsCsvtable app
+  pub is_found : rows_of found ≡ matches_of app arguments
+
+-- what is asked for follows from such values, none of which exclude each other
+pub record IsParsed (arguments : List Text) (context : OutputContext) (invocation : Invocation) :
+    Type 0 where
+  pub found : Found
+  pub are_found : AreFound arguments found
+  pub not_exclusive : are_exclusive found ≡ false
+  pub options : AreOptionsParsed context found invocation.options
+  pub file : option_map string_bytes invocation.file ≡ file_for (first_value found (codes "file"))
+
+-- arguments that the program's command doesn't take. The kind is clap's for the first of them at
+-- which it stops: help, the version, or a mistake
+pub record AreNotTaken (arguments : List Text) (kind : ErrorKind) : Type 0 where
+  pub app : App
+  pub is_csvtable : IsCsvtable app
+  pub not_taken : takes app arguments ≡ false
+  pub is_kind : IsAmong kind (fault_of app arguments)
+
+-- arguments of which such options are found that exclude each other, or a delimiter that is none
+pub record AreFoundInVain (arguments : List Text) : Type 0 where
+  pub found : Found
+  pub are_found : AreFound arguments found
+  pub in_vain : (are_exclusive found ≡ true) ⊎ (wanted_delimiter found ≡ None)
+
+-- why nothing is asked for: the arguments aren't taken, or were found in vain, which is told as an
+-- invalid value, or there is no memory
+abbrev pub IsRefusedBy : List Text → Error → Type 0
+IsRefusedBy arguments e =
+    (kind_of e ≢ OutOfMemory)
+    → AreNotTaken arguments (kind_of e) ⊎ AreFoundInVain arguments × (kind_of e ≡ InvalidValue)
