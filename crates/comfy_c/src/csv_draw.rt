@@ -3,8 +3,8 @@
 ghost use Rattle.std.specs.Prelude.{◌≡◌, ◌≢◌, ◌≤◌, ◌<◌, IfErr, IfOk, IsUtf8, List, ℕ, drop, length, string_bytes, take};
 ghost use Rattle.comfy_c.specs.Calls.{IsHanded, IsCsvDrawing, IsCsvRefusal, IsInputMessage, IsWordsMessage};
 
+use crate::arguments::command_line;
 use crate::room::{DRAWN, OUT_OF_MEMORY, ROOM_TOO_SMALL, put};
-use crate::words::command_line;
 use csv_command::{ARGUMENT_NOT_UTF8, Refusal, render_csv};
 use std::alloc::Global;
 
@@ -21,15 +21,16 @@ const WORDS_REFUSED: u32 = 4;
 /// A zero byte ends each word; that of the last one may be missing. No file is opened: a word for
 /// one names the input in messages, and its end may tell what stands between fields.
 ///
-/// | Returned | Meaning | At the front of the buffer | `needed` |
-/// |---|---|---|---|
-/// | 0 | the input is drawn | the drawing | its length in bytes |
-/// | 1 | the buffer is too small | nothing | the bytes that the drawing takes |
-/// | 2 | the input can't be drawn as the words ask | the line that `csvtable` says | its length in
-/// bytes |
-/// | 3 | memory ran out | nothing | unchanged |
-/// | 4 | the words ask for no drawing | what `csvtable` says, help and version too | its length in
-/// bytes |
+/// | Returned | Meaning | At the front of the buffer |
+/// |---|---|---|
+/// | 0 | the input is drawn | the drawing |
+/// | 1 | the buffer is too small | nothing |
+/// | 2 | the input can't be drawn as the words ask | the line that `csvtable` says |
+/// | 3 | memory ran out | nothing |
+/// | 4 | the words ask for no drawing | what `csvtable` says, help and version too |
+///
+/// `needed` is then the length in bytes of what stands there; after 1 it is that of the drawing,
+/// and after 3 it is unchanged.
 ///
 /// A buffer that is too small for what is said with 2 or 4 is unchanged, as it is with 1 and 3;
 /// else it is unchanged behind what was written.

@@ -2,10 +2,10 @@
 //! declares the functions.
 #![tactic(auto)]
 
+mod arguments;
 mod csv_draw;
 mod room;
 mod table_draw;
-mod words;
 
 pub use csv_draw::comfy_csv_draw;
 pub use table_draw::comfy_table_draw;

@@ -2,7 +2,7 @@ use Rattle.std.proofs.Common.{◌∙◌, ap, lit<}
 use Rattle.std.proofs.lemmas.Str.Pattern.{strip_suffix_char}
 use Rattle.comfy_c.proofs.WordLemmas.{without_end}
 use Rattle.comfy_c.specs.Calls.{ended}
-use Rattle.comfy_c.proofs.words.without_end.Goals as goal
+use Rattle.comfy_c.proofs.arguments.without_end.Goals as goal
 
 pub returns : goal.returns
 returns c = λ some.

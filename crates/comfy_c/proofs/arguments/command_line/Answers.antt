@@ -3,7 +3,7 @@ use Rattle.std.specs.Str.Iter.{split_text, split_has_more, split_pattern}
 use Rattle.std.proofs.lemmas.Iterator.Consumers.{YieldsList-end}
 use Rattle.std.proofs.lemmas.Iterator.Splits.{YieldsList-from_str_split}
 use Rattle.comfy_c.proofs.WordLemmas.{no_words, words_in}
-use Rattle.comfy_c.proofs.words.command_line.Goals as goal
+use Rattle.comfy_c.proofs.arguments.command_line.Goals as goal
 
 pub returns-then-is_empty : goal.returns-then-is_empty
 returns-then-is_empty c =
