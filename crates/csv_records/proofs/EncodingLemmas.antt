@@ -164,14 +164,14 @@ module _ (s t : DecodeUtf16 (List ℕ)) where
 -- ---- the whole input
 
 -- this text was decoded of the units, and others are left
-pub record IsDecoded (units left : List ℕ) (text : Text) : Type 0 where
+pub record HasDecoded (units left : List ℕ) (text : Text) : Type 0 where
   pub characters : List ℕ
   pub spelled : text ≡ encode_utf8_all characters
   pub others : utf16_chars units ≡ map Some characters ++ utf16_chars left
 
-module _ (units : List ℕ) (s t : DecodeUtf16 (List ℕ)) (text : Text) (decoded : IsDecoded units (units_left s) text) where
+module _ (units : List ℕ) (s t : DecodeUtf16 (List ℕ)) (text : Text) (decoded : HasDecoded units (units_left s) text) where
   -- one more character
-  pub more_decoded : (c : ℕ) → IsScalar c → decode_utf16_steps Gives s (Some (Ok c)) t → IsDecoded units (units_left t) (text ++ encode_utf8 c)
+  pub more_decoded : (c : ℕ) → IsScalar c → decode_utf16_steps Gives s (Some (Ok c)) t → HasDecoded units (units_left t) (text ++ encode_utf8 c)
   more_decoded c scalar steps = record {
     characters = decoded.characters ++ c ∷ [];
     spelled =

@@ -161,9 +161,9 @@ as_they_are (line ∷ lines) = ap (λ (more : List Text). line ∷ more) (as_the
 
 module _ (table : TableValue) (plain : table.custom_styling ≡ false) where
   -- the lines of a cell that no height cuts, in a column
-  uncut_lines : (row : RowValue) (info : ColumnInfo) (cell : CellValue) → row.max_height ≡ None
+  all_lines_kept : (row : RowValue) (info : ColumnInfo) (cell : CellValue) → row.max_height ≡ None
       → row_cell_lines table row info cell ≡ map as_measured (cell_lines info.content_width (cell_delimiter table info.delimiter cell) cell)
-  uncut_lines row info cell uncut =
+  all_lines_kept row info cell uncut =
       let d = cell_delimiter table info.delimiter cell in
       ap (λ (limit : Option ℕ). cut_to_limit (cut_line table.custom_styling info.content_width table.indicator) limit (uncut_lines table.custom_styling info.content_width d cell)) uncut
       ∙ ap (λ (custom : Bool). uncut_lines custom info.content_width d cell) plain
@@ -172,7 +172,7 @@ module _ (table : TableValue) (plain : table.custom_styling ≡ false) where
       → AreSameBut (cell_delimiter table info.delimiter cell) (concat (written_of (row_cell_lines table row info cell))) (concat cell.text_lines)
   are_texts row info cell uncut scalar whole =
       let d = cell_delimiter table info.delimiter cell in
-      let made = uncut_lines row info cell uncut in
+      let made = all_lines_kept row info cell uncut in
       let same : written_of (row_cell_lines table row info cell) ≡ map (λ (line : CellLine). line.measured) (row_cell_lines table row info cell) =
       ap written_of made ∙ as_they_are (cell_lines info.content_width d cell) ∙ sym (ap (map (λ (line : CellLine). line.measured)) made) in
       let measured : (measured_cell table cell).text_lines ≡ cell.text_lines = ap (λ (custom : Bool). if custom then map visible_text cell.text_lines else cell.text_lines) plain in
@@ -368,7 +368,7 @@ module _ (table : TableValue) (plain : table.custom_styling ≡ false) (widths :
       by_cell p None texts = refl
       by_cell p (Some cell) texts =
           let info = info_of p.1 (slice_index widths p.0) in
-          ap written_of (uncut_lines table plain row info cell fits.uncut) ∙ written_as_they_are (cell_lines info.content_width (cell_delimiter table info.delimiter cell) cell)
+          ap written_of (all_lines_kept table plain row info cell fits.uncut) ∙ written_as_they_are (cell_lines info.content_width (cell_delimiter table info.delimiter cell) cell)
           ∙ own_lines info.content_width (cell_delimiter table info.delimiter cell) cell.text_lines (texts cell refl) ∙ sym (append-nil cell.text_lines)
 
   -- and it is shown whole
