@@ -42,8 +42,8 @@ CellLinesFit table row info cell =
 
 -- the text lines of the cell fit its column; where the row cuts the cell, its selectors agree, and
 -- no text joins the indicator
-pub record TextsFit (table : TableValue) (row : RowValue) (info : ColumnInfo) (cell : CellValue) :
-    Type 0 where
+pub record TextsFit (table : TableValue) (row : RowValue) (info : ColumnInfo)
+    (cell : CellValue) : Type 0 where
   pub fit : All (TextFits info.content_width (cell_delimiter table info.delimiter cell))
       cell.text_lines
   pub cut : (h : ℕ) → row.max_height ≡ Some h

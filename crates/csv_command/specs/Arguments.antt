@@ -226,8 +226,8 @@ pub record AreFound (arguments : List Text) (found : Found) : Type 0 where
   pub is_found : rows_of found ≡ matches_of app arguments
 
 -- what is asked for follows from such values, none of which exclude each other
-pub record IsParsed (arguments : List Text) (context : OutputContext) (invocation : Invocation) :
-    Type 0 where
+pub record IsParsed (arguments : List Text) (context : OutputContext)
+    (invocation : Invocation) : Type 0 where
   pub found : Found
   pub are_found : AreFound arguments found
   pub not_exclusive : are_exclusive found ≡ false

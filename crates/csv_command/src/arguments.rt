@@ -350,10 +350,10 @@ fn expansion_of(is_always: bool, word: Option<&str>) -> Expansion
 }
 
 // The width that was asked for, else that of the terminal; 0 is none.
-fn width_of(invocation: Option<u16>, context: OutputContext<'_>) -> Option<u16>
-    ensures { result ≡ width_for invocation context.entry }
+fn width_of(wanted: Option<u16>, context: OutputContext<'_>) -> Option<u16>
+    ensures { result ≡ width_for wanted context.entry }
 {
-    match invocation {
+    match wanted {
         Some(width) => some_width(width),
         None if context.is_terminal => Some(terminal_width(context.columns)),
         None => None,

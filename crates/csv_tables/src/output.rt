@@ -10,7 +10,7 @@ use crate::content::Content;
 use crate::error::ColumnsError;
 use crate::expanded::{between_fields, is_expanded, records_text};
 use crate::markdown::push_rule;
-use crate::options::{Look, Options};
+use crate::options::{Expansion, Look, Options};
 use crate::separators::separate_rows;
 use crate::unbroken::keep_unbroken;
 use comfy_table::{Result, Table};
@@ -55,6 +55,10 @@ fn drawn_text(content: Content, look: &Look) -> Result<String>
 fn table_text(content: Content, look: &Look) -> Result<String>
     ensures { IfOk result (λ text. RendersAsTable look.now content (string_bytes text)) }
 {
+    // The table of rows isn't needed to see this.
+    if look.expansion == Expansion::Always {
+        return expanded_text(content, look);
+    }
     let table = content.rows_table(look)?;
     let contents = kept_contents(content.alloc, &table, look)?;
     if is_expanded(content.alloc, &table, contents.as_slice(), look)? {
