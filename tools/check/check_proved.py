@@ -98,16 +98,32 @@ def wrong_trials():
     return wrong + [f"a trial names {it}, which is no law" for it in sorted(named - set(laws()))]
 
 
+def on_one_line(text):
+    """A clause or a source, whatever its line breaks."""
+    return " ".join(text.split()).replace("; }", " }").replace("( ", "(")
+
+
+def quoted_in(page):
+    """The clauses that a page quotes, each in the forms that its source may have: in a text block `S` and `S'` are what
+    `self` points to."""
+    for block in re.findall(r"```rust\n(.*?)```", page, re.S):
+        yield from ([it] for it in re.findall(r"^\s*((?:ensures|requires)\b.*?);?$", block, re.M))
+    for block in re.findall(r"```text\n(.*?)```", page, re.S):
+        for clause in re.findall(r"^\s*ensures(?: \w+)?: (.*)$", block, re.M):
+            after = re.sub(r"\bS'", "self.new", clause)
+            yield [re.sub(r"\bS\b", before, after) for before in ("self.now", "self.old", "self.entry", "self")]
+
+
 def wrong_in_calling(crate):
     """The clauses that a CALLING.md quotes and its library doesn't have."""
     sources = [it for name in (crate, *TOLD_WITH.get(crate, []), *CALLERS) for it in sources_of(name)]
-    source = " ".join(" ".join(text_of(it) for it in sources).split())
-    wrong = []
-    for block in re.findall(r"```rust\n(.*?)```", text_of(f"crates/{crate}/CALLING.md"), re.S):
-        for clause in re.findall(r"^\s*((?:ensures|requires)\b.*?);?$", block, re.M):
-            if " ".join(clause.split()) not in source:
-                wrong.append(f"{crate}/CALLING.md quotes what isn't there: {clause}")
-    return wrong
+    source = on_one_line(" ".join(text_of(it) for it in sources))
+    quoted = quoted_in(text_of(f"crates/{crate}/CALLING.md"))
+    return [
+        f"{crate}/CALLING.md quotes what isn't there: {forms[0]}"
+        for forms in quoted
+        if not any(on_one_line(it) in source for it in forms)
+    ]
 
 
 def wrong_lines():
