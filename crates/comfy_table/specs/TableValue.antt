@@ -191,6 +191,13 @@ column_cells table i = filter_map (λ (row : RowValue). slice_get row.cells i) (
 abbrev pub cell_content_width : CellValue → ℕ
 cell_content_width cell = max 1 (min 65535 (greatest (map measure cell.text_lines)))
 
+-- widths of columns, each at least what the cell of a row in its column needs
+abbrev pub widened : TableValue → List CellValue → List ℕ → List ℕ
+widened table [] widths = widths
+widened table (cell ∷ cells) [] = []
+widened table (cell ∷ cells) (width ∷ widths) =
+    max width (cell_content_width (measured_cell table cell)) ∷ widened table cells widths
+
 -- the content of the column at position i: the greatest of its cells, 0 where it has none
 abbrev pub column_content_width : TableValue → ℕ → ℕ
 column_content_width table i = greatest (map cell_content_width (column_cells table i))

@@ -1,12 +1,12 @@
 //! How wide the contents of a column are.
 
-ghost use Rattle.std.specs.Prelude.{◌≡◌, IfOk, map, string_bytes};
+ghost use Rattle.std.specs.Prelude.{◌≡◌, IfOk, length, map, max, replicate, slice_index_or, slice_set, string_bytes};
 ghost use Rattle.comfy_parts.specs.Text.{measure};
-ghost use Rattle.comfy_table.specs.TableValue.{cell_content_width, column_content_width, max_content_widths, measured_cell};
+ghost use Rattle.comfy_table.specs.TableValue.{cell_content_width, column_content_width, max_content_widths, measured_cell, widened};
 
 use crate::table::Table;
 use comfy_parts::for_tables::measured_lines;
-use comfy_parts::{Cell, Result};
+use comfy_parts::{Cell, Result, Row};
 
 /// The greatest measure, in terminal columns, of a text line of the column at a position, over
 /// header and rows. Each cell counts at least 1, a measure above 65535 counts 65535, and a column
@@ -40,12 +40,46 @@ impl Table {
     pub fn column_max_content_widths(&self) -> Result<Vec<u16>>
         ensures { IfOk result (λ widths. widths.items ≡ max_content_widths self.now) }
     {
-        let count = self.columns.len();
-        let mut widths = Vec::new(*self.columns.allocator());
-        for position in 0..count {
-            widths.push(column_content_width(self, position))?;
+        let mut widths = self.no_widths()?;
+        if let Some(header) = &self.header {
+            widen(self, header, &mut widths);
+        }
+        for row in &self.rows {
+            widen(self, row, &mut widths);
         }
         Ok(widths)
+    }
+
+    // 0 for each column.
+    fn no_widths(&self) -> Result<Vec<u16>>
+        ensures { IfOk result (λ widths. widths.items ≡ replicate (length self.now.columns) 0) }
+    {
+        let count = self.columns.len();
+        let mut widths = Vec::new(*self.columns.allocator());
+        for _ in 0..count {
+            widths.push(0)?;
+        }
+        Ok(widths)
+    }
+}
+
+// Makes columns as wide as the cells of a row. A row may have fewer cells than there are columns,
+// so a table is looked at row by row: that takes no longer than it has cells.
+fn widen(table: &Table, row: &Row, widths: &mut Vec<u16>)
+    ensures { widths.new.items ≡ widened table.now row.now.cells widths.old.items }
+{
+    for (position, cell) in row.cell_iter().as_slice().iter().enumerate() {
+        widen_at(widths, position, cell_content_width(table, cell));
+    }
+}
+
+// Makes a column at least so wide, where it is there.
+fn widen_at(widths: &mut Vec<u16>, position: usize, least: u16)
+    ensures { widths.new.items ≡ slice_set widths.old.items position
+        (max (slice_index_or widths.old.items position 0) least) }
+{
+    if let Some(width) = widths.get_mut(position) {
+        *width = (*width).max(least);
     }
 }
 

@@ -1,7 +1,6 @@
-use Rattle.std.proofs.Common.{◌≡◌, map}
-use Rattle.std.specs.List.{range_with_len}
-use Rattle.comfy_table.specs.TableValue.{column_content_width}
+use Rattle.std.proofs.Common.{drop}
+use Rattle.comfy_table.proofs.WidenedLemmas.{AreContentsWith}
 use Rattle.comfy_table.proofs.table.Table.column_max_content_widths.Given as goal
 
-abbrev pub invariant-loop-position : goal.invariant-loop-position
-invariant-loop-position l = l.widths.items ≡ map (column_content_width l.self) (range_with_len 0 l.position)
+abbrev pub invariant-loop-row : goal.invariant-loop-row
+invariant-loop-row l = AreContentsWith l.self (drop l.row-index l.self.rows) l.widths.items
