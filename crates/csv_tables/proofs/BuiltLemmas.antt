@@ -11,7 +11,7 @@ use Rattle.comfy_table.proofs.BuiltTableLemmas.{IsBuilt, IsNewColumn, built-head
 use Rattle.comfy_table.specs.TableValue.{TableValue}
 use Rattle.csv.specs.Records.{field_at}
 use Rattle.csv_records.proofs.CleaningLemmas.{Stays-nil, stays_cleaned}
-use Rattle.csv_tables.specs.Cells.{field_text, field_or_blank, header_for, kept_by, kept_for_markdown, marked, row_for}
+use Rattle.csv_tables.specs.Cells.{field_text, field_or_blank, header_for, kept_by, kept_for_markdown, marked, row_for, unless_blank}
 use Rattle.csv_records.specs.Cleaning.{cleaned}
 use Rattle.csv_tables.specs.Columns.{columns_for, name_at}
 use Rattle.csv_tables.specs.Drawn.{ContentValue, content_of, content_with, drawn_rows, empty_table, headed_table, limited, names_of, ok_map, pairs_of, pairs_table, records_below, rows_table}
@@ -62,10 +62,10 @@ blank_drawn look = by_flags look.is_markdown look.is_raw
     none_escaped : marked [] ≡ []
     none_escaped = ap (λ (cs : List ℕ). encode_utf8_all (escaped cs)) chars-nil
 
-    by_flags : (is_markdown is_raw : Bool) → (if is_markdown then marked (cleaned (kept_for_markdown look) []) else if is_raw then [] else cleaned (kept_by look) []) ≡ []
+    by_flags : (is_markdown is_raw : Bool) → (if is_markdown then marked (cleaned (kept_for_markdown look) []) else if is_raw then unless_blank [] else unless_blank (cleaned (kept_by look) [])) ≡ []
     by_flags true is_raw = ap marked (blank_cleaned (kept_for_markdown look)) ∙ none_escaped
     by_flags false true = refl
-    by_flags false false = blank_cleaned (kept_by look)
+    by_flags false false = ap unless_blank (blank_cleaned (kept_by look))
 
 -- ---- what is drawn
 

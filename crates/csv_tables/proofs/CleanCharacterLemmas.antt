@@ -4,7 +4,7 @@ use Rattle.std.proofs.Math.Utf8.{scalar as scalar_of}
 use Rattle.std.proofs.lemmas.Bool.{and_parts}
 use Rattle.std.proofs.lemmas.List.Elements.{All-cons, All-head, All-nil, All-tail, All-weaker}
 use Rattle.std.proofs.lemmas.List.Folds.{list_all-append}
-use Rattle.std.proofs.lemmas.Str.{chars-encodes, encodes-append, scalars-chars}
+use Rattle.std.proofs.lemmas.Str.{chars-encodes, encodes-append, scalars-chars, chars-nil}
 use Rattle.std.specs.List.{All, list_all}
 use Rattle.std.specs.Prelude.{if◌then◌else◌}
 use Rattle.std.specs.Str.{IsUtf8, all_scalars}
@@ -14,11 +14,12 @@ use Rattle.comfy_parts.specs.CellValue.{plain_cell}
 use Rattle.comfy_parts.specs.Text.{Text, measure}
 use Rattle.csv_records.proofs.CleaningLemmas.{each_character}
 use Rattle.csv_tables.proofs.TextLineLemmas.{lines-front, lines_of, text_lines}
-use Rattle.csv_tables.specs.Cells.{field_text, kept_by, kept_for_markdown, marked}
+use Rattle.csv_tables.specs.Cells.{field_text, kept_by, kept_for_markdown, marked, unless_blank}
 use Rattle.csv_records.specs.Cleaning.{CleanedText, after_character, after_piece, blanks_after, blanks_at, cleaned, is_replaced, pieces, shown, start}
 use Rattle.csv_records.specs.declared.cleaning.CleanOptions.{CleanOptions}
 use Rattle.csv_tables.specs.declared.options.Look.{Look}
 use Rattle.csv_tables.proofs.TextTableLemmas.{EachLine}
+use Rattle.csv_tables.proofs.BlankLemmas.{unless_blank-keeps}
 
 -- a text is made of characters that pass
 pub record IsMadeOf (p : ℕ → Bool) (text : Text) : Type 0 where
@@ -157,14 +158,18 @@ pub lines_pass : (p : ℕ → Bool) → p 0x20 ≡ true → p 0xFFFD ≡ true �
     → EachLine (λ (line : Text). list_all p (chars line) ≡ true) look field
 lines_pass p space replacement look none tidy unkept field utf8 own =
     subst (λ (text : Text). All Passes (plain_cell text).text_lines) (sym same)
+    (unless_blank-keeps (λ (text : Text). All Passes (plain_cell text).text_lines) (cleaned (kept_by look) field) (All-cons Passes [] [] none_left (All-nil Passes))
     (All-weaker (IsMadeOf p) Passes (made_passes p) (text_lines (cleaned (kept_by look) field))
-    (subst (λ (text : Text). All (IsMadeOf p) (text_lines text)) made.spell (lines_made p made.characters made.scalars made.pass)))
+    (subst (λ (text : Text). All (IsMadeOf p) (text_lines text)) made.spell (lines_made p made.characters made.scalars made.pass))))
   where
     Passes : Text → Type 0
     Passes line = list_all p (chars line) ≡ true
 
+    none_left : Passes []
+    none_left = ap (list_all p) chars-nil
+
     made : IsMadeOf (or_feed p) (cleaned (kept_by look) field)
     made = cleaned_made p space replacement (kept_by look) field unkept utf8 own
 
-    same : field_text look field ≡ cleaned (kept_by look) field
-    same = ap₂ (λ (m r : Bool). if m then marked (cleaned (kept_for_markdown look) field) else if r then field else cleaned (kept_by look) field) none tidy
+    same : field_text look field ≡ unless_blank (cleaned (kept_by look) field)
+    same = ap₂ (λ (m r : Bool). if m then marked (cleaned (kept_for_markdown look) field) else if r then unless_blank field else unless_blank (cleaned (kept_by look) field)) none tidy

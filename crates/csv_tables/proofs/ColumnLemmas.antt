@@ -59,32 +59,6 @@ seen_at true [] position = refl
 seen_at keeps (f ∷ fs) zero = refl
 seen_at keeps (f ∷ fs) (suc n) = seen_at keeps fs n
 
--- whether the rows that are left make a column of numbers, where a number was seen before them or not
-module _ (keeps : Bool) (position : ℕ) where
-  abbrev pub row_kind : List Text → FieldKind
-  row_kind row = kind_at position (seen keeps row)
-
-  abbrev pub numbers_left : Bool → List (List Text) → Bool
-  numbers_left has_number rows =
-      not (list_any (λ (row : List Text). is_other_kind (row_kind row)) rows) && (has_number || list_any (λ (row : List Text). is_number_kind (row_kind row)) rows)
-
-  any-seen : (p : FieldKind → Bool) (rows : List (List Text)) → list_any (λ fields. p (kind_at position fields)) (map (seen keeps) rows) ≡ list_any (λ (row : List Text). p (row_kind row)) rows
-  any-seen p [] = refl
-  any-seen p (row ∷ rows) = ap (λ b. p (row_kind row) || b) (any-seen p rows)
-
-  pub numbers-all : (rows : List (List Text)) → numbers_left false rows ≡ is_number_column (map (seen keeps) rows) position
-  numbers-all rows = rw (any-seen is_other_kind rows, any-seen is_number_kind rows) refl
-
-  pub neutral-more : (has_number : Bool) (row : List Text) (rows : List (List Text)) → row_kind row ≡ Neutral → numbers_left has_number (row ∷ rows) ≡ numbers_left has_number rows
-  neutral-more has_number row rows is = rw is refl
-
-  pub other-stops : (has_number : Bool) (row : List Text) (rows : List (List Text)) → row_kind row ≡ Other → numbers_left has_number (row ∷ rows) ≡ false
-  other-stops has_number row rows is = rw is refl
-
-  pub none-left : (has_number : Bool) → numbers_left has_number [] ≡ has_number
-  none-left true = refl
-  none-left false = refl
-
 -- the first answer to the numbers that are left, by the next of them
 pub next_answer : {A : Type 0} (f : ℕ → Option A) (i n : ℕ) → i < n → first_answer f (range_with_len i (n - i)) ≡ option_or (f i) (first_answer f (range_with_len (i + 1) (n - (i + 1))))
 next_answer f i n below = let one : n - i ≡ suc (n - (i + 1)) = omega arith in rw one refl

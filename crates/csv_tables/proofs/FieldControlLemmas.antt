@@ -10,11 +10,12 @@ use Rattle.comfy_parts.proofs.CallerLemmas.{Shows-clear, none_by_characters, vis
 use Rattle.comfy_parts.specs.Text.{Text}
 use Rattle.csv_records.proofs.ControlLemmas.{cleaned_whole, no_controls}
 use Rattle.csv_tables.proofs.MarkedLemmas.{marked-harmless}
-use Rattle.csv_tables.specs.Cells.{field_text, kept_by, kept_for_markdown, marked}
+use Rattle.csv_tables.specs.Cells.{field_text, kept_by, kept_for_markdown, marked, unless_blank}
 use Rattle.csv_records.specs.Cleaning.{cleaned, is_harmful, turns_direction, visible_of}
 use Rattle.csv_tables.specs.Controls.{HasNoStrayControl, is_stray_control}
 use Rattle.csv_records.specs.declared.cleaning.CleanOptions.{CleanOptions}
 use Rattle.csv_tables.specs.declared.options.Look.{Look}
+use Rattle.csv_tables.proofs.BlankLemmas.{unless_blank-keeps}
 
 visible_whole : (keeps : Bool) (text : Text) → IsUtf8 text → IsUtf8 (visible_of keeps text)
 visible_whole true text utf8 = visible_text-whole text utf8
@@ -58,6 +59,6 @@ field-harmless look field tidy utf8 = rw tidy (by_markdown look.is_markdown)
     escaped : HasNoStrayControl (marked bare)
     escaped = marked-harmless bare (none_stray (kept_for_markdown look) (chars bare) (no_controls (kept_for_markdown look) field utf8))
 
-    by_markdown : (is_markdown : Bool) → HasNoStrayControl (visible_of keeps (if is_markdown then marked bare else text))
+    by_markdown : (is_markdown : Bool) → HasNoStrayControl (visible_of keeps (if is_markdown then marked bare else unless_blank text))
     by_markdown true = visible-harmless keeps (marked bare) escaped
-    by_markdown false = (chars (visible_of keeps text), encodes-chars (visible_of keeps text) (visible_whole keeps text whole), none_stray (kept_by look) (chars (visible_of keeps text)) (no_controls (kept_by look) field utf8))
+    by_markdown false = unless_blank-keeps (λ (shown : Text). HasNoStrayControl (visible_of keeps shown)) text (visible-harmless keeps [] ([], refl, tt)) (chars (visible_of keeps text), encodes-chars (visible_of keeps text) (visible_whole keeps text whole), none_stray (kept_by look) (chars (visible_of keeps text)) (no_controls (kept_by look) field utf8))

@@ -16,12 +16,13 @@ use Rattle.comfy_parts.specs.VisibleText.{is_parameter}
 use Rattle.comfy_table.proofs.StyledLemmas.{decimal-parameters}
 use Rattle.comfy_table.specs.Laws.{HasNoBreak}
 use Rattle.csv_records.proofs.CleaningLemmas.{drawn_so, none_replaced}
-use Rattle.csv_tables.specs.Cells.{field_text, kept_by, kept_for_markdown, marked}
+use Rattle.csv_tables.specs.Cells.{field_text, kept_by, kept_for_markdown, marked, unless_blank}
 use Rattle.csv_records.specs.Cleaning.{cleaned}
 use Rattle.csv_tables.specs.Laws.{PrintableFieldsStay}
 use Rattle.csv_tables.specs.Markdown.{escaped, escaped_after, escaped_character, is_special}
 use Rattle.csv_records.specs.declared.cleaning.CleanOptions.{CleanOptions}
 use Rattle.csv_tables.specs.declared.options.Look.{Look}
+use Rattle.csv_tables.proofs.BlankLemmas.{unless_blank-keeps}
 
 abbrev is_printable : ℕ → Bool
 is_printable = is_in_range 0x20 0x7E
@@ -103,26 +104,27 @@ fields_stay look field printable = one_line (field_text look field) (by_flags lo
     clean : (kept : CleanOptions) → is_printable_ascii (cleaned kept field) ≡ true
     clean kept = ap is_printable_ascii (sym (drawn_so kept field (IsUtf8-printable field printable) (none_replaced kept field printable))) ∙ printable
 
-    by_flags : (is_markdown is_raw : Bool) → is_printable_ascii (if is_markdown then marked (cleaned (kept_for_markdown look) field) else if is_raw then field else cleaned (kept_by look) field) ≡ true
+    by_flags : (is_markdown is_raw : Bool) → is_printable_ascii (if is_markdown then marked (cleaned (kept_for_markdown look) field) else if is_raw then unless_blank field else unless_blank (cleaned (kept_by look) field)) ≡ true
     by_flags true is_raw = marked_stays (cleaned (kept_for_markdown look) field) (clean (kept_for_markdown look))
-    by_flags false true = printable
-    by_flags false false = clean (kept_by look)
+    by_flags false true = unless_blank-keeps (λ text. is_printable_ascii text ≡ true) field refl printable
+    by_flags false false = unless_blank-keeps (λ text. is_printable_ascii text ≡ true) (cleaned (kept_by look) field) refl (clean (kept_by look))
 
--- where it isn't for Markdown, such a field is drawn as it is, in one text line
-pub drawn_in_one_line : (look : Look) → look.is_markdown ≡ false → (field : Text) → is_printable_ascii field ≡ true → (plain_cell (field_text look field)).text_lines ≡ field ∷ []
-drawn_in_one_line look none field printable = ap (λ (text : Text). (plain_cell text).text_lines) same ∙ whole_line field printable
+-- where it isn't for Markdown, such a field is drawn as it is, in one text line, and empty where it is blank
+pub drawn_in_one_line : (look : Look) → look.is_markdown ≡ false → (field : Text) → is_printable_ascii field ≡ true → (plain_cell (field_text look field)).text_lines ≡ unless_blank field ∷ []
+drawn_in_one_line look none field printable =
+    ap (λ (text : Text). (plain_cell text).text_lines) same ∙ whole_line (unless_blank field) (unless_blank-keeps (λ text. is_printable_ascii text ≡ true) field refl printable)
   where
-    by_raw : (is_raw : Bool) → (if is_raw then field else cleaned (kept_by look) field) ≡ field
+    by_raw : (is_raw : Bool) → (if is_raw then unless_blank field else unless_blank (cleaned (kept_by look) field)) ≡ unless_blank field
     by_raw true = refl
-    by_raw false = sym (drawn_so (kept_by look) field (IsUtf8-printable field printable) (none_replaced (kept_by look) field printable))
+    by_raw false = ap unless_blank (sym (drawn_so (kept_by look) field (IsUtf8-printable field printable) (none_replaced (kept_by look) field printable)))
 
-    same : field_text look field ≡ field
+    same : field_text look field ≡ unless_blank field
     same = rw none (by_raw look.is_raw)
 
 -- so is a number
 pub number_lines : (look : Look) → look.is_markdown ≡ false → (n : ℕ) → All (λ text. (is_printable_ascii text ≡ true) × (length text ≤ 64)) (plain_cell (field_text look (decimal n))).text_lines
 number_lines look none n =
-    subst (All Is) (sym (drawn_in_one_line look none (decimal n) (number_is_printable n))) (All-cons Is (decimal n) [] (number_is_printable n, number_is_short n) (All-nil Is))
+    subst (All Is) (sym (drawn_in_one_line look none (decimal n) (number_is_printable n))) (All-cons Is (unless_blank (decimal n)) [] (unless_blank-keeps Is (decimal n) (refl, omega arith) (number_is_printable n, number_is_short n)) (All-nil Is))
   where
     Is : Text → Type 0
     Is text = (is_printable_ascii text ≡ true) × (length text ≤ 64)

@@ -1,10 +1,13 @@
+mod BlankLemmas
 pub mod BuiltLemmas
 pub mod CleanCharacterLemmas
 pub mod ColumnLawLemmas
 pub mod ColumnLemmas
+mod ExpandedLemmas
 pub mod FieldControlLemmas
 pub mod FieldLemmas
 pub mod KeptWidthLemmas
+mod KindLemmas
 pub mod LineLemmas
 pub mod MarkdownDrawingLemmas
 pub mod MarkdownLemmas
@@ -17,6 +20,7 @@ pub mod OneOutputLemmas
 pub mod OutputControlLemmas
 pub mod OutputLemmas
 pub mod PrintableTableLemmas
+mod ReachedLemmas
 pub mod RowLemmas
 pub mod RunLemmas
 pub mod SeenLemmas

@@ -1,9 +1,10 @@
 -- The lines of an output, and how many characters they have.
-use Rattle.std.proofs.Common.{◌≡◌, ◌==◌, ◌≤◌, ◌<◌, ◌⊎◌, inl, inr, max, arith, not, ◌&&◌, ℕ, ◌*◌, Bool, true, false, List, [], ◌∷◌, ◌++◌, ◌+◌, Option, Some, append-nil, ap₂, flat_map, length, map, unwrap_or, refl, ap, sym, ◌∙◌, subst}
-use Rattle.std.specs.List.{All, list_any, range_with_len}
+use Rattle.std.proofs.Common.{◌≡◌, ◌==◌, ◌≤◌, ◌<◌, ◌⊎◌, Contains, inl, inr, max, arith, not, ◌&&◌, ℕ, zero, suc, Bool, true, false, List, [], ◌∷◌, ◌++◌, ◌+◌, Option, Some, append-nil, ap₂, flat_map, length, map, take, unwrap_or, refl, ap, sym, ◌∙◌, subst}
+use Rattle.std.specs.List.{All, list_any, range_with_len, slice_index_or}
+use Rattle.std.specs.Prelude.{sum_by}
 use Rattle.std.proofs.lemmas.Grind.{flat_map-append}
 use Rattle.std.proofs.lemmas.List.Folds.{flat_map-map, list_any_none}
-use Rattle.std.proofs.lemmas.List.Elements.{All-weaker}
+use Rattle.std.proofs.lemmas.List.Elements.{All-nil, All-weaker}
 use Rattle.std.proofs.lemmas.List.FromFn.{map-range_with_len_more}
 use Rattle.comfy_parts.proofs.CallerLemmas.{All-every, All-none}
 use Rattle.comfy_parts.specs.CellValue.{RowValue}
@@ -23,7 +24,7 @@ use Rattle.csv_tables.proofs.BuiltLemmas.{Built, built, plain_table}
 use Rattle.csv_tables.proofs.SeparatorLemmas.{condensed-all, separated}
 use Rattle.csv_tables.proofs.WholeTableLemmas.{HasRoom, IsDrawn, drawn-is, drawn_table-is, least-fits, unconstrained-drawn, wider-fits}
 use Rattle.csv_tables.specs.Cells.{row_for}
-use Rattle.csv_tables.specs.Drawn.{ContentValue, RendersRecords, RendersAsTable, RendersContent, condensed_style, empty_table, is_expanded_for, is_expanded_in, output_table, pairs_of, rows_table, separated_table, table_text}
+use Rattle.csv_tables.specs.Drawn.{ContentValue, RendersRecords, RendersAsTable, RendersContent, condensed_style, drawn_fields, empty_table, is_expanded_for, is_expanded_in, output_table, pairs_of, rows_table, separated_table, some_lines, table_text}
 use Rattle.csv_tables.specs.Laws.{EachLineHas, HasLines, IsFilling, IsOutputWith, IsWithin, OutputFillsWidth, OutputKeepsToWidth}
 use Rattle.csv_tables.specs.declared.options.Look.{Look}
 use Rattle.csv_tables.specs.declared.options.Options.{Options}
@@ -78,11 +79,15 @@ drawn_lines false content arranged unbroken =
       unbroken = unbroken;
     }
 drawn_lines true content arranged unbroken = (
-  (λ at. part_lines arranged (at * length content.columns) (length content.columns)),
-  (λ at. part_has_lines_of_table arranged.table arranged.infos (at * length content.columns) (length content.columns)),
+  (λ at. some_lines arranged (sum_by (drawn_fields content) (take at content.rows)) (drawn_fields content (slice_index_or content.rows at []))),
+  (λ at. of_part (sum_by (drawn_fields content) (take at content.rows)) (drawn_fields content (slice_index_or content.rows at []))),
   unbroken,
   refl,
 )
+  where
+    of_part : (first count : ℕ) → All (Contains (drawing_of_infos arranged.table arranged.infos)) (some_lines arranged first count)
+    of_part first zero = All-nil (Contains (drawing_of_infos arranged.table arranged.infos))
+    of_part first (suc count) = part_has_lines_of_table arranged.table arranged.infos first (suc count)
 
 -- an output that isn't for Markdown is the text of a table
 pub is_table_text : (options : Options) (records : List (List Text)) (output : Text) (made : RendersRecords options records output) → options.look.is_markdown ≡ false → RendersAsTable options.look made.content made.text

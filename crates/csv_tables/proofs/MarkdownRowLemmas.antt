@@ -1,5 +1,5 @@
 -- Each row of a table for Markdown is drawn in one line, whose pieces are its fields.
-use Rattle.std.proofs.Common.{◌≡◌, ◌==◌, ◌<◌, ◌≤◌, ℕ, suc, ◌+◌, ◌-◌, Bool, true, false, not, List, [], ◌∷◌, ◌++◌, Option, Some, None, arith, chars, cond, codes, filter, flat_map, get_or, length, map, max, min, nat_le, refl, slice_get, append_assoc, ap, ap₂, sym, ◌∙◌, subst, zip}
+use Rattle.std.proofs.Common.{◌≡◌, ◌==◌, ◌<◌, ◌≤◌, ℕ, suc, ◌+◌, ◌-◌, Bool, true, false, not, List, [], ◌∷◌, ◌++◌, Option, Some, None, arith, chars, cond, codes, filter, flat_map, get_or, length, map, max, min, nat_le, refl, slice_get, append_assoc, ap, ap₂, sym, ◌∙◌, subst, zip, append-nil}
 use Rattle.std.specs.List.{All, AllZip, cons_option, enumerate_from, filter_map}
 use Rattle.std.specs.Prelude.{if◌then◌else◌, slice_index, slice_index_or}
 use Rattle.std.specs.Str.{NonePass}
@@ -8,7 +8,7 @@ use Rattle.std.proofs.lemmas.List.{replicate-append-replicate}
 use Rattle.std.proofs.lemmas.List.Elements.{All-cons, All-head, All-nil, All-tail, All-weaker}
 use Rattle.std.proofs.lemmas.List.Splits.{slice_split_none}
 use Rattle.comfy_parts.proofs.CallerLemmas.{All-none, All-same_map, none_by_characters}
-use Rattle.comfy_parts.specs.CellValue.{CellValue, ColumnInfo, ColumnValue, RowValue, info_of, is_hidden_constraint, plain_cell}
+use Rattle.comfy_parts.specs.CellValue.{CellValue, ColumnInfo, ColumnValue, RowValue, info_of, info_width, is_hidden_constraint, plain_cell}
 use Rattle.comfy_parts.specs.Text.{Text, greatest, measure, spaces}
 use Rattle.comfy_parts.specs.Wrapping.{lines_of_text}
 use Rattle.comfy_parts.specs.declared.style.column.ColumnConstraint.{ColumnConstraint}
@@ -24,6 +24,7 @@ use Rattle.csv_tables.specs.declared.options.DrawnColumn.{DrawnColumn}
 use Rattle.csv_tables.specs.declared.options.Look.{Look}
 use Rattle.csv_tables.proofs.MarkdownLineLemmas.{IsPiece}
 use Rattle.csv_tables.specs.Drawn.{markdown_look}
+use Rattle.csv_tables.proofs.BuiltLemmas.{blank_drawn}
 
 -- ---- one text line
 
@@ -124,7 +125,7 @@ all_fit (row ∷ rows) = All-cons (FitsAmong (row ∷ rows)) row rows own (All-w
 
 -- ---- one row
 
--- the row of some fields, and of the names above them
+-- the row of some fields in these columns
 abbrev pub markdown_row : Look → List DrawnColumn → List Text → RowValue
 markdown_row look columns fields = cells_for (markdown_look look) false columns fields
 
@@ -138,6 +139,11 @@ module _ (table : TableValue) (look : Look) (columns : List DrawnColumn) (fields
   abbrev cell_at : DrawnColumn → CellValue
   cell_at column = cell_for (markdown_look look) column.alignment (field_or_blank fields column.position)
 
+  -- the cell of a column is that of its field, or the field is blank
+  abbrev pub IsCellAt : DrawnColumn → Option CellValue → Type 0
+  IsCellAt column None = field_or_blank fields column.position ≡ []
+  IsCellAt column (Some cell) = cell ≡ cell_at column
+
   -- a column's only piece
   pub record IsOnly (column : DrawnColumn) (p : ℕ × ColumnInfo) : Type 0 where
     pub only : Text
@@ -148,8 +154,18 @@ module _ (table : TableValue) (look : Look) (columns : List DrawnColumn) (fields
     abbrev pub content : ℕ → ℕ
     content i = max 1 (greatest (map cell_content_width (filter_map (λ (r : RowValue). slice_get r.cells i) rows)))
 
-    only_piece : (i : ℕ) (column : ColumnValue) (drawn : DrawnColumn) → slice_get row.cells i ≡ Some (cell_at drawn) → IsOnly drawn (placed content (i, column))
-    only_piece i column drawn found =
+    no_piece : (i : ℕ) (column : ColumnValue) (drawn : DrawnColumn) → slice_get row.cells i ≡ None → field_or_blank fields drawn.position ≡ [] → IsOnly drawn (placed content (i, column))
+    no_piece i column drawn none blank =
+        let info = info_of column (content i) in
+        let empty : text_at drawn ≡ [] = ap (field_text (markdown_look look)) blank ∙ blank_drawn (markdown_look look) in
+        record {
+          only = blank_piece info;
+          is_only = ap (pieces_of_optional table row info) none;
+          is_piece = (info_width info, 0, sym (append-nil (spaces (info_width info))) ∙ ap (λ (text : Text). spaces (info_width info) ++ (text ++ spaces 0)) (sym empty));
+        }
+
+    found_piece : (i : ℕ) (column : ColumnValue) (drawn : DrawnColumn) → slice_get row.cells i ≡ Some (cell_at drawn) → IsOnly drawn (placed content (i, column))
+    found_piece i column drawn found =
         let info = info_of column (content i) in
         let text = text_at drawn in
         let single : (cell_at drawn).text_lines ≡ text ∷ [] = one_text_line _ in
@@ -163,13 +179,17 @@ module _ (table : TableValue) (look : Look) (columns : List DrawnColumn) (fields
           is_piece = spaced;
         }
 
-    pub only_pieces : (n : ℕ) (drawn : List DrawnColumn) (columns : List ColumnValue) → length columns ≡ length drawn → ((k : ℕ) → slice_get row.cells (n + k) ≡ slice_get (map cell_at drawn) k) → AllZip IsOnly drawn (map (placed content) (enumerate_from n columns))
+    only_piece : (i : ℕ) (column : ColumnValue) (drawn : DrawnColumn) (cell : Option CellValue) → slice_get row.cells i ≡ cell → IsCellAt drawn cell → IsOnly drawn (placed content (i, column))
+    only_piece i column drawn None at blank = no_piece i column drawn at blank
+    only_piece i column drawn (Some cell) at is = found_piece i column drawn (at ∙ ap (λ c. Some c) is)
+
+    pub only_pieces : (n : ℕ) (drawn : List DrawnColumn) (columns : List ColumnValue) → length columns ≡ length drawn → ((k : ℕ) (d : DrawnColumn) → slice_get drawn k ≡ Some d → IsCellAt d (slice_get row.cells (n + k))) → AllZip IsOnly drawn (map (placed content) (enumerate_from n columns))
     only_pieces n [] [] same at = tt
     only_pieces n [] (column ∷ columns) same at = absurd (omega (arith, same))
     only_pieces n (d ∷ drawn) [] same at = absurd (omega (arith, same))
     only_pieces n (d ∷ drawn) (column ∷ columns) same at = (
-      only_piece n column d (let moved : n ≡ n + 0 = omega arith in ap (slice_get row.cells) moved ∙ at 0),
-      only_pieces (n + 1) drawn columns (omega (arith, same)) (λ k. let moved : n + 1 + k ≡ n + suc k = omega arith in ap (slice_get row.cells) moved ∙ at (suc k)),
+      only_piece n column d (slice_get row.cells (n + 0)) (let moved : n ≡ n + 0 = omega arith in ap (slice_get row.cells) moved) (at 0 d refl),
+      only_pieces (n + 1) drawn columns (omega (arith, same)) (λ k e found. let moved : n + suc k ≡ n + 1 + k = omega arith in subst (λ (i : ℕ). IsCellAt e (slice_get row.cells i)) moved (at (suc k) e found)),
     )
 
   -- ---- columns with one piece each

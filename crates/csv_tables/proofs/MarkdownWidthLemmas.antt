@@ -30,7 +30,7 @@ use Rattle.comfy_table.specs.Straight.{IsStraightTable}
 use Rattle.comfy_table.specs.TableValue.{TableValue, cell_content_width, column_content_width, header_and_rows, max_content_widths, measured_rows, should_style, shown_columns, table_width, with_row, with_rows}
 use Rattle.comfy_table.specs.Widths.{capped_content, disabled_width, fixed_by_constraint, shown_count, shown_needs, upper_boundary}
 use Rattle.csv.specs.Records.{AllText}
-use Rattle.csv_tables.specs.Cells.{header_for, kept_by, kept_for_markdown, marked, row_for}
+use Rattle.csv_tables.specs.Cells.{cell_for, field_or_blank, header_for, kept_by, kept_for_markdown, marked, reached, row_for, unless_blank}
 use Rattle.csv_records.specs.Cleaning.{cleaned, visible_of}
 use Rattle.csv_tables.specs.Markdown.{is_right, rule_line, rule_part}
 use Rattle.csv_tables.specs.declared.options.DrawnColumn.{DrawnColumn}
@@ -43,19 +43,20 @@ use Rattle.csv_tables.proofs.StraightLemmas.{IsSeenTable, IsShort, empty_is_shor
 use Rattle.csv_tables.proofs.TextTableLemmas.{EachLine, rows_of_texts}
 use Rattle.csv_tables.specs.Laws.{AreSeen, EachText, IsLookWithoutControls, IsStraightOutput, MarkdownOutputIsStraight, WholeOutputIsStraight, seen_lines}
 use Rattle.csv_tables.specs.Drawn.{ContentValue, RendersAsMarkdown, RendersRecords, RendersContent, content_of, below_first, headed_table, empty_table, markdown_content, markdown_look, markdown_style, markdown_table}
+use Rattle.csv_tables.proofs.ReachedLemmas.{reached-length}
 
 -- ---- a header with a cell for each column
 
--- a row with a cell for each of so many columns
+-- a row with a cell for each of so many columns, or for the first ones
 abbrev HasCells : ℕ → RowValue → Type 0
-HasCells n row = length row.cells ≡ n
+HasCells n row = length row.cells ≤ n
 
 -- a table with this header and so many columns
 pub record IsHeaded (n : ℕ) (header : RowValue) (table : TableValue) : Type 0 where
   pub has_header : table.header ≡ Some header
   pub count : length table.columns ≡ n
 
--- rows of as many cells keep both
+-- rows of no more cells keep both
 rows_keep : (n : ℕ) (header : RowValue) (rows : List RowValue) (table : TableValue) → All (HasCells n) rows → IsHeaded n header table → IsHeaded n header (with_rows rows table)
 rows_keep n header [] table each own = own
 rows_keep n header (row ∷ rows) table each own =
@@ -167,11 +168,14 @@ module _ (look : Look) (content : ContentValue) where
   pub headed : IsHeaded (length content.columns) header table
   headed =
       let grown = no_fewer_columns (length header.cells) [] in
-      let cells : HasCells (length content.columns) header = length-map content.columns _ in
+      let cells : length header.cells ≡ length content.columns = length-map content.columns _ in
       rows_keep (length content.columns) header (map (row_for (markdown_look look) content.columns) content.rows) (headed_table (markdown_look look) content.columns (Some (unwrap_or content.names [])))
       (All-map (HasCells (length content.columns)) (row_for (markdown_look look) content.columns) content.rows
-      (All-every (λ fields. HasCells (length content.columns) (row_for (markdown_look look) content.columns fields)) content.rows (λ fields. length-map content.columns _)))
+      (All-every (λ fields. HasCells (length content.columns) (row_for (markdown_look look) content.columns fields)) content.rows (λ fields. few_cells fields)))
       (record { has_header = refl; count = omega (arith, grown, cells) })
+    where
+      few_cells : (fields : List Text) → HasCells (length content.columns) (row_for (markdown_look look) content.columns fields)
+      few_cells fields = let few = reached-length fields content.columns in let cells = length-map (reached fields content.columns) (λ (column : DrawnColumn). cell_for (markdown_look look) column.alignment (field_or_blank fields column.position)) in omega (arith, few, cells)
 
   -- its rows as they are measured
   pub rows_measured : measured_rows table ≡ header ∷ map (row_measured false) table.rows
@@ -181,7 +185,7 @@ module _ (look : Look) (content : ContentValue) where
 
   some_content : (i : ℕ) → i < length table.columns → 1 ≤ column_content_width table i
   some_content i below =
-      let cells : HasCells (length content.columns) header = length-map content.columns _ in
+      let cells : length header.cells ≡ length content.columns = length-map content.columns _ in
       subst (λ (rows : List RowValue). 1 ≤ greatest (map cell_content_width (filter_map (λ (r : RowValue). slice_get r.cells i) rows))) (sym rows_measured) (counted i header (map (row_measured false) table.rows) (omega (arith, below, cells, headed.count)))
 
   no_width : width_kept table.arrangement (table_width table) ≡ None
@@ -279,7 +283,7 @@ clear_markdown true look content lines drawing free is =
 -- a field is drawn as it is for Markdown
 pub drawn_for_markdown : (look : Look) → look.is_markdown ≡ true → (field : Text) → EachLine IsShort look field → EachLine IsShort (markdown_look look) field
 drawn_for_markdown look is field own =
-    subst (λ (b : Bool). All IsShort (plain_cell (if b then marked (cleaned (kept_for_markdown look) field) else if look.is_raw then field else cleaned (kept_by look) field)).text_lines) is own
+    subst (λ (b : Bool). All IsShort (plain_cell (if b then marked (cleaned (kept_for_markdown look) field) else if look.is_raw then unless_blank field else unless_blank (cleaned (kept_by look) field))).text_lines) is own
 
 -- there are names, none in a header that is blank
 pub with_names : (P : List Text → Type 0) → P [] → (content : ContentValue) → EachOf P content → EachOf P (markdown_content content)

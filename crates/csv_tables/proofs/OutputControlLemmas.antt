@@ -24,7 +24,7 @@ use Rattle.comfy_table.specs.TableValue.{TableValue, ellipsis, max_content_width
 use Rattle.csv.specs.Records.{AllText}
 use Rattle.csv_tables.proofs.FieldControlLemmas.{field-harmless}
 use Rattle.csv_tables.proofs.TextLineLemmas.{lines_without_controls}
-use Rattle.csv_tables.specs.Cells.{field_text}
+use Rattle.csv_tables.specs.Cells.{field_text, reached}
 use Rattle.csv_records.specs.Cleaning.{visible_of}
 use Rattle.csv_tables.specs.Controls.{HasNoStrayControl, IsStyleWithoutControls, is_stray_control}
 use Rattle.csv_tables.specs.Markdown.{is_right, rule_line, rule_part}
@@ -65,7 +65,7 @@ clear_rows look =
     let keeps = look.has_sequences in
     record {
       header = λ columns fields each. cells_each (IsClearLine keeps) (empty_line keeps) look look.has_bold_header columns fields each;
-      row = λ columns fields each. cells_each (IsClearLine keeps) (empty_line keeps) look false columns fields each;
+      row = λ columns fields each. cells_each (IsClearLine keeps) (empty_line keeps) look false (reached fields columns) fields each;
       pair = λ name field own other. pair_each (IsClearLine keeps) (empty_line keeps) look name field own other;
     }
 

@@ -31,7 +31,7 @@ use Rattle.csv_tables.proofs.SeparatorLemmas.{separated_is_one_column, separated
 use Rattle.csv_tables.proofs.TextTableLemmas.{EachLine, MakesRows, cells_each, pair_each, table_of_texts}
 use Rattle.csv_tables.proofs.WholeColumnLemmas.{IsPaddedColumn}
 use Rattle.csv_tables.proofs.WholeTableLemmas.{IsDrawn, columns-drawn, drawn-is, drawn_table-is, padded-drawn, rows-drawn, unconstrained-drawn}
-use Rattle.csv_tables.specs.Cells.{cell_for, field_or_blank, field_text, with_weight}
+use Rattle.csv_tables.specs.Cells.{cell_for, field_or_blank, field_text, reached, with_weight}
 use Rattle.csv_records.specs.Cleaning.{visible_of}
 use Rattle.csv_tables.specs.Drawn.{ContentValue, RendersRecords, RendersAsTable, content_of, is_expanded_for, output_table, separated_table}
 use Rattle.csv_tables.specs.Laws.{ArePlainLines, AreSeen, CanBeCut, EachText, FittingOutputIsStraight, IsStraightOutput, IsDrawnTable, NarrowLinesHave, NarrowOutputIsStraight, WholeOutputIsStraight, seen_lines}
@@ -82,7 +82,7 @@ pub short_rows : (look : Look) → look.max_height ≡ None → MakesRows IsShor
 short_rows look uncut =
     record {
       header = λ columns fields each. record { uncut = refl; short = cells_each IsShort empty_is_short look look.has_bold_header columns fields each };
-      row = λ columns fields each. record { uncut = rw uncut refl; short = cells_each IsShort empty_is_short look false columns fields each };
+      row = λ columns fields each. record { uncut = rw uncut refl; short = cells_each IsShort empty_is_short look false (reached fields columns) fields each };
       pair = λ name field own other. record { uncut = rw uncut refl; short = pair_each IsShort empty_is_short look name field own other };
     }
 
@@ -103,7 +103,7 @@ whole_rows limit look same =
     let empty = empty_is_whole limit in
     record {
       header = λ columns fields each. made _ (cells_each Whole empty look look.has_bold_header columns fields each) (λ h tall. absurd (cc tall));
-      row = λ columns fields each. made _ (cells_each Whole empty look false columns fields each) limited;
+      row = λ columns fields each. made _ (cells_each Whole empty look false (reached fields columns) fields each) limited;
       pair = λ name field own other. made _ (pair_each Whole empty look name field own other) limited;
     }
   where
@@ -138,7 +138,7 @@ pub default_rows : (look : Look) → MakesRows IsAny tt look IsDefaultRow
 default_rows look =
     record {
       header = λ columns fields each. undelimited look.has_bold_header look columns fields;
-      row = λ columns fields each. undelimited false look columns fields;
+      row = λ columns fields each. undelimited false look (reached fields columns) fields;
       pair = λ name field own other. both name field;
     }
   where
@@ -158,7 +158,7 @@ default_rows_of P empty look =
     let any = λ (fields : List Text). All-every (EachLine IsAny look) fields (any_line look) in
     record {
       header = λ columns fields each. record { no_delimiters = default.header columns fields (any fields); each = cells_each P empty look look.has_bold_header columns fields each };
-      row = λ columns fields each. record { no_delimiters = default.row columns fields (any fields); each = cells_each P empty look false columns fields each };
+      row = λ columns fields each. record { no_delimiters = default.row columns fields (any fields); each = cells_each P empty look false (reached fields columns) fields each };
       pair = λ name field own other. record { no_delimiters = default.pair name field (any_line look name) (any_line look field); each = pair_each P empty look name field own other };
     }
 

@@ -7,7 +7,7 @@ use Rattle.comfy_parts.proofs.CallerLemmas.{All-every}
 use Rattle.comfy_parts.specs.CellValue.{CellValue, RowValue, plain_cell}
 use Rattle.comfy_parts.specs.Text.{Text}
 use Rattle.csv_tables.proofs.BuiltLemmas.{Built, EachOf, blank_drawn, built, built_rows, each_field, each_name, plain_table}
-use Rattle.csv_tables.specs.Cells.{cell_for, cells_for, field_text, field_or_blank, header_for, pair_for, row_for, with_weight}
+use Rattle.csv_tables.specs.Cells.{cell_for, cells_for, field_text, field_or_blank, header_for, held, pair_for, row_for, with_weight}
 use Rattle.csv_tables.specs.Columns.{name_at}
 use Rattle.csv_tables.specs.Drawn.{ContentValue, pairs_of, rows_table}
 use Rattle.csv_tables.specs.declared.options.Look.{Look}
@@ -60,8 +60,8 @@ module _ (P : Text → Type 0) (empty : P []) (look : Look) where
     pairs : ((at : ℕ) → EachLine P look (decimal (at + 1))) → (fields : List Text) → All (EachLine P look) fields → All Q (pairs_of look content.columns (unwrap_or content.names []) fields)
     pairs numbers fields own =
         let names = unwrap_or content.names [] in
-        All-map Q (λ (column : DrawnColumn). pair_for look (name_at names column.position) (field_or_blank fields column.position)) content.columns
-        (All-every (λ (column : DrawnColumn). Q (pair_for look (name_at names column.position) (field_or_blank fields column.position))) content.columns
+        All-map Q (λ (column : DrawnColumn). pair_for look (name_at names column.position) (field_or_blank fields column.position)) (held fields content.columns)
+        (All-every (λ (column : DrawnColumn). Q (pair_for look (name_at names column.position) (field_or_blank fields column.position))) (held fields content.columns)
         (λ column. makes.pair (name_at names column.position) (field_or_blank fields column.position) (named content.names each.names numbers column.position) (each_field (EachLine P look) blank fields column.position own)))
 
     -- and of expanded records, where P holds of the numbers that stand for missing names

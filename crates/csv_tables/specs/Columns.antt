@@ -1,5 +1,5 @@
 -- Which columns are drawn, and how their cells are aligned.
-use Rattle.std.specs.Prelude.{ℕ, Bool, true, false, ◌≡◌, ◌+◌, ◌-◌, ◌==◌, ◌&&◌, nat_le, nat_lt, not, List, [], ◌∷◌, ◌++◌, Option, Some, None, Result, Ok, Err, String, bytes_eq, decimal, drop, find, fold, get_or, length, map, max, ok_or, option_map, string_bytes, take, unwrap_or, if◌then◌else◌}
+use Rattle.std.specs.Prelude.{ℕ, Bool, true, false, ◌≡◌, ◌+◌, ◌-◌, ◌==◌, ◌&&◌, nat_le, nat_lt, not, List, [], ◌∷◌, ◌++◌, Option, Some, None, Result, Ok, Err, String, bytes_eq, decimal, drop, find, fold, get_or, length, map, max, ok_or, option_map, slice_index_or, string_bytes, take, unwrap_or, if◌then◌else◌}
 use Rattle.std.specs.Option.{option_or}
 use Rattle.std.specs.List.{filter, list_any, position_from, range_with_len}
 use Rattle.comfy_parts.specs.Text.{Text}
@@ -164,25 +164,47 @@ is_other_kind Number = false
 is_other_kind Neutral = false
 is_other_kind Other = true
 
+-- what two fields say of one column
+abbrev pub joined_kind : FieldKind → FieldKind → FieldKind
+joined_kind Neutral kind = kind
+joined_kind Number kind = if is_other_kind kind then Other else Number
+joined_kind Other kind = Other
+
+-- what a record's fields say of their columns, each with what was known of its column
+abbrev pub joined_kinds : List FieldKind → List Text → List FieldKind
+joined_kinds kinds [] = kinds
+joined_kinds [] (field ∷ fields) = map kind_of (field ∷ fields)
+joined_kinds (kind ∷ kinds) (field ∷ fields) =
+    joined_kind kind (kind_of field) ∷ joined_kinds kinds fields
+
 -- each field of a column is a number or neutral, and some field is a number
 abbrev pub is_number_column : List (List Text) → ℕ → Bool
 is_number_column rows position =
     not (list_any (λ fields. is_other_kind (kind_at position fields)) rows)
     && list_any (λ fields. is_number_kind (kind_at position fields)) rows
 
+-- the kinds by which columns are number columns; of a column past the list nothing is known
+abbrev pub AreKindsOf : List (List Text) → List FieldKind → Type 0
+AreKindsOf rows kinds =
+    (position : ℕ) → is_number_kind (slice_index_or kinds position Neutral)
+    ≡ is_number_column rows position
+
 -- the alignment of a column: that which was chosen for it, else at the right where its fields are
 -- numbers
-abbrev pub alignment_for : List ℕ → List ℕ → List (List Text) → ℕ → Option CellAlignment
-alignment_for right left rows position =
+abbrev pub alignment_for : List ℕ → List ℕ → Bool → ℕ → Option CellAlignment
+alignment_for right left has_numbers position =
     if list_any (λ p. p == position) right then Some Right
     else if list_any (λ p. p == position) left then Some Left
-    else if is_number_column rows position then Some Right
+    else if has_numbers then Some Right
     else None
 
 -- the columns at these positions
 abbrev pub drawn_columns : List ℕ → List ℕ → List (List Text) → List ℕ → List DrawnColumn
 drawn_columns right left rows positions =
-    map (λ (p : ℕ). record { position = p; alignment = alignment_for right left rows p }) positions
+    map (λ (p : ℕ). record {
+      position = p;
+      alignment = alignment_for right left (is_number_column rows p) p;
+    }) positions
 
 -- the name of the column at a position, or its number where there is no header
 abbrev pub name_at : List Text → ℕ → Text

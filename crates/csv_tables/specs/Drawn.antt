@@ -1,5 +1,5 @@
 -- What is drawn of some records, and what is written of it.
-use Rattle.std.specs.Prelude.{ℕ, ◌+◌, ◌*◌, Bool, true, false, not, ◌&&◌, ◌≡◌, nat_lt, min, List, [], ◌∷◌, ◌++◌, Option, Some, None, Result, Ok, Err, codes, decimal, drop, flat_map, length, map, slice_get, take, unwrap_or, if◌then◌else◌}
+use Rattle.std.specs.Prelude.{ℕ, zero, suc, ◌+◌, Bool, true, false, not, ◌&&◌, ◌≡◌, nat_lt, min, List, [], ◌∷◌, ◌++◌, Option, Some, None, Result, Ok, Err, codes, decimal, drop, flat_map, length, map, slice_get, slice_index_or, sum_by, take, unwrap_or, if◌then◌else◌}
 use Rattle.std.specs.List.{list_any, range_with_len}
 use Rattle.comfy_parts.specs.CellValue.{RowValue}
 use Rattle.comfy_parts.specs.Presets.{ascii_markdown}
@@ -10,10 +10,10 @@ use Rattle.comfy_parts.specs.declared.style.table_style.TableStyle.{TableStyle}
 use Rattle.comfy_table.specs.Arrangement.{IsArranged}
 use Rattle.comfy_table.specs.Drawing.{infos_of, terminated_text_of}
 use Rattle.comfy_table.specs.Headline.{IsTableDrawing}
-use Rattle.comfy_table.specs.Parts.{ArrangedValue, IsArrangedTable, part_text}
+use Rattle.comfy_table.specs.Parts.{ArrangedValue, IsArrangedTable, part_lines, part_text}
 use Rattle.comfy_table.specs.Pieces.{row_height}
 use Rattle.comfy_table.specs.TableValue.{TableValue, max_content_widths, new_table, with_header, with_rows}
-use Rattle.csv_tables.specs.Cells.{field_or_blank, header_for, pair_for, row_for}
+use Rattle.csv_tables.specs.Cells.{field_or_blank, header_for, held, pair_for, row_for}
 use Rattle.csv_tables.specs.Columns.{ColumnFault, columns_for, name_at}
 use Rattle.csv_records.specs.Reading.{AreRecordsFor}
 use Rattle.csv_tables.specs.Markdown.{rule_line}
@@ -111,7 +111,7 @@ table_for options records = ok_map (rows_table options.look) (content_of options
 abbrev pub pairs_of : Look → List DrawnColumn → List Text → List Text → List RowValue
 pairs_of look columns names fields =
     map (λ (column : DrawnColumn). pair_for look (name_at names column.position)
-    (field_or_blank fields column.position)) columns
+    (field_or_blank fields column.position)) (held fields columns)
 
 -- the table of expanded records: so many rows for each
 abbrev pub pairs_table : Look → ContentValue → TableValue
@@ -191,11 +191,22 @@ abbrev pub record_line : ℕ → ℕ → Text
 record_line number count =
     (((codes "record " ++ decimal number) ++ codes " of ") ++ decimal count) ++ codes "\n"
 
--- an expanded record: its line, and its part of the table
+-- how many fields of a record are drawn
+abbrev pub drawn_fields : ContentValue → List Text → ℕ
+drawn_fields content fields = length (held fields content.columns)
+
+-- the lines of a part of a table, where it has a row
+abbrev pub some_lines : ArrangedValue → ℕ → ℕ → List Text
+some_lines arranged first zero = []
+some_lines arranged first (suc count) = part_lines arranged first (suc count)
+
+-- an expanded record: its line, and its part of the table, behind those of the records before
 abbrev pub record_text : ContentValue → ArrangedValue → ℕ → Text
 record_text content arranged at =
     record_line (at + 1) content.count
-    ++ part_text arranged (at * length content.columns) (length content.columns)
+    ++ terminated_text_of (some_lines arranged
+    (sum_by (drawn_fields content) (take at content.rows))
+    (drawn_fields content (slice_index_or content.rows at [])))
 
 -- ---- outputs
 

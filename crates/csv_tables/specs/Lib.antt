@@ -13,3 +13,4 @@ pub mod Run
 pub mod Separators
 pub mod Unbroken
 pub mod ConstrainedAt
+pub mod Leasts

@@ -1,8 +1,8 @@
 //! The cells and rows of records.
 
-ghost use Rattle.std.specs.Prelude.{◌≡◌, IfOk, max, option_map, string_bytes};
+ghost use Rattle.std.specs.Prelude.{◌≡◌, IfOk, false, max, option_map, string_bytes};
 ghost use Rattle.std.specs.Option.{option_or};
-ghost use Rattle.csv_tables.specs.Cells.{cell_for, cells_for, field_text, header_for, kept_by, kept_for_markdown, pair_for, row_for, with_weight};
+ghost use Rattle.csv_tables.specs.Cells.{cell_for, cells_for, cut, field_text, header_for, is_blank, kept_by, kept_for_markdown, pair_for, unless_blank, with_weight};
 
 use crate::markdown::escaped;
 use crate::options::{DrawnColumn, Look};
@@ -11,14 +11,15 @@ use comfy_parts::{Cell, Cells, IntoRow, Result, Row};
 use csv_records::{CleanOptions, Record, cleaned};
 use std::alloc::Global;
 
-/// The row of a record: a cell for each column, blank where the record has no such field.
+/// The row of a record: a cell for each of these columns, blank where the record has no such field.
 pub fn row_of(
     alloc: Global,
     fields: &Record<'_>,
     columns: &[DrawnColumn],
     look: &Look,
 ) -> Result<Row>
-    ensures { IfOk result (λ row. row ≡ row_for look.now columns.now fields.now) }
+    ensures { IfOk result (λ row. row
+        ≡ cut look.now (cells_for look.now false columns.now fields.now)) }
 {
     Ok(cut(cells_of(alloc, fields, columns, look, false)?, look))
 }
@@ -114,10 +115,27 @@ fn field_text(alloc: Global, field: &str, look: &Look) -> Result<String>
         let text = cleaned(alloc, field, kept_for_markdown(look))?;
         Ok(escaped(alloc, text.as_str())?)
     } else if look.is_raw {
-        Ok(String::from_str(alloc, field)?)
+        Ok(unless_blank(String::from_str(alloc, field)?))
     } else {
-        Ok(cleaned(alloc, field, kept_by(look))?)
+        Ok(unless_blank(cleaned(alloc, field, kept_by(look))?))
     }
+}
+
+// A text, empty where it is blank.
+fn unless_blank(mut text: String) -> String
+    ensures { string_bytes result ≡ unless_blank (string_bytes text) }
+{
+    if is_blank(text.as_bytes()) {
+        text.clear();
+    }
+    text
+}
+
+// Whether all bytes are spaces and line feeds.
+fn is_blank(bytes: &[u8]) -> bool
+    ensures { result ≡ is_blank bytes.now }
+{
+    bytes.iter().all(|byte| matches!(*byte, b' ' | b'\n'))
 }
 
 // What of a field a look leaves as it is.

@@ -1,12 +1,13 @@
 //! Which columns are drawn, and how their cells are aligned.
 
-ghost use Rattle.std.specs.Prelude.{◌≡◌, ◌<◌, ◌≤◌, ◌-◌, ◌^◌, IfOk, IfErr, IfSome, Ok, length, map, string_bytes};
+ghost use Rattle.std.specs.Prelude.{◌≡◌, ◌<◌, ◌≤◌, ◌-◌, ◌^◌, ◌++◌, ◌∷◌, [], IfOk, IfErr, IfSome, Ok, OnOk, length, map, nat_lt, slice_index_or, slice_set, string_bytes, if◌then◌else◌};
 ghost use Rattle.std.specs.Cow.{cow_str_bytes};
 ghost use Rattle.std.specs.List.{range_with_len};
 ghost use Rattle.comfy_parts.specs.VisibleText.{visible_text};
 ghost use Rattle.csv.specs.Records.{field_at};
 ghost use Rattle.csv_tables.specs.Cells.{field_or_blank};
-ghost use Rattle.csv_tables.specs.Columns.{IsColumnsRefusal, alignment_for, at_two_sides, chosen_columns, column_of, columns_chosen, columns_for, count_of, drawn_columns, end_of, is_number_column, is_text, kept_columns, kind_at, kind_of, name_at, numbered, position_named, positions_of, positions_of_word, range_at, range_of, seen, without};
+ghost use Rattle.csv_tables.specs.declared.columns.FieldKind.TheVariants.{Neutral};
+ghost use Rattle.csv_tables.specs.Columns.{AreKindsOf, IsColumnsRefusal, alignment_for, at_two_sides, chosen_columns, column_of, columns_chosen, columns_for, count_of, drawn_columns, end_of, is_text, joined_kind, joined_kinds, kept_columns, kind_at, kind_of, name_at, numbered, position_named, positions_of, positions_of_word, range_at, range_of, seen, without};
 
 use crate::error::ColumnsError;
 use crate::options::{DrawnColumn, Options, Selection};
@@ -290,12 +291,13 @@ fn drawn_columns(
     ensures { IfOk result (λ columns. columns.items
         ≡ drawn_columns right.now left.now (map (seen has_sequences) rows.now) positions.now) }
 {
+    let kinds = column_kinds(alloc, rows, has_sequences)?;
     let mut columns = Vec::with_capacity(alloc, positions.len())?;
     for position in positions {
-        let alignment = alignment_of(alloc, *position, right, left, rows, has_sequences)?;
+        let has_numbers = matches!(kind_in(kinds.as_slice(), *position), FieldKind::Number);
         columns.push(DrawnColumn {
             position: *position,
-            alignment,
+            alignment: alignment_of(*position, right, left, has_numbers),
         })?;
     }
     Ok(columns)
@@ -303,48 +305,97 @@ fn drawn_columns(
 
 // The alignment of a column: that which was chosen for it, or that of numbers.
 fn alignment_of(
-    alloc: Global,
     position: usize,
     right: &[usize],
     left: &[usize],
-    rows: &Rows<'_>,
-    has_sequences: bool,
-) -> Result<Option<CellAlignment>, AllocError>
-    ensures { IfOk result (λ alignment. alignment
-        ≡ alignment_for right.now left.now (map (seen has_sequences) rows.now) position) }
+    has_numbers: bool,
+) -> Option<CellAlignment>
+    ensures { result ≡ alignment_for right.now left.now has_numbers position }
 {
     if right.contains(&position) {
-        return Ok(Some(CellAlignment::Right));
-    }
-    if left.contains(&position) {
-        return Ok(Some(CellAlignment::Left));
-    }
-    if is_number_column(alloc, position, rows, has_sequences)? {
-        Ok(Some(CellAlignment::Right))
+        Some(CellAlignment::Right)
+    } else if left.contains(&position) {
+        Some(CellAlignment::Left)
+    } else if has_numbers {
+        Some(CellAlignment::Right)
     } else {
-        Ok(None)
+        None
     }
 }
 
-// Whether each field of a column is a number or neutral, and some field is a number.
-fn is_number_column(
+// What the fields of each column say. Records are looked at one by one, since most may have few of
+// the columns.
+fn column_kinds(
     alloc: Global,
-    position: usize,
     rows: &Rows<'_>,
     has_sequences: bool,
-) -> Result<bool, AllocError>
-    ensures { IfOk result (λ yes. yes
-        ≡ is_number_column (map (seen has_sequences) rows.now) position) }
+) -> Result<Vec<FieldKind>, AllocError>
+    ensures { IfOk result (λ kinds. AreKindsOf (map (seen has_sequences) rows.now) kinds.items) }
 {
-    let mut has_number = false;
+    let mut kinds = Vec::new(alloc);
     for row in rows.iter() {
-        match kind_at(alloc, position, &row, has_sequences)? {
-            FieldKind::Number => has_number = true,
-            FieldKind::Neutral => {}
-            FieldKind::Other => return Ok(false),
+        join_kinds(alloc, &mut kinds, &row, has_sequences)?;
+    }
+    Ok(kinds)
+}
+
+// Adds what the fields of a record say of their columns.
+fn join_kinds(
+    alloc: Global,
+    kinds: &mut Vec<FieldKind>,
+    row: &Record<'_>,
+    has_sequences: bool,
+) -> Result<(), AllocError>
+    ensures { OnOk result (kinds.new.items
+        ≡ joined_kinds kinds.old.items (seen has_sequences row.now)) }
+{
+    for position in 0..row.len() {
+        match kind_in(kinds.as_slice(), position) {
+            // No further field changes that.
+            FieldKind::Other => {}
+            known => {
+                let kind = joined_kind(known, kind_at(alloc, position, row, has_sequences)?);
+                put_kind(kinds, position, kind)?;
+            }
         }
     }
-    Ok(has_number)
+    Ok(())
+}
+
+// The kind of a column; neutral where none of its fields was seen.
+fn kind_in(kinds: &[FieldKind], position: usize) -> FieldKind
+    ensures { result ≡ slice_index_or kinds.now position Neutral }
+{
+    kinds.get(position).copied().unwrap_or(FieldKind::Neutral)
+}
+
+// What two fields say of one column.
+fn joined_kind(one: FieldKind, other: FieldKind) -> FieldKind
+    ensures { result ≡ joined_kind one other }
+{
+    match (one, other) {
+        (FieldKind::Other, _) | (_, FieldKind::Other) => FieldKind::Other,
+        (FieldKind::Number, _) | (_, FieldKind::Number) => FieldKind::Number,
+        _ => FieldKind::Neutral,
+    }
+}
+
+// Puts a kind in the place of another, or behind the last.
+fn put_kind(
+    kinds: &mut Vec<FieldKind>,
+    position: usize,
+    kind: FieldKind,
+) -> Result<(), AllocError>
+    ensures { OnOk result (kinds.new.items ≡ if nat_lt position (length kinds.old.items)
+        then slice_set kinds.old.items position kind
+        else kinds.old.items ++ kind ∷ []) }
+{
+    if let Some(known) = kinds.get_mut(position) {
+        *known = kind;
+        return Ok(());
+    }
+    kinds.push(kind)?;
+    Ok(())
 }
 
 // What a field says of its column.

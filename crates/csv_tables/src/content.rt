@@ -2,13 +2,15 @@
 
 ghost use Rattle.std.specs.Prelude.{◌≡◌, IfOk, IfErr, Ok, [], unwrap_or};
 ghost use Rattle.csv_tables.specs.Columns.{IsColumnsRefusal};
-ghost use Rattle.csv_tables.specs.Drawn.{content_of, limited, names_of, records_below};
+ghost use Rattle.csv_tables.specs.Cells.{reached};
+ghost use Rattle.csv_tables.specs.Drawn.{content_of, drawn_fields, limited, names_of, records_below};
+ghost use Rattle.csv_tables.specs.Leasts.{least_positions};
 
 use crate::columns::columns_of;
 use crate::error::ColumnsError;
 use crate::options::{DrawnColumn, Options};
 use csv_records::{Record, Records, Rows};
-use std::alloc::Global;
+use std::alloc::{AllocError, Global};
 use std::marker::Model;
 
 /// The names, the rows and the columns that are drawn of some records, with these records.
@@ -20,13 +22,18 @@ pub struct Content {
     // how many rows are drawn
     limit: Option<usize>,
     pub(crate) columns: Vec<DrawnColumn>,
+    // of each column, the least position of it and of those behind it
+    leasts: Vec<usize>,
 }
 
 impl Model for Content {
-    ghost use Rattle.std.specs.Prelude.{length};
+    ghost use Rattle.std.specs.Prelude.{◌≡◌, length};
     ghost use Rattle.csv_tables.specs.Drawn.{ContentValue, limited, names_of, records_below};
+    ghost use Rattle.csv_tables.specs.Leasts.{least_positions};
 
     ghost Value = { ContentValue };
+
+    ghost invariant = { λ c. c.leasts.items ≡ least_positions c.columns.items };
 
     ghost view = { λ c. record {
       names = names_of c.has_header c.records;
@@ -48,12 +55,14 @@ impl Content {
         let names = names_of(&all, has_header).unwrap_or(all.blank());
         let rows = limited(&records_below(&all, has_header), limit);
         let columns = columns_of(alloc, &names, &rows, options)?;
+        let leasts = leasts_of(alloc, columns.as_slice())?;
         Ok(Content {
             alloc,
             records,
             has_header,
             limit,
             columns,
+            leasts,
         })
     }
 
@@ -79,12 +88,52 @@ impl Content {
         limited(&below, self.limit)
     }
 
+    /// The columns up to the last one of which a record has the field. No others are looked at, so
+    /// that a record of few fields costs little however many columns there are.
+    pub(crate) fn reached(&self, row: &Record<'_>) -> &[DrawnColumn]
+        ensures { result.now ≡ reached row.now self.now.columns }
+    {
+        for (count, least) in self.leasts.iter().enumerate() {
+            if row.len() <= *least {
+                return &self.columns[..count];
+            }
+        }
+        self.columns.as_slice()
+    }
+
+    /// How many fields of a record are drawn.
+    pub(crate) fn drawn_fields(&self, row: &Record<'_>) -> usize
+        ensures { result ≡ drawn_fields self.now row.now }
+    {
+        let mut count = 0;
+        for column in self.reached(row) {
+            if column.position < row.len() {
+                count += 1;
+            }
+        }
+        count
+    }
+
     /// How many records there are below the header, drawn or not.
     pub(crate) fn count(&self) -> usize
         ensures { result ≡ self.now.count }
     {
         records_below(&self.records.rows(), self.has_header).len()
     }
+}
+
+// Of each column, the least position of it and of those behind it.
+fn leasts_of(alloc: Global, columns: &[DrawnColumn]) -> Result<Vec<usize>, AllocError>
+    ensures { IfOk result (λ leasts. leasts.items ≡ least_positions columns.now) }
+{
+    let mut leasts = Vec::with_capacity(alloc, columns.len())?;
+    let mut least = usize::MAX;
+    for behind in 0..columns.len() {
+        least = least.min(columns[columns.len() - 1 - behind].position);
+        leasts.push(least)?;
+    }
+    leasts.reverse();
+    Ok(leasts)
 }
 
 // The header, where there is one.

@@ -1,9 +1,10 @@
 //! Records that are expanded: each is drawn as a table of its own, of names and fields.
 
-ghost use Rattle.std.specs.Prelude.{◌≡◌, ◌++◌, ◌-◌, ◌^◌, IfOk, OnOk, map, min, string_bytes, true};
+ghost use Rattle.std.specs.Prelude.{◌≡◌, ◌+◌, ◌++◌, ◌-◌, ◌^◌, IfOk, OnOk, map, min, string_bytes, true};
+ghost use Rattle.comfy_table.specs.Drawing.{terminated_text_of};
 ghost use Rattle.comfy_table.specs.TableValue.{max_content_widths};
 ghost use Rattle.csv_tables.specs.KeptContents.{AreKeptContents};
-ghost use Rattle.csv_tables.specs.Drawn.{is_expanded_in, least_width, record_text, separators_in, table_text};
+ghost use Rattle.csv_tables.specs.Drawn.{is_expanded_in, least_width, record_line, separators_in, some_lines, table_text};
 
 use crate::content::Content;
 use crate::options::{Expansion, Look, RowSeparators};
@@ -71,24 +72,45 @@ pub(crate) fn records_text(content: &Content, arranged: &ArrangedTable<'_>) -> R
     ensures { IfOk result (λ text. string_bytes text ≡ table_text true content.now arranged.now) }
 {
     let mut text = String::new(content.alloc);
-    for at in 0..content.rows().len() {
-        push_record(&mut text, content, arranged, at)?;
+    let mut first = 0usize;
+    for (at, row) in content.rows().enumerate() {
+        let count = content.drawn_fields(&row);
+        push_record_line(&mut text, at, content.count())?;
+        push_part(&mut text, arranged, first, count)?;
+        first = place_behind(first, count)?;
     }
     Ok(text)
 }
 
-fn push_record(
+// The place behind so many rows. As many are in memory, so a `usize` holds it.
+fn place_behind(first: usize, count: usize) -> Result<usize>
+    ensures { IfOk result (λ place. place ≡ first + count) }
+{
+    first.checked_add(count).ok_or(TableError::OutOfMemory)
+}
+
+// Appends the line above the record at a place.
+fn push_record_line(text: &mut String, at: usize, count: usize) -> Result<()>
+    ensures { OnOk result (string_bytes text.new
+        ≡ string_bytes text.old ++ record_line (at + 1) count) }
+{
+    write!(text, "record {} of {}\n", at as u128 + 1, count)?;
+    Ok(())
+}
+
+// Appends a part of a table, where it has a row.
+fn push_part(
     text: &mut String,
-    content: &Content,
     arranged: &ArrangedTable<'_>,
-    at: usize,
+    first: usize,
+    count: usize,
 ) -> Result<()>
     ensures { OnOk result (string_bytes text.new
-        ≡ string_bytes text.old ++ record_text content.now arranged.now at) }
+        ≡ string_bytes text.old
+        ++ terminated_text_of (some_lines arranged.now first count)) }
 {
-    let fields = content.columns.len();
-    // as many rows are in memory, so a `usize` holds this
-    let first = at.checked_mul(fields).ok_or(TableError::OutOfMemory)?;
-    write!(text, "record {} of {}\n", at as u128 + 1, content.count())?;
-    arranged.push_rows(text, first, fields)
+    if count == 0 {
+        return Ok(());
+    }
+    arranged.push_rows(text, first, count)
 }

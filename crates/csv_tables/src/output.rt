@@ -62,6 +62,7 @@ fn table_text(content: Content, look: &Look) -> Result<String>
     let table = content.rows_table(look)?;
     let contents = kept_contents(content.alloc, &table, look)?;
     if is_expanded(content.alloc, &table, contents.as_slice(), look)? {
+        drop(table);
         expanded_text(content, look)
     } else {
         rows_text(content, table, contents.as_slice(), look)

@@ -66,7 +66,7 @@ impl Content {
     {
         let mut table = self.headed_table(names, look)?;
         for row in self.rows() {
-            table.try_add_row(row_of(self.alloc, &row, self.columns.as_slice(), look)?)?;
+            table.try_add_row(row_of(self.alloc, &row, self.reached(&row), look)?)?;
         }
         Ok(table)
     }
@@ -83,7 +83,7 @@ impl Content {
         Ok(table)
     }
 
-    // Appends the fields of one record, each with the name of its column.
+    // Appends the fields that one record has, each with the name of its column.
     fn add_pairs(
         &self,
         table: &mut Table,
@@ -94,10 +94,11 @@ impl Content {
         ensures { OnOk result (table.new
             ≡ with_rows (pairs_of look.now self.now.columns names.now row.now) table.old) }
     {
-        for column in &self.columns {
-            let name = name_at(self.alloc, names, column.position)?;
-            let field = row.get(column.position).unwrap_or("");
-            table.try_add_row(pair_of(self.alloc, name.as_str(), field, look)?)?;
+        for column in self.reached(row) {
+            if let Some(field) = row.get(column.position) {
+                let name = name_at(self.alloc, names, column.position)?;
+                table.try_add_row(pair_of(self.alloc, name.as_str(), field, look)?)?;
+            }
         }
         Ok(())
     }

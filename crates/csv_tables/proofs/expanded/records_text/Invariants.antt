@@ -1,7 +1,14 @@
-use Rattle.std.proofs.Common.{◌≡◌, flat_map, string_bytes}
+use Rattle.std.proofs.Common.{◌≡◌, ◌≤◌, drop, flat_map, length, string_bytes, take}
+use Rattle.std.specs.Iterator.Adapters.{enumerate_count, enumerate_source}
 use Rattle.std.specs.List.{range_with_len}
-use Rattle.csv_tables.specs.Drawn.{record_text}
+use Rattle.std.specs.Prelude.{sum_by}
+use Rattle.csv_tables.specs.Drawn.{drawn_fields, record_text}
 use Rattle.csv_tables.proofs.expanded.records_text.Given as goal
 
 abbrev pub invariant-loop-at : goal.invariant-loop-at
-invariant-loop-at l = string_bytes l.text ≡ flat_map (record_text l.content l.arranged) (range_with_len 0 l.at)
+invariant-loop-at l = record {
+  left : enumerate_source l.at-iterator ≡ drop (enumerate_count l.at-iterator) l.content.rows;
+  within : enumerate_count l.at-iterator ≤ length l.content.rows;
+  text : string_bytes l.text ≡ flat_map (record_text l.content l.arranged) (range_with_len 0 (enumerate_count l.at-iterator));
+  first : l.first ≡ sum_by (drawn_fields l.content) (take (enumerate_count l.at-iterator) l.content.rows);
+}

@@ -1,0 +1,128 @@
+-- The columns that records reach.
+use Rattle.std.proofs.Common.{◌≡◌, ◌<◌, ◌≤◌, ℕ, Bool, true, false, ◌||◌, zero, suc, ◌+◌, ◌-◌, ◌^◌, List, [], ◌∷◌, ◌++◌, ◌⊎◌, inl, inr, Option, Some, None, drop, filter, length, map, min, nat_lt, take, arith, refl, sym, ap, ◌∙◌}
+use Rattle.std.specs.List.{list_any, slice_get, slice_index_or}
+use Rattle.std.specs.Prelude.{if◌then◌else◌, option_map}
+use Rattle.std.proofs.lemmas.Bool.{or_parts}
+use Rattle.comfy_parts.specs.Text.{Text}
+use Rattle.csv.specs.Records.{field_at}
+use Rattle.csv_tables.specs.Cells.{field_or_blank, has_field, held, reached}
+use Rattle.csv_tables.specs.Leasts.{least_position, least_positions}
+use Rattle.csv_tables.specs.declared.options.DrawnColumn.{DrawnColumn}
+
+module _ (fields : List Text) where
+  -- none of the columns is held
+  none-held : (columns : List DrawnColumn) → list_any (has_field fields) columns ≡ false → held fields columns ≡ []
+  none-held [] none = refl
+  none-held (column ∷ columns) none =
+      let parts = or_parts (has_field fields column) (list_any (has_field fields) columns) none in
+      rw parts.0 (none-held columns parts.1)
+
+  -- behind those that are reached none is held
+  pub held-reached : (columns : List DrawnColumn) → held fields (reached fields columns) ≡ held fields columns
+  held-reached [] = refl
+  held-reached (column ∷ columns) = by_any (list_any (has_field fields) (column ∷ columns)) refl (held-reached columns)
+    where
+      by_any : (b : Bool) → list_any (has_field fields) (column ∷ columns) ≡ b → held fields (reached fields columns) ≡ held fields columns → held fields (reached fields (column ∷ columns)) ≡ held fields (column ∷ columns)
+      by_any true is rest = rw is (ap (λ rest. if has_field fields column then column ∷ rest else rest) rest)
+      by_any false is rest = rw is (sym (none-held (column ∷ columns) is))
+
+  -- they are the first ones
+  pub reached-first : (columns : List DrawnColumn) → reached fields columns ≡ take (length (reached fields columns)) columns
+  reached-first [] = refl
+  reached-first (column ∷ columns) = by_any (list_any (has_field fields) (column ∷ columns)) refl (reached-first columns)
+    where
+      by_any : (b : Bool) → list_any (has_field fields) (column ∷ columns) ≡ b → reached fields columns ≡ take (length (reached fields columns)) columns → reached fields (column ∷ columns) ≡ take (length (reached fields (column ∷ columns))) (column ∷ columns)
+      by_any true is rest = rw is (ap (λ rest. column ∷ rest) rest)
+      by_any false is rest = rw is refl
+
+  pub reached-length : (columns : List DrawnColumn) → length (reached fields columns) ≤ length columns
+  reached-length [] = omega arith
+  reached-length (column ∷ columns) = by_any (list_any (has_field fields) (column ∷ columns)) refl (reached-length columns)
+    where
+      by_any : (b : Bool) → list_any (has_field fields) (column ∷ columns) ≡ b → length (reached fields columns) ≤ length columns → length (reached fields (column ∷ columns)) ≤ length (column ∷ columns)
+      by_any true is rest = rw is (omega (arith, rest))
+      by_any false is rest = rw is (omega arith)
+
+  -- a column is held where the least position says so
+  module _ (short : length fields < 2 ^ 64) where
+    pub held-by_least : (columns : List DrawnColumn) → list_any (has_field fields) columns ≡ nat_lt (least_position columns) (length fields)
+    held-by_least [] = grind (arith, short)
+    held-by_least (column ∷ columns) = ap (λ b. nat_lt column.position (length fields) || b) (held-by_least columns) ∙ either column.position (least_position columns) (length fields)
+      where
+        either : (a b n : ℕ) → (nat_lt a n || nat_lt b n) ≡ nat_lt (min a b) n
+        either a b n = grind arith
+
+-- the least position from a column on
+pub least-at : (columns : List DrawnColumn) (k : ℕ) → k < length columns → slice_index_or (least_positions columns) k 0 ≡ least_position (drop k columns)
+least-at [] k below = absurd (omega arith)
+least-at (column ∷ columns) zero below = refl
+least-at (column ∷ columns) (suc k) below = least-at columns k (omega arith)
+
+pub leasts-length : (columns : List DrawnColumn) → length (least_positions columns) ≡ length columns
+leasts-length [] = refl
+leasts-length (column ∷ columns) = ap suc (leasts-length columns)
+
+module _ (fields : List Text) where
+  -- where none is held, none is reached
+  pub none-reached : (columns : List DrawnColumn) → list_any (has_field fields) columns ≡ false → reached fields columns ≡ []
+  none-reached [] none = refl
+  none-reached (column ∷ columns) none = rw none refl
+
+  -- where one is held from a column on, that column is reached
+  pub reached-more : (columns : List DrawnColumn) (k : ℕ) → k < length columns → list_any (has_field fields) (drop k columns) ≡ true
+      → take k columns ++ reached fields (drop k columns) ≡ take (suc k) columns ++ reached fields (drop (suc k) columns)
+  reached-more [] k below some = absurd (omega arith)
+  reached-more (column ∷ columns) zero below some = rw some refl
+  reached-more (column ∷ columns) (suc k) below some = ap (λ rest. column ∷ rest) (reached-more columns k (omega arith) some)
+
+-- ---- cells at places
+
+pub mapped_at : {A B : Type 0} (f : A → B) (xs : List A) (k : ℕ) (x : A) → slice_get xs k ≡ Some x → slice_get (map f xs) k ≡ Some (f x)
+mapped_at f [] k x found = absurd (cc found)
+mapped_at f (y ∷ ys) zero x found = ap (option_map f) found
+mapped_at f (y ∷ ys) (suc k) x found = mapped_at f ys k x found
+
+pub unmapped_at : {A B : Type 0} (f : A → B) (xs : List A) (k : ℕ) → slice_get xs k ≡ None → slice_get (map f xs) k ≡ None
+unmapped_at f [] k none = refl
+unmapped_at f (y ∷ ys) zero none = absurd (cc none)
+unmapped_at f (y ∷ ys) (suc k) none = unmapped_at f ys k none
+
+-- a field that isn't there is blank
+pub no_field : (fields : List Text) (position : ℕ) → nat_lt position (length fields) ≡ false → field_or_blank fields position ≡ []
+unfolding field_at
+no_field [] position none = refl
+no_field (field ∷ fields) zero none = absurd (let all : nat_lt 0 (length (field ∷ fields)) ≡ true = grind arith in cc (all, none))
+no_field (field ∷ fields) (suc position) none = no_field fields position (grind (arith, none))
+
+-- a column is reached, or its field is blank
+pub reached-at : (fields : List Text) (columns : List DrawnColumn) (k : ℕ) (d : DrawnColumn) → slice_get columns k ≡ Some d
+    → (slice_get (reached fields columns) k ≡ Some d) ⊎ ((slice_get (reached fields columns) k ≡ None) × (field_or_blank fields d.position ≡ []))
+reached-at fields [] k d found = absurd (cc found)
+reached-at fields (column ∷ columns) zero d found = by_any (list_any (has_field fields) (column ∷ columns)) refl
+  where
+    by_any : (b : Bool) → list_any (has_field fields) (column ∷ columns) ≡ b
+        → (slice_get (reached fields (column ∷ columns)) 0 ≡ Some d) ⊎ ((slice_get (reached fields (column ∷ columns)) 0 ≡ None) × (field_or_blank fields d.position ≡ []))
+    by_any true is = rw is (inl found)
+    by_any false is =
+        let parts = or_parts (has_field fields column) (list_any (has_field fields) columns) is in
+        let same : column ≡ d = cc found in
+        rw is (inr (refl, no_field fields d.position (ap (has_field fields) (sym same) ∙ parts.0)))
+reached-at fields (column ∷ columns) (suc k) d found = by_any (list_any (has_field fields) (column ∷ columns)) refl (reached-at fields columns k d found) (behind columns k found)
+  where
+    -- columns behind those that are reached have no field
+    behind : (columns : List DrawnColumn) (k : ℕ) → slice_get columns k ≡ Some d → list_any (has_field fields) columns ≡ false → has_field fields d ≡ false
+    behind [] k found none = absurd (cc found)
+    behind (column ∷ columns) zero found none =
+        let parts = or_parts (has_field fields column) (list_any (has_field fields) columns) none in
+        let same : column ≡ d = cc found in ap (has_field fields) (sym same) ∙ parts.0
+    behind (column ∷ columns) (suc k) found none =
+        let parts = or_parts (has_field fields column) (list_any (has_field fields) columns) none in behind columns k found parts.1
+
+    by_any : (b : Bool) → list_any (has_field fields) (column ∷ columns) ≡ b
+        → (slice_get (reached fields columns) k ≡ Some d) ⊎ ((slice_get (reached fields columns) k ≡ None) × (field_or_blank fields d.position ≡ []))
+        → (list_any (has_field fields) columns ≡ false → has_field fields d ≡ false)
+        → (slice_get (reached fields (column ∷ columns)) (suc k) ≡ Some d) ⊎ ((slice_get (reached fields (column ∷ columns)) (suc k) ≡ None) × (field_or_blank fields d.position ≡ []))
+    by_any true is rest none = rw is rest
+    by_any false is rest none =
+        let parts = or_parts (has_field fields column) (list_any (has_field fields) columns) is in
+        rw is (inr (refl, no_field fields d.position (none parts.1)))
