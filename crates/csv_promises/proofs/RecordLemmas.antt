@@ -1,8 +1,8 @@
 -- The fields of records stand in the lines of their table.
-use Rattle.std.proofs.Common.{◌≡◌, ◌<◌, ◌≤◌, ℕ, zero, suc, ◌+◌, Bool, true, false, List, [], ◌∷◌, ◌++◌, Option, Some, None, Ok, flat_map, fold, length, map, max, not, refl, sym, ap, ap₂, ◌∙◌, subst, arith, append-nil, slice_index_or, unwrap_or}
-use Rattle.std.specs.List.{All, AllByRecursion, AllZip, enumerate_from, range_with_len, slice_get}
+use Rattle.std.proofs.Common.{◌≡◌, ◌<◌, ◌≤◌, ℕ, zero, suc, ◌+◌, ◌-◌, ◌||◌, nat_lt, take, Bool, true, false, List, [], ◌∷◌, ◌++◌, Option, Some, None, Ok, flat_map, fold, length, map, max, not, refl, sym, ap, ap₂, ◌∙◌, subst, arith, append-nil, slice_index_or, unwrap_or}
+use Rattle.std.specs.List.{All, AllByRecursion, AllZip, enumerate_from, list_any, range_with_len, slice_get}
 use Rattle.std.specs.Prelude.{option_to_list}
-use Rattle.std.proofs.lemmas.List.{length-map}
+use Rattle.std.proofs.lemmas.List.{length-map, length-take-le, take-map}
 use Rattle.std.proofs.lemmas.List.Elements.{All-append, All-cons, All-filter, All-head, All-nil, All-tail, All-weaker, recursion_from_All}
 use Rattle.std.proofs.lemmas.List.FromFn.{length-range_with_len}
 use Rattle.comfy_parts.proofs.CallerLemmas.{measure-printable, no_fewer_columns}
@@ -14,11 +14,12 @@ use Rattle.comfy_table.specs.Headline.{IsTableDrawing}
 use Rattle.comfy_table.specs.NewTables.{IsShortRow}
 use Rattle.comfy_table.specs.TableValue.{TableValue, header_and_rows, shown_columns, with_row, with_rows}
 use Rattle.csv.specs.Records.{field_at}
-use Rattle.csv_tables.specs.Cells.{cell_for, field_or_blank, field_text, cells_for, header_for, row_for, with_weight}
+use Rattle.csv_tables.specs.Cells.{cell_for, field_or_blank, field_text, cells_for, has_field, header_for, reached, row_for, unless_blank, with_weight}
 use Rattle.csv_tables.specs.Columns.{columns_for, count_of, kept_columns, seen, without}
 use Rattle.csv_tables.specs.declared.options.DrawnColumn.{DrawnColumn}
 use Rattle.csv_tables.specs.declared.options.Look.{Look}
 use Rattle.csv_tables.specs.declared.options.Options.{Options}
+use Rattle.csv_tables.proofs.BlankLemmas.{unless_blank-keeps}
 use Rattle.csv_tables.proofs.BuiltLemmas.{Built, each_content, each_field, made_of}
 use Rattle.csv_tables.proofs.FieldLemmas.{drawn_in_one_line}
 use Rattle.csv_tables.proofs.RowLemmas.{chosen, with_rows-rows}
@@ -116,6 +117,48 @@ with_rows-columns : (n : ℕ) (rows : List RowValue) (t : TableValue) → n ≤ 
 with_rows-columns n [] t own = own
 with_rows-columns n (row ∷ rows) t own = with_rows-columns n rows (with_row row t) (omega (arith, own, no_fewer_columns (length row.cells) t.columns))
 
+-- a record whose blank fields are empty
+abbrev shown_fields : List Text → List Text
+shown_fields fields = map unless_blank fields
+
+shown_at : (fields : List Text) (i : ℕ) → unless_blank (field_or_blank fields i) ≡ field_or_blank (shown_fields fields) i
+unfolding field_at
+shown_at [] i = refl
+shown_at (field ∷ fields) zero = refl
+shown_at (field ∷ fields) (suc i) = shown_at fields i
+
+take_range : (a n k : ℕ) → k ≤ n → take k (range_with_len a n) ≡ range_with_len a k
+take_range a n zero below = refl
+take_range a zero (suc k) below = absurd (omega (arith, below))
+take_range a (suc n) (suc k) below = ap (λ ks. a ∷ ks) (take_range (a + 1) n k (omega (arith, below)))
+
+-- in columns from a position on a record reaches those up to its last field
+none_from : (fields : List Text) (n : ℕ) (drawn : List DrawnColumn) → map (λ (column : DrawnColumn). column.position) drawn ≡ range_with_len n (length drawn) → length fields ≤ n → list_any (has_field fields) drawn ≡ false
+none_from fields n [] are past = refl
+none_from fields n (column ∷ drawn) are past =
+    let here : column.position ≡ n = cc are in
+    let own : has_field fields column ≡ false = grind (arith, here, past) in
+    ap₂ (λ a b. a || b) own (none_from fields (n + 1) drawn (cc are) (omega (arith, past)))
+
+reached_from : (fields : List Text) (n : ℕ) (drawn : List DrawnColumn) → map (λ (column : DrawnColumn). column.position) drawn ≡ range_with_len n (length drawn) → reached fields drawn ≡ take (length fields - n) drawn
+reached_from fields n [] are = by_count (length fields - n)
+  where
+    by_count : (k : ℕ) → ◌≡◌ {A = List DrawnColumn} [] (take k [])
+    by_count zero = refl
+    by_count (suc k) = refl
+reached_from fields n (column ∷ drawn) are = by_order (nat_lt n (length fields)) refl (reached_from fields (n + 1) drawn (cc are))
+  where
+    by_order : (b : Bool) → nat_lt n (length fields) ≡ b → reached fields drawn ≡ take (length fields - (n + 1)) drawn → reached fields (column ∷ drawn) ≡ take (length fields - n) (column ∷ drawn)
+    by_order true within rest =
+        let here : column.position ≡ n = cc are in
+        let own : has_field fields column ≡ true = ap (λ (p : ℕ). nat_lt p (length fields)) here ∙ within in
+        let one : length fields - n ≡ suc (length fields - (n + 1)) = grind (arith, within) in
+        rw own (rw one (ap (λ cs. column ∷ cs) rest))
+    by_order false past rest =
+        let none : list_any (has_field fields) (column ∷ drawn) ≡ false = none_from fields n (column ∷ drawn) are (grind (arith, past)) in
+        let zero_left : length fields - n ≡ 0 = grind (arith, past) in
+        rw none (rw zero_left refl)
+
 module _ (look : Look) (none : look.is_markdown ≡ false) (columns : List DrawnColumn) where
   -- the cell of a column
   abbrev cell_of : Bool → List Text → DrawnColumn → CellValue
@@ -138,22 +181,57 @@ module _ (look : Look) (none : look.is_markdown ≡ false) (columns : List Drawn
       text_at is_bold fields drawn (n + 1) i (cc are) (omega (arith, below)) ∙ ap (λ (at : ℕ). (plain_cell (field_text look (field_or_blank fields at))).text_lines) moved
 
   module _ (positions : map (λ (column : DrawnColumn). column.position) columns ≡ range_with_len 0 (length columns)) where
-    texts_are : (is_bold : Bool) (fields : List Text) → IsPlainRecord fields → HasRoom (length columns) fields → (i : ℕ) → i < length fields → text_lines_at (cells_for look is_bold columns fields) i ≡ field_or_blank fields i ∷ []
-    texts_are is_bold fields plain room i below =
+    texts_are : (is_bold : Bool) (fields : List Text) (drawn : List DrawnColumn) → map (λ (column : DrawnColumn). column.position) drawn ≡ range_with_len 0 (length drawn)
+        → IsPlainRecord fields → HasRoom (length drawn) fields → (i : ℕ) → i < length fields → text_lines_at (cells_for look is_bold drawn fields) i ≡ field_or_blank (shown_fields fields) i ∷ []
+    texts_are is_bold fields drawn are plain room i below =
         let moved : 0 + i ≡ i = omega arith in
-        text_at is_bold fields columns 0 i positions (omega (arith, room, below)) ∙ ap (λ (at : ℕ). (plain_cell (field_text look (field_or_blank fields at))).text_lines) moved
-        ∙ each_field (λ field. (plain_cell (field_text look field)).text_lines ≡ field ∷ []) (drawn_in_one_line look none [] refl) fields i
-        (All-weaker (λ field. is_printable_ascii field ≡ true) (λ field. (plain_cell (field_text look field)).text_lines ≡ field ∷ []) (drawn_in_one_line look none) fields plain.printable)
+        text_at is_bold fields drawn 0 i are (omega (arith, room, below)) ∙ ap (λ (at : ℕ). (plain_cell (field_text look (field_or_blank fields at))).text_lines) moved
+        ∙ each_field (λ field. (plain_cell (field_text look field)).text_lines ≡ unless_blank field ∷ []) (drawn_in_one_line look none [] refl) fields i
+        (All-weaker (λ field. is_printable_ascii field ≡ true) (λ field. (plain_cell (field_text look field)).text_lines ≡ unless_blank field ∷ []) (drawn_in_one_line look none) fields plain.printable)
+        ∙ ap (λ (text : Text). text ∷ []) (shown_at fields i)
+
+    -- the columns that a record with room reaches
+    first_columns : (fields : List Text) → HasRoom (length columns) fields → (map (λ (column : DrawnColumn). column.position) (reached fields columns) ≡ range_with_len 0 (length (reached fields columns))) × (length (reached fields columns) ≡ length fields)
+    first_columns fields room =
+        let all : length fields - 0 ≡ length fields = omega arith in
+        let first : reached fields columns ≡ take (length fields) columns = reached_from fields 0 columns positions ∙ ap (λ (n : ℕ). take n columns) all in
+        let long : length (reached fields columns) ≡ length fields = ap length first ∙ length-take-le (length fields) columns room in (
+          ap (map (λ (column : DrawnColumn). column.position)) first ∙ sym (take-map (λ (column : DrawnColumn). column.position) (length fields) columns) ∙ ap (take (length fields)) positions
+              ∙ take_range 0 (length columns) (length fields) room ∙ ap (range_with_len 0) (sym long),
+          long,
+        )
+
+    record_texts : (fields : List Text) → IsPlainRecord fields → HasRoom (length columns) fields → (i : ℕ) → i < length fields → text_lines_at (row_for look columns fields) i ≡ field_or_blank (shown_fields fields) i ∷ []
+    record_texts fields plain room =
+        let first = first_columns fields room in
+        let long = first.1 in
+        texts_are false fields (reached fields columns) first.0 plain (omega (arith, long))
+
+    shown-length : (fields : List Text) → length (shown_fields fields) ≡ length fields
+    shown-length fields = length-map fields unless_blank
 
     module _ (count : ℕ) (enough : length columns ≤ count) where
-      header_is : (names : List Text) → IsPlainRecord names → HasRoom (length columns) names → IsRowOf count names (header_for look columns names)
-      header_is names plain room = record { some_field = plain.some_field; room = omega (arith, room, enough); texts = texts_are look.has_bold_header names plain room }
+      header_is : (names : List Text) → IsPlainRecord names → HasRoom (length columns) names → IsRowOf count (shown_fields names) (header_for look columns names)
+      header_is names plain room =
+          let long = shown-length names in
+          let some = plain.some_field in
+          record {
+            some_field = omega (arith, some, long);
+            room = omega (arith, room, enough, long);
+            texts = λ i below. texts_are look.has_bold_header names columns positions plain room i (omega (arith, below, long));
+          }
 
-      rows_are : (rows : List (List Text)) → All IsPlainRecord rows → AllByRecursion (HasRoom (length columns)) rows → AllZip (IsRowOf count) rows (map (row_for look columns) rows)
+      rows_are : (rows : List (List Text)) → All IsPlainRecord rows → AllByRecursion (HasRoom (length columns)) rows → AllZip (IsRowOf count) (map shown_fields rows) (map (row_for look columns) rows)
       rows_are [] plain room = tt
       rows_are (fields ∷ rows) plain room =
-          let own = All-head IsPlainRecord fields rows plain in (
-            record { some_field = own.some_field; room = omega (arith, room.0, enough); texts = texts_are false fields own room.0 },
+          let own = All-head IsPlainRecord fields rows plain in
+          let long = shown-length fields in
+          let some = own.some_field in (
+            record {
+              some_field = omega (arith, some, long);
+              room = omega (arith, room.0, enough, long);
+              texts = λ i below. record_texts fields own room.0 i (omega (arith, below, long));
+            },
             rows_are rows (All-tail IsPlainRecord fields rows plain) room.1,
           )
 
@@ -161,11 +239,22 @@ module _ (look : Look) (none : look.is_markdown ≡ false) (columns : List Drawn
     abbrev made : Option (List Text) → List (List Text) → TableValue
     made names rows = with_rows (map (row_for look columns) rows) (headed_table look columns names)
 
-    all_rows_are : (names : Option (List Text)) (rows : List (List Text)) → All IsPlainRecord (option_to_list names ++ rows) → AllByRecursion (HasRoom (length columns)) (option_to_list names ++ rows)
-        → AllZip (IsRowOf (length (made names rows).columns)) (option_to_list names ++ rows) (header_and_rows (made names rows))
-    all_rows_are None [] plain room = tt
-    all_rows_are None (first ∷ rest) plain room =
-        subst (AllZip (IsRowOf count) (first ∷ rest)) (sym (ap₂ (λ (header : Option RowValue) (own : List RowValue). option_to_list header ++ own) (with_rows-header rows (empty_table look)) (with_rows-rows rows (empty_table look))))
+    -- its rows make columns for all of their fields
+    columns_grow : (rows : List (List Text)) (t : TableValue) → AllByRecursion (HasRoom (length columns)) rows
+        → fold (λ (m : ℕ) (fields : List Text). max m (length fields)) (length t.columns) rows ≤ length (with_rows (map (row_for look columns) rows) t).columns
+    columns_grow [] t room = omega arith
+    columns_grow (fields ∷ rows) t room =
+        let cells : length (row_for look columns fields).cells ≡ length fields = length-map (reached fields columns) (cell_of false fields) ∙ (first_columns fields room.0).1 in
+        let grown : length (with_row (row_for look columns fields) t).columns ≡ max (length t.columns) (length fields) =
+        let kept = no_fewer_columns (length (row_for look columns fields).cells) t.columns in omega (arith, kept, cells) in
+        subst (λ (n : ℕ). fold (λ (m : ℕ) (fields : List Text). max m (length fields)) n rows ≤ length (with_rows (map (row_for look columns) rows) (with_row (row_for look columns fields) t)).columns) grown
+        (columns_grow rows (with_row (row_for look columns fields) t) room.1)
+
+    all_rows_are : (names : Option (List Text)) (rows : List (List Text)) → length columns ≡ count_of (unwrap_or names []) rows → All IsPlainRecord (option_to_list names ++ rows) → AllByRecursion (HasRoom (length columns)) (option_to_list names ++ rows)
+        → AllZip (IsRowOf (length (made names rows).columns)) (map shown_fields (option_to_list names ++ rows)) (header_and_rows (made names rows))
+    all_rows_are None [] all plain room = tt
+    all_rows_are None (first ∷ rest) all plain room =
+        subst (AllZip (IsRowOf count) (map shown_fields (first ∷ rest))) (sym (ap₂ (λ (header : Option RowValue) (own : List RowValue). option_to_list header ++ own) (with_rows-header rows (empty_table look)) (with_rows-rows rows (empty_table look))))
         (rows_are count enough (first ∷ rest) plain room)
       where
         rows : List RowValue
@@ -175,11 +264,9 @@ module _ (look : Look) (none : look.is_markdown ≡ false) (columns : List Drawn
         count = length (made None (first ∷ rest)).columns
 
         enough : length columns ≤ count
-        enough =
-            let cells : length (row_for look columns first).cells ≡ length columns = length-map columns _ in
-            with_rows-columns (length columns) (map (row_for look columns) rest) (with_row (row_for look columns first) (empty_table look)) (omega (arith, cells, no_fewer_columns (length (row_for look columns first).cells) []))
-    all_rows_are (Some names) rest plain room =
-        subst (AllZip (IsRowOf count) (names ∷ rest)) (sym (ap₂ (λ (header : Option RowValue) (own : List RowValue). option_to_list header ++ own) (with_rows-header rows headed) (with_rows-rows rows headed)))
+        enough = let grown = columns_grow (first ∷ rest) (empty_table look) room in omega (arith, all, grown)
+    all_rows_are (Some names) rest all plain room =
+        subst (AllZip (IsRowOf count) (map shown_fields (names ∷ rest))) (sym (ap₂ (λ (header : Option RowValue) (own : List RowValue). option_to_list header ++ own) (with_rows-header rows headed) (with_rows-rows rows headed)))
         (header_is count enough names (All-head IsPlainRecord names rest plain) room.0, rows_are count enough rest (All-tail IsPlainRecord names rest plain) room.1)
       where
         headed : TableValue
@@ -241,19 +328,20 @@ module _ (options : Options) (records : List (List Text)) (nothing : AsksForNoth
     where
       short_field : (field : Text) → is_printable_ascii field ≡ true → length field ≤ 65535 → EachLine IsShort look field
       short_field field printable few =
-          subst (All IsShort) (sym (drawn_in_one_line look nothing.no_markdown field printable)) (All-cons IsShort field [] (rw (measure-printable field printable) few) (All-nil IsShort))
+          subst (All IsShort) (sym (drawn_in_one_line look nothing.no_markdown field printable))
+          (All-cons IsShort (unless_blank field) [] (unless_blank-keeps IsShort field empty_is_short (rw (measure-printable field printable) few)) (All-nil IsShort))
 
   known : (content : ContentValue) → content_of options records ≡ Ok content → Built look IsShortRow content (rows_table look content)
   known content is = rows_of_texts IsShort empty_is_short look IsShortRow (short_rows look nothing.uncut) content (each_content (All (EachLine IsShort look)) options records content is short_fields)
 
   -- a table of their rows has a row for each
   rows_of_records : (columns : List DrawnColumn) → map (λ (column : DrawnColumn). column.position) columns ≡ range_with_len 0 count
-      → let table : TableValue = rows_table look (content_with options records columns) in AllZip (IsRowOf (length table.columns)) records (header_and_rows table)
+      → let table : TableValue = rows_table look (content_with options records columns) in AllZip (IsRowOf (length table.columns)) (map shown_fields records) (header_and_rows table)
   rows_of_records columns are =
       let long : length columns ≡ count = sym (length-map columns (λ (column : DrawnColumn). column.position)) ∙ ap length are ∙ length-range_with_len 0 count in
       let table : TableValue = rows_table look (content_with options records columns) in
-      subst (λ (each : List (List Text)). AllZip (IsRowOf (length table.columns)) each (header_and_rows table)) all_drawn
-      (all_rows_are look nothing.no_markdown columns (are ∙ ap (range_with_len 0) (sym long)) names rows (subst (All IsPlainRecord) (sym all_drawn) plain)
+      subst (λ (each : List (List Text)). AllZip (IsRowOf (length table.columns)) (map shown_fields each) (header_and_rows table)) all_drawn
+      (all_rows_are look nothing.no_markdown columns (are ∙ ap (range_with_len 0) (sym long)) names rows long (subst (All IsPlainRecord) (sym all_drawn) plain)
       (subst (λ (n : ℕ). AllByRecursion (HasRoom n) (option_to_list names ++ rows)) (sym long) (all_have_room names rows)))
 
   is_whole : (content : ContentValue) (table : TableValue) → Built look IsShortRow content table → IsShownWhole table
@@ -267,13 +355,13 @@ module _ (options : Options) (records : List (List Text)) (nothing : AsksForNoth
       }
 
   -- so each record has a line in every drawing of their table
-  pub records_stand : (table : TableValue) (lines : List Text) → table_for options records ≡ Ok table → IsTableDrawing table lines → EachHasALine records lines
+  pub records_stand : (table : TableValue) (lines : List Text) → table_for options records ≡ Ok table → IsTableDrawing table lines → EachHasALine (map shown_fields records) lines
   records_stand table lines is drawing =
       let made = made_of (rows_table look) (content_of options records) table is in
       let found = made_of (content_with options records) (columns_for options (unwrap_or names []) rows) made.0 made.1 in
       let positions = positions_are found.0 (chosen (unwrap_or names []) (map (seen look.has_sequences) rows) _ _ _ found.0 found.1) in
       let own = subst (Built look IsShortRow made.0) made.2 (known made.0 made.1) in
-      let are = subst (λ (t : TableValue). AllZip (IsRowOf (length t.columns)) records (header_and_rows t)) (ap (rows_table look) found.2 ∙ made.2) (rows_of_records found.0 positions) in
+      let are = subst (λ (t : TableValue). AllZip (IsRowOf (length t.columns)) (map shown_fields records) (header_and_rows t)) (ap (rows_table look) found.2 ∙ made.2) (rows_of_records found.0 positions) in
       let disabled : table.arrangement ≡ Disabled = ap (λ (t : TableValue). t.arrangement) own.is ∙ ap (λ (width : Option ℕ). arrangement_for width look.fills_width) nothing.no_width in
       let shows = whole_texts_stand table lines drawing (ap (λ (t : TableValue). t.custom_styling) own.is ∙ nothing.no_sequences) disabled (is_whole made.0 table own) in
-      lines_stand table own.columns records (header_and_rows table) shows.blocks lines are shows.show shows.stand
+      lines_stand table own.columns (map shown_fields records) (header_and_rows table) shows.blocks lines are shows.show shows.stand

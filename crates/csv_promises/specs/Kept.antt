@@ -2,6 +2,7 @@
 use Rattle.std.specs.Prelude.{◌≡◌, ◌<◌, ◌≤◌, true, false, List, [], ◌∷◌, None, All, length, map}
 use Rattle.std.specs.List.{AllZip}
 use Rattle.comfy_parts.specs.Text.{Text, is_printable_ascii}
+use Rattle.csv_tables.specs.Cells.{unless_blank}
 use Rattle.csv_tables.specs.declared.options.Options.{Options}
 use Rattle.promises.specs.Kept.{StandIn}
 
@@ -29,7 +30,8 @@ EachHasALine records lines =
     (drawn : List Text) × StandIn (map (λ line. line ∷ []) drawn) lines
     × AllZip StandIn records drawn
 
--- so it is of plain records, where nothing else is asked for
+-- so it is of plain records, where nothing else is asked for; fields of spaces alone are empty
 abbrev pub ShowRecords : Options → List (List Text) → List Text → Type 0
 ShowRecords options records lines =
-    AsksForNothing options → All IsPlainRecord records → EachHasALine records lines
+    AsksForNothing options → All IsPlainRecord records
+    → EachHasALine (map (map unless_blank) records) lines

@@ -10,7 +10,8 @@ use std::alloc::Global;
 
 /// The lines of a table of these records. Where nothing is asked for but a style, a header in bold
 /// or not, raw fields and sides for columns, each record of printable ASCII has a line of its own,
-/// in which its fields stand unchanged. Records may differ in how many fields they have.
+/// in which its fields stand unchanged, but for those of spaces alone, which are empty. Records may
+/// differ in how many fields they have.
 pub fn lines_of_records(
     alloc: Global,
     records: Records,

@@ -1,4 +1,4 @@
-mod BlankLemmas
+pub mod BlankLemmas
 pub mod BuiltLemmas
 pub mod CleanCharacterLemmas
 pub mod ColumnLawLemmas
