@@ -1,5 +1,5 @@
 -- What is written for words is straight: where no character takes more than one terminal column, or where no width is kept to.
-use Rattle.std.proofs.Common.{◌≡◌, ◌==◌, ◌&&◌, ◌||◌, inl, ℕ, Bool, true, false, not, List, [], ◌∷◌, Option, Some, None, is_some, arith, chars, nat_le, refl, sym, ap₂, ◌∙◌, subst}
+use Rattle.std.proofs.Common.{ap, ◌≡◌, ◌==◌, ◌&&◌, ◌||◌, inl, ℕ, Bool, true, false, not, List, [], ◌∷◌, Option, Some, None, is_some, arith, chars, nat_le, refl, sym, ap₂, ◌∙◌, subst}
 use Rattle.std.specs.Char.{is_control}
 use Rattle.std.specs.List.{All, list_any}
 use Rattle.std.specs.Prelude.{encode_utf8, if◌then◌else◌}
@@ -17,7 +17,8 @@ use Rattle.comfy_parts.specs.Text.{Text, measure}
 use Rattle.comfy_table.specs.Laws.{HasNoBreak}
 use Rattle.csv.specs.Records.{AllText}
 use Rattle.csv_records.proofs.CleaningLemmas.{drawn_so}
-use Rattle.csv_tables.specs.Cells.{field_text, kept_by, kept_for_markdown, marked}
+use Rattle.csv_tables.proofs.BlankLemmas.{unless_blank-keeps}
+use Rattle.csv_tables.specs.Cells.{field_text, kept_by, kept_for_markdown, marked, unless_blank}
 use Rattle.csv_records.specs.Cleaning.{cleaned, is_replaced, turns_direction}
 use Rattle.csv_tables.specs.Controls.{IsStyleWithoutControls}
 use Rattle.csv_command.specs.declared.arguments.Invocation.{Invocation}
@@ -29,7 +30,7 @@ use Rattle.csv_tables.proofs.CleanCharacterLemmas.{lines_pass}
 use Rattle.csv_records.proofs.OneRecordLemmas.{read_is_one}
 use Rattle.csv_tables.proofs.OutputControlLemmas.{text_fields, unbroken_without}
 use Rattle.csv_tables.proofs.MarkdownWidthLemmas.{whole_is_straight}
-use Rattle.csv_tables.proofs.StraightLemmas.{IsShort, narrow_is_straight}
+use Rattle.csv_tables.proofs.StraightLemmas.{IsShort, narrow_is_straight, empty_is_short}
 use Rattle.csv_command.proofs.StyleColumnLemmas.{parsed_style_is_one_column, parsed_style_without_controls}
 use Rattle.csv_tables.proofs.TextTableLemmas.{EachLine}
 use Rattle.csv_tables.specs.Drawn.{RendersRecords, RendersAnyRecords}
@@ -59,11 +60,12 @@ module _ (look : Look) (tidy : look.is_raw ≡ false) (unkept : look.has_sequenc
   fields_fit : (records : List (List Text)) → All AllText records → EachField (HasCharactersWithin 1) records → EachText (CharactersFit 1) look records
   fields_fit records text each k default under i other below = field_fits _ (text_fields _ (text k default under) i other below) (each k default under i other below)
 
-  -- a plain field is drawn as it is, in one text line
+  -- a plain field is drawn as it is, in one text line, or as an empty one
   plain_field_is_short : (field : Text) → IsUtf8 field → IsPlainField field → EachLine IsShort look field
   plain_field_is_short field utf8 is =
       subst (λ (text : Text). All IsShort (plain_cell text).text_lines) (sym same)
-      (subst (All IsShort) (sym (slice_split_none (λ b. b == 0x0A) field (All-none (λ b. b == 0x0A) field unbroken))) (All-cons IsShort field [] is.short (All-nil IsShort)))
+      (unless_blank-keeps (λ (text : Text). All IsShort (plain_cell text).text_lines) field (All-cons IsShort [] [] empty_is_short (All-nil IsShort))
+      (subst (All IsShort) (sym (slice_split_none (λ b. b == 0x0A) field (All-none (λ b. b == 0x0A) field unbroken))) (All-cons IsShort field [] is.short (All-nil IsShort))))
     where
       no_controls : (cs : List ℕ) → list_any (λ c. is_control c || turns_direction c) cs ≡ false → NonePass is_control cs
       no_controls [] none = tt
@@ -88,8 +90,10 @@ module _ (look : Look) (tidy : look.is_raw ≡ false) (unkept : look.has_sequenc
           by_directions true rest = rest
           by_directions false rest = rest
 
-      same : field_text look field ≡ field
-      same = ap₂ (λ (m r : Bool). if m then marked (cleaned (kept_for_markdown look) field) else if r then field else cleaned kept field) none tidy ∙ sym (drawn_so kept field utf8 (none_replaced (chars field) is.plain))
+      same : field_text look field ≡ unless_blank field
+      same =
+          ap₂ (λ (m r : Bool). if m then marked (cleaned (kept_for_markdown look) field) else if r then unless_blank field else unless_blank (cleaned kept field)) none tidy
+          ∙ ap unless_blank (sym (drawn_so kept field utf8 (none_replaced (chars field) is.plain)))
 
   plain_fields_are_short : (records : List (List Text)) → All AllText records → EachField IsPlainField records → EachText IsShort look records
   plain_fields_are_short records text each k default under i other below = plain_field_is_short _ (text_fields _ (text k default under) i other below) (each k default under i other below)
