@@ -13,7 +13,7 @@ use Rattle.csv.specs.Records.{AllText, field_at}
 use Rattle.csv_records.specs.Cleaning.{after_piece, pieces, start}
 use Rattle.csv_records.specs.Input.{line_breaks as line_breaks_of, line_of}
 use Rattle.csv_records.specs.declared.cleaning.CleanOptions.{CleanOptions}
-use Rattle.csv_tables.specs.Columns.{alignment_for, columns_with, missing, position_named, positions_of_word, seen, two_sided}
+use Rattle.csv_tables.specs.Columns.{alignment_for, columns_with, missing, position_named, positions_of_word, seen, two_sided, is_number_column}
 use Rattle.csv_tables.specs.Drawn.{condensed_style, is_expanded_in, least_width, limited, note_for, record_line}
 use Rattle.csv_tables.specs.Markdown.{rule_line}
 use Rattle.csv_tables.specs.declared.options.Expansion.TheVariants.{Always, Auto, Never}
@@ -33,6 +33,8 @@ use Rattle.csv_command.specs.declared.arguments.OutputContext.{OutputContext}
 use Rattle.csv_tables.specs.declared.options.RowSeparators.TheVariants.{Styled, Needed, Never}
 use Rattle.comfy_parts.specs.Presets.{nothing, utf8_full, utf8_full_condensed}
 use Rattle.comfy_parts.specs.StyleModifiers.{with_rounded_corners}
+use Rattle.csv_tables.specs.Cells.{held, reached, unless_blank}
+use Rattle.csv_tables.specs.declared.options.DrawnColumn.{DrawnColumn}
 
 abbrev texts : List String → List Text
 texts words = map (λ (word : String). codes word) words
@@ -213,7 +215,7 @@ abbrev rows : List (List Text)
 rows = texts ("x" ∷ "1" ∷ "2" ∷ "-" ∷ "0042" ∷ []) ∷ texts ("3" ∷ "n/a" ∷ []) ∷ texts ("3" ∷ "" ∷ "2" ∷ "" ∷ "42" ∷ []) ∷ []
 
 -- a column with a word, one with neutral fields, one with a missing field, one of neutral fields alone, one with a name, and one that has no field
-alignments : map (alignment_for [] [] rows) (0 ∷ 1 ∷ 2 ∷ 3 ∷ 4 ∷ 5 ∷ []) ≡ None ∷ Some Right ∷ Some Right ∷ None ∷ None ∷ None ∷ []
+alignments : map (λ p. alignment_for [] [] (is_number_column rows p) p) (0 ∷ 1 ∷ 2 ∷ 3 ∷ 4 ∷ 5 ∷ []) ≡ None ∷ Some Right ∷ Some Right ∷ None ∷ None ∷ None ∷ []
 unfolding field_at chars lib.Utf8.encode ucd_category
 alignments = refl
 
@@ -221,12 +223,12 @@ alignments = refl
 abbrev in_red : Text
 in_red = 0x1B ∷ codes "[31m12" ++ 0x1B ∷ codes "[0m"
 
-coloured_alignments : map (λ keeps. alignment_for [] [] (map (seen keeps) ((in_red ∷ []) ∷ [])) 0) (true ∷ false ∷ []) ≡ Some Right ∷ None ∷ []
+coloured_alignments : map (λ keeps. alignment_for [] [] (is_number_column (map (seen keeps) ((in_red ∷ []) ∷ [])) 0) 0) (true ∷ false ∷ []) ≡ Some Right ∷ None ∷ []
 unfolding field_at chars lib.Utf8.encode ucd_category
 coloured_alignments = refl
 
 -- the right wins over the left, and both over numbers
-chosen_alignments : map (alignment_for (0 ∷ []) (0 ∷ 1 ∷ []) rows) (0 ∷ 1 ∷ []) ≡ Some Right ∷ Some Left ∷ []
+chosen_alignments : map (λ p. alignment_for (0 ∷ []) (0 ∷ 1 ∷ []) (is_number_column rows p) p) (0 ∷ 1 ∷ []) ≡ Some Right ∷ Some Left ∷ []
 unfolding field_at chars lib.Utf8.encode ucd_category
 chosen_alignments = refl
 
@@ -368,3 +370,20 @@ byte_is_no_text all =
     let field : IsUtf8 (0xFF ∷ []) = (all 0 ((0xFF ∷ []) ∷ []) (omega arith)).0 in
     let is : false ≡ true = is_utf8-from_IsUtf8 (0xFF ∷ []) field in
     cc is
+
+-- ---- cells
+
+abbrev placed_columns_at : List ℕ → List DrawnColumn
+placed_columns_at positions = map (λ (p : ℕ). record { position = p; alignment = None }) positions
+
+-- of three columns a record of one field reaches the first, or those up to where that one stands
+reaches : map (λ positions. length (reached (texts ("1" ∷ [])) (placed_columns_at positions))) ((0 ∷ 1 ∷ 2 ∷ []) ∷ (2 ∷ 0 ∷ 1 ∷ []) ∷ (2 ∷ 1 ∷ []) ∷ []) ≡ 1 ∷ 2 ∷ 0 ∷ []
+reaches = refl
+
+-- and it holds one of them
+holds : map (λ positions. length (held (texts ("1" ∷ [])) (placed_columns_at positions))) ((0 ∷ 1 ∷ 2 ∷ []) ∷ (2 ∷ 0 ∷ 1 ∷ []) ∷ (2 ∷ 1 ∷ []) ∷ []) ≡ 1 ∷ 1 ∷ 0 ∷ []
+holds = refl
+
+-- spaces and line feeds alone are drawn as an empty cell, and no other text is
+blank_texts : map unless_blank (codes "   " ∷ codes " \n " ∷ codes "\n" ∷ codes " a " ∷ codes "\t" ∷ []) ≡ [] ∷ [] ∷ [] ∷ codes " a " ∷ codes "\t" ∷ []
+blank_texts = refl
