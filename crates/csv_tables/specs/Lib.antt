@@ -4,6 +4,7 @@ pub mod Columns
 pub mod Controls
 pub mod Drawn
 pub mod Errors
+pub mod Hints
 pub mod KeptContents
 pub mod Laws
 pub mod Markdown

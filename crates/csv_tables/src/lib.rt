@@ -7,6 +7,7 @@ mod columns;
 mod content;
 mod error;
 mod expanded;
+mod hints;
 pub mod laws;
 mod markdown;
 mod options;

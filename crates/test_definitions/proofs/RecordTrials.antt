@@ -13,7 +13,8 @@ use Rattle.csv.specs.Records.{AllText, field_at}
 use Rattle.csv_records.specs.Cleaning.{after_piece, pieces, start}
 use Rattle.csv_records.specs.Input.{line_breaks as line_breaks_of, line_of}
 use Rattle.csv_records.specs.declared.cleaning.CleanOptions.{CleanOptions}
-use Rattle.csv_tables.specs.Columns.{alignment_for, columns_with, missing, position_named, positions_of_word, seen, two_sided}
+use Rattle.csv_tables.specs.Columns.{alignment_for, columns_with, position_named, positions_of_word, seen}
+use Rattle.csv_tables.specs.Columns.ColumnFault.{missing, none_left, two_sided}
 use Rattle.csv_tables.specs.Drawn.{condensed_style, is_expanded_in, least_width, limited, note_for, record_line}
 use Rattle.csv_tables.specs.Markdown.{rule_line}
 use Rattle.csv_tables.specs.declared.options.Expansion.TheVariants.{Always, Auto, Never}
@@ -191,13 +192,13 @@ by_name = refl
 no_such_name : position_named (codes "c") (texts ("a" ∷ "b" ∷ [])) ≡ None
 no_such_name = refl
 
--- a message names the word as it is
+-- a message names the word as it is, and says how many columns there are
 missing_columns :
     map (positions_of_word [] 3) (texts ("3-1" ∷ "0" ∷ "0-1" ∷ "09" ∷ "2-9" ∷ "a" ∷ "" ∷ []))
-    ≡ map (λ word. Err (missing word)) (texts ("3-1" ∷ "0" ∷ "0-1" ∷ "09" ∷ "2-9" ∷ "a" ∷ "" ∷ []))
+    ≡ map (λ word. Err (missing word (codes "there are 3 columns"))) (texts ("3-1" ∷ "0" ∷ "0-1" ∷ "09" ∷ "2-9" ∷ "a" ∷ "" ∷ []))
 missing_columns = refl
 
-columns_before_right : columns_with [] [] (Err (missing (codes "a"))) (Err (missing (codes "b"))) (Err (missing (codes "c"))) ≡ Err (missing (codes "a"))
+columns_before_right : columns_with [] [] (Err (missing (codes "a") [])) (Err none_left) (Err (missing (codes "c") [])) ≡ Err (missing (codes "a") [])
 columns_before_right = refl
 
 -- the first column at the right that is at the left too; it has a name, or else a number
