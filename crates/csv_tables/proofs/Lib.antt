@@ -7,7 +7,6 @@ pub mod FieldLemmas
 pub mod KeptWidthLemmas
 pub mod LineLemmas
 pub mod MarkdownDrawingLemmas
-pub mod MarkdownLemmas
 pub mod MarkdownLineLemmas
 pub mod MarkdownPartLemmas
 pub mod MarkdownRowLemmas

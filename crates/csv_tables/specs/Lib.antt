@@ -10,6 +10,7 @@ pub mod Laws
 pub mod Markdown
 pub mod MarkdownLines
 pub mod OneOutput
+pub mod References
 pub mod Run
 pub mod Separators
 pub mod Unbroken

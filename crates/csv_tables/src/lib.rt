@@ -12,6 +12,7 @@ pub mod laws;
 mod markdown;
 mod options;
 mod output;
+mod references;
 mod separators;
 mod table;
 mod transfer;

@@ -22,6 +22,7 @@ use Rattle.comfy_parts.specs.CellValue.{plain_cell, plain_row}
 use Rattle.comfy_parts.specs.Presets.{ascii_full}
 use Rattle.comfy_table.specs.TableValue.{TableValue, new_table, with_rows}
 use Rattle.csv_tables.specs.Markdown.{escaped, unescaped}
+use Rattle.csv_tables.specs.References.{begins_reference}
 use Rattle.csv_records.specs.Number.{is_neutral, is_number}
 use Rattle.clap.proofs.OnLiterals.{clap_on_literals}
 use Rattle.clap.specs.Words.{first_of, matches_of}
@@ -157,9 +158,26 @@ tab_after_a_sequence = refl
 escapes : escaped (codes "a|b<c" ++ 0x0A ∷ 0x5C ∷ []) ≡ codes "a" ++ 0x5C ∷ codes "|b" ++ 0x5C ∷ codes "<c<br>" ++ 0x5C ∷ 0x5C ∷ []
 escapes = refl
 
--- an underscore at the front of a text is in no word
-underscore : escaped (codes "_") ≡ codes "\\_"
-underscore = refl
+-- an underscore behind no letter, before another one; behind a letter; and the last one
+underscores : map escaped (texts ("_a_" ∷ "a_b_" ∷ "_" ∷ [])) ≡ texts ("\\_a_" ∷ "a_b_" ∷ "_" ∷ [])
+underscores = refl
+
+-- an address has no backslash, or has one in front where one would stand in it
+addresses :
+    map escaped (texts ("http://a.b/?c=1&d=2" ∷ "http://a.b/?c&d;" ∷ "www.a.b/~c" ∷ "www.a.b/~c~ w." ∷ []))
+    ≡ texts ("http://a.b/?c=1&d=2" ∷ "http\\://a.b/?c\\&d;" ∷ "www.a.b/~c" ∷ "www\\.a.b/\\~c~ w." ∷ [])
+addresses = refl
+
+-- names and numbers are references where `;` follows
+references :
+    map begins_reference (texts ("amp;" ∷ "b2;" ∷ "#42;" ∷ "#x2a;" ∷ "#XF;" ∷ []))
+    ≡ true ∷ true ∷ true ∷ true ∷ true ∷ []
+references = refl
+
+no_references :
+    map begins_reference (texts ("" ∷ ";" ∷ "amp" ∷ "b=2;" ∷ "2;" ∷ "#;" ∷ "#a;" ∷ "#x;" ∷ "#xg;" ∷ "a b;" ∷ []))
+    ≡ false ∷ false ∷ false ∷ false ∷ false ∷ false ∷ false ∷ false ∷ false ∷ false ∷ []
+no_references = refl
 
 read_back : unescaped (codes "<br>" ++ 0x5C ∷ codes "<br>") ≡ 0x0A ∷ codes "<br>"
 read_back = refl
