@@ -68,10 +68,12 @@ def address_of(given):
     return given.choice(SCHEMES) + given.choice(HOSTS) + "".join(given.choice(STEPS) for _ in range(given.randrange(4))) + given.choice(QUERIES) + given.choice(ENDS)
 
 
-def text_of(given):
+def text_of(given, addresses):
     kind = given.randrange(4)
     if kind == 0:
-        return address_of(given)
+        address = address_of(given)
+        addresses.add(address)
+        return address
     parts = [address_of(given) if kind == 1 and given.randrange(3) == 0 else given.choice(PARTS) for _ in range(given.randrange(6))]
     return "".join(parts)
 
@@ -88,11 +90,6 @@ def read_by(drawn, extensions):
     return tables
 
 
-def is_address(field):
-    """Whether a field is an address that a link is made of, whole: it has no space, and ends in no mark that the reader leaves out."""
-    return any(field.startswith(scheme) for scheme in SCHEMES) and not any(c in field for c in " \n<|") and field[-1] not in "?!.,:*_~'\");"
-
-
 def leads_to(link, field):
     """Whether a link leads to an address: it may be written in percents, and have a scheme that the address lacks."""
     return urllib.parse.unquote(link).removeprefix("http://") == urllib.parse.unquote(field).removeprefix("http://")
@@ -101,7 +98,8 @@ def leads_to(link, field):
 def differences(number, counts):
     given = random.Random(f"{SEED} {number}")
     width = 1 + given.randrange(4)
-    records = [[text_of(given) for _ in range(width)] for _ in range(1 + given.randrange(5))]
+    addresses = set()
+    records = [[text_of(given, addresses) for _ in range(width)] for _ in range(1 + given.randrange(5))]
     right = [column for column in range(width) if given.randrange(2)]
     file = io.StringIO()
     csv.writer(file, lineterminator="\n", quoting=csv.QUOTE_ALL).writerows(records)
@@ -121,7 +119,8 @@ def differences(number, counts):
             return [drawn.decode(), " ".join(extensions), str(read), str(wanted)]
     for record, links in zip(wanted, tables.links):
         for field, own in zip(record, links):
-            if not is_address(field) or field not in drawn.decode():
+            # the reader leaves such a last character out of a link
+            if field not in addresses or field not in drawn.decode() or field[-1] in "?!.,:*_~'\");":
                 continue
             counts["links"] += 1
             if len(own) != 1 or not leads_to(own[0], field):

@@ -12,10 +12,11 @@ use csv_records::split_first;
 use std::alloc::{AllocError, Global};
 
 /// A text as a cell of a Markdown table, to be read as its characters. A backslash stands before
-/// what could begin or end markup: `|`, `\`, `<`, `[`, `]`; `*`, `` ` ``, `~` and `_` where another
-/// one stands behind, `_` not right behind a letter or a digit; `&` of a character reference. A word
-/// that has one has further ones in `:/` and behind `w` before a point: a reader that makes links
-/// of web addresses would take the backslashes into the link. A line feed is written `<br>`.
+/// what could begin or end markup: `|`, `\`, `<`, `[`, `]`; `&` of a character reference; `*`,
+/// `` ` ``, `~` and `_` where another one stands behind, but for `_` right behind a letter or a
+/// digit. A word that has one has further ones in `:/` and between `w` and a point: a reader that
+/// makes links of web addresses would take the backslashes into the link. A line feed is written
+/// `<br>`.
 pub fn escaped(alloc: Global, text: &str) -> Result<String, AllocError>
     ensures { IfOk result (λ t. string_bytes t ≡ encode_utf8_all (escaped (chars text.now))) }
 {

@@ -78,8 +78,10 @@ fn records_become_a_table(rt: HostRuntime) {
     let records = read_records(rt.alloc(), text, &options.input).expect(&rt, "records");
     let refused = table_of(rt.alloc(), records, &options);
     let hint = "there are name and days";
-    assert!(rt; matches!(&refused, Err(ColumnsError::NoColumn(word, helps))
-        if word.as_str() == "weeks" && helps.as_str() == hint));
+    assert!(rt;
+        matches!(&refused, Err(ColumnsError::NoColumn(word, helps))
+        if word.as_str() == "weeks" && helps.as_str() == hint)
+    );
 }
 
 fn assert_decoded<const N: usize>(
