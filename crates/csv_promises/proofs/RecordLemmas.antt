@@ -1,5 +1,5 @@
 -- The fields of records stand in the lines of their table.
-use Rattle.std.proofs.Common.{◌≡◌, ◌<◌, ◌≤◌, ℕ, zero, suc, ◌+◌, Bool, true, false, List, [], ◌∷◌, ◌++◌, Option, Some, None, Err, Ok, cond, flat_map, fold, length, map, max, not, refl, sym, ap, ap₂, ◌∙◌, subst, arith, append-nil, slice_index_or, unwrap_or}
+use Rattle.std.proofs.Common.{◌≡◌, ◌<◌, ◌≤◌, ℕ, zero, suc, ◌+◌, ◌==◌, Bool, true, false, List, [], ◌∷◌, ◌++◌, Option, Some, None, Err, Ok, cond, flat_map, fold, length, map, max, not, refl, sym, ap, ap₂, ◌∙◌, subst, arith, append-nil, slice_index_or, unwrap_or}
 use Rattle.std.specs.List.{All, AllByRecursion, AllZip, enumerate_from, range_with_len, slice_get}
 use Rattle.std.specs.Prelude.{option_to_list}
 use Rattle.std.proofs.lemmas.List.{length-map}
