@@ -1,6 +1,7 @@
 -- Columns by words: ranges, and columns that are left out.
 use Rattle.std.proofs.Common.{◌≡◌, List, [], ◌∷◌, Ok, Err, codes, map, refl}
 use Prim.Native.String.{String}
+use Rattle.std.specs.Fmt.{digits}
 use Rattle.comfy_parts.specs.Text.{Text}
 use Rattle.csv.specs.Records.{field_at}
 use Rattle.csv_tables.specs.Columns.{less, positions_of_word}
@@ -32,6 +33,7 @@ in_order = refl
 no_ranges :
     map (positions_of_word header 4) (texts ("phone-a" ∷ "3-2" ∷ "4-5" ∷ "5-" ∷ "0-" ∷ "-2" ∷ "-" ∷ "mail-" ∷ "a-b" ∷ []))
     ≡ map (λ word. Err (missing word (codes "there are a, e, e-mail and phone"))) (texts ("phone-a" ∷ "3-2" ∷ "4-5" ∷ "5-" ∷ "0-" ∷ "-2" ∷ "-" ∷ "mail-" ∷ "a-b" ∷ []))
+unfolding field_at
 no_ranges = refl
 
 -- a number that no column has is a name
@@ -44,16 +46,17 @@ numbers_as_names = refl
 hints :
     map (hint_for (texts ("a" ∷ "Ab" ∷ "AB" ∷ "" ∷ [])) 5) (texts ("ab" ∷ "b" ∷ []))
     ≡ codes "did you mean Ab?" ∷ codes "there are a, Ab, AB, 4 and 5" ∷ []
-unfolding field_at
+unfolding field_at digits
 hints = refl
 
 columns_are_told :
     map (λ count. hint_for (codes "a" ∷ []) count (codes "b")) (1 ∷ 2 ∷ 8 ∷ 9 ∷ 1000 ∷ [])
     ≡ texts ("there is a" ∷ "there are a and 2" ∷ "there are a, 2, 3, 4, 5, 6, 7 and 8" ∷ "there are a, 2, 3, 4, 5, 6, 7, 8 and 1 more" ∷ "there are a, 2, 3, 4, 5, 6, 7, 8 and 992 more" ∷ [])
-unfolding field_at
+unfolding field_at digits
 columns_are_told = refl
 
 columns_are_counted : map (λ count. hint_for [] count (codes "b")) (0 ∷ 1 ∷ 2 ∷ []) ≡ texts ("there are 0 columns" ∷ "there is 1 column" ∷ "there are 2 columns" ∷ [])
+unfolding digits
 columns_are_counted = refl
 
 -- columns left out, wherever they are; the first fault

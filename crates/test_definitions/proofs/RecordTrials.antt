@@ -4,6 +4,8 @@ use Prim.Native.String.{String}
 use Rattle.comfy_parts.proofs.Computing.{wrapping}
 use Rattle.comfy_parts.specs.Text.{Text, is_printable_ascii}
 use Rattle.comfy_parts.specs.declared.style.cell.CellAlignment.TheVariants.{Left, Right}
+use Rattle.std.specs.Char.Unicode.Alphabetic.{alphabetic_ranges, is_alphabetic}
+use Rattle.std.specs.Char.Unicode.Rows.{in_ranges}
 use Rattle.std.specs.Fmt.{digits}
 use Rattle.std.specs.List.{All, list_all, list_any}
 use Rattle.std.specs.Str.{IsUtf8, chars, is_utf8}
@@ -160,6 +162,7 @@ escapes = refl
 
 -- an underscore behind no letter, before another one; behind a letter; and the last one
 underscores : map escaped (texts ("_a_" ∷ "a_b_" ∷ "_" ∷ [])) ≡ texts ("\\_a_" ∷ "a_b_" ∷ "_" ∷ [])
+unfolding is_alphabetic in_ranges alphabetic_ranges
 underscores = refl
 
 -- an address has no backslash, or has one in front where one would stand in it
@@ -214,6 +217,7 @@ no_such_name = refl
 missing_columns :
     map (positions_of_word [] 3) (texts ("3-1" ∷ "0" ∷ "0-1" ∷ "09" ∷ "2-9" ∷ "a" ∷ "" ∷ []))
     ≡ map (λ word. Err (missing word (codes "there are 3 columns"))) (texts ("3-1" ∷ "0" ∷ "0-1" ∷ "09" ∷ "2-9" ∷ "a" ∷ "" ∷ []))
+unfolding digits
 missing_columns = refl
 
 columns_before_right : columns_with [] [] (Err (missing (codes "a") [])) (Err none_left) (Err (missing (codes "c") [])) ≡ Err (missing (codes "a") [])
