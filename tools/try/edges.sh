@@ -122,7 +122,8 @@ refused 'a folder as a file' "$work: is a directory" "$work"
 chmod 000 "$work/closed"
 # the superuser reads it all the same
 [ -r "$work/closed" ] || refused 'a file that may not be read' "$work/closed: permission denied" "$work/closed"
-refused 'a column that is not there' 'standard input: no column 09' -c 09
+refused 'a column that is not there' 'standard input: no column 09; there are a and b' -c 09
+refused 'all columns left out' 'standard input: no column is left' --drop 1-
 refused 'a column at two sides' "standard input: column b can't stand at the right and at the left" -r b --left 2
 printf 'a,b\nx,\377\n' > "$work/input"
 refused 'a line that is not UTF-8' "standard input: line 2 isn't UTF-8; try -e cp1252"

@@ -3,9 +3,11 @@
 
     tools/try/markdown.py CSVTABLE [FILES] [SEED]
 
-It makes so many random CSV files (1,000 without a number) of texts that have what Markdown could take for markup, draws
-each, and has `cmark-gfm` (a Debian package) read the drawing. Each field's text has to come back, less outer spaces, and
-each column has to stand at its side. It prints the first differences, and ends with 1 where there is one.
+It makes so many random CSV files (1,000 without a number) of texts that have what Markdown could take for markup, and of
+web addresses, draws each, and has `cmark-gfm` (a Debian package) read the drawing, once with tables alone and once with all
+that GitHub adds. Each field's text has to come back, less outer spaces, and each column has to stand at its side. A field
+that is an address alone has to be a link to it, where no backslash stands in it. It prints the first differences and how
+many addresses were links, and ends with 1 where there is a difference, or no link.
 """
 import csv
 import html.parser
@@ -13,28 +15,40 @@ import io
 import random
 import subprocess
 import sys
+import urllib.parse
 
 PROGRAM, FILES, SEED = sys.argv[1], int((sys.argv[2:] or [1000])[0]), int((sys.argv[3:] or [61])[0])
 PARTS = (
     ["|", "\\", "\\|", "`", "``", "*", "**", "_", "__", "~", "~~", "[", "](x)", "![", "<", "<br>", "<b>", "&", "&amp;", "&#42;", "#", "-", "+", "1.", ">"]
     + ["a", "b c", "x_y", "_u_", "1", "42", "-7", "3.5", "é", "王小明", "\U0001f680", " ", "  ", "\n", "http://a.b", "a@b.c", ":", "---", ":-:", "'", '"', ",", "$", "^", "="]
+    + ["http://", "HTTPS://", "ftp://a.b/", "www.", "www.a.b/", "://", "w.", "mailto:", "xmpp:", "&a", ";", "x;", "&#x2a;", "(", ")", "<script>"]
 )
+# what an address is made of; the last ones aren't right in every address, but are met with
+SCHEMES = ["https://", "http://", "https://www.", "www."]
+HOSTS = ["example.org", "a.b-c.net", "en.wikipedia.org", "localhost.test:8080", "192.168.0.1", "show.com"]
+STEPS = ["/", "/a", "/~user", "/wiki/A_(b)", "/a_b/c", "/_next/x", "/%20b", "/a-b.html", "/@user", "/a+b", "/a,b", "/é", "/x!", "/$a", "/a:b", "/a;b", "/x=1'"]
+QUERIES = ["", "?a=1", "?a=1&b=2", "?q=x&copy=2", "?a=1&amp;b=2", "?a[]=1", "?x=~1&y=~2", "?u=http://a.b/", "?_=1", "?q=*", "?q=*x*", "?a&b;c=1", "?a=<b>", "?a=1|2", "?a=\\"]
+ENDS = ["", "", "", "#top", "#a_b", "#_x_", "/", "#:~:text=a"]
 
 
 class Tables(html.parser.HTMLParser):
-    """The cells of a table, row by row, and the side that each says it stands at."""
+    """The cells of a table, row by row, the side that each says it stands at, and the links of each."""
 
     def __init__(self):
         super().__init__()
-        self.rows, self.sides, self.cell = [], [], None
+        self.rows, self.sides, self.links, self.cell = [], [], [], None
 
     def handle_starttag(self, tag, attributes):
         if tag == "tr":
             self.rows.append([])
             self.sides.append([])
+            self.links.append([])
         elif tag in ("td", "th"):
             self.cell = ""
             self.sides[-1].append(dict(attributes).get("align"))
+            self.links[-1].append([])
+        elif self.cell is not None and tag == "a":
+            self.links[-1][-1].append(dict(attributes).get("href"))
         elif self.cell is not None:
             self.cell += "\n" if tag == "br" else f"<{tag}>"
 
@@ -42,7 +56,7 @@ class Tables(html.parser.HTMLParser):
         if tag in ("td", "th"):
             self.rows[-1].append(self.cell)
             self.cell = None
-        elif self.cell is not None:
+        elif self.cell is not None and tag != "a":
             self.cell += f"</{tag}>"
 
     def handle_data(self, data):
@@ -50,8 +64,18 @@ class Tables(html.parser.HTMLParser):
             self.cell += data
 
 
-def text_of(given):
-    return "".join(given.choice(PARTS) for _ in range(given.randrange(6)))
+def address_of(given):
+    return given.choice(SCHEMES) + given.choice(HOSTS) + "".join(given.choice(STEPS) for _ in range(given.randrange(4))) + given.choice(QUERIES) + given.choice(ENDS)
+
+
+def text_of(given, addresses):
+    kind = given.randrange(4)
+    if kind == 0:
+        address = address_of(given)
+        addresses.add(address)
+        return address
+    parts = [address_of(given) if kind == 1 and given.randrange(3) == 0 else given.choice(PARTS) for _ in range(given.randrange(6))]
+    return "".join(parts)
 
 
 def spaceless(text):
@@ -59,10 +83,23 @@ def spaceless(text):
     return "\n".join(line.strip(" ") for line in text.split("\n")).strip(" ")
 
 
-def differences(number):
+def read_by(drawn, extensions):
+    words = ["cmark-gfm", "--unsafe"] + [word for extension in extensions for word in ("-e", extension)]
+    tables = Tables()
+    tables.feed(subprocess.run(words, input=drawn, stdout=subprocess.PIPE, check=True).stdout.decode())
+    return tables
+
+
+def leads_to(link, field):
+    """Whether a link leads to an address: it may be written in percents, and have a scheme that the address lacks."""
+    return urllib.parse.unquote(link).removeprefix("http://") == urllib.parse.unquote(field).removeprefix("http://")
+
+
+def differences(number, counts):
     given = random.Random(f"{SEED} {number}")
     width = 1 + given.randrange(4)
-    records = [[text_of(given) for _ in range(width)] for _ in range(1 + given.randrange(5))]
+    addresses = set()
+    records = [[text_of(given, addresses) for _ in range(width)] for _ in range(1 + given.randrange(5))]
     right = [column for column in range(width) if given.randrange(2)]
     file = io.StringIO()
     csv.writer(file, lineterminator="\n", quoting=csv.QUOTE_ALL).writerows(records)
@@ -73,24 +110,33 @@ def differences(number):
     if left:
         words += ["--left", ",".join(left)]
     drawn = subprocess.run([PROGRAM, *words], input=file.getvalue().encode(), stdout=subprocess.PIPE, check=True).stdout
-    page = subprocess.run(["cmark-gfm", "-e", "table", "--unsafe"], input=drawn, stdout=subprocess.PIPE, check=True).stdout
-    tables = Tables()
-    tables.feed(page.decode())
-    read = [[spaceless(cell) for cell in row] for row in tables.rows]
     wanted = [[spaceless(field) for field in record] for record in records]
     sides = [["right" if column in right else None for column in range(width)] for _ in records]
-    return [] if (read, tables.sides) == (wanted, sides) else [drawn.decode(), page.decode(), str(wanted)]
+    for extensions in (["table"], ["table", "strikethrough", "autolink", "tagfilter"]):
+        tables = read_by(drawn, extensions)
+        read = [[spaceless(cell) for cell in row] for row in tables.rows]
+        if (read, tables.sides) != (wanted, sides):
+            return [drawn.decode(), " ".join(extensions), str(read), str(wanted)]
+    for record, links in zip(wanted, tables.links):
+        for field, own in zip(record, links):
+            # the reader leaves such a last character out of a link
+            if field not in addresses or field not in drawn.decode() or field[-1] in "?!.,:*_~'\");":
+                continue
+            counts["links"] += 1
+            if len(own) != 1 or not leads_to(own[0], field):
+                return [drawn.decode(), field, str(own)]
+    return []
 
 
 def main():
-    bad = 0
+    bad, counts = 0, {"links": 0}
     for number in range(FILES):
-        shown = differences(number)
+        shown = differences(number, counts)
         bad += bool(shown)
         if shown and bad <= 3:
             print(f"file {number} of seed {SEED}:", *shown, sep="\n")
-    print(f"{FILES} files, {bad} otherwise")
-    return 1 if bad else 0
+    print(f"{FILES} files, {bad} otherwise; {counts['links']} links")
+    return 1 if bad or not counts["links"] else 0
 
 
 if __name__ == "__main__":

@@ -186,7 +186,8 @@ static void expect_refusals_are_said(void) {
     expect_csv("0xFF is no UTF-8 in csv", bad, TEXT(""), COMFY_CSV_INPUT_REFUSED, TEXT(NOT_UTF8));
     expect_csv("a message names the file", bad, TEXT("no/such.csv\0"), COMFY_CSV_INPUT_REFUSED,
                TEXT("csvtable: no/such.csv: line 2 isn't UTF-8; try -e cp1252\n"));
-    expect_csv("a column isn't there", TEXT(CSV), TEXT("-c\0zz\0"), COMFY_CSV_INPUT_REFUSED, TEXT("csvtable: standard input: no column zz\n"));
+    expect_csv("a column isn't there", TEXT(CSV), TEXT("-c\0zz\0"), COMFY_CSV_INPUT_REFUSED,
+               TEXT("csvtable: standard input: no column zz; there are name and days\n"));
     expect_csv("a quote isn't closed", TEXT("a\n\"b"), TEXT(""), COMFY_CSV_INPUT_REFUSED,
                TEXT("csvtable: standard input: a quote that opens in line 2 is never closed; try --no-quotes\n"));
     expect_csv("0xFF is no UTF-8 in words", TEXT(CSV), TEXT("-s\0\xff\0"), COMFY_CSV_WORDS_REFUSED, TEXT("csvtable: a word isn't UTF-8\n"));

@@ -1,5 +1,5 @@
 -- The fields of records stand in the lines of their table.
-use Rattle.std.proofs.Common.{◌≡◌, ◌<◌, ◌≤◌, ℕ, zero, suc, ◌+◌, ◌-◌, ◌||◌, nat_lt, take, Bool, true, false, List, [], ◌∷◌, ◌++◌, Option, Some, None, Ok, flat_map, fold, length, map, max, not, refl, sym, ap, ap₂, ◌∙◌, subst, arith, append-nil, slice_index_or, unwrap_or}
+use Rattle.std.proofs.Common.{◌≡◌, ◌<◌, ◌≤◌, ℕ, zero, suc, ◌+◌, ◌-◌, ◌||◌, nat_lt, take, Bool, true, false, List, [], ◌∷◌, ◌++◌, Option, Some, None, Ok, flat_map, fold, length, map, max, not, refl, sym, ap, ap₂, ◌∙◌, subst, arith, append-nil, slice_index_or, unwrap_or, ◌==◌, Err, cond}
 use Rattle.std.specs.List.{All, AllByRecursion, AllZip, enumerate_from, list_any, range_with_len, slice_get}
 use Rattle.std.specs.Prelude.{option_to_list}
 use Rattle.std.proofs.lemmas.List.{length-map, length-take-le, take-map}
@@ -15,7 +15,8 @@ use Rattle.comfy_table.specs.NewTables.{IsShortRow}
 use Rattle.comfy_table.specs.TableValue.{TableValue, header_and_rows, shown_columns, with_row, with_rows}
 use Rattle.csv.specs.Records.{field_at}
 use Rattle.csv_tables.specs.Cells.{cell_for, field_or_blank, field_text, cells_for, has_field, header_for, reached, row_for, unless_blank, with_weight}
-use Rattle.csv_tables.specs.Columns.{columns_for, count_of, kept_columns, seen, without}
+use Rattle.csv_tables.specs.Columns.{columns_for, count_of, kept_columns, seen, without, some_left}
+use Rattle.csv_tables.specs.Columns.ColumnFault.{none_left}
 use Rattle.csv_tables.specs.declared.options.DrawnColumn.{DrawnColumn}
 use Rattle.csv_tables.specs.declared.options.Look.{Look}
 use Rattle.csv_tables.specs.declared.options.Options.{Options}
@@ -290,6 +291,14 @@ none_left_out : (positions : List ℕ) → without positions [] ≡ positions
 none_left_out [] = refl
 none_left_out (position ∷ positions) = ap (λ (more : List ℕ). position ∷ more) (none_left_out positions)
 
+-- positions that are left are these
+left_as_they_are : (positions kept : List ℕ) → some_left positions ≡ Ok kept → kept ≡ positions
+left_as_they_are positions kept = by_test (length positions == 0)
+  where
+    by_test : (b : Bool) → cond b (Err none_left) (Ok positions) ≡ Ok kept → kept ≡ positions
+    by_test true is = absurd (cc is)
+    by_test false is = cc is
+
 -- where all records are drawn, they are the header and the rows
 all_records : (has_header : Bool) (records : List (List Text)) → option_to_list (names_of has_header records) ++ records_below has_header records ≡ records
 all_records true [] = refl
@@ -313,9 +322,9 @@ module _ (options : Options) (records : List (List Text)) (nothing : AsksForNoth
   positions_are : (columns : List DrawnColumn) → kept_columns (unwrap_or names []) count options.selection.columns.items options.selection.dropped.items ≡ Ok (map (λ (column : DrawnColumn). column.position) columns)
       → map (λ (column : DrawnColumn). column.position) columns ≡ range_with_len 0 count
   positions_are columns are =
-      let all : kept_columns (unwrap_or names []) count options.selection.columns.items options.selection.dropped.items ≡ Ok (range_with_len 0 count) =
-      ap₂ (λ words dropped. kept_columns (unwrap_or names []) count words dropped) nothing.none_chosen nothing.none_dropped ∙ ap Ok (none_left_out (range_with_len 0 count)) in
-      cc (all, are)
+      let all : kept_columns (unwrap_or names []) count options.selection.columns.items options.selection.dropped.items ≡ some_left (range_with_len 0 count) =
+      ap₂ (λ words dropped. kept_columns (unwrap_or names []) count words dropped) nothing.none_chosen nothing.none_dropped ∙ ap some_left (none_left_out (range_with_len 0 count)) in
+      left_as_they_are (range_with_len 0 count) _ (sym all ∙ are)
 
   -- and all records
   all_drawn : option_to_list names ++ rows ≡ records

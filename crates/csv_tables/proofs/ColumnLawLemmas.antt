@@ -1,5 +1,5 @@
 -- The columns that words choose: each is there, and which they are.
-use Rattle.std.proofs.Common.{◌≡◌, ◌≢◌, ◌⊎◌, ◌↔◌, inl, inr, ◌<◌, ◌≤◌, ◌+◌, ◌-◌, ◌==◌, ◌&&◌, not, ℕ, zero, suc, Bool, true, false, nat_lt, nat_le, List, [], ◌∷◌, ◌++◌, Contains, Option, Some, None, IfOk, Result, Ok, Err, String, append_assoc, append-nil, drop, fold, get_or, length, max, ok_or, option_map, string_bytes, take, refl, sym, ◌∙◌, subst, arith}
+use Rattle.std.proofs.Common.{◌≡◌, ◌≢◌, ◌⊎◌, ◌↔◌, inl, inr, ◌<◌, ◌≤◌, ◌+◌, ◌-◌, ◌==◌, ◌&&◌, not, ℕ, zero, suc, Bool, true, false, nat_lt, nat_le, List, [], ◌∷◌, ◌++◌, Contains, Option, Some, None, IfOk, Result, Ok, Err, String, append_assoc, append-nil, cond, drop, fold, get_or, length, max, ok_or, option_map, string_bytes, take, refl, sym, ◌∙◌, subst, arith}
 use Rattle.std.proofs.lemmas.Bool.{and_parts, cond-false, cond_both, eqb-true, eq-eqb, ne_eqb, leb-true, ltb-true, not-true, not_from_false, or_cases, or_left, or_right}
 use Rattle.std.proofs.lemmas.List.Elements.{All-append, All-filter, All-head, All-nil, All-tail, Contains-append_cases, Contains-append_left, Contains-append_right}
 use Rattle.std.proofs.lemmas.List.FromFn.{get_or-range_with_len, length-range_with_len}
@@ -8,7 +8,9 @@ use Rattle.std.specs.List.{All, AllPairs, Any, filter, flat_map, list_any, posit
 use Rattle.std.specs.Option.{option_or}
 use Rattle.comfy_parts.specs.Text.{Text}
 use Rattle.csv_tables.specs.ColumnLaws.{AreDistinct, AreKept, AreThere, ChooseApart, Chooses, IsChosen, IsChosenBy, KeepsChosenColumns}
-use Rattle.csv_tables.specs.Columns.{ColumnFault, chosen_columns, column_by, column_of, columns_chosen, count_of, end_of, first_answer, joined, kept_columns, less, missing, numbered, positions_between, positions_of, positions_of_word, range_at, range_of, rising, single_or, without}
+use Rattle.csv_tables.specs.Hints.{hint_for}
+use Rattle.csv_tables.specs.Columns.ColumnFault.{missing, none_left}
+use Rattle.csv_tables.specs.Columns.{ColumnFault, chosen_columns, column_by, column_of, columns_chosen, count_of, end_of, first_answer, joined, kept_columns, less, numbered, position_named, positions_between, positions_of, positions_of_word, range_at, range_of, rising, single_or, some_left, without}
 use Rattle.csv_records.specs.Numerals.{number_for}
 use Rattle.csv_tables.specs.declared.options.Selection.{Selection}
 
@@ -138,6 +140,14 @@ range_distinct a n i j d order below same =
 
 -- ---- a word
 
+-- what is so of some positions is so where there has to be one
+some_kept : (P : List ℕ → Type 0) (positions : List ℕ) → P positions → IfOk (some_left positions) P
+some_kept P positions own = by_test (length positions == 0)
+  where
+    by_test : (b : Bool) → IfOk (cond b (Err none_left) (Ok positions)) P
+    by_test true = tt
+    by_test false = own
+
 -- a column that is found is there
 abbrev IsBelow : ℕ → Option ℕ → Type 0
 IsBelow count o = (position : ℕ) → o ≡ Some position → position < count
@@ -158,12 +168,19 @@ module _ (names : List Text) (count : ℕ) (some : length names ≤ count) where
       let most = leb-true number count parts.1 in
       let same : number - 1 ≡ position = cc is in omega (arith, least, most, same)) (λ none is. absurd (cc is))
 
+  either_below : (one other : Option ℕ) → IsBelow count one → IsBelow count other → IsBelow count (option_or one other)
+  either_below (Some _) other first second = first
+  either_below None other first second = second
+
   column_below : (word : Text) → IsBelow count (column_of names count word)
   column_below word = by_number (number_for 64 word)
     where
+      by_name : IsBelow count (position_named word names)
+      by_name position is = let own = named_below word names 0 position _ is in omega (arith, own, some)
+
       by_number : (o : Option ℕ) → IsBelow count (column_by names count word o)
-      by_number (Some number) = numbered_below number
-      by_number None = λ position is. let own = named_below word names 0 position _ is in omega (arith, own, some)
+      by_number (Some number) = either_below (numbered count number) (position_named word names) (numbered_below number) by_name
+      by_number None = by_name
 
   -- ends of a range that is there
   abbrev AreEnds : Option (ℕ × ℕ) → Type 0
@@ -302,8 +319,8 @@ module _ (names : List Text) (count : ℕ) (some : length names ≤ count) where
     are_picked (word ∷ words) found positions = by_ends (columns_chosen names count (string_bytes word)) (λ ends. are_picked words (found ++ positions_between ends) positions)
       where
         by_ends : (o : Option (ℕ × ℕ)) → ((ends : ℕ × ℕ) → fold step (Ok (found ++ positions_between ends)) words ≡ Ok positions → positions ≡ (found ++ positions_between ends) ++ all_picked words)
-            → fold step (joined (Ok found) (ok_or (option_map positions_between o) (missing (string_bytes word)))) words ≡ Ok positions → positions ≡ found ++ (between o ++ all_picked words)
-        by_ends None later is = let other = stays_faulty (missing (string_bytes word)) words in absurd (cc (other, is))
+            → fold step (joined (Ok found) (ok_or (option_map positions_between o) (missing (string_bytes word) (hint_for names count (string_bytes word))))) words ≡ Ok positions → positions ≡ found ++ (between o ++ all_picked words)
+        by_ends None later is = let other = stays_faulty (missing (string_bytes word) (hint_for names count (string_bytes word))) words in absurd (cc (other, is))
         by_ends (Some ends) later is = later ends is ∙ append_assoc found (positions_between ends) (all_picked words)
 
     picked_by_words : (words : List (String A)) (positions : List ℕ) → positions_of names count words ≡ Ok positions → positions ≡ all_picked words
@@ -356,7 +373,8 @@ module _ (names : List Text) (count : ℕ) (some : length names ≤ count) where
             let own = all_chosen words positions first in
             let test = λ (position : ℕ). not (list_any (λ x. x == position) left_out) in
             let is_left_out : (x : ℕ) → Contains left_out x ↔ IsChosenBy names count dropped x = λ x. subst (λ xs. Contains xs x ↔ IsChosenBy names count dropped x) (sym (picked_by_words dropped left_out second)) (from_all dropped x, into_all dropped x) in
-            record {
+            some_kept (AreKept names count words dropped) (without positions left_out)
+            (record {
               there = All-filter test (λ x. x < count) positions own.there;
               distinct = λ apart. AllPairs-filter (λ (x y : ℕ). x ≢ y) test positions (own.distinct apart);
               chosen = λ x.
@@ -364,7 +382,7 @@ module _ (names : List Text) (count : ℕ) (some : length names ≤ count) where
                     λ inside. let parts = kept.0 inside in ((own.chosen x).0 parts.0, λ any. parts.1 ((is_left_out x).1 any)),
                     λ parts. kept.1 ((own.chosen x).1 parts.0, λ inside. parts.1 ((is_left_out x).0 inside)),
                   );
-            }
+            })
 
 -- ---- so many columns as the names and rows have
 

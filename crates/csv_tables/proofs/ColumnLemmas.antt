@@ -1,5 +1,5 @@
 -- Choices of columns, one after another.
-use Rattle.std.proofs.Common.{◌≡◌, ◌<◌, ◌+◌, ◌-◌, ◌&&◌, ◌||◌, not, ℕ, Bool, true, false, zero, suc, List, [], ◌∷◌, Option, Some, Result, Ok, Err, String, bytes_eq, drop, get_or, length, map, string_bytes, take, refl, sym, ap, arith}
+use Rattle.std.proofs.Common.{◌≡◌, ◌<◌, ◌+◌, ◌-◌, ◌&&◌, ◌||◌, not, ℕ, Bool, true, false, zero, suc, List, [], ◌∷◌, Option, Some, Result, Ok, Err, String, drop, get_or, length, map, string_bytes, take, refl, sym, ap, arith}
 use Rattle.std.proofs.lemmas.List.Folds.{fold_stuck}
 use Rattle.std.specs.List.{list_any, position_from, range_with_len}
 use Rattle.std.specs.Option.{option_or}
@@ -8,11 +8,13 @@ use Rattle.comfy_parts.specs.Text.{Text}
 use Rattle.csv.specs.Records.{field_at}
 use Rattle.csv_tables.specs.Cells.{field_or_blank}
 use Rattle.csv_records.specs.Cleaning.{visible_of}
-use Rattle.csv_tables.specs.Columns.{ColumnFault, IsColumnsRefusal, first_answer, is_number_column, is_number_kind, is_other_kind, is_text, joined, kind_at, kind_of, missing, positions_of, positions_of_word, seen, two_sided}
+use Rattle.csv_tables.specs.Columns.{ColumnFault, IsColumnsRefusal, first_answer, is_number_column, is_number_kind, is_other_kind, joined, kind_at, kind_of, positions_of, positions_of_word, seen}
+use Rattle.csv_tables.specs.Columns.ColumnFault.{missing, none_left, two_sided}
+use Rattle.csv_tables.specs.Hints.{passes}
 use Rattle.csv_tables.specs.declared.columns.FieldKind.{FieldKind}
 use Rattle.csv_tables.specs.declared.columns.FieldKind.TheVariants.{Neutral, Other}
 use Rattle.csv_tables.specs.declared.error.ColumnsError.{ColumnsError}
-use Rattle.csv_tables.specs.declared.error.ColumnsError.TheVariants.{NoColumn, OutOfMemory, TwoSides}
+use Rattle.csv_tables.specs.declared.error.ColumnsError.TheVariants.{NoColumn, NoneLeft, OutOfMemory, TwoSides}
 
 then_fault : (found more : Result (List ℕ) ColumnFault) (xs : List ℕ) (fault : ColumnFault) → found ≡ Ok xs → more ≡ Err fault → joined found more ≡ Err fault
 then_fault found more xs fault before at_fault = rw (before, at_fault) refl
@@ -26,19 +28,20 @@ module _ {A : Type 0} (names : List Text) (count : ℕ) (words : List (String A)
 
   pub refused_word : (e : ColumnsError) → i < length words → positions_of names count (take i words) ≡ Ok xs
       → IsColumnsRefusal e (positions_of_word names count (string_bytes (get_or words i d))) → IsColumnsRefusal e (positions_of names count words)
-  refused_word (NoColumn name) within before at_fault = stopped (missing (string_bytes name)) within before at_fault
+  refused_word (NoColumn word hint) within before at_fault = stopped (missing (string_bytes word) (string_bytes hint)) within before at_fault
+  refused_word NoneLeft within before at_fault = stopped none_left within before at_fault
   refused_word (TwoSides name) within before at_fault = stopped (two_sided (string_bytes name)) within before at_fault
   refused_word OutOfMemory within before at_fault = tt
 
-module _ (name : Text) (n : ℕ) where
+module _ (p : Text → Bool) (n : ℕ) where
   -- the field at a position is the first that is looked at from there on
-  pub found_at : (fields : List Text) (i : ℕ) → is_text name (field_at fields i) ≡ true → position_from (λ field. bytes_eq field name) n (drop i fields) ≡ Some n
+  pub found_at : (fields : List Text) (i : ℕ) → passes p (field_at fields i) ≡ true → position_from p n (drop i fields) ≡ Some n
   unfolding field_at
   found_at [] i is = absurd (cc)
   found_at (f ∷ fs) zero is = rw is refl
   found_at (f ∷ fs) (suc i) is = found_at fs i is
 
-  pub not_at : (fields : List Text) (i : ℕ) → is_text name (field_at fields i) ≡ false → position_from (λ field. bytes_eq field name) n (drop i fields) ≡ position_from (λ field. bytes_eq field name) (n + 1) (drop (suc i) fields)
+  pub not_at : (fields : List Text) (i : ℕ) → passes p (field_at fields i) ≡ false → position_from p n (drop i fields) ≡ position_from p (n + 1) (drop (suc i) fields)
   unfolding field_at
   not_at [] zero is = refl
   not_at [] (suc i) is = refl

@@ -1,5 +1,5 @@
 -- Fields of printable ASCII are drawn as printable ASCII.
-use Rattle.std.proofs.Common.{◌≡◌, ℕ, zero, suc, ◌+◌, ◌≤◌, ◌/◌, ◌%◌, ◌==◌, ◌&&◌, decimal, length, Bool, true, false, List, [], ◌∷◌, Option, Some, None, slice_get, All, arith, encode_utf8_all, refl, sym, ap, ap₂, ◌∙◌, subst, tests}
+use Rattle.std.proofs.Common.{◌≡◌, ℕ, zero, suc, ◌+◌, ◌≤◌, ◌/◌, ◌%◌, ◌==◌, ◌&&◌, decimal, length, Bool, true, false, List, [], ◌∷◌, Option, Some, None, All, arith, encode_utf8_all, refl, sym, ap, ap₂, ◌∙◌, subst, tests}
 use Rattle.std.specs.Int.{is_in_range}
 use Rattle.std.specs.Fmt.{digit_glyph, digits, digits_onto}
 use Rattle.std.specs.List.{list_all, list_any}
@@ -19,7 +19,7 @@ use Rattle.csv_records.proofs.CleaningLemmas.{drawn_so, none_replaced}
 use Rattle.csv_tables.specs.Cells.{field_text, kept_by, kept_for_markdown, marked, unless_blank}
 use Rattle.csv_records.specs.Cleaning.{cleaned}
 use Rattle.csv_tables.specs.Laws.{PrintableFieldsStay}
-use Rattle.csv_tables.specs.Markdown.{escaped, escaped_after, escaped_character, is_special}
+use Rattle.csv_tables.specs.Markdown.{escaped, escaped_after, escaped_character, is_marked_at, is_special}
 use Rattle.csv_records.specs.declared.cleaning.CleanOptions.{CleanOptions}
 use Rattle.csv_tables.specs.declared.options.Look.{Look}
 use Rattle.csv_tables.proofs.BlankLemmas.{unless_blank-keeps}
@@ -41,22 +41,24 @@ no_break c printable = grind (arith, tests)
 pub printable_unbroken : (text : Text) → is_printable_ascii text ≡ true → HasNoBreak text
 printable_unbroken text printable = none_pass (λ b. b == 0x0A) no_break text printable
 
-character_stays : (before : Option ℕ) (c : ℕ) (after : Option ℕ) → is_printable c ≡ true → is_printable_ascii (escaped_character before c after) ≡ true
-character_stays before c after printable = rw (no_break c printable) (by_test (is_special before c after))
+character_stays : (special : Bool) (c : ℕ) → is_printable c ≡ true → is_printable_ascii (escaped_character special c) ≡ true
+character_stays special c printable = rw (no_break c printable) (by_test special)
   where
     by_test : (b : Bool) → is_printable_ascii (if b then 0x5C ∷ c ∷ [] else c ∷ []) ≡ true
     by_test true = rw printable refl
     by_test false = rw printable refl
 
-escaped_stays : (before : Option ℕ) (text : Text) → is_printable_ascii text ≡ true → is_printable_ascii (escaped_after before text) ≡ true
-escaped_stays before [] printable = refl
-escaped_stays before (c ∷ cs) printable =
+escaped_stays : (is_marked : Bool) (before : Option ℕ) (text : Text) → is_printable_ascii text ≡ true → is_printable_ascii (escaped_after is_marked before text) ≡ true
+escaped_stays is_marked before [] printable = refl
+escaped_stays is_marked before (c ∷ cs) printable =
     let parts = and_parts (is_printable c) (is_printable_ascii cs) printable in
-    list_all-append is_printable (escaped_character before c (slice_get cs 0)) (escaped_after (Some c) cs) ∙ ap₂ (λ a b. a && b) (character_stays before c (slice_get cs 0) parts.0) (escaped_stays (Some c) cs parts.1)
+    let here = is_marked_at is_marked before (c ∷ cs) in
+    let special = is_special here before c cs in
+    list_all-append is_printable (escaped_character special c) (escaped_after here (Some c) cs) ∙ ap₂ (λ a b. a && b) (character_stays special c parts.0) (escaped_stays here (Some c) cs parts.1)
 
 marked_stays : (text : Text) → is_printable_ascii text ≡ true → is_printable_ascii (marked text) ≡ true
 marked_stays text printable =
-    let more = escaped_stays None text printable in
+    let more = escaped_stays false None text printable in
     let same : encode_utf8_all (escaped text) ≡ escaped text = encodes-IsAscii (escaped text) (ascii-printable (escaped text) more) in
     ap is_printable_ascii (ap (λ (cs : List ℕ). encode_utf8_all (escaped cs)) (chars-IsAscii text (ascii-printable text printable)) ∙ same) ∙ more
 

@@ -10,7 +10,6 @@ pub mod KeptWidthLemmas
 mod KindLemmas
 pub mod LineLemmas
 pub mod MarkdownDrawingLemmas
-pub mod MarkdownLemmas
 pub mod MarkdownLineLemmas
 pub mod MarkdownPartLemmas
 pub mod MarkdownRowLemmas

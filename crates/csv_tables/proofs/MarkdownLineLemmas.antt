@@ -1,5 +1,5 @@
 -- A line of an output for Markdown gives back the fields that it is made of.
-use Rattle.std.proofs.Common.{◌≡◌, ◌==◌, ℕ, zero, suc, Bool, true, false, List, [], ◌∷◌, ◌++◌, Option, Some, None, arith, chars, cond, codes, encode_utf8_all, flat_map, length, map, slice_get, ◌<◌, refl, ap, ap₂, sym, ◌∙◌, subst, append_assoc}
+use Rattle.std.proofs.Common.{◌≡◌, ◌==◌, ℕ, zero, suc, Bool, true, false, List, [], ◌∷◌, ◌++◌, Option, Some, None, arith, chars, cond, codes, encode_utf8_all, flat_map, length, map, ◌<◌, refl, ap, ap₂, sym, ◌∙◌, subst, append_assoc}
 use Rattle.std.specs.List.{AllZip}
 use Rattle.std.specs.Str.{IsUtf8, all_scalars}
 use Rattle.std.proofs.Math.Utf8.{scalar as scalar_of}
@@ -10,7 +10,7 @@ use Rattle.comfy_parts.specs.Text.{Text, spaces}
 use Rattle.comfy_table.specs.Frame.{content_line}
 use Rattle.csv_tables.specs.Cells.{field_or_blank, field_text, kept_for_markdown, marked}
 use Rattle.csv_records.specs.Cleaning.{cleaned}
-use Rattle.csv_tables.specs.Markdown.{escaped, escaped_after, escaped_character, is_special}
+use Rattle.csv_tables.specs.Markdown.{escaped, escaped_after, escaped_character, is_marked_at, is_special}
 use Rattle.csv_tables.specs.declared.options.DrawnColumn.{DrawnColumn}
 use Rattle.csv_tables.specs.declared.options.Look.{Look}
 use Rattle.csv_records.proofs.ControlLemmas.{cleaned_whole}
@@ -46,11 +46,13 @@ Spells-spaces zero = Spells-nil
 Spells-spaces (suc n) = Spells-append (0x20 ∷ []) (spaces n) (0x20 ∷ []) (spaces n) (Spells-ascii 0x20 (omega arith) refl) (Spells-spaces n)
 
 -- the characters of a text do, and those that are escaped
-escaped-scalars : (before : Option ℕ) (cs : List ℕ) → all_scalars cs ≡ true → all_scalars (escaped_after before cs) ≡ true
-escaped-scalars before [] all = refl
-escaped-scalars before (c ∷ cs) all =
+escaped-scalars : (is_marked : Bool) (before : Option ℕ) (cs : List ℕ) → all_scalars cs ≡ true → all_scalars (escaped_after is_marked before cs) ≡ true
+escaped-scalars is_marked before [] all = refl
+escaped-scalars is_marked before (c ∷ cs) all =
     let both = and_parts (scalar_of c) (all_scalars cs) all in
-    scalars-append (escaped_character before c (slice_get cs 0)) (escaped_after (Some c) cs) (by_tests (c == 0x0A) (is_special before c (slice_get cs 0)) both.0) (escaped-scalars (Some c) cs both.1)
+    let here = is_marked_at is_marked before (c ∷ cs) in
+    let special = is_special here before c cs in
+    scalars-append (escaped_character special c) (escaped_after here (Some c) cs) (by_tests (c == 0x0A) special both.0) (escaped-scalars here (Some c) cs both.1)
   where
     by_tests : (feed special : Bool) → scalar_of c ≡ true → all_scalars (cond feed (codes "<br>") (cond special (0x5C ∷ c ∷ []) (c ∷ []))) ≡ true
     by_tests true special own = refl
@@ -58,7 +60,7 @@ escaped-scalars before (c ∷ cs) all =
     by_tests false false own = rw own refl
 
 Spells-marked : (text : Text) → IsUtf8 text → Spells (escaped (chars text)) (marked text)
-Spells-marked text utf8 = record { scalar = escaped-scalars None (chars text) (scalars-chars text utf8); spelled = refl }
+Spells-marked text utf8 = record { scalar = escaped-scalars false None (chars text) (scalars-chars text utf8); spelled = refl }
 
 Spells-spaced : (a : ℕ) (text : Text) (b : ℕ) → IsUtf8 text → Spells (spaced a (chars text) b) (spaces a ++ (marked text ++ spaces b))
 Spells-spaced a text b utf8 =

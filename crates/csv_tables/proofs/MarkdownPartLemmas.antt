@@ -1,8 +1,9 @@
 -- A line for Markdown is cut at its bars, and its parts are read.
-use Rattle.std.proofs.Common.{◌≡◌, ◌==◌, ◌&&◌, ℕ, zero, suc, Bool, true, false, not, List, [], ◌∷◌, ◌++◌, Option, Some, None, cond, codes, slice_get, refl, ap, sym, ◌∙◌, append_assoc, append-nil, eqb-true}
+use Rattle.std.proofs.Common.{◌≡◌, ◌==◌, ◌&&◌, ◌||◌, ℕ, zero, suc, Bool, true, false, List, [], ◌∷◌, ◌++◌, Option, Some, None, cond, codes, refl, ap, sym, ◌∙◌, append_assoc, append-nil, eqb-true}
 use Rattle.std.proofs.lemmas.Bool.{or_parts}
+use Rattle.std.specs.List.{list_any}
 use Rattle.comfy_parts.specs.Text.{spaces}
-use Rattle.csv_tables.specs.Markdown.{escaped, escaped_after, escaped_character, is_in_word, is_mark, is_special, unescaped}
+use Rattle.csv_tables.specs.Markdown.{begins_markup, escaped, escaped_after, escaped_character, is_mark, is_marked_at, is_paired, is_special, unescaped}
 use Rattle.csv_tables.specs.MarkdownLines.{before_spaces, parts_between_bars, parts_from, read_part, without_first_spaces, without_last_spaces, without_outer_spaces}
 
 -- ---- cutting
@@ -31,27 +32,33 @@ Stays-spaces zero = Stays-nil
 Stays-spaces (suc n) = Stays-append (0x20 ∷ []) (spaces n) (Stays-one 0x20 refl refl) (Stays-spaces n)
 
 -- a character that isn't special is none of these
-not_special : (before : Option ℕ) (c : ℕ) (after : Option ℕ) (mark : ℕ) → is_special before c after ≡ false → is_mark mark ≡ true → (c == mark) ≡ false
-not_special before c after mark none is_one = by_test (c == mark) refl
+not_special : (is_marked : Bool) (before : Option ℕ) (c : ℕ) (rest : List ℕ) (mark : ℕ) → is_special is_marked before c rest ≡ false → is_mark mark ≡ true → (c == mark) ≡ false
+not_special is_marked before c rest mark none is_one = by_test (c == mark) refl
   where
+    no_markup : begins_markup before c rest ≡ false
+    no_markup = (or_parts (begins_markup before c rest) _ none).0
+
     no_mark : is_mark c ≡ false
-    no_mark = (or_parts (is_mark c) ((c == 0x5F) && not (is_in_word before && is_in_word after)) none).0
+    no_mark = (or_parts (is_mark c) _ (or_parts (is_mark c || (is_paired before c && list_any (λ d. d == c) rest)) _ no_markup).0).0
 
     by_test : (b : Bool) → (c == mark) ≡ b → (c == mark) ≡ false
     by_test false is = is
     by_test true is = let same : is_mark c ≡ true = ap is_mark (eqb-true c mark is) ∙ is_one in absurd (let both : true ≡ false = sym same ∙ no_mark in cc both)
 
 -- what is escaped does
-Stays-escaped_after : (before : Option ℕ) (text : List ℕ) → Stays (escaped_after before text)
-Stays-escaped_after before [] = Stays-nil
-Stays-escaped_after before (c ∷ text) =
-    Stays-append (escaped_character before c (slice_get text 0)) (escaped_after (Some c) text) (by_tests (c == 0x0A) (is_special before c (slice_get text 0)) refl) (Stays-escaped_after (Some c) text)
+Stays-escaped_after : (is_marked : Bool) (before : Option ℕ) (text : List ℕ) → Stays (escaped_after is_marked before text)
+Stays-escaped_after is_marked before [] = Stays-nil
+Stays-escaped_after is_marked before (c ∷ text) =
+    Stays-append (escaped_character (is_special here before c text) c) (escaped_after here (Some c) text) (by_tests (c == 0x0A) (is_special here before c text) refl) (Stays-escaped_after here (Some c) text)
   where
-    by_tests : (feed special : Bool) → is_special before c (slice_get text 0) ≡ special → Stays (cond feed (codes "<br>") (cond special (0x5C ∷ c ∷ []) (c ∷ [])))
+    here : Bool
+    here = is_marked_at is_marked before (c ∷ text)
+
+    by_tests : (feed special : Bool) → is_special here before c text ≡ special → Stays (cond feed (codes "<br>") (cond special (0x5C ∷ c ∷ []) (c ∷ [])))
     by_tests true special is = λ part rest. ap (λ (p : List ℕ). parts_from false p rest)
         (append_assoc ((part ++ 0x3C ∷ []) ++ 0x62 ∷ []) (0x72 ∷ []) (0x3E ∷ []) ∙ append_assoc (part ++ 0x3C ∷ []) (0x62 ∷ []) (0x72 ∷ 0x3E ∷ []) ∙ append_assoc part (0x3C ∷ []) (0x62 ∷ 0x72 ∷ 0x3E ∷ []))
     by_tests false true is = Stays-escaped c
-    by_tests false false is = Stays-one c (not_special before c (slice_get text 0) 0x7C is refl) (not_special before c (slice_get text 0) 0x5C is refl)
+    by_tests false false is = Stays-one c (not_special here before c text 0x7C is refl) (not_special here before c text 0x5C is refl)
 
 -- ---- what a part reads
 
@@ -60,7 +67,7 @@ abbrev pub spaced : ℕ → List ℕ → ℕ → List ℕ
 spaced a text b = spaces a ++ (escaped text ++ spaces b)
 
 Stays-spaced : (a : ℕ) (text : List ℕ) (b : ℕ) → Stays (spaced a text b)
-Stays-spaced a text b = Stays-append (spaces a) (escaped text ++ spaces b) (Stays-spaces a) (Stays-append (escaped text) (spaces b) (Stays-escaped_after None text) (Stays-spaces b))
+Stays-spaced a text b = Stays-append (spaces a) (escaped text ++ spaces b) (Stays-spaces a) (Stays-append (escaped text) (spaces b) (Stays-escaped_after false None text) (Stays-spaces b))
 
 -- a character that is no backslash and no `<`, before others
 other-unescaped : (c : ℕ) (rest : List ℕ) → (c == 0x5C) ≡ false → (c == 0x3C) ≡ false → unescaped (c ∷ rest) ≡ c ∷ unescaped rest
@@ -75,19 +82,25 @@ after_backslash c (x ∷ []) = refl
 after_backslash c (x ∷ y ∷ rest) = refl
 
 -- what is escaped is read, whatever follows
-escaped-unescaped : (before : Option ℕ) (text rest : List ℕ) → unescaped (escaped_after before text ++ rest) ≡ text ++ unescaped rest
-escaped-unescaped before [] rest = refl
-escaped-unescaped before (c ∷ text) rest =
-    ap unescaped (append_assoc (escaped_character before c (slice_get text 0)) (escaped_after (Some c) text) rest)
-    ∙ by_tests (c == 0x0A) (is_special before c (slice_get text 0)) refl refl ∙ ap (λ (t : List ℕ). c ∷ t) (escaped-unescaped (Some c) text rest)
+escaped-unescaped : (is_marked : Bool) (before : Option ℕ) (text rest : List ℕ) → unescaped (escaped_after is_marked before text ++ rest) ≡ text ++ unescaped rest
+escaped-unescaped is_marked before [] rest = refl
+escaped-unescaped is_marked before (c ∷ text) rest =
+    ap unescaped (append_assoc (escaped_character (is_special here before c text) c) (escaped_after here (Some c) text) rest)
+    ∙ by_tests (c == 0x0A) (is_special here before c text) refl refl ∙ ap (λ (t : List ℕ). c ∷ t) (escaped-unescaped here (Some c) text rest)
   where
-    more : List ℕ
-    more = escaped_after (Some c) text ++ rest
+    here : Bool
+    here = is_marked_at is_marked before (c ∷ text)
 
-    by_tests : (feed special : Bool) → (c == 0x0A) ≡ feed → is_special before c (slice_get text 0) ≡ special → unescaped (cond feed (codes "<br>") (cond special (0x5C ∷ c ∷ []) (c ∷ [])) ++ more) ≡ c ∷ unescaped more
+    more : List ℕ
+    more = escaped_after here (Some c) text ++ rest
+
+    by_tests : (feed special : Bool) → (c == 0x0A) ≡ feed → is_special here before c text ≡ special → unescaped (cond feed (codes "<br>") (cond special (0x5C ∷ c ∷ []) (c ∷ [])) ++ more) ≡ c ∷ unescaped more
     by_tests true special feed is = ap (λ (n : ℕ). n ∷ unescaped more) (sym (eqb-true c 0x0A feed))
     by_tests false true feed is = after_backslash c more
-    by_tests false false feed is = other-unescaped c more (not_special before c (slice_get text 0) 0x5C is refl) (not_special before c (slice_get text 0) 0x3C is refl)
+    by_tests false false feed is = other-unescaped c more (not_special here before c text 0x5C is refl) (not_special here before c text 0x3C is refl)
+
+pub read_back : (text : List ℕ) → unescaped (escaped text) ≡ text
+read_back text = ap unescaped (sym (append-nil (escaped text))) ∙ escaped-unescaped false None text [] ∙ append-nil text
 
 spaces-unescaped : (n : ℕ) (rest : List ℕ) → unescaped (spaces n ++ rest) ≡ spaces n ++ unescaped rest
 spaces-unescaped zero rest = refl
@@ -96,7 +109,7 @@ spaces-unescaped (suc n) rest = other-unescaped 0x20 (spaces n ++ rest) refl ref
 spaced-unescaped : (a : ℕ) (text : List ℕ) (b : ℕ) → unescaped (spaced a text b) ≡ spaces a ++ (text ++ spaces b)
 spaced-unescaped a text b =
     spaces-unescaped a (escaped text ++ spaces b)
-    ∙ ap (λ (t : List ℕ). spaces a ++ t) (escaped-unescaped None text (spaces b) ∙ ap (λ (t : List ℕ). text ++ t) (ap unescaped (sym (append-nil (spaces b))) ∙ spaces-unescaped b [] ∙ append-nil (spaces b)))
+    ∙ ap (λ (t : List ℕ). spaces a ++ t) (escaped-unescaped false None text (spaces b) ∙ ap (λ (t : List ℕ). text ++ t) (ap unescaped (sym (append-nil (spaces b))) ∙ spaces-unescaped b [] ∙ append-nil (spaces b)))
 
 -- ---- outer spaces
 

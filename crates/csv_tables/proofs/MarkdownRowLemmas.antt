@@ -19,7 +19,7 @@ use Rattle.comfy_table.specs.Pieces.{blank_piece, cell_pieces, padded, piece, pi
 use Rattle.comfy_table.specs.Styling.{styled}
 use Rattle.comfy_table.specs.TableValue.{TableValue, cell_content_width, should_style}
 use Rattle.csv_tables.specs.Cells.{cell_for, cells_for, field_or_blank, field_text, marked}
-use Rattle.csv_tables.specs.Markdown.{escaped_after, is_special}
+use Rattle.csv_tables.specs.Markdown.{escaped_after, is_marked_at, is_special}
 use Rattle.csv_tables.specs.declared.options.DrawnColumn.{DrawnColumn}
 use Rattle.csv_tables.specs.declared.options.Look.{Look}
 use Rattle.csv_tables.proofs.MarkdownLineLemmas.{IsPiece}
@@ -29,11 +29,14 @@ use Rattle.csv_tables.proofs.BuiltLemmas.{blank_drawn}
 -- ---- one text line
 
 -- no line feed is left in what is escaped
-no_line_feed : (before : Option ℕ) (cs : List ℕ) → NonePass (λ c. c == 0x0A) (escaped_after before cs)
-no_line_feed before [] = tt
-no_line_feed before (c ∷ cs) = by_tests (c == 0x0A) (is_special before c (slice_get cs 0)) refl (no_line_feed (Some c) cs)
+no_line_feed : (is_marked : Bool) (before : Option ℕ) (cs : List ℕ) → NonePass (λ c. c == 0x0A) (escaped_after is_marked before cs)
+no_line_feed is_marked before [] = tt
+no_line_feed is_marked before (c ∷ cs) = by_tests (c == 0x0A) (is_special here before c cs) refl (no_line_feed here (Some c) cs)
   where
-    by_tests : (feed special : Bool) → (c == 0x0A) ≡ feed → NonePass (λ x. x == 0x0A) (escaped_after (Some c) cs) → NonePass (λ x. x == 0x0A) (cond feed (codes "<br>") (cond special (0x5C ∷ c ∷ []) (c ∷ [])) ++ escaped_after (Some c) cs)
+    here : Bool
+    here = is_marked_at is_marked before (c ∷ cs)
+
+    by_tests : (feed special : Bool) → (c == 0x0A) ≡ feed → NonePass (λ x. x == 0x0A) (escaped_after here (Some c) cs) → NonePass (λ x. x == 0x0A) (cond feed (codes "<br>") (cond special (0x5C ∷ c ∷ []) (c ∷ [])) ++ escaped_after here (Some c) cs)
     by_tests true special is more = (refl, (refl, (refl, (refl, more))))
     by_tests false true is more = (refl, (is, more))
     by_tests false false is more = (is, more)
@@ -42,7 +45,7 @@ no_line_feed before (c ∷ cs) = by_tests (c == 0x0A) (is_special before c (slic
 pub one_text_line : (text : Text) → (plain_cell (marked text)).text_lines ≡ marked text ∷ []
 one_text_line text =
     slice_split_none (λ b. b == 0x0A) (marked text)
-    (All-none (λ b. b == 0x0A) (marked text) (none_by_characters (λ c. c == 0x0A) 0x0A (omega arith) refl (marked text) (escaped_after None (chars text), refl, no_line_feed None (chars text))))
+    (All-none (λ b. b == 0x0A) (marked text) (none_by_characters (λ c. c == 0x0A) 0x0A (omega arith) refl (marked text) (escaped_after false None (chars text), refl, no_line_feed false None (chars text))))
 
 -- ---- one piece
 

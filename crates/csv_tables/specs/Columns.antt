@@ -10,10 +10,11 @@ use Rattle.csv_tables.specs.Cells.{field_or_blank}
 use Rattle.csv_records.specs.Cleaning.{visible_of}
 use Rattle.csv_records.specs.Number.{is_neutral, is_number}
 use Rattle.csv_records.specs.Numerals.{number_for}
+use Rattle.csv_tables.specs.Hints.{hint_for, passes}
 use Rattle.csv_tables.specs.declared.columns.FieldKind.{FieldKind}
 use Rattle.csv_tables.specs.declared.columns.FieldKind.TheVariants.{Number, Neutral, Other}
 use Rattle.csv_tables.specs.declared.error.ColumnsError.{ColumnsError}
-use Rattle.csv_tables.specs.declared.error.ColumnsError.TheVariants.{NoColumn, OutOfMemory, TwoSides}
+use Rattle.csv_tables.specs.declared.error.ColumnsError.TheVariants.{NoColumn, NoneLeft, OutOfMemory, TwoSides}
 use Rattle.csv_tables.specs.declared.options.Options.{Options}
 use Rattle.csv_tables.specs.declared.options.DrawnColumn.{DrawnColumn}
 
@@ -28,28 +29,23 @@ position_named name names = position_from (λ field. bytes_eq field name) 0 name
 
 -- a field is there, and is this text
 abbrev pub is_text : Text → Option Text → Bool
-is_text name None = false
-is_text name (Some field) = bytes_eq field name
+is_text name field = passes (λ own. bytes_eq own name) field
 
--- why columns can't be drawn: a word chooses nothing that is there, or a column is to stand at two
--- sides
-pub record ColumnFault : Type 0 where
-  pub is_missing : Bool
-  pub name : Text
-
-abbrev pub missing : Text → ColumnFault
-missing name = record { is_missing = true; name = name }
-
-abbrev pub two_sided : Text → ColumnFault
-two_sided name = record { is_missing = false; name = name }
+-- why columns can't be drawn: a word chooses nothing that is there, for which something helps; no
+-- column is left; or one of this name is to stand at two sides
+pub data ColumnFault : Type 0 where
+  missing : (word hint : Text) → ColumnFault
+  none_left : ColumnFault
+  two_sided : (name : Text) → ColumnFault
 
 -- the column of a number, counted from 1, where it is there
 abbrev pub numbered : ℕ → ℕ → Option ℕ
 numbered count number = if nat_lt 0 number && nat_le number count then Some (number - 1) else None
 
--- the position of a column: that of its number, else the first of its name
+-- the position of a column: that of its number where it is there, else the first of its name
 abbrev pub column_by : List Text → ℕ → Text → Option ℕ → Option ℕ
-column_by names count word (Some number) = numbered count number
+column_by names count word (Some number) =
+    option_or (numbered count number) (position_named word names)
 column_by names count word None = position_named word names
 
 abbrev pub column_of : List Text → ℕ → Text → Option ℕ
@@ -102,7 +98,8 @@ positions_between ends = range_with_len ends.0 (ends.1 - ends.0)
 -- the positions that a word chooses
 abbrev pub positions_of_word : List Text → ℕ → Text → Result (List ℕ) ColumnFault
 positions_of_word names count word =
-    ok_or (option_map positions_between (columns_chosen names count word)) (missing word)
+    ok_or (option_map positions_between (columns_chosen names count word))
+    (missing word (hint_for names count word))
 
 -- one list after another, or the first fault
 abbrev pub joined : Result (List ℕ) ColumnFault → Result (List ℕ) ColumnFault
@@ -129,14 +126,18 @@ abbrev pub without : List ℕ → List ℕ → List ℕ
 without positions dropped =
     filter (λ position. not (list_any (λ other. other == position) dropped)) positions
 
+-- positions, where there are some
+abbrev pub some_left : List ℕ → Result (List ℕ) ColumnFault
+some_left positions = if length positions == 0 then Err none_left else Ok positions
+
 -- these, or the first fault
 abbrev pub less : Result (List ℕ) ColumnFault → Result (List ℕ) ColumnFault
     → Result (List ℕ) ColumnFault
-less (Ok positions) (Ok dropped) = Ok (without positions dropped)
+less (Ok positions) (Ok dropped) = some_left (without positions dropped)
 less (Ok positions) (Err fault) = Err fault
 less (Err fault) dropped = Err fault
 
--- those of the columns that are drawn: the chosen ones, less those that are left out
+-- those of the columns that are drawn: the chosen ones, less those that are left out; there is one
 abbrev pub kept_columns : {A : Type 0} → List Text → ℕ → List (String A) → List (String A)
     → Result (List ℕ) ColumnFault
 kept_columns names count words dropped =
@@ -243,6 +244,8 @@ columns_for options names rows =
 
 -- why there are no columns: a fault of the lists, or there is no memory
 abbrev pub IsColumnsRefusal : {A : Type 0} → ColumnsError → Result A ColumnFault → Type 0
-IsColumnsRefusal (NoColumn name) columns = columns ≡ Err (missing (string_bytes name))
+IsColumnsRefusal (NoColumn word hint) columns =
+    columns ≡ Err (missing (string_bytes word) (string_bytes hint))
+IsColumnsRefusal NoneLeft columns = columns ≡ Err none_left
 IsColumnsRefusal (TwoSides name) columns = columns ≡ Err (two_sided (string_bytes name))
 IsColumnsRefusal OutOfMemory columns = Unit {0}

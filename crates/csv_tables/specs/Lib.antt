@@ -4,11 +4,13 @@ pub mod Columns
 pub mod Controls
 pub mod Drawn
 pub mod Errors
+pub mod Hints
 pub mod KeptContents
 pub mod Laws
 pub mod Markdown
 pub mod MarkdownLines
 pub mod OneOutput
+pub mod References
 pub mod Run
 pub mod Separators
 pub mod Unbroken

@@ -7,35 +7,80 @@ use Rattle.std.specs.List.{list_any, repeat}
 use Rattle.comfy_parts.specs.Text.{Text}
 use Rattle.comfy_parts.specs.declared.style.cell.CellAlignment.{CellAlignment}
 use Rattle.comfy_parts.specs.declared.style.cell.CellAlignment.TheVariants.{Right}
+use Rattle.csv_tables.specs.References.{begins_reference}
 use Rattle.csv_tables.specs.declared.options.DrawnColumn.{DrawnColumn}
 
 -- a character that could begin or end markup wherever it stands
 abbrev pub is_mark : ℕ → Bool
-is_mark c = list_any (λ mark. mark == c) (codes "|\\<&*`[]~")
+is_mark c = list_any (λ mark. mark == c) (codes "|\\<[]")
 
 -- a letter or a digit stands there
 abbrev pub is_in_word : Option ℕ → Bool
 is_in_word None = false
 is_in_word (Some c) = is_alphabetic c || is_numeric c
 
--- so could an underscore that isn't between two letters or digits
-abbrev pub is_special : Option ℕ → ℕ → Option ℕ → Bool
-is_special before c after =
-    is_mark c || ((c == 0x5F) && not (is_in_word before && is_in_word after))
+-- this character stands there
+abbrev pub is_character : ℕ → Option ℕ → Bool
+is_character c None = false
+is_character c (Some own) = own == c
 
--- a character between two others: a line feed as `<br>`, a special character after a backslash
-abbrev pub escaped_character : Option ℕ → ℕ → Option ℕ → List ℕ
-escaped_character before c after =
-    if c == 0x0A then codes "<br>" else if is_special before c after then 0x5C ∷ c ∷ [] else c ∷ []
+-- a character that could do so together with another one behind it; an underscore behind a letter
+-- or a digit begins no markup
+abbrev pub is_paired : Option ℕ → ℕ → Bool
+is_paired before c =
+    list_any (λ mark. mark == c) (codes "*`~") || ((c == 0x5F) && not (is_in_word before))
 
--- characters after another one
-abbrev pub escaped_after : Option ℕ → List ℕ → List ℕ
-escaped_after before [] = []
-escaped_after before (c ∷ rest) =
-    escaped_character before c (slice_get rest 0) ++ escaped_after (Some c) rest
+-- a character, before these, could begin or end markup: so does an ampersand that begins a
+-- character reference
+abbrev pub begins_markup : Option ℕ → ℕ → List ℕ → Bool
+begins_markup before c rest =
+    (is_mark c || (is_paired before c && list_any (λ d. d == c) rest))
+    || ((c == 0x26) && begins_reference rest)
+
+abbrev pub is_space : ℕ → Bool
+is_space c = (c == 0x20) || (c == 0x0A)
+
+-- no word goes on behind it
+abbrev pub ends_word : Option ℕ → Bool
+ends_word None = true
+ends_word (Some c) = is_space c
+
+-- a character of the first word could begin or end markup
+abbrev pub is_word_marked : Option ℕ → List ℕ → Bool
+is_word_marked before [] = false
+is_word_marked before (c ∷ rest) =
+    not (is_space c) && (begins_markup before c rest || is_word_marked (Some c) rest)
+
+-- so of the word around the first character, of which it is known where it doesn't begin there
+abbrev pub is_marked_at : Bool → Option ℕ → List ℕ → Bool
+is_marked_at is_marked before text =
+    if ends_word before then is_word_marked before text else is_marked
+
+-- a web address could stand there, by a neighbour in `://` and `www.`
+abbrev pub is_in_address : Option ℕ → ℕ → Option ℕ → Bool
+is_in_address before c after =
+    ((c == 0x3A) && is_character 0x2F after) || ((c == 0x2E) && is_character 0x77 before)
+
+-- a character gets a backslash: it could begin or end markup, or an address in a word with such
+-- characters, whose backslashes would be read as parts of the address
+abbrev pub is_special : Bool → Option ℕ → ℕ → List ℕ → Bool
+is_special is_marked before c rest =
+    begins_markup before c rest || (is_marked && is_in_address before c (slice_get rest 0))
+
+-- a character as it is written: a line feed as `<br>`, a special character after a backslash
+abbrev pub escaped_character : Bool → ℕ → List ℕ
+escaped_character special c =
+    if c == 0x0A then codes "<br>" else if special then 0x5C ∷ c ∷ [] else c ∷ []
+
+-- characters after another one, in a word of which it is known whether it is marked
+abbrev pub escaped_after : Bool → Option ℕ → List ℕ → List ℕ
+escaped_after is_marked before [] = []
+escaped_after is_marked before (c ∷ rest) =
+    escaped_character (is_special (is_marked_at is_marked before (c ∷ rest)) before c rest) c
+    ++ escaped_after (is_marked_at is_marked before (c ∷ rest)) (Some c) rest
 
 abbrev pub escaped : List ℕ → List ℕ
-escaped text = escaped_after None text
+escaped text = escaped_after false None text
 
 -- ---- the line below the header
 

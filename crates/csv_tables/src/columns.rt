@@ -10,6 +10,7 @@ ghost use Rattle.csv_tables.specs.declared.columns.FieldKind.TheVariants.{Neutra
 ghost use Rattle.csv_tables.specs.Columns.{AreKindsOf, IsColumnsRefusal, alignment_for, at_two_sides, chosen_columns, column_of, columns_chosen, columns_for, count_of, drawn_columns, end_of, is_text, joined_kind, joined_kinds, kept_columns, kind_at, kind_of, name_at, numbered, position_named, positions_of, positions_of_word, range_at, range_of, seen, without};
 
 use crate::error::ColumnsError;
+use crate::hints::hint_of;
 use crate::options::{DrawnColumn, Options, Selection};
 use comfy_parts::content_split::visible_text;
 use comfy_parts::style::CellAlignment;
@@ -80,7 +81,7 @@ fn count_of(names: &Record<'_>, rows: &Rows<'_>) -> usize
     count
 }
 
-// The positions of the chosen columns, without those that are left out.
+// The positions of the chosen columns, without those that are left out; there has to be one.
 fn kept_columns(
     alloc: Global,
     selection: &Selection,
@@ -94,7 +95,11 @@ fn kept_columns(
 {
     let chosen = chosen_columns(alloc, selection.columns.as_slice(), names, count)?;
     let dropped = positions_of(alloc, selection.dropped.as_slice(), names, count)?;
-    Ok(without(alloc, chosen.as_slice(), dropped.as_slice())?)
+    let kept = without(alloc, chosen.as_slice(), dropped.as_slice())?;
+    if kept.is_empty() {
+        return Err(ColumnsError::NoneLeft);
+    }
+    Ok(kept)
 }
 
 // The positions of one list that aren't in another.
@@ -163,7 +168,10 @@ fn positions_of_word(
 {
     match columns_chosen(names, count, word) {
         Some((start, end)) => Ok(positions_between(alloc, start, end)?),
-        None => Err(ColumnsError::NoColumn(String::from_str(alloc, word)?)),
+        None => {
+            let hint = hint_of(alloc, names, count, word)?;
+            Err(ColumnsError::NoColumn(String::from_str(alloc, word)?, hint))
+        }
     }
 }
 
@@ -179,15 +187,17 @@ fn columns_chosen(names: &Record<'_>, count: usize, word: &str) -> Option<(usize
     }
 }
 
-// The position of a column: that of its number, else the first of its name.
+// The position of a column: that of its number where it is there, else the first of its name.
 fn column_of(names: &Record<'_>, count: usize, word: &str) -> Option<usize>
     ensures value { result ≡ column_of names.now count word.now }
     ensures below { IfSome result (λ position. position < 2 ^ 64 - 1) }
 {
-    match number_of(word) {
-        Some(number) => numbered(count, number),
-        None => position_named(names, word),
+    if let Some(number) = number_of(word) {
+        if let Some(position) = numbered(count, number) {
+            return Some(position);
+        }
     }
+    position_named(names, word)
 }
 
 // The position of the column with a number, where it is there.

@@ -1,25 +1,32 @@
 //! What makes a table one for Markdown: the texts of its cells, and the line below its header.
 
-ghost use Rattle.std.specs.Prelude.{◌≡◌, ◌<◌, ◌++◌, [], ◌∷◌, IfNone, IfOk, IfSome, OnOk, chars, encode_utf8, length, slice_get, string_bytes};
+ghost use Rattle.std.specs.Prelude.{◌≡◌, ◌++◌, ◌==◌, [], ◌∷◌, IfOk, OnOk, chars, slice_get, string_bytes};
+ghost use Rattle.std.specs.List.{list_any};
 ghost use Rattle.std.specs.Str.{encode_utf8_all};
-ghost use Rattle.csv_tables.specs.Markdown.{escaped, escaped_character, is_in_word, is_mark, is_right, is_special, rule_line, rule_part};
+ghost use Rattle.csv_tables.specs.Markdown.{begins_markup, ends_word, escaped, escaped_character, is_in_address, is_in_word, is_mark, is_marked_at, is_paired, is_right, is_space, is_special, is_word_marked, rule_line, rule_part};
 
 use crate::options::DrawnColumn;
+use crate::references::begins_reference;
 use comfy_parts::style::CellAlignment;
 use csv_records::split_first;
 use std::alloc::{AllocError, Global};
 
 /// A text as a cell of a Markdown table, to be read as its characters. A backslash stands before
-/// what could begin or end markup: `|`, `\`, `<`, `&`, `*`, `` ` ``, `[`, `]`, `~`, and `_` where
-/// it isn't between two letters or digits. A line feed is written `<br>`.
+/// what could begin or end markup: `|`, `\`, `<`, `[`, `]`; `&` of a character reference; `*`,
+/// `` ` ``, `~` and `_` where another one stands behind, but for `_` right behind a letter or a
+/// digit. A word that has one has further ones in `:/` and between `w` and a point: a reader that
+/// makes links of web addresses would take the backslashes into the link. A line feed is written
+/// `<br>`.
 pub fn escaped(alloc: Global, text: &str) -> Result<String, AllocError>
     ensures { IfOk result (λ t. string_bytes t ≡ encode_utf8_all (escaped (chars text.now))) }
 {
     let mut cell = String::new(alloc);
+    let mut is_marked = false;
     let mut before = None;
     let mut rest = text;
     while let Some((c, behind)) = split_first(rest) {
-        push_escaped(&mut cell, before, c, first(behind))?;
+        is_marked = is_marked_at(is_marked, before, rest);
+        push_escaped(&mut cell, c, is_special(is_marked, before, c, behind))?;
         before = Some(c);
         rest = behind;
     }
@@ -71,36 +78,108 @@ fn first(text: &str) -> Option<char>
     text.chars().next()
 }
 
-// Appends a character that stands between these.
-fn push_escaped(
-    cell: &mut String,
-    before: Option<char>,
-    c: char,
-    after: Option<char>,
-) -> Result<(), AllocError>
+// Appends a character, after a backslash where it is special.
+fn push_escaped(cell: &mut String, c: char, is_special: bool) -> Result<(), AllocError>
     ensures { OnOk result (string_bytes cell.new
-        ≡ string_bytes cell.old ++ encode_utf8_all (escaped_character before c after)) }
+        ≡ string_bytes cell.old ++ encode_utf8_all (escaped_character is_special c)) }
 {
     if c == '\n' {
         return cell.push_str("<br>");
     }
-    if is_special(before, c, after) {
+    if is_special {
         cell.push('\\')?;
     }
     cell.push(c)
 }
 
-// Whether a character between these could begin or end markup.
-fn is_special(before: Option<char>, c: char, after: Option<char>) -> bool
-    ensures { result ≡ is_special before c after }
+// Whether a character could begin or end markup, or an address that such a character would spoil.
+fn is_special(is_marked: bool, before: Option<char>, c: char, behind: &str) -> bool
+    ensures { result ≡ is_special is_marked before c (chars behind.now) }
 {
-    is_mark(c) || c == '_' && !(is_in_word(before) && is_in_word(after))
+    begins_markup(before, c, behind) || is_marked && is_in_address(before, c, first(behind))
+}
+
+// Whether the word around the first character is marked; known of it unless it begins here.
+fn is_marked_at(is_marked: bool, before: Option<char>, text: &str) -> bool
+    ensures { result ≡ is_marked_at is_marked before (chars text.now) }
+{
+    if ends_word(before) {
+        is_word_marked(before, text)
+    } else {
+        is_marked
+    }
+}
+
+// Whether a character of the first word could begin or end markup.
+fn is_word_marked(before: Option<char>, text: &str) -> bool
+    ensures { result ≡ is_word_marked before (chars text.now) }
+{
+    let mut before = before;
+    let mut rest = text;
+    while let Some((c, behind)) = split_first(rest) {
+        if is_space(c) {
+            return false;
+        }
+        if begins_markup(before, c, behind) {
+            return true;
+        }
+        before = Some(c);
+        rest = behind;
+    }
+    false
+}
+
+fn ends_word(c: Option<char>) -> bool
+    ensures { result ≡ ends_word c }
+{
+    match c {
+        Some(c) => is_space(c),
+        None => true,
+    }
+}
+
+fn is_space(c: char) -> bool
+    ensures { result ≡ is_space c }
+{
+    c == ' ' || c == '\n'
+}
+
+// Whether a web address could stand here: `://`, or `www.`, of which a neighbour is seen.
+fn is_in_address(before: Option<char>, c: char, after: Option<char>) -> bool
+    ensures { result ≡ is_in_address before c after }
+{
+    match c {
+        ':' => matches!(after, Some('/')),
+        '.' => matches!(before, Some('w')),
+        _ => false,
+    }
+}
+
+// Whether a character could begin or end markup.
+fn begins_markup(before: Option<char>, c: char, behind: &str) -> bool
+    ensures { result ≡ begins_markup before c (chars behind.now) }
+{
+    is_mark(c) || is_paired(before, c) && holds(behind, c) || c == '&' && begins_reference(behind)
 }
 
 fn is_mark(c: char) -> bool
     ensures { result ≡ is_mark c }
 {
-    matches!(c, '|' | '\\' | '<' | '&' | '*' | '`' | '[' | ']' | '~')
+    matches!(c, '|' | '\\' | '<' | '[' | ']')
+}
+
+// Whether another one behind it would make a character markup. An underscore behind a letter or a
+// digit begins none.
+fn is_paired(before: Option<char>, c: char) -> bool
+    ensures { result ≡ is_paired before c }
+{
+    matches!(c, '*' | '`' | '~') || c == '_' && !is_in_word(before)
+}
+
+fn holds(text: &str, c: char) -> bool
+    ensures { result ≡ list_any (λ d. d == c) (chars text.now) }
+{
+    text.chars().any(|d| d == c)
 }
 
 // Whether a letter or a digit stands there.

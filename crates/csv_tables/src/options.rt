@@ -32,10 +32,10 @@ pub struct Selection {
     /// How many records below the header are drawn; all where there is no limit.
     pub limit: Option<usize>,
     /// The columns in the order in which they are drawn, by words; an empty list stands for all of
-    /// them. A word is a column's number, counted from 1, else its name, else a range around a
-    /// hyphen. Each end of a range is a number, else a name; nothing behind the hyphen stands for
-    /// the last column. Of several hyphens the first one counts around which both ends are there,
-    /// in order.
+    /// them. A word is the number of a column that is there, counted from 1, else a name, else a
+    /// range around a hyphen. Each end of a range is such a number, else a name; nothing behind the
+    /// hyphen stands for the last column. Of several hyphens the first one counts around which both
+    /// ends are there, in order.
     pub columns: Vec<String>,
     /// Columns that aren't drawn, by such words.
     pub dropped: Vec<String>,

@@ -16,10 +16,10 @@ use csv_records::{Record, Records};
 use std::alloc::Global;
 
 /// The table of these records, with the columns, rows and looks that are wanted, and all lines of
-/// the style. `NoColumn` has the first word that chooses no column that is there: in the list of
-/// columns, then in those of the right and the left. `TwoSides` has the first column of the right
-/// that is at the left too. Where Markdown is wanted its texts alone are for Markdown; `draw` draws
-/// such a table.
+/// the style. `NoColumn` has the first word that chooses no column that is there, in the list of
+/// columns, then in those of the dropped ones, of the right and of the left. `NoneLeft` comes
+/// before those of the right. `TwoSides` has the first column of the right that is at the left too.
+/// Where Markdown is wanted its texts alone are for Markdown; `draw` draws such a table.
 pub fn table_of(
     alloc: Global,
     records: Records,

@@ -1,8 +1,12 @@
 -- Columns by words: ranges, and columns that are left out.
 use Rattle.std.proofs.Common.{◌≡◌, List, [], ◌∷◌, Ok, Err, codes, map, refl}
 use Prim.Native.String.{String}
+use Rattle.std.specs.Fmt.{digits}
 use Rattle.comfy_parts.specs.Text.{Text}
-use Rattle.csv_tables.specs.Columns.{less, missing, positions_of_word}
+use Rattle.csv.specs.Records.{field_at}
+use Rattle.csv_tables.specs.Columns.{less, positions_of_word}
+use Rattle.csv_tables.specs.Columns.ColumnFault.{missing, none_left}
+use Rattle.csv_tables.specs.Hints.{hint_for}
 
 abbrev texts : List String → List Text
 texts words = map (λ (word : String). codes word) words
@@ -28,12 +32,40 @@ in_order = refl
 
 no_ranges :
     map (positions_of_word header 4) (texts ("phone-a" ∷ "3-2" ∷ "4-5" ∷ "5-" ∷ "0-" ∷ "-2" ∷ "-" ∷ "mail-" ∷ "a-b" ∷ []))
-    ≡ map (λ word. Err (missing word)) (texts ("phone-a" ∷ "3-2" ∷ "4-5" ∷ "5-" ∷ "0-" ∷ "-2" ∷ "-" ∷ "mail-" ∷ "a-b" ∷ []))
+    ≡ map (λ word. Err (missing word (codes "there are a, e, e-mail and phone"))) (texts ("phone-a" ∷ "3-2" ∷ "4-5" ∷ "5-" ∷ "0-" ∷ "-2" ∷ "-" ∷ "mail-" ∷ "a-b" ∷ []))
+unfolding field_at
 no_ranges = refl
 
+-- a number that no column has is a name
+numbers_as_names :
+    map (positions_of_word (texts ("2" ∷ "2024" ∷ "2025" ∷ [])) 3) (texts ("2" ∷ "2024" ∷ "2024-2025" ∷ "2-2025" ∷ "2024-3" ∷ "1-2024" ∷ []))
+    ≡ Ok (1 ∷ []) ∷ Ok (1 ∷ []) ∷ Ok (1 ∷ 2 ∷ []) ∷ Ok (1 ∷ 2 ∷ []) ∷ Ok (1 ∷ 2 ∷ []) ∷ Ok (0 ∷ 1 ∷ []) ∷ []
+numbers_as_names = refl
+
+-- what a message tells: a name in another case of letters, or what columns there are
+hints :
+    map (hint_for (texts ("a" ∷ "Ab" ∷ "AB" ∷ "" ∷ [])) 5) (texts ("ab" ∷ "b" ∷ []))
+    ≡ codes "did you mean Ab?" ∷ codes "there are a, Ab, AB, 4 and 5" ∷ []
+unfolding field_at digits
+hints = refl
+
+columns_are_told :
+    map (λ count. hint_for (codes "a" ∷ []) count (codes "b")) (1 ∷ 2 ∷ 8 ∷ 9 ∷ 1000 ∷ [])
+    ≡ texts ("there is a" ∷ "there are a and 2" ∷ "there are a, 2, 3, 4, 5, 6, 7 and 8" ∷ "there are a, 2, 3, 4, 5, 6, 7, 8 and 1 more" ∷ "there are a, 2, 3, 4, 5, 6, 7, 8 and 992 more" ∷ [])
+unfolding field_at digits
+columns_are_told = refl
+
+columns_are_counted : map (λ count. hint_for [] count (codes "b")) (0 ∷ 1 ∷ 2 ∷ []) ≡ texts ("there are 0 columns" ∷ "there is 1 column" ∷ "there are 2 columns" ∷ [])
+unfolding digits
+columns_are_counted = refl
+
 -- columns left out, wherever they are; the first fault
-left_out : map (less (Ok (0 ∷ 1 ∷ 2 ∷ 1 ∷ []))) (Ok (1 ∷ 5 ∷ []) ∷ Ok [] ∷ Err (missing (codes "x")) ∷ []) ≡ Ok (0 ∷ 2 ∷ []) ∷ Ok (0 ∷ 1 ∷ 2 ∷ 1 ∷ []) ∷ Err (missing (codes "x")) ∷ []
+left_out : map (less (Ok (0 ∷ 1 ∷ 2 ∷ 1 ∷ []))) (Ok (1 ∷ 5 ∷ []) ∷ Ok [] ∷ Err (missing (codes "x") []) ∷ []) ≡ Ok (0 ∷ 2 ∷ []) ∷ Ok (0 ∷ 1 ∷ 2 ∷ 1 ∷ []) ∷ Err (missing (codes "x") []) ∷ []
 left_out = refl
 
-chosen_before_left_out : less (Err (missing (codes "a"))) (Err (missing (codes "b"))) ≡ Err (missing (codes "a"))
+-- one is to be left
+none_are_left : map (less (Ok (0 ∷ 2 ∷ []))) (Ok (2 ∷ 0 ∷ []) ∷ Ok (0 ∷ []) ∷ []) ≡ Err none_left ∷ Ok (2 ∷ []) ∷ []
+none_are_left = refl
+
+chosen_before_left_out : less (Err (missing (codes "a") [])) (Err (missing (codes "b") [])) ≡ Err (missing (codes "a") [])
 chosen_before_left_out = refl

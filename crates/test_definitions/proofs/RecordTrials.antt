@@ -4,6 +4,8 @@ use Prim.Native.String.{String}
 use Rattle.comfy_parts.proofs.Computing.{wrapping}
 use Rattle.comfy_parts.specs.Text.{Text, is_printable_ascii}
 use Rattle.comfy_parts.specs.declared.style.cell.CellAlignment.TheVariants.{Left, Right}
+use Rattle.std.specs.Char.Unicode.Alphabetic.{alphabetic_ranges, is_alphabetic}
+use Rattle.std.specs.Char.Unicode.Rows.{in_ranges}
 use Rattle.std.specs.Fmt.{digits}
 use Rattle.std.specs.List.{All, list_all, list_any}
 use Rattle.std.specs.Str.{IsUtf8, chars, is_utf8}
@@ -13,7 +15,8 @@ use Rattle.csv.specs.Records.{AllText, field_at}
 use Rattle.csv_records.specs.Cleaning.{after_piece, pieces, start}
 use Rattle.csv_records.specs.Input.{line_breaks as line_breaks_of, line_of}
 use Rattle.csv_records.specs.declared.cleaning.CleanOptions.{CleanOptions}
-use Rattle.csv_tables.specs.Columns.{alignment_for, columns_with, missing, position_named, positions_of_word, seen, two_sided, is_number_column}
+use Rattle.csv_tables.specs.Columns.{alignment_for, columns_with, position_named, positions_of_word, seen, is_number_column}
+use Rattle.csv_tables.specs.Columns.ColumnFault.{missing, none_left, two_sided}
 use Rattle.csv_tables.specs.Drawn.{condensed_style, is_expanded_in, least_width, limited, note_for, record_line}
 use Rattle.csv_tables.specs.Markdown.{rule_line}
 use Rattle.csv_tables.specs.declared.options.Expansion.TheVariants.{Always, Auto, Never}
@@ -21,6 +24,7 @@ use Rattle.comfy_parts.specs.CellValue.{plain_cell, plain_row}
 use Rattle.comfy_parts.specs.Presets.{ascii_full}
 use Rattle.comfy_table.specs.TableValue.{TableValue, new_table, with_rows}
 use Rattle.csv_tables.specs.Markdown.{escaped, unescaped}
+use Rattle.csv_tables.specs.References.{begins_reference}
 use Rattle.csv_records.specs.Number.{is_neutral, is_number}
 use Rattle.clap.proofs.OnLiterals.{clap_on_literals}
 use Rattle.clap.specs.Words.{first_of, matches_of}
@@ -158,9 +162,27 @@ tab_after_a_sequence = refl
 escapes : escaped (codes "a|b<c" ++ 0x0A ∷ 0x5C ∷ []) ≡ codes "a" ++ 0x5C ∷ codes "|b" ++ 0x5C ∷ codes "<c<br>" ++ 0x5C ∷ 0x5C ∷ []
 escapes = refl
 
--- an underscore at the front of a text is in no word
-underscore : escaped (codes "_") ≡ codes "\\_"
-underscore = refl
+-- an underscore behind no letter, before another one; behind a letter; and the last one
+underscores : map escaped (texts ("_a_" ∷ "a_b_" ∷ "_" ∷ [])) ≡ texts ("\\_a_" ∷ "a_b_" ∷ "_" ∷ [])
+unfolding is_alphabetic in_ranges alphabetic_ranges
+underscores = refl
+
+-- an address has no backslash, or has one in front where one would stand in it
+addresses :
+    map escaped (texts ("http://a.b/?c=1&d=2" ∷ "http://a.b/?c&d;" ∷ "www.a.b/~c" ∷ "www.a.b/~c~ w." ∷ []))
+    ≡ texts ("http://a.b/?c=1&d=2" ∷ "http\\://a.b/?c\\&d;" ∷ "www.a.b/~c" ∷ "www\\.a.b/\\~c~ w." ∷ [])
+addresses = refl
+
+-- names and numbers are references where `;` follows
+references :
+    map begins_reference (texts ("amp;" ∷ "b2;" ∷ "#42;" ∷ "#x2a;" ∷ "#XF;" ∷ []))
+    ≡ true ∷ true ∷ true ∷ true ∷ true ∷ []
+references = refl
+
+no_references :
+    map begins_reference (texts ("" ∷ ";" ∷ "amp" ∷ "b=2;" ∷ "2;" ∷ "#;" ∷ "#a;" ∷ "#x;" ∷ "#xg;" ∷ "a b;" ∷ []))
+    ≡ false ∷ false ∷ false ∷ false ∷ false ∷ false ∷ false ∷ false ∷ false ∷ false ∷ []
+no_references = refl
 
 read_back : unescaped (codes "<br>" ++ 0x5C ∷ codes "<br>") ≡ 0x0A ∷ codes "<br>"
 read_back = refl
@@ -193,13 +215,14 @@ by_name = refl
 no_such_name : position_named (codes "c") (texts ("a" ∷ "b" ∷ [])) ≡ None
 no_such_name = refl
 
--- a message names the word as it is
+-- a message names the word as it is, and says how many columns there are
 missing_columns :
     map (positions_of_word [] 3) (texts ("3-1" ∷ "0" ∷ "0-1" ∷ "09" ∷ "2-9" ∷ "a" ∷ "" ∷ []))
-    ≡ map (λ word. Err (missing word)) (texts ("3-1" ∷ "0" ∷ "0-1" ∷ "09" ∷ "2-9" ∷ "a" ∷ "" ∷ []))
+    ≡ map (λ word. Err (missing word (codes "there are 3 columns"))) (texts ("3-1" ∷ "0" ∷ "0-1" ∷ "09" ∷ "2-9" ∷ "a" ∷ "" ∷ []))
+unfolding digits
 missing_columns = refl
 
-columns_before_right : columns_with [] [] (Err (missing (codes "a"))) (Err (missing (codes "b"))) (Err (missing (codes "c"))) ≡ Err (missing (codes "a"))
+columns_before_right : columns_with [] [] (Err (missing (codes "a") [])) (Err none_left) (Err (missing (codes "c") [])) ≡ Err (missing (codes "a") [])
 columns_before_right = refl
 
 -- the first column at the right that is at the left too; it has a name, or else a number

@@ -77,7 +77,11 @@ fn records_become_a_table(rt: HostRuntime) {
     options.selection.columns.push(word).expect(&rt, "memory");
     let records = read_records(rt.alloc(), text, &options.input).expect(&rt, "records");
     let refused = table_of(rt.alloc(), records, &options);
-    assert!(rt; matches!(&refused, Err(ColumnsError::NoColumn(name)) if name.as_str() == "weeks"));
+    let hint = "there are name and days";
+    assert!(rt;
+        matches!(&refused, Err(ColumnsError::NoColumn(word, helps))
+        if word.as_str() == "weeks" && helps.as_str() == hint)
+    );
 }
 
 fn assert_decoded<const N: usize>(

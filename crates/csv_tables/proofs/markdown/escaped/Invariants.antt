@@ -12,5 +12,5 @@ abbrev pub invariant-loop-c : goal.invariant-loop-c
 invariant-loop-c l =
     record {
       utf8 : shadow (Utf8 l.rest);
-      whole : string_bytes l.cell ++ encode_utf8_all (escaped_after l.before (chars l.rest)) ≡ encode_utf8_all (escaped (chars l.text));
+      whole : string_bytes l.cell ++ encode_utf8_all (escaped_after l.is_marked l.before (chars l.rest)) ≡ encode_utf8_all (escaped (chars l.text));
     }
