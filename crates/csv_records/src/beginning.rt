@@ -1,11 +1,11 @@
 //! A beginning of an input that is enough for its first records.
 
-ghost use Rattle.std.specs.Prelude.{◌≡◌, ◌≤◌, ◌++◌, IfOk, IfSome, IsTrue, length};
+ghost use Rattle.std.specs.Prelude.{◌≡◌, ◌++◌, IfOk, IfSome, IsTrue};
 ghost use Rattle.comfy_parts.specs.Text.{Text};
 ghost use Rattle.csv_records.specs.Beginning.{AreFirstByBeginning, EndsWithLine};
 
 use crate::delimiter::{below_lines, shows_delimiter};
-use crate::encoding::{ByteOrder, Encoding, decoded, encoding_of, order_of, unit};
+use crate::encoding::{Encoding, decoded, encoding_of};
 use crate::error::{DecodeError, RecordsError};
 use crate::options::InputOptions;
 use crate::reading::read_first_records;
@@ -17,7 +17,8 @@ const LINE_FEED: u8 = b'\n';
 
 /// The first `most` records of an input of which these bytes were read, where a beginning of them
 /// is enough: its text ends with a line feed and outside quotes, it has more records, and it shows
-/// what stands between fields. None where more has to be read, be it since no text ends there.
+/// what stands between fields. None where more has to be read, be it since no text ends there. An
+/// input in UTF-16 is read whole.
 pub fn read_beginning(
     alloc: Global,
     read: &[u8],
@@ -26,7 +27,10 @@ pub fn read_beginning(
 ) -> Result<Option<Records>, AllocError>
     ensures { IfOk result (λ found. IfSome found (AreFirstByBeginning options.now most read.now)) }
 {
-    let lines = whole_lines(read, options.encoding);
+    let lines = whole_lines(read);
+    if encoding_of(options.encoding, lines) == Encoding::Utf16 {
+        return Ok(None);
+    }
     // So it can't have more records, and isn't looked at.
     if memchr_iter(LINE_FEED, lines).count() <= most {
         return Ok(None);
@@ -60,35 +64,12 @@ fn ends_with_line(text: &str) -> bool
 }
 
 // What was read up to behind the last line feed.
-fn whole_lines(read: &[u8], encoding: Option<Encoding>) -> &[u8]
+fn whole_lines(read: &[u8]) -> &[u8]
     ensures { (behind : Text) × (read.now ≡ result.now ++ behind) }
 {
-    let end = match encoding_of(encoding, read) {
-        Encoding::Utf8 | Encoding::Cp1252 => feed_end(read),
-        Encoding::Utf16 => feed_unit_end(read, order_of(read)),
-    };
-    read.split_at(end).0
-}
-
-// The place behind the last line feed, which is a byte.
-fn feed_end(read: &[u8]) -> usize
-    ensures { result ≤ length read.now }
-{
-    match memrchr(LINE_FEED, read) {
+    let end = match memrchr(LINE_FEED, read) {
         Some(at) => at + 1,
         None => 0,
-    }
-}
-
-// The place behind the last line feed, which is a unit of two bytes.
-fn feed_unit_end(read: &[u8], order: ByteOrder) -> usize
-    ensures { result ≤ length read.now }
-{
-    let mut units = read.len() / 2;
-    while units > 0
-        && unit(order, read[2 * units - 2], read[2 * units - 1]) != u16::from(LINE_FEED)
-    {
-        units -= 1;
-    }
-    2 * units
+    };
+    read.split_at(end).0
 }

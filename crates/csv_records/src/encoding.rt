@@ -100,9 +100,9 @@ fn cp1252_character(byte: u8) -> char
     }
 }
 
-/// The order of a unit's two bytes.
+// The order of a unit's two bytes.
 #[derive(Clone, Copy)]
-pub(crate) enum ByteOrder {
+enum ByteOrder {
     LittleEndian,
     BigEndian,
 }
@@ -118,8 +118,8 @@ fn marked_order(input: &[u8]) -> Option<ByteOrder>
     }
 }
 
-/// The order that it tells, or that is taken without one.
-pub(crate) fn order_of(input: &[u8]) -> ByteOrder
+// The order that it tells, or that is taken without one.
+fn order_of(input: &[u8]) -> ByteOrder
     ensures { result ≡ order_of input.now }
 {
     marked_order(input).unwrap_or(ByteOrder::LittleEndian)
@@ -195,8 +195,8 @@ impl<'a> Iterator for Units<'a> {
     }
 }
 
-/// The unit of these two bytes.
-pub(crate) fn unit(order: ByteOrder, first: u8, second: u8) -> u16
+// The unit of these two bytes.
+fn unit(order: ByteOrder, first: u8, second: u8) -> u16
     ensures { result ≡ unit order first second }
 {
     match order {
