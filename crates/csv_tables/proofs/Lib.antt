@@ -4,6 +4,7 @@ pub mod ColumnLawLemmas
 pub mod ColumnLemmas
 pub mod FieldControlLemmas
 pub mod FieldLemmas
+pub mod FirstRowLemmas
 pub mod KeptWidthLemmas
 pub mod LineLemmas
 pub mod MarkdownDrawingLemmas

@@ -7,6 +7,7 @@ ghost use Rattle.csv_tables.specs.Drawn.{is_expanded_in, least_width, record_tex
 
 use crate::content::Content;
 use crate::options::{Expansion, Look, RowSeparators};
+use crate::output::push_count;
 use crate::unbroken::framed_width;
 use comfy_table::{ArrangedTable, Result, Table, TableError};
 use std::alloc::{AllocError, Global};
@@ -89,6 +90,8 @@ fn push_record(
     let fields = content.columns.len();
     // as many rows are in memory, so a `usize` holds this
     let first = at.checked_mul(fields).ok_or(TableError::OutOfMemory)?;
-    write!(text, "record {} of {}\n", at as u128 + 1, content.count())?;
+    write!(text, "record {} of ", at as u128 + 1)?;
+    push_count(text, content.count())?;
+    text.push('\n')?;
     arranged.push_rows(text, first, fields)
 }
