@@ -1,12 +1,12 @@
 -- What a call of `run` ensures, by its result.
-use Rattle.std.specs.Prelude.{◌≡◌, Bool, true, false, Result, Ok, Err, IsUtf8}
+use Rattle.std.specs.Prelude.{Bool, true, false, Result, Ok, Err, IsUtf8}
 use Rattle.comfy_parts.specs.Text.{Text}
 use Rattle.comfy_parts.specs.declared.error.TableError.TheVariants as memory
 use Rattle.comfy_run.specs.Input.{RendersInput}
 use Rattle.comfy_run.specs.declared.error.RunError.{RunError}
 use Rattle.comfy_run.specs.declared.error.RunError.TheVariants.{Read, Write, NotUtf8, Table}
 use Rattle.comfy_run.specs.declared.settings.Settings.{Settings}
-use Rattle.devices.specs.Outcome.{IsAfterFault, IsAfterOk, IsAfterOutOfMemory, IsAfterRead, IsAfterWrite, RunFacts}
+use Rattle.devices.specs.Outcome.{Extent, OfWhole, IsAfterFault, IsAfterOk, IsAfterOutOfMemory, IsAfterRead, IsAfterWrite, RunFacts}
 use Rattle.devices.specs.declared.transfer.Stop.{Stop}
 use Rattle.devices.specs.declared.transfer.Stop.TheVariants as stop
 
@@ -24,6 +24,13 @@ abbrev pub IsRefusal : Text → RunError → Type 0
 IsRefusal input NotUtf8 = IsNoText input
 IsRefusal input (Table _) = IsUtf8 input
 IsRefusal input _ = ⊥
+
+-- an output, and why there is none, are of a whole input alone: no beginning is enough
+abbrev pub IsDrawnIn : Settings → Extent → Text → Text → Type 0
+IsDrawnIn settings extent input output = OfWhole (IsDrawnFrom settings input output) extent
+
+abbrev pub IsRefusalIn : Extent → Text → RunError → Type 0
+IsRefusalIn extent input e = OfWhole (IsRefusal input e) extent
 
 -- what the facts of a call are, by its result
 abbrev pub IsAfter : {T : Type 0} → Settings → Result T RunError → RunFacts → Type 0

@@ -111,6 +111,7 @@ options_are_one context found other same a b is also =
       input = input_is_one found other same a.input b.input is.input also.input;
       header = is.selection.header ∙ ap not (given (codes "no-header")) ∙ sym also.selection.header;
       limit = is.selection.limit ∙ number 64 (codes "limit") ∙ sym also.selection.limit;
+      counts = is.selection.counts ∙ given (codes "count") ∙ sym also.selection.counts;
       columns = is.selection.columns ∙ ap words_in (first (codes "columns")) ∙ sym also.selection.columns;
       dropped = is.selection.dropped ∙ ap words_in (first (codes "drop")) ∙ sym also.selection.dropped;
       right = is.selection.right ∙ ap words_in (first (codes "right")) ∙ sym also.selection.right;

@@ -204,6 +204,7 @@ pub record IsInputParsed (found : Found) (input : InputOptions) : Type 0 where
 pub record IsSelectionParsed (found : Found) (selection : Selection) : Type 0 where
   pub header : selection.has_header ≡ not (is_given found (codes "no-header"))
   pub limit : selection.limit ≡ number_found 64 found (codes "limit")
+  pub counts : selection.counts_all ≡ is_given found (codes "count")
   pub columns : map string_bytes selection.columns.items
       ≡ words_in (first_value found (codes "columns"))
   pub dropped : map string_bytes selection.dropped.items

@@ -105,6 +105,10 @@ argument_not_utf8 = codes "csvtable: a word isn't UTF-8\n"
 abbrev pub output_unwritten : Text
 output_unwritten = codes "csvtable: the output can't be written\n"
 
+-- the line where it takes no more for now
+abbrev pub output_full : Text
+output_full = codes "csvtable: the output takes no more for now; is it nonblocking?\n"
+
 abbrev pub no_memory : Text
 no_memory = codes "csvtable: out of memory\n"
 
@@ -114,6 +118,7 @@ text_of said.Nothing = []
 text_of said.OutOfMemory = no_memory
 text_of said.NotUtf8 = argument_not_utf8
 text_of said.Unwritten = output_unwritten
+text_of said.Full = output_full
 text_of (said.Text text) = string_bytes text
 
 -- P holds of the text that is said, or there is no memory for it
@@ -122,6 +127,7 @@ Says P said.Nothing = ⊥
 Says P said.OutOfMemory = Unit {0}
 Says P said.NotUtf8 = ⊥
 Says P said.Unwritten = ⊥
+Says P said.Full = ⊥
 Says P (said.Text text) = P (string_bytes text)
 
 -- the status is n, and nothing is said
@@ -141,19 +147,24 @@ pub record IsMessage (n : ℕ) (P : Text → Type 0) (ending : Ending) : Type 0 
   pub is_message : ending.is_message ≡ true
   pub said : Says P ending.said
 
--- the end after an error, by whether the reader of the output has ended: then nothing is said
-abbrev pub IsEndOfError : Outcome → CsvError → Bool → Ending → Type 0
-IsEndOfError drawing err.Write true ending = IsSilent 1 ending
-IsEndOfError drawing err.Write false ending = IsLine 1 said.Unwritten ending
-IsEndOfError drawing err.OutOfMemory is_unread ending = IsLine 1 said.OutOfMemory ending
-IsEndOfError drawing e is_unread ending =
+-- the end where the output wasn't written, by the kind of the error: where the reader of a pipe has
+-- ended nothing is said
+abbrev pub IsEndOfUnwritten : Option IoErrorKind → Ending → Type 0
+IsEndOfUnwritten (Some io.BrokenPipe) ending = IsSilent 1 ending
+IsEndOfUnwritten (Some io.WouldBlock) ending = IsLine 1 said.Full ending
+IsEndOfUnwritten _ ending = IsLine 1 said.Unwritten ending
+
+-- the end after an error
+abbrev pub IsEndOfError : Outcome → CsvError → Ending → Type 0
+IsEndOfError drawing err.Write ending = IsEndOfUnwritten drawing.output_fault ending
+IsEndOfError drawing err.OutOfMemory ending = IsLine 1 said.OutOfMemory ending
+IsEndOfError drawing e ending =
     IsMessage 1 (λ text. text ≡ message_for drawing.invocation.now drawing.fault e) ending
 
 -- the end of a drawing, by its result
 abbrev pub IsEndOfOutcome : Outcome → Ending → Type 0
 IsEndOfOutcome drawing ending =
-    MatchResult drawing.result (λ _. IsSilent 0 ending)
-    (λ e. IsEndOfError drawing e drawing.is_unread ending)
+    MatchResult drawing.result (λ _. IsSilent 0 ending) (λ e. IsEndOfError drawing e ending)
 
 -- no control character but line feeds, and none that turns the direction of text
 abbrev pub IsHarmless : Text → Type 0

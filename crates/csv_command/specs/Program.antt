@@ -51,6 +51,7 @@ csvtable_rules =
     ∷ nameless (number (codes "skip") None (vp.Unsigned 0 (2 ^ 64 - 1)))
     ∷ nameless (flag (codes "no-header") (Some 0x6E))
     ∷ nameless (number (codes "limit") None (vp.Unsigned 0 (2 ^ 64 - 1)))
+    ∷ nameless (flag (codes "count") None)
     ∷ nameless (option (codes "columns") (Some 0x63))
     ∷ nameless (option (codes "drop") None)
     ∷ nameless (option (codes "right") (Some 0x72))

@@ -3,7 +3,7 @@
 ghost use Rattle.std.specs.Prelude.{◌≡◌, IfErr, IfOk, option_map, string_bytes, true};
 ghost use Rattle.clap.specs.Words.{kind_of};
 ghost use Rattle.csv_command.specs.declared.ending.Said.TheVariants.{OutOfMemory, Text};
-ghost use Rattle.csv_command.specs.Ending.{IsEndOfOutcome, IsEndOfRefusal, IsEndWithoutArguments, IsHarmless, IsSilent, about, columns_reason, decoding_reason, encoding_hint, is_of_input, message_for, reading_reason, reason_for, records_reason, text_of};
+ghost use Rattle.csv_command.specs.Ending.{IsEndOfOutcome, IsEndOfRefusal, IsEndOfUnwritten, IsEndWithoutArguments, IsHarmless, IsSilent, about, columns_reason, decoding_reason, encoding_hint, is_of_input, message_for, reading_reason, reason_for, records_reason, text_of};
 
 use crate::arguments::Invocation;
 use clap::error::{Error, ErrorKind};
@@ -43,6 +43,8 @@ pub(crate) enum Said {
     NotUtf8,
     /// That the output can't be written.
     Unwritten,
+    /// That it takes no more for now.
+    Full,
     Text(String),
 }
 
@@ -56,6 +58,7 @@ impl Said {
             Said::OutOfMemory => "csvtable: out of memory\n",
             Said::NotUtf8 => ARGUMENT_NOT_UTF8,
             Said::Unwritten => "csvtable: the output can't be written\n",
+            Said::Full => "csvtable: the output takes no more for now; is it nonblocking?\n",
             Said::Text(text) => text.as_str(),
         }
     }
@@ -70,23 +73,34 @@ pub(crate) struct Outcome<'a> {
     pub result: Result<(), CsvError>,
     /// With which error the input couldn't be opened or read.
     pub fault: Option<io::ErrorKind>,
-    /// Whether the reader of the output has ended.
-    pub is_unread: bool,
+    /// With which error the output couldn't be written.
+    pub output_fault: Option<io::ErrorKind>,
 }
 
-/// How the program ends after a drawing. Where the reader of the output has ended, nothing is said.
+/// How the program ends after a drawing.
 pub(crate) fn ending_of_outcome(alloc: Global, drawing: &Outcome<'_>) -> Ending
     ensures { IsEndOfOutcome drawing.now result }
 {
     match &drawing.result {
         Ok(()) => silent(0),
-        Err(CsvError::Write) if drawing.is_unread => silent(FAILED),
-        Err(CsvError::Write) => message(FAILED, Said::Unwritten),
+        Err(CsvError::Write) => ending_of_unwritten(drawing.output_fault),
         Err(CsvError::OutOfMemory) => message(FAILED, Said::OutOfMemory),
         Err(error) => {
             let text = message_of(alloc, drawing.invocation, drawing.fault, error);
             message(FAILED, said_of(text))
         }
+    }
+}
+
+// How it ends where the output wasn't written. Where the reader of a pipe has ended, nothing is
+// said.
+fn ending_of_unwritten(fault: Option<io::ErrorKind>) -> Ending
+    ensures { IsEndOfUnwritten fault result }
+{
+    match fault {
+        Some(io::ErrorKind::BrokenPipe) => silent(FAILED),
+        Some(io::ErrorKind::WouldBlock) => message(FAILED, Said::Full),
+        _ => message(FAILED, Said::Unwritten),
     }
 }
 

@@ -37,7 +37,7 @@ enum Kind {
     Encoding,
 }
 
-static OPTIONS: [OptionSpec; 25] = [
+static OPTIONS: [OptionSpec; 26] = [
     OptionSpec {
         name: "file",
         letter: None,
@@ -94,7 +94,14 @@ static OPTIONS: [OptionSpec; 25] = [
         letter: None,
         kind: Kind::Count,
         value: "N",
-        help: "Draw the first N records, and say how many there are",
+        help: "Draw the first N records, and say if there are more",
+    },
+    OptionSpec {
+        name: "count",
+        letter: None,
+        kind: Kind::Flag,
+        value: "",
+        help: "With --limit: read on, and say how many there are",
     },
     OptionSpec {
         name: "columns",

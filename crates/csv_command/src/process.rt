@@ -82,14 +82,14 @@ fn variable(rt: &HostRuntime, name: &str) -> Result<Option<String>, AllocError> 
 fn run(rt: &HostRuntime, invocation: &Invocation) -> Ending {
     let mut sink = ToWriter::new(rt.stdout());
     let (result, fault) = drawn(rt, &mut sink, invocation);
-    let is_unread = sink.is_unread();
+    let output_fault = sink.fault();
     ending_of_outcome(
         rt.alloc(),
         &Outcome {
             invocation,
             result,
             fault,
-            is_unread,
+            output_fault,
         },
     )
 }

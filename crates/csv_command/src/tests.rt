@@ -41,7 +41,7 @@ fn assert_message(
         invocation,
         result: Err(error),
         fault,
-        is_unread: false,
+        output_fault: None,
     };
     assert_says(rt, &ending_of_outcome(rt.alloc(), &drawing), 1, true, text);
 }
@@ -147,6 +147,22 @@ fn columns_that_can_not_be_drawn(rt: HostRuntime) {
     assert_message(&rt, &invocation, error, None, text);
 }
 
+// With this error of the output it says so.
+fn assert_unwritten(
+    rt: &(impl Abort + Alloc<A = Global>),
+    invocation: &Invocation,
+    fault: ErrorKind,
+    text: &str,
+) {
+    let drawing = Outcome {
+        invocation,
+        result: Err(CsvError::Write),
+        fault: None,
+        output_fault: Some(fault),
+    };
+    assert_says(rt, &ending_of_outcome(rt.alloc(), &drawing), 1, true, text);
+}
+
 #[test]
 fn a_drawing_that_ends(rt: HostRuntime) {
     let arguments = ["csvtable", "a.csv"];
@@ -155,21 +171,16 @@ fn a_drawing_that_ends(rt: HostRuntime) {
     assert_message(&rt, &invocation, CsvError::Write, None, text);
     let text = "csvtable: out of memory\n";
     assert_message(&rt, &invocation, CsvError::OutOfMemory, None, text);
-    for (result, status) in [(Ok(()), 0), (Err(CsvError::Write), 1)] {
-        let drawing = Outcome {
-            invocation: &invocation,
-            result,
-            fault: None,
-            is_unread: true,
-        };
-        assert_says(
-            &rt,
-            &ending_of_outcome(rt.alloc(), &drawing),
-            status,
-            true,
-            "",
-        );
-    }
+    let text = "csvtable: the output takes no more for now; is it nonblocking?\n";
+    assert_unwritten(&rt, &invocation, ErrorKind::WouldBlock, text);
+    assert_unwritten(&rt, &invocation, ErrorKind::BrokenPipe, "");
+    let drawing = Outcome {
+        invocation: &invocation,
+        result: Ok(()),
+        fault: None,
+        output_fault: None,
+    };
+    assert_says(&rt, &ending_of_outcome(rt.alloc(), &drawing), 0, true, "");
 }
 
 // How the program ends where clap has something to say of these arguments.

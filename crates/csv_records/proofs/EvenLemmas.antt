@@ -68,13 +68,13 @@ is_last : (next : Option FoundRecord) (fields : List Text) (s : State) (rest : T
 is_last None fields s rest h more = refl
 is_last (Some p) fields s rest h more = absurd (false≢true h.0)
 
-took : (cfg : Config) (s s2 : State) (text : Text) (after : Option Text) (fields : List Text) (n : ℕ) → ReadsNext cfg s (Some text) after true fields s2
+pub took : (cfg : Config) (s s2 : State) (text : Text) (after : Option Text) (fields : List Text) (n : ℕ) → ReadsNext cfg s (Some text) after true fields s2
     → (rest : Text) × (after ≡ Some rest) × (records_from cfg (suc n) s text ≡ fields ∷ records_from cfg n s2 rest)
 unfolding records_from
 took cfg s s2 text None fields n h = absurd h
 took cfg s s2 text (Some rest) fields n h = (rest, refl, is_next (next_record cfg s [] [] text) fields s2 rest h (records_from cfg n))
 
-ended : (cfg : Config) (s s2 : State) (text : Text) (after : Option Text) (fields : List Text) (n : ℕ) → ReadsNext cfg s (Some text) after false fields s2
+pub ended : (cfg : Config) (s s2 : State) (text : Text) (after : Option Text) (fields : List Text) (n : ℕ) → ReadsNext cfg s (Some text) after false fields s2
     → records_from cfg n s text ≡ []
 unfolding records_from
 ended cfg s s2 text after fields zero h = refl

@@ -1,5 +1,5 @@
 -- An input has one text by the same options, and a text one list of records.
-use Rattle.std.proofs.Common.{◌≡◌, ℕ, List, [], ◌∷◌, Option, Some, None, map, sym, refl, ap, ap₂, ◌∙◌, subst}
+use Rattle.std.proofs.Common.{◌≡◌, ℕ, List, [], ◌∷◌, Some, None, map, sym, refl, ap, ap₂, ◌∙◌, subst}
 use Rattle.std.specs.Str.{encode_utf8_all}
 use Rattle.comfy_parts.specs.Text.{Text}
 use Rattle.csv.specs.Machine.{Read, next_record}

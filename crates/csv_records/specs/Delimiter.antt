@@ -1,5 +1,5 @@
 -- What stands between the fields of a text, and where its records begin.
-use Rattle.std.specs.Prelude.{ℕ, zero, suc, ◌≡◌, ◌≢◌, ◌<◌, ◌==◌, ◌&&◌, ◌||◌, nat_lt, Bool, false, List, [], ◌∷◌, ◌++◌, Option, Some, None, bytes_eq, codes, drop, length, map, option_and_then, option_map, take, unwrap_or, if◌then◌else◌}
+use Rattle.std.specs.Prelude.{ℕ, zero, suc, ◌≡◌, ◌≢◌, ◌<◌, ◌==◌, ◌&&◌, ◌||◌, nat_lt, Bool, true, false, List, [], ◌∷◌, ◌++◌, Option, Some, None, bytes_eq, codes, drop, is_some, length, map, option_and_then, option_map, take, unwrap_or, if◌then◌else◌}
 use Rattle.std.specs.Char.{to_ascii_lowercase}
 use Rattle.std.specs.List.{find, list_all, position_or_len}
 use Rattle.comfy_parts.specs.Text.{Text}
@@ -102,6 +102,12 @@ abbrev pub found_delimiter : Bool → Text → ℕ
 found_delimiter has_quotes text =
     unwrap_or (find (parts_evenly has_quotes text) tried_delimiters) 0x2C
 
+-- a delimiter gives a text more records than the ten that are looked at, so that these are whole,
+-- however the text goes on
+abbrev pub has_first_records : Bool → Text → ℕ → Bool
+has_first_records has_quotes text delimiter =
+    length (records_from (config_for delimiter has_quotes) 11 st.StartRecord (strip_bom text)) == 11
+
 -- ---- the delimiter of a text
 
 -- the byte between the fields of a text, and what there is of records
@@ -116,3 +122,11 @@ abbrev pub IsAsciiUnlessAsked : Delimiter → ℕ → Type 0
 IsAsciiUnlessAsked (Byte b) delimiter = Unit {0}
 IsAsciiUnlessAsked Auto delimiter = delimiter < 128
 IsAsciiUnlessAsked NamedOrTab delimiter = delimiter < 128
+
+-- a text shows what stands between fields, however it goes on: a byte is asked for, or its first
+-- line names one, or each that is tried gives it so many records
+abbrev pub shows_delimiter : Delimiter → Bool → Text → Bool
+shows_delimiter (Byte b) has_quotes text = true
+shows_delimiter Auto has_quotes text =
+    is_some (named_delimiter text) || list_all (has_first_records has_quotes text) tried_delimiters
+shows_delimiter NamedOrTab has_quotes text = true

@@ -1,6 +1,8 @@
+pub mod Beginning
 pub mod Cleaning
 pub mod Delimiter
 pub mod Encoding
+pub mod First
 pub mod Input
 pub mod Number
 pub mod NumberLaws

@@ -1,9 +1,9 @@
 //! What stands between the fields of a text, and the text below its first lines.
 
 ghost use Rattle.std.specs.Prelude.{◌≡◌, ◌==◌, IfOk, nat_lt, option_map, if◌then◌else◌};
-ghost use Rattle.std.specs.List.{position};
+ghost use Rattle.std.specs.List.{list_all, position};
 ghost use Rattle.csv.specs.Reading.{strip_bom};
-ghost use Rattle.csv_records.specs.Delimiter.{EndsIn, IsAsciiUnlessAsked, below_line, below_lines, delimited, delimiter_in, end_len, ends_line, first_line, found_delimiter, line_len, named_delimiter, only_ascii, parts_evenly};
+ghost use Rattle.csv_records.specs.Delimiter.{EndsIn, IsAsciiUnlessAsked, below_line, below_lines, delimited, delimiter_in, end_len, ends_line, first_line, found_delimiter, has_first_records, line_len, named_delimiter, only_ascii, parts_evenly, shows_delimiter, tried_delimiters};
 
 use crate::records::reader_of;
 use crate::text::without_mark;
@@ -51,6 +51,25 @@ pub(crate) fn delimited<'a>(
             Some(parts) => Ok(parts),
             None => Ok((b'\t', text)),
         },
+    }
+}
+
+/// Whether a text whose lines are whole shows what stands between fields, however it goes on: a
+/// byte is asked for, or its first line names one, or each that is tried gives it more records than
+/// are looked at.
+pub(crate) fn shows_delimiter(
+    alloc: Global,
+    text: &str,
+    delimiter: Delimiter,
+    has_quotes: bool,
+) -> Result<bool, AllocError>
+    ensures { IfOk result (λ is. is ≡ shows_delimiter delimiter has_quotes text.now) }
+{
+    match delimiter {
+        Delimiter::Auto if named_delimiter(text).is_none() => {
+            each_has_first_records(alloc, text, has_quotes)
+        }
+        _ => Ok(true),
     }
 }
 
@@ -192,4 +211,39 @@ fn may_follow(before: usize, fields: usize) -> bool
     } else {
         fields == before
     }
+}
+
+// Each delimiter that is tried gives more records than are looked at.
+fn each_has_first_records(alloc: Global, text: &str, has_quotes: bool) -> Result<bool, AllocError>
+    ensures { IfOk result (λ is. is
+        ≡ list_all (has_first_records has_quotes text.now) tried_delimiters) }
+{
+    for delimiter in TRIED {
+        if !has_first_records(alloc, text, has_quotes, delimiter)? {
+            return Ok(false);
+        }
+    }
+    Ok(true)
+}
+
+// This delimiter does.
+fn has_first_records(
+    alloc: Global,
+    text: &str,
+    has_quotes: bool,
+    delimiter: u8,
+) -> Result<bool, AllocError>
+    ensures { IfOk result (λ is. is ≡ has_first_records has_quotes text.now delimiter) }
+{
+    let mut reader = reader_of(alloc, text, delimiter, has_quotes);
+    let mut record = ByteRecord::new(alloc);
+    for _ in 0..FIRST_RECORDS + 1 {
+        let Ok(is_found) = reader.read_byte_record(&mut record) else {
+            return Err(AllocError);
+        };
+        if !is_found {
+            return Ok(false);
+        }
+    }
+    Ok(true)
 }

@@ -49,8 +49,8 @@ pub fn decoded(
     }
 }
 
-// The encoding that was asked for, or is found.
-fn encoding_of(encoding: Option<Encoding>, input: &[u8]) -> Encoding
+/// The encoding that was asked for, or is found.
+pub(crate) fn encoding_of(encoding: Option<Encoding>, input: &[u8]) -> Encoding
     ensures { result ≡ encoding_of encoding input.now }
 {
     match encoding {

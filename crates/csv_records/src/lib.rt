@@ -2,6 +2,7 @@
 //! and numbers.
 #![tactic(auto)]
 
+mod beginning;
 mod characters;
 mod cleaning;
 mod delimiter;
@@ -17,6 +18,7 @@ mod records;
 mod shown;
 mod text;
 
+pub use beginning::read_beginning;
 pub use characters::split_first;
 pub use cleaning::{CleanOptions, cleaned};
 pub use delimiter::{Delimiter, only_ascii};
@@ -25,6 +27,6 @@ pub use error::{DecodeError, RecordsError};
 pub use number::{is_neutral, is_number};
 pub use numerals::number_of;
 pub use options::InputOptions;
-pub use reading::read_records;
-pub use records::{Record, Records, Rows};
+pub use reading::{read_first_records, read_records};
+pub use records::{FirstRecords, Record, Records, Rows};
 pub use shown::shown_text;

@@ -1,6 +1,7 @@
 //! The records of a text, by what is asked for.
 
-ghost use Rattle.std.specs.Prelude.{◌≡◌, ◌+◌, ◌-◌, IfErr, IfOk, length, take};
+ghost use Rattle.std.specs.Prelude.{◌≡◌, ◌<◌, ◌+◌, ◌-◌, ◌^◌, IfErr, IfOk, length, take};
+ghost use Rattle.csv_records.specs.First.{AreFirst};
 ghost use Rattle.csv_records.specs.Input.{line_breaks};
 ghost use Rattle.csv_records.specs.Reading.{AreRecordsIn, IsTextWithoutRecords};
 
@@ -8,7 +9,7 @@ use crate::delimiter::{below_lines, delimited};
 use crate::error::RecordsError;
 use crate::options::InputOptions;
 use crate::quotes::unclosed_quote;
-use crate::records::{Records, records_of};
+use crate::records::{FirstRecords, Records, first_records_of};
 use crate::text::line_after;
 use std::alloc::Global;
 
@@ -25,6 +26,20 @@ pub fn read_records(
     ensures all { IfOk result (λ records. AreRecordsIn options.now text.now records) }
     ensures refused { IfErr result (λ e. IsTextWithoutRecords options.now text.now e) }
 {
+    Ok(read_first_records(alloc, text, options, usize::MAX)?.records)
+}
+
+/// The first of these records, at most so many, and how many there are. All of the text is read.
+pub fn read_first_records(
+    alloc: Global,
+    text: &str,
+    options: &InputOptions,
+    most: usize,
+) -> Result<FirstRecords, RecordsError>
+    ensures all { IfOk result (AreFirst (AreRecordsIn options.now text.now) most) }
+    ensures count { IfOk result (λ first. first.count < 2 ^ 64) }
+    ensures refused { IfErr result (λ e. IsTextWithoutRecords options.now text.now e) }
+{
     let below = below_lines(text, options.skip);
     let (delimiter, rest) = delimited(alloc, below, options.delimiter, options.has_quotes)?;
     if options.has_quotes {
@@ -32,7 +47,7 @@ pub fn read_records(
             return Err(RecordsError::Unclosed(line_before(text, rest.len() - at)));
         }
     }
-    records_of(alloc, rest, delimiter, options.has_quotes)
+    first_records_of(alloc, rest, delimiter, options.has_quotes, most)
 }
 
 // The number of the line where the last bytes of a text begin, this being how many they are.

@@ -1,10 +1,12 @@
 //! The records of a text.
 
-ghost use Rattle.std.specs.Prelude.{◌≡◌, ◌<◌, ◌==◌, ◌-◌, ◌^◌, ◌++◌, [], IfErr, IfOk, IfSome, OnOk, drop, length, option_map, slice_get, take};
+ghost use Rattle.std.specs.Prelude.{◌≡◌, ◌<◌, ◌==◌, ◌-◌, ◌^◌, ◌∷◌, ◌++◌, [], All, IfErr, IfOk, IfSome, OnOk, drop, length, map, option_map, slice_get, take};
 ghost use Rattle.std.specs.Iterator.{YieldsFirstBy, item_count};
 ghost use Rattle.csv.specs.Reading.{error_kind};
 ghost use Rattle.csv.specs.Records.{field_at, fields_of};
+ghost use Rattle.csv_records.specs.First.{AreFirst};
 ghost use Rattle.csv_records.specs.Input.{AreRecordsOf, IsReadingRefusal, IsRecordRefusal};
+ghost use Rattle.csv_records.specs.Places.{IsWithin, fields_at};
 ghost use Rattle.csv_records.specs.Started.{IsStarted};
 
 use crate::error::RecordsError;
@@ -224,36 +226,68 @@ pub(crate) fn reader_of(alloc: Global, text: &str, delimiter: u8, has_quotes: bo
         .from_reader(alloc, text.as_bytes())
 }
 
-/// All records of a text.
+/// The first records of a text, and how many it has.
+#[derive(Drop)]
+pub struct FirstRecords {
+    /// Its first records.
+    pub records: Records,
+    /// How many records it has.
+    pub count: usize,
+}
+
+/// The first records of a text, at most so many. All of it is read.
 ///
 /// `SplitCharacter` comes only of a delimiter that isn't ASCII.
-pub(crate) fn records_of(
+pub(crate) fn first_records_of(
     alloc: Global,
     text: &str,
     delimiter: u8,
     has_quotes: bool,
-) -> Result<Records, RecordsError>
-    ensures all { IfOk result (λ records. AreRecordsOf delimiter has_quotes text.now records) }
+    most: usize,
+) -> Result<FirstRecords, RecordsError>
+    ensures all { IfOk result (AreFirst (AreRecordsOf delimiter has_quotes text.now) most) }
+    ensures count { IfOk result (λ first. first.count < 2 ^ 64) }
     ensures refused { IfErr result (λ e. IsReadingRefusal delimiter has_quotes text.now e) }
 {
     let mut reader = reader_of(alloc, text, delimiter, has_quotes);
     let mut fields = StringRecord::new(alloc);
     let mut places = Vec::new(alloc);
     let mut record = StringRecord::new(alloc);
-    // No memory holds so many records.
-    for _ in 0..u64::MAX {
+    // No text in memory has so many.
+    for count in 0..usize::MAX {
         match reader.read_record(&mut record) {
             Ok(true) => {
-                let start = fields.len();
-                push_fields(&mut fields, &record)?;
-                let end = fields.len();
-                places.push(Place { start, end })?;
+                if count < most {
+                    push_record(&mut fields, &mut places, &record)?;
+                }
             }
-            Ok(false) => return Ok(Records { fields, places }),
+            Ok(false) => {
+                let records = Records { fields, places };
+                return Ok(FirstRecords { records, count });
+            }
             Err(error) => return Err(refusal_of(&error)),
         }
     }
     Err(RecordsError::OutOfMemory)
+}
+
+// Appends a record to others.
+fn push_record(
+    fields: &mut StringRecord,
+    places: &mut Vec<Place>,
+    more: &StringRecord,
+) -> Result<(), RecordsError>
+    requires within { All (IsWithin (fields_of fields.old)) places.old.items }
+    ensures within { OnOk result (All (IsWithin (fields_of fields.new)) places.new.items) }
+    ensures records { OnOk result (map (fields_at (fields_of fields.new)) places.new.items
+        ≡ map (fields_at (fields_of fields.old)) places.old.items ++ fields_of more.now ∷ []) }
+    ensures refused { IfErr result (λ e. e ≡ RecordsError.OutOfMemory) }
+{
+    let start = fields.len();
+    push_fields(fields, more)?;
+    let end = fields.len();
+    places.push(Place { start, end })?;
+    Ok(())
 }
 
 // Appends the fields of a record to others.

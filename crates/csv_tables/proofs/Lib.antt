@@ -6,6 +6,7 @@ pub mod ColumnLemmas
 mod ExpandedLemmas
 pub mod FieldControlLemmas
 pub mod FieldLemmas
+pub mod FirstRowLemmas
 pub mod KeptWidthLemmas
 mod KindLemmas
 pub mod LineLemmas

@@ -10,7 +10,6 @@ use Rattle.comfy_table.specs.Drawing.{infos_of, terminated_text_of}
 use Rattle.comfy_table.specs.Parts.{ArrangedValue, IsArrangedTable}
 use Rattle.comfy_table.specs.Pieces.{row_height}
 use Rattle.comfy_table.specs.TableValue.{TableValue, max_content_widths}
-use Rattle.csv.specs.declared.parser.State.TheVariants as st
 use Rattle.csv_tables.specs.Columns.{ColumnFault, chosen_columns, columns_for, columns_with, count_of, joined, kept_columns, less, positions_of, positions_of_word, seen}
 use Rattle.csv_tables.specs.Markdown.{rule_line}
 use Rattle.csv_records.specs.Reading.{AreRecordsFor}
@@ -19,7 +18,7 @@ use Rattle.csv_tables.specs.declared.options.Look.{Look}
 use Rattle.csv_tables.specs.declared.options.Options.{Options}
 use Rattle.csv_tables.specs.declared.options.RowSeparators.{RowSeparators}
 use Rattle.csv_tables.specs.declared.options.RowSeparators.TheVariants.{Styled, Needed, Never}
-use Rattle.csv_tables.specs.Drawn.{ContentValue, HasSeparators, RendersAsMarkdown, RendersRecords, RendersAnyRecords, RendersContent, RendersTable, below_first, content_of, content_with, drawn_rows, limited, markdown_table, names_of, note_for, ok_map, output_table, records_below, separated_table, separators_in, table_text}
+use Rattle.csv_tables.specs.Drawn.{ContentValue, HasSeparators, RendersAsMarkdown, RendersRecords, RendersAnyRecords, RendersContent, RendersTable, below_first, content_of, content_with, counting, drawn_rows, limited, markdown_table, names_of, note_for, ok_map, output_table, records_below, separated_table, separators_in, table_text}
 use Rattle.csv_tables.specs.OneOutput.{AreSameOptions, OutputIsOne, OutputOfIsOne}
 use Rattle.csv_records.proofs.OneRecordLemmas.{read_is_one}
 use Rattle.csv_records.specs.Reading.{AreRecordsFor}
@@ -71,16 +70,17 @@ module _ (options others : Options) (same : AreSameOptions options others) where
       ∙ ap₂ (λ (r l : Result (List ℕ) ColumnFault). columns_with names (own others.look) (kept_columns names count others.selection.columns.items others.selection.dropped.items) r l) right left
 
   -- what is drawn of some records, by what of the options it depends on
-  abbrev content_by : Bool → Option ℕ → List (List Text) → (List Text → List (List Text) → Result (List DrawnColumn) ColumnFault) → Result ContentValue ColumnFault
-  content_by has_header limit records columns =
+  abbrev content_by : Bool → Bool → Option ℕ → List (List Text) → (List Text → List (List Text) → Result (List DrawnColumn) ColumnFault) → Result ContentValue ColumnFault
+  content_by counts has_header limit records columns =
       let rows = limited limit (records_below has_header records) in
       let names = names_of has_header records in
-      ok_map (λ (own : List DrawnColumn). record { names = names; rows = rows; columns = own; count = length (records_below has_header records) }) (columns (unwrap_or names []) rows)
+      ok_map (λ (own : List DrawnColumn). record { names = names; rows = rows; columns = own; count = if counts then Some (length (records_below has_header records)) else None }) (columns (unwrap_or names []) rows)
 
   same_content : (records : List (List Text)) → content_of options records ≡ content_of others records
   same_content records =
       ap (ok_map (content_with options records)) (same_columns (unwrap_or (names_of options.selection.has_header records) []) (drawn_rows options records))
-      ∙ ap₂ (λ (h : Bool) (l : Option ℕ). content_by h l records (columns_for others)) same.header same.limit
+      ∙ ap₂ (λ (h : Bool) (l : Option ℕ). content_by options.selection.counts_all h l records (columns_for others)) same.header same.limit
+      ∙ ap (λ (counts : Bool). content_by counts others.selection.has_header others.selection.limit records (columns_for others)) same.counts
 
 -- ---- tables
 
@@ -142,13 +142,17 @@ with_same options others same records output made =
 
 pub output_is_one : (options others : Options) (input output other : Text) → OutputIsOne options others input output other
 output_is_one options others input output other same first second =
-    any first.records first.is_output (subst (λ (rs : List (List Text)). RendersAnyRecords others rs other) (sym records) second.is_output)
+    any first.records first.is_output (subst (λ (rs : List (List Text)). RendersAnyRecords (counting others) rs other) (sym records) second.is_output)
   where
     records : first.records ≡ second.records
     records =
         read_is_one options.input input first.records second.records first.are_records
         (subst (λ (own : InputOptions). AreRecordsFor own input second.records) (sym same.input) second.are_records)
 
-    any : (rs : List (List Text)) → RendersAnyRecords options rs output → RendersAnyRecords others rs other → output ≡ other
+    -- they are the same where all records are counted too
+    counted : AreSameOptions (counting options) (counting others)
+    counted = record { input = same.input; header = same.header; limit = same.limit; counts = refl; columns = same.columns; dropped = same.dropped; right = same.right; left = same.left; look = same.look }
+
+    any : (rs : List (List Text)) → RendersAnyRecords (counting options) rs output → RendersAnyRecords (counting others) rs other → output ≡ other
     any [] nothing also = nothing ∙ sym also
-    any (r ∷ rs) own also = output_of_is_one options (r ∷ rs) output other own (with_same options others same (r ∷ rs) other also)
+    any (r ∷ rs) own also = output_of_is_one (counting options) (r ∷ rs) output other own (with_same (counting options) (counting others) counted (r ∷ rs) other also)

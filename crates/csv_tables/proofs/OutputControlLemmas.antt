@@ -1,5 +1,5 @@
 -- Nothing harmful is visible of an output: its fields, its style, its indicator and its last line hold no control character.
-use Rattle.std.proofs.Common.{◌≡◌, ◌<◌, ◌==◌, ◌&&◌, ℕ, zero, suc, ◌+◌, Bool, true, false, List, [], ◌∷◌, ◌++◌, Contains, Option, Some, None, arith, codes, decimal, flat_map, length, nat_lt, refl, unwrap_or, sym, ap, ap₂, ◌∙◌, subst, tests, append_assoc, append-nil, zip}
+use Rattle.std.proofs.Common.{◌≡◌, ◌<◌, ◌==◌, ◌&&◌, ℕ, zero, suc, ◌+◌, Bool, true, false, List, [], ◌∷◌, ◌++◌, Contains, Option, Some, None, arith, codes, decimal, flat_map, length, refl, unwrap_or, sym, ap, ap₂, ◌∙◌, subst, tests, append_assoc, append-nil, zip}
 use Rattle.std.proofs.lemmas.Bool.{and_parts, or_parts}
 use Rattle.std.proofs.lemmas.List.Folds.{list_all-append, list_any_none}
 use Rattle.std.proofs.lemmas.List.Elements.{All-cons, All-contains, All-head, All-map, All-nil, All-tail, All-weaker}
@@ -38,8 +38,8 @@ use Rattle.csv_tables.proofs.OutputLemmas.{markdown_unbroken}
 use Rattle.csv_tables.proofs.SeparatorLemmas.{condensed-all, separated}
 use Rattle.csv_tables.proofs.TextTableLemmas.{EachLine, MakesRows, cells_each, pair_each, rows_of_texts, table_of_texts}
 use Rattle.csv_tables.proofs.WholeTableLemmas.{IsDrawn, drawn-is, drawn_plain, drawn_table-is, measured-drawn}
-use Rattle.csv_tables.specs.Drawn.{ContentValue, RendersAsMarkdown, RendersRecords, RendersAnyRecords, RendersAsTable, RendersContent, below_first, condensed_style, markdown_content, markdown_look, markdown_table, note_for, output_table, record_line, rows_table, separated_table}
-use Rattle.csv_tables.specs.Laws.{HasLines, InputIsDrawnWithoutControls, IsLookWithoutControls, IsOutputWith, OutputHoldsNoControls}
+use Rattle.csv_tables.specs.Drawn.{ContentValue, RendersAsMarkdown, RendersRecords, RendersAnyRecords, RendersAsTable, RendersContent, are_more, below_first, condensed_style, count_text, counting, markdown_content, markdown_look, markdown_table, note_for, output_table, record_line, rows_table, separated_table}
+use Rattle.csv_tables.specs.Laws.{BeginningIsDrawnWithoutControls, HasLines, InputIsDrawnWithoutControls, IsLookWithoutControls, IsOutputWith, OutputHoldsNoControls}
 
 -- ---- rows
 
@@ -199,36 +199,40 @@ after_printable line rest all more = after_line line rest (subst HasNoControl (s
 both_printable : (xs ys : Text) → is_printable_ascii xs ≡ true → is_printable_ascii ys ≡ true → is_printable_ascii (xs ++ ys) ≡ true
 both_printable xs ys one other = list_all-append (is_in_range 0x20 0x7E) xs ys ∙ ap₂ (λ a b. a && b) one other
 
--- `n of m`, and what stands around it
-pub counts_are_printable : (before after : Text) (n m : ℕ) → is_printable_ascii before ≡ true → is_printable_ascii after ≡ true → is_printable_ascii ((((before ++ decimal n) ++ codes " of ") ++ decimal m) ++ after) ≡ true
-counts_are_printable before after n m first last =
-    both_printable (((before ++ decimal n) ++ codes " of ") ++ decimal m) after
-    (both_printable ((before ++ decimal n) ++ codes " of ") (decimal m) (both_printable (before ++ decimal n) (codes " of ") (both_printable before (decimal n) first (number_is_printable n)) refl) (number_is_printable m)) last
+count_is_printable : (count : Option ℕ) → is_printable_ascii (count_text count) ≡ true
+count_is_printable None = refl
+count_is_printable (Some count) = number_is_printable count
 
-after_record_line : (n m : ℕ) (rest : Text) → HasNoStrayControl (visible_text rest) → HasNoStrayControl (visible_text (record_line n m ++ rest))
+-- `n of m`, and what stands around it
+pub counts_are_printable : (before after : Text) (n : ℕ) (m : Option ℕ) → is_printable_ascii before ≡ true → is_printable_ascii after ≡ true → is_printable_ascii ((((before ++ decimal n) ++ codes " of ") ++ count_text m) ++ after) ≡ true
+counts_are_printable before after n m first last =
+    both_printable (((before ++ decimal n) ++ codes " of ") ++ count_text m) after
+    (both_printable ((before ++ decimal n) ++ codes " of ") (count_text m) (both_printable (before ++ decimal n) (codes " of ") (both_printable before (decimal n) first (number_is_printable n)) refl) (count_is_printable m)) last
+
+after_record_line : (n : ℕ) (m : Option ℕ) (rest : Text) → HasNoStrayControl (visible_text rest) → HasNoStrayControl (visible_text (record_line n m ++ rest))
 after_record_line n m rest more =
-    let line = ((codes "record " ++ decimal n) ++ codes " of ") ++ decimal m in
+    let line = ((codes "record " ++ decimal n) ++ codes " of ") ++ count_text m in
     subst (λ (t : Text). HasNoStrayControl (visible_text t)) (sym (append_assoc line (codes "\n") rest))
     (after_printable line rest (subst (λ (t : Text). is_printable_ascii t ≡ true) (append-nil line) (counts_are_printable (codes "record ") [] n m refl refl)) more)
 
 -- the line on records that aren't drawn
-note_is_seen : (is_markdown : Bool) (limit : Option ℕ) (count : ℕ) → HasNoStrayControl (visible_text (note_for is_markdown limit count))
+note_is_seen : (is_markdown : Bool) (limit : Option ℕ) (count : Option ℕ) → HasNoStrayControl (visible_text (note_for is_markdown limit count))
 note_is_seen is_markdown None count = NoCharPasses-nil is_stray_control
-note_is_seen is_markdown (Some limit) count = by_test (nat_lt limit count)
+note_is_seen is_markdown (Some limit) count = by_test (are_more limit count)
   where
     note : Text
-    note = ((decimal limit ++ codes " of ") ++ decimal count) ++ codes " records"
+    note = ((decimal limit ++ codes " of ") ++ count_text count) ++ codes " records"
 
-    seen : HasNoStrayControl (visible_text (((decimal limit ++ codes " of ") ++ decimal count) ++ codes " records\n"))
+    seen : HasNoStrayControl (visible_text (((decimal limit ++ codes " of ") ++ count_text count) ++ codes " records\n"))
     seen =
-        subst (λ (t : Text). HasNoStrayControl (visible_text t)) (append_assoc ((decimal limit ++ codes " of ") ++ decimal count) (codes " records") (0x0A ∷ []))
+        subst (λ (t : Text). HasNoStrayControl (visible_text t)) (append_assoc ((decimal limit ++ codes " of ") ++ count_text count) (codes " records") (0x0A ∷ []))
         (after_printable note [] (counts_are_printable [] (codes " records") limit count refl refl) (NoCharPasses-nil is_stray_control))
 
-    by_markdown : (b : Bool) → HasNoStrayControl (visible_text ((if b then codes "\n" else []) ++ (((decimal limit ++ codes " of ") ++ decimal count) ++ codes " records\n")))
-    by_markdown true = after_printable [] (((decimal limit ++ codes " of ") ++ decimal count) ++ codes " records\n") refl seen
+    by_markdown : (b : Bool) → HasNoStrayControl (visible_text ((if b then codes "\n" else []) ++ (((decimal limit ++ codes " of ") ++ count_text count) ++ codes " records\n")))
+    by_markdown true = after_printable [] (((decimal limit ++ codes " of ") ++ count_text count) ++ codes " records\n") refl seen
     by_markdown false = seen
 
-    by_test : (b : Bool) → HasNoStrayControl (visible_text (if b then (if is_markdown then codes "\n" else []) ++ (((decimal limit ++ codes " of ") ++ decimal count) ++ codes " records\n") else []))
+    by_test : (b : Bool) → HasNoStrayControl (visible_text (if b then (if is_markdown then codes "\n" else []) ++ (((decimal limit ++ codes " of ") ++ count_text count) ++ codes " records\n") else []))
     by_test true = by_markdown is_markdown
     by_test false = NoCharPasses-nil is_stray_control
 
@@ -340,6 +344,10 @@ output_without_controls options records output look text made = by_markdown opti
 pub input_without_controls : (options : Options) (input output : Text) → InputIsDrawnWithoutControls options input output
 input_without_controls options input output look made = any made.records made.are_records.are_records.are_records.are_text made.is_output
   where
-    any : (records : List (List Text)) → All AllText records → RendersAnyRecords options records output → HasNoStrayControl (visible_text output)
+    any : (records : List (List Text)) → All AllText records → RendersAnyRecords (counting options) records output → HasNoStrayControl (visible_text output)
     any [] text is = rw is (NoCharPasses-nil is_stray_control)
-    any (first ∷ rest) text is = output_without_controls options (first ∷ rest) output look text is
+    any (first ∷ rest) text is = output_without_controls (counting options) (first ∷ rest) output look text is
+
+-- so are those of a beginning
+pub beginning_without_controls : (options : Options) (beginning output : Text) → BeginningIsDrawnWithoutControls options beginning output
+beginning_without_controls options beginning output look made = output_without_controls options made.records output look made.are_enough.are.are_records.are_records.are_text made.is_output

@@ -1,5 +1,5 @@
 -- What a call of `draw` that stopped ensures, by this crate's error.
-use Rattle.std.proofs.Common.{◌≡◌, Err, subst, sym}
+use Rattle.std.proofs.Common.{Err, inl, inr, subst, sym, true}
 use Rattle.std.proofs.lemmas.Str.{IsUtf8-nil}
 use Rattle.std.specs.Str.{IsUtf8}
 use Rattle.comfy_parts.specs.Text.{Text}
@@ -7,28 +7,43 @@ use Rattle.csv_records.specs.Encoding.{IsRefusedIn, encoding_of}
 use Rattle.csv_records.specs.declared.encoding.Encoding.{Encoding}
 use Rattle.csv_records.specs.declared.error.DecodeError.{DecodeError}
 use Rattle.csv_records.specs.declared.error.DecodeError.TheVariants as decode
-use Rattle.csv_tables.specs.Drawn.{RendersInput}
+use Rattle.csv_tables.specs.Drawn.{RendersExtent}
 use Rattle.csv_tables.specs.Errors.{of_decoding, of_stop}
-use Rattle.csv_tables.specs.Run.{IsAfter, IsInputRefusal}
+use Rattle.csv_tables.specs.Run.{IsAfter, IsAfterIn, IsInputRefusal, IsRefusal}
 use Rattle.csv_tables.specs.declared.error.CsvError.{CsvError}
 use Rattle.csv_tables.specs.declared.error.CsvError.TheVariants as own
 use Rattle.csv_tables.specs.declared.options.Options.{Options}
-use Rattle.devices.specs.Outcome.{RunFacts}
-use Rattle.devices.specs.Run.{IsAfter as IsAfterRun}
+use Rattle.devices.specs.Outcome.{Beginning, Extent, RunFacts, Whole}
+use Rattle.devices.specs.Run.{IsAfter as IsAfterRun, IsAfterIn as IsAfterRunIn}
 use Rattle.devices.specs.declared.transfer.Stop.{Stop}
 use Rattle.devices.specs.declared.transfer.Stop.TheVariants.{OutOfMemory, Read, Refused, Write}
 
-pub after_stop : (T : Type 0) (options : Options) (stop : Stop CsvError) (facts : RunFacts) → IsAfterRun (RendersInput options) (IsInputRefusal options) {T = T} (Err stop) facts
+-- what stops a run, by this crate's error
+after_stop_in : (T : Type 0) (options : Options) (extent : Extent) (stop : Stop CsvError) (facts : RunFacts) → IsAfterRunIn (RendersExtent options) (IsRefusal options) {T = T} (Err stop) extent facts
+    → IsAfterIn {T = T} options (Err (of_stop stop)) extent facts
+after_stop_in T options extent Read facts after = after
+after_stop_in T options extent Write facts after = after
+after_stop_in T options Whole OutOfMemory facts after = record { no_device_failed = after.no_device_failed; nothing_written = after.nothing_written; fine = λ whole wanted. subst IsUtf8 (sym (after.fine whole)) IsUtf8-nil }
+after_stop_in T options Beginning OutOfMemory facts after = absurd after
+after_stop_in T options extent (Refused own.OutOfMemory) facts after = record { no_device_failed = after.no_device_failed; nothing_written = after.nothing_written; fine = λ whole. after.fault }
+after_stop_in T options Whole (Refused own.Read) facts after = absurd after.fault
+after_stop_in T options Beginning (Refused own.Read) facts after = absurd after.fault
+after_stop_in T options Whole (Refused own.Write) facts after = absurd after.fault
+after_stop_in T options Beginning (Refused own.Write) facts after = absurd after.fault
+after_stop_in T options extent (Refused (own.Decode e)) facts after = after
+after_stop_in T options extent (Refused (own.Records e)) facts after = after
+after_stop_in T options extent (Refused (own.Columns e)) facts after = after
+
+pub after_stop : (T : Type 0) (options : Options) (stop : Stop CsvError) (facts : RunFacts) → IsAfterRun (RendersExtent options) (IsRefusal options) {T = T} (Err stop) facts
     → IsAfter {T = T} options (Err (of_stop stop)) facts
-after_stop T options Read facts after = after
-after_stop T options Write facts after = after
-after_stop T options OutOfMemory facts after = record { no_device_failed = after.no_device_failed; nothing_written = after.nothing_written; fine = λ whole wanted. subst IsUtf8 (sym (after.fine whole)) IsUtf8-nil }
-after_stop T options (Refused own.OutOfMemory) facts after = record { no_device_failed = after.no_device_failed; nothing_written = after.nothing_written; fine = λ whole. after.fault }
-after_stop T options (Refused own.Read) facts after = absurd after.fault
-after_stop T options (Refused own.Write) facts after = absurd after.fault
-after_stop T options (Refused (own.Decode e)) facts after = after
-after_stop T options (Refused (own.Records e)) facts after = after
-after_stop T options (Refused (own.Columns e)) facts after = after
+after_stop T options stop facts (inl after) = inl (after_stop_in T options Whole stop facts after)
+after_stop T options stop facts (inr part) =
+    inr (record {
+      beginning = part.beginning;
+      behind = part.behind;
+      joins = part.joins;
+      says = after_stop_in T options Beginning stop (record facts { input = part.beginning; end_was_read = true }) part.says;
+    })
 
 module _ (options : Options) (input : Text) where
   -- an input that has no text is refused

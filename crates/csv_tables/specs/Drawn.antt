@@ -15,7 +15,9 @@ use Rattle.comfy_table.specs.Pieces.{row_height}
 use Rattle.comfy_table.specs.TableValue.{TableValue, max_content_widths, new_table, with_header, with_rows}
 use Rattle.csv_tables.specs.Cells.{field_or_blank, header_for, held, pair_for, row_for}
 use Rattle.csv_tables.specs.Columns.{ColumnFault, columns_for, name_at}
+use Rattle.csv_records.specs.Beginning.{IsEnough}
 use Rattle.csv_records.specs.Reading.{AreRecordsFor}
+use Rattle.devices.specs.Outcome.{Beginning, Extent, Whole}
 use Rattle.csv_tables.specs.Markdown.{rule_line}
 use Rattle.csv_tables.specs.declared.options.Expansion.{Expansion}
 use Rattle.csv_tables.specs.declared.options.Expansion.TheVariants.{Always, Auto, Never as NeverExpanded}
@@ -41,13 +43,17 @@ names_of has_header records = if has_header then slice_get records 0 else None
 abbrev pub records_below : Bool → List (List Text) → List (List Text)
 records_below has_header records = if has_header then drop 1 records else records
 
+-- how many records of an input are drawn at most, with the header
+abbrev pub most_drawn : Bool → ℕ → ℕ
+most_drawn has_header limit = if has_header then limit + 1 else limit
+
 -- what is drawn of some records: names, where there are any, rows, and columns of them; and how
--- many records stand below the header
+-- many records stand below the header, where that is known
 pub record ContentValue : Type 0 where
   pub names : Option (List Text)
   pub rows : List (List Text)
   pub columns : List DrawnColumn
-  pub count : ℕ
+  pub count : Option ℕ
 
 -- what is made of a value, where there is one
 abbrev pub ok_map : {A B E : Type 0} → (A → B) → Result A E → Result B E
@@ -58,13 +64,20 @@ abbrev pub drawn_rows : Options → List (List Text) → List (List Text)
 drawn_rows options records =
     limited options.selection.limit (records_below options.selection.has_header records)
 
+-- how many records stand below the header, where they are counted
+abbrev pub count_below : Options → List (List Text) → Option ℕ
+count_below options records =
+    if options.selection.counts_all
+    then Some (length (records_below options.selection.has_header records))
+    else None
+
 abbrev pub content_with : Options → List (List Text) → List DrawnColumn → ContentValue
 content_with options records columns =
     record {
       names = names_of options.selection.has_header records;
       rows = drawn_rows options records;
       columns = columns;
-      count = length (records_below options.selection.has_header records);
+      count = count_below options records;
     }
 
 -- what is drawn of some records, or a fault of the columns
@@ -73,6 +86,13 @@ content_of options records =
     ok_map (content_with options records)
     (columns_for options (unwrap_or (names_of options.selection.has_header records) [])
     (drawn_rows options records))
+
+-- the same with another count
+abbrev pub with_count : Option ℕ → ContentValue → ContentValue
+with_count count content = record content { count = count }
+
+abbrev pub content_counted : Option ℕ → Options → List (List Text) → Result ContentValue ColumnFault
+content_counted count options records = ok_map (with_count count) (content_of options records)
 
 -- ---- tables
 
@@ -186,10 +206,15 @@ abbrev pub is_expanded_for : Look → ContentValue → Bool
 is_expanded_for look content =
     not look.is_markdown && is_expanded_in look.expansion look.width (rows_table look content)
 
+-- how many records there are, in words: `more` where that isn't known
+abbrev pub count_text : Option ℕ → Text
+count_text None = codes "more"
+count_text (Some count) = decimal count
+
 -- the line above a record
-abbrev pub record_line : ℕ → ℕ → Text
+abbrev pub record_line : ℕ → Option ℕ → Text
 record_line number count =
-    (((codes "record " ++ decimal number) ++ codes " of ") ++ decimal count) ++ codes "\n"
+    (((codes "record " ++ decimal number) ++ codes " of ") ++ count_text count) ++ codes "\n"
 
 -- how many fields of a record are drawn
 abbrev pub drawn_fields : ContentValue → List Text → ℕ
@@ -279,32 +304,72 @@ abbrev pub RendersContent : Bool → Look → ContentValue → Text → Type 0
 RendersContent true look content text = RendersAsMarkdown look content text
 RendersContent false look content text = RendersAsTable look content text
 
+-- there are more records than so many: a count that isn't known is above all that are drawn
+abbrev pub are_more : ℕ → Option ℕ → Bool
+are_more limit None = true
+are_more limit (Some count) = nat_lt limit count
+
 -- the line on records that aren't drawn, in Markdown below an empty one
-abbrev pub note_for : Bool → Option ℕ → ℕ → Text
+abbrev pub note_for : Bool → Option ℕ → Option ℕ → Text
 note_for is_markdown None count = []
 note_for is_markdown (Some limit) count =
-    if nat_lt limit count
+    if are_more limit count
     then (if is_markdown then codes "\n" else [])
-    ++ (((decimal limit ++ codes " of ") ++ decimal count) ++ codes " records\n")
+    ++ (((decimal limit ++ codes " of ") ++ count_text count) ++ codes " records\n")
     else []
 
--- the output for some records: the text of their table, and the line on records that aren't drawn
-pub record RendersRecords (options : Options) (records : List (List Text))
+-- the text of a content, where one was found, and the line on records that aren't drawn
+pub record RendersFound (look : Look) (limit : Option ℕ) (found : Result ContentValue ColumnFault)
     (output : Text) : Type 0 where
   pub content : ContentValue
-  pub is_content : content_of options records ≡ Ok content
+  pub is_content : found ≡ Ok content
   pub text : Text
-  pub is_text : RendersContent options.look.is_markdown options.look content text
-  pub joined :
-      output ≡ text ++ note_for options.look.is_markdown options.selection.limit content.count
+  pub is_text : RendersContent look.is_markdown look content text
+  pub joined : output ≡ text ++ note_for look.is_markdown limit content.count
+
+-- the output for some records: the text of their table, and the line on records that aren't drawn
+abbrev pub RendersRecords : Options → List (List Text) → Text → Type 0
+RendersRecords options records output =
+    RendersFound options.look options.selection.limit (content_of options records) output
 
 -- the output for the records of an input: nothing where there are none
 abbrev pub RendersAnyRecords : Options → List (List Text) → Text → Type 0
 RendersAnyRecords options [] output = output ≡ []
 RendersAnyRecords options (first ∷ rest) output = RendersRecords options (first ∷ rest) output
 
--- the output for an input is that for its records
+-- by the same options all records are counted
+abbrev pub counting : Options → Options
+counting options = record options { selection = record options.selection { counts_all = true } }
+
+-- the output for a whole input is that for its records, which are counted
 pub record RendersInput (options : Options) (input output : Text) : Type 0 where
   pub records : List (List Text)
   pub are_records : AreRecordsFor options.input input records
-  pub is_output : RendersAnyRecords options records output
+  pub is_output : RendersAnyRecords (counting options) records output
+
+-- ---- beginnings of inputs
+
+-- there is a limit, and records aren't counted
+pub record HasLimit (options : Options) : Type 0 where
+  pub limit : ℕ
+  pub is : options.selection.limit ≡ Some limit
+  pub uncounted : options.selection.counts_all ≡ false
+
+-- these are the records of a beginning of an input, which is enough: there are more than are drawn
+pub record AreEnough (options : Options) (beginning : Text) (records : List
+    (List Text)) : Type 0 where
+  pub has_limit : HasLimit options
+  pub are :
+      IsEnough options.input (most_drawn options.selection.has_header has_limit.limit) beginning
+      records
+
+-- the output for a beginning that is enough is that for its records, which aren't counted
+pub record RendersBeginning (options : Options) (beginning output : Text) : Type 0 where
+  pub records : List (List Text)
+  pub are_enough : AreEnough options beginning records
+  pub is_output : RendersRecords options records output
+
+-- the output for an input, or for a beginning that is enough
+abbrev pub RendersExtent : Options → Extent → Text → Text → Type 0
+RendersExtent options Whole input output = RendersInput options input output
+RendersExtent options Beginning input output = RendersBeginning options input output

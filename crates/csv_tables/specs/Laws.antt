@@ -1,5 +1,5 @@
 -- What is so of every output.
-use Rattle.std.specs.Prelude.{◌≡◌, ◌⊎◌, ℕ, ◌+◌, ◌<◌, ◌≤◌, Bool, true, false, List, [], ◌++◌, Some, None, Ok, All, Contains, flat_map, length, map, max, slice_get, slice_index, unwrap_or}
+use Rattle.std.specs.Prelude.{◌≡◌, ◌⊎◌, ℕ, ◌+◌, ◌<◌, ◌≤◌, Bool, true, false, List, [], ◌++◌, Option, Some, None, Ok, All, Contains, flat_map, length, map, max, slice_get, slice_index, unwrap_or}
 use Rattle.std.specs.List.{range_with_len}
 use Rattle.comfy_parts.specs.CellValue.{plain_cell}
 use Rattle.comfy_parts.specs.Columns.{CharactersFit, IsOneColumnStyle, SelectorsAgree}
@@ -18,7 +18,7 @@ use Rattle.csv_tables.specs.Cells.{field_text, row_for}
 use Rattle.csv_records.specs.Cleaning.{visible_of}
 use Rattle.csv_tables.specs.Columns.{count_of, kept_columns}
 use Rattle.csv_tables.specs.Controls.{HasNoStrayControl, IsStyleWithoutControls}
-use Rattle.csv_tables.specs.Drawn.{ContentValue, RendersInput, RendersRecords, content_of, drawn_rows, is_expanded_for, names_of, note_for, output_table, record_line, rows_table, separated_table, table_for}
+use Rattle.csv_tables.specs.Drawn.{ContentValue, RendersBeginning, RendersInput, RendersRecords, content_of, drawn_rows, is_expanded_for, names_of, note_for, output_table, record_line, rows_table, separated_table, table_for}
 use Rattle.csv_tables.specs.Unbroken.{framed_width, needed_contents, unbroken_columns}
 use Rattle.csv.specs.Records.{AllText}
 use Rattle.csv_tables.specs.declared.options.Look.{Look}
@@ -48,7 +48,7 @@ TableKeepsRows options records table =
 -- ---- lines
 
 -- an expanded record: its own line, and some lines below it
-abbrev pub numbered_lines : ℕ → (ℕ → List Text) → ℕ → Text
+abbrev pub numbered_lines : Option ℕ → (ℕ → List Text) → ℕ → Text
 numbered_lines count parts at = record_line (at + 1) count ++ terminated_text_of (parts at)
 
 -- lines are those of a text; or, expanded, such lines alone stand below each record's own line
@@ -254,4 +254,10 @@ OutputHoldsNoControls options records output =
 abbrev pub InputIsDrawnWithoutControls : Options → Text → Text → Type 0
 InputIsDrawnWithoutControls options input output =
     IsLookWithoutControls options.look → RendersInput options input output
+    → HasNoStrayControl (visible_text output)
+
+-- nor of the output for a beginning that is enough
+abbrev pub BeginningIsDrawnWithoutControls : Options → Text → Text → Type 0
+BeginningIsDrawnWithoutControls options beginning output =
+    IsLookWithoutControls options.look → RendersBeginning options beginning output
     → HasNoStrayControl (visible_text output)

@@ -1,9 +1,9 @@
 -- What a call of `draw` ensures, by its result.
 use Rattle.std.specs.Prelude.{◌≡◌, ◌≢◌, Bool, true, false, List, [], Result, Ok, Err, IsUtf8}
 use Rattle.comfy_parts.specs.Text.{Text}
-use Rattle.devices.specs.Outcome.{IsAfterFault, IsAfterOk, IsAfterOutOfMemory, IsAfterRead, IsAfterWrite, RunFacts}
+use Rattle.devices.specs.Outcome.{Beginning, Extent, IsByExtent, OfWhole, Whole, IsAfterFault, IsAfterOk, IsAfterOutOfMemory, IsAfterRead, IsAfterWrite, RunFacts}
 use Rattle.csv_tables.specs.Columns.{IsColumnsRefusal}
-use Rattle.csv_tables.specs.Drawn.{RendersInput, content_of}
+use Rattle.csv_tables.specs.Drawn.{AreEnough, RendersExtent, content_of}
 use Rattle.csv_records.specs.Encoding.{IsRefusedIn, encoding_of}
 use Rattle.csv_records.specs.Reading.{AreRecordsFor, IsDecodedBy, IsTextWithoutRecords}
 use Rattle.csv_records.specs.declared.encoding.Encoding.TheVariants.{Utf8}
@@ -42,15 +42,35 @@ IsInputFault options input _ = ⊥
 abbrev pub IsUtf8IfWanted : Options → Text → Type 0
 IsUtf8IfWanted options input = encoding_of options.input.encoding input ≡ Utf8 → IsUtf8 input
 
--- why an input that was read whole has no output: it can't be drawn, or there is no memory
+-- what makes it a beginning of one: columns of its records can't be drawn so
+abbrev pub IsBeginningFault : Options → Text → CsvError → Type 0
+IsBeginningFault options beginning (Columns e) =
+    (e ≢ columns.OutOfMemory) × (found : List (List Text)) × AreEnough options beginning found
+    × IsColumnsRefusal e (content_of options found)
+IsBeginningFault options beginning _ = ⊥
+
+abbrev pub IsFault : Options → Extent → Text → CsvError → Type 0
+IsFault options Whole input e = IsInputFault options input e
+IsFault options Beginning input e = IsBeginningFault options input e
+
+-- why an input, or a beginning of one, has no output: it can't be drawn, or there is no memory
+abbrev pub IsRefusal : Options → Extent → Text → CsvError → Type 0
+IsRefusal options extent input OutOfMemory = IsUtf8IfWanted options input
+IsRefusal options extent input e = IsFault options extent input e
+
+-- why an input that was read whole has none
 abbrev pub IsInputRefusal : Options → Text → CsvError → Type 0
-IsInputRefusal options input OutOfMemory = IsUtf8IfWanted options input
-IsInputRefusal options input e = IsInputFault options input e
+IsInputRefusal options input e = IsRefusal options Whole input e
 
 -- what the facts of a call are, by its result
+abbrev pub IsAfterIn : {T : Type 0} → Options → Result T CsvError → Extent → RunFacts → Type 0
+IsAfterIn options (Ok _) extent facts = IsAfterOk (RendersExtent options extent) facts
+IsAfterIn options (Err Read) extent facts = OfWhole (IsAfterRead facts) extent
+IsAfterIn options (Err Write) extent facts = IsAfterWrite (RendersExtent options extent) facts
+IsAfterIn options (Err OutOfMemory) extent facts =
+    IsAfterOutOfMemory (IsUtf8IfWanted options) facts
+IsAfterIn options (Err e) extent facts =
+    IsAfterFault (λ input. IsFault options extent input e) facts
+
 abbrev pub IsAfter : {T : Type 0} → Options → Result T CsvError → RunFacts → Type 0
-IsAfter options (Ok _) facts = IsAfterOk (RendersInput options) facts
-IsAfter options (Err Read) facts = IsAfterRead facts
-IsAfter options (Err Write) facts = IsAfterWrite (RendersInput options) facts
-IsAfter options (Err OutOfMemory) facts = IsAfterOutOfMemory (IsUtf8IfWanted options) facts
-IsAfter options (Err e) facts = IsAfterFault (λ input. IsInputFault options input e) facts
+IsAfter options result facts = IsByExtent (IsAfterIn options result) facts

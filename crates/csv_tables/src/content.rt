@@ -3,7 +3,7 @@
 ghost use Rattle.std.specs.Prelude.{◌≡◌, IfOk, IfErr, Ok, [], unwrap_or};
 ghost use Rattle.csv_tables.specs.Columns.{IsColumnsRefusal};
 ghost use Rattle.csv_tables.specs.Cells.{reached};
-ghost use Rattle.csv_tables.specs.Drawn.{content_of, drawn_fields, limited, names_of, records_below};
+ghost use Rattle.csv_tables.specs.Drawn.{content_counted, content_of, drawn_fields, limited, names_of, records_below};
 ghost use Rattle.csv_tables.specs.Leasts.{least_positions};
 
 use crate::columns::columns_of;
@@ -21,13 +21,15 @@ pub struct Content {
     has_header: bool,
     // how many rows are drawn
     limit: Option<usize>,
+    // how many records stand below the header, where that is known
+    count: Option<usize>,
     pub(crate) columns: Vec<DrawnColumn>,
     // of each column, the least position of it and of those behind it
     leasts: Vec<usize>,
 }
 
 impl Model for Content {
-    ghost use Rattle.std.specs.Prelude.{◌≡◌, length};
+    ghost use Rattle.std.specs.Prelude.{◌≡◌};
     ghost use Rattle.csv_tables.specs.Drawn.{ContentValue, limited, names_of, records_below};
     ghost use Rattle.csv_tables.specs.Leasts.{least_positions};
 
@@ -39,14 +41,20 @@ impl Model for Content {
       names = names_of c.has_header c.records;
       rows = limited c.limit (records_below c.has_header c.records);
       columns = c.columns.items;
-      count = length (records_below c.has_header c.records);
+      count = c.count;
     } };
 }
 
 impl Content {
-    /// What is drawn of these records.
-    pub fn new(alloc: Global, records: Records, options: &Options) -> Result<Content, ColumnsError>
-        ensures ok { IfOk result (λ content. content_of options.now records ≡ Ok content) }
+    /// What is drawn of these records, of which so many stand below the header.
+    pub fn new(
+        alloc: Global,
+        records: Records,
+        count: Option<usize>,
+        options: &Options,
+    ) -> Result<Content, ColumnsError>
+        ensures ok { IfOk result (λ content.
+            content_counted count options.now records ≡ Ok content) }
         ensures refused { IfErr result (λ e. IsColumnsRefusal e (content_of options.now records)) }
     {
         let has_header = options.selection.has_header;
@@ -61,6 +69,7 @@ impl Content {
             records,
             has_header,
             limit,
+            count,
             columns,
             leasts,
         })
@@ -114,11 +123,11 @@ impl Content {
         count
     }
 
-    /// How many records there are below the header, drawn or not.
-    pub(crate) fn count(&self) -> usize
+    /// How many records there are below the header, drawn or not, where that is known.
+    pub(crate) fn count(&self) -> Option<usize>
         ensures { result ≡ self.now.count }
     {
-        records_below(&self.records.rows(), self.has_header).len()
+        self.count
     }
 }
 

@@ -8,6 +8,7 @@ ghost use Rattle.csv_tables.specs.Drawn.{is_expanded_in, least_width, record_lin
 
 use crate::content::Content;
 use crate::options::{Expansion, Look, RowSeparators};
+use crate::output::push_count;
 use crate::unbroken::framed_width;
 use comfy_table::{ArrangedTable, Result, Table, TableError};
 use std::alloc::{AllocError, Global};
@@ -90,11 +91,13 @@ fn place_behind(first: usize, count: usize) -> Result<usize>
 }
 
 // Appends the line above the record at a place.
-fn push_record_line(text: &mut String, at: usize, count: usize) -> Result<()>
+fn push_record_line(text: &mut String, at: usize, count: Option<usize>) -> Result<()>
     ensures { OnOk result (string_bytes text.new
         ≡ string_bytes text.old ++ record_line (at + 1) count) }
 {
-    write!(text, "record {} of {}\n", at as u128 + 1, count)?;
+    write!(text, "record {} of ", at as u128 + 1)?;
+    push_count(text, count)?;
+    text.push('\n')?;
     Ok(())
 }
 

@@ -6,7 +6,7 @@ ghost use Rattle.comfy_parts.specs.Text.{Text};
 ghost use Rattle.comfy_table.specs.TableValue.{TableValue};
 ghost use Rattle.csv_tables.specs.ColumnLaws.{KeepsChosenColumns};
 ghost use Rattle.csv_tables.specs.Drawn.{ContentValue};
-ghost use Rattle.csv_tables.specs.Laws.{FittingOutputIsStraight, InputIsDrawnWithoutControls, IsFilling, IsWithin, MarkdownOutputIsStraight, NarrowLinesHave, NarrowOutputIsStraight, OutputFillsWidth, OutputHoldsNoControls, OutputKeepsToWidth, PrintableFieldsStay, PrintableLinesHave, PrintableTextsMakePrintableTable, TableKeepsRows, UnbrokenColumnIsWhole, WholeOutputIsStraight};
+ghost use Rattle.csv_tables.specs.Laws.{BeginningIsDrawnWithoutControls, FittingOutputIsStraight, InputIsDrawnWithoutControls, IsFilling, IsWithin, MarkdownOutputIsStraight, NarrowLinesHave, NarrowOutputIsStraight, OutputFillsWidth, OutputHoldsNoControls, OutputKeepsToWidth, PrintableFieldsStay, PrintableLinesHave, PrintableTextsMakePrintableTable, TableKeepsRows, UnbrokenColumnIsWhole, WholeOutputIsStraight};
 ghost use Rattle.csv_tables.specs.Markdown.{IsReadBack};
 ghost use Rattle.csv_tables.specs.MarkdownLines.{MarkdownGivesRecordsBack};
 ghost use Rattle.csv_tables.specs.OneOutput.{OutputIsOne, OutputOfIsOne};
@@ -98,13 +98,16 @@ pub fn outputs_are_straight()
 {}
 
 /// Without its SGR sequences an output holds no control character but line feeds, whatever bytes
-/// the input has, under every width, limit and height, in Markdown and in bold. Fields are not left
-/// raw, and no character of the style is a control character. ESC stands in those sequences alone.
+/// the input has, under every width, limit and height, in Markdown and in bold, also where a
+/// beginning of it is enough. Fields are not left raw, and no character of the style is a control
+/// character. ESC stands in those sequences alone.
 pub fn outputs_hold_no_controls()
     ensures records { (options : Options) (records : List (List Text)) (output : Text)
         → OutputHoldsNoControls options records output }
     ensures input { (options : Options) (input output : Text)
         → InputIsDrawnWithoutControls options input output }
+    ensures beginning { (options : Options) (beginning output : Text)
+        → BeginningIsDrawnWithoutControls options beginning output }
 {}
 
 /// An output for Markdown has one line for the names, the rule below it, and one for each record

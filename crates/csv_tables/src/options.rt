@@ -31,6 +31,8 @@ pub struct Selection {
     pub has_header: bool,
     /// How many records below the header are drawn; all where there is no limit.
     pub limit: Option<usize>,
+    /// Whether an input is read to its end where there is a limit, to tell how many records it has.
+    pub counts_all: bool,
     /// The columns in the order in which they are drawn, by words; an empty list stands for all of
     /// them. A word is the number of a column that is there, counted from 1, else a name, else a
     /// range around a hyphen. Each end of a range is such a number, else a name; nothing behind the
@@ -50,6 +52,7 @@ impl Drop for Selection {
         let Selection {
             has_header: _,
             limit: _,
+            counts_all: _,
             columns: _,
             dropped: _,
             right: _,

@@ -4,7 +4,7 @@ ghost use Rattle.std.specs.Prelude.{◌≡◌, ◌∷◌, ◌++◌, IfOk, IfErr,
 ghost use Rattle.csv_tables.specs.Columns.{IsColumnsRefusal};
 ghost use Rattle.csv_tables.specs.Markdown.{rule_line};
 ghost use Rattle.csv_tables.specs.KeptContents.{AreKeptContents};
-ghost use Rattle.csv_tables.specs.Drawn.{RendersAsMarkdown, RendersRecords, RendersAsTable, RendersContent, RendersTable, content_of, note_for, rows_table};
+ghost use Rattle.csv_tables.specs.Drawn.{RendersAsMarkdown, RendersAsTable, RendersContent, RendersFound, RendersTable, are_more, content_counted, content_of, count_text, note_for, rows_table};
 
 use crate::content::Content;
 use crate::error::ColumnsError;
@@ -18,17 +18,19 @@ use csv_records::Records;
 use std::alloc::{AllocError, Global};
 use std::fmt::Write;
 
-/// The output for these records.
+/// The output for these records, of which so many stand below the header, where that is known.
 pub(crate) fn output_of(
     alloc: Global,
     records: Records,
+    count: Option<usize>,
     options: &Options,
 ) -> std::result::Result<String, ColumnsError>
     ensures output { IfOk result (λ output.
-        RendersRecords options.now records (string_bytes output)) }
+        RendersFound options.now.look options.now.selection.limit
+        (content_counted count options.now records) (string_bytes output)) }
     ensures refused { IfErr result (λ e. IsColumnsRefusal e (content_of options.now records)) }
 {
-    let content = Content::new(alloc, records, options)?;
+    let content = Content::new(alloc, records, count, options)?;
     let count = content.count();
     let mut output = drawn_text(content, &options.look)?;
     push_note(
@@ -136,16 +138,42 @@ fn push_note(
     output: &mut String,
     is_markdown: bool,
     limit: Option<usize>,
-    count: usize,
+    count: Option<usize>,
 ) -> std::result::Result<(), AllocError>
     ensures { OnOk result (string_bytes output.new
         ≡ string_bytes output.old ++ note_for is_markdown limit count) }
 {
     match limit {
-        Some(limit) if limit < count => {
+        Some(limit) if are_more(limit, count) => {
             output.push_str(if is_markdown { "\n" } else { "" })?;
-            write!(output, "{limit} of {count} records\n")
+            write!(output, "{limit} of ")?;
+            push_count(output, count)?;
+            output.push_str(" records\n")
         }
         _ => Ok(()),
+    }
+}
+
+// Whether there are more records than so many. A count that isn't known is above all that are
+// drawn.
+fn are_more(limit: usize, count: Option<usize>) -> bool
+    ensures { result ≡ are_more limit count }
+{
+    match count {
+        Some(count) => limit < count,
+        None => true,
+    }
+}
+
+/// Appends how many records there are, or that it isn't known.
+pub(crate) fn push_count(
+    text: &mut String,
+    count: Option<usize>,
+) -> std::result::Result<(), AllocError>
+    ensures { OnOk result (string_bytes text.new ≡ string_bytes text.old ++ count_text count) }
+{
+    match count {
+        Some(count) => write!(text, "{count}"),
+        None => text.push_str("more"),
     }
 }

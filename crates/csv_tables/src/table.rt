@@ -28,7 +28,7 @@ pub fn table_of(
     ensures ok { IfOk result (λ table. table_for options.now records ≡ Ok table) }
     ensures refused { IfErr result (λ e. IsColumnsRefusal e (content_of options.now records)) }
 {
-    let content = Content::new(alloc, records, options)?;
+    let content = Content::new(alloc, records, None, options)?;
     Ok(content.rows_table(&options.look)?)
 }
 

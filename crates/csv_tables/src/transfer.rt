@@ -1,19 +1,23 @@
 //! Reads an input, draws the table of its records, and writes the drawing.
 
-ghost use Rattle.std.specs.Prelude.{◌≡◌, true, false, OnOk, IfOk, IfErr, string_bytes};
-ghost use Rattle.csv_tables.specs.Drawn.{RendersInput};
-ghost use Rattle.csv_tables.specs.Run.{IsAfter, IsInputRefusal, is_read_fault, is_write_fault};
+ghost use Rattle.std.specs.Prelude.{◌≡◌, ◌≤◌, ◌^◌, ◌⊎◌, OnOk, IfErr, IfNone, IfOk, IfSome, Some, false, option_map, string_bytes, true};
+ghost use Rattle.csv_tables.specs.Drawn.{HasLimit, RendersExtent, RendersInput, most_drawn};
+ghost use Rattle.csv_tables.specs.Run.{IsAfter, IsInputRefusal, IsRefusal, is_read_fault, is_write_fault};
 ghost use Rattle.devices.specs.Outcome.{Between};
 
 use crate::error::CsvError;
-use crate::options::Options;
+use crate::options::{Options, Selection};
 use crate::output::output_of;
-use csv_records::{decoded, read_records};
+use csv_records::{decoded, read_beginning, read_first_records};
 use devices::{Render, Sink, Source};
 use std::alloc::Global;
 
-/// Reads the whole source, and writes the drawing of the table of its records to the sink, each
-/// line followed by a line feed. Where not all records are drawn, a line says how many there are.
+/// Reads the source, and writes the drawing of the table of its records to the sink, each line
+/// followed by a line feed. Where not all records are drawn, a line says how many there are.
+///
+/// The source is read whole. Where there is a limit and records aren't counted, it is read until
+/// more records than are drawn were read, and what stands between fields was found; that line says
+/// then that there are more. What was read behind these isn't judged.
 ///
 /// An input without records has an empty output.
 ///
@@ -32,7 +36,7 @@ pub fn draw<R: Source, W: Sink>(
     sink: &mut W,
     options: &Options,
 ) -> Result<(), CsvError>
-    ensures ended { OnOk result (R.end_was_read source.new ≡ true) }
+    ensures ended { OnOk result ((R.end_was_read source.new ≡ true) ⊎ HasLimit options.now) }
     ensures source { R.has_failed source.new ≡ is_read_fault result }
     ensures sink { W.has_failed sink.old ≡ false → W.has_failed sink.new ≡ is_write_fault result }
     ensures known { Between R.Source W.Sink (source.old, sink.old) (source.new, sink.new)
@@ -44,12 +48,41 @@ pub fn draw<R: Source, W: Sink>(
 impl Render for Options {
     type Error = CsvError;
 
-    ghost is_output = { RendersInput };
+    ghost is_output = { RendersExtent };
 
-    ghost is_refusal = { IsInputRefusal };
+    ghost is_refusal = { IsRefusal };
 
     fn render(&self, alloc: Global, input: Vec<u8>) -> Result<String, CsvError> {
         output_of_input(alloc, input, self)
+    }
+
+    fn render_beginning(&self, alloc: Global, read: &[u8]) -> Option<Result<String, CsvError>> {
+        if self.selection.counts_all {
+            return None;
+        }
+        let most = most_drawn(&self.selection)?;
+        let Ok(first) = read_beginning(alloc, read, &self.input, most) else {
+            return Some(Err(CsvError::OutOfMemory));
+        };
+        match output_of(alloc, first?, None, self) {
+            Ok(output) => Some(Ok(output)),
+            Err(error) => Some(Err(CsvError::from(error))),
+        }
+    }
+}
+
+// How many records of an input are drawn at most, with the header, where there is a limit.
+fn most_drawn(selection: &Selection) -> Option<usize>
+    ensures some { IfSome result (λ most.
+        option_map (most_drawn selection.now.has_header) selection.now.limit ≡ Some most) }
+    ensures none { IfNone result (IfSome selection.now.limit (λ limit.
+        2 ^ 64 ≤ most_drawn selection.now.has_header limit)) }
+{
+    let limit = selection.limit?;
+    if selection.has_header {
+        limit.checked_add(1)
+    } else {
+        Some(limit)
     }
 }
 
@@ -60,9 +93,12 @@ pub fn output_of_input(alloc: Global, input: Vec<u8>, options: &Options) -> Resu
     ensures refused { IfErr result (λ e. IsInputRefusal options.now input.items e) }
 {
     let text = decoded(alloc, input, options.input.encoding)?;
-    let records = read_records(alloc, text.as_str(), &options.input)?;
-    if records.rows().is_empty() {
+    // The other records are only counted.
+    let most = most_drawn(&options.selection).unwrap_or(usize::MAX);
+    let first = read_first_records(alloc, text.as_str(), &options.input, most)?;
+    if first.count == 0 {
         return Ok(String::new(alloc));
     }
-    Ok(output_of(alloc, records, options)?)
+    let below = first.count - usize::from(options.selection.has_header);
+    Ok(output_of(alloc, first.records, Some(below), options)?)
 }

@@ -1,11 +1,14 @@
 -- What a call of a source over memory does, in the words that every source has.
-use Rattle.std.proofs.Common.{zero, suc, ◌≡◌, ◌<◌, ◌≤◌, ℕ, Bool, true, false, ◌||◌, ◌&&◌, nat_lt, ◌==◌, [], ◌∷◌, ◌++◌, Option, Some, None, is_none, Result, Ok, Err, is_err, IfOk, OnOk, OnErr, unwrap_or, refl, sym, ap, ◌∙◌, length, take, drop, min, arith}
+use Rattle.std.proofs.Common.{zero, suc, ◌≡◌, ◌<◌, ◌≤◌, ℕ, Bool, true, false, ◌||◌, ◌&&◌, nat_lt, ◌==◌, [], ◌∷◌, ◌++◌, Option, Some, None, append_assoc, is_none, Result, Ok, Err, is_err, IfOk, OnOk, OnErr, unwrap_or, refl, sym, ap, ◌∙◌, String, length, take, drop, min, arith}
 use Rattle.std.proofs.Math.Bool.{or-false}
 use Rattle.std.proofs.lemmas.Bool.{or_parts}
 use Rattle.std.proofs.lemmas.Bool.Decides.{nat_tests}
 use Rattle.std.proofs.lemmas.Grind.{common_steps}
 use Rattle.std.proofs.lemmas.List.{length-take-le, nil_from_length}
 use Rattle.std.proofs.Math.Seq.{take-append_seam}
+use Rattle.std.proofs.lemmas.List.{take-append-drop}
+use Rattle.devices.specs.Outcome.{Beginning, Extent}
+use Rattle.devices.specs.Transfer.{IsAnswered, IsForBeginning, Moves}
 use Rattle.devices.specs.Device.{Bytes, MemorySourceValue, left_in, rest_after, after_reading, is_due, is_end}
 
 -- the front of a buffer that was filled from a text
@@ -71,3 +74,41 @@ module _ {E : Type 0} (old new : MemorySourceValue) (was now : Bytes) where
 pub not-ended : (b : Bool) (count room : ℕ) → (count ≡ 0 → ⊥) → (b || ((count == 0) && nat_lt 0 room)) ≡ b
 not-ended true count room some = refl
 not-ended false count room some = grind (arith, nat_tests)
+
+-- ---- what a source gave
+
+-- a source gives the first bytes of those that are left
+abbrev Gives : Option Bytes → Option Bytes → ℕ → Bytes → Type 0
+Gives old new count buffer = (left : Bytes) → old ≡ Some left → (take count buffer ≡ take count left) × (new ≡ Some (drop count left))
+
+module _ (a b c : Option Bytes) (had has : Bytes) (moved : Moves a b had has) where
+  -- more of it stands behind
+  pub moves_more : (count : ℕ) (buffer now : Bytes) → Gives b c count buffer → now ≡ has ++ take count buffer → Moves a c had now
+  moves_more count buffer now gives added = λ input known.
+      let was = moved input known in
+      let step = gives was.0 was.1 in
+      let rest = drop count was.0 in (
+        rest,
+        step.1,
+        was.2
+            ∙ sym (ap (λ t. t ++ rest) (added ∙ ap (λ t. has ++ t) step.0) ∙ append_assoc has (take count was.0) rest ∙ ap (λ t. has ++ t) (take-append-drop count was.0)),
+      )
+
+  -- a read that gives none changes nothing
+  pub moves_none : (count : ℕ) (buffer : Bytes) → Gives b c count buffer → count ≡ 0 → Moves a c had has
+  moves_none zero buffer gives none = λ input known. let was = moved input known in (was.0, (gives was.0 was.1).1, was.2)
+  moves_none (suc count) buffer gives none = absurd (omega (arith, none))
+
+  -- so do several reads
+  pub moves_on : (now : Bytes) → Moves b c has now → Moves a c had now
+  moves_on now more = λ input known.
+      let was = moved input known in
+      let then = more was.0 was.1 in (then.0, then.1, was.2 ∙ then.2)
+
+-- what was made of a beginning of what was read is made of a beginning of the input
+pub answered_by_beginning : {A E : Type 0} (IsOutput : Extent → Bytes → Bytes → Type 0) (IsRefusal : Extent → Bytes → E → Type 0) (a b : Option Bytes) (ended : Bool) (read : Bytes) (answer : Result (String A) E) → Moves a b [] read
+    → IsForBeginning IsOutput IsRefusal read answer → IsAnswered IsOutput IsRefusal a ended answer
+answered_by_beginning IsOutput IsRefusal a b ended read answer moved made = (
+  Beginning,
+  (made.0, made.3, λ all known. let was = moved all known in (made.1 ++ was.0, was.2 ∙ ap (λ t. t ++ was.0) made.2 ∙ append_assoc made.0 made.1 was.0)),
+)

@@ -1,1 +1,2 @@
 pub mod DeviceLemmas
+pub mod StreamLemmas

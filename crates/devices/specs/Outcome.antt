@@ -1,5 +1,5 @@
 -- What happens in a run, and what is said of it by what its devices tell before and after it.
-use Rattle.std.specs.Prelude.{◌≡◌, ◌<◌, Bool, true, false, [], ◌++◌, Some, length}
+use Rattle.std.specs.Prelude.{◌≡◌, ◌<◌, ◌⊎◌, Bool, true, false, [], ◌++◌, Some, length}
 use Rattle.devices.specs.Device.{Bytes}
 use Rattle.devices.specs.declared.device.Sink as sink
 use Rattle.devices.specs.declared.device.Source as source
@@ -61,6 +61,28 @@ pub record IsAfterOutOfMemory (IsFine : Bytes → Type 0) (facts : RunFacts) : T
   pub no_device_failed : NoDeviceFailed facts
   pub nothing_written : facts.written ≡ []
   pub fine : facts.end_was_read ≡ true → IsFine facts.input
+
+-- how much of an input was looked at
+pub data Extent : Type 0 where
+  Whole : Extent
+  Beginning : Extent
+
+-- P holds, of a whole input
+abbrev pub OfWhole : Type 0 → Extent → Type 0
+OfWhole P Whole = P
+OfWhole P Beginning = ⊥
+
+-- it went by a beginning of the input as if that were all of it: what stands behind wasn't looked
+-- at
+pub record IsByBeginning (Says : RunFacts → Type 0) (facts : RunFacts) : Type 0 where
+  pub beginning : Bytes
+  pub behind : Bytes
+  pub joins : facts.input ≡ beginning ++ behind
+  pub says : Says (record facts { input = beginning; end_was_read = true })
+
+-- it went by the whole input, or by a beginning that was enough
+abbrev pub IsByExtent : (Extent → RunFacts → Type 0) → RunFacts → Type 0
+IsByExtent Says facts = Says Whole facts ⊎ IsByBeginning (Says Beginning) facts
 
 -- what happened between two times to a source and a sink, where both said their bytes at the first
 -- and hadn't failed

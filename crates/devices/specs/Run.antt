@@ -1,7 +1,7 @@
 -- What a run ensures, by its result.
 use Rattle.std.specs.Prelude.{◌≡◌, ⊤, Bool, true, false, [], Result, Ok, Err}
 use Rattle.devices.specs.Device.{Bytes}
-use Rattle.devices.specs.Outcome.{IsAfterFault, IsAfterOk, IsAfterOutOfMemory, IsAfterRead, IsAfterWrite, RunFacts}
+use Rattle.devices.specs.Outcome.{Extent, Beginning, IsByExtent, OfWhole, IsAfterFault, IsAfterOk, IsAfterOutOfMemory, IsAfterRead, IsAfterWrite, RunFacts}
 use Rattle.devices.specs.declared.transfer.ReadError.{ReadError}
 use Rattle.devices.specs.declared.transfer.ReadError.TheVariants as read
 use Rattle.devices.specs.declared.transfer.Stop.{Stop}
@@ -23,16 +23,26 @@ stop_of read.Source = Read
 stop_of read.OutOfMemory = OutOfMemory
 
 -- a refusal is that of some input
-abbrev pub IsRefusalOfSome : {E : Type 0} → (Bytes → E → Type 0) → Stop E → Type 0
-IsRefusalOfSome IsRefusal (Refused e) = (input : Bytes) × IsRefusal input e
+abbrev pub IsRefusalOfSome : {E : Type 0} → (Extent → Bytes → E → Type 0) → Stop E → Type 0
+IsRefusalOfSome IsRefusal (Refused e) =
+    (extent : Extent) × (input : Bytes) × IsRefusal extent input e
 IsRefusalOfSome IsRefusal _ = ⊤
+
+-- a beginning of an input can be enough for an output
+abbrev pub IsSomeEnough : (Extent → Bytes → Bytes → Type 0) → Type 0
+IsSomeEnough IsOutput = (beginning : Bytes) × (output : Bytes) × IsOutput Beginning beginning output
 
 -- what the facts of a run are, by its result; nothing is left where the end was read and there was
 -- no memory for the input
-module _ {E : Type 0} (IsOutput : Bytes → Bytes → Type 0) (IsRefusal : Bytes → E → Type 0) where
+module _ {E : Type 0} (IsOutput : Extent → Bytes → Bytes → Type 0)
+    (IsRefusal : Extent → Bytes → E → Type 0) where
+  abbrev pub IsAfterIn : {T : Type 0} → Result T (Stop E) → Extent → RunFacts → Type 0
+  IsAfterIn (Ok _) extent facts = IsAfterOk (IsOutput extent) facts
+  IsAfterIn (Err Read) extent facts = OfWhole (IsAfterRead facts) extent
+  IsAfterIn (Err Write) extent facts = IsAfterWrite (IsOutput extent) facts
+  IsAfterIn (Err OutOfMemory) extent facts =
+      OfWhole (IsAfterOutOfMemory (λ input. input ≡ []) facts) extent
+  IsAfterIn (Err (Refused e)) extent facts = IsAfterFault (λ input. IsRefusal extent input e) facts
+
   abbrev pub IsAfter : {T : Type 0} → Result T (Stop E) → RunFacts → Type 0
-  IsAfter (Ok _) facts = IsAfterOk IsOutput facts
-  IsAfter (Err Read) facts = IsAfterRead facts
-  IsAfter (Err Write) facts = IsAfterWrite IsOutput facts
-  IsAfter (Err OutOfMemory) facts = IsAfterOutOfMemory (λ input. input ≡ []) facts
-  IsAfter (Err (Refused e)) facts = IsAfterFault (λ input. IsRefusal input e) facts
+  IsAfter result facts = IsByExtent (IsAfterIn result) facts

@@ -15,11 +15,11 @@ abbrev pub fault_after : {T : Type 0} → Result T Error → Option ErrorKind �
 fault_after (Ok x) fault = fault
 fault_after (Err error) fault = Some (error_kind error)
 
--- a writer, whether it has failed, and whether that was since no reader was left
+-- a writer, whether it has failed, and the kind of the error with which it did, where it said one
 pub record ToWriterValue (W : Type 0) : Type 0 where
   pub writer : W
   pub failed : Bool
-  pub unread : Bool
+  pub fault : Option ErrorKind
 
 -- after the end nothing is left; before it, what the reader says
 abbrev pub left_before : Bool → Option (List ℕ) → Option (List ℕ)

@@ -1,6 +1,8 @@
 //! Devices over readers and writers, which keep whether those have failed.
 
 ghost use Rattle.std.specs.Prelude.{◌≡◌, ◌||◌, ◌↔◌, IfErr, IfOk, None, Ok, Some, is_err, is_some, false, true};
+ghost use Rattle.std.specs.Io.{ReadsAtMost, WritesAtMost};
+ghost use Rattle.std.specs.Io.KnownBytes.{ReadConsumes, WriteAppends};
 ghost use Rattle.std.specs.IoError.{error_kind};
 ghost use Rattle.devices.specs.Device.{is_end};
 ghost use Rattle.devices.specs.Stream.{fault_after, left_before, none_is_left};
@@ -9,7 +11,11 @@ use crate::device::{DeviceFault, Sink, Source};
 use std::io::{self, ErrorKind, Read, Write};
 use std::marker::Model;
 
-/// A source over a reader. Every error of the reader is a failure.
+// How often a call is made that a signal interrupts.
+const TRIES: u32 = 1000;
+
+/// A source over a reader. A call of the reader that was interrupted took nothing, and is made
+/// again, up to a thousand times. Every other error of the reader is a failure.
 #[derive(Drop)]
 pub struct FromReader<R> {
     reader: R,
@@ -85,18 +91,35 @@ impl<R: Read> Source for FromReader<R> {
         if self.ended {
             return Ok(0);
         }
-        let said = self.reader.read(buffer);
+        let said = read_again(&mut self.reader, buffer);
         self.kept(said, buffer.len())
     }
 }
 
-/// A sink over a writer. Every error of the writer is a failure, and so is a piece that isn't empty
-/// of which it takes nothing.
+// One read, made again where it was interrupted.
+fn read_again<R: Read>(reader: &mut R, buffer: &mut [u8]) -> io::Result<usize>
+    ensures bound { ReadsAtMost result buffer.new }
+    ensures bytes { ReadConsumes (R.remaining reader.old) (R.remaining reader.new) result
+        buffer.new }
+{
+    for _ in 1..TRIES {
+        match reader.read(buffer) {
+            Err(error) if error.kind() == ErrorKind::Interrupted => {}
+            said => return said,
+        }
+    }
+    reader.read(buffer)
+}
+
+/// A sink over a writer. A call of the writer that was interrupted took nothing, and is made again,
+/// up to a thousand times. Every other error of the writer is a failure, and so is a piece that
+/// isn't empty of which it takes nothing.
 #[derive(Drop)]
 pub struct ToWriter<W> {
     writer: W,
     failed: bool,
-    unread: bool,
+    // the kind of the error with which it failed, where it said one
+    fault: Option<ErrorKind>,
 }
 
 impl<W> Model for ToWriter<W> {
@@ -104,26 +127,26 @@ impl<W> Model for ToWriter<W> {
 
     ghost Value = { ToWriterValue W };
 
-    ghost view = { λ s. record { writer = s.writer; failed = s.failed; unread = s.unread } };
+    ghost view = { λ s. record { writer = s.writer; failed = s.failed; fault = s.fault } };
 }
 
 impl<W: Write> ToWriter<W> {
     /// A sink to the writer. It takes no memory.
     pub fn new(writer: W) -> ToWriter<W>
-        ensures { result ≡ record { writer = writer; failed = false; unread = false } }
+        ensures { result ≡ record { writer = writer; failed = false; fault = None } }
     {
         ToWriter {
             writer,
             failed: false,
-            unread: false,
+            fault: None,
         }
     }
 
-    /// Whether the writer failed as a pipe does whose reader has ended.
-    pub fn is_unread(&self) -> bool
-        ensures { result ≡ self.now.unread }
+    /// The kind of the error with which the writer failed; none where it didn't, or said none.
+    pub fn fault(&self) -> Option<ErrorKind>
+        ensures { result ≡ self.now.fault }
     {
-        self.unread
+        self.fault
     }
 
     // What the writer said of a piece of so many bytes, as the sink keeps and answers it.
@@ -132,11 +155,8 @@ impl<W: Write> ToWriter<W> {
         ensures fault { is_err result ≡ (is_err said || is_end said bytes) }
         ensures after { self.new ≡ record self.old {
           failed = self.old.failed || (is_err said || is_end said bytes);
-          unread = self.new.unread;
+          fault = fault_after said self.old.fault;
         } }
-        ensures unread { IfErr said
-            (λ error. self.new.unread ≡ true ↔ error_kind error ≡ ErrorKind.BrokenPipe) }
-        ensures read { IfOk said (λ _. self.new.unread ≡ self.old.unread) }
     {
         match said {
             Ok(count) if count > 0 || bytes == 0 => Ok(count),
@@ -146,7 +166,7 @@ impl<W: Write> ToWriter<W> {
             }
             Err(error) => {
                 self.failed = true;
-                self.unread = error.kind() == ErrorKind::BrokenPipe;
+                self.fault = Some(error.kind());
                 Err(DeviceFault)
             }
         }
@@ -162,7 +182,21 @@ impl<W: Write> Sink for ToWriter<W> {
         if self.failed {
             return Err(DeviceFault);
         }
-        let said = self.writer.write(piece);
+        let said = write_again(&mut self.writer, piece);
         self.kept(said, piece.len())
     }
+}
+
+// One write, made again where it was interrupted.
+fn write_again<W: Write>(writer: &mut W, piece: &[u8]) -> io::Result<usize>
+    ensures bound { WritesAtMost result piece.now }
+    ensures bytes { WriteAppends (W.contents writer.old) (W.contents writer.new) result piece.now }
+{
+    for _ in 1..TRIES {
+        match writer.write(piece) {
+            Err(error) if error.kind() == ErrorKind::Interrupted => {}
+            said => return said,
+        }
+    }
+    writer.write(piece)
 }

@@ -1,17 +1,17 @@
 //! Whole inputs and outputs: all that a source has left, all of a piece for a sink, and a run that
 //! reads the one and writes the other.
 
-ghost use Rattle.std.specs.Prelude.{◌≡◌, ◌++◌, List, ℕ, [], true, false, Some, OnOk, OnErr, IfOk, IfErr, string_bytes};
-ghost use Rattle.devices.specs.Outcome.{Between, IsBeginningOnly};
-ghost use Rattle.devices.specs.Run.{IsAfter, IsRefusalOfSome, is_read_fault, is_write_fault, stop_of};
-ghost use Rattle.devices.specs.Transfer.{is_source_fault};
+ghost use Rattle.std.specs.Prelude.{◌≡◌, ◌≤◌, ◌++◌, ◌⊎◌, List, ℕ, [], true, false, Ok, Some, OnOk, OnErr, IfOk, IfErr, IfSome, string_bytes, vec_len};
+ghost use Rattle.devices.specs.Outcome.{Between, Extent, IsBeginningOnly};
+ghost use Rattle.devices.specs.Run.{IsAfter, IsRefusalOfSome, IsSomeEnough, is_read_fault, is_write_fault, stop_of};
+ghost use Rattle.devices.specs.Transfer.{IsAnswer, IsAnswered, IsForBeginning, Moves, is_source_fault};
 ghost use Rattle.devices.specs.declared.transfer.ReadError.TheVariants.{OutOfMemory};
 
 use crate::device::{DeviceFault, Sink, Source};
 use std::alloc::{AllocError, Global};
 
 // How many bytes are asked for at a time.
-const CHUNK: usize = 4096;
+const BLOCK: usize = 65536;
 
 /// Why a source wasn't read to its end.
 #[derive(Clone, Copy, Debug, PartialEq, Eq)]
@@ -59,17 +59,22 @@ pub trait Render {
     /// Why an input has no output.
     type Error: Drop;
 
-    // which bytes are an output for an input
-    ghost is_output: { Self → List ℕ → List ℕ → Type 0 };
+    // which bytes are an output for a whole input, or for a beginning of one that is enough
+    ghost is_output: { Self → Extent → List ℕ → List ℕ → Type 0 };
 
-    // whether this is why an input has no output
-    ghost is_refusal: { Self → List ℕ → Self.Error → Type 0 };
+    // whether this is why such an input has no output
+    ghost is_refusal: { Self → Extent → List ℕ → Self.Error → Type 0 };
 
     /// The output for an input that was read whole.
     fn render(&self, alloc: Global, input: Vec<u8>) -> Result<String, Self::Error>
-        ensures output { IfOk result (λ output.
-            is_output self.now input.items (string_bytes output)) }
-        ensures refused { IfErr result (λ e. is_refusal self.now input.items e) };
+        ensures { IsAnswer (is_output self.now) (is_refusal self.now) Extent.Whole input.items
+            result };
+
+    /// The output for a beginning of these bytes, behind which more follow, where that is enough;
+    /// none where more have to be read.
+    fn render_beginning(&self, alloc: Global, read: &[u8]) -> Option<Result<String, Self::Error>>
+        ensures { IfSome result
+            (IsForBeginning (is_output self.now) (is_refusal self.now) read.now) };
 }
 
 /// All that the source has left. After an error its end was read only if it was before.
@@ -81,15 +86,42 @@ pub fn read_all<R: Source>(alloc: Global, source: &mut R) -> Result<Vec<u8>, Rea
     ensures unread { OnErr result (R.end_was_read source.new ≡ R.end_was_read source.old) }
 {
     let mut bytes = Vec::new(alloc);
-    let mut buffer = [0u8; CHUNK];
+    if read_up_to(source, &mut bytes, usize::MAX)? {
+        Ok(bytes)
+    } else {
+        // No memory holds so many.
+        Err(ReadError::OutOfMemory)
+    }
+}
+
+// Appends what the source gives, until there are at least so many bytes, or to its end. Returns
+// whether the end was read.
+fn read_up_to<R: Source>(
+    source: &mut R,
+    bytes: &mut Vec<u8>,
+    least: usize,
+) -> Result<bool, ReadError>
+    ensures fault { R.has_failed source.new ≡ is_source_fault result }
+    ensures moved { OnOk result
+        (Moves (R.remaining source.old) (R.remaining source.new) bytes.old.items bytes.new.items) }
+    ensures ended { result ≡ Ok true → R.end_was_read source.new ≡ true }
+    ensures enough { result ≡ Ok false → least ≤ vec_len bytes.new }
+    ensures unread { OnErr result (R.end_was_read source.new ≡ R.end_was_read source.old) }
+    ensures not_ended { result ≡ Ok false
+        → R.end_was_read source.new ≡ R.end_was_read source.old }
+{
+    let mut block = [0u8; BLOCK];
     loop {
-        let Ok(count) = source.read(&mut buffer) else {
+        let Ok(count) = source.read(&mut block) else {
             return Err(ReadError::Source);
         };
         if count == 0 {
-            return Ok(bytes);
+            return Ok(true);
         }
-        bytes.extend_from_slice(&buffer[..count])?;
+        bytes.extend_from_slice(&block[..count])?;
+        if bytes.len() >= least {
+            return Ok(false);
+        }
     }
 }
 
@@ -114,26 +146,30 @@ pub fn write_all<W: Sink>(sink: &mut W, piece: &[u8]) -> Result<(), DeviceFault>
     Ok(())
 }
 
-/// Reads the whole source, and writes the output for it to the sink.
+/// Reads the source, and writes the output for it to the sink.
 ///
-/// The output is whole in memory before the first write. After `Read` the source has failed and the
-/// sink hasn't, after `Write` the sink and not the source, and after every other result neither.
-/// After `Write` a beginning of the output was written, and nothing after every other error.
+/// It is read whole, or until what was read is enough: this is asked where a block is full, then
+/// where twice as much was read, and so on, so that it depends on the input alone, however the
+/// source parts it. The output is whole in memory before the first write.
+///
+/// After `Read` the source has failed and the sink hasn't, after `Write` the sink and not the
+/// source, and after every other result neither. After `Write` a beginning of the output was
+/// written, and nothing after every other error.
 pub fn run<R: Source, W: Sink, D: Render>(
     alloc: Global,
     source: &mut R,
     sink: &mut W,
     drawing: &D,
 ) -> Result<(), Stop<D::Error>>
-    ensures ended { OnOk result (R.end_was_read source.new ≡ true) }
+    ensures ended { OnOk result ((R.end_was_read source.new ≡ true)
+        ⊎ IsSomeEnough (D.is_output drawing.now)) }
     ensures source { R.has_failed source.new ≡ is_read_fault result }
     ensures sink { W.has_failed sink.old ≡ false → W.has_failed sink.new ≡ is_write_fault result }
     ensures refused { IfErr result (IsRefusalOfSome (D.is_refusal drawing.now)) }
     ensures known { Between R.Source W.Sink (source.old, sink.old) (source.new, sink.new)
         (IsAfter (D.is_output drawing.now) (D.is_refusal drawing.now) result) }
 {
-    let input = read_all(alloc, source)?;
-    let output = match drawing.render(alloc, input) {
+    let output = match read_answer(alloc, source, drawing)? {
         Ok(output) => output,
         Err(error) => return Err(Stop::Refused(error)),
     };
@@ -141,4 +177,27 @@ pub fn run<R: Source, W: Sink, D: Render>(
         Ok(()) => Ok(()),
         Err(DeviceFault) => Err(Stop::Write),
     }
+}
+
+// What comes of all that the source has left, or of a beginning that is enough.
+fn read_answer<R: Source, D: Render>(
+    alloc: Global,
+    source: &mut R,
+    drawing: &D,
+) -> Result<Result<String, D::Error>, ReadError>
+    ensures fault { R.has_failed source.new ≡ is_source_fault result }
+    ensures answer { IfOk result
+        (IsAnswered (D.is_output drawing.now) (D.is_refusal drawing.now) (R.remaining source.old)
+        (R.end_was_read source.new)) }
+    ensures unread { OnErr result (R.end_was_read source.new ≡ R.end_was_read source.old) }
+{
+    let mut input = Vec::new(alloc);
+    let mut least = BLOCK;
+    while !read_up_to(source, &mut input, least)? {
+        if let Some(answer) = drawing.render_beginning(alloc, input.as_slice()) {
+            return Ok(answer);
+        }
+        least = input.len().saturating_mul(2);
+    }
+    Ok(drawing.render(alloc, input))
 }

@@ -2,7 +2,7 @@
 
 ghost use Rattle.std.specs.Prelude.{◌≡◌, true, false, OnOk, IfOk, string_bytes};
 ghost use Rattle.comfy_run.specs.Input.{RendersInput};
-ghost use Rattle.comfy_run.specs.Run.{IsAfter, IsDrawnFrom, IsRefusal, is_read_fault, is_write_fault};
+ghost use Rattle.comfy_run.specs.Run.{IsAfter, IsDrawnIn, IsRefusalIn, is_read_fault, is_write_fault};
 ghost use Rattle.devices.specs.Outcome.{Between};
 
 use crate::error::RunError;
@@ -46,15 +46,20 @@ pub fn run<R: Source, W: Sink>(
 impl Render for Settings {
     type Error = RunError;
 
-    ghost is_output = { IsDrawnFrom };
+    ghost is_output = { IsDrawnIn };
 
-    ghost is_refusal = { λ _. IsRefusal };
+    ghost is_refusal = { λ _. IsRefusalIn };
 
     fn render(&self, alloc: Global, input: Vec<u8>) -> Result<String, RunError> {
         let Ok(text) = simdutf8::compat::from_utf8(input.as_slice()) else {
             return Err(RunError::NotUtf8);
         };
         Ok(render_tsv(alloc, text, *self)?)
+    }
+
+    // Each line is a row, so that the input is read whole.
+    fn render_beginning(&self, _alloc: Global, _read: &[u8]) -> Option<Result<String, RunError>> {
+        None
     }
 }
 

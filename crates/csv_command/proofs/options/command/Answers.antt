@@ -16,6 +16,6 @@ loop-word-preserved c =
 pub returns : goal.returns
 unfolding rule_for
 returns c =
-    let last : c.loop-word.word-index ≡ 25 = omega (arith, c.loop-word-test.false, c.loop-word.auto.word-index-end) in
+    let last : c.loop-word.word-index ≡ 26 = omega (arith, c.loop-word-test.false, c.loop-word.auto.word-index-end) in
     let own : map bare (app_of c.loop-word.command).top.rules ≡ csvtable_rules = c.loop-word.invariant.rules ∙ rw last refl in
     record { is_wordless = c.loop-word.invariant.others; rules = own }

@@ -1,4 +1,4 @@
-use Rattle.std.proofs.Common.{◌≡◌, ◌≤◌, ◌<◌, ◌+◌, ◌++◌, ◌∷◌, [], ℕ, List, suc, ap, ap₂, arith, drop, flat_map, length, string_bytes, subst, sym, take, ◌∙◌}
+use Rattle.std.proofs.Common.{◌≡◌, ◌≤◌, ◌<◌, ◌+◌, ◌++◌, ◌∷◌, [], ℕ, List, Option, suc, ap, ap₂, arith, drop, flat_map, length, string_bytes, subst, sym, take, ◌∙◌}
 use Rattle.std.specs.Iterator.Adapters.{enumerate_count, enumerate_source}
 use Rattle.std.specs.List.{range_with_len, slice_index_or}
 use Rattle.std.specs.Prelude.{sum_by}
@@ -28,7 +28,7 @@ loop-at-preserved c =
     let at : c.in-Some.at ≡ k = steps.1 in
     let line : string_bytes c.push_part.new.text ≡ string_bytes c.loop-at.text ++ record_text content arranged k =
     c.in_ok-push_part.ensures
-    ∙ ap₂ (λ (t p : Text). t ++ p) (c.in_ok-push_record_line.ensures ∙ ap₂ (λ (n m : ℕ). string_bytes c.loop-at.text ++ record_line (n + 1) m) at c.count.ensures) (ap₂ part had.first count)
+    ∙ ap₂ (λ (t p : Text). t ++ p) (c.in_ok-push_record_line.ensures ∙ ap₂ (λ (n : ℕ) (m : Option ℕ). string_bytes c.loop-at.text ++ record_line (n + 1) m) at c.count.ensures) (ap₂ part had.first count)
     ∙ append_assoc (string_bytes c.loop-at.text) (record_line (k + 1) content.count) (part (sum_by (drawn_fields content) (take k rows)) (drawn_fields content (slice_index_or rows k []))) in
     record {
       left = place.2 ∙ ap (λ (n : ℕ). drop n rows) (one ∙ sym next);

@@ -1,0 +1,36 @@
+-- A beginning of an input that is enough for its first records.
+use Rattle.std.specs.Prelude.{ℕ, ◌≡◌, ◌≢◌, ◌<◌, true, List, [], ◌∷◌, ◌++◌, length, take}
+use Rattle.comfy_parts.specs.Text.{Text}
+use Rattle.csv_records.specs.Delimiter.{below_lines, shows_delimiter}
+use Rattle.csv_records.specs.Encoding.{encoding_of}
+use Rattle.csv_records.specs.Reading.{AreRecordsIn, IsDecodedBy}
+use Rattle.csv_records.specs.declared.encoding.Encoding.TheVariants.{Utf16}
+use Rattle.csv_records.specs.declared.options.InputOptions.{InputOptions}
+
+-- a text ends with a line feed
+abbrev pub EndsWithLine : Text → Type 0
+EndsWithLine text = (front : Text) × (text ≡ front ++ 0x0A ∷ [])
+
+-- a beginning of an input has more records than the first ones that are wanted: its text ends with
+-- a line feed and, where quotes count, outside them, and it shows what stands between fields; no
+-- beginning in UTF-16 is enough
+pub record IsEnough (options : InputOptions) (most : ℕ) (beginning : Text) (records : List
+    (List Text)) : Type 0 where
+  pub no_utf16 : encoding_of options.encoding beginning ≢ Utf16
+  pub text : Text
+  pub is_text : IsDecodedBy options beginning text
+  pub ends : EndsWithLine text
+  pub shows :
+      shows_delimiter options.delimiter options.has_quotes (below_lines options.skip text) ≡ true
+  pub are_records : AreRecordsIn options text records
+  pub more : most < length records
+
+-- these are the first records of a beginning that is enough, of these bytes
+pub record AreFirstByBeginning (options : InputOptions) (most : ℕ) (read : Text) (first : List
+    (List Text)) : Type 0 where
+  pub beginning : Text
+  pub behind : Text
+  pub parts : read ≡ beginning ++ behind
+  pub records : List (List Text)
+  pub is_enough : IsEnough options most beginning records
+  pub are_first : first ≡ take most records

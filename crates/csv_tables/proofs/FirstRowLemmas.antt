@@ -1,0 +1,166 @@
+-- What is drawn of the first records of an input, as many as are drawn at most, is what is drawn of all of them.
+use Rattle.std.proofs.Common.{◌≡◌, ◌≢◌, ◌<◌, ◌+◌, ◌-◌, ◌^◌, ℕ, suc, Bool, true, false, List, [], ◌∷◌, Option, Some, None, IfSome, Result, Ok, Err, drop, length, option_map, take, refl, sym, ap, ap₂, ◌∙◌, subst, arith, unwrap_or}
+use Rattle.std.specs.List.{slice_get}
+use Rattle.std.specs.Prelude.{if◌then◌else◌}
+use Rattle.std.proofs.lemmas.List.{length-take}
+use Rattle.std.proofs.lemmas.Str.{IsUtf8-nil}
+use Rattle.comfy_parts.specs.Text.{Text}
+use Rattle.csv_records.proofs.FirstLemmas.{all_of_few}
+use Rattle.csv_records.specs.Beginning.{AreFirstByBeginning, IsEnough}
+use Rattle.csv_records.specs.Encoding.{IsDecoded}
+use Rattle.csv_records.specs.Reading.{AreRecordsFor, AreRecordsIn, IsDecodedBy}
+use Rattle.csv_records.specs.declared.encoding.Encoding.{Encoding}
+use Rattle.csv_tables.specs.Columns.{ColumnFault, IsColumnsRefusal, columns_for}
+use Rattle.csv_tables.specs.Drawn.{AreEnough, ContentValue, HasLimit, RendersAnyRecords, RendersBeginning, RendersFound, content_counted, content_of, content_with, counting, drawn_rows, limited, most_drawn, names_of, ok_map, records_below, with_count}
+use Rattle.csv_tables.specs.Errors.{of_columns}
+use Rattle.csv_tables.specs.Run.{IsInputRefusal, IsRefusal}
+use Rattle.csv_tables.specs.declared.error.ColumnsError.{ColumnsError}
+use Rattle.csv_tables.specs.declared.error.ColumnsError.TheVariants.{NoColumn, OutOfMemory, TwoSides}
+use Rattle.csv_tables.specs.declared.error.CsvError.TheVariants as err
+use Rattle.csv_tables.specs.declared.options.DrawnColumn.{DrawnColumn}
+use Rattle.csv_tables.specs.declared.options.Options.{Options}
+use Rattle.devices.specs.Outcome.{Beginning}
+
+-- ---- rows
+
+twice : {A : Type 0} (n : ℕ) (xs : List A) → take n (take n xs) ≡ take n xs
+twice n xs = all_of_few n (take n xs) (omega (arith, length-take n xs))
+
+first_rows : (h : Bool) (limit : ℕ) (all : List (List Text)) → limited (Some limit) (records_below h (take (most_drawn h limit) all)) ≡ limited (Some limit) (records_below h all)
+first_rows false limit all = twice limit all
+first_rows true limit [] = ap (λ (rs : List (List Text)). take limit (drop 1 rs)) (all_of_few (limit + 1) [] (omega arith))
+first_rows true limit (r ∷ all) = let more : limit + 1 ≡ suc limit = omega arith in ap (λ (n : ℕ). take limit (drop 1 (take n (r ∷ all)))) more ∙ twice limit all
+
+first_names : (h : Bool) (limit : ℕ) (all : List (List Text)) → names_of h (take (most_drawn h limit) all) ≡ names_of h all
+first_names false limit all = refl
+first_names true limit [] = ap (λ (rs : List (List Text)). slice_get rs 0) (all_of_few (limit + 1) [] (omega arith))
+first_names true limit (r ∷ all) = let more : limit + 1 ≡ suc limit = omega arith in ap (λ (n : ℕ). slice_get (take n (r ∷ all)) 0) more
+
+-- ---- contents
+
+mapped_twice : {A B C : Type 0} (f : B → C) (g : A → B) (r : Result A ColumnFault) → ok_map f (ok_map g r) ≡ ok_map (λ x. f (g x)) r
+mapped_twice f g (Ok x) = refl
+mapped_twice f g (Err e) = refl
+
+-- what is drawn of these names and rows
+abbrev content_by : Option ℕ → Options → Option (List Text) → List (List Text) → Result ContentValue ColumnFault
+content_by count options names rows =
+    ok_map (λ (columns : List DrawnColumn). record { names = names; rows = rows; columns = columns; count = count }) (columns_for options (unwrap_or names []) rows)
+
+counted-is : (count : Option ℕ) (options : Options) (records : List (List Text)) → content_counted count options records ≡ content_by count options (names_of options.selection.has_header records) (drawn_rows options records)
+counted-is count options records =
+    mapped_twice (with_count count) (content_with options records) (columns_for options (unwrap_or (names_of options.selection.has_header records) []) (drawn_rows options records))
+
+-- the names and the drawn rows of two lists of records are the same
+pub record AreDrawnAlike (options : Options) (first all : List (List Text)) : Type 0 where
+  pub names : names_of options.selection.has_header first ≡ names_of options.selection.has_header all
+  pub rows : drawn_rows options first ≡ drawn_rows options all
+
+module _ (options : Options) (first all : List (List Text)) (alike : AreDrawnAlike options first all) where
+  pub same_counted : (count : Option ℕ) → content_counted count options first ≡ content_counted count options all
+  same_counted count = counted-is count options first ∙ ap₂ (content_by count options) alike.names alike.rows ∙ sym (counted-is count options all)
+
+  -- so it is refused for the same reason
+  pub same_refusal : (e : ColumnsError) → IsColumnsRefusal e (content_of options first) → IsColumnsRefusal e (content_of options all)
+  same_refusal e = by_columns (columns_for options (unwrap_or (names_of options.selection.has_header first) []) (drawn_rows options first)) (columns_for options (unwrap_or (names_of options.selection.has_header all) []) (drawn_rows options all)) (ap₂ (λ (n : Option (List Text)) (rs : List (List Text)). columns_for options (unwrap_or n []) rs) alike.names alike.rows)
+    where
+      by_error : (x y : ContentValue) (e : ColumnsError) → IsColumnsRefusal {A = ContentValue} e (Ok x) → IsColumnsRefusal {A = ContentValue} e (Ok y)
+      by_error x y (NoColumn name) is = absurd (cc is)
+      by_error x y (TwoSides name) is = absurd (cc is)
+      by_error x y OutOfMemory is = tt
+
+      by_columns : (r s : Result (List DrawnColumn) ColumnFault) → r ≡ s → IsColumnsRefusal e (ok_map (content_with options first) r) → IsColumnsRefusal e (ok_map (content_with options all) s)
+      by_columns (Ok x) (Ok y) same is = by_error (content_with options first x) (content_with options all y) e is
+      by_columns (Ok x) (Err f) same is = absurd (cc same)
+      by_columns (Err f) (Ok y) same is = absurd (cc same)
+      by_columns (Err f) (Err g) same is = let own : f ≡ g = cc same in subst (λ (fault : ColumnFault). IsColumnsRefusal {A = ContentValue} e (Err fault)) own is
+
+-- the first records are drawn as all of them, where they are as many as are drawn at most
+limited_alike : (options : Options) (first all : List (List Text)) (most : ℕ) → option_map (most_drawn options.selection.has_header) options.selection.limit ≡ Some most → first ≡ take most all → AreDrawnAlike options first all
+limited_alike options first all most own is = by_limit options.selection.limit refl own
+  where
+    by_limit : (limit : Option ℕ) → options.selection.limit ≡ limit → option_map (most_drawn options.selection.has_header) limit ≡ Some most → AreDrawnAlike options first all
+    by_limit None known enough = absurd (cc enough)
+    by_limit (Some limit) known enough =
+        let own : most_drawn options.selection.has_header limit ≡ most = cc enough in
+        rw (is, ← own) (record { names = first_names options.selection.has_header limit all; rows = rw known (first_rows options.selection.has_header limit all) })
+
+-- or where they are all
+pub drawn_alike : (options : Options) (first all : List (List Text)) (most : Option ℕ) → IfSome most (λ (m : ℕ). option_map (most_drawn options.selection.has_header) options.selection.limit ≡ Some m)
+    → first ≡ take (unwrap_or most (2 ^ 64 - 1)) all → length all < 2 ^ 64 → AreDrawnAlike options first all
+drawn_alike options first all None own is few = let same : first ≡ all = is ∙ all_of_few (2 ^ 64 - 1) all (omega (arith, few)) in rw same (record { names = refl; rows = refl })
+drawn_alike options first all (Some most) own is few = limited_alike options first all most own is
+
+-- all records that are counted
+counted_content : (options : Options) (records : List (List Text)) → content_counted (Some (length (records_below options.selection.has_header records))) options records ≡ content_of (counting options) records
+counted_content options records = counted-is (Some (length (records_below options.selection.has_header records))) options records
+
+-- and records that aren't
+uncounted_content : (options : Options) (records : List (List Text)) → options.selection.counts_all ≡ false → content_counted None options records ≡ content_of options records
+uncounted_content options records none = counted-is None options records ∙ rw none refl
+
+-- ---- outputs
+
+module _ (options : Options) where
+  abbrev Renders : Result ContentValue ColumnFault → Text → Type 0
+  Renders found output = RendersFound options.look options.selection.limit found output
+
+  below_header : (h : Bool) (all : List (List Text)) → length all - (if h then 1 else 0) ≡ length (records_below h all)
+  below_header false all = omega arith
+  below_header true [] = omega arith
+  below_header true (r ∷ all) = omega arith
+
+  -- the output for the first records is that for all of them
+  pub whole_output : (first all : List (List Text)) (count : ℕ) (output : Text) → AreDrawnAlike options first all → (length all ≡ 0 → ⊥) → count ≡ length all - (if options.selection.has_header then 1 else 0)
+      → Renders (content_counted (Some count) options first) output → RendersAnyRecords (counting options) all output
+  whole_output first [] count output alike some counted made = absurd (some refl)
+  whole_output first (r ∷ all) count output alike some counted made =
+      let below = counted ∙ below_header options.selection.has_header (r ∷ all) in
+      subst (λ (found : Result ContentValue ColumnFault). Renders found output) (same_counted options first (r ∷ all) alike (Some count) ∙ ap (λ (n : ℕ). content_counted (Some n) options (r ∷ all)) below ∙ counted_content options (r ∷ all)) made
+
+  module _ (read : Text) (most : ℕ) (first : List (List Text)) (uncounted : options.selection.counts_all ≡ false) (enough : option_map (most_drawn options.selection.has_header) options.selection.limit ≡ Some most) (found : AreFirstByBeginning options.input most read first) where
+    has_limit : (limit : Option ℕ) → options.selection.limit ≡ limit → option_map (most_drawn options.selection.has_header) limit ≡ Some most → (own : HasLimit options) × (most_drawn options.selection.has_header own.limit ≡ most)
+    has_limit None known is = absurd (cc is)
+    has_limit (Some limit) known is = (record { limit = limit; is = known; uncounted = uncounted }, cc is)
+
+    own_limit : (own : HasLimit options) × (most_drawn options.selection.has_header own.limit ≡ most)
+    own_limit = has_limit options.selection.limit refl enough
+
+    alike : AreDrawnAlike options first found.records
+    alike = limited_alike options first found.records most enough found.are_first
+
+    are_enough : AreEnough options found.beginning found.records
+    are_enough = record { has_limit = own_limit.0; are = subst (λ (n : ℕ). IsEnough options.input n found.beginning found.records) (sym own_limit.1) found.is_enough }
+
+    pub beginning_output : (output : Text) → Renders (content_counted None options first) output → RendersBeginning options found.beginning output
+    beginning_output output made =
+        record {
+          records = found.records;
+          are_enough = are_enough;
+          is_output = subst (λ (c : Result ContentValue ColumnFault). Renders c output) (same_counted options first found.records alike None ∙ uncounted_content options found.records uncounted) made;
+        }
+
+    pub beginning_refused : (e : ColumnsError) → IsColumnsRefusal e (content_of options first) → IsRefusal options Beginning found.beginning (of_columns e)
+    beginning_refused (NoColumn name) why = ((λ is. cc is), found.records, are_enough, same_refusal options first found.records alike (NoColumn name) why)
+    beginning_refused (TwoSides name) why = ((λ is. cc is), found.records, are_enough, same_refusal options first found.records alike (TwoSides name) why)
+    beginning_refused OutOfMemory why = λ wanted. (subst (λ (encoding : Encoding). IsDecoded encoding found.beginning found.is_enough.text) wanted found.is_enough.is_text).0
+
+  -- columns of an input's records can't be drawn so
+  pub whole_refused : (input text : Text) (first all : List (List Text)) → AreDrawnAlike options first all → IsDecodedBy options.input input text → AreRecordsIn options.input text all → (length all ≡ 0 → ⊥)
+      → (e : ColumnsError) → IsColumnsRefusal e (content_of options first) → IsInputRefusal options input (of_columns e)
+  whole_refused input text first all alike is_text are some e why = by_error e (same_refusal options first all alike e why)
+    where
+      known : AreRecordsFor options.input input all
+      known = record { text = text; is_text = is_text; are_records = are }
+
+      not_none : all ≢ []
+      not_none is = some (ap length is)
+
+      by_error : (e : ColumnsError) → IsColumnsRefusal e (content_of options all) → IsInputRefusal options input (of_columns e)
+      by_error (NoColumn name) why = ((λ is. cc is), all, known, not_none, why)
+      by_error (TwoSides name) why = ((λ is. cc is), all, known, not_none, why)
+      by_error OutOfMemory why = λ wanted. (subst (λ (encoding : Encoding). IsDecoded encoding input text) wanted is_text).0
+
+-- no memory, before a beginning was looked at
+pub no_memory : (options : Options) → IsRefusal options Beginning [] err.OutOfMemory
+no_memory options = λ wanted. IsUtf8-nil
