@@ -15,7 +15,7 @@ use Rattle.csv_tables.specs.Drawn.{AreEnough, ContentValue, HasLimit, RendersAny
 use Rattle.csv_tables.specs.Errors.{of_columns}
 use Rattle.csv_tables.specs.Run.{IsInputRefusal, IsRefusal}
 use Rattle.csv_tables.specs.declared.error.ColumnsError.{ColumnsError}
-use Rattle.csv_tables.specs.declared.error.ColumnsError.TheVariants.{NoColumn, OutOfMemory, TwoSides}
+use Rattle.csv_tables.specs.declared.error.ColumnsError.TheVariants.{NoColumn, NoneLeft, OutOfMemory, TwoSides}
 use Rattle.csv_tables.specs.declared.error.CsvError.TheVariants as err
 use Rattle.csv_tables.specs.declared.options.DrawnColumn.{DrawnColumn}
 use Rattle.csv_tables.specs.declared.options.Options.{Options}
@@ -65,7 +65,8 @@ module _ (options : Options) (first all : List (List Text)) (alike : AreDrawnAli
   same_refusal e = by_columns (columns_for options (unwrap_or (names_of options.selection.has_header first) []) (drawn_rows options first)) (columns_for options (unwrap_or (names_of options.selection.has_header all) []) (drawn_rows options all)) (ap₂ (λ (n : Option (List Text)) (rs : List (List Text)). columns_for options (unwrap_or n []) rs) alike.names alike.rows)
     where
       by_error : (x y : ContentValue) (e : ColumnsError) → IsColumnsRefusal {A = ContentValue} e (Ok x) → IsColumnsRefusal {A = ContentValue} e (Ok y)
-      by_error x y (NoColumn name) is = absurd (cc is)
+      by_error x y (NoColumn word hint) is = absurd (cc is)
+      by_error x y NoneLeft is = absurd (cc is)
       by_error x y (TwoSides name) is = absurd (cc is)
       by_error x y OutOfMemory is = tt
 
@@ -141,7 +142,8 @@ module _ (options : Options) where
         }
 
     pub beginning_refused : (e : ColumnsError) → IsColumnsRefusal e (content_of options first) → IsRefusal options Beginning found.beginning (of_columns e)
-    beginning_refused (NoColumn name) why = ((λ is. cc is), found.records, are_enough, same_refusal options first found.records alike (NoColumn name) why)
+    beginning_refused (NoColumn word hint) why = ((λ is. cc is), found.records, are_enough, same_refusal options first found.records alike (NoColumn word hint) why)
+    beginning_refused NoneLeft why = ((λ is. cc is), found.records, are_enough, same_refusal options first found.records alike NoneLeft why)
     beginning_refused (TwoSides name) why = ((λ is. cc is), found.records, are_enough, same_refusal options first found.records alike (TwoSides name) why)
     beginning_refused OutOfMemory why = λ wanted. (subst (λ (encoding : Encoding). IsDecoded encoding found.beginning found.is_enough.text) wanted found.is_enough.is_text).0
 
@@ -157,7 +159,8 @@ module _ (options : Options) where
       not_none is = some (ap length is)
 
       by_error : (e : ColumnsError) → IsColumnsRefusal e (content_of options all) → IsInputRefusal options input (of_columns e)
-      by_error (NoColumn name) why = ((λ is. cc is), all, known, not_none, why)
+      by_error (NoColumn word hint) why = ((λ is. cc is), all, known, not_none, why)
+      by_error NoneLeft why = ((λ is. cc is), all, known, not_none, why)
       by_error (TwoSides name) why = ((λ is. cc is), all, known, not_none, why)
       by_error OutOfMemory why = λ wanted. (subst (λ (encoding : Encoding). IsDecoded encoding input text) wanted is_text).0
 
