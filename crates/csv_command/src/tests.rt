@@ -4,7 +4,7 @@ use crate::arguments::{Invocation, OutputContext, parse};
 use crate::ending::{
     Ending, Outcome, ending_of_outcome, ending_of_refusal, ending_without_arguments,
 };
-use csv_records::{DecodeError, RecordsError};
+use csv_records::{DecodeError, Foreign, RecordsError};
 use csv_tables::{ColumnsError, CsvError};
 use std::alloc::{Alloc, Global};
 use std::io::ErrorKind;
@@ -83,13 +83,9 @@ fn an_input_that_can_not_be_drawn(rt: HostRuntime) {
     let arguments = ["csvtable", "bank.csv"];
     let invocation = parse_by(&rt, &arguments);
     let text = "csvtable: bank.csv: line 2 isn't UTF-8; try -e cp1252\n";
-    assert_message(
-        &rt,
-        &invocation,
-        CsvError::Decode(DecodeError::NotUtf8(2)),
-        None,
-        text,
-    );
+    assert_message(&rt, &invocation, not_utf8(2, true), None, text);
+    let text = "csvtable: bank.csv: line 2 isn't UTF-8\n";
+    assert_message(&rt, &invocation, not_utf8(2, false), None, text);
     let text = "csvtable: bank.csv: line 3 isn't UTF-16\n";
     assert_message(
         &rt,
@@ -121,13 +117,43 @@ fn an_input_that_can_not_be_drawn(rt: HostRuntime) {
     let arguments = ["csvtable", "-e", "utf-8"];
     let invocation = parse_by(&rt, &arguments);
     let text = "csvtable: standard input: line 2 isn't UTF-8\n";
-    assert_message(
-        &rt,
-        &invocation,
-        CsvError::Decode(DecodeError::NotUtf8(2)),
-        None,
-        text,
-    );
+    assert_message(&rt, &invocation, not_utf8(2, true), None, text);
+}
+
+fn not_utf8(line: u64, may_be_cp1252: bool) -> CsvError {
+    CsvError::Decode(DecodeError::NotUtf8 {
+        line,
+        may_be_cp1252,
+    })
+}
+
+// What an input is that is no text in UTF-8, and what helps.
+#[test]
+fn an_input_that_is_something_else(rt: HostRuntime) {
+    let arguments = ["csvtable", "a"];
+    let invocation = parse_by(&rt, &arguments);
+    let lines = [
+        (
+            Foreign::Gzip,
+            "csvtable: a: compressed by gzip; try zcat FILE | csvtable\n",
+        ),
+        (
+            Foreign::Zip,
+            "csvtable: a: a zip archive; try unzip -p FILE | csvtable, or save a spreadsheet as CSV\n",
+        ),
+        (
+            Foreign::Utf16,
+            "csvtable: a: looks like UTF-16; try -e utf-16\n",
+        ),
+        (
+            Foreign::Binary(7),
+            "csvtable: a: line 7 has a NUL byte, so this isn't text; -e utf-8 reads it anyway\n",
+        ),
+    ];
+    for (foreign, text) in lines {
+        let error = CsvError::Decode(DecodeError::Foreign(foreign));
+        assert_message(&rt, &invocation, error, None, text);
+    }
 }
 
 // A name that was typed or read speaks to no terminal.

@@ -1,6 +1,7 @@
 pub mod Cleaning
 pub mod Delimiter
 pub mod Encoding
+pub mod Foreign
 pub mod Input
 pub mod Number
 pub mod NumberLaws
