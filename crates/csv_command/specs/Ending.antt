@@ -1,5 +1,5 @@
 -- How the program ends: its status, and what it says.
-use Rattle.std.specs.Prelude.{◌≡◌, ℕ, Bool, true, false, ◌++◌, [], MatchResult, Option, Some, None, chars, codes, decimal, option_map, string_bytes}
+use Rattle.std.specs.Prelude.{◌≡◌, ℕ, Bool, true, false, ◌++◌, [], MatchResult, Option, Some, None, chars, codes, decimal, if◌then◌else◌, option_map, string_bytes}
 use Rattle.std.specs.List.{list_any}
 use Rattle.std.specs.declared.io.ErrorKind.{ErrorKind as IoErrorKind}
 use Rattle.std.specs.declared.io.ErrorKind.TheVariants as io
@@ -12,6 +12,8 @@ use Rattle.csv_command.specs.declared.arguments.Invocation.{Invocation}
 use Rattle.csv_records.specs.declared.encoding.Encoding.{Encoding}
 use Rattle.csv_records.specs.declared.error.DecodeError.{DecodeError}
 use Rattle.csv_records.specs.declared.error.DecodeError.TheVariants as decode
+use Rattle.csv_records.specs.declared.foreign.Foreign.{Foreign}
+use Rattle.csv_records.specs.declared.foreign.Foreign.TheVariants as foreign
 use Rattle.csv_records.specs.declared.error.RecordsError.{RecordsError}
 use Rattle.csv_records.specs.declared.error.RecordsError.TheVariants as records
 use Rattle.csv_tables.specs.declared.error.ColumnsError.{ColumnsError}
@@ -39,15 +41,27 @@ reading_reason (Some io.IsADirectory) = codes "is a directory"
 reading_reason (Some io.PermissionDenied) = codes "permission denied"
 reading_reason _ = codes "can't be read"
 
--- what helps where no encoding was asked for
-abbrev pub encoding_hint : Option Encoding → Text
-encoding_hint None = codes "; try -e cp1252"
-encoding_hint (Some encoding) = []
+-- what helps where no encoding was asked for, and the input may be Windows-1252
+abbrev pub encoding_hint : Option Encoding → Bool → Text
+encoding_hint None may_be_cp1252 = if may_be_cp1252 then codes "; try -e cp1252" else []
+encoding_hint (Some encoding) may_be_cp1252 = []
+
+-- what an input is that is no text in UTF-8, and what helps
+abbrev pub foreign_reason : Foreign → Text
+foreign_reason foreign.Gzip = codes "compressed by gzip; try zcat FILE | csvtable"
+foreign_reason foreign.Zip =
+    codes "a zip archive; try unzip -p FILE | csvtable, or save a spreadsheet as CSV"
+foreign_reason foreign.Utf16 = codes "looks like UTF-16; try -e utf-16"
+foreign_reason (foreign.Binary number) =
+    (codes "line " ++ decimal number)
+    ++ codes " has a NUL byte, so this isn't text; -e utf-8 reads it anyway"
 
 -- why an input has no text
 abbrev pub decoding_reason : Option Encoding → DecodeError → Text
-decoding_reason encoding (decode.NotUtf8 number) =
-    ((codes "line " ++ decimal number) ++ codes " isn't UTF-8") ++ encoding_hint encoding
+decoding_reason encoding (decode.Foreign foreign) = foreign_reason foreign
+decoding_reason encoding (decode.NotUtf8 number may_be_cp1252) =
+    ((codes "line " ++ decimal number) ++ codes " isn't UTF-8")
+    ++ encoding_hint encoding may_be_cp1252
 decoding_reason encoding (decode.NotUtf16 number) =
     (codes "line " ++ decimal number) ++ codes " isn't UTF-16"
 decoding_reason encoding decode.OutOfMemory = codes "out of memory"

@@ -3,10 +3,11 @@
 ghost use Rattle.std.specs.Prelude.{◌≡◌, ◌≢◌, ◌==◌, ◌&&◌, IfOk, IfErr, Some, codes, map, option_map, string_bytes};
 ghost use Rattle.std.specs.List.{list_any, slice_split};
 ghost use Rattle.clap.specs.Words.{app_of, first_value, found_of, kind_of};
-ghost use Rattle.clap.specs.declared.error.kind.ErrorKind.TheVariants.{InvalidValue, OutOfMemory};
+ghost use Rattle.clap.specs.declared.error.kind.ErrorKind.TheVariants.{OutOfMemory};
 ghost use Rattle.csv_command.specs.Program.{IsCsvtable};
 ghost use Rattle.csv_command.specs.Arguments.{IsInputParsed, IsParsed, IsRefusedBy, IsLookParsed, AreOptionsParsed, IsSelectionParsed, are_exclusive, delimiter_by, delimiter_for, encoding_for, expansion_for, file_for, has_end, is_bold_for, is_bold_there, is_given, is_markdown_in, separators_for, some_columns, some_width, terminal_width, wanted_delimiter, wants_color, width_for, words_in};
 
+use crate::mistakes::{reason_of_clash, reason_of_number};
 use crate::options::command;
 use crate::styles::{is_compact, is_named, style_names, style_of};
 use clap::error::ErrorKind;
@@ -19,16 +20,16 @@ use std::alloc::{AllocError, Global};
 // The width of a terminal that doesn't say its own.
 const TERMINAL_WIDTH: u16 = 80;
 
-// Options that exclude each other.
-static EXCLUSIVE_OPTIONS: [(&str, &str); 4] = [
+/// Options that exclude each other.
+pub(crate) static EXCLUSIVE_OPTIONS: [(&str, &str); 4] = [
     ("tabs", "delimiter"),
     ("markdown", "style"),
     ("rows", "no-rows"),
     ("all-expanded", "expanded"),
 ];
 
-// Options that a table for Markdown excludes.
-static NOT_BESIDE_MARKDOWN: [&str; 7] = [
+/// Options that a table for Markdown excludes.
+pub(crate) static NOT_BESIDE_MARKDOWN: [&str; 7] = [
     "width",
     "full",
     "all-expanded",
@@ -96,21 +97,44 @@ fn parse_by<'a>(
         IsParsed (map (λ w. w.now) arguments.entry.now) context.entry invocation) }
     ensures refused { IfErr result (λ e. IsRefusedBy (map (λ w. w.now) arguments.entry.now) e) }
 {
-    let matches = command.try_get_matches_from_mut(arguments)?;
+    let matches = match command.try_get_matches_from_mut(arguments) {
+        Ok(matches) => matches,
+        Err(error) => return Err(explained(alloc, command, arguments, error)),
+    };
     if are_exclusive(&matches) {
-        return Err(refusal(
-            command,
-            "options that exclude each other:
-  -t and -d, --markdown and --style, --rows and --no-rows, -x and --expanded,
-  and Markdown beside -w, --full, -x, --expanded, -m, --ansi and --raw",
-        ));
+        let reason = reason_of_clash(alloc, &matches)?;
+        return Err(refusal(command, ErrorKind::InvalidValue, reason.as_str()));
     }
     match wanted_delimiter(&matches) {
         Some(delimiter) => Ok(invocation_of(alloc, &matches, delimiter, context)?),
         None => Err(refusal(
             command,
+            ErrorKind::InvalidValue,
             "the delimiter is one ASCII character, `tab` or `auto`; it's no quote and no line end",
         )),
+    }
+}
+
+// A refusal by clap, in our own words where a number is wrong.
+fn explained<'a>(
+    alloc: Global,
+    command: &mut Command<'a>,
+    arguments: &[&str],
+    error: Error,
+) -> Error
+    ensures { (kind_of result ≢ OutOfMemory) → kind_of result ≡ kind_of error }
+{
+    let kind = error.kind();
+    if !matches!(
+        kind,
+        ErrorKind::UnknownArgument | ErrorKind::ValueValidation
+    ) {
+        return error;
+    }
+    match reason_of_number(alloc, arguments) {
+        Ok(Some(reason)) => refusal(command, kind, reason.as_str()),
+        Ok(None) => error,
+        Err(no_memory) => Error::from(no_memory),
     }
 }
 
@@ -134,10 +158,10 @@ fn invocation_of<'a>(
 }
 
 // The arguments are refused for this reason.
-fn refusal<'a>(command: &mut Command<'a>, reason: &str) -> Error
-    ensures { (kind_of result ≢ OutOfMemory) → kind_of result ≡ InvalidValue }
+fn refusal<'a>(command: &mut Command<'a>, kind: ErrorKind, reason: &str) -> Error
+    ensures { (kind_of result ≢ OutOfMemory) → kind_of result ≡ kind }
 {
-    let said = command.error(ErrorKind::InvalidValue, reason);
+    let said = command.error(kind, reason);
     said.unwrap_or_else(Error::from)
 }
 
@@ -175,8 +199,8 @@ fn is_markdown<'a>(matches: &ArgMatches<'a>) -> bool
     }
 }
 
-// Whether a flag is set, or an option has a value.
-fn is_given<'a>(matches: &ArgMatches<'a>, id: &str) -> bool
+/// Whether a flag is set, or an option has a value.
+pub(crate) fn is_given<'a>(matches: &ArgMatches<'a>, id: &str) -> bool
     ensures { result ≡ is_given (found_of matches.now) id.now }
 {
     match matches.get_str(id) {

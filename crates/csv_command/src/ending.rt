@@ -3,11 +3,11 @@
 ghost use Rattle.std.specs.Prelude.{◌≡◌, IfErr, IfOk, option_map, string_bytes, true};
 ghost use Rattle.clap.specs.Words.{kind_of};
 ghost use Rattle.csv_command.specs.declared.ending.Said.TheVariants.{OutOfMemory, Text};
-ghost use Rattle.csv_command.specs.Ending.{IsEndOfOutcome, IsEndOfRefusal, IsEndOfUnwritten, IsEndWithoutArguments, IsHarmless, IsSilent, about, columns_reason, decoding_reason, encoding_hint, is_of_input, message_for, reading_reason, reason_for, records_reason, text_of};
+ghost use Rattle.csv_command.specs.Ending.{IsEndOfOutcome, IsEndOfRefusal, IsEndOfUnwritten, IsEndWithoutArguments, IsHarmless, IsSilent, about, columns_reason, decoding_reason, encoding_hint, is_of_input, message_for, reading_reason, reason_for, records_reason, text_of, foreign_reason};
 
 use crate::arguments::Invocation;
 use clap::error::{Error, ErrorKind};
-use csv_records::{DecodeError, Encoding, RecordsError, shown_text};
+use csv_records::{DecodeError, Encoding, Foreign, RecordsError, shown_text};
 use csv_tables::{ColumnsError, CsvError};
 use std::alloc::{AllocError, Global};
 use std::io;
@@ -16,6 +16,11 @@ use std::io;
 const FAILED: u8 = 1;
 
 const MISUSED: u8 = 2;
+
+// What opens compressed files.
+const GZIP: &str = "compressed by gzip; try zcat FILE | csvtable";
+
+const ZIP: &str = "a zip archive; try unzip -p FILE | csvtable, or save a spreadsheet as CSV";
 
 // Why there is no drawing where memory ran out.
 const OUT_OF_MEMORY: &str = "out of memory";
@@ -228,13 +233,33 @@ fn decoding_reason(
     ensures { IfOk result (λ text. string_bytes text ≡ decoding_reason encoding error) }
 {
     match error {
-        DecodeError::NotUtf8(line) => {
+        DecodeError::Foreign(foreign) => foreign_reason(alloc, foreign),
+        DecodeError::NotUtf8 {
+            line,
+            may_be_cp1252,
+        } => {
             let mut text = format!(in alloc; "line {line} isn't UTF-8")?;
-            text.push_str(encoding_hint(encoding))?;
+            text.push_str(encoding_hint(encoding, may_be_cp1252))?;
             Ok(text)
         }
         DecodeError::NotUtf16(line) => format!(in alloc; "line {line} isn't UTF-16"),
         DecodeError::OutOfMemory => String::from_str(alloc, OUT_OF_MEMORY),
+    }
+}
+
+// What an input is that is no text in UTF-8, and what helps.
+fn foreign_reason(alloc: Global, foreign: Foreign) -> Result<String, AllocError>
+    ensures { IfOk result (λ text. string_bytes text ≡ foreign_reason foreign) }
+{
+    match foreign {
+        Foreign::Gzip => String::from_str(alloc, GZIP),
+        Foreign::Zip => String::from_str(alloc, ZIP),
+        Foreign::Utf16 => String::from_str(alloc, "looks like UTF-16; try -e utf-16"),
+        Foreign::Binary(line) => {
+            format!(in alloc;
+                "line {line} has a NUL byte, so this isn't text; -e utf-8 reads it anyway"
+            )
+        }
     }
 }
 
@@ -282,13 +307,13 @@ fn reading_reason(fault: Option<io::ErrorKind>) -> &'static str
     }
 }
 
-// What helps where no encoding was asked for.
-fn encoding_hint(encoding: Option<Encoding>) -> &'static str
-    ensures { result.now ≡ encoding_hint encoding }
+// What helps where no encoding was asked for, and the input may be Windows-1252.
+fn encoding_hint(encoding: Option<Encoding>, may_be_cp1252: bool) -> &'static str
+    ensures { result.now ≡ encoding_hint encoding may_be_cp1252 }
 {
     match encoding {
-        None => "; try -e cp1252",
-        Some(_) => "",
+        None if may_be_cp1252 => "; try -e cp1252",
+        _ => "",
     }
 }
 

@@ -5,6 +5,7 @@ mod arguments;
 mod drawing;
 mod ending;
 pub mod laws;
+mod mistakes;
 mod options;
 mod process;
 mod styles;

@@ -4,7 +4,7 @@ use crate::arguments::{Invocation, OutputContext, parse};
 use crate::ending::{
     Ending, Outcome, ending_of_outcome, ending_of_refusal, ending_without_arguments,
 };
-use csv_records::{DecodeError, RecordsError};
+use csv_records::{DecodeError, Foreign, RecordsError};
 use csv_tables::{ColumnsError, CsvError};
 use std::alloc::{Alloc, Global};
 use std::io::ErrorKind;
@@ -83,13 +83,9 @@ fn an_input_that_can_not_be_drawn(rt: HostRuntime) {
     let arguments = ["csvtable", "bank.csv"];
     let invocation = parse_by(&rt, &arguments);
     let text = "csvtable: bank.csv: line 2 isn't UTF-8; try -e cp1252\n";
-    assert_message(
-        &rt,
-        &invocation,
-        CsvError::Decode(DecodeError::NotUtf8(2)),
-        None,
-        text,
-    );
+    assert_message(&rt, &invocation, not_utf8(2, true), None, text);
+    let text = "csvtable: bank.csv: line 2 isn't UTF-8\n";
+    assert_message(&rt, &invocation, not_utf8(2, false), None, text);
     let text = "csvtable: bank.csv: line 3 isn't UTF-16\n";
     assert_message(
         &rt,
@@ -121,13 +117,43 @@ fn an_input_that_can_not_be_drawn(rt: HostRuntime) {
     let arguments = ["csvtable", "-e", "utf-8"];
     let invocation = parse_by(&rt, &arguments);
     let text = "csvtable: standard input: line 2 isn't UTF-8\n";
-    assert_message(
-        &rt,
-        &invocation,
-        CsvError::Decode(DecodeError::NotUtf8(2)),
-        None,
-        text,
-    );
+    assert_message(&rt, &invocation, not_utf8(2, true), None, text);
+}
+
+fn not_utf8(line: u64, may_be_cp1252: bool) -> CsvError {
+    CsvError::Decode(DecodeError::NotUtf8 {
+        line,
+        may_be_cp1252,
+    })
+}
+
+// What an input is that is no text in UTF-8, and what helps.
+#[test]
+fn an_input_that_is_something_else(rt: HostRuntime) {
+    let arguments = ["csvtable", "a"];
+    let invocation = parse_by(&rt, &arguments);
+    let lines = [
+        (
+            Foreign::Gzip,
+            "csvtable: a: compressed by gzip; try zcat FILE | csvtable\n",
+        ),
+        (
+            Foreign::Zip,
+            "csvtable: a: a zip archive; try unzip -p FILE | csvtable, or save a spreadsheet as CSV\n",
+        ),
+        (
+            Foreign::Utf16,
+            "csvtable: a: looks like UTF-16; try -e utf-16\n",
+        ),
+        (
+            Foreign::Binary(7),
+            "csvtable: a: line 7 has a NUL byte, so this isn't text; -e utf-8 reads it anyway\n",
+        ),
+    ];
+    for (foreign, text) in lines {
+        let error = CsvError::Decode(DecodeError::Foreign(foreign));
+        assert_message(&rt, &invocation, error, None, text);
+    }
 }
 
 // A name that was typed or read speaks to no terminal.
@@ -221,17 +247,7 @@ fn help_is_an_output(rt: HostRuntime) {
     }
 }
 
-const OPTIONS_THAT_EXCLUDE: &str = "error: options that exclude each other:
-  -t and -d, --markdown and --style, --rows and --no-rows, -x and --expanded,
-  and Markdown beside -w, --full, -x, --expanded, -m, --ansi and --raw
-
-Usage: csvtable [OPTIONS] [FILE]
-
-For more information, try '--help'.
-";
-
-// An argument that isn't known, one without its value, two that exclude each other, and two
-// delimiters.
+// An argument that isn't known, and one without its value.
 #[test]
 fn mistakes_are_messages(rt: HostRuntime) {
     let text = "error: unexpected argument 'b.csv' found
@@ -248,22 +264,81 @@ For more information, try '--help'.
 ";
     let arguments = ["csvtable", "-w"];
     assert_says(&rt, &ending_by(&rt, &arguments), 2, true, text);
-    let arguments = ["csvtable", "--rows", "--no-rows"];
-    assert_says(
-        &rt,
-        &ending_by(&rt, &arguments),
-        2,
-        true,
-        OPTIONS_THAT_EXCLUDE,
-    );
-    let arguments = ["csvtable", "-t", "-d", ","];
-    assert_says(
-        &rt,
-        &ending_by(&rt, &arguments),
-        2,
-        true,
-        OPTIONS_THAT_EXCLUDE,
-    );
+}
+
+// These arguments are refused for this reason.
+fn assert_refused<'a>(
+    rt: &(impl Abort + Alloc<A = Global>),
+    arguments: &'a [&'a str],
+    reason: &str,
+) {
+    let ending = ending_by(rt, arguments);
+    let said = ending.said.text();
+    assert!(rt; ending.status == 2 && ending.is_message);
+    let line = said.split('\n').next().unwrap_or("");
+    assert_eq!(rt; line.strip_prefix("error: ").unwrap_or(""), reason);
+}
+
+// Two options that exclude each other are named, the first such pair.
+#[test]
+fn options_that_exclude_each_other(rt: HostRuntime) {
+    let cases = [
+        (
+            ["csvtable", "--rows", "--no-rows", "-n"],
+            "--rows can't be used with --no-rows",
+        ),
+        (
+            ["csvtable", "-t", "-d", ","],
+            "-t can't be used with --delimiter",
+        ),
+        (
+            ["csvtable", "-x", "--expanded", "auto"],
+            "-x can't be used with --expanded",
+        ),
+        (
+            ["csvtable", "--markdown", "-w", "20"],
+            "--markdown can't be used with --width",
+        ),
+        (
+            ["csvtable", "-s", "Markdown", "--raw"],
+            "--style markdown can't be used with --raw",
+        ),
+        (
+            ["csvtable", "--markdown", "-xs", "grid"],
+            "--markdown can't be used with --style",
+        ),
+    ];
+    for (arguments, reason) in &cases {
+        assert_refused(&rt, arguments.as_slice(), reason);
+    }
+}
+
+// The numbers that an option takes are named. A word behind `--` is none of an option's.
+#[test]
+fn words_that_are_no_numbers(rt: HostRuntime) {
+    let cases = [
+        (
+            ["csvtable", "-w", "-5"],
+            "-w takes a number from 0 to 65535, not '-5'",
+        ),
+        (
+            ["csvtable", "--width", "65536"],
+            "--width takes a number from 0 to 65535, not '65536'",
+        ),
+        (
+            ["csvtable", "--limit", "x\u{1b}"],
+            "--limit takes a number from 0 to 18446744073709551615, not 'x\u{fffd}'",
+        ),
+        (
+            ["csvtable", "--width=x", "-n"],
+            "invalid value 'x' for '--width <N>': invalid digit found in string",
+        ),
+    ];
+    for (arguments, reason) in &cases {
+        assert_refused(&rt, arguments.as_slice(), reason);
+    }
+    let arguments = ["csvtable", "--", "-w", "-5"];
+    assert_refused(&rt, &arguments, "unexpected argument '-5' found");
 }
 
 #[test]

@@ -84,6 +84,6 @@ fn records_for(alloc: Global, input: &[u8], options: &Options) -> Result<Records
     ensures { IfOk result (λ records. AreRecordsFor options.now.input input.now records) }
 {
     let bytes = Vec::from_slice(alloc, input)?;
-    let text = decoded(alloc, bytes, options.input.encoding)?;
+    let text = decoded(alloc, bytes, &options.input)?;
     Ok(read_records(alloc, text.as_str(), &options.input)?)
 }

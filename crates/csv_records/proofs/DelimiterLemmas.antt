@@ -19,7 +19,7 @@ use Rattle.csv_records.specs.Delimiter.{EndsIn, below_line, below_lines, end_len
 ascii_end : (b : ℕ) → ends_line b ≡ true → b < 128
 ascii_end b is = grind (arith, is, tests)
 
-line_len-le : (text : Text) → line_len text ≤ length text
+pub line_len-le : (text : Text) → line_len text ≤ length text
 line_len-le text = prefix_len-le-length (λ b. not (ends_line b)) text
 
 -- a line without an end is all of the text

@@ -87,7 +87,7 @@ written (c ∷ cs) scalars =
 -- ---- inputs
 
 all_read : (order : ByteOrder) (cs : List ℕ) → all_scalars cs ≡ true
-    → characters_in order (flat_map (unit_bytes order) (flat_map encode_utf16 cs)) ≡ map Some cs
+    → characters_in order 0 (flat_map (unit_bytes order) (flat_map encode_utf16 cs)) ≡ map Some cs
 all_read order cs scalars =
     let own = written cs scalars in
     ap (λ (n : ℕ). utf16_chars (units order (flat_map (unit_bytes order) (flat_map encode_utf16 cs))) ++ (if n == 0 then [] else None ∷ [])) (none_odd order (flat_map encode_utf16 cs))

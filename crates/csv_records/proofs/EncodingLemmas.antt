@@ -17,7 +17,7 @@ use Rattle.std.specs.declared.char.DecodeUtf16Error.{DecodeUtf16Error}
 use Rattle.std.specs.declared.iter.Ahead.{Ahead}
 use Rattle.comfy_parts.specs.Text.{Text}
 use Rattle.csv_records.specs.Encoding.{AreCharactersOf, IsFirstUnpaired, odd_byte}
-use Rattle.csv_records.specs.Input.{line_breaks}
+use Rattle.csv_records.specs.Input.{line_number}
 
 -- ---- one character
 
@@ -186,14 +186,14 @@ module _ (units : List ℕ) (s t : DecodeUtf16 (List ℕ)) (text : Text) (decode
   }
 
   -- a surrogate without a partner is the first
-  pub first_unpaired : (e : DecodeUtf16Error) (odd : List (Option ℕ)) → decode_utf16_steps Gives s (Some (Err e)) t → IsFirstUnpaired (utf16_chars units ++ odd) (line_breaks text + 1)
-  first_unpaired e odd steps = record {
+  pub first_unpaired : (above : ℕ) (e : DecodeUtf16Error) (odd : List (Option ℕ)) → decode_utf16_steps Gives s (Some (Err e)) t → IsFirstUnpaired (utf16_chars units ++ odd) above (line_number above text)
+  first_unpaired above e odd steps = record {
     before = decoded.characters;
     after = utf16_chars (units_left t) ++ odd;
     first =
         ap (λ (x : List (Option ℕ)). x ++ odd) (decoded.others ∙ ap (λ (x : List (Option ℕ)). map Some decoded.characters ++ x) (unpaired_read s t e steps))
         ∙ append_assoc (map Some decoded.characters) (None ∷ utf16_chars (units_left t)) odd;
-    numbered = ap (λ (x : Text). line_breaks x + 1) decoded.spelled;
+    numbered = ap (line_number above) decoded.spelled;
   }
 
   -- all units were read
@@ -216,10 +216,10 @@ module _ (units : List ℕ) (s t : DecodeUtf16 (List ℕ)) (text : Text) (decode
       is_even = grind (arith, even)
 
   -- or an odd byte
-  pub odd_behind : decode_utf16_steps Gives s None t → (bytes : Text) → length bytes % 2 ≡ 1 → IsFirstUnpaired (utf16_chars units ++ odd_byte bytes) (line_breaks text + 1)
-  odd_behind steps bytes odd = record {
+  pub odd_behind : (above : ℕ) → decode_utf16_steps Gives s None t → (bytes : Text) → length bytes % 2 ≡ 1 → IsFirstUnpaired (utf16_chars units ++ odd_byte bytes) above (line_number above text)
+  odd_behind above steps bytes odd = record {
     before = decoded.characters;
     after = [];
     first = ap (λ (n : ℕ). utf16_chars units ++ (if n == 0 then [] else None ∷ [])) odd ∙ ap (λ (x : List (Option ℕ)). x ++ (None ∷ [])) (all_decoded steps);
-    numbered = ap (λ (x : Text). line_breaks x + 1) decoded.spelled;
+    numbered = ap (line_number above) decoded.spelled;
   }

@@ -1,6 +1,6 @@
 -- Lines that are left out are those that line breaks end.
-use Rattle.std.proofs.Common.{◌≡◌, ◌≢◌, ◌+◌, ◌==◌, ◌&&◌, ◌||◌, ℕ, zero, suc, Bool, true, false, [], ◌∷◌, ◌++◌, ap, arith, drop, eqb-true, refl, subst, sym, ◌∙◌}
-use Rattle.std.proofs.lemmas.Bool.{and_parts}
+use Rattle.std.proofs.Common.{◌≡◌, ◌≢◌, ◌+◌, ◌-◌, ◌==◌, ◌&&◌, ◌||◌, ℕ, zero, suc, Bool, true, false, [], ◌∷◌, ◌++◌, ap, arith, drop, eqb-true, refl, subst, sym, ◌∙◌}
+use Rattle.std.proofs.lemmas.Bool.{and_parts, ne_eqb}
 use Rattle.std.specs.Prelude.{if◌then◌else◌, not}
 use Rattle.comfy_parts.specs.Text.{Text}
 use Rattle.csv_records.specs.Delimiter.{LeavesOutLines, below_line, below_lines, end_len, ends_line, line_len}
@@ -70,6 +70,30 @@ one_line (b ∷ more) front rest some is = by_end (one_line more front rest some
         let none = not_both (b == 0x0A) (b == 0x0D) ends in
         let breaks : line_breaks (b ∷ line.0) ≡ suc (line_breaks front) = rw (none.1, none.0) (omega (arith, line.2)) in
         (b ∷ line.0, ap (λ (t : Text). b ∷ t) line.1, breaks)
+
+-- a unit that ends no line is passed over
+pub line_goes_on : (u : ℕ) (more : Text) → u ≢ 0x0A → u ≢ 0x0D → below_line (u ∷ more) ≡ below_line more
+line_goes_on u more no_feed no_return = by_end (ends_line u) (rw (ne_eqb u 0x0A no_feed, ne_eqb u 0x0D no_return) refl)
+  where
+    by_end : (v : Bool) → v ≡ false → below_at (if not v then 1 + line_len more else 0) (u ∷ more) ≡ below_line more
+    by_end true end = absurd (cc end)
+    by_end false end =
+        let step : 1 + line_len more ≡ suc (line_len more) = omega arith in
+        rw step refl
+
+-- a line feed is a line end of one unit
+pub line_of_feed : (more : Text) → below_line (0x0A ∷ more) ≡ more
+line_of_feed [] = refl
+line_of_feed (u ∷ more) = refl
+
+-- a carriage return is one with what may follow
+pub line_of_return : (more : Text) → below_line (0x0D ∷ more) ≡ drop (end_len (0x0D ∷ more) - 1) more
+line_of_return [] = refl
+line_of_return (u ∷ more) = by_feed (u == 0x0A)
+  where
+    by_feed : (v : Bool) → drop (if v then 2 else 1) (0x0D ∷ u ∷ more) ≡ drop ((if v then 2 else 1) - 1) (u ∷ more)
+    by_feed true = refl
+    by_feed false = refl
 
 leaves : (count : ℕ) (text rest : Text) → rest ≢ [] → below_lines count text ≡ rest → (front : Text) × (text ≡ front ++ rest) × (line_breaks front ≡ count)
 leaves zero text rest some is = ([], is, refl)

@@ -43,10 +43,10 @@ some_each (c ∷ cs) (d ∷ ds) is =
     let rest : map Some cs ≡ map Some ds = cc is in
     ap₂ (λ (a : ℕ) (b : List ℕ). a ∷ b) first (some_each cs ds rest)
 
-text_is_one : (encoding : Encoding) (input text other : Text) → IsDecoded encoding input text → IsDecoded encoding input other → text ≡ other
-text_is_one Utf8 input text other first second = first.1 ∙ sym second.1
-text_is_one Cp1252 input text other first second = first ∙ sym second
-text_is_one Utf16 input text other first second =
+text_is_one : (encoding : Encoding) (skip : ℕ) (input text other : Text) → IsDecoded encoding skip input text → IsDecoded encoding skip input other → text ≡ other
+text_is_one Utf8 skip input text other first second = first.1 ∙ sym second.1
+text_is_one Cp1252 skip input text other first second = first ∙ sym second
+text_is_one Utf16 skip input text other first second =
     first.spell ∙ ap encode_utf8_all (some_each first.characters second.characters (sym first.are_all ∙ second.are_all)) ∙ sym second.spell
 
 -- ---- records of an input
@@ -57,4 +57,4 @@ read_is_one options input records others first second =
     (subst (λ (t : Text). AreRecords (config_for (parted options t).0 options.has_quotes) st.StartRecord (strip_bom (parted options t).1) others) (sym same) second.are_records.are_records.all)
   where
     same : first.text ≡ second.text
-    same = text_is_one (encoding_of options.encoding input) input first.text second.text first.is_text second.is_text
+    same = text_is_one (encoding_of options.encoding input) options.skip input first.text second.text first.is_text.is_decoded second.is_text.is_decoded

@@ -1,7 +1,7 @@
 -- A beginning of an input that is enough for its first records.
 use Rattle.std.specs.Prelude.{ℕ, ◌≡◌, ◌≢◌, ◌<◌, true, List, [], ◌∷◌, ◌++◌, length, take}
 use Rattle.comfy_parts.specs.Text.{Text}
-use Rattle.csv_records.specs.Delimiter.{below_lines, shows_delimiter}
+use Rattle.csv_records.specs.Delimiter.{shows_delimiter}
 use Rattle.csv_records.specs.Encoding.{encoding_of}
 use Rattle.csv_records.specs.Reading.{AreRecordsIn, IsDecodedBy}
 use Rattle.csv_records.specs.declared.encoding.Encoding.TheVariants.{Utf16}
@@ -20,8 +20,7 @@ pub record IsEnough (options : InputOptions) (most : ℕ) (beginning : Text) (re
   pub text : Text
   pub is_text : IsDecodedBy options beginning text
   pub ends : EndsWithLine text
-  pub shows :
-      shows_delimiter options.delimiter options.has_quotes (below_lines options.skip text) ≡ true
+  pub shows : shows_delimiter options.delimiter options.has_quotes text ≡ true
   pub are_records : AreRecordsIn options text records
   pub more : most < length records
 

@@ -1,5 +1,5 @@
 -- An input's encoding, and the text that its bytes are.
-use Rattle.std.specs.Prelude.{ℕ, ◌≡◌, ◌+◌, ◌-◌, ◌%◌, ◌==◌, ◌&&◌, nat_le, nat_lt, true, List, [], ◌∷◌, ◌++◌, map, drop, length, Option, Some, None, IsUtf8, encode_utf8_all, is_some, if◌then◌else◌, slice_index}
+use Rattle.std.specs.Prelude.{ℕ, ◌≡◌, ◌-◌, ◌%◌, ◌==◌, ◌&&◌, nat_le, nat_lt, true, List, [], ◌∷◌, ◌++◌, map, drop, length, Option, Some, None, IsUtf8, encode_utf8_all, is_some, if◌then◌else◌, slice_index}
 use Rattle.std.specs.Char.Escape.{encode_utf16}
 use Rattle.std.specs.Char.Utf16.{utf16_chars}
 use Rattle.std.specs.Int.{from_be_bytes, from_le_bytes, to_be_bytes, to_le_bytes, w16}
@@ -7,7 +7,8 @@ use Rattle.std.specs.List.{flat_map}
 use Rattle.std.specs.Option.{unwrap_or}
 use Rattle.std.specs.Str.{IsAscii, all_scalars}
 use Rattle.comfy_parts.specs.Text.{Text}
-use Rattle.csv_records.specs.Input.{IsTextRefusal, line_breaks}
+use Rattle.csv_records.specs.Delimiter.{below_lines}
+use Rattle.csv_records.specs.Input.{IsTextRefusal, line_number}
 use Rattle.csv_records.specs.declared.encoding.ByteOrder.{ByteOrder}
 use Rattle.csv_records.specs.declared.encoding.ByteOrder.TheVariants.{BigEndian, LittleEndian}
 use Rattle.csv_records.specs.declared.encoding.Encoding.{Encoding}
@@ -73,14 +74,15 @@ units order (a ∷ b ∷ rest) = unit order a b ∷ units order rest
 abbrev pub odd_byte : Text → List (Option ℕ)
 odd_byte bytes = if length bytes % 2 == 0 then [] else None ∷ []
 
--- the characters of these bytes, with `None` for each surrogate without a partner and for an odd
--- byte
-abbrev pub characters_in : ByteOrder → Text → List (Option ℕ)
-characters_in order bytes = utf16_chars (units order bytes) ++ odd_byte bytes
+-- the characters below so many lines of these bytes, with `None` for each surrogate without a
+-- partner and for an odd byte. Units are line ends as bytes are
+abbrev pub characters_in : ByteOrder → ℕ → Text → List (Option ℕ)
+characters_in order skip bytes =
+    utf16_chars (below_lines skip (units order bytes)) ++ odd_byte bytes
 
 -- those of an input in UTF-16
-abbrev pub utf16_characters : Text → List (Option ℕ)
-utf16_characters input = characters_in (order_of input) (without_mark input)
+abbrev pub utf16_characters : ℕ → Text → List (Option ℕ)
+utf16_characters skip input = characters_in (order_of input) skip (without_mark input)
 
 module _ (read : List (Option ℕ)) where
   -- all that was read are characters, of this text
@@ -89,38 +91,41 @@ module _ (read : List (Option ℕ)) where
     pub are_all : read ≡ map Some characters
     pub spell : text ≡ encode_utf8_all characters
 
-  -- the first that is no character stands in this line
-  pub record IsFirstUnpaired (line : ℕ) : Type 0 where
+  -- the first that is no character stands in this line, so many lines standing above
+  pub record IsFirstUnpaired (above : ℕ) (line : ℕ) : Type 0 where
     pub before : List ℕ
     pub after : List (Option ℕ)
     pub first : read ≡ map Some before ++ (None ∷ after)
-    pub numbered : line ≡ line_breaks (encode_utf8_all before) + 1
+    pub numbered : line ≡ line_number above (encode_utf8_all before)
 
   -- why there is no text: one is no character, or there is no memory
-  abbrev pub IsUtf16Refusal : DecodeError → Type 0
-  IsUtf16Refusal (NotUtf16 line) = IsFirstUnpaired line
-  IsUtf16Refusal OutOfMemory = Unit {0}
-  IsUtf16Refusal _ = ⊥
+  abbrev pub IsUtf16Refusal : ℕ → DecodeError → Type 0
+  IsUtf16Refusal above (NotUtf16 line) = IsFirstUnpaired above line
+  IsUtf16Refusal above OutOfMemory = Unit {0}
+  IsUtf16Refusal above _ = ⊥
 
 -- ---- the text of an input
 
--- this is the text of an input in an encoding
-abbrev pub IsDecoded : Encoding → Text → Text → Type 0
-IsDecoded Utf8 input text = IsUtf8 input × (text ≡ input)
-IsDecoded Cp1252 input text = text ≡ cp1252_text input
-IsDecoded Utf16 input text = AreCharactersOf (utf16_characters input) text
+-- this is the text below so many lines of an input in an encoding; what stands above may be in
+-- another one
+abbrev pub IsDecoded : Encoding → ℕ → Text → Text → Type 0
+IsDecoded Utf8 skip input text =
+    IsUtf8 (below_lines skip input) × (text ≡ below_lines skip input)
+IsDecoded Cp1252 skip input text = text ≡ cp1252_text (below_lines skip input)
+IsDecoded Utf16 skip input text = AreCharactersOf (utf16_characters skip input) text
 
--- why an input in an encoding has no text
-abbrev pub IsRefusedIn : Encoding → Text → DecodeError → Type 0
-IsRefusedIn Utf8 input e = IsTextRefusal input e
-IsRefusedIn Cp1252 input e = e ≡ OutOfMemory
-IsRefusedIn Utf16 input e = IsUtf16Refusal (utf16_characters input) e
+-- why an input in an encoding has no text below so many lines
+abbrev pub IsRefusedIn : Encoding → ℕ → Text → DecodeError → Type 0
+IsRefusedIn Utf8 skip input e = IsTextRefusal skip (below_lines skip input) e
+IsRefusedIn Cp1252 skip input e = e ≡ OutOfMemory
+IsRefusedIn Utf16 skip input e = IsUtf16Refusal (utf16_characters skip input) skip e
 
 -- ---- laws
 
 -- ASCII is its own text in UTF-8 and in Windows-1252
 abbrev pub IsItsOwnText : Text → Type 0
-IsItsOwnText input = IsAscii input → IsDecoded Utf8 input input × IsDecoded Cp1252 input input
+IsItsOwnText input =
+    IsAscii input → IsDecoded Utf8 0 input input × IsDecoded Cp1252 0 input input
 
 abbrev pub unit_bytes : ByteOrder → ℕ → Text
 unit_bytes LittleEndian u = to_le_bytes w16 u
@@ -136,4 +141,4 @@ abbrev pub IsReadBack : ByteOrder → List ℕ → Type 0
 IsReadBack order characters =
     let input = written_utf16 order characters in
     all_scalars characters ≡ true
-    → (encoding_of None input ≡ Utf16) × IsDecoded Utf16 input (encode_utf8_all characters)
+    → (encoding_of None input ≡ Utf16) × IsDecoded Utf16 0 input (encode_utf8_all characters)

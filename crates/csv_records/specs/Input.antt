@@ -1,5 +1,6 @@
 -- The text of an input, and its records, and why there are none.
-use Rattle.std.specs.Prelude.{ℕ, ◌≡◌, ◌+◌, ◌<◌, ◌≤◌, ◌==◌, ◌&&◌, ◌||◌, not, Bool, false, List, [], ◌∷◌, Some, All, IsUtf8, take, if◌then◌else◌}
+use Rattle.std.specs.Prelude.{ℕ, ◌≡◌, ◌+◌, ◌-◌, ◌^◌, ◌<◌, ◌≤◌, ◌==◌, ◌&&◌, ◌||◌, min, nat_lt, not, Bool, false, List, [], ◌∷◌, Some, All, IsUtf8, take, if◌then◌else◌}
+use Rattle.std.specs.List.{list_all}
 use Rattle.std.specs.Str.Lossy.{utf8_valid_len}
 use Rattle.comfy_parts.specs.Text.{Text}
 use Rattle.csv.specs.Machine.{Read as FoundRecord, next_record}
@@ -30,19 +31,37 @@ line_breaks_after after_return (b ∷ bs) =
 abbrev pub line_breaks : Text → ℕ
 line_breaks text = line_breaks_after false text
 
--- the number of the line in which the byte at this place stands, counted from 1
-abbrev pub line_of : Text → ℕ → ℕ
-line_of input at = line_breaks (take at input) + 1
+-- the number of the line in which a text ends that stands below so many lines. Lines are counted
+-- from 1, and not further than a `u64` counts
+abbrev pub line_number : ℕ → Text → ℕ
+line_number above text = min (above + (line_breaks text + 1)) (2 ^ 64 - 1)
 
--- the input isn't UTF-8, and its first byte that is no text stands in this line
-pub record IsFirstUnread (input : Text) (line : ℕ) : Type 0 where
-  pub no_text : ¬ (IsUtf8 input)
-  pub numbered : line ≡ line_of input (utf8_valid_len input)
+-- the bytes that Windows-1252 leaves open
+abbrev pub is_open_in_cp1252 : ℕ → Bool
+is_open_in_cp1252 b =
+    (((b == 0x81) || (b == 0x8D)) || ((b == 0x8F) || (b == 0x90))) || (b == 0x9D)
 
--- why an input is no text
-abbrev pub IsTextRefusal : Text → DecodeError → Type 0
-IsTextRefusal input (NotUtf8 line) = IsFirstUnread input line
-IsTextRefusal input _ = ⊥
+-- control characters of ASCII but TAB, line feed, form feed and carriage return
+abbrev pub is_stray_control : ℕ → Bool
+is_stray_control b =
+    (nat_lt b 0x20 && not (((b == 0x09) || (b == 0x0A)) || ((b == 0x0C) || (b == 0x0D))))
+    || (b == 0x7F)
+
+-- each byte is one that a text in Windows-1252 has
+abbrev pub is_like_cp1252 : Text → Bool
+is_like_cp1252 bytes = list_all (λ b. not (is_stray_control b || is_open_in_cp1252 b)) bytes
+
+-- bytes below so many lines aren't UTF-8, and the first that is no text stands in this line. They
+-- may be Windows-1252, or may not
+pub record IsFirstUnread (above : ℕ) (bytes : Text) (line : ℕ) (may_be : Bool) : Type 0 where
+  pub no_text : ¬ (IsUtf8 bytes)
+  pub numbered : line ≡ line_number above (take (utf8_valid_len bytes) bytes)
+  pub looks : may_be ≡ is_like_cp1252 bytes
+
+-- why bytes below so many lines are no text
+abbrev pub IsTextRefusal : ℕ → Text → DecodeError → Type 0
+IsTextRefusal above bytes (NotUtf8 line may_be) = IsFirstUnread above bytes line may_be
+IsTextRefusal above bytes _ = ⊥
 
 -- ---- records
 

@@ -3,6 +3,7 @@ pub mod Cleaning
 pub mod Delimiter
 pub mod Encoding
 pub mod First
+pub mod Foreign
 pub mod Input
 pub mod Number
 pub mod NumberLaws

@@ -1,24 +1,35 @@
 -- The records of an input, by what is asked for, and why there are none.
-use Rattle.std.specs.Prelude.{ℕ, ◌≡◌, ◌≢◌, ◌+◌, true, List, ◌++◌}
+use Rattle.std.specs.Prelude.{ℕ, ◌≡◌, ◌≢◌, true, List, ◌++◌, MatchOption, None}
 use Rattle.comfy_parts.specs.Text.{Text}
 use Rattle.csv.specs.Reading.{strip_bom}
 use Rattle.csv.specs.declared.parser.State.TheVariants as st
-use Rattle.csv_records.specs.Delimiter.{below_lines, delimited}
-use Rattle.csv_records.specs.Encoding.{IsDecoded, encoding_of}
-use Rattle.csv_records.specs.Input.{AreRecordsOf, SplitsCharacter, line_breaks}
+use Rattle.csv_records.specs.Delimiter.{delimited}
+use Rattle.csv_records.specs.Encoding.{IsDecoded, IsRefusedIn, encoding_of}
+use Rattle.csv_records.specs.Foreign.{foreign_for}
+use Rattle.csv_records.specs.Input.{AreRecordsOf, SplitsCharacter, line_number}
 use Rattle.csv_records.specs.Quotes.{IsUnclosed, state_after}
+use Rattle.csv_records.specs.declared.error.DecodeError.{DecodeError}
+use Rattle.csv_records.specs.declared.error.DecodeError.TheVariants as decode
 use Rattle.csv_records.specs.declared.error.RecordsError.{RecordsError}
 use Rattle.csv_records.specs.declared.error.RecordsError.TheVariants.{OutOfMemory, SplitCharacter, Unclosed}
 use Rattle.csv_records.specs.declared.options.InputOptions.{InputOptions}
 
--- an input has this text, in the encoding that is asked for or found
-abbrev pub IsDecodedBy : InputOptions → Text → Text → Type 0
-IsDecodedBy options input text = IsDecoded (encoding_of options.encoding input) input text
+-- an input has this text below the lines that are left out, in the encoding that is asked for or
+-- found
+pub record IsDecodedBy (options : InputOptions) (input text : Text) : Type 0 where
+  pub is_decoded : IsDecoded (encoding_of options.encoding input) options.skip input text
+  pub is_text : foreign_for options.encoding options.skip input ≡ None
 
--- the byte between the fields of a text, and what holds its records: not the lines that are left
--- out, nor one that names the byte
+-- why it has none: it's seen to be no text in UTF-8, else it isn't in its encoding
+abbrev pub IsWithoutText : InputOptions → Text → DecodeError → Type 0
+IsWithoutText options input e =
+    MatchOption (foreign_for options.encoding options.skip input)
+    (IsRefusedIn (encoding_of options.encoding input) options.skip input e)
+    (λ foreign. e ≡ decode.Foreign foreign)
+
+-- the byte between the fields of a text, and what holds its records: not a line that names the byte
 abbrev pub parted : InputOptions → Text → ℕ × Text
-parted options text = delimited options.delimiter options.has_quotes (below_lines options.skip text)
+parted options text = delimited options.delimiter options.has_quotes text
 
 -- these are the records of a text, and where quotes count, it doesn't end within them
 pub record AreRecordsIn (options : InputOptions) (text : Text) (records : List
@@ -28,7 +39,8 @@ pub record AreRecordsIn (options : InputOptions) (text : Text) (records : List
   pub is_closed : options.has_quotes ≡ true
       → state_after (parted options text).0 (strip_bom (parted options text).1) ≢ st.InQuoted
 
--- a quote that opens a field in this line of a text is never closed
+-- a quote that opens a field in this line is never closed, a text standing below the lines that are
+-- left out
 pub record HasUnclosedQuote (options : InputOptions) (text : Text) (line : ℕ) : Type 0 where
   pub has_quotes : options.has_quotes ≡ true
   pub before : Text
@@ -36,7 +48,7 @@ pub record HasUnclosedQuote (options : InputOptions) (text : Text) (line : ℕ) 
   pub parts : text ≡ before ++ from_quote
   pub is_unclosed :
       IsUnclosed (parted options text).0 (strip_bom (parted options text).1) from_quote
-  pub numbered : line ≡ line_breaks before + 1
+  pub numbered : line ≡ line_number options.skip before
 
 -- the delimiter isn't ASCII, and splits a character of a record
 abbrev pub HasSplitCharacter : InputOptions → Text → Type 0

@@ -4,7 +4,7 @@ ghost use Rattle.std.specs.Prelude.{◌≡◌, ◌++◌, IfOk, IfSome, IsTrue};
 ghost use Rattle.comfy_parts.specs.Text.{Text};
 ghost use Rattle.csv_records.specs.Beginning.{AreFirstByBeginning, EndsWithLine};
 
-use crate::delimiter::{below_lines, shows_delimiter};
+use crate::delimiter::shows_delimiter;
 use crate::encoding::{Encoding, decoded, encoding_of};
 use crate::error::{DecodeError, RecordsError};
 use crate::options::InputOptions;
@@ -35,14 +35,18 @@ pub fn read_beginning(
     if memchr_iter(LINE_FEED, lines).count() <= most {
         return Ok(None);
     }
-    let text = match decoded(alloc, Vec::from_slice(alloc, lines)?, options.encoding) {
+    let text = match decoded(alloc, Vec::from_slice(alloc, lines)?, options) {
         Ok(text) => text,
         Err(DecodeError::OutOfMemory) => return Err(AllocError),
         Err(_) => return Ok(None),
     };
-    let below = below_lines(text.as_str(), options.skip);
     if !ends_with_line(text.as_str())
-        || !shows_delimiter(alloc, below, options.delimiter, options.has_quotes)?
+        || !shows_delimiter(
+            alloc,
+            text.as_str(),
+            options.delimiter,
+            options.has_quotes,
+        )?
     {
         return Ok(None);
     }

@@ -1,4 +1,4 @@
-//! What stands between the fields of a text, and the text below its first lines.
+//! What stands between the fields of a text, and what stands below first lines.
 
 ghost use Rattle.std.specs.Prelude.{◌≡◌, ◌==◌, IfOk, nat_lt, option_map, if◌then◌else◌};
 ghost use Rattle.std.specs.List.{list_all, position};
@@ -73,20 +73,28 @@ pub(crate) fn shows_delimiter(
     }
 }
 
-/// The text below its first `count` lines, empty where there aren't more. A line ends at a line
+/// The bytes below the first `count` lines, none where there aren't more. A line ends at a line
 /// feed, a carriage return, or a carriage return with a line feed, also between quotes.
-pub(crate) fn below_lines(text: &str, count: usize) -> &str
-    ensures below { result.now ≡ below_lines count text.now }
-    ensures end { EndsIn text.now result.now }
+pub(crate) fn below_lines(bytes: &[u8], count: usize) -> &[u8]
+    ensures below { result.now ≡ below_lines count bytes.now }
+    ensures end { EndsIn bytes.now result.now }
 {
-    let mut rest = text;
+    let mut rest = bytes;
     for _ in 0..count {
         if rest.is_empty() {
             break;
         }
-        (_, rest) = split_line(rest);
+        rest = below_line(rest);
     }
     rest
+}
+
+// What follows the first line and its end.
+fn below_line(bytes: &[u8]) -> &[u8]
+    ensures { result.now ≡ below_line bytes.now }
+{
+    let rest = bytes.split_at(line_len(bytes)).1;
+    rest.split_at(end_len(rest)).1
 }
 
 // The first line without its end, and what follows that end.

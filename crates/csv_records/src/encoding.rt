@@ -1,13 +1,18 @@
 //! The text of an input, by its encoding.
 
-ghost use Rattle.std.specs.Prelude.{◌≡◌, ◌+◌, IfErr, IfOk, IsUtf8, string_bytes};
+ghost use Rattle.std.specs.Prelude.{◌≡◌, ◌-◌, ◌≤◌, ◌==◌, ◌∷◌, IfErr, IfOk, IsUtf8, drop, is_some, length, string_bytes};
 ghost use Rattle.std.specs.Iterator.{YieldsFirst, item_count};
 ghost use Rattle.std.specs.String.{string_vec};
-ghost use Rattle.csv_records.specs.Encoding.{AreCharactersOf, IsRefusedIn, IsDecoded, IsUtf16Refusal, cp1252_character, cp1252_text, encoding_of, marked_order, order_of, unit, utf16_characters, without_mark};
-ghost use Rattle.csv_records.specs.Input.{IsTextRefusal, line_breaks};
+ghost use Rattle.csv_records.specs.Delimiter.{below_line, below_lines, end_len};
+ghost use Rattle.csv_records.specs.Encoding.{AreCharactersOf, IsRefusedIn, IsDecoded, IsUtf16Refusal, cp1252_character, cp1252_text, encoding_of, marked_order, order_of, unit, units, utf16_characters, without_mark};
+ghost use Rattle.csv_records.specs.Input.{IsTextRefusal, line_number};
+ghost use Rattle.csv_records.specs.Reading.{IsDecodedBy, IsWithoutText};
 
+use crate::delimiter::below_lines;
 use crate::error::DecodeError;
-use crate::text::{line_after, text_of};
+use crate::foreign::foreign_for;
+use crate::options::InputOptions;
+use crate::text::{line_number, text_of};
 use std::alloc::Global;
 use std::marker::Model;
 
@@ -24,28 +29,43 @@ pub enum Encoding {
     Utf16,
 }
 
-/// The text of an input. Where no encoding is asked for, an input that begins with a byte-order
-/// mark of UTF-16 is UTF-16, and any other one UTF-8. An input in UTF-8 becomes its text without a
-/// copy.
+/// The text of an input below the lines that are left out, which may be in another encoding. Where
+/// none is asked for, an input that begins with a byte-order mark of UTF-16 is UTF-16, and any other
+/// one UTF-8, unless it is seen to be no text. An input in UTF-8 of which no line is left out
+/// becomes its text without a copy.
 ///
-/// `NotUtf8` and `NotUtf16` have the number of the line where the input stops being one. `NotUtf16`
-/// comes of a surrogate without a partner, and of an odd number of bytes.
-pub fn decoded(
+/// `NotUtf16` comes of a surrogate without a partner, and of an odd number of bytes.
+pub fn decoded(alloc: Global, input: Vec<u8>, options: &InputOptions) -> Result<String, DecodeError>
+    ensures text { IfOk result (λ text. IsDecodedBy options.now input.items (string_bytes text)) }
+    ensures not_copied { IfOk result (λ text.
+        encoding_of options.now.encoding input.items ≡ Encoding.Utf8 → options.now.skip ≡ 0
+        → string_vec text ≡ input) }
+    ensures refused { IfErr result (λ e. IsWithoutText options.now input.items e) }
+{
+    if let Some(foreign) = foreign_for(options.encoding, options.skip, input.as_slice()) {
+        return Err(DecodeError::Foreign(foreign));
+    }
+    let encoding = encoding_of(options.encoding, input.as_slice());
+    text_below(alloc, input, encoding, options.skip)
+}
+
+// The text in an encoding, below so many lines.
+fn text_below(
     alloc: Global,
     input: Vec<u8>,
-    encoding: Option<Encoding>,
+    encoding: Encoding,
+    skip: usize,
 ) -> Result<String, DecodeError>
     ensures text { IfOk result (λ text.
-        IsDecoded (encoding_of encoding input.items) input.items (string_bytes text)) }
-    ensures not_copied { IfOk result
-        (λ text. encoding_of encoding input.items ≡ Encoding.Utf8 → string_vec text ≡ input) }
-    ensures refused { IfErr result (λ e.
-        IsRefusedIn (encoding_of encoding input.items) input.items e) }
+        IsDecoded encoding skip input.items (string_bytes text)) }
+    ensures not_copied { IfOk result (λ text.
+        encoding ≡ Encoding.Utf8 → skip ≡ 0 → string_vec text ≡ input) }
+    ensures refused { IfErr result (λ e. IsRefusedIn encoding skip input.items e) }
 {
-    match encoding_of(encoding, input.as_slice()) {
-        Encoding::Utf8 => utf8_text(input),
-        Encoding::Cp1252 => cp1252_text(alloc, input.as_slice()),
-        Encoding::Utf16 => utf16_text(alloc, input.as_slice()),
+    match encoding {
+        Encoding::Utf8 => utf8_text(input, skip),
+        Encoding::Cp1252 => cp1252_text(alloc, below_lines(input.as_slice(), skip)),
+        Encoding::Utf16 => utf16_text(alloc, input.as_slice(), skip),
     }
 }
 
@@ -55,19 +75,42 @@ pub(crate) fn encoding_of(encoding: Option<Encoding>, input: &[u8]) -> Encoding
 {
     match encoding {
         Some(encoding) => encoding,
-        None if marked_order(input).is_some() => Encoding::Utf16,
+        None if is_marked(input) => Encoding::Utf16,
         None => Encoding::Utf8,
     }
 }
 
-// The text in UTF-8, which is the input itself.
-fn utf8_text(input: Vec<u8>) -> Result<String, DecodeError>
-    ensures same { IfOk result (λ text. string_vec text ≡ input) }
-    ensures is_text { IfOk result (λ _. IsUtf8 input.items) }
-    ensures refused { IfErr result (λ e. IsTextRefusal input.items e) }
+/// Whether a byte-order mark at the front says that the input is UTF-16.
+pub(crate) fn is_marked(input: &[u8]) -> bool
+    ensures { result ≡ is_some (marked_order input.now) }
 {
-    text_of(input.as_slice())?;
-    Ok(unsafe { String::from_utf8_unchecked(input) })
+    marked_order(input).is_some()
+}
+
+// The text in UTF-8 below so many lines, which is the input itself where none are left out.
+fn utf8_text(input: Vec<u8>, skip: usize) -> Result<String, DecodeError>
+    ensures text { IfOk result (λ text. string_bytes text ≡ below_lines skip input.items) }
+    ensures not_copied { IfOk result (λ text. skip ≡ 0 → string_vec text ≡ input) }
+    ensures is_text { IfOk result (λ _. IsUtf8 (below_lines skip input.items)) }
+    ensures refused { IfErr result (λ e. IsTextRefusal skip (below_lines skip input.items) e) }
+{
+    let len = text_of(below_lines(input.as_slice(), skip), skip)?.len();
+    let bytes = last_bytes(input, len);
+    Ok(unsafe { String::from_utf8_unchecked(bytes) })
+}
+
+// The last bytes, as many as this.
+fn last_bytes(mut bytes: Vec<u8>, len: usize) -> Vec<u8>
+    requires within { len ≤ length bytes.items }
+    ensures items { result.items ≡ drop (length bytes.items - len) bytes.items }
+    ensures all { len ≡ length bytes.items → result ≡ bytes }
+{
+    let before = bytes.len() - len;
+    if before > 0 {
+        bytes.rotate_left(before);
+        bytes.truncate(len);
+    }
+    bytes
 }
 
 // The characters of Windows-1252 for 0x80 to 0x9F, U+FFFD for the five open ones.
@@ -135,32 +178,47 @@ fn without_mark(input: &[u8]) -> &[u8]
     }
 }
 
-// The text in UTF-16.
-fn utf16_text(alloc: Global, input: &[u8]) -> Result<String, DecodeError>
+// The text in UTF-16 below so many lines.
+fn utf16_text(alloc: Global, input: &[u8], skip: usize) -> Result<String, DecodeError>
     ensures text { IfOk result (λ text.
-        AreCharactersOf (utf16_characters input.now) (string_bytes text)) }
-    ensures refused { IfErr result (λ e. IsUtf16Refusal (utf16_characters input.now) e) }
+        AreCharactersOf (utf16_characters skip input.now) (string_bytes text)) }
+    ensures refused { IfErr result (λ e.
+        IsUtf16Refusal (utf16_characters skip input.now) skip e) }
 {
     let bytes = without_mark(input);
     let order = order_of(input);
     let mut text = String::with_capacity(alloc, bytes.len() / 2)?;
-    for read in char::decode_utf16(Units { bytes, order }) {
+    for read in char::decode_utf16(units_below(Units { bytes, order }, skip)) {
         match read {
             Ok(character) => text.push(character)?,
-            Err(_) => return Err(not_utf16(text.as_str())),
+            Err(_) => return Err(not_utf16(skip, text.as_str())),
         }
     }
     if bytes.len() % 2 == 1 {
-        return Err(not_utf16(text.as_str()));
+        return Err(not_utf16(skip, text.as_str()));
     }
     Ok(text)
 }
 
-// The error where what follows these characters is none.
-fn not_utf16(before: &str) -> DecodeError
-    ensures { result ≡ DecodeError.NotUtf16 (line_breaks before.now + 1) }
+// The error where what follows these characters, which stand below so many lines, is none.
+fn not_utf16(above: usize, before: &str) -> DecodeError
+    ensures { result ≡ DecodeError.NotUtf16 (line_number above before.now) }
 {
-    DecodeError::NotUtf16(line_after(before.as_bytes()))
+    DecodeError::NotUtf16(line_number(above, before.as_bytes()))
+}
+
+// The units below the first `count` lines.
+fn units_below(units: Units<'_>, count: usize) -> Units<'_>
+    ensures { result ≡ below_lines count units.entry }
+{
+    let mut rest = units;
+    for _ in 0..count {
+        if rest.is_empty() {
+            break;
+        }
+        rest = rest.below_line();
+    }
+    rest
 }
 
 // The units of bytes that are left; an odd byte at the end is in none.
@@ -177,6 +235,43 @@ impl<'a> Model for Units<'a> {
     ghost Value = { List ℕ };
 
     ghost view = { λ u. units u.order u.bytes.now };
+}
+
+impl<'a> Units<'a> {
+    fn is_empty(&self) -> bool
+        ensures { result ≡ (length self.now == 0) }
+    {
+        self.bytes.len() < 2
+    }
+
+    // What follows the first line and its end.
+    fn below_line(self) -> Units<'a>
+        ensures { result ≡ below_line self.entry }
+    {
+        let mut rest = self;
+        while let Some(unit) = rest.next() {
+            if unit == 0x0A {
+                return rest;
+            }
+            if unit == 0x0D {
+                return rest.behind_feed();
+            }
+        }
+        rest
+    }
+
+    // What follows the line end of which a carriage return was read.
+    fn behind_feed(self) -> Units<'a>
+        ensures { result ≡ drop (end_len (0x0D ∷ self.entry) - 1) self.entry }
+    {
+        match self.bytes {
+            [first, second, rest @ ..] if unit(self.order, *first, *second) == 0x0A => Units {
+                bytes: rest,
+                order: self.order,
+            },
+            _ => self,
+        }
+    }
 }
 
 impl<'a> Iterator for Units<'a> {

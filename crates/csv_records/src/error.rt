@@ -4,19 +4,28 @@ ghost use Rattle.std.specs.Prelude.{◌≡◌};
 ghost use Rattle.csv_records.specs.declared.error.DecodeError.TheVariants as decode;
 ghost use Rattle.csv_records.specs.declared.error.RecordsError.TheVariants as records;
 
+use crate::foreign::Foreign;
 use std::alloc::{AllocError, AllocFailed};
 use thiserror::Error;
 
-/// Why an input has no text.
+/// Why an input has no text. Lines count from 1, those that are left out too. A line ends at a line
+/// feed, a carriage return, or a carriage return with a line feed, also between quotes.
 #[derive(Clone, Copy, Debug, PartialEq, Eq, Error)]
 pub enum DecodeError {
-    /// The input isn't UTF-8: in this line stands the first byte that is no text. The first line
-    /// has the number 1. A line ends at a line feed, a carriage return, or a carriage return with a
-    /// line feed, also between quotes.
-    #[error("line {0} isn't UTF-8")]
-    NotUtf8(u64),
+    /// No encoding was asked for, and the input is seen to be another thing than text in UTF-8.
+    #[error("{0}")]
+    Foreign(Foreign),
+    /// The input isn't UTF-8.
+    #[error("line {line} isn't UTF-8")]
+    NotUtf8 {
+        /// The line of the first byte that is no text.
+        line: u64,
+        /// Whether each byte is such as a text in Windows-1252 has: no control character but TAB,
+        /// line feed, form feed and carriage return, and none of the five that it leaves open.
+        may_be_cp1252: bool,
+    },
     /// The input isn't UTF-16: in this line stands the first surrogate without a partner, or an odd
-    /// byte at the end. Lines are counted as for `NotUtf8`.
+    /// byte at the end.
     #[error("line {0} isn't UTF-16")]
     NotUtf16(u64),
     /// There was no memory for the text.
@@ -28,7 +37,7 @@ pub enum DecodeError {
 #[derive(Clone, Copy, Debug, PartialEq, Eq, Error)]
 pub enum RecordsError {
     /// A quote that opens a field in this line is never closed. Lines are counted as for
-    /// `DecodeError::NotUtf8`.
+    /// `DecodeError`.
     #[error("a quote that opens in line {0} is never closed")]
     Unclosed(u64),
     /// The delimiter isn't ASCII, and stands inside a character of a record.

@@ -9,8 +9,8 @@ pub struct InputOptions {
     /// How the input is written as bytes. Where that isn't said, an input that begins with a
     /// byte-order mark of UTF-16 is UTF-16, and any other one UTF-8.
     pub encoding: Option<Encoding>,
-    /// How many lines at the input's front are left out. A line ends at a line feed, a carriage
-    /// return, or both, also between quotes.
+    /// How many lines at the input's front are left out, in whatever encoding they are. A line ends
+    /// at a line feed, a carriage return, or both, also between quotes.
     pub skip: usize,
     /// What stands between fields.
     pub delimiter: Delimiter,

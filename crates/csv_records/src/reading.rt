@@ -1,22 +1,22 @@
 //! The records of a text, by what is asked for.
 
-ghost use Rattle.std.specs.Prelude.{◌≡◌, ◌<◌, ◌+◌, ◌-◌, ◌^◌, IfErr, IfOk, length, take};
+ghost use Rattle.std.specs.Prelude.{◌≡◌, ◌<◌, ◌-◌, ◌^◌, IfErr, IfOk, length, take};
 ghost use Rattle.csv_records.specs.First.{AreFirst};
-ghost use Rattle.csv_records.specs.Input.{line_breaks};
+ghost use Rattle.csv_records.specs.Input.{line_number};
 ghost use Rattle.csv_records.specs.Reading.{AreRecordsIn, IsTextWithoutRecords};
 
-use crate::delimiter::{below_lines, delimited};
+use crate::delimiter::delimited;
 use crate::error::RecordsError;
 use crate::options::InputOptions;
 use crate::quotes::unclosed_quote;
 use crate::records::{FirstRecords, Records, first_records_of};
-use crate::text::line_after;
+use crate::text::line_number;
 use std::alloc::Global;
 
-/// The records of a text below the lines that are left out. An empty line is no record; `""` is an
-/// empty field.
+/// The records of a text, which `decoded` has below the lines that are left out. An empty line is no
+/// record; `""` is an empty field.
 ///
-/// `Unclosed` has the number of the line, among all of the text, where the quote opens.
+/// `Unclosed` has the number of the line where the quote opens, those that are left out counted too.
 /// `SplitCharacter` comes only of a delimiter that isn't ASCII.
 pub fn read_records(
     alloc: Global,
@@ -40,19 +40,20 @@ pub fn read_first_records(
     ensures count { IfOk result (λ first. first.count < 2 ^ 64) }
     ensures refused { IfErr result (λ e. IsTextWithoutRecords options.now text.now e) }
 {
-    let below = below_lines(text, options.skip);
-    let (delimiter, rest) = delimited(alloc, below, options.delimiter, options.has_quotes)?;
+    let (delimiter, rest) = delimited(alloc, text, options.delimiter, options.has_quotes)?;
     if options.has_quotes {
         if let Some(at) = unclosed_quote(rest, delimiter) {
-            return Err(RecordsError::Unclosed(line_before(text, rest.len() - at)));
+            let line = line_before(options.skip, text, rest.len() - at);
+            return Err(RecordsError::Unclosed(line));
         }
     }
     first_records_of(alloc, rest, delimiter, options.has_quotes, most)
 }
 
-// The number of the line where the last bytes of a text begin, this being how many they are.
-fn line_before(text: &str, last: usize) -> u64
-    ensures { result ≡ line_breaks (take (length text.now - last) text.now) + 1 }
+// The number of the line where the last bytes of a text begin, this being how many they are. So many
+// lines stand above the text.
+fn line_before(above: usize, text: &str, last: usize) -> u64
+    ensures { result ≡ line_number above (take (length text.now - last) text.now) }
 {
-    line_after(&text.as_bytes()[..text.len().saturating_sub(last)])
+    line_number(above, &text.as_bytes()[..text.len().saturating_sub(last)])
 }

@@ -1,26 +1,57 @@
 //! The text of an input.
 
-ghost use Rattle.std.specs.Prelude.{◌≡◌, ◌+◌, IfErr, IfOk, IsUtf8};
+ghost use Rattle.std.specs.Prelude.{◌≡◌, ◌+◌, ◌||◌, IfErr, IfOk, IsUtf8};
 ghost use Rattle.csv.specs.Reading.{strip_bom};
-ghost use Rattle.csv_records.specs.Input.{IsTextRefusal, line_breaks};
+ghost use Rattle.csv_records.specs.Input.{IsTextRefusal, is_like_cp1252, is_open_in_cp1252, is_stray_control, line_breaks, line_number};
 
 use crate::error::DecodeError;
 
-/// The input as a text, which takes no memory. `NotUtf8` has the number of the line where it stops
-/// being one.
-pub(crate) fn text_of(input: &[u8]) -> Result<&str, DecodeError>
-    ensures same { IfOk result (λ text. text.now ≡ input.now) }
-    ensures is_text { IfOk result (λ _. IsUtf8 input.now) }
-    ensures refused { IfErr result (λ e. IsTextRefusal input.now e) }
+/// Bytes below so many lines as a text, which takes no memory. `NotUtf8` has the number of the line
+/// where they stop being one.
+pub(crate) fn text_of(bytes: &[u8], above: usize) -> Result<&str, DecodeError>
+    ensures same { IfOk result (λ text. text.now ≡ bytes.now) }
+    ensures is_text { IfOk result (λ _. IsUtf8 bytes.now) }
+    ensures refused { IfErr result (λ e. IsTextRefusal above bytes.now e) }
 {
-    match simdutf8::compat::from_utf8(input) {
+    match simdutf8::compat::from_utf8(bytes) {
         Ok(text) => Ok(text),
-        Err(error) => Err(DecodeError::NotUtf8(line_after(&input[..error.valid_up_to()]))),
+        Err(error) => Err(DecodeError::NotUtf8 {
+            line: line_number(above, &bytes[..error.valid_up_to()]),
+            may_be_cp1252: is_like_cp1252(bytes),
+        }),
     }
 }
 
-// The number of the line in which the end of these bytes stands.
-pub(crate) fn line_after(bytes: &[u8]) -> u64
+// Whether all bytes are such as a text in Windows-1252 has.
+fn is_like_cp1252(bytes: &[u8]) -> bool
+    ensures { result ≡ is_like_cp1252 bytes.now }
+{
+    bytes.iter().all(|byte| !(is_stray_control(*byte) || is_open_in_cp1252(*byte)))
+}
+
+// Control characters but TAB, line feed, form feed and carriage return.
+fn is_stray_control(byte: u8) -> bool
+    ensures { result ≡ is_stray_control byte }
+{
+    byte < 0x20 && !matches!(byte, b'\t' | b'\n' | 0x0C | b'\r') || byte == 0x7F
+}
+
+// The five bytes that Windows-1252 leaves open.
+fn is_open_in_cp1252(byte: u8) -> bool
+    ensures { result ≡ is_open_in_cp1252 byte }
+{
+    matches!(byte, 0x81 | 0x8D | 0x8F | 0x90 | 0x9D)
+}
+
+/// The number of the line in which the end of these bytes stands, below so many lines.
+pub(crate) fn line_number(above: usize, bytes: &[u8]) -> u64
+    ensures { result ≡ line_number above bytes.now }
+{
+    (above as u64).saturating_add(line_after(bytes))
+}
+
+// The number of the line in which the end of these bytes stands, among them.
+fn line_after(bytes: &[u8]) -> u64
     ensures { result ≡ line_breaks bytes.now + 1 }
 {
     let mut line = 1;

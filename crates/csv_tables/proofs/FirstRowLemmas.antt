@@ -20,6 +20,8 @@ use Rattle.csv_tables.specs.declared.error.CsvError.TheVariants as err
 use Rattle.csv_tables.specs.declared.options.DrawnColumn.{DrawnColumn}
 use Rattle.csv_tables.specs.declared.options.Options.{Options}
 use Rattle.devices.specs.Outcome.{Beginning}
+use Rattle.csv_tables.proofs.RunLemmas.{no_lines}
+use Rattle.std.specs.Str.{IsUtf8}
 
 -- ---- rows
 
@@ -145,7 +147,7 @@ module _ (options : Options) where
     beginning_refused (NoColumn word hint) why = ((λ is. cc is), found.records, are_enough, same_refusal options first found.records alike (NoColumn word hint) why)
     beginning_refused NoneLeft why = ((λ is. cc is), found.records, are_enough, same_refusal options first found.records alike NoneLeft why)
     beginning_refused (TwoSides name) why = ((λ is. cc is), found.records, are_enough, same_refusal options first found.records alike (TwoSides name) why)
-    beginning_refused OutOfMemory why = λ wanted. (subst (λ (encoding : Encoding). IsDecoded encoding found.beginning found.is_enough.text) wanted found.is_enough.is_text).0
+    beginning_refused OutOfMemory why = λ wanted. (subst (λ (encoding : Encoding). IsDecoded encoding options.input.skip found.beginning found.is_enough.text) wanted found.is_enough.is_text.is_decoded).0
 
   -- columns of an input's records can't be drawn so
   pub whole_refused : (input text : Text) (first all : List (List Text)) → AreDrawnAlike options first all → IsDecodedBy options.input input text → AreRecordsIn options.input text all → (length all ≡ 0 → ⊥)
@@ -162,8 +164,8 @@ module _ (options : Options) where
       by_error (NoColumn word hint) why = ((λ is. cc is), all, known, not_none, why)
       by_error NoneLeft why = ((λ is. cc is), all, known, not_none, why)
       by_error (TwoSides name) why = ((λ is. cc is), all, known, not_none, why)
-      by_error OutOfMemory why = λ wanted. (subst (λ (encoding : Encoding). IsDecoded encoding input text) wanted is_text).0
+      by_error OutOfMemory why = λ wanted. (subst (λ (encoding : Encoding). IsDecoded encoding options.input.skip input text) wanted is_text.is_decoded).0
 
 -- no memory, before a beginning was looked at
 pub no_memory : (options : Options) → IsRefusal options Beginning [] err.OutOfMemory
-no_memory options = λ wanted. IsUtf8-nil
+no_memory options = λ wanted. subst IsUtf8 (sym (no_lines options.input.skip)) IsUtf8-nil

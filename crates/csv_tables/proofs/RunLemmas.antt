@@ -1,10 +1,15 @@
 -- What a call of `draw` that stopped ensures, by this crate's error.
-use Rattle.std.proofs.Common.{Err, inl, inr, subst, sym, true}
+use Rattle.std.proofs.Common.{◌≡◌, ◌≢◌, Err, MatchOption, None, Option, Some, [], inl, inr, refl, subst, suc, sym, true, zero, ℕ}
 use Rattle.std.proofs.lemmas.Str.{IsUtf8-nil}
 use Rattle.std.specs.Str.{IsUtf8}
 use Rattle.comfy_parts.specs.Text.{Text}
 use Rattle.csv_records.specs.Encoding.{IsRefusedIn, encoding_of}
+use Rattle.csv_records.specs.Delimiter.{below_lines}
+use Rattle.csv_records.specs.Foreign.{foreign_for}
+use Rattle.csv_records.specs.Reading.{IsWithoutText}
 use Rattle.csv_records.specs.declared.encoding.Encoding.{Encoding}
+use Rattle.csv_records.specs.declared.encoding.Encoding.TheVariants.{Utf8}
+use Rattle.csv_records.specs.declared.foreign.Foreign.{Foreign}
 use Rattle.csv_records.specs.declared.error.DecodeError.{DecodeError}
 use Rattle.csv_records.specs.declared.error.DecodeError.TheVariants as decode
 use Rattle.csv_tables.specs.Drawn.{RendersExtent}
@@ -18,12 +23,17 @@ use Rattle.devices.specs.Run.{IsAfter as IsAfterRun, IsAfterIn as IsAfterRunIn}
 use Rattle.devices.specs.declared.transfer.Stop.{Stop}
 use Rattle.devices.specs.declared.transfer.Stop.TheVariants.{OutOfMemory, Read, Refused, Write}
 
+-- nothing is below lines of nothing
+pub no_lines : (count : ℕ) → below_lines count [] ≡ []
+no_lines zero = refl
+no_lines (suc count) = no_lines count
+
 -- what stops a run, by this crate's error
 after_stop_in : (T : Type 0) (options : Options) (extent : Extent) (stop : Stop CsvError) (facts : RunFacts) → IsAfterRunIn (RendersExtent options) (IsRefusal options) {T = T} (Err stop) extent facts
     → IsAfterIn {T = T} options (Err (of_stop stop)) extent facts
 after_stop_in T options extent Read facts after = after
 after_stop_in T options extent Write facts after = after
-after_stop_in T options Whole OutOfMemory facts after = record { no_device_failed = after.no_device_failed; nothing_written = after.nothing_written; fine = λ whole wanted. subst IsUtf8 (sym (after.fine whole)) IsUtf8-nil }
+after_stop_in T options Whole OutOfMemory facts after = record { no_device_failed = after.no_device_failed; nothing_written = after.nothing_written; fine = λ whole wanted. subst (λ (input : Text). IsUtf8 (below_lines options.input.skip input)) (sym (after.fine whole)) (subst IsUtf8 (sym (no_lines options.input.skip)) IsUtf8-nil) }
 after_stop_in T options Beginning OutOfMemory facts after = absurd after
 after_stop_in T options extent (Refused own.OutOfMemory) facts after = record { no_device_failed = after.no_device_failed; nothing_written = after.nothing_written; fine = λ whole. after.fault }
 after_stop_in T options Whole (Refused own.Read) facts after = absurd after.fault
@@ -46,8 +56,15 @@ after_stop T options stop facts (inr part) =
     })
 
 module _ (options : Options) (input : Text) where
+  -- where memory ran out, nothing was seen by which it's no text, and it isn't to be UTF-8
+  no_memory : (o : Option Foreign) → MatchOption o (IsRefusedIn (encoding_of options.input.encoding input) options.input.skip input decode.OutOfMemory) (λ foreign. decode.OutOfMemory ≡ decode.Foreign foreign)
+      → encoding_of options.input.encoding input ≢ Utf8
+  no_memory None why wanted = subst (λ (encoding : Encoding). IsRefusedIn encoding options.input.skip input decode.OutOfMemory) wanted why
+  no_memory (Some foreign) why wanted = cc why
+
   -- an input that has no text is refused
-  pub of_no_text : (e : DecodeError) → IsRefusedIn (encoding_of options.input.encoding input) input e → IsInputRefusal options input (of_decoding e)
-  of_no_text decode.OutOfMemory why = λ wanted. absurd (subst (λ (encoding : Encoding). IsRefusedIn encoding input decode.OutOfMemory) wanted why)
-  of_no_text (decode.NotUtf8 line) why = ((λ is. cc is), why)
+  pub of_no_text : (e : DecodeError) → IsWithoutText options.input input e → IsInputRefusal options input (of_decoding e)
+  of_no_text decode.OutOfMemory why = λ wanted. absurd (no_memory (foreign_for options.input.encoding options.input.skip input) why wanted)
+  of_no_text (decode.Foreign foreign) why = ((λ is. cc is), why)
+  of_no_text (decode.NotUtf8 line may_be) why = ((λ is. cc is), why)
   of_no_text (decode.NotUtf16 line) why = ((λ is. cc is), why)

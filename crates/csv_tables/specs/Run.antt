@@ -4,8 +4,9 @@ use Rattle.comfy_parts.specs.Text.{Text}
 use Rattle.devices.specs.Outcome.{Beginning, Extent, IsByExtent, OfWhole, Whole, IsAfterFault, IsAfterOk, IsAfterOutOfMemory, IsAfterRead, IsAfterWrite, RunFacts}
 use Rattle.csv_tables.specs.Columns.{IsColumnsRefusal}
 use Rattle.csv_tables.specs.Drawn.{AreEnough, RendersExtent, content_of}
-use Rattle.csv_records.specs.Encoding.{IsRefusedIn, encoding_of}
-use Rattle.csv_records.specs.Reading.{AreRecordsFor, IsDecodedBy, IsTextWithoutRecords}
+use Rattle.csv_records.specs.Delimiter.{below_lines}
+use Rattle.csv_records.specs.Encoding.{encoding_of}
+use Rattle.csv_records.specs.Reading.{AreRecordsFor, IsDecodedBy, IsTextWithoutRecords, IsWithoutText}
 use Rattle.csv_records.specs.declared.encoding.Encoding.TheVariants.{Utf8}
 use Rattle.csv_records.specs.declared.error.DecodeError.TheVariants as decode
 use Rattle.csv_records.specs.declared.error.RecordsError.TheVariants as records
@@ -28,7 +29,7 @@ is_write_fault _ = false
 -- these can't be drawn so
 abbrev pub IsInputFault : Options → Text → CsvError → Type 0
 IsInputFault options input (Decode e) =
-    (e ≢ decode.OutOfMemory) × IsRefusedIn (encoding_of options.input.encoding input) input e
+    (e ≢ decode.OutOfMemory) × IsWithoutText options.input input e
 IsInputFault options input (Records e) =
     (e ≢ records.OutOfMemory) × (text : Text) × IsDecodedBy options.input input text
     × IsTextWithoutRecords options.input text e
@@ -38,9 +39,10 @@ IsInputFault options input (Columns e) =
     × IsColumnsRefusal e (content_of options found)
 IsInputFault options input _ = ⊥
 
--- an input that is to be UTF-8 is it
+-- an input that is to be UTF-8 is it, below the lines that are left out
 abbrev pub IsUtf8IfWanted : Options → Text → Type 0
-IsUtf8IfWanted options input = encoding_of options.input.encoding input ≡ Utf8 → IsUtf8 input
+IsUtf8IfWanted options input =
+    encoding_of options.input.encoding input ≡ Utf8 → IsUtf8 (below_lines options.input.skip input)
 
 -- what makes it a beginning of one: columns of its records can't be drawn so
 abbrev pub IsBeginningFault : Options → Text → CsvError → Type 0

@@ -22,7 +22,7 @@ use std::alloc::Global;
 /// An input without records has an empty output.
 ///
 /// All memory is asked for before the first write. Where the input can't be read, isn't in its
-/// encoding or has a quote that is never closed, columns can't be chosen so, or memory runs out,
+/// encoding, is no text or has a quote that is never closed, columns can't be chosen so, or memory runs out,
 /// nothing is written. Where the output can't be written, a beginning of it was.
 ///
 /// ```
@@ -92,7 +92,7 @@ pub fn output_of_input(alloc: Global, input: Vec<u8>, options: &Options) -> Resu
         RendersInput options.now input.items (string_bytes output)) }
     ensures refused { IfErr result (λ e. IsInputRefusal options.now input.items e) }
 {
-    let text = decoded(alloc, input, options.input.encoding)?;
+    let text = decoded(alloc, input, &options.input)?;
     // The other records are only counted.
     let most = most_drawn(&options.selection).unwrap_or(usize::MAX);
     let first = read_first_records(alloc, text.as_str(), &options.input, most)?;

@@ -13,10 +13,13 @@ use Rattle.csv_command.specs.Ending.{input_name, reading_reason, reason_for}
 use Rattle.csv_records.specs.Delimiter.{below_lines, delimited, delimiter_in}
 use Rattle.csv_tables.specs.Unbroken.{is_unbroken}
 use Rattle.csv_command.specs.Arguments.{delimiter_for, encoding_for}
+use Rattle.csv_records.specs.Foreign.{foreign_for}
+use Rattle.csv_records.specs.Input.{is_like_cp1252}
 use Rattle.csv_records.specs.declared.delimiter.Delimiter.{Delimiter}
 use Rattle.csv_records.specs.declared.delimiter.Delimiter.TheVariants.{Auto, Byte, NamedOrTab}
 use Rattle.csv_records.specs.declared.encoding.Encoding.TheVariants.{Cp1252, Utf16, Utf8}
 use Rattle.csv_records.specs.declared.error.DecodeError.TheVariants as decode
+use Rattle.csv_records.specs.declared.foreign.Foreign.TheVariants.{Binary, Gzip, Utf16 as UnmarkedUtf16, Zip}
 use Rattle.csv_tables.specs.declared.error.CsvError.TheVariants as err
 
 abbrev texts : List String → List Text
@@ -95,6 +98,29 @@ broken : list_any is_unbroken (texts ("n/a" ∷ "May 2" ∷ "1.2.3b" ∷ "123456
 unfolding chars lib.Utf8.encode ucd_category
 broken = refl
 
+-- ---- signs that an input is no text in UTF-8
+
+-- where no encoding is asked for: gzip, zip, NULs at every second byte, in either order, and other NULs
+foreign_inputs :
+    map (foreign_for None 0) ((0x1F ∷ 0x8B ∷ []) ∷ (0x50 ∷ 0x4B ∷ 3 ∷ 4 ∷ []) ∷ (0x61 ∷ 0 ∷ 0x2C ∷ 0 ∷ []) ∷ (0 ∷ 0x61 ∷ 0 ∷ 0x2C ∷ []) ∷ (0x61 ∷ 0x0A ∷ 0 ∷ []) ∷ (0 ∷ 0 ∷ 0 ∷ 0 ∷ []) ∷ [])
+    ≡ Some Gzip ∷ Some Zip ∷ Some UnmarkedUtf16 ∷ Some UnmarkedUtf16 ∷ Some (Binary 2) ∷ Some (Binary 1) ∷ []
+foreign_inputs = refl
+
+-- words that begin so, a mark of UTF-16, and an encoding that is asked for
+no_signs : map (foreign_for None 0) ((0x1F ∷ []) ∷ (0x50 ∷ 0x4B ∷ 0x2C ∷ 4 ∷ []) ∷ (0xFF ∷ 0xFE ∷ 0x61 ∷ 0 ∷ []) ∷ []) ≡ None ∷ None ∷ None ∷ []
+no_signs = refl
+
+asked_for : foreign_for (Some Utf8) 0 (0x61 ∷ 0 ∷ 0x2C ∷ 0 ∷ []) ≡ None
+asked_for = refl
+
+-- NULs in lines that are left out are none, and lines count from the input's front
+below_a_nul : map (λ (skip : ℕ). foreign_for None skip (0 ∷ 0x0A ∷ 0x61 ∷ 0x0A ∷ 0 ∷ [])) (0 ∷ 1 ∷ 2 ∷ 3 ∷ []) ≡ Some (Binary 1) ∷ Some (Binary 3) ∷ Some (Binary 3) ∷ None ∷ []
+below_a_nul = refl
+
+-- of control characters TAB, line feed, form feed and carriage return are text; five bytes of Windows-1252 are none
+like_cp1252 : map is_like_cp1252 ((0x61 ∷ 0xE4 ∷ 0x80 ∷ 9 ∷ 0x0A ∷ 0x0C ∷ 0x0D ∷ []) ∷ (0x1B ∷ []) ∷ (0x7F ∷ []) ∷ (0x81 ∷ []) ∷ (0x9D ∷ []) ∷ []) ≡ true ∷ false ∷ false ∷ false ∷ false ∷ []
+like_cp1252 = refl
+
 -- ---- messages
 
 names_of_inputs : map input_name (None ∷ Some (codes "a.csv") ∷ []) ≡ texts ("standard input" ∷ "a.csv" ∷ [])
@@ -104,6 +130,6 @@ names_of_inputs = refl
 reasons : map reading_reason (Some io.NotFound ∷ Some io.IsADirectory ∷ Some io.PermissionDenied ∷ Some io.TimedOut ∷ None ∷ []) ≡ texts ("no such file" ∷ "is a directory" ∷ "permission denied" ∷ "can't be read" ∷ "can't be read" ∷ [])
 reasons = refl
 
-hinted : map (λ encoding. reason_for encoding None (err.Decode (decode.NotUtf8 12))) (None ∷ Some Utf8 ∷ []) ≡ texts ("line 12 isn't UTF-8; try -e cp1252" ∷ "line 12 isn't UTF-8" ∷ [])
+hinted : map (λ encoding. reason_for encoding None (err.Decode (decode.NotUtf8 12 true))) (None ∷ Some Utf8 ∷ []) ≡ texts ("line 12 isn't UTF-8; try -e cp1252" ∷ "line 12 isn't UTF-8" ∷ [])
 unfolding digits
 hinted = refl

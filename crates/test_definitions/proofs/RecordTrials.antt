@@ -1,5 +1,5 @@
 -- What `csvtable` makes of fields and columns: numbers, control characters, Markdown, chosen columns, alignment. And what words ask for.
-use Rattle.std.proofs.Common.{◌≡◌, ℕ, Bool, true, false, List, [], ◌∷◌, ◌++◌, Option, Some, None, Ok, Err, codes, decimal, encode_utf8_all, fold, map, refl, arith, length}
+use Rattle.std.proofs.Common.{◌≡◌, ℕ, Bool, true, false, List, [], ◌∷◌, ◌++◌, Option, Some, None, Ok, Err, codes, decimal, encode_utf8_all, fold, map, refl, arith, length, take}
 use Prim.Native.String.{String}
 use Rattle.comfy_parts.proofs.Computing.{wrapping}
 use Rattle.comfy_parts.specs.Text.{Text, is_printable_ascii}
@@ -13,7 +13,7 @@ use Rattle.std.proofs.lemmas.Str.{is_utf8-from_IsUtf8}
 use Rattle.ucd_category.proofs.Computing.{ucd_category}
 use Rattle.csv.specs.Records.{AllText, field_at}
 use Rattle.csv_records.specs.Cleaning.{after_piece, pieces, start}
-use Rattle.csv_records.specs.Input.{line_breaks as line_breaks_of, line_of}
+use Rattle.csv_records.specs.Input.{line_breaks as line_breaks_of, line_number}
 use Rattle.csv_records.specs.declared.cleaning.CleanOptions.{CleanOptions}
 use Rattle.csv_tables.specs.Columns.{alignment_for, columns_with, position_named, positions_of_word, seen, is_number_column}
 use Rattle.csv_tables.specs.Columns.ColumnFault.{missing, none_left, two_sided}
@@ -193,8 +193,8 @@ read_back = refl
 breaks : line_breaks_of (0x61 ∷ 0x0D ∷ 0x0A ∷ 0x62 ∷ 0x0D ∷ 0x63 ∷ 0x0A ∷ 0x0D ∷ 0x64 ∷ []) ≡ 4
 breaks = refl
 
--- between a carriage return and a line feed a line has ended
-lines : map (line_of (0x0D ∷ 0x0A ∷ 0x61 ∷ [])) (0 ∷ 1 ∷ 2 ∷ 3 ∷ []) ≡ 1 ∷ 2 ∷ 2 ∷ 2 ∷ []
+-- between a carriage return and a line feed a line has ended, and lines above count
+lines : map (λ (at : ℕ). line_number 4 (take at (0x0D ∷ 0x0A ∷ 0x61 ∷ []))) (0 ∷ 1 ∷ 2 ∷ 3 ∷ []) ≡ 5 ∷ 6 ∷ 6 ∷ 6 ∷ []
 lines = refl
 
 -- ---- columns

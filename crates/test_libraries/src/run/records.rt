@@ -1,7 +1,9 @@
 //! The words of `csvtable`'s errors, delimiters that its words can't ask for, and encodings.
 
 use super::large::options;
-use csv_records::{DecodeError, Delimiter, Encoding, RecordsError, decoded, read_records};
+use csv_records::{
+    DecodeError, Delimiter, Encoding, InputOptions, RecordsError, decoded, read_records,
+};
 use csv_tables::{ColumnsError, CsvError, Options, table_of};
 use std::alloc::{Alloc, Global};
 use std::process::Abort;
@@ -15,7 +17,10 @@ fn assert_words(rt: &(impl Abort + Alloc<A = Global>), error: &CsvError, wanted:
 fn refusals_have_their_words(rt: HostRuntime) {
     assert_words(
         &rt,
-        &CsvError::Decode(DecodeError::NotUtf8(3)),
+        &CsvError::Decode(DecodeError::NotUtf8 {
+            line: 3,
+            may_be_cp1252: true,
+        }),
         "line 3 isn't UTF-8",
     );
     assert_words(
@@ -84,6 +89,13 @@ fn records_become_a_table(rt: HostRuntime) {
     );
 }
 
+// What reads an input in this encoding.
+fn encoded(alloc: Global, encoding: Option<Encoding>) -> InputOptions {
+    let mut input = options(alloc, None, false).input;
+    input.encoding = encoding;
+    input
+}
+
 fn assert_decoded<const N: usize>(
     rt: &(impl Abort + Alloc<A = Global>),
     bytes: [u8; N],
@@ -91,7 +103,7 @@ fn assert_decoded<const N: usize>(
     wanted: &str,
 ) {
     let input = Vec::from_array(rt.alloc(), bytes).expect(rt, "memory");
-    let text = decoded(rt.alloc(), input, encoding).expect(rt, "a text");
+    let text = decoded(rt.alloc(), input, &encoded(rt.alloc(), encoding)).expect(rt, "a text");
     assert!(rt; text.as_str() == wanted);
 }
 
@@ -110,6 +122,10 @@ fn inputs_are_decoded(rt: HostRuntime) {
     );
     assert_decoded(&rt, [0xC3, 0xA9], None, "é");
     let lone = Vec::from_array(rt.alloc(), [0x0A, 0x00, 0x3D, 0xD8]).expect(&rt, "memory");
-    let refused = decoded(rt.alloc(), lone, Some(Encoding::Utf16));
+    let refused = decoded(
+        rt.alloc(),
+        lone,
+        &encoded(rt.alloc(), Some(Encoding::Utf16)),
+    );
     assert!(rt; matches!(&refused, Err(DecodeError::NotUtf16(2))));
 }

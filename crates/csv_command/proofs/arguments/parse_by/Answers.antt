@@ -1,20 +1,20 @@
-use Rattle.std.proofs.Common.{◌≡◌, inl, inr, ◌∙◌, Err, sym, rules}
+use Rattle.std.proofs.Common.{inl, inr, ◌∙◌, sym}
 use Rattle.clap.specs.Words.{app_of, found_of}
 use Rattle.csv_command.proofs.ProgramLemmas.{csvtable_is_free, csvtable_is_simple, not_taken}
 use Rattle.csv_command.proofs.arguments.parse_by.Goals as goal
 
-pub returns-in_err-matches-clause-refused : goal.returns-in_err-matches-clause-refused
-returns-in_err-matches-clause-refused c =
-    let e = c.in_err-matches.field-0.0 in
-    let same : c.from_residual.result ≡ Err e = search rules in
-    rw same (λ other. inl (not_taken (app_of c.args.command.now) _ e c.requires c.in_err-matches.ensures.passes (c.in_err-matches.ensures.kinds (csvtable_is_free _ c.requires)) other))
+pub returns-in-Err-clause-refused : goal.returns-in-Err-clause-refused
+returns-in-Err-clause-refused c other =
+    let kind = c.explained.ensures other in
+    let kinds = c.in-Err.ensures.kinds (csvtable_is_free _ c.requires) in
+    rw kind (inl (not_taken (app_of c.args.command.now) _ c.in-Err.error c.requires c.in-Err.ensures.passes kinds (λ none. other (kind ∙ none))))
 
 pub returns-then-are_exclusive-clause-refused : goal.returns-then-are_exclusive-clause-refused
 returns-then-are_exclusive-clause-refused c no_memory =
     inr (
       record {
-        found = found_of c.in_ok-matches.matches;
-        are_found = record { app = app_of c.args.command.now; is_csvtable = c.requires; is_found = (c.in_ok-matches.ensures.ok.2 (csvtable_is_simple _ c.requires)).0 };
+        found = found_of c.in-Ok.matches;
+        are_found = record { app = app_of c.args.command.now; is_csvtable = c.requires; is_found = (c.in-Ok.ensures.ok.2 (csvtable_is_simple _ c.requires)).0 };
         in_vain = inl (sym c.are_exclusive.ensures ∙ c.if-are_exclusive.true);
       },
       c.refusal.ensures no_memory,
@@ -24,8 +24,8 @@ pub returns-clause-refused : goal.returns-clause-refused
 returns-clause-refused c no_memory =
     inr (
       record {
-        found = found_of c.in_ok-matches.matches;
-        are_found = record { app = app_of c.args.command.now; is_csvtable = c.requires; is_found = (c.in_ok-matches.ensures.ok.2 (csvtable_is_simple _ c.requires)).0 };
+        found = found_of c.in-Ok.matches;
+        are_found = record { app = app_of c.args.command.now; is_csvtable = c.requires; is_found = (c.in-Ok.ensures.ok.2 (csvtable_is_simple _ c.requires)).0 };
         in_vain = inr (sym c.wanted_delimiter.ensures ∙ c.in-None.is);
       },
       c.refusal-in-None.ensures no_memory,
@@ -34,8 +34,8 @@ returns-clause-refused c no_memory =
 pub returns-in-Some-clause-ok : goal.returns-in-Some-clause-ok
 returns-in-Some-clause-ok c =
     record {
-      found = found_of c.in_ok-matches.matches;
-      are_found = record { app = app_of c.args.command.now; is_csvtable = c.requires; is_found = (c.in_ok-matches.ensures.ok.2 (csvtable_is_simple _ c.requires)).0 };
+      found = found_of c.in-Ok.matches;
+      are_found = record { app = app_of c.args.command.now; is_csvtable = c.requires; is_found = (c.in-Ok.ensures.ok.2 (csvtable_is_simple _ c.requires)).0 };
       not_exclusive = sym c.are_exclusive.ensures ∙ c.if-are_exclusive.false;
       options = c.in_ok-invocation_of-in-Some.ensures.options;
       file = c.in_ok-invocation_of-in-Some.ensures.file;

@@ -1,6 +1,6 @@
 use Rattle.std.proofs.Common.{◌≡◌, ◌≢◌, ◌<◌, length, true, rules, string_bytes}
 use Rattle.csv_records.specs.Beginning.{EndsWithLine}
-use Rattle.csv_records.specs.Delimiter.{below_lines, shows_delimiter}
+use Rattle.csv_records.specs.Delimiter.{shows_delimiter}
 use Rattle.csv_records.specs.Encoding.{encoding_of}
 use Rattle.csv_records.specs.declared.encoding.Encoding.TheVariants.{Utf16}
 use Rattle.csv_records.specs.Reading.{IsDecodedBy}
@@ -14,13 +14,13 @@ returns-in-Ok-read_first_records c =
     let no_utf16 : encoding_of options.encoding c.whole_lines-lines.result.now ≢ Utf16 = search rules in
     let is_text : IsDecodedBy options c.whole_lines-lines.result.now text = search rules in
     let ends : EndsWithLine text = search rules in
-    let shows : shows_delimiter options.delimiter options.has_quotes (below_lines options.skip text) ≡ true = search rules in
+    let shows : shows_delimiter options.delimiter options.has_quotes text ≡ true = search rules in
     let more : c.args.most < length first.all = search rules in
     record {
       beginning = c.whole_lines-lines.result.now;
       behind = c.whole_lines-lines.ensures.0;
       parts = c.whole_lines-lines.ensures.1;
       records = first.all;
-      is_enough = record { no_utf16 = no_utf16; text = text; is_text = is_text; ends = ends; shows = shows; are_records = rw c.as_str-3.ensures.value at first.are; more = more };
+      is_enough = record { no_utf16 = no_utf16; text = text; is_text = is_text; ends = ends; shows = shows; are_records = rw c.as_str-2.ensures.value at first.are; more = more };
       are_first = first.records;
     }

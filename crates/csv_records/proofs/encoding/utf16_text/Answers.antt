@@ -12,13 +12,13 @@ loop-read-preserved c =
 pub returns-in-Err-clause-refused : goal.returns-in-Err-clause-refused
 returns-in-Err-clause-refused c =
     let steps = rw (c.in-Some.is, c.in-Err.is) at c.next.ensures.steps in
-    rw (c.not_utf16.ensures, c.as_str.ensures.value) (first_unpaired _ c.loop-read.read-iterator c.next.new.self _ c.loop-read.invariant c.in-Err.field-0 _ steps)
+    rw (c.not_utf16.ensures, c.as_str.ensures.value) (first_unpaired _ c.loop-read.read-iterator c.next.new.self _ c.loop-read.invariant c.args.skip c.in-Err.field-0 _ steps)
 
 pub returns-then-bytes-eq1-clause-refused : goal.returns-then-bytes-eq1-clause-refused
 returns-then-bytes-eq1-clause-refused c =
     let steps = rw c.in-None.is at c.next.ensures.steps in
     let odd = rw c.without_mark-bytes.ensures at c.if-bytes-eq1.true in
-    rw (c.not_utf16-then-bytes-eq1.ensures, c.as_str-then-bytes-eq1.ensures.value) (odd_behind _ c.loop-read.read-iterator c.next.new.self _ c.loop-read.invariant steps _ odd)
+    rw (c.not_utf16-then-bytes-eq1.ensures, c.as_str-then-bytes-eq1.ensures.value) (odd_behind _ c.loop-read.read-iterator c.next.new.self _ c.loop-read.invariant c.args.skip steps _ odd)
 
 pub returns-clause-text : goal.returns-clause-text
 returns-clause-text c =

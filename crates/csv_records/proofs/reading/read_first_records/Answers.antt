@@ -3,7 +3,7 @@ use Rattle.std.proofs.Math.Seq.{take-append-add}
 use Rattle.std.proofs.lemmas.List.{length-drop, take-append-drop}
 use Rattle.csv.specs.Reading.{strip_bom}
 use Rattle.comfy_parts.specs.Text.{Text}
-use Rattle.csv_records.specs.Delimiter.{EndsIn, below_lines, delimited}
+use Rattle.csv_records.specs.Delimiter.{EndsIn, delimited}
 use Rattle.csv_records.specs.Quotes.{IsUnclosed}
 use Rattle.csv_records.proofs.reading.read_first_records.Goals as goal
 
@@ -13,10 +13,8 @@ cut front rest at within =
     let place : length (front ++ rest) - (length rest - at) ≡ length front + at = omega (arith, length-append front rest, within) in
     rw place (rw (take-append-add front rest at) (ap (λ (t : Text). front ++ t) (sym (take-append-drop at rest)) ∙ sym (append_assoc front (take at rest) (drop at rest))))
 
-cut_end : (text below rest : Text) (at : ℕ) → at ≤ length rest → EndsIn text below → EndsIn below rest → text ≡ take (length text - (length rest - at)) text ++ drop at rest
-cut_end text below rest at within (front, is_text) (more, is_below) =
-    let whole : text ≡ (front ++ more) ++ rest = is_text ∙ ap (λ (t : Text). front ++ t) is_below ∙ sym (append_assoc front more rest) in
-    rw whole (cut (front ++ more) rest at within)
+cut_end : (text rest : Text) (at : ℕ) → at ≤ length rest → EndsIn text rest → text ≡ take (length text - (length rest - at)) text ++ drop at rest
+cut_end text rest at within (front, is_text) = rw is_text (cut front rest at within)
 
 -- a quote stands within the bytes
 within : (delimiter : ℕ) (text rest : Text) (at : ℕ) → IsUnclosed delimiter text (drop at rest) → at ≤ length rest
@@ -27,16 +25,13 @@ returns-in-Some-clause-refused c =
     let rest = c.in_ok-delimiter.rest.now in
     let at = c.in-Some.at in
     let is : IsUnclosed c.in_ok-delimiter.delimiter (strip_bom rest) (drop at rest) = c.in-Some.ensures.some in
-    let below : c.below_lines-below.result.now ≡ below_lines c.args.options.now.skip c.args.text.now = c.below_lines-below.ensures.below in
-    let byte : c.in_ok-delimiter.delimiter ≡ (delimited c.args.options.now.delimiter c.args.options.now.has_quotes (below_lines c.args.options.now.skip c.args.text.now)).0 =
-    c.in_ok-delimiter.ensures.byte ∙ ap (λ (t : Text). (delimited c.args.options.now.delimiter c.args.options.now.has_quotes t).0) below in
-    let records : rest ≡ (delimited c.args.options.now.delimiter c.args.options.now.has_quotes (below_lines c.args.options.now.skip c.args.text.now)).1 =
-    c.in_ok-delimiter.ensures.records ∙ ap (λ (t : Text). (delimited c.args.options.now.delimiter c.args.options.now.has_quotes t).1) below in
+    let byte : c.in_ok-delimiter.delimiter ≡ (delimited c.args.options.now.delimiter c.args.options.now.has_quotes c.args.text.now).0 = c.in_ok-delimiter.ensures.byte in
+    let records : rest ≡ (delimited c.args.options.now.delimiter c.args.options.now.has_quotes c.args.text.now).1 = c.in_ok-delimiter.ensures.records in
     record {
       has_quotes = c.if-options.true;
       before = take (length c.args.text.now - (length rest - at)) c.args.text.now;
       from_quote = drop at rest;
-      parts = cut_end c.args.text.now c.below_lines-below.result.now rest at (within _ _ rest at is) c.below_lines-below.ensures.end c.in_ok-delimiter.ensures.end;
-      is_unclosed = subst (λ (d : ℕ). IsUnclosed d (strip_bom (delimited c.args.options.now.delimiter c.args.options.now.has_quotes (below_lines c.args.options.now.skip c.args.text.now)).1) (drop at rest)) byte (subst (λ (t : Text). IsUnclosed c.in_ok-delimiter.delimiter (strip_bom t) (drop at rest)) records is);
-      numbered = c.line_before.ensures;
+      parts = cut_end c.args.text.now rest at (within _ _ rest at is) c.in_ok-delimiter.ensures.end;
+      is_unclosed = subst (λ (d : ℕ). IsUnclosed d (strip_bom (delimited c.args.options.now.delimiter c.args.options.now.has_quotes c.args.text.now).1) (drop at rest)) byte (subst (λ (t : Text). IsUnclosed c.in_ok-delimiter.delimiter (strip_bom t) (drop at rest)) records is);
+      numbered = c.line_before-line.ensures;
     }

@@ -1,0 +1,173 @@
+//! What is said of options that exclude each other, and of words that are no numbers.
+
+ghost use Rattle.std.specs.Prelude.{◌≡◌, IfOk, Some, map, option_map, string_bytes};
+ghost use Rattle.std.specs.List.{find};
+ghost use Rattle.clap.specs.Words.{found_of};
+ghost use Rattle.csv_command.specs.Arguments.{are_both_given, is_given};
+ghost use Rattle.csv_command.specs.Mistakes.{allowed_numbers, clash_reason, first_beside_markdown, first_clash, greatest_behind, is_number_to, markdown_option, number_reason, reason_behind, shown_option, wrong_number};
+
+use crate::arguments::{EXCLUSIVE_OPTIONS, NOT_BESIDE_MARKDOWN, is_given};
+use clap::parser::ArgMatches;
+use std::alloc::{AllocError, Global};
+
+/// What is said of the first two options that exclude each other.
+pub(crate) fn reason_of_clash<'a>(
+    alloc: Global,
+    matches: &ArgMatches<'a>,
+) -> Result<String, AllocError>
+    ensures { IfOk result (λ text. string_bytes text
+        ≡ clash_reason (first_clash (found_of matches.now))) }
+{
+    let (one, other) = first_clash(matches);
+    let mut text = shown_option(alloc, one)?;
+    text.push_str(" can't be used with ")?;
+    text.push_str(shown_option(alloc, other)?.as_str())?;
+    Ok(text)
+}
+
+// An option on a command line: by its name, or by its letter where it has no name.
+fn shown_option(alloc: Global, id: &str) -> Result<String, AllocError>
+    ensures { IfOk result (λ text. string_bytes text ≡ shown_option id.now) }
+{
+    match id {
+        "tabs" => String::from_str(alloc, "-t"),
+        "all-expanded" => String::from_str(alloc, "-x"),
+        name => format!(in alloc; "--{name}"),
+    }
+}
+
+// The first two that exclude each other, where some do.
+fn first_clash<'a>(matches: &ArgMatches<'a>) -> (&'static str, &'static str)
+    ensures { (result.0.now, result.1.now) ≡ first_clash (found_of matches.now) }
+{
+    match first_pair_given(matches, &EXCLUSIVE_OPTIONS) {
+        Some(pair) => pair,
+        None => (markdown_option(matches), first_beside_markdown(matches)),
+    }
+}
+
+// The first that a table for Markdown excludes.
+fn first_beside_markdown<'a>(matches: &ArgMatches<'a>) -> &'static str
+    ensures { result.now ≡ first_beside_markdown (found_of matches.now) }
+{
+    match first_given(matches, &NOT_BESIDE_MARKDOWN) {
+        Some(id) => id,
+        None => "",
+    }
+}
+
+fn first_pair_given<'a>(
+    matches: &ArgMatches<'a>,
+    pairs: &[(&'static str, &'static str)],
+) -> Option<(&'static str, &'static str)>
+    ensures { option_map (λ pair. (pair.0.now, pair.1.now)) result
+        ≡ find (are_both_given (found_of matches.now))
+        (map (λ pair. (pair.0.now, pair.1.now)) pairs.now) }
+{
+    for (one, other) in pairs {
+        if is_given(matches, one) && is_given(matches, other) {
+            return Some((*one, *other));
+        }
+    }
+    None
+}
+
+fn first_given<'a>(matches: &ArgMatches<'a>, ids: &[&'static str]) -> Option<&'static str>
+    ensures { option_map (λ id. id.now) result
+        ≡ find (is_given (found_of matches.now)) (map (λ id. id.now) ids.now) }
+{
+    for id in ids {
+        if is_given(matches, id) {
+            return Some(*id);
+        }
+    }
+    None
+}
+
+// What asks for a table for Markdown.
+fn markdown_option<'a>(matches: &ArgMatches<'a>) -> &'static str
+    ensures { result.now ≡ markdown_option (found_of matches.now) }
+{
+    if is_given(matches, "markdown") {
+        "markdown"
+    } else {
+        "style markdown"
+    }
+}
+
+/// What is said of the first word that is to be a number and is none.
+pub(crate) fn reason_of_number(
+    alloc: Global,
+    arguments: &[&str],
+) -> Result<Option<String>, AllocError>
+    ensures { IfOk result (λ reason. option_map string_bytes reason
+        ≡ wrong_number (map (λ w. w.now) arguments.now)) }
+{
+    let mut rest = arguments;
+    while let [option, word, ..] = rest {
+        if *option == "--" {
+            return Ok(None);
+        }
+        if let Some(reason) = reason_behind(alloc, option, word)? {
+            return Ok(Some(reason));
+        }
+        rest = &rest[1..];
+    }
+    Ok(None)
+}
+
+// What is said of a word behind an option, where it's to be a number and is none.
+fn reason_behind(alloc: Global, option: &str, word: &str) -> Result<Option<String>, AllocError>
+    ensures { IfOk result (λ reason. option_map string_bytes reason
+        ≡ reason_behind option.now word.now) }
+{
+    match greatest_behind(option) {
+        Some(greatest) if !is_number_to(greatest, word) => {
+            Ok(Some(number_reason(alloc, option, greatest, word)?))
+        }
+        _ => Ok(None),
+    }
+}
+
+// The greatest number that may stand behind an option.
+fn greatest_behind(option: &str) -> Option<usize>
+    ensures { result ≡ greatest_behind option.now }
+{
+    match option {
+        "-w" | "--width" => Some(65535),
+        "-m" | "--max-height" | "--skip" | "--limit" => Some(usize::MAX),
+        _ => None,
+    }
+}
+
+// Whether a word is a number up to this one.
+fn is_number_to(greatest: usize, word: &str) -> bool
+    ensures { result ≡ is_number_to greatest word.now }
+{
+    match word.parse::<usize>() {
+        Ok(number) => number <= greatest,
+        Err(_) => false,
+    }
+}
+
+fn number_reason(
+    alloc: Global,
+    option: &str,
+    greatest: usize,
+    word: &str,
+) -> Result<String, AllocError>
+    ensures { IfOk result (λ text. string_bytes text
+        ≡ number_reason option.now greatest word.now) }
+{
+    let mut text = String::from_str(alloc, option)?;
+    text.push_str(allowed_numbers(alloc, greatest)?.as_str())?;
+    text.push_str(word)?;
+    text.push_str("'")?;
+    Ok(text)
+}
+
+fn allowed_numbers(alloc: Global, greatest: usize) -> Result<String, AllocError>
+    ensures { IfOk result (λ text. string_bytes text ≡ allowed_numbers greatest) }
+{
+    format!(in alloc; " takes a number from 0 to {greatest}, not '")
+}

@@ -1,0 +1,100 @@
+//! Signs that an input is another thing than a text in UTF-8.
+
+ghost use Rattle.std.specs.Prelude.{◌≡◌, ◌==◌};
+ghost use Rattle.std.specs.List.{position};
+ghost use Rattle.csv_records.specs.Foreign.{foreign_by_nuls, foreign_for, foreign_in, is_gzip, is_like_utf16, is_zip, nul_line};
+
+use crate::delimiter::below_lines;
+use crate::encoding::{Encoding, is_marked};
+use crate::text::line_number;
+use thiserror::Error;
+
+/// What an input is that is no text in UTF-8, as its bytes show.
+#[derive(Clone, Copy, Debug, PartialEq, Eq, Error)]
+pub enum Foreign {
+    /// A file of gzip: it begins with the bytes 0x1F and 0x8B.
+    #[error("compressed by gzip")]
+    Gzip,
+    /// A zip archive, as many spreadsheets are: it begins with `PK` and the bytes 3 and 4.
+    #[error("a zip archive")]
+    Zip,
+    /// UTF-16 without a byte-order mark: of the first four bytes every second one is NUL, and no
+    /// other.
+    #[error("UTF-16 without a mark")]
+    Utf16,
+    /// No text: the first NUL byte stands in this line.
+    #[error("line {0} has a NUL byte")]
+    Binary(u64),
+}
+
+/// What an input is seen to be, where no encoding is asked for and no mark says that it is UTF-16.
+/// NULs count below the lines that are left out.
+pub(crate) fn foreign_for(encoding: Option<Encoding>, skip: usize, input: &[u8]) -> Option<Foreign>
+    ensures { result ≡ foreign_for encoding skip input.now }
+{
+    match encoding {
+        Some(_) => None,
+        None if is_marked(input) => None,
+        None => foreign_in(skip, input),
+    }
+}
+
+// What an input is by its first bytes, or by its NULs.
+fn foreign_in(skip: usize, input: &[u8]) -> Option<Foreign>
+    ensures { result ≡ foreign_in skip input.now }
+{
+    if is_gzip(input) {
+        Some(Foreign::Gzip)
+    } else if is_zip(input) {
+        Some(Foreign::Zip)
+    } else {
+        foreign_by_nuls(skip, below_lines(input, skip))
+    }
+}
+
+fn is_gzip(input: &[u8]) -> bool
+    ensures { result ≡ is_gzip input.now }
+{
+    matches!(input, [0x1F, 0x8B, ..])
+}
+
+fn is_zip(input: &[u8]) -> bool
+    ensures { result ≡ is_zip input.now }
+{
+    matches!(input, [b'P', b'K', 3, 4, ..])
+}
+
+// What bytes below so many lines are by their NULs.
+fn foreign_by_nuls(above: usize, bytes: &[u8]) -> Option<Foreign>
+    ensures { result ≡ foreign_by_nuls above bytes.now }
+{
+    if is_like_utf16(bytes) {
+        return Some(Foreign::Utf16);
+    }
+    nul_line(above, bytes).map(Foreign::Binary)
+}
+
+// Whether of the first four bytes every second one is NUL, and no other.
+fn is_like_utf16(bytes: &[u8]) -> bool
+    ensures { result ≡ is_like_utf16 bytes.now }
+{
+    matches!(
+        bytes,
+        [1..=255, 0, 1..=255, 0, ..] | [0, 1..=255, 0, 1..=255, ..]
+    )
+}
+
+// The line of the first NUL.
+fn nul_line(above: usize, bytes: &[u8]) -> Option<u64>
+    ensures { result ≡ nul_line above bytes.now }
+{
+    let at = first_nul(bytes)?;
+    Some(line_number(above, &bytes[..at]))
+}
+
+// The place of the first NUL.
+fn first_nul(bytes: &[u8]) -> Option<usize>
+    ensures { result ≡ position (λ b. b == 0) bytes.now }
+{
+    bytes.iter().position(|byte| *byte == 0)
+}
