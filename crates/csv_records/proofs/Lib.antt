@@ -1,3 +1,4 @@
+pub mod BeginningLemmas
 pub mod CleaningLemmas
 pub mod ControlLemmas
 pub mod DelimiterLemmas

@@ -3,7 +3,7 @@ use Rattle.std.specs.Prelude.{ℕ, ◌≡◌, ◌≢◌, ◌<◌, true, List, []
 use Rattle.comfy_parts.specs.Text.{Text}
 use Rattle.csv_records.specs.Delimiter.{shows_delimiter}
 use Rattle.csv_records.specs.Encoding.{encoding_of}
-use Rattle.csv_records.specs.Reading.{AreRecordsIn, IsDecodedBy}
+use Rattle.csv_records.specs.Reading.{AreRecordsFor, AreRecordsIn, IsDecodedBy}
 use Rattle.csv_records.specs.declared.encoding.Encoding.TheVariants.{Utf16}
 use Rattle.csv_records.specs.declared.options.InputOptions.{InputOptions}
 
@@ -33,3 +33,10 @@ pub record AreFirstByBeginning (options : InputOptions) (most : ℕ) (read : Tex
   pub records : List (List Text)
   pub is_enough : IsEnough options most beginning records
   pub are_first : first ≡ take most records
+
+-- the records of a beginning that is enough are the first ones of the whole input
+abbrev pub FirstRecordsStay : InputOptions → ℕ → Text → Text → List (List Text)
+    → List (List Text) → Type 0
+FirstRecordsStay options most beginning behind records all =
+    IsEnough options most beginning records → AreRecordsFor options (beginning ++ behind) all
+    → (more : List (List Text)) × (all ≡ records ++ more)

@@ -1,5 +1,5 @@
 -- What stands between the fields of a text, and where its records begin.
-use Rattle.std.specs.Prelude.{ℕ, zero, suc, ◌≡◌, ◌≢◌, ◌<◌, ◌==◌, ◌&&◌, ◌||◌, nat_lt, Bool, true, false, List, [], ◌∷◌, ◌++◌, Option, Some, None, bytes_eq, codes, drop, is_some, length, map, option_and_then, option_map, take, unwrap_or, if◌then◌else◌}
+use Rattle.std.specs.Prelude.{ℕ, zero, suc, ◌≡◌, ◌≢◌, ◌<◌, ◌==◌, ◌&&◌, ◌||◌, nat_lt, not, Bool, true, false, List, [], ◌∷◌, ◌++◌, Option, Some, None, bytes_eq, codes, drop, is_some, length, map, option_and_then, option_map, take, unwrap_or, if◌then◌else◌}
 use Rattle.std.specs.Char.{to_ascii_lowercase}
 use Rattle.std.specs.List.{find, list_all, position_or_len}
 use Rattle.comfy_parts.specs.Text.{Text}
@@ -123,10 +123,10 @@ IsAsciiUnlessAsked (Byte b) delimiter = Unit {0}
 IsAsciiUnlessAsked Auto delimiter = delimiter < 128
 IsAsciiUnlessAsked NamedOrTab delimiter = delimiter < 128
 
--- a text shows what stands between fields, however it goes on: a byte is asked for, or its first
--- line names one, or each that is tried gives it so many records
+-- a text shows what stands between fields, however it goes on: a byte is asked for, which is no line
+-- feed, or its first line names one, or each that is tried gives it so many records
 abbrev pub shows_delimiter : Delimiter → Bool → Text → Bool
-shows_delimiter (Byte b) has_quotes text = true
+shows_delimiter (Byte b) has_quotes text = not (b == 0x0A)
 shows_delimiter Auto has_quotes text =
     is_some (named_delimiter text) || list_all (has_first_records has_quotes text) tried_delimiters
 shows_delimiter NamedOrTab has_quotes text = true

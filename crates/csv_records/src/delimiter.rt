@@ -55,8 +55,8 @@ pub(crate) fn delimited<'a>(
 }
 
 /// Whether a text whose lines are whole shows what stands between fields, however it goes on: a
-/// byte is asked for, or its first line names one, or each that is tried gives it more records than
-/// are looked at.
+/// byte is asked for, which is no line feed, or its first line names one, or each that is tried
+/// gives it more records than are looked at.
 pub(crate) fn shows_delimiter(
     alloc: Global,
     text: &str,
@@ -69,7 +69,8 @@ pub(crate) fn shows_delimiter(
         Delimiter::Auto if named_delimiter(text).is_none() => {
             each_has_first_records(alloc, text, has_quotes)
         }
-        _ => Ok(true),
+        Delimiter::Byte(byte) => Ok(byte != b'\n'),
+        Delimiter::Auto | Delimiter::NamedOrTab => Ok(true),
     }
 }
 

@@ -3,6 +3,7 @@
 
 ghost use Rattle.std.specs.Prelude.{Bool, List, ℕ, ◌≡◌};
 ghost use Rattle.comfy_parts.specs.Text.{Text};
+ghost use Rattle.csv_records.specs.Beginning.{FirstRecordsStay};
 ghost use Rattle.csv_records.specs.Cleaning.{HoldsNoControls, IsCleanedOnce};
 ghost use Rattle.csv_records.specs.Delimiter.{LeavesOutLines};
 ghost use Rattle.csv_records.specs.Encoding.{IsItsOwnText, IsReadBack as IsUtf16ReadBack};
@@ -24,6 +25,13 @@ pub fn records_of_texts_are_texts()
 pub fn records_are_one()
     ensures { (options : InputOptions) (input : Text) (records others : List (List Text))
         → RecordsAreOne options input records others }
+{}
+
+/// Where a beginning of an input is enough, its records are the first ones of the whole input.
+pub fn first_records_stay()
+    ensures { (options : InputOptions) (most : ℕ) (beginning behind : Text)
+        (records all : List (List Text))
+        → FirstRecordsStay options most beginning behind records all }
 {}
 
 /// At most one quote of a text opens a field that the text's end doesn't close.

@@ -1,0 +1,546 @@
+-- The records of a beginning that is enough are the first records of the whole input.
+use Rattle.std.proofs.Common.{◌≡◌, ◌≢◌, ◌==◌, ◌⊎◌, inl, inr, ◌+◌, ◌&&◌, ◌||◌, not, ℕ, zero, suc, Bool, true, false, List, [], ◌∷◌, ◌++◌, Option, Some, None, drop, codes, eqb-true, fold, map, nat_lt, option_and_then, is_some, option_map, unwrap_or, length, take, refl, sym, ap, ap₂, ◌∙◌, subst, arith, append_assoc}
+use Rattle.std.specs.Char.{encode_utf8, to_ascii_lowercase}
+use Rattle.std.specs.Prelude.{bytes_eq, if◌then◌else◌}
+use Rattle.std.proofs.lemmas.Bool.Decides.{nat_tests}
+use Rattle.std.proofs.lemmas.Bool.{and_parts, or_parts}
+use Rattle.std.specs.List.{list_all}
+use Rattle.std.specs.Str.{encode_utf8_all}
+use Rattle.std.proofs.lemmas.List.{map-append}
+use Rattle.std.proofs.lemmas.List.Sums.{fold-append}
+use Rattle.comfy_parts.specs.Text.{Text}
+use Rattle.csv.specs.Machine.{Read, ends_at_end, field_after, fields_after, in_field, is_end, next_record, start_record, step}
+use Rattle.csv.specs.Reading.{AreRecords, Reached, is_bom, records_from, records_next, strip_bom}
+use Rattle.csv.specs.declared.parser.Action.{Action}
+use Rattle.csv.specs.declared.parser.Action.TheVariants as act
+use Rattle.csv.specs.declared.parser.Config.{Config}
+use Rattle.csv.specs.declared.parser.State.{State}
+use Rattle.csv.specs.declared.parser.State.TheVariants as st
+use Rattle.csv_records.specs.Beginning.{EndsWithLine, FirstRecordsStay}
+use Rattle.csv_records.specs.Delimiter.{are_even, below_line, below_lines, delimited, delimiter_in, only_ascii, end_len, ends_line, first_line, found_delimiter, has_first_records, line_len, named_delimiter, parts_evenly, shows_delimiter, tried_delimiters}
+use Rattle.csv_records.specs.Encoding.{IsDecoded, cp1252_character, cp1252_text, encoding_of}
+use Rattle.csv_records.specs.Input.{config_for}
+use Rattle.csv_records.specs.Quotes.{state_after}
+use Rattle.csv_records.specs.declared.delimiter.Delimiter.{Delimiter}
+use Rattle.csv_records.specs.declared.delimiter.Delimiter.TheVariants.{Auto, Byte, NamedOrTab}
+use Rattle.csv_records.specs.declared.encoding.Encoding.{Encoding}
+use Rattle.csv_records.specs.declared.encoding.Encoding.TheVariants.{Cp1252, Utf16, Utf8}
+use Rattle.csv_records.specs.declared.options.InputOptions.{InputOptions}
+
+-- ---- one record
+
+-- the state after a text
+abbrev run : Config → State → Text → State
+run cfg s text = fold (λ (state : State) (b : ℕ). (step cfg state b).0) s text
+
+module _ (cfg : Config) (rest : Text) where
+  -- a record of a text ends where the text ends, or before: then it is the same where more follows
+  data Ends (s : State) (fields : List Text) (field : Text) (text : Text) (p : Read) : Type 0 where
+    at_end : ends_at_end (run cfg s text) ≡ true → p.1 ≡ st.StartRecord → p.2 ≡ [] → Ends s fields field text p
+    before : next_record cfg s fields field (text ++ rest) ≡ Some (p.0, p.1, p.2 ++ rest) → run cfg s text ≡ run cfg p.1 p.2 → Ends s fields field text p
+
+  one_record : (text : Text) (s : State) (fields : List Text) (field : Text) (p : Read) → next_record cfg s fields field text ≡ Some p → Ends s fields field text p
+  unfolding next_record
+  one_record [] s fields field p is = by_end (ends_at_end s) refl is
+    where
+      by_end : (b : Bool) → ends_at_end s ≡ b → (if b then Some (fields ++ (field ∷ []), st.StartRecord, []) else None) ≡ Some p → Ends s fields field [] p
+      by_end true ends is = at_end ends (cc is) (cc is)
+      by_end false ends is = absurd (cc is)
+  one_record (c ∷ text) s fields field p is = by_end (one_record text (step cfg s c).0 (fields_after (step cfg s c).1 fields field) (field_after (step cfg s c).1 c field) p) (is_end (step cfg s c).1) refl is
+    where
+      next_ends : Type 0
+      next_ends = Ends (step cfg s c).0 (fields_after (step cfg s c).1 fields field) (field_after (step cfg s c).1 c field) text p
+
+      on : is_end (step cfg s c).1 ≡ false → next_ends → Ends s fields field (c ∷ text) p
+      on ends (at_end unended start gone) = at_end unended start gone
+      on ends (before next state) = before (rw ends next) state
+
+      by_end : (next_record cfg (step cfg s c).0 (fields_after (step cfg s c).1 fields field) (field_after (step cfg s c).1 c field) text ≡ Some p → next_ends) → (b : Bool) → is_end (step cfg s c).1 ≡ b
+          → (if b then Some (fields_after (step cfg s c).1 fields field, (step cfg s c).0, text) else next_record cfg (step cfg s c).0 (fields_after (step cfg s c).1 fields field) (field_after (step cfg s c).1 c field) text) ≡ Some p
+          → Ends s fields field (c ∷ text) p
+      by_end more true ends is =
+          let own : (fields_after (step cfg s c).1 fields field, (step cfg s c).0, text) ≡ p = cc is in
+          subst (Ends s fields field (c ∷ text)) own (before (rw ends refl) refl)
+      by_end more false ends is = on ends (more is)
+
+  -- all records of a text that ends between records, and of one that goes on
+  all_records : (s : State) (text : Text) (records all : List (List Text)) → run cfg s text ≡ st.StartRecord → AreRecords cfg s text records → AreRecords cfg s (text ++ rest) all → (more : List (List Text)) × (all ≡ records ++ more)
+  unfolding Reached
+  all_records s text [] all ends are known = (all, refl)
+  all_records s text (r ∷ records) all ends (s2, ys, (p, is, at, reached), none) known =
+      by_end (λ others end_of more. all_records p.1 p.2 records others end_of (s2, ys, reached, none) more) (one_record text s [] [] p is)
+    where
+      Later : Type 0
+      Later = (others : List (List Text)) → run cfg p.1 p.2 ≡ st.StartRecord → AreRecords cfg p.1 (p.2 ++ rest) others → (more : List (List Text)) × (others ≡ records ++ more)
+
+      by_all : Later → (all : List (List Text)) → next_record cfg s [] [] (text ++ rest) ≡ Some (p.0, p.1, p.2 ++ rest) → run cfg s text ≡ run cfg p.1 p.2 → AreRecords cfg s (text ++ rest) all
+          → (more : List (List Text)) × (all ≡ (r ∷ records) ++ more)
+      by_all later [] next state (end, left, (same, whole), gone) = absurd (let here : next_record cfg s [] [] (text ++ rest) ≡ None = ap₂ (λ (t : State) (x : Text). next_record cfg t [] [] x) same whole ∙ gone in cc (here, next))
+      by_all later (q ∷ all) next state (end, left, (found, is_found, at_found, on), gone) =
+          let same : found ≡ (p.0, p.1, p.2 ++ rest) = cc (is_found, next) in
+          let others = later all (sym state ∙ ends) (subst (λ (f : Read). AreRecords cfg f.1 f.2 all) same (end, left, on, gone)) in
+          (others.0, ap₂ (λ (x : List Text) (xs : List (List Text)). x ∷ xs) (at_found ∙ ap (λ (f : Read). f.0) same ∙ sym at) others.1)
+
+      by_end : Later → Ends s [] [] text p → (more : List (List Text)) × (all ≡ (r ∷ records) ++ more)
+      by_end later (at_end unended start gone) = absurd (let closed : ends_at_end st.StartRecord ≡ true = ap ends_at_end (sym ends) ∙ unended in cc closed)
+      by_end later (before next state) = by_all later all next state known
+
+  -- the first records of a text that has one more
+  same_first : (n : ℕ) (s : State) (text : Text) → length (records_from cfg (suc n) s text) ≡ suc n → records_from cfg n s (text ++ rest) ≡ records_from cfg n s text
+  unfolding records_from next_record
+  same_first zero s text is = refl
+  same_first (suc n) s text is = by_next (same_first n) (next_record cfg s [] [] text) refl is
+    where
+      by_end : ((t : State) (more : Text) → length (records_from cfg (suc n) t more) ≡ suc n → records_from cfg n t (more ++ rest) ≡ records_from cfg n t more) → (p : Read) → next_record cfg s [] [] text ≡ Some p → length (records_from cfg (suc n) p.1 p.2) ≡ suc n → Ends s [] [] text p
+          → records_next (records_from cfg n) (next_record cfg s [] [] (text ++ rest)) ≡ records_next (records_from cfg n) (next_record cfg s [] [] text)
+      by_end later p found enough (at_end unended start gone) = absurd (let short : length (records_from cfg (suc n) st.StartRecord []) ≡ suc n = rw (start, gone) at enough in omega (arith, short))
+      by_end later p found enough (before next state) = rw (next, found) (ap (λ (rs : List (List Text)). p.0 ∷ rs) (later p.1 p.2 enough))
+
+      by_next : ((t : State) (more : Text) → length (records_from cfg (suc n) t more) ≡ suc n → records_from cfg n t (more ++ rest) ≡ records_from cfg n t more) → (next : Option Read) → next_record cfg s [] [] text ≡ next → length (records_next (records_from cfg (suc n)) (next_record cfg s [] [] text)) ≡ suc (suc n)
+          → records_next (records_from cfg n) (next_record cfg s [] [] (text ++ rest)) ≡ records_next (records_from cfg n) (next_record cfg s [] [] text)
+      by_next later None found enough = absurd (let short : length (nothing) ≡ suc (suc n) = rw found at enough in omega (arith, short))
+        where
+          nothing : List (List Text)
+          nothing = []
+      by_next later (Some p) found enough =
+          let whole : length (p.0 ∷ records_from cfg (suc n) p.1 p.2) ≡ suc (suc n) = rw found at enough in
+          by_end later p found (omega (arith, whole)) (one_record text s [] [] p found)
+
+-- ---- the state at a line feed
+
+module _ (d : ℕ) (other : (0x0A == d) ≡ false) where
+  after_feed : (q : Bool) (s : State) → ((step (config_for d q) s 0x0A).0 ≡ st.StartRecord) ⊎ ((step (config_for d q) s 0x0A).0 ≡ st.InQuoted)
+  after_feed q st.StartRecord = inl refl
+  after_feed true st.StartField = inl (rw other refl)
+  after_feed false st.StartField = inl (rw other refl)
+  after_feed q st.InField = inl (rw other refl)
+  after_feed true st.InQuoted = inr refl
+  after_feed false st.InQuoted = inr refl
+  after_feed q st.InEscape = inr refl
+  after_feed true st.AfterQuote = inl (rw other refl)
+  after_feed false st.AfterQuote = inl (rw other refl)
+  after_feed q st.InComment = inl refl
+  after_feed q st.AfterCr = inl refl
+
+  state_at_end : (q : Bool) (text : Text) → EndsWithLine text → run (config_for d q) st.StartRecord text ≢ st.InQuoted → run (config_for d q) st.StartRecord text ≡ st.StartRecord
+  state_at_end q text (front, is) outside = by_state (after_feed q (run (config_for d q) st.StartRecord front))
+    where
+      cfg : Config
+      cfg = config_for d q
+
+      last : run cfg st.StartRecord text ≡ (step cfg (run cfg st.StartRecord front) 0x0A).0
+      last = ap (run cfg st.StartRecord) is ∙ fold-append (λ (state : State) (b : ℕ). (step cfg state b).0) st.StartRecord front (0x0A ∷ [])
+
+      by_state : ((step cfg (run cfg st.StartRecord front) 0x0A).0 ≡ st.StartRecord) ⊎ ((step cfg (run cfg st.StartRecord front) 0x0A).0 ≡ st.InQuoted) → run cfg st.StartRecord text ≡ st.StartRecord
+      by_state (inl start) = last ∙ start
+      by_state (inr quoted) = absurd (outside (last ∙ quoted))
+
+-- without quotes none is ever entered
+abbrev is_outer : State → Bool
+is_outer st.StartRecord = true
+is_outer st.StartField = true
+is_outer st.InField = true
+is_outer st.AfterCr = true
+is_outer _ = false
+
+abbrev stays_outer : State × Action → Bool
+stays_outer after = is_outer after.0
+
+module _ (d : ℕ) where
+  outer_field : (c : ℕ) → stays_outer (in_field (config_for d false) c) ≡ true
+  outer_field c = by_tests (c == d) ((c == 13) || (c == 10)) (c == 13)
+    where
+      by_tests : (x y z : Bool) → stays_outer (if x then (st.StartField, act.EndField) else if y then ((if z then st.AfterCr else st.StartRecord), act.EndRecord) else (st.InField, act.Copy)) ≡ true
+      by_tests true y z = refl
+      by_tests false true true = refl
+      by_tests false true false = refl
+      by_tests false false z = refl
+
+  outer_record : (c : ℕ) → stays_outer (start_record (config_for d false) c) ≡ true
+  outer_record c = by_test ((c == 13) || (c == 10))
+    where
+      by_test : (b : Bool) → stays_outer (if b then (st.StartRecord, act.Skip) else in_field (config_for d false) c) ≡ true
+      by_test true = refl
+      by_test false = outer_field c
+
+  outer_step : (s : State) (c : ℕ) → is_outer s ≡ true → is_outer (step (config_for d false) s c).0 ≡ true
+  outer_step st.StartRecord c is = outer_record c
+  outer_step st.StartField c is = outer_field c
+  outer_step st.InField c is = outer_field c
+  outer_step st.AfterCr c is = by_test (c == 10)
+    where
+      by_test : (b : Bool) → stays_outer (if b then (st.StartRecord, act.Skip) else start_record (config_for d false) c) ≡ true
+      by_test true = refl
+      by_test false = outer_record c
+  outer_step st.InQuoted c is = absurd (cc is)
+  outer_step st.InEscape c is = absurd (cc is)
+  outer_step st.AfterQuote c is = absurd (cc is)
+  outer_step st.InComment c is = absurd (cc is)
+
+  outer_run : (text : Text) (s : State) → is_outer s ≡ true → is_outer (run (config_for d false) s text) ≡ true
+  outer_run [] s is = is
+  outer_run (c ∷ text) s is = outer_run text (step (config_for d false) s c).0 (outer_step s c is)
+
+  never_quoted : (text : Text) → run (config_for d false) st.StartRecord text ≢ st.InQuoted
+  never_quoted text quoted = let outer : is_outer st.InQuoted ≡ true = ap is_outer (sym quoted) ∙ outer_run text st.StartRecord refl in cc outer
+
+-- ---- lines
+
+-- the first line, and what is below it, where a byte is no line end and where it is
+inside_line : (c : ℕ) (text : Text) → ends_line c ≡ false → (below_line (c ∷ text) ≡ below_line text) × (first_line (c ∷ text) ≡ c ∷ first_line text)
+inside_line c text is = (ap (λ (n : ℕ). drop (end_len (drop n (c ∷ text))) (drop n (c ∷ text))) place, ap (λ (n : ℕ). take n (c ∷ text)) place)
+  where
+    place : line_len (c ∷ text) ≡ suc (line_len text)
+    place = let one : 1 + line_len text ≡ suc (line_len text) = omega arith in ap (λ (b : Bool). if not b then 1 + line_len text else 0) is ∙ one
+
+at_line_end : (c b : ℕ) (text : Text) → ends_line c ≡ true → (below_line (c ∷ b ∷ text) ≡ drop (if (c == 0x0D) && (b == 0x0A) then 2 else 1) (c ∷ b ∷ text)) × (first_line (c ∷ b ∷ text) ≡ [])
+at_line_end c b text is = (ap (λ (n : ℕ). drop (end_len (drop n (c ∷ b ∷ text))) (drop n (c ∷ b ∷ text))) place ∙ ap (λ (t : Bool). drop (if (c == 0x0D) && (b == 0x0A) then 2 else if t then 1 else 0) (c ∷ b ∷ text)) is, ap (λ (n : ℕ). take n (c ∷ b ∷ text)) place)
+  where
+    place : line_len (c ∷ b ∷ text) ≡ 0
+    place = ap (λ (t : Bool). if not t then 1 + line_len (b ∷ text) else 0) is
+
+module _ (rest : Text) where
+  -- where a text goes on, its first line stays, and what is below it goes on
+  record LineStays (text : Text) : Type 0 where
+    below : below_line (text ++ rest) ≡ below_line text ++ rest
+    first : first_line (text ++ rest) ≡ first_line text
+    ends : (below_line text ≡ []) ⊎ EndsWithLine (below_line text)
+
+  feed_below : (more : Text) → (below_line (0x0A ∷ more) ≡ more) × (first_line (0x0A ∷ more) ≡ [])
+  feed_below [] = (refl, refl)
+  feed_below (b ∷ more) = (refl, refl)
+
+  -- a line end, another byte, and what follows
+  end_stays : (c b : ℕ) (text : Text) → ends_line c ≡ true → (text ≡ [] → b ≡ 0x0A) → ((text ≡ []) ⊎ EndsWithLine text) → LineStays (c ∷ b ∷ text)
+  end_stays c b text is last ends =
+      let whole = at_line_end c b (text ++ rest) is in
+      let own = at_line_end c b text is in
+      let cut = by_test ((c == 0x0D) && (b == 0x0A)) in
+      record { below = whole.0 ∙ cut.0 ∙ ap (λ (t : Text). t ++ rest) (sym own.0); first = whole.1 ∙ sym own.1; ends = subst (λ (t : Text). (t ≡ []) ⊎ EndsWithLine t) (sym own.0) cut.1 }
+    where
+      with_byte : (text ≡ []) ⊎ EndsWithLine text → EndsWithLine (b ∷ text)
+      with_byte (inl none) = ([], ap₂ (λ (x : ℕ) (xs : Text). x ∷ xs) (last none) none)
+      with_byte (inr (front, e)) = (b ∷ front, ap (λ (xs : Text). b ∷ xs) e)
+
+      by_test : (t : Bool) → (drop (if t then 2 else 1) (c ∷ b ∷ (text ++ rest)) ≡ drop (if t then 2 else 1) (c ∷ b ∷ text) ++ rest) × ((drop (if t then 2 else 1) (c ∷ b ∷ text) ≡ []) ⊎ EndsWithLine (drop (if t then 2 else 1) (c ∷ b ∷ text)))
+      by_test true = (refl, ends)
+      by_test false = (refl, inr (with_byte ends))
+
+  line_stays : (front : Text) → LineStays (front ++ 0x0A ∷ [])
+  line_stays [] = record { below = (feed_below rest).0 ∙ ap (λ (t : Text). t ++ rest) (sym (feed_below []).0); first = (feed_below rest).1 ∙ sym (feed_below []).1; ends = inl (feed_below []).0 }
+  line_stays (c ∷ front) = by_end (ends_line c) refl (line_stays front)
+    where
+      later : ends_line c ≡ false → LineStays (front ++ 0x0A ∷ []) → LineStays (c ∷ (front ++ 0x0A ∷ []))
+      later is more =
+          let whole = inside_line c ((front ++ 0x0A ∷ []) ++ rest) is in
+          let own = inside_line c (front ++ 0x0A ∷ []) is in
+          record {
+            below = whole.0 ∙ more.below ∙ ap (λ (t : Text). t ++ rest) (sym own.0);
+            first = whole.1 ∙ ap (λ (t : Text). c ∷ t) more.first ∙ sym own.1;
+            ends = subst (λ (t : Text). (t ≡ []) ⊎ EndsWithLine t) (sym own.0) more.ends;
+          }
+
+      here : ends_line c ≡ true → (f : Text) → LineStays (c ∷ (f ++ 0x0A ∷ []))
+      here is [] = end_stays c 0x0A [] is (λ none. refl) (inl refl)
+      here is (b ∷ f) = end_stays c b (f ++ 0x0A ∷ []) is (λ none. absurd (some f none)) (inr (f, refl))
+        where
+          some : (f : Text) → f ++ 0x0A ∷ [] ≡ [] → ⊥
+          some [] none = cc none
+          some (x ∷ xs) none = cc none
+
+      by_end : (b : Bool) → ends_line c ≡ b → LineStays (front ++ 0x0A ∷ []) → LineStays (c ∷ (front ++ 0x0A ∷ []))
+      by_end true is more = here is front
+      by_end false is more = later is more
+
+  -- so do the lines that are left out
+  record LinesStay (count : ℕ) (text : Text) : Type 0 where
+    below : below_lines count (text ++ rest) ≡ below_lines count text ++ rest
+    ends : EndsWithLine (below_lines count text)
+
+  none_below : (count : ℕ) → below_lines count [] ≡ []
+  none_below zero = refl
+  none_below (suc count) = none_below count
+
+  lines_stay : (count : ℕ) (text : Text) → EndsWithLine text → (below_lines count text ≡ []) ⊎ LinesStay count text
+  lines_stay zero text ends = inr (record { below = refl; ends = ends })
+  lines_stay (suc count) text (front, is) = by_line (subst LineStays (sym is) (line_stays front)) (lines_stay count)
+    where
+      on : LineStays text → (below_lines count (below_line text) ≡ []) ⊎ LinesStay count (below_line text) → (below_lines (suc count) text ≡ []) ⊎ LinesStay (suc count) text
+      on line (inl none) = inl none
+      on line (inr more) = inr (record { below = ap (below_lines count) line.below ∙ more.below; ends = more.ends })
+
+      by_ends : LineStays text → ((t : Text) → EndsWithLine t → (below_lines count t ≡ []) ⊎ LinesStay count t) → (below_line text ≡ []) ⊎ EndsWithLine (below_line text) → (below_lines (suc count) text ≡ []) ⊎ LinesStay (suc count) text
+      by_ends line later (inl none) = inl (ap (below_lines count) none ∙ none_below count)
+      by_ends line later (inr ends) = on line (later (below_line text) ends)
+
+      by_line : LineStays text → ((t : Text) → EndsWithLine t → (below_lines count t ≡ []) ⊎ LinesStay count t) → (below_lines (suc count) text ≡ []) ⊎ LinesStay (suc count) text
+      by_line line later = by_ends line later line.ends
+
+  -- a byte-order mark in front
+  record MarkStays (text : Text) : Type 0 where
+    rest_of : strip_bom (text ++ rest) ≡ strip_bom text ++ rest
+    ends : EndsWithLine (strip_bom text)
+
+  no_mark : (a c : ℕ) → is_bom a 0x0A c ≡ false
+  no_mark a c = by_test (a == 0xEF)
+    where
+      by_test : (x : Bool) → (x && (0x0A == 0xBB) && (c == 0xBF)) ≡ false
+      by_test true = refl
+      by_test false = refl
+
+  no_mark_before : (a b : ℕ) → is_bom a b 0x0A ≡ false
+  no_mark_before a b = by_tests (a == 0xEF) (b == 0xBB)
+    where
+      by_tests : (x y : Bool) → (x && y && (0x0A == 0xBF)) ≡ false
+      by_tests true true = refl
+      by_tests true false = refl
+      by_tests false y = refl
+
+  mark_stays : (front : Text) → MarkStays (front ++ 0x0A ∷ [])
+  unfolding strip_bom
+  mark_stays [] = record { rest_of = alone rest; ends = ([], refl) }
+    where
+      alone : (more : Text) → strip_bom (0x0A ∷ more) ≡ 0x0A ∷ more
+      alone [] = refl
+      alone (b ∷ []) = refl
+      alone (b ∷ c ∷ more) = refl
+  mark_stays (a ∷ []) = record { rest_of = alone rest; ends = (a ∷ [], refl) }
+    where
+      alone : (more : Text) → strip_bom (a ∷ 0x0A ∷ more) ≡ a ∷ 0x0A ∷ more
+      alone [] = refl
+      alone (c ∷ more) = ap (λ (b : Bool). if b then more else a ∷ 0x0A ∷ c ∷ more) (no_mark a c)
+  mark_stays (a ∷ b ∷ []) =
+      let own : strip_bom (a ∷ b ∷ 0x0A ∷ []) ≡ a ∷ b ∷ 0x0A ∷ [] = ap (λ (t : Bool). if t then [] else a ∷ b ∷ 0x0A ∷ []) (no_mark_before a b) in
+      let whole : strip_bom (a ∷ b ∷ 0x0A ∷ rest) ≡ a ∷ b ∷ 0x0A ∷ rest = ap (λ (t : Bool). if t then rest else a ∷ b ∷ 0x0A ∷ rest) (no_mark_before a b) in
+      record { rest_of = whole ∙ ap (λ (t : Text). t ++ rest) (sym own); ends = (a ∷ b ∷ [], own) }
+  mark_stays (a ∷ b ∷ c ∷ front) = by_test (is_bom a b c) refl
+    where
+      text : Text
+      text = front ++ 0x0A ∷ []
+
+      by_test : (t : Bool) → is_bom a b c ≡ t → MarkStays (a ∷ b ∷ c ∷ text)
+      by_test true is =
+          let own : strip_bom (a ∷ b ∷ c ∷ text) ≡ text = ap (λ (t : Bool). if t then text else a ∷ b ∷ c ∷ text) is in
+          let whole : strip_bom (a ∷ b ∷ c ∷ (text ++ rest)) ≡ text ++ rest = ap (λ (t : Bool). if t then text ++ rest else a ∷ b ∷ c ∷ (text ++ rest)) is in
+          record { rest_of = whole ∙ ap (λ (t : Text). t ++ rest) (sym own); ends = (front, own) }
+      by_test false is =
+          let own : strip_bom (a ∷ b ∷ c ∷ text) ≡ a ∷ b ∷ c ∷ text = ap (λ (t : Bool). if t then text else a ∷ b ∷ c ∷ text) is in
+          let whole : strip_bom (a ∷ b ∷ c ∷ (text ++ rest)) ≡ a ∷ b ∷ c ∷ (text ++ rest) = ap (λ (t : Bool). if t then text ++ rest else a ∷ b ∷ c ∷ (text ++ rest)) is in
+          record { rest_of = whole ∙ ap (λ (t : Text). t ++ rest) (sym own); ends = (a ∷ b ∷ c ∷ front, own) }
+
+  mark_stays_in : (text : Text) → EndsWithLine text → MarkStays text
+  mark_stays_in text (front, is) = subst MarkStays (sym is) (mark_stays front)
+
+  line_stays_in : (text : Text) → EndsWithLine text → LineStays text
+  line_stays_in text (front, is) = subst LineStays (sym is) (line_stays front)
+
+  -- ---- what stands between fields
+
+  -- what holds the records of a text goes on as the text does, and ends with a line, if it isn't empty
+  record PartsStay (whole own : ℕ × Text) : Type 0 where
+    same : whole ≡ (own.0, own.1 ++ rest)
+    ends : (own.1 ≡ []) ⊎ EndsWithLine own.1
+
+  module _ (text : Text) (ends : EndsWithLine text) where
+    mark : MarkStays text
+    mark = mark_stays_in text ends
+
+    line : LineStays (strip_bom text)
+    line = line_stays_in (strip_bom text) mark.ends
+
+    named_whole : named_delimiter (text ++ rest) ≡ option_map (λ (b : ℕ). (b, below_line (strip_bom text) ++ rest)) (delimiter_in (first_line (strip_bom text)))
+    named_whole =
+        ap (λ (t : Text). option_map (λ (b : ℕ). (b, below_line t)) (delimiter_in (first_line t))) mark.rest_of
+        ∙ ap₂ (λ (below first : Text). option_map (λ (b : ℕ). (b, below)) (delimiter_in first)) line.below line.first
+
+    -- where a first line names the delimiter, and where it doesn't
+    by_name : (k l : ℕ) → (named_delimiter text ≡ None → l ≡ k) → PartsStay (unwrap_or (named_delimiter (text ++ rest)) (l, text ++ rest)) (unwrap_or (named_delimiter text) (k, text))
+    by_name k l same = by_found (delimiter_in (first_line (strip_bom text))) refl
+      where
+        by_found : (o : Option ℕ) → delimiter_in (first_line (strip_bom text)) ≡ o → PartsStay (unwrap_or (named_delimiter (text ++ rest)) (l, text ++ rest)) (unwrap_or (named_delimiter text) (k, text))
+        by_found None is =
+            let own : named_delimiter text ≡ None = ap (option_map (λ (b : ℕ). (b, below_line (strip_bom text)))) is in
+            let whole : named_delimiter (text ++ rest) ≡ None = named_whole ∙ ap (option_map (λ (b : ℕ). (b, below_line (strip_bom text) ++ rest))) is in
+            rw (own, whole, same own) (record { same = refl; ends = inr ends })
+        by_found (Some b) is =
+            let own : named_delimiter text ≡ Some (b, below_line (strip_bom text)) = ap (option_map (λ (b : ℕ). (b, below_line (strip_bom text)))) is in
+            let whole : named_delimiter (text ++ rest) ≡ Some (b, below_line (strip_bom text) ++ rest) = named_whole ∙ ap (option_map (λ (b : ℕ). (b, below_line (strip_bom text) ++ rest))) is in
+            rw (own, whole) (record { same = refl; ends = line.ends })
+
+    module _ (q : Bool) where
+      same_parts : (d : ℕ) → has_first_records q text d ≡ true → parts_evenly q (text ++ rest) d ≡ parts_evenly q text d
+      same_parts d has =
+          let cfg = config_for d q in
+          let enough : length (records_from cfg 11 st.StartRecord (strip_bom text)) ≡ 11 = eqb-true _ 11 has in
+          ap are_even (ap (records_from cfg 10 st.StartRecord) mark.rest_of ∙ same_first cfg rest 10 st.StartRecord (strip_bom text) enough)
+
+      same_found : list_all (has_first_records q text) tried_delimiters ≡ true → found_delimiter q (text ++ rest) ≡ found_delimiter q text
+      same_found all =
+          let first = and_parts (has_first_records q text 0x09) (list_all (has_first_records q text) (0x3B ∷ 0x2C ∷ 0x7C ∷ [])) all in
+          let second = and_parts (has_first_records q text 0x3B) (list_all (has_first_records q text) (0x2C ∷ 0x7C ∷ [])) first.1 in
+          let third = and_parts (has_first_records q text 0x2C) (list_all (has_first_records q text) (0x7C ∷ [])) second.1 in
+          let fourth = and_parts (has_first_records q text 0x7C) true third.1 in
+          rw (same_parts 0x09 first.0, same_parts 0x3B second.0, same_parts 0x2C third.0, same_parts 0x7C fourth.0) refl
+
+    parts_stay : (d : Delimiter) (q : Bool) → shows_delimiter d q text ≡ true → PartsStay (delimited d q (text ++ rest)) (delimited d q text)
+    parts_stay (Byte b) q shows = record { same = refl; ends = inr ends }
+    parts_stay NamedOrTab q shows = by_name 0x09 0x09 (λ none. refl)
+    parts_stay Auto q shows = by_name (found_delimiter q text) (found_delimiter q (text ++ rest)) (λ none. same_found q (ap (λ (o : Option (ℕ × Text)). is_some o || list_all (has_first_records q text) tried_delimiters) (sym none) ∙ shows))
+
+-- ---- the text of an input
+
+-- an input that goes on is in the same encoding
+same_encoding : (e : Option Encoding) (beginning behind text : Text) → encoding_of e beginning ≢ Utf16 → IsDecoded (encoding_of e beginning) beginning text → EndsWithLine text → encoding_of e (beginning ++ behind) ≡ encoding_of e beginning
+same_encoding (Some e) beginning behind text known is ends = refl
+same_encoding None [] behind text known is (front, ends) = absurd (none front (sym is.1 ∙ ends))
+  where
+    none : (f : Text) → [] ≡ f ++ 0x0A ∷ [] → ⊥
+    none [] e = cc e
+    none (x ∷ xs) e = cc e
+same_encoding None (a ∷ []) behind text known is (front, ends) = by_feed (feed front (sym is.1 ∙ ends)) behind
+  where
+    none : (f : Text) → [] ≡ f ++ 0x0A ∷ [] → ⊥
+    none [] e = cc e
+    none (x ∷ xs) e = cc e
+
+    feed : (f : Text) → a ∷ [] ≡ f ++ 0x0A ∷ [] → a ≡ 0x0A
+    feed [] e = cc e
+    feed (x ∷ xs) e = absurd (none xs (cc e))
+
+    by_feed : a ≡ 0x0A → (more : Text) → encoding_of None (a ∷ more) ≡ Utf8
+    by_feed e [] = refl
+    by_feed e (b ∷ more) = rw e refl
+same_encoding None (a ∷ b ∷ beginning) behind text known is ends = refl
+
+encoded_both : (cs ds : List ℕ) → encode_utf8_all (cs ++ ds) ≡ encode_utf8_all cs ++ encode_utf8_all ds
+encoded_both [] ds = refl
+encoded_both (c ∷ cs) ds = ap (λ (t : Text). encode_utf8 c ++ t) (encoded_both cs ds) ∙ sym (append_assoc (encode_utf8 c) (encode_utf8_all cs) (encode_utf8_all ds))
+
+-- and its text goes on
+text_stays : (e : Encoding) (beginning behind text whole : Text) → e ≢ Utf16 → IsDecoded e beginning text → IsDecoded e (beginning ++ behind) whole → (more : Text) × (whole ≡ text ++ more)
+text_stays Utf8 beginning behind text whole known is also = (behind, also.1 ∙ ap (λ (t : Text). t ++ behind) (sym is.1))
+text_stays Cp1252 beginning behind text whole known is also =
+    (cp1252_text behind, also ∙ ap encode_utf8_all (map-append cp1252_character beginning behind) ∙ encoded_both (map cp1252_character beginning) (map cp1252_character behind) ∙ ap (λ (t : Text). t ++ cp1252_text behind) (sym is))
+text_stays Utf16 beginning behind text whole known is also = absurd (known refl)
+
+-- ---- no delimiter is a line feed
+
+turned : (b : ℕ) → (b == 0x0A) ≡ false → (0x0A == b) ≡ false
+turned b is = grind (arith, is, nat_tests)
+
+named_other : (word : Text) (b : ℕ) → only_ascii word ≡ Some b → (0x0A == b) ≡ false
+named_other [] b is = absurd (cc is)
+named_other (x ∷ []) b is = by_test (((x == 0x22) || (x == 0x0A)) || (x == 0x0D)) refl is
+  where
+    by_ascii : (x == 0x0A) ≡ false → (t : Bool) → (if t then Some x else None) ≡ Some b → (0x0A == b) ≡ false
+    by_ascii other true is = let same : x ≡ b = cc is in subst (λ (n : ℕ). (0x0A == n) ≡ false) same (turned x other)
+    by_ascii other false is = absurd (cc is)
+
+    by_test : (t : Bool) → (((x == 0x22) || (x == 0x0A)) || (x == 0x0D)) ≡ t → option_and_then (λ (n : ℕ). if nat_lt n 128 then Some n else None) (if t then None else Some x) ≡ Some b → (0x0A == b) ≡ false
+    by_test true none is = absurd (cc is)
+    by_test false none is = by_ascii (or_parts (x == 0x22) (x == 0x0A) (or_parts ((x == 0x22) || (x == 0x0A)) (x == 0x0D) none).0).1 (nat_lt x 128) is
+named_other (x ∷ y ∷ word) b is = absurd (cc is)
+
+line_other : (line : Text) (b : ℕ) → delimiter_in line ≡ Some b → (0x0A == b) ≡ false
+line_other line b is = by_test (bytes_eq (map to_ascii_lowercase (take 4 line)) (codes "sep=")) is
+  where
+    by_test : (t : Bool) → (if t then only_ascii (drop 4 line) else None) ≡ Some b → (0x0A == b) ≡ false
+    by_test true is = named_other (drop 4 line) b is
+    by_test false is = absurd (cc is)
+
+found_other : (q : Bool) (text : Text) → (0x0A == found_delimiter q text) ≡ false
+found_other q text = by_tests (parts_evenly q text 0x09) (parts_evenly q text 0x3B) (parts_evenly q text 0x2C) (parts_evenly q text 0x7C)
+  where
+    by_tests : (w x y z : Bool) → (0x0A == unwrap_or (if w then Some 0x09 else if x then Some 0x3B else if y then Some 0x2C else if z then Some 0x7C else None) 0x2C) ≡ false
+    by_tests true x y z = refl
+    by_tests false true y z = refl
+    by_tests false false true z = refl
+    by_tests false false false true = refl
+    by_tests false false false false = refl
+
+abbrev byte_of : ℕ × Text → ℕ
+byte_of parts = parts.0
+
+-- what is named or found
+chosen_other : (text : Text) (k : ℕ) → (0x0A == k) ≡ false → (0x0A == byte_of (unwrap_or (named_delimiter text) (k, text))) ≡ false
+chosen_other text k other = by_found (delimiter_in (first_line (strip_bom text))) refl
+  where
+    by_found : (o : Option ℕ) → delimiter_in (first_line (strip_bom text)) ≡ o → (0x0A == byte_of (unwrap_or (option_map (λ (b : ℕ). (b, below_line (strip_bom text))) o) (k, text))) ≡ false
+    by_found None is = other
+    by_found (Some b) is = line_other (first_line (strip_bom text)) b is
+
+other_delimiter : (d : Delimiter) (q : Bool) (text : Text) → shows_delimiter d q text ≡ true → (0x0A == (delimited d q text).0) ≡ false
+other_delimiter (Byte b) q text shows = turned b (by_test (b == 0x0A) shows)
+  where
+    by_test : (t : Bool) → not t ≡ true → t ≡ false
+    by_test true is = absurd (cc is)
+    by_test false is = refl
+other_delimiter NamedOrTab q text shows = chosen_other text 0x09 refl
+other_delimiter Auto q text shows = chosen_other text (found_delimiter q text) (found_other q text)
+
+-- ---- all together
+
+none_in_nothing : (cfg : Config) (records : List (List Text)) → AreRecords cfg st.StartRecord [] records → records ≡ []
+unfolding Reached next_record
+none_in_nothing cfg [] are = refl
+none_in_nothing cfg (r ∷ records) (s, ys, (p, is, at, more), none) = absurd (cc is)
+
+parted_nothing : (d : Delimiter) (q : Bool) → (delimited d q []).1 ≡ []
+unfolding strip_bom
+parted_nothing (Byte b) q = refl
+parted_nothing Auto q = refl
+parted_nothing NamedOrTab q = refl
+
+unmarked_nothing : strip_bom [] ≡ []
+unfolding strip_bom
+unmarked_nothing = refl
+
+pub first_records_stay : (options : InputOptions) (most : ℕ) (beginning behind : Text) (records all : List (List Text)) → FirstRecordsStay options most beginning behind records all
+first_records_stay options most beginning behind records all enough known = by_text (text_stays (encoding_of options.encoding beginning) beginning behind enough.text known.text enough.no_utf16 enough.is_text (subst (λ (e : Encoding). IsDecoded e (beginning ++ behind) known.text) (same_encoding options.encoding beginning behind enough.text enough.no_utf16 enough.is_text enough.ends) known.is_text))
+  where
+    d : Delimiter
+    d = options.delimiter
+
+    q : Bool
+    q = options.has_quotes
+
+    Goal : Type 0
+    Goal = (more : List (List Text)) × (all ≡ records ++ more)
+
+    -- there are records
+    some_records : (cfg : Config) (text : Text) → text ≡ [] → AreRecords cfg st.StartRecord (strip_bom text) records → ⊥
+    some_records cfg text none are = let no_records = none_in_nothing cfg records (rw (none, unmarked_nothing) at are) in let more = enough.more in omega (arith, more, ap (λ (rs : List (List Text)). length rs) no_records)
+
+    -- the texts of the records
+    by_parts : (own whole : ℕ × Text) (rest : Text) → ((0x0A == own.0) ≡ false) → PartsStay rest whole own → AreRecords (config_for own.0 q) st.StartRecord (strip_bom own.1) records
+        → (q ≡ true → state_after own.0 (strip_bom own.1) ≢ st.InQuoted) → AreRecords (config_for whole.0 q) st.StartRecord (strip_bom whole.1) all → Goal
+    by_parts own whole rest other parts are closed also = by_ends parts.ends
+      where
+        outside : (b : Bool) → q ≡ b → run (config_for own.0 q) st.StartRecord (strip_bom own.1) ≢ st.InQuoted
+        outside true is = rw is (closed is)
+        outside false is = rw is (never_quoted own.0 (strip_bom own.1))
+
+        by_ends : (own.1 ≡ []) ⊎ EndsWithLine own.1 → Goal
+        by_ends (inl none) = absurd (some_records (config_for own.0 q) own.1 none are)
+        by_ends (inr ends) =
+            let mark = mark_stays_in rest own.1 ends in
+            let cfg = config_for own.0 q in
+            let end = state_at_end own.0 other q (strip_bom own.1) mark.ends (outside q refl) in
+            let same : AreRecords cfg st.StartRecord (strip_bom own.1 ++ rest) all = rw (parts.same, mark.rest_of) at also in
+            all_records cfg rest st.StartRecord (strip_bom own.1) records all end are same
+
+    by_text : (more : Text) × (known.text ≡ enough.text ++ more) → Goal
+    by_text (rest, is) = by_lines (lines_stay rest options.skip enough.text enough.ends)
+      where
+        below : Text
+        below = below_lines options.skip enough.text
+
+        own : ℕ × Text
+        own = delimited d q below
+
+        by_lines : (below_lines options.skip enough.text ≡ []) ⊎ LinesStay rest options.skip enough.text → Goal
+        by_lines (inl none) = absurd (some_records (config_for own.0 q) own.1 (ap (λ (t : Text). (delimited d q t).1) none ∙ parted_nothing d q) enough.are_records.are_records.all)
+        by_lines (inr stay) =
+            let whole : delimited d q (below_lines options.skip known.text) ≡ delimited d q (below ++ rest) = ap (λ (t : Text). delimited d q (below_lines options.skip t)) is ∙ ap (delimited d q) stay.below in
+            by_parts own (delimited d q (below_lines options.skip known.text)) rest (other_delimiter d q below enough.shows) (subst (λ (w : ℕ × Text). PartsStay rest w own) (sym whole) (parts_stay rest below stay.ends d q enough.shows))
+            enough.are_records.are_records.all enough.are_records.is_closed known.are_records.are_records.all
