@@ -7,13 +7,13 @@ build() {
   [ -e "crates/$crate/out/$made" ] || (cd "crates/$crate" && "$@" > /dev/null < /dev/null)
 }
 
-# Copies a file with a mode into a folder below $prefix, and prints where it is.
+# Copies a file with a mode into a folder below $prefix, under its own name or another one, and prints where it is.
 put() {
-  mode=$1 file=$2 folder=$prefix/$3
+  mode=$1 file=$2 folder=$prefix/$3 name=${4:-$(basename "$2")}
   mkdir -p "$folder"
-  cp "$file" "$folder"
-  chmod "$mode" "$folder/$(basename "$file")"
-  echo "$folder/$(basename "$file")"
+  cp "$file" "$folder/$name"
+  chmod "$mode" "$folder/$name"
+  echo "$folder/$name"
 }
 
 # The library for C, with what it needs of the toolchain.

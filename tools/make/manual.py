@@ -60,6 +60,7 @@ def man_page():
     lines += [".SH SYNOPSIS", ".B csvtable", "[\\fIoptions\\fR]", "[\\fIFILE\\fR]"]
     lines += [".SH DESCRIPTION", "Each record is a row.", "Columns of numbers stand at the right."]
     lines += [escaped("In a terminal the table keeps to its width; where columns would be too narrow, each record is drawn as names and fields.")]
+    lines += [escaped("Without FILE, or with `-`, it reads standard input; where that is a terminal, a line on standard error says so.")]
     lines += [escaped("Nothing that a file holds is sent to the terminal but text, unless it is asked for.")]
     lines += [".SH OPTIONS"]
     for word in OPTIONS:
@@ -69,10 +70,10 @@ def man_page():
             lines += [".br", escaped(", ".join(VALUES[word.kind]))]
     lines += [".TP", "\\fB\\-h\\fR, \\fB\\-\\-help\\fR", "Print help", ".TP", "\\fB\\-V\\fR, \\fB\\-\\-version\\fR", "Print version"]
     lines += [".SH EXIT STATUS", ".TP", "0", "The drawing was written.", ".TP", "1"]
-    lines += [escaped("The input or the output failed, the input isn't in its encoding or has a quote that is never closed, there is no such column, or no memory.")]
+    lines += [escaped("The input or the output failed, the input is no text, isn't in its encoding or has a quote that is never closed, there is no such column, or no memory.")]
     lines += [".TP", "2", escaped("The words aren't known.")]
     lines += [".SH ENVIRONMENT", ".TP", ".B COLUMNS"]
-    lines += ["The width of a terminal.", escaped("Interactive shells keep it to themselves: alias csvtable='COLUMNS=$COLUMNS csvtable' passes it on.")]
+    lines += ["The width of a terminal.", escaped("Where it isn't set, csvtable asks the terminal by stty; where that tells nothing either, the width is 80.")]
     lines += [".TP", ".B NO_COLOR", escaped("Where it is set and isn't empty, the header isn't in bold unless that is asked for.")]
     lines += [".SH EXAMPLES"]
     for command, what in re.findall(r"^  (csvtable .+?)  +(.+)$", SOURCE, re.M):

@@ -1,5 +1,5 @@
 #!/usr/bin/env python3
-"""Makes 18 files as people have them, and tries csvtable on them.
+"""Makes 18 files as people have them, and some that are no text, and tries csvtable on them.
 
     tools/try/real_files.py PROGRAM             runs PROGRAM on each file: its status, what it writes and what it says
     tools/try/real_files.py --compare PROGRAM   prints a table of what PROGRAM, csvlook, mlr and column do, file by file
@@ -8,6 +8,7 @@ What is wanted stands beside each file, and comes from the rules in docs/CSVTABL
 run, and ends with status 1 where one is otherwise.
 """
 import csv
+import gzip
 import io
 import os
 import re
@@ -71,6 +72,20 @@ RUNS = [
     Run("preamble.csv", PREAMBLE, "--skip 3 -r amount --drop nothing", 1, said="preamble.csv: no column nothing; there are date and amount"),
 ]
 
+# Files that are no text as they stand, and what helps; no other program is tried on these.
+ADVISED = [
+    Run("bare.csv", BANK, "", 1, said="bare.csv: looks like UTF-16; try -e utf-16\n", encoding="utf-16-le", delimiter=";"),
+    Run("bare.csv", BANK, "-e utf-16", drawn=["Bäckerei Müller"], encoding="utf-16-le", delimiter=";"),
+    Run("bare.csv", BANK, "--skip 1", 1, said="bare.csv: looks like UTF-16; try -e utf-16\n", encoding="utf-16-le", delimiter=";"),
+    Run("bank.csv.gz", gzip.compress(BANK.encode()), "", 1, said="bank.csv.gz: compressed by gzip; try zcat FILE | csvtable\n"),
+    Run("bank.xlsx", b"PK\3\4" + BANK.encode(), "", 1, said="bank.xlsx: a zip archive; try unzip -p FILE | csvtable, or save a spreadsheet as CSV\n"),
+    Run("nul.csv", "a,b\n1,\0\n", "", 1, said="nul.csv: line 2 has a NUL byte, so this isn't text; -e utf-8 reads it anyway\n"),
+    Run("nul.csv", "a,b\n1,\0\n", "-e utf-8", drawn=["│ 1 ┆ \ufffd │"]),
+    Run("octets.csv", b"a,b\n\x81,\xe4\n", "", 1, said="octets.csv: line 2 isn't UTF-8\n"),
+    Run("junk.csv", b"\xff\0\n" + PREAMBLE.encode(), "--skip 4", drawn=["│ date       ┆  amount │"]),
+    Run("junk.csv", b"\xff\n" + b"a,b\n\xe4\n", "--skip 1", 1, said="junk.csv: line 3 isn't UTF-8; try -e cp1252\n"),
+]
+
 # The rest of what a message has to say: files that can't be read.
 OTHERS = [
     ("nofile.csv", "csvtable: nofile.csv: no such file\n"),
@@ -109,7 +124,7 @@ def fault_of(run, result):
 
 def tried(program, folder):
     faults = 0
-    for run in RUNS:
+    for run in RUNS + ADVISED:
         write(run, folder)
         words = run.words if "-w" in run.words else ["-w", "80", *run.words]
         fault = fault_of(run, ran([program, *words, run.name], folder))

@@ -1,16 +1,18 @@
 #!/usr/bin/env python3
-"""Runs a built csvtable in terminals that it makes, and looks at what a person would see.
+"""Runs csvtable in terminals that it makes, and looks at what a person would see.
 
     tools/try/terminal.py PROGRAM
 
-Each try has words, an input and an environment, and standard output and standard error each are a terminal or not. It
-looks at the widths of lines, at bold headers, at statuses, at which stream a text stands on, and at characters that
-would speak to the terminal. It prints a line for each try, and ends with 1 where one shows something else.
+PROGRAM is the command as tools/install.sh installs it, PREFIX/bin/csvtable; of a built program alone it tries all but the
+widths of terminals. Each try has words, an input and an environment, and standard input, output and error each are a
+terminal or not. It looks at the widths of lines, at bold headers, at statuses, at which stream a text stands on, and at
+characters that would speak to the terminal. It prints a line for each try, and ends with 1 where one shows something else.
 """
 import os
 import pty
 import re
 import select
+import shutil
 import subprocess
 import sys
 import tempfile
@@ -22,9 +24,10 @@ PROGRAM = ""
 failed = 0
 
 
-def terminal():
-    """The two ends of a new terminal that passes lines on as they are."""
+def terminal(columns=0):
+    """The two ends of a new terminal that passes lines on as they are, and is so wide; where that is 0, it doesn't know."""
     ours, theirs = pty.openpty()
+    termios.tcsetwinsize(theirs, (24, columns))
     settings = termios.tcgetattr(theirs)
     settings[1] &= ~termios.OPOST
     termios.tcsetattr(theirs, termios.TCSANOW, settings)
@@ -48,19 +51,19 @@ def all_of(ends):
     return said
 
 
-def run(*words, text=b"", out="terminal", err="pipe", **variables):
+def run(*words, text=b"", out="terminal", err="pipe", columns=0, program="", **variables):
     """A run's status, output and messages. Each stream is a terminal, a pipe, or a file that it is written to."""
     environment = {name: it for name, it in os.environ.items() if name not in ("COLUMNS", "NO_COLOR")} | variables
     ends, theirs = {}, {}
     for name, kind in (("out", out), ("err", err)):
         if kind in ("terminal", "pipe"):
-            ends[name], theirs[name] = terminal() if kind == "terminal" else os.pipe()
+            ends[name], theirs[name] = terminal(columns) if kind == "terminal" else os.pipe()
         else:
             theirs[name] = os.open(kind, os.O_WRONLY)
     with tempfile.TemporaryFile() as file:
         file.write(text if isinstance(text, bytes) else text.encode())
         file.seek(0)
-        process = subprocess.Popen([PROGRAM, *words], stdin=file, stdout=theirs["out"], stderr=theirs["err"], env=environment)
+        process = subprocess.Popen([program or PROGRAM, *words], stdin=file, stdout=theirs["out"], stderr=theirs["err"], env=environment)
         for end in theirs.values():
             os.close(end)
         said = all_of(ends.values())
@@ -113,6 +116,81 @@ def widths():
     for words, width in ((["-w", "0"], 331), (["-w", "30"], 30), (["-w", "30", "-w", "50"], 50)):
         status, out, _ = run(*words, text=text, COLUMNS="40")
         see(f"a terminal with {' '.join(words)}", status == 0 and widest(out) == width, out)
+
+
+def sizes():
+    """The widths of terminals, which the installed command asks for: as it stands, by a link, and where its path has spaces."""
+    text = "name,text\n" + ("a,%s\n" % ("x" * 320)) * 3
+    for columns, width in ((40, 40), (80, 80), (120, 120), (200, 200), (0, 80)):
+        status, out, err = run(text=text, columns=columns)
+        see(f"a terminal of {columns} columns", status == 0 and widest(out) == width and err == "", out)
+    for words, variables, width in (([], {"COLUMNS": "40"}, 40), ([], {"COLUMNS": ""}, 120), (["-w", "30"], {}, 30), (["-w", "0"], {}, 331)):
+        status, out, _ = run(*words, text=text, columns=120, **variables)
+        see(f"a terminal of 120 columns with {words} and {variables}", status == 0 and widest(out) == width, out)
+    status, out, _ = run(text=text, out="pipe", err="terminal", columns=120)
+    see("a pipe beside a terminal of 120 columns", status == 0 and widest(out) == 331, out)
+    status, out, err = run("-c", "  *'$HOME", "", text=text, columns=120)
+    see("an empty word", status == 1 and err == "csvtable: : no such file\n", out + err)
+    status, out, err = run("-c", "  *'$HOME", text=text, columns=120)
+    see("a word with spaces and signs of the shell", status == 1 and err.endswith(": no column   *'$HOME\n"), out + err)
+    with tempfile.TemporaryDirectory() as folder:
+        prefix = os.path.join(folder, "a b")
+        for part in ("bin", "libexec"):
+            os.makedirs(os.path.join(prefix, part))
+            shutil.copy(os.path.join(os.path.dirname(PROGRAM), "..", part, "csvtable"), os.path.join(prefix, part))
+        link = os.path.join(folder, "a link")
+        os.symlink(os.path.join(prefix, "bin", "csvtable"), link)
+        status, out, err = run(text=text, columns=120, program=link)
+        see("by a link, in a folder with a space", status == 0 and widest(out) == 120, out + err)
+        few = os.path.join(folder, "few")
+        os.mkdir(few)
+        for name in ("dirname", "readlink"):
+            os.symlink(shutil.which(name), os.path.join(few, name))
+        status, out, err = run(text=text, columns=120, PATH=few)
+        see("without stty", status == 0 and widest(out) == 80 and err == "", out + err)
+
+
+def resized():
+    """One terminal, of another size in each run."""
+    ours, theirs = terminal()
+    environment = {name: it for name, it in os.environ.items() if name not in ("COLUMNS", "NO_COLOR")}
+    for columns in (120, 60, 90):
+        termios.tcsetwinsize(theirs, (24, columns))
+        process = subprocess.Popen([PROGRAM], stdin=subprocess.PIPE, stdout=theirs, env=environment)
+        process.stdin.write(b"a,%s\n" % (b"x" * 200))
+        process.stdin.close()
+        out = b""
+        while process.poll() is None or select.select([ours], [], [], 0.1)[0]:
+            if select.select([ours], [], [], 0.1)[0]:
+                out += os.read(ours, 65536)
+        see(f"a terminal that now has {columns} columns", process.returncode == 0 and widest(out.decode()) == columns, out.decode())
+    os.close(ours)
+    os.close(theirs)
+
+
+def waits():
+    """A terminal gives the input, and is told so."""
+    said = "csvtable: reading from the terminal; end with Ctrl-D\n"
+    for words in ([], ["-"]):
+        ours, theirs = terminal(80)
+        pipes = {"stdout": subprocess.PIPE, "stderr": subprocess.PIPE}
+        process = subprocess.Popen([PROGRAM, *words], stdin=theirs, **pipes)
+        is_said = select.select([process.stderr], [], [], 10)[0]
+        first = process.stderr.read(len(said)).decode() if is_said else ""
+        see(f"a terminal is told before it is read {' '.join(words)}", first == said and process.poll() is None, first)
+        os.write(ours, b"a,b\nx,y\n\x04")
+        out, err = process.communicate(timeout=10)
+        see("and what it gives is drawn", process.returncode == 0 and err == b"" and "│ x ┆ y │" in out.decode(), out.decode())
+        os.close(ours)
+        os.close(theirs)
+    with tempfile.NamedTemporaryFile() as file:
+        file.write(b"a,b\n")
+        file.flush()
+        ours, theirs = terminal(80)
+        it = subprocess.run([PROGRAM, file.name], stdin=theirs, capture_output=True)
+        see("a file is read, and nothing said", it.returncode == 0 and it.stderr == b"", it.stderr.decode())
+        os.close(ours)
+        os.close(theirs)
 
 
 def bold():
@@ -191,7 +269,9 @@ def main():
     if len(sys.argv) != 2:
         sys.exit(__doc__.split("\n\n")[1].strip())
     PROGRAM = os.path.realpath(sys.argv[1])
-    for tries in (widths, bold, endings, texts, pages):
+    with open(PROGRAM, "rb") as file:
+        is_installed = file.read(2) == b"#!"
+    for tries in (widths, *((sizes, resized) if is_installed else ()), waits, bold, endings, texts, pages):
         tries()
     return failed
 

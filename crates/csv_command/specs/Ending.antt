@@ -111,6 +111,12 @@ message_for invocation fault e =
     (about (is_of_input e) (option_map string_bytes invocation.file)
     ++ reason_for invocation.options.input.encoding fault e) ++ codes "\n"
 
+-- what is said before the input is read: that it's waited for, where a terminal is to give it
+abbrev pub said_before : Option Text → Bool → Text
+said_before None true = codes "csvtable: reading from the terminal; end with Ctrl-D\n"
+said_before None false = []
+said_before (Some path) is_terminal = []
+
 -- the line where an argument isn't UTF-8
 abbrev pub argument_not_utf8 : Text
 argument_not_utf8 = codes "csvtable: a word isn't UTF-8\n"

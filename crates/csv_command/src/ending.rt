@@ -3,7 +3,7 @@
 ghost use Rattle.std.specs.Prelude.{◌≡◌, IfErr, IfOk, option_map, string_bytes, true};
 ghost use Rattle.clap.specs.Words.{kind_of};
 ghost use Rattle.csv_command.specs.declared.ending.Said.TheVariants.{OutOfMemory, Text};
-ghost use Rattle.csv_command.specs.Ending.{IsEndOfOutcome, IsEndOfRefusal, IsEndOfUnwritten, IsEndWithoutArguments, IsHarmless, IsSilent, about, columns_reason, decoding_reason, encoding_hint, is_of_input, message_for, reading_reason, reason_for, records_reason, text_of, foreign_reason};
+ghost use Rattle.csv_command.specs.Ending.{IsEndOfOutcome, IsEndOfRefusal, IsEndOfUnwritten, IsEndWithoutArguments, IsHarmless, IsSilent, about, columns_reason, decoding_reason, encoding_hint, is_of_input, message_for, reading_reason, reason_for, records_reason, text_of, foreign_reason, said_before};
 
 use crate::arguments::Invocation;
 use clap::error::{Error, ErrorKind};
@@ -202,6 +202,17 @@ fn about(alloc: Global, is_of_input: bool, file: &Option<String>) -> Result<Stri
             let name = shown_text(alloc, path.as_str(), false)?;
             format!(in alloc; "csvtable: {name}: ")
         }
+    }
+}
+
+/// What is said before the input is read: that it is waited for, where no file is named and
+/// standard input is a terminal.
+pub(crate) fn said_before(file: &Option<String>, is_terminal: bool) -> &'static str
+    ensures { result.now ≡ said_before (option_map string_bytes file.now) is_terminal }
+{
+    match file {
+        None if is_terminal => "csvtable: reading from the terminal; end with Ctrl-D\n",
+        _ => "",
     }
 }
 

@@ -136,7 +136,7 @@ static OPTIONS: [OptionSpec; 26] = [
         letter: Some('w'),
         kind: Kind::Width,
         value: "N",
-        help: "The width to keep to, 0 for none [default: in a\nterminal COLUMNS or 80, else none]",
+        help: "The width to keep to, 0 for none [default: that of\nthe terminal, else none]",
     },
     OptionSpec {
         name: "full",
@@ -226,7 +226,6 @@ static OPTIONS: [OptionSpec; 26] = [
     },
 ];
 
-// Interactive shells keep `COLUMNS` to themselves.
 static AFTER_HELP: &str = "\
 Styles: rounded, box, grid, ascii, plain, markdown, and NOTHING, ASCII_MARKDOWN,
 ASCII_BORDERS_ONLY_CONDENSED; ASCII_ or UTF8_ before FULL, FULL_CONDENSED,
@@ -237,7 +236,7 @@ Examples:
   csvtable -c name,3-5 --limit 20 big.csv     some columns of the first records
   csvtable -e cp1252 --skip 4 bank.csv        what a bank sends
 
-For the width of your terminal: alias csvtable='COLUMNS=$COLUMNS csvtable'";
+Without FILE it reads standard input; from a terminal, up to Ctrl-D.";
 
 static WHENS: [&str; 3] = ["auto", "always", "never"];
 

@@ -3,7 +3,7 @@
 
 use crate::arguments::{Invocation, OutputContext, parse};
 use crate::ending::{
-    Ending, Outcome, ending_of_outcome, ending_of_refusal, ending_without_arguments,
+    Ending, Outcome, ending_of_outcome, ending_of_refusal, ending_without_arguments, said_before,
 };
 use csv_tables::{CsvError, draw};
 use devices::{FromReader, ToWriter, arguments_of_process, write_all};
@@ -80,6 +80,8 @@ fn variable(rt: &HostRuntime, name: &str) -> Result<Option<String>, AllocError> 
 
 // Draws the file, or standard input.
 fn run(rt: &HostRuntime, invocation: &Invocation) -> Ending {
+    let said = said_before(&invocation.file, rt.stdin().is_terminal());
+    let _ = write_all(&mut ToWriter::new(rt.stderr()), said.as_bytes());
     let mut sink = ToWriter::new(rt.stdout());
     let (result, fault) = drawn(rt, &mut sink, invocation);
     let output_fault = sink.fault();

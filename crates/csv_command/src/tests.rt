@@ -2,7 +2,7 @@
 
 use crate::arguments::{Invocation, OutputContext, parse};
 use crate::ending::{
-    Ending, Outcome, ending_of_outcome, ending_of_refusal, ending_without_arguments,
+    Ending, Outcome, ending_of_outcome, ending_of_refusal, ending_without_arguments, said_before,
 };
 use csv_records::{DecodeError, Foreign, RecordsError};
 use csv_tables::{ColumnsError, CsvError};
@@ -76,6 +76,22 @@ fn a_file_that_can_not_be_read(rt: HostRuntime) {
     }
 }
 
+// Where no file is named, a terminal is waited for.
+#[test]
+fn a_terminal_is_waited_for(rt: HostRuntime) {
+    let waiting = "csvtable: reading from the terminal; end with Ctrl-D\n";
+    let cases = [
+        (["csvtable", "-n"], true, waiting),
+        (["csvtable", "-"], true, waiting),
+        (["csvtable", "-"], false, ""),
+        (["csvtable", "a.csv"], true, ""),
+    ];
+    for (arguments, is_terminal, said) in &cases {
+        let invocation = parse_by(&rt, arguments.as_slice());
+        assert_eq!(rt; said_before(&invocation.file, *is_terminal), *said);
+    }
+}
+
 // So is what is wrong with its bytes; the two lines with a name are those of the page on the
 // program.
 #[test]
@@ -139,7 +155,8 @@ fn an_input_that_is_something_else(rt: HostRuntime) {
         ),
         (
             Foreign::Zip,
-            "csvtable: a: a zip archive; try unzip -p FILE | csvtable, or save a spreadsheet as CSV\n",
+            "csvtable: a: a zip archive; try unzip -p FILE | csvtable, \
+                or save a spreadsheet as CSV\n",
         ),
         (
             Foreign::Utf16,
@@ -233,7 +250,7 @@ fn help_is_an_output(rt: HostRuntime) {
             )
         );
         assert!(rt; text.contains("\n  -h, --help              Print help\n"));
-        assert!(rt; text.ends_with("alias csvtable='COLUMNS=$COLUMNS csvtable'\n"));
+        assert!(rt; text.ends_with("reads standard input; from a terminal, up to Ctrl-D.\n"));
     }
     for argument in ["-V", "--version"] {
         let arguments = ["csvtable", argument];

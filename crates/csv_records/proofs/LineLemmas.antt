@@ -1,5 +1,5 @@
 -- Lines that are left out are those that line breaks end.
-use Rattle.std.proofs.Common.{◌≡◌, ◌≢◌, ◌+◌, ◌-◌, ◌==◌, ◌&&◌, ◌||◌, ℕ, zero, suc, Bool, true, false, [], ◌∷◌, ◌++◌, ap, arith, drop, eqb-true, refl, subst, sym, ◌∙◌}
+use Rattle.std.proofs.Common.{◌≡◌, ◌≢◌, ◌+◌, ◌==◌, ◌&&◌, ◌||◌, ℕ, zero, suc, Bool, true, false, [], ◌∷◌, ◌++◌, ap, arith, drop, eqb-true, refl, subst, sym, ◌∙◌}
 use Rattle.std.proofs.lemmas.Bool.{and_parts, ne_eqb}
 use Rattle.std.specs.Prelude.{if◌then◌else◌, not}
 use Rattle.comfy_parts.specs.Text.{Text}
@@ -80,20 +80,6 @@ line_goes_on u more no_feed no_return = by_end (ends_line u) (rw (ne_eqb u 0x0A 
     by_end false end =
         let step : 1 + line_len more ≡ suc (line_len more) = omega arith in
         rw step refl
-
--- a line feed is a line end of one unit
-pub line_of_feed : (more : Text) → below_line (0x0A ∷ more) ≡ more
-line_of_feed [] = refl
-line_of_feed (u ∷ more) = refl
-
--- a carriage return is one with what may follow
-pub line_of_return : (more : Text) → below_line (0x0D ∷ more) ≡ drop (end_len (0x0D ∷ more) - 1) more
-line_of_return [] = refl
-line_of_return (u ∷ more) = by_feed (u == 0x0A)
-  where
-    by_feed : (v : Bool) → drop (if v then 2 else 1) (0x0D ∷ u ∷ more) ≡ drop ((if v then 2 else 1) - 1) (u ∷ more)
-    by_feed true = refl
-    by_feed false = refl
 
 leaves : (count : ℕ) (text rest : Text) → rest ≢ [] → below_lines count text ≡ rest → (front : Text) × (text ≡ front ++ rest) × (line_breaks front ≡ count)
 leaves zero text rest some is = ([], is, refl)

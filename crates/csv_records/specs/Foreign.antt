@@ -41,8 +41,8 @@ foreign_in skip input =
     else if is_zip input then Some Zip
     else foreign_by_nuls skip (below_lines skip input)
 
--- what it is for all that is asked for: such signs count where no encoding is asked for, and no mark
--- says that it is UTF-16
+-- what it is for all that is asked for: such signs count where no encoding is asked for, and no
+-- mark says that it is UTF-16
 abbrev pub foreign_for : Option Encoding → ℕ → Text → Option Foreign
 foreign_for (Some encoding) skip input = None
 foreign_for None skip input =

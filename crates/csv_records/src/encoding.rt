@@ -30,8 +30,8 @@ pub enum Encoding {
 }
 
 /// The text of an input below the lines that are left out, which may be in another encoding. Where
-/// none is asked for, an input that begins with a byte-order mark of UTF-16 is UTF-16, and any other
-/// one UTF-8, unless it is seen to be no text. An input in UTF-8 of which no line is left out
+/// none is asked for, an input that begins with a byte-order mark of UTF-16 is UTF-16, and any
+/// other one UTF-8, unless it is seen to be no text. An input in UTF-8 of which no line is left out
 /// becomes its text without a copy.
 ///
 /// `NotUtf16` comes of a surrogate without a partner, and of an odd number of bytes.

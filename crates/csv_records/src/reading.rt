@@ -13,10 +13,11 @@ use crate::records::{FirstRecords, Records, first_records_of};
 use crate::text::line_number;
 use std::alloc::Global;
 
-/// The records of a text, which `decoded` has below the lines that are left out. An empty line is no
-/// record; `""` is an empty field.
+/// The records of a text, which `decoded` has below the lines that are left out. An empty line is
+/// no record; `""` is an empty field.
 ///
-/// `Unclosed` has the number of the line where the quote opens, those that are left out counted too.
+/// `Unclosed` has the number of the line where the quote opens, those that are left out counted
+/// too.
 /// `SplitCharacter` comes only of a delimiter that isn't ASCII.
 pub fn read_records(
     alloc: Global,
@@ -50,8 +51,8 @@ pub fn read_first_records(
     first_records_of(alloc, rest, delimiter, options.has_quotes, most)
 }
 
-// The number of the line where the last bytes of a text begin, this being how many they are. So many
-// lines stand above the text.
+// The number of the line where the last bytes of a text begin, this being how many they are. So
+// many lines stand above the text.
 fn line_before(above: usize, text: &str, last: usize) -> u64
     ensures { result ≡ line_number above (take (length text.now - last) text.now) }
 {

@@ -21,9 +21,9 @@ use std::alloc::Global;
 ///
 /// An input without records has an empty output.
 ///
-/// All memory is asked for before the first write. Where the input can't be read, isn't in its
-/// encoding, is no text or has a quote that is never closed, columns can't be chosen so, or memory runs out,
-/// nothing is written. Where the output can't be written, a beginning of it was.
+/// All memory is asked for before the first write. Where the input can't be read, is no text, isn't
+/// in its encoding or has a quote that is never closed, columns can't be chosen so, or memory runs
+/// out, nothing is written. Where the output can't be written, a beginning of it was.
 ///
 /// ```
 /// let mut source = FromReader::new(rt.stdin());

@@ -301,7 +301,7 @@ def csv_of(rows):
 
 def by_csvtable(text, words):
     surroundings = {name: value for name, value in os.environ.items() if name not in ("COLUMNS", "NO_COLOR")}
-    ran = subprocess.run([CSVTABLE, "-d", ",", *words], input=text.encode(), capture_output=True, env=surroundings)
+    ran = subprocess.run([CSVTABLE, "-d", ",", "-e", "utf-8", *words], input=text.encode(), capture_output=True, env=surroundings)
     return (ran.stdout + ran.stderr).decode()
 
 

@@ -191,8 +191,9 @@ impl Rows {
             Expanded::Always => Some("always"),
         };
         let words = [
-            // Without this csvtable would look for what stands between fields.
+            // Without these csvtable would look for what stands between fields, and refuse a NUL.
             option("delimiter", Some(",")),
+            option("encoding", Some("utf-8")),
             flag("no-header", self.header.is_none()),
             option("columns", self.numbers(&self.columns)?),
             option("right", self.numbers(&self.right)?),

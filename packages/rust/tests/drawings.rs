@@ -179,7 +179,7 @@ fn random_rows_are_drawn_as_csvtable_draws_their_csv() {
             text += &(fields.join(",") + "\r\n");
             rows = rows.row(cells);
         }
-        let wanted = by_csvtable(&program, &text, &["-d", ",", "-n", "-w", "50", "--expanded", "never"]);
+        let wanted = by_csvtable(&program, &text, &["-d", ",", "-e", "utf-8", "-n", "-w", "50", "--expanded", "never"]);
         assert_eq!(rows.to_string(), wanted, "seed {seed}");
     }
 }

@@ -199,8 +199,9 @@ def _words(settings: Settings, columns: _Columns) -> list[str]:
     if style is not None and style.lower() == "markdown":
         style, is_markdown = None, True
     options: dict[str, object] = {
-        # Without this csvtable would look for what stands between fields.
+        # Without these csvtable would look for what stands between fields, and refuse a NUL.
         "delimiter": ",",
+        "encoding": "utf-8",
         "no-header": not columns.has_header,
         "columns": _list_of(columns.positions_of(settings.get("columns"))),
         "right": _list_of(right),
