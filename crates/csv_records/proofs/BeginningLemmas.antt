@@ -17,7 +17,8 @@ use Rattle.csv.specs.declared.parser.Config.{Config}
 use Rattle.csv.specs.declared.parser.State.{State}
 use Rattle.csv.specs.declared.parser.State.TheVariants as st
 use Rattle.csv_records.specs.Beginning.{EndsWithLine, FirstRecordsStay}
-use Rattle.csv_records.specs.Delimiter.{are_even, below_line, below_lines, delimited, delimiter_in, only_ascii, end_len, ends_line, first_line, found_delimiter, has_first_records, line_len, named_delimiter, parts_evenly, shows_delimiter, tried_delimiters}
+use Rattle.csv_records.proofs.DelimiterLemmas.{EndsIn-trans, line-EndsIn}
+use Rattle.csv_records.specs.Delimiter.{EndsIn, are_even, below_line, below_lines, delimited, delimiter_in, only_ascii, end_len, ends_line, first_line, found_delimiter, has_first_records, line_len, named_delimiter, parts_evenly, shows_delimiter, tried_delimiters}
 use Rattle.csv_records.specs.Encoding.{IsDecoded, cp1252_character, cp1252_text, encoding_of}
 use Rattle.csv_records.specs.Input.{config_for}
 use Rattle.csv_records.specs.Quotes.{state_after}
@@ -389,15 +390,27 @@ module _ (rest : Text) where
 
 -- ---- the text of an input
 
+-- what is below lines of an input is its end
+lines-EndsIn : (count : ℕ) (text : Text) → EndsIn text (below_lines count text)
+lines-EndsIn zero text = ([], refl)
+lines-EndsIn (suc count) text = EndsIn-trans text (below_line text) (below_lines count (below_line text)) (line-EndsIn text) (lines-EndsIn count (below_line text))
+
+-- an input ends where what is below its lines does
+ends_below : (skip : ℕ) (input : Text) → EndsWithLine (below_lines skip input) → EndsWithLine input
+ends_below skip input (front, is) = by_front (lines-EndsIn skip input)
+  where
+    by_front : EndsIn input (below_lines skip input) → EndsWithLine input
+    by_front (above, parts) = (above ++ front, parts ∙ ap (λ (t : Text). above ++ t) is ∙ sym (append_assoc above front (0x0A ∷ [])))
+
 -- an input that goes on is in the same encoding
-same_encoding : (e : Option Encoding) (beginning behind text : Text) → encoding_of e beginning ≢ Utf16 → IsDecoded (encoding_of e beginning) beginning text → EndsWithLine text → encoding_of e (beginning ++ behind) ≡ encoding_of e beginning
-same_encoding (Some e) beginning behind text known is ends = refl
-same_encoding None [] behind text known is (front, ends) = absurd (none front (sym is.1 ∙ ends))
+same_encoding : (e : Option Encoding) (beginning behind : Text) → encoding_of e beginning ≢ Utf16 → EndsWithLine beginning → encoding_of e (beginning ++ behind) ≡ encoding_of e beginning
+same_encoding (Some e) beginning behind known ends = refl
+same_encoding None [] behind known (front, ends) = absurd (none front ends)
   where
     none : (f : Text) → [] ≡ f ++ 0x0A ∷ [] → ⊥
     none [] e = cc e
     none (x ∷ xs) e = cc e
-same_encoding None (a ∷ []) behind text known is (front, ends) = by_feed (feed front (sym is.1 ∙ ends)) behind
+same_encoding None (a ∷ []) behind known (front, ends) = by_feed (feed front ends) behind
   where
     none : (f : Text) → [] ≡ f ++ 0x0A ∷ [] → ⊥
     none [] e = cc e
@@ -410,18 +423,44 @@ same_encoding None (a ∷ []) behind text known is (front, ends) = by_feed (feed
     by_feed : a ≡ 0x0A → (more : Text) → encoding_of None (a ∷ more) ≡ Utf8
     by_feed e [] = refl
     by_feed e (b ∷ more) = rw e refl
-same_encoding None (a ∷ b ∷ beginning) behind text known is ends = refl
+same_encoding None (a ∷ b ∷ beginning) behind known ends = refl
 
 encoded_both : (cs ds : List ℕ) → encode_utf8_all (cs ++ ds) ≡ encode_utf8_all cs ++ encode_utf8_all ds
 encoded_both [] ds = refl
 encoded_both (c ∷ cs) ds = ap (λ (t : Text). encode_utf8 c ++ t) (encoded_both cs ds) ∙ sym (append_assoc (encode_utf8 c) (encode_utf8_all cs) (encode_utf8_all ds))
 
+-- what is below its lines goes on
+below_stays : (skip : ℕ) (beginning behind : Text) → EndsWithLine (below_lines skip beginning) → below_lines skip (beginning ++ behind) ≡ below_lines skip beginning ++ behind
+below_stays skip beginning behind ends = by_lines (lines_stay behind skip beginning (ends_below skip beginning ends)) ends
+  where
+    nothing : (f : Text) → [] ≡ f ++ 0x0A ∷ [] → ⊥
+    nothing [] e = cc e
+    nothing (x ∷ xs) e = cc e
+
+    by_lines : (below_lines skip beginning ≡ []) ⊎ LinesStay behind skip beginning → EndsWithLine (below_lines skip beginning) → below_lines skip (beginning ++ behind) ≡ below_lines skip beginning ++ behind
+    by_lines (inl none) (front, is) = absurd (nothing front (sym none ∙ is))
+    by_lines (inr stay) some = stay.below
+
 -- and its text goes on
-text_stays : (e : Encoding) (beginning behind text whole : Text) → e ≢ Utf16 → IsDecoded e beginning text → IsDecoded e (beginning ++ behind) whole → (more : Text) × (whole ≡ text ++ more)
-text_stays Utf8 beginning behind text whole known is also = (behind, also.1 ∙ ap (λ (t : Text). t ++ behind) (sym is.1))
-text_stays Cp1252 beginning behind text whole known is also =
-    (cp1252_text behind, also ∙ ap encode_utf8_all (map-append cp1252_character beginning behind) ∙ encoded_both (map cp1252_character beginning) (map cp1252_character behind) ∙ ap (λ (t : Text). t ++ cp1252_text behind) (sym is))
-text_stays Utf16 beginning behind text whole known is also = absurd (known refl)
+text_stays : (e : Encoding) (skip : ℕ) (beginning behind text whole : Text) → e ≢ Utf16 → EndsWithLine (below_lines skip beginning) → IsDecoded e skip beginning text → IsDecoded e skip (beginning ++ behind) whole → (more : Text) × (whole ≡ text ++ more)
+text_stays Utf8 skip beginning behind text whole known ends is also = (behind, also.1 ∙ below_stays skip beginning behind ends ∙ ap (λ (t : Text). t ++ behind) (sym is.1))
+text_stays Cp1252 skip beginning behind text whole known ends is also = (
+  cp1252_text behind,
+  also ∙ ap cp1252_text (below_stays skip beginning behind ends)
+      ∙ ap encode_utf8_all (map-append cp1252_character (below_lines skip beginning) behind) ∙ encoded_both (map cp1252_character (below_lines skip beginning)) (map cp1252_character behind) ∙ ap (λ (t : Text). t ++ cp1252_text behind) (sym is),
+)
+text_stays Utf16 skip beginning behind text whole known ends is also = absurd (known refl)
+
+feed_alone : encode_utf8_all (0x0A ∷ []) ≡ 0x0A ∷ []
+unfolding lib.Utf8.encode
+feed_alone = refl
+
+-- it ends with a line feed
+text_ends : (e : Encoding) (skip : ℕ) (beginning text : Text) → e ≢ Utf16 → EndsWithLine (below_lines skip beginning) → IsDecoded e skip beginning text → EndsWithLine text
+text_ends Utf8 skip beginning text known ends is = subst EndsWithLine (sym is.1) ends
+text_ends Cp1252 skip beginning text known (front, ends) is =
+    (cp1252_text front, is ∙ ap cp1252_text ends ∙ ap encode_utf8_all (map-append cp1252_character front (0x0A ∷ [])) ∙ encoded_both (map cp1252_character front) (0x0A ∷ []) ∙ ap (λ (t : Text). cp1252_text front ++ t) feed_alone)
+text_ends Utf16 skip beginning text known ends is = absurd (known refl)
 
 -- ---- no delimiter is a line feed
 
@@ -496,7 +535,11 @@ unfolding strip_bom
 unmarked_nothing = refl
 
 pub first_records_stay : (options : InputOptions) (most : ℕ) (beginning behind : Text) (records all : List (List Text)) → FirstRecordsStay options most beginning behind records all
-first_records_stay options most beginning behind records all enough known = by_text (text_stays (encoding_of options.encoding beginning) beginning behind enough.text known.text enough.no_utf16 enough.is_text (subst (λ (e : Encoding). IsDecoded e (beginning ++ behind) known.text) (same_encoding options.encoding beginning behind enough.text enough.no_utf16 enough.is_text enough.ends) known.is_text))
+first_records_stay options most beginning behind records all enough known =
+    let e = encoding_of options.encoding beginning in
+    let same = same_encoding options.encoding beginning behind enough.no_utf16 (ends_below options.skip beginning enough.ends) in
+    by_text (text_stays e options.skip beginning behind enough.text known.text enough.no_utf16 enough.ends enough.is_text.is_decoded (subst (λ (e : Encoding). IsDecoded e options.skip (beginning ++ behind) known.text) same known.is_text.is_decoded))
+    (text_ends e options.skip beginning enough.text enough.no_utf16 enough.ends enough.is_text.is_decoded)
   where
     d : Delimiter
     d = options.delimiter
@@ -529,18 +572,9 @@ first_records_stay options most beginning behind records all enough known = by_t
             let same : AreRecords cfg st.StartRecord (strip_bom own.1 ++ rest) all = rw (parts.same, mark.rest_of) at also in
             all_records cfg rest st.StartRecord (strip_bom own.1) records all end are same
 
-    by_text : (more : Text) × (known.text ≡ enough.text ++ more) → Goal
-    by_text (rest, is) = by_lines (lines_stay rest options.skip enough.text enough.ends)
-      where
-        below : Text
-        below = below_lines options.skip enough.text
-
-        own : ℕ × Text
-        own = delimited d q below
-
-        by_lines : (below_lines options.skip enough.text ≡ []) ⊎ LinesStay rest options.skip enough.text → Goal
-        by_lines (inl none) = absurd (some_records (config_for own.0 q) own.1 (ap (λ (t : Text). (delimited d q t).1) none ∙ parted_nothing d q) enough.are_records.are_records.all)
-        by_lines (inr stay) =
-            let whole : delimited d q (below_lines options.skip known.text) ≡ delimited d q (below ++ rest) = ap (λ (t : Text). delimited d q (below_lines options.skip t)) is ∙ ap (delimited d q) stay.below in
-            by_parts own (delimited d q (below_lines options.skip known.text)) rest (other_delimiter d q below enough.shows) (subst (λ (w : ℕ × Text). PartsStay rest w own) (sym whole) (parts_stay rest below stay.ends d q enough.shows))
-            enough.are_records.are_records.all enough.are_records.is_closed known.are_records.are_records.all
+    by_text : (more : Text) × (known.text ≡ enough.text ++ more) → EndsWithLine enough.text → Goal
+    by_text (rest, is) ends =
+        let own : ℕ × Text = delimited d q enough.text in
+        let whole : delimited d q known.text ≡ delimited d q (enough.text ++ rest) = ap (delimited d q) is in
+        by_parts own (delimited d q known.text) rest (other_delimiter d q enough.text enough.shows) (subst (λ (w : ℕ × Text). PartsStay rest w own) (sym whole) (parts_stay rest enough.text ends d q enough.shows))
+        enough.are_records.are_records.all enough.are_records.is_closed known.are_records.are_records.all

@@ -1,7 +1,7 @@
 -- A beginning of an input that is enough for its first records.
 use Rattle.std.specs.Prelude.{ℕ, ◌≡◌, ◌≢◌, ◌<◌, true, List, [], ◌∷◌, ◌++◌, length, take}
 use Rattle.comfy_parts.specs.Text.{Text}
-use Rattle.csv_records.specs.Delimiter.{shows_delimiter}
+use Rattle.csv_records.specs.Delimiter.{below_lines, shows_delimiter}
 use Rattle.csv_records.specs.Encoding.{encoding_of}
 use Rattle.csv_records.specs.Reading.{AreRecordsFor, AreRecordsIn, IsDecodedBy}
 use Rattle.csv_records.specs.declared.encoding.Encoding.TheVariants.{Utf16}
@@ -11,15 +11,15 @@ use Rattle.csv_records.specs.declared.options.InputOptions.{InputOptions}
 abbrev pub EndsWithLine : Text → Type 0
 EndsWithLine text = (front : Text) × (text ≡ front ++ 0x0A ∷ [])
 
--- a beginning of an input has more records than the first ones that are wanted: its text ends with
--- a line feed and, where quotes count, outside them, and it shows what stands between fields; no
--- beginning in UTF-16 is enough
+-- a beginning of an input has more records than the first ones that are wanted: below the lines
+-- that are left out it ends with a line feed and, where quotes count, outside them, and its text
+-- shows what stands between fields; no beginning in UTF-16 is enough
 pub record IsEnough (options : InputOptions) (most : ℕ) (beginning : Text) (records : List
     (List Text)) : Type 0 where
   pub no_utf16 : encoding_of options.encoding beginning ≢ Utf16
   pub text : Text
   pub is_text : IsDecodedBy options beginning text
-  pub ends : EndsWithLine text
+  pub ends : EndsWithLine (below_lines options.skip beginning)
   pub shows : shows_delimiter options.delimiter options.has_quotes text ≡ true
   pub are_records : AreRecordsIn options text records
   pub more : most < length records

@@ -4,7 +4,7 @@ ghost use Rattle.std.specs.Prelude.{◌≡◌, ◌++◌, IfOk, IfSome, IsTrue};
 ghost use Rattle.comfy_parts.specs.Text.{Text};
 ghost use Rattle.csv_records.specs.Beginning.{AreFirstByBeginning, EndsWithLine};
 
-use crate::delimiter::shows_delimiter;
+use crate::delimiter::{below_lines, shows_delimiter};
 use crate::encoding::{Encoding, decoded, encoding_of};
 use crate::error::{DecodeError, RecordsError};
 use crate::options::InputOptions;
@@ -40,7 +40,7 @@ pub fn read_beginning(
         Err(DecodeError::OutOfMemory) => return Err(AllocError),
         Err(_) => return Ok(None),
     };
-    if !ends_with_line(text.as_str())
+    if !ends_with_line(below_lines(lines, options.skip))
         || !shows_delimiter(
             alloc,
             text.as_str(),
@@ -57,11 +57,11 @@ pub fn read_beginning(
     }
 }
 
-// Whether a text ends with a line feed.
-fn ends_with_line(text: &str) -> bool
-    ensures { IsTrue result → EndsWithLine text.now }
+// Whether these bytes end with a line feed.
+fn ends_with_line(bytes: &[u8]) -> bool
+    ensures { IsTrue result → EndsWithLine bytes.now }
 {
-    match text.as_bytes().split_last() {
+    match bytes.split_last() {
         Some((last, _)) => *last == LINE_FEED,
         None => false,
     }

@@ -1,6 +1,6 @@
 use Rattle.std.proofs.Common.{◌≡◌, ◌≢◌, ◌<◌, length, true, rules, string_bytes}
 use Rattle.csv_records.specs.Beginning.{EndsWithLine}
-use Rattle.csv_records.specs.Delimiter.{shows_delimiter}
+use Rattle.csv_records.specs.Delimiter.{below_lines, shows_delimiter}
 use Rattle.csv_records.specs.Encoding.{encoding_of}
 use Rattle.csv_records.specs.declared.encoding.Encoding.TheVariants.{Utf16}
 use Rattle.csv_records.specs.Reading.{IsDecodedBy}
@@ -13,7 +13,7 @@ returns-in-Ok-read_first_records c =
     let text = string_bytes c.in-Ok.text in
     let no_utf16 : encoding_of options.encoding c.whole_lines-lines.result.now ≢ Utf16 = search rules in
     let is_text : IsDecodedBy options c.whole_lines-lines.result.now text = search rules in
-    let ends : EndsWithLine text = search rules in
+    let ends : EndsWithLine (below_lines options.skip c.whole_lines-lines.result.now) = search rules in
     let shows : shows_delimiter options.delimiter options.has_quotes text ≡ true = search rules in
     let more : c.args.most < length first.all = search rules in
     record {
