@@ -26,15 +26,7 @@ module _ (fields : List Text) where
       by_any true is rest = rw is (ap (λ rest. if has_field fields column then column ∷ rest else rest) rest)
       by_any false is rest = rw is (sym (none-held (column ∷ columns) is))
 
-  -- they are the first ones
-  pub reached-first : (columns : List DrawnColumn) → reached fields columns ≡ take (length (reached fields columns)) columns
-  reached-first [] = refl
-  reached-first (column ∷ columns) = by_any (list_any (has_field fields) (column ∷ columns)) refl (reached-first columns)
-    where
-      by_any : (b : Bool) → list_any (has_field fields) (column ∷ columns) ≡ b → reached fields columns ≡ take (length (reached fields columns)) columns → reached fields (column ∷ columns) ≡ take (length (reached fields (column ∷ columns))) (column ∷ columns)
-      by_any true is rest = rw is (ap (λ rest. column ∷ rest) rest)
-      by_any false is rest = rw is refl
-
+  -- no more than all
   pub reached-length : (columns : List DrawnColumn) → length (reached fields columns) ≤ length columns
   reached-length [] = omega arith
   reached-length (column ∷ columns) = by_any (list_any (has_field fields) (column ∷ columns)) refl (reached-length columns)
