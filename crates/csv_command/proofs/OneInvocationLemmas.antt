@@ -1,5 +1,5 @@
 -- Arguments ask for one thing, so they have one drawing of an input.
-use Rattle.std.proofs.Common.{◌≡◌, ℕ, Bool, false, List, Option, not, ◌||◌, sym, ap, ap₂, ◌∙◌, unwrap_or, subst}
+use Rattle.std.proofs.Common.{◌≡◌, inl, inr, ℕ, Bool, false, List, Option, not, ◌||◌, sym, ap, ap₂, ◌∙◌, unwrap_or, subst}
 use Rattle.std.specs.Option.{option_map_or}
 use Rattle.std.specs.Prelude.{Some, bytes_eq, codes, option_and_then, if◌then◌else◌}
 use Rattle.std.specs.Str.Parse.{without_leading_plus}
@@ -21,8 +21,12 @@ use Rattle.csv_tables.specs.declared.options.Options.{Options}
 use Rattle.csv_tables.specs.declared.options.RowSeparators.{RowSeparators}
 use Rattle.csv_tables.proofs.OneOutputLemmas.{output_is_one}
 use Rattle.csv_command.proofs.OneParseLemmas.{finds_are_one}
-use Rattle.csv_tables.proofs.OutputControlLemmas.{input_without_controls}
+use Rattle.csv_tables.proofs.OutputControlLemmas.{beginning_without_controls, input_without_controls}
 use Rattle.csv_tables.specs.OneOutput.{AreSameOptions}
+use Rattle.comfy_parts.specs.VisibleText.{visible_text}
+use Rattle.csv_tables.specs.Controls.{HasNoStrayControl}
+use Rattle.csv_tables.specs.Drawn.{IsDrawnOf}
+use Rattle.csv_tables.specs.Laws.{IsLookWithoutControls}
 use Rattle.csv_command.specs.Laws.{InvocationIsOne, ParsedOutputHoldsNoControls, DrawnHoldsNoControls, DrawnIsOne}
 use Rattle.csv_command.proofs.StyleLemmas.{styles_without_controls}
 use Rattle.csv_tables.specs.Controls.{IsStyleWithoutControls}
@@ -135,11 +139,17 @@ drawn_is_one arguments input drawing other first second =
 
 -- and arguments ask for a style without control characters
 pub parsed_without_controls : (arguments : List Text) (context : OutputContext) (invocation : Invocation) (input output : Text) → ParsedOutputHoldsNoControls arguments context invocation input output
-parsed_without_controls arguments context invocation input output is tidy made =
-    input_without_controls invocation.options input output (record { cleaned = tidy; style = subst IsStyleWithoutControls (sym is.options.look.style) (styles_without_controls (first_value is.found (codes "style"))) }) made
+parsed_without_controls arguments context invocation input output is tidy = by_extent
+  where
+    look : IsLookWithoutControls invocation.options.look
+    look = record { cleaned = tidy; style = subst IsStyleWithoutControls (sym is.options.look.style) (styles_without_controls (first_value is.found (codes "style"))) }
+
+    by_extent : IsDrawnOf invocation.options input output → HasNoStrayControl (visible_text output)
+    by_extent (inl made) = input_without_controls invocation.options input output look made
+    by_extent (inr (beginning, behind, joins, made)) = beginning_without_controls invocation.options beginning output look made
 
 -- and no control character in it, unless they ask for raw fields
 pub drawn_without_controls : (arguments : List Text) (invocation : Invocation) (input drawing : Text) → DrawnHoldsNoControls arguments invocation input drawing
 drawn_without_controls arguments invocation input drawing is tidy drawn =
     let same = (invocation_is_one arguments not_a_terminal drawn.invocation invocation drawn.is_asked is).options in
-    parsed_without_controls arguments not_a_terminal drawn.invocation input drawing drawn.is_asked (ap (λ (look : Look). look.is_raw) same.look ∙ tidy) drawn.is_output
+    parsed_without_controls arguments not_a_terminal drawn.invocation input drawing drawn.is_asked (ap (λ (look : Look). look.is_raw) same.look ∙ tidy) (inl drawn.is_output)

@@ -7,7 +7,7 @@ use Rattle.csv_command.specs.Arguments.{IsParsed}
 use Rattle.csv_command.specs.declared.arguments.Invocation.{Invocation}
 use Rattle.csv_command.specs.declared.arguments.OutputContext.{OutputContext}
 use Rattle.csv_tables.specs.Controls.{HasNoStrayControl}
-use Rattle.csv_tables.specs.Drawn.{RendersInput}
+use Rattle.csv_tables.specs.Drawn.{IsDrawnOf}
 use Rattle.csv_tables.specs.OneOutput.{AreSameOptions}
 
 -- nor of any output that arguments ask for, unless they ask for raw fields
@@ -15,7 +15,7 @@ abbrev pub ParsedOutputHoldsNoControls : List Text → OutputContext → Invocat
     → Type 0
 ParsedOutputHoldsNoControls arguments context invocation input output =
     IsParsed arguments context invocation → invocation.options.look.is_raw ≡ false
-    → RendersInput invocation.options input output
+    → IsDrawnOf invocation.options input output
     → HasNoStrayControl (visible_text output)
 
 -- nothing harmful is visible of a drawing for arguments, unless they ask for raw fields

@@ -1,5 +1,5 @@
 -- The lines of an output show what is visible of them.
-use Rattle.std.proofs.Common.{◌≡◌, ◌⊎◌, inl, inr, ℕ, suc, ◌+◌, Bool, true, false, List, [], ◌∷◌, ◌++◌, Option, Some, None, append-nil, append_assoc, arith, codes, decimal, flat_map, length, nat_lt, refl, sym, ap₂, ◌∙◌, subst}
+use Rattle.std.proofs.Common.{◌≡◌, ◌⊎◌, inl, inr, ℕ, suc, ◌+◌, Bool, true, false, List, [], ◌∷◌, ◌++◌, Option, Some, None, append-nil, append_assoc, arith, codes, decimal, flat_map, length, refl, sym, ap₂, ◌∙◌, subst}
 use Rattle.std.specs.Char.{is_control}
 use Rattle.std.specs.List.{All, range_with_len}
 use Rattle.std.specs.Prelude.{Contains, if◌then◌else◌}
@@ -12,7 +12,7 @@ use Rattle.comfy_table.specs.Drawing.{terminated_text_of}
 use Rattle.comfy_table.specs.Laws.{AreLinesOf, HasNoBreak, HasNoControl}
 use Rattle.csv_tables.proofs.FieldLemmas.{printable_unbroken}
 use Rattle.csv_tables.proofs.OutputControlLemmas.{counts_are_printable}
-use Rattle.csv_tables.specs.Drawn.{ContentValue, note_for, record_line}
+use Rattle.csv_tables.specs.Drawn.{ContentValue, are_more, count_text, note_for, record_line}
 use Rattle.csv_tables.specs.Laws.{HasLines, IsStraightOutput, numbered_lines}
 use Rattle.csv_tables.specs.declared.options.Options.{Options}
 use Rattle.promises.proofs.ShownLemmas.{shows_visible}
@@ -34,7 +34,7 @@ one_line line none = record { joined = sym (append-nil (line ++ 0x0A ∷ [])); u
 no_lines : AreLinesOf [] []
 no_lines = record { joined = refl; unbroken = All-nil HasNoBreak }
 
-counted_unbroken : (before : Text) (n m : ℕ) (behind : Text) → is_printable_ascii before ≡ true → is_printable_ascii behind ≡ true → HasNoBreak (counted before n m behind)
+counted_unbroken : (before : Text) (n : ℕ) (m : Option ℕ) (behind : Text) → is_printable_ascii before ≡ true → is_printable_ascii behind ≡ true → HasNoBreak (counted before n m behind)
 counted_unbroken before n m behind first last = printable_unbroken (counted before n m behind) (counts_are_printable before behind n m first last)
 
 -- ---- lines of outputs
@@ -54,32 +54,32 @@ module _ (columns : ℕ) where
       record { lines = own.lines ++ more.lines; are = lines_append text other own.lines more.lines own.are more.are; good = All-append IsGood own.lines more.lines own.good more.good }
 
   -- the line on a record
-  record_counts : (n m : ℕ) → HasGoodLines (record_line n m)
+  record_counts : (n : ℕ) (m : Option ℕ) → HasGoodLines (record_line n m)
   record_counts n m =
       let line = counted (codes "record ") n m [] in
       record {
         lines = line ∷ [];
-        are = subst (λ (t : Text). AreLinesOf (t ++ 0x0A ∷ []) (line ∷ [])) (append-nil (((codes "record " ++ decimal n) ++ codes " of ") ++ decimal m)) (one_line line (counted_unbroken (codes "record ") n m [] refl refl));
+        are = subst (λ (t : Text). AreLinesOf (t ++ 0x0A ∷ []) (line ∷ [])) (append-nil (((codes "record " ++ decimal n) ++ codes " of ") ++ count_text m)) (one_line line (counted_unbroken (codes "record ") n m [] refl refl));
         good = All-cons IsGood line [] (inl (n, m, inl refl)) (All-nil IsGood);
       }
 
   -- and that on further records
-  note_counts : (limit : Option ℕ) (count : ℕ) → HasGoodLines (note_for false limit count)
+  note_counts : (limit : Option ℕ) (count : Option ℕ) → HasGoodLines (note_for false limit count)
   note_counts None count = record { lines = []; are = no_lines; good = All-nil IsGood }
-  note_counts (Some limit) count = by_test (nat_lt limit count)
+  note_counts (Some limit) count = by_test (are_more limit count)
     where
       line : Text
       line = counted [] limit count (codes " records")
 
-      note : HasGoodLines (((decimal limit ++ codes " of ") ++ decimal count) ++ codes " records\n")
+      note : HasGoodLines (((decimal limit ++ codes " of ") ++ count_text count) ++ codes " records\n")
       note =
           record {
             lines = line ∷ [];
-            are = subst (λ (t : Text). AreLinesOf t (line ∷ [])) (append_assoc ((decimal limit ++ codes " of ") ++ decimal count) (codes " records") (0x0A ∷ [])) (one_line line (counted_unbroken [] limit count (codes " records") refl refl));
+            are = subst (λ (t : Text). AreLinesOf t (line ∷ [])) (append_assoc ((decimal limit ++ codes " of ") ++ count_text count) (codes " records") (0x0A ∷ [])) (one_line line (counted_unbroken [] limit count (codes " records") refl refl));
             good = All-cons IsGood line [] (inl (limit, count, inr refl)) (All-nil IsGood);
           }
 
-      by_test : (b : Bool) → HasGoodLines (if b then [] ++ (((decimal limit ++ codes " of ") ++ decimal count) ++ codes " records\n") else [])
+      by_test : (b : Bool) → HasGoodLines (if b then [] ++ (((decimal limit ++ codes " of ") ++ count_text count) ++ codes " records\n") else [])
       by_test true = note
       by_test false = record { lines = []; are = no_lines; good = All-nil IsGood }
 

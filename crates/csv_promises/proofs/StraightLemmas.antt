@@ -1,11 +1,11 @@
 -- What is written for words is straight: where no character takes more than one terminal column, or where no width is kept to.
-use Rattle.std.proofs.Common.{ap, ◌≡◌, ◌==◌, ◌&&◌, ◌||◌, inl, ℕ, Bool, true, false, not, List, [], ◌∷◌, Option, Some, None, is_some, arith, chars, nat_le, refl, sym, ap₂, ◌∙◌, subst}
+use Rattle.std.proofs.Common.{ap, ◌≡◌, ◌==◌, ◌&&◌, ◌||◌, inl, ℕ, Bool, true, false, not, List, [], ◌∷◌, Option, Some, None, is_some, arith, chars, nat_le, refl, sym, ap₂, ◌∙◌, subst, inr, ◌++◌}
 use Rattle.std.specs.Char.{is_control}
 use Rattle.std.specs.List.{All, list_any}
 use Rattle.std.specs.Prelude.{encode_utf8, if◌then◌else◌}
 use Rattle.std.specs.Str.{IsUtf8, NonePass}
 use Rattle.std.proofs.lemmas.Bool.{or_parts}
-use Rattle.std.proofs.lemmas.List.Elements.{All-cons, All-nil, All-weaker}
+use Rattle.std.proofs.lemmas.List.Elements.{All-cons, All-head, All-nil, All-tail, All-weaker}
 use Rattle.std.proofs.lemmas.List.Splits.{slice_split_none}
 use Rattle.std.proofs.lemmas.Str.{encodes-chars}
 use lib.Utf8.{encode}
@@ -27,14 +27,16 @@ use Rattle.csv_records.specs.declared.cleaning.CleanOptions.{CleanOptions}
 use Rattle.csv_tables.specs.declared.options.Look.{Look}
 use Rattle.csv_tables.specs.declared.options.Options.{Options}
 use Rattle.csv_tables.proofs.CleanCharacterLemmas.{lines_pass}
+use Rattle.csv_records.proofs.BeginningLemmas.{first_records_stay}
 use Rattle.csv_records.proofs.OneRecordLemmas.{read_is_one}
+use Rattle.csv_records.specs.Reading.{AreRecordsFor}
 use Rattle.csv_tables.proofs.OutputControlLemmas.{text_fields, unbroken_without}
 use Rattle.csv_tables.proofs.MarkdownWidthLemmas.{whole_is_straight}
 use Rattle.csv_tables.proofs.StraightLemmas.{IsShort, narrow_is_straight, empty_is_short}
 use Rattle.csv_command.proofs.StyleColumnLemmas.{parsed_style_is_one_column, parsed_style_without_controls}
 use Rattle.csv_tables.proofs.TextTableLemmas.{EachLine}
-use Rattle.csv_tables.specs.Drawn.{RendersRecords, RendersAnyRecords}
-use Rattle.csv_tables.specs.Laws.{ArePlainLines, EachText, IsStraightOutput}
+use Rattle.csv_tables.specs.Drawn.{IsDrawnOf, RendersRecords, RendersAnyRecords, counting, most_drawn}
+use Rattle.csv_tables.specs.Laws.{ArePlainLines, EachText}
 use Rattle.promises.proofs.FittingLemmas.{text_fits}
 use Rattle.promises.specs.Tables.{HasCharactersWithin}
 use Rattle.csv_promises.proofs.LineLemmas.{nothing_is_straight, straight_text}
@@ -100,6 +102,11 @@ module _ (look : Look) (tidy : look.is_raw ≡ false) (unkept : look.has_sequenc
 
 -- ---- outputs
 
+-- what holds of all elements holds of the first ones
+All-front : {A : Type 0} (P : A → Type 0) (xs ys : List A) → All P (xs ++ ys) → All P xs
+All-front P [] ys all = All-nil P
+All-front P (x ∷ xs) ys all = All-cons P x xs (All-head P x (xs ++ ys) all) (All-front P xs ys (All-tail P x (xs ++ ys) all))
+
 module _ (words : List Text) (context : OutputContext) (invocation : Invocation) (input : Text) (records : List (List Text)) (output : Text) (is : IsWritten words context invocation input records output) where
   abbrev options : Options
   options = invocation.options
@@ -113,29 +120,59 @@ module _ (words : List Text) (context : OutputContext) (invocation : Invocation)
   texts : All AllText records
   texts = is.are.are_records.are_records.are_text
 
-  output_of_records : RendersAnyRecords options records output
-  output_of_records = subst (λ (rs : List (List Text)). RendersAnyRecords options rs output) (read_is_one options.input input is.made.records records is.made.are_records is.are) is.made.is_output
+  -- P holds of fields of records, and an output for these by such a look is straight
+  abbrev Law : (Text → Type 0) → Type 0
+  Law P = (o : Options) → o.look ≡ options.look → (rs : List (List Text)) → All AllText rs → EachField P rs → RendersRecords o rs output → IsStraight output
 
-  -- an output is straight where the law says so of one with records
-  by_records : ((made : RendersRecords options records output) → ArePlainLines true options.look records → IsStraightOutput true options records output) → IsStraight output
-  by_records straight = any records output_of_records texts straight
+  -- so an output is straight that is written of the whole input, or of a beginning that is enough
+  by_extent : (P : Text → Type 0) → Law P → EachField P records → IsStraight output
+  by_extent P law each = by_made is.made
     where
-      plain : (rs : List (List Text)) → All AllText rs → ArePlainLines true options.look rs
-      plain rs text = record { seen = (record { cleaned = is.tidy; style = clear }, text); unbroken = unbroken_without options.look.style clear; no_sequences = is.unkept }
+      any : (rs : List (List Text)) → RendersAnyRecords (counting options) rs output → All AllText rs → EachField P rs → IsStraight output
+      any [] nothing text fields = subst IsStraight (sym nothing) nothing_is_straight
+      any (r ∷ rs) drawn text fields = law (counting options) refl (r ∷ rs) text fields drawn
 
-      any : (rs : List (List Text)) → RendersAnyRecords options rs output → All AllText rs → ((made : RendersRecords options rs output) → ArePlainLines true options.look rs → IsStraightOutput true options rs output) → IsStraight output
-      any [] nothing text law = subst IsStraight (sym nothing) nothing_is_straight
-      any (r ∷ rs) drawn text law = straight_text options (r ∷ rs) output is.no_markdown (law drawn (plain (r ∷ rs) text))
+      by_made : IsDrawnOf options input output → IsStraight output
+      by_made (inl made) = any records (subst (λ (rs : List (List Text)). RendersAnyRecords (counting options) rs output) (read_is_one options.input input made.records records made.are_records is.are) made.is_output) texts each
+      by_made (inr (beginning, behind, joins, made)) =
+          let are = made.are_enough.are in
+          let found = first_records_stay options.input (most_drawn options.selection.has_header made.are_enough.has_limit.limit) beginning behind made.records records are (subst (λ (t : Text). AreRecordsFor options.input t records) joins is.are) in
+          law options refl made.records are.are_records.are_records.are_text (All-front (All P) made.records found.0 (subst (All (All P)) found.1 each)) made.is_output
+
+  -- by a look that arguments ask for
+  module _ (o : Options) (same : o.look ≡ options.look) (rs : List (List Text)) (text : All AllText rs) where
+    own_tidy : o.look.is_raw ≡ false
+    own_tidy = ap (λ (l : Look). l.is_raw) same ∙ is.tidy
+
+    own_unkept : o.look.has_sequences ≡ false
+    own_unkept = ap (λ (l : Look). l.has_sequences) same ∙ is.unkept
+
+    own_table : o.look.is_markdown ≡ false
+    own_table = ap (λ (l : Look). l.is_markdown) same ∙ is.no_markdown
+
+    own_clear : IsStyleWithoutControls o.look.style
+    own_clear = subst (λ (l : Look). IsStyleWithoutControls l.style) (sym same) clear
+
+    own_columns : IsOneColumnStyle o.look.style
+    own_columns = subst (λ (l : Look). IsOneColumnStyle l.style) (sym same) one_column
+
+    plain : ArePlainLines true o.look rs
+    plain = record { seen = (record { cleaned = own_tidy; style = own_clear }, text); unbroken = unbroken_without o.look.style own_clear; no_sequences = own_unkept }
+
+    narrow_law : EachField (HasCharactersWithin 1) rs → RendersRecords o rs output → IsStraight output
+    narrow_law each made = straight_text o rs output own_table (narrow_is_straight true o rs output own_table own_columns plain (fields_fit o.look own_tidy own_unkept own_table rs text each) made)
+
+    whole_law : options.look.width ≡ None → options.look.max_height ≡ None → EachField IsPlainField rs → RendersRecords o rs output → IsStraight output
+    whole_law no_width uncut each made =
+        straight_text o rs output own_table (whole_is_straight true o rs output own_columns plain (ap (λ (l : Look). l.width) same ∙ no_width) (inl (ap (λ (l : Look). l.max_height) same ∙ uncut)) (plain_fields_are_short o.look own_tidy own_unkept own_table rs text each) made)
 
   -- where no character takes more than one terminal column
   pub narrow_for : EachField (HasCharactersWithin 1) records → IsStraight output
-  narrow_for each =
-      by_records (λ made plain. narrow_is_straight true options records output is.no_markdown one_column plain (fields_fit options.look is.tidy is.unkept is.no_markdown records texts each) made)
+  narrow_for each = by_extent (HasCharactersWithin 1) narrow_law each
 
   -- and where no width is kept to and no row is cut
   pub whole_for : options.look.width ≡ None → options.look.max_height ≡ None → EachField IsPlainField records → IsStraight output
-  whole_for no_width uncut each =
-      by_records (λ made plain. whole_is_straight true options records output one_column plain no_width (inl uncut) (plain_fields_are_short options.look is.tidy is.unkept is.no_markdown records texts each) made)
+  whole_for no_width uncut each = by_extent IsPlainField (λ o same rs text fields made. whole_law o same rs text no_width uncut fields made) each
 
 -- what isn't some is none
 pub none_where : {A : Type 0} (o : Option A) → false ≡ is_some o → o ≡ None

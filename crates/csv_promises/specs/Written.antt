@@ -5,10 +5,10 @@ use Rattle.csv_command.specs.Arguments.{IsParsed}
 use Rattle.csv_command.specs.declared.arguments.Invocation.{Invocation}
 use Rattle.csv_command.specs.declared.arguments.OutputContext.{OutputContext}
 use Rattle.csv_records.specs.Reading.{AreRecordsFor}
-use Rattle.csv_tables.specs.Drawn.{RendersInput}
+use Rattle.csv_tables.specs.Drawn.{IsDrawnOf}
 
 -- words ask for a table of cleaned fields in which no sequences are kept; and these are the records
--- of an input, and its output
+-- of an input, and what is written of it
 pub record IsWritten (words : List Text) (context : OutputContext) (invocation : Invocation)
     (input : Text) (records : List (List Text)) (output : Text) : Type 0 where
   pub is_asked : IsParsed words context invocation
@@ -16,4 +16,4 @@ pub record IsWritten (words : List Text) (context : OutputContext) (invocation :
   pub unkept : invocation.options.look.has_sequences ≡ false
   pub no_markdown : invocation.options.look.is_markdown ≡ false
   pub are : AreRecordsFor invocation.options.input input records
-  pub made : RendersInput invocation.options input output
+  pub made : IsDrawnOf invocation.options input output

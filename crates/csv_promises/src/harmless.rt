@@ -1,7 +1,7 @@
 //! No file speaks to your terminal.
 
 ghost use Rattle.std.specs.Prelude.{IfOk, IfSome, string_bytes};
-ghost use Rattle.csv_tables.specs.Drawn.{RendersInput};
+ghost use Rattle.csv_tables.specs.Drawn.{IsDrawnOf};
 ghost use Rattle.promises.specs.Shown.{IsHarmless};
 
 use comfy_run::run::{MemorySink, MemorySource};
@@ -60,7 +60,7 @@ pub(crate) fn output_for(
     room: usize,
     options: &Options,
 ) -> Result<MemorySink, CsvError>
-    ensures { IfOk result (λ sink. RendersInput options.now input.now sink.bytes) }
+    ensures { IfOk result (λ sink. IsDrawnOf options.now input.now sink.bytes) }
 {
     let mut source = MemorySource::new(input, 0);
     let mut sink = MemorySink::new(alloc, room, 0)?;

@@ -1,5 +1,5 @@
 -- What is drawn of some records, and what is written of it.
-use Rattle.std.specs.Prelude.{ℕ, zero, suc, ◌+◌, Bool, true, false, not, ◌&&◌, ◌≡◌, nat_lt, min, List, [], ◌∷◌, ◌++◌, Option, Some, None, Result, Ok, Err, codes, decimal, drop, flat_map, length, map, slice_get, slice_index_or, sum_by, take, unwrap_or, if◌then◌else◌}
+use Rattle.std.specs.Prelude.{ℕ, zero, suc, ◌+◌, Bool, true, false, not, ◌&&◌, ◌≡◌, nat_lt, min, List, [], ◌∷◌, ◌++◌, Option, Some, None, Result, Ok, Err, codes, decimal, drop, flat_map, length, map, slice_get, slice_index_or, sum_by, take, unwrap_or, if◌then◌else◌, ◌⊎◌, ◌*◌}
 use Rattle.std.specs.List.{list_any, range_with_len}
 use Rattle.comfy_parts.specs.CellValue.{RowValue}
 use Rattle.comfy_parts.specs.Presets.{ascii_markdown}
@@ -373,3 +373,10 @@ pub record RendersBeginning (options : Options) (beginning output : Text) : Type
 abbrev pub RendersExtent : Options → Extent → Text → Text → Type 0
 RendersExtent options Whole input output = RendersInput options input output
 RendersExtent options Beginning input output = RendersBeginning options input output
+
+-- what `draw` writes of an input: the output for it, or for a beginning of it that is enough
+abbrev pub IsDrawnOf : Options → Text → Text → Type 0
+IsDrawnOf options input output =
+    RendersInput options input output
+    ⊎ ((beginning : Text) × (behind : Text) × (input ≡ beginning ++ behind)
+    × RendersBeginning options beginning output)
