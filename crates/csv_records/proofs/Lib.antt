@@ -4,6 +4,7 @@ pub mod DelimiterLemmas
 pub mod EncodingLawLemmas
 pub mod EncodingLemmas
 pub mod EvenLemmas
+pub mod ForeignLemmas
 pub mod LineLemmas
 pub mod NumberLawLemmas
 pub mod NumberLemmas
