@@ -6,6 +6,7 @@ pub mod EncodingLawLemmas
 pub mod EncodingLemmas
 pub mod EvenLemmas
 pub mod FirstLemmas
+pub mod ForeignLemmas
 pub mod LineLemmas
 pub mod NumberLawLemmas
 pub mod NumberLemmas

@@ -7,6 +7,7 @@ ghost use Rattle.csv_records.specs.Foreign.{foreign_by_nuls, foreign_for, foreig
 use crate::delimiter::below_lines;
 use crate::encoding::{Encoding, is_marked};
 use crate::text::line_number;
+use memchr::memchr;
 use thiserror::Error;
 
 /// What an input is that is no text in UTF-8, as its bytes show.
@@ -96,5 +97,5 @@ fn nul_line(above: usize, bytes: &[u8]) -> Option<u64>
 fn first_nul(bytes: &[u8]) -> Option<usize>
     ensures { result ≡ position (λ b. b == 0) bytes.now }
 {
-    bytes.iter().position(|byte| *byte == 0)
+    memchr(0, bytes)
 }

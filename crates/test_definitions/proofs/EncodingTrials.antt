@@ -28,7 +28,7 @@ open_bytes : map cp1252_character (0x81 ∷ 0x8D ∷ 0x8F ∷ 0x90 ∷ 0x9D ∷ 
 open_bytes = refl
 
 -- `é€` becomes UTF-8
-text_of_cp1252 : IsDecoded Cp1252 (0xE9 ∷ 0x80 ∷ []) (0xC3 ∷ 0xA9 ∷ 0xE2 ∷ 0x82 ∷ 0xAC ∷ [])
+text_of_cp1252 : IsDecoded Cp1252 0 (0xE9 ∷ 0x80 ∷ []) (0xC3 ∷ 0xA9 ∷ 0xE2 ∷ 0x82 ∷ 0xAC ∷ [])
 unfolding encode
 text_of_cp1252 = refl
 
@@ -38,59 +38,73 @@ text_of_cp1252 = refl
 abbrev euro : Text
 euro = 0x61 ∷ 0xE2 ∷ 0x82 ∷ 0xAC ∷ []
 
-little_endian : IsDecoded Utf16 (0xFF ∷ 0xFE ∷ 0x61 ∷ 0x00 ∷ 0xAC ∷ 0x20 ∷ []) euro
+little_endian : IsDecoded Utf16 0 (0xFF ∷ 0xFE ∷ 0x61 ∷ 0x00 ∷ 0xAC ∷ 0x20 ∷ []) euro
 unfolding utf16_chars encode
 little_endian = record { characters = 0x61 ∷ 0x20AC ∷ []; are_all = refl; spell = refl }
 
-big_endian : IsDecoded Utf16 (0xFE ∷ 0xFF ∷ 0x00 ∷ 0x61 ∷ 0x20 ∷ 0xAC ∷ []) euro
+big_endian : IsDecoded Utf16 0 (0xFE ∷ 0xFF ∷ 0x00 ∷ 0x61 ∷ 0x20 ∷ 0xAC ∷ []) euro
 unfolding utf16_chars encode
 big_endian = record { characters = 0x61 ∷ 0x20AC ∷ []; are_all = refl; spell = refl }
 
-without_mark : IsDecoded Utf16 (0x61 ∷ 0x00 ∷ 0xAC ∷ 0x20 ∷ []) euro
+without_mark : IsDecoded Utf16 0 (0x61 ∷ 0x00 ∷ 0xAC ∷ 0x20 ∷ []) euro
 unfolding utf16_chars encode
 without_mark = record { characters = 0x61 ∷ 0x20AC ∷ []; are_all = refl; spell = refl }
 
 -- a mark alone is an empty text, and so is nothing
-mark_alone : map utf16_characters ((0xFF ∷ 0xFE ∷ []) ∷ (0xFE ∷ 0xFF ∷ []) ∷ [] ∷ []) ≡ [] ∷ [] ∷ [] ∷ []
+mark_alone : map (utf16_characters 0) ((0xFF ∷ 0xFE ∷ []) ∷ (0xFE ∷ 0xFF ∷ []) ∷ [] ∷ []) ≡ [] ∷ [] ∷ [] ∷ []
 unfolding utf16_chars
 mark_alone = refl
 
 -- a second mark is a character
-second_mark : utf16_characters (0xFF ∷ 0xFE ∷ 0xFF ∷ 0xFE ∷ []) ≡ Some 0xFEFF ∷ []
+second_mark : utf16_characters 0 (0xFF ∷ 0xFE ∷ 0xFF ∷ 0xFE ∷ []) ≡ Some 0xFEFF ∷ []
 unfolding utf16_chars
 second_mark = refl
 
 -- two units of a pair are one character, U+1F600
-pair : IsDecoded Utf16 (0x3D ∷ 0xD8 ∷ 0x00 ∷ 0xDE ∷ []) (0xF0 ∷ 0x9F ∷ 0x98 ∷ 0x80 ∷ [])
+pair : IsDecoded Utf16 0 (0x3D ∷ 0xD8 ∷ 0x00 ∷ 0xDE ∷ []) (0xF0 ∷ 0x9F ∷ 0x98 ∷ 0x80 ∷ [])
 unfolding utf16_chars encode
 pair = record { characters = 0x1F600 ∷ []; are_all = refl; spell = refl }
 
 -- the second unit alone, the first one alone at the end, and before another character
-unpaired : map utf16_characters ((0x00 ∷ 0xDE ∷ []) ∷ (0x61 ∷ 0x00 ∷ 0x3D ∷ 0xD8 ∷ []) ∷ (0x3D ∷ 0xD8 ∷ 0x61 ∷ 0x00 ∷ []) ∷ [])
+unpaired : map (utf16_characters 0) ((0x00 ∷ 0xDE ∷ []) ∷ (0x61 ∷ 0x00 ∷ 0x3D ∷ 0xD8 ∷ []) ∷ (0x3D ∷ 0xD8 ∷ 0x61 ∷ 0x00 ∷ []) ∷ [])
     ≡ (None ∷ []) ∷ (Some 0x61 ∷ None ∷ []) ∷ (None ∷ Some 0x61 ∷ []) ∷ []
 unfolding utf16_chars
 unpaired = refl
 
 -- an odd byte
-odd : map utf16_characters ((0x61 ∷ []) ∷ (0xFF ∷ 0xFE ∷ 0x61 ∷ []) ∷ (0x61 ∷ 0x00 ∷ 0x62 ∷ []) ∷ []) ≡ (None ∷ []) ∷ (None ∷ []) ∷ (Some 0x61 ∷ None ∷ []) ∷ []
+odd : map (utf16_characters 0) ((0x61 ∷ []) ∷ (0xFF ∷ 0xFE ∷ 0x61 ∷ []) ∷ (0x61 ∷ 0x00 ∷ 0x62 ∷ []) ∷ []) ≡ (None ∷ []) ∷ (None ∷ []) ∷ (Some 0x61 ∷ None ∷ []) ∷ []
 unfolding utf16_chars
 odd = refl
 
 -- a carriage return with a line feed, and a line feed, are two breaks: what is no character stands in line 3
-third_line : IsFirstUnpaired (utf16_characters (0x0D ∷ 0x00 ∷ 0x0A ∷ 0x00 ∷ 0x0A ∷ 0x00 ∷ 0x00 ∷ 0xDC ∷ 0x0A ∷ 0x00 ∷ [])) 3
+third_line : IsFirstUnpaired (utf16_characters 0 (0x0D ∷ 0x00 ∷ 0x0A ∷ 0x00 ∷ 0x0A ∷ 0x00 ∷ 0x00 ∷ 0xDC ∷ 0x0A ∷ 0x00 ∷ [])) 0 3
 unfolding utf16_chars encode
 third_line = record { before = 0x0D ∷ 0x0A ∷ 0x0A ∷ []; after = Some 0x0A ∷ []; first = refl; numbered = refl }
 
 -- U+0A0D has these bytes in one unit, and breaks no line
-no_break : IsFirstUnpaired (utf16_characters (0x0D ∷ 0x0A ∷ 0x61 ∷ [])) 1
+no_break : IsFirstUnpaired (utf16_characters 0 (0x0D ∷ 0x0A ∷ 0x61 ∷ [])) 0 1
 unfolding utf16_chars encode
 no_break = record { before = 0x0A0D ∷ []; after = []; first = refl; numbered = refl }
+
+-- below one line, which has a surrogate without a partner and ends with a carriage return and a line feed; U+0A0A ends none
+below_a_line : map (utf16_characters 1) ((0x3D ∷ 0xD8 ∷ 0x0D ∷ 0x00 ∷ 0x0A ∷ 0x00 ∷ 0x62 ∷ 0x00 ∷ []) ∷ (0x0A ∷ 0x0A ∷ 0x0A ∷ 0x00 ∷ 0x62 ∷ 0x00 ∷ []) ∷ (0x61 ∷ 0x00 ∷ []) ∷ []) ≡ (Some 0x62 ∷ []) ∷ (Some 0x62 ∷ []) ∷ [] ∷ []
+unfolding utf16_chars
+below_a_line = refl
+
+-- there lines are counted from the input's front
+second_line : IsFirstUnpaired (utf16_characters 1 (0x0A ∷ 0x00 ∷ 0x00 ∷ 0xDC ∷ [])) 1 2
+unfolding utf16_chars encode
+second_line = record { before = []; after = []; first = refl; numbered = refl }
+
+below_a_line_of_cp1252 : IsDecoded Cp1252 1 (0x81 ∷ 0x0A ∷ 0xE9 ∷ []) (0xC3 ∷ 0xA9 ∷ [])
+unfolding encode
+below_a_line_of_cp1252 = refl
 
 -- ---- what laws refuse
 
 -- a letter that isn't ASCII
 -- false: csv_records::laws::ascii_is_its_own_text
-accent_is_another_text : ¬ (IsDecoded Cp1252 (0xE9 ∷ []) (0xE9 ∷ []))
+accent_is_another_text : ¬ (IsDecoded Cp1252 0 (0xE9 ∷ []) (0xE9 ∷ []))
 unfolding encode
 accent_is_another_text own = let is : 0xE9 ∷ [] ≡ 0xC3 ∷ 0xA9 ∷ [] = own in cc is
 
