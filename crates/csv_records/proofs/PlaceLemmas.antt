@@ -30,19 +30,6 @@ module _ (fields more : List Text) where
       let last : fields_at (fields ++ more) last_place ≡ more = ap₂ take own (drop-append_seam fields more) ∙ take-length more in
       map-append (fields_at (fields ++ more)) places (last_place ∷ []) ∙ ap₂ (λ xs x. xs ++ x ∷ []) (all_kept places within) last
 
-  pub all_within : (places : List Place) → length (fields ++ more) < 2 ^ 64 → All (IsWithin fields) places → All (IsWithin (fields ++ more)) (places ++ last_place ∷ [])
-  all_within places few within = All-append (IsWithin (fields ++ more)) places (last_place ∷ []) still last
-    where
-      size : length (fields ++ more) ≡ length fields + length more
-      size = length-append fields more
-
-      still : All (IsWithin (fields ++ more)) places
-      still k d below = let before = within k d below in (before.0, omega (arith, before.1, size), before.2)
-
-      last : All (IsWithin (fields ++ more)) (last_place ∷ [])
-      last zero d below = (omega (arith, size), omega arith, few)
-      last (suc k) d below = absurd (omega arith)
-
 -- ---- going over a record
 
 -- one more of its fields

@@ -123,8 +123,8 @@ IsAsciiUnlessAsked (Byte b) delimiter = Unit {0}
 IsAsciiUnlessAsked Auto delimiter = delimiter < 128
 IsAsciiUnlessAsked NamedOrTab delimiter = delimiter < 128
 
--- a text shows what stands between fields, however it goes on: a byte is asked for, which is no line
--- feed, or its first line names one, or each that is tried gives it so many records
+-- a text shows what stands between fields, however it goes on: a byte is asked for, which is no
+-- line feed, or its first line names one, or each that is tried gives it so many records
 abbrev pub shows_delimiter : Delimiter → Bool → Text → Bool
 shows_delimiter (Byte b) has_quotes text = not (b == 0x0A)
 shows_delimiter Auto has_quotes text =

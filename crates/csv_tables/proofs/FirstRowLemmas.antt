@@ -160,7 +160,3 @@ module _ (options : Options) where
       by_error (NoColumn name) why = ((λ is. cc is), all, known, not_none, why)
       by_error (TwoSides name) why = ((λ is. cc is), all, known, not_none, why)
       by_error OutOfMemory why = λ wanted. (subst (λ (encoding : Encoding). IsDecoded encoding input text) wanted is_text).0
-
--- no memory, before a beginning was looked at
-pub no_memory : (options : Options) → IsRefusal options Beginning [] err.OutOfMemory
-no_memory options = λ wanted. IsUtf8-nil
