@@ -1,8 +1,8 @@
 -- One more record behind others.
-use Rattle.std.proofs.Common.{◌≡◌, ◌<◌, ◌≤◌, ◌+◌, ◌-◌, ◌^◌, ◌++◌, ◌∷◌, [], ℕ, zero, suc, All, List, Some, None, unwrap_or, zero-add, ap, ap₂, arith, drop, length, map, refl, sym, take, ◌∙◌}
+use Rattle.std.proofs.Common.{◌≡◌, ◌<◌, ◌≤◌, ◌+◌, ◌-◌, ◌++◌, ◌∷◌, [], ℕ, zero, suc, All, List, Some, None, unwrap_or, zero-add, ap, ap₂, arith, drop, length, map, refl, sym, take, ◌∙◌}
 use Rattle.std.proofs.Math.Seq.{drop-append_seam, take-length}
 use Rattle.std.proofs.lemmas.List.{drop-append-le, length-append, length-drop, length-take-le, map-append, take-append-le}
-use Rattle.std.proofs.lemmas.List.Elements.{All-append, All-drop}
+use Rattle.std.proofs.lemmas.List.Elements.{All-drop}
 use Rattle.comfy_parts.specs.Text.{Text}
 use Rattle.csv.specs.Records.{field_at}
 use Rattle.csv_records.specs.Places.{IsWithin, fields_at}
